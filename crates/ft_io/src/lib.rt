@@ -1,0 +1,8 @@
+//! Bytes that are taken from a source and put into a sink, with a count of what failed.
+#![tactic(auto)]
+
+mod sink;
+mod source;
+
+pub use sink::Sink;
+pub use source::{Failed, Source};

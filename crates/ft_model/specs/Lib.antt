@@ -1,0 +1,5 @@
+pub mod Keys
+pub mod Contents
+pub mod Worlds
+pub mod Answers
+pub mod Histories

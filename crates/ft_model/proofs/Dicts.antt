@@ -1,0 +1,95 @@
+-- What a dict has after a call.
+use Rattle.std.proofs.Common.{◌≡◌, ◌≢◌, ℕ, ◌+◌, ◌<◌, ◌≤◌, Bool, true, false, cond, List, [], ◌∷◌, ◌++◌, length, get_or, set, map, Option, Some, None, refl, sym, ap, ◌∙◌, subst, arith, rules, inl, inr, position, eqb, ltb}
+use Rattle.std.specs.Prelude.{AllPairs, All, nat_lt, pos, if◌then◌else◌}
+use Rattle.std.specs.List.{list_any, position_or_len}
+use Rattle.std.proofs.lemmas.Bool.{cases_eq, cases_lt, lt-ltb, false≢true}
+use Rattle.std.proofs.lemmas.Bool.Decides.{nat_tests}
+use Rattle.std.proofs.lemmas.List.{same_lists, get_or-map, get_or-set_same, get_or-set_other, length-map, length-set, get_or_default}
+use Rattle.std.proofs.lemmas.List.Quantifiers.{position-Some, all_pairs_push}
+use Rattle.std.proofs.lemmas.List.Elements.{All-push}
+use Rattle.std.proofs.lemmas.List.Folds.{list_any_none, list_any-from_Any}
+use Rattle.std.proofs.lemmas.List.Sums.{fails_before_first}
+use Rattle.ft_model.specs.declared.data.Key.{Key}
+use Rattle.ft_model.specs.declared.data.Key.TheVariants.{Int}
+use Rattle.ft_model.specs.declared.data.Value.{Value}
+use Rattle.ft_model.specs.declared.data.Value.TheVariants.{Nothing}
+use Rattle.ft_model.specs.declared.content.DictPair.{DictPair}
+use Rattle.ft_model.specs.Keys.{same_key}
+use Rattle.ft_model.specs.Contents.{DictContent, IsDict, is_at, has_key, with_value, dict_set}
+use Rattle.ft_model.proofs.KeyLemmas.{same_key-true, same_key-refl}
+
+abbrev with_new : DictPair → Value → DictPair
+with_new pair value = record { serial = pair.serial; key = pair.key; value = value }
+
+-- where keys are distinct, no other pair is the key's
+only_one : (pairs : List DictPair) (key : Key) (i k : ℕ) (d : DictPair) → AllPairs (λ a b. a.key ≢ b.key) pairs → i < length pairs → k < length pairs → k ≢ i → is_at key (get_or pairs i d) ≡ true → is_at key (get_or pairs k d) ≡ false
+only_one pairs key i k d distinct low high differ at =
+    let here : (get_or pairs i d).key ≡ key = same_key-true _ _ at in
+    elim (is_at key (get_or pairs k d)) as (λ b. is_at key (get_or pairs k d) ≡ b → b ≡ false) [
+      | true ↦ λ there.
+          let same : (get_or pairs k d).key ≡ key = same_key-true _ _ there in
+          elim (cases_lt k i) [
+            | inl lt ↦ absurd (distinct k i d lt low (same ∙ sym here))
+            | inr le ↦ absurd (distinct i k d (omega arith) high (here ∙ sym same))
+          ]
+      | false ↦ λ there. refl
+    ] refl
+
+abbrev updated : Key → Value → DictPair → DictPair
+updated key value pair = if is_at key pair then with_new pair value else pair
+
+updated-yes : (key : Key) (value : Value) (pair : DictPair) → is_at key pair ≡ true → updated key value pair ≡ with_new pair value
+updated-yes key value pair h = rw h refl
+
+updated-no : (key : Key) (value : Value) (pair : DictPair) → is_at key pair ≡ false → updated key value pair ≡ pair
+updated-no key value pair h = rw h refl
+
+-- a new value at the key is one write at its place
+with_value-at : (pairs : List DictPair) (key : Key) (value : Value) (i : ℕ) (d : DictPair) → AllPairs (λ a b. a.key ≢ b.key) pairs → position (is_at key) pairs ≡ Some i → with_value pairs key value ≡ set pairs i (with_new (get_or pairs i d) value)
+with_value-at pairs key value i d distinct found =
+    let p = position-Some (is_at key) pairs i d found in
+    same_lists _ _ (simp (length-map, length-set)) (λ k e h.
+    let low : k < length pairs = omega (arith, length-map pairs (updated key value)) in
+    let left : get_or (with_value pairs key value) k e ≡ updated key value (get_or pairs k d) = get_or-map (updated key value) pairs k d e low in
+    elim (cases_eq k i) [
+      | inl same ↦
+          let yes : is_at key (get_or pairs k d) ≡ true = rw same p.1 in
+          left ∙ updated-yes key value (get_or pairs k d) yes ∙ ap (λ j. with_new (get_or pairs j d) value) same ∙ rw same (sym (get_or-set_same pairs i (with_new (get_or pairs i d) value) e p.0))
+      | inr differ ↦
+          left ∙ updated-no key value (get_or pairs k d) (only_one pairs key i k d distinct p.0 low differ p.1) ∙ get_or_default pairs k d e low ∙ sym (get_or-set_other pairs i k (with_new (get_or pairs i d) value) e differ)
+    ])
+
+abbrev no_pair : DictPair
+no_pair = record { serial = 0; key = Int (pos 0); value = Nothing }
+
+-- a key that is found is there
+has_key-found : (pairs : List DictPair) (key : Key) (i : ℕ) → position (is_at key) pairs ≡ Some i → has_key pairs key ≡ true
+has_key-found pairs key i found =
+    let pair = get_or pairs i no_pair in
+    let p = position-Some (is_at key) pairs i no_pair found in
+    list_any-from_Any (is_at key) pairs (i, pair, p.0, get_or_default pairs i pair no_pair p.0, p.1)
+
+-- one that isn't found is the key of no pair
+missing : (pairs : List DictPair) (key : Key) → position (is_at key) pairs ≡ None → All (λ pair. is_at key pair ≡ false) pairs
+missing pairs key none k d low =
+    elim (cases_lt (position_or_len (is_at key) pairs) (length pairs)) [
+      | inl lt ↦ absurd (let test : ltb (position_or_len (is_at key) pairs) (length pairs) ≡ true = lt-ltb _ _ lt in let some : Some (position_or_len (is_at key) pairs) ≡ None = rw test at none in cc)
+      | inr le ↦ fails_before_first (is_at key) pairs k d (omega arith)
+    ]
+
+pub set_found : (dict : DictContent) (key : Key) (value : Value) (i : ℕ) (pair : DictPair) → IsDict dict.next dict.pairs → position (is_at key) dict.pairs ≡ Some i → pair ≡ get_or dict.pairs i pair → record { next = dict.next; pairs = set dict.pairs i (with_new pair value) } ≡ dict_set dict key value
+set_found dict key value i pair is_dict found at =
+    let write : with_value dict.pairs key value ≡ set dict.pairs i (with_new pair value) = with_value-at dict.pairs key value i pair is_dict.distinct found ∙ ap (λ p. set dict.pairs i (with_new p value)) (sym at) in
+    rw (has_key-found dict.pairs key i found) (ap (λ (ps : List DictPair). let r : DictContent = record { next = dict.next; pairs = ps } in r) (sym write))
+
+pub set_missing : (dict : DictContent) (key : Key) (value : Value) → position (is_at key) dict.pairs ≡ None → record { next = dict.next + 1; pairs = dict.pairs ++ record { serial = dict.next; key = key; value = value } ∷ [] } ≡ dict_set dict key value
+set_missing dict key value none = rw (list_any_none (is_at key) dict.pairs (missing dict.pairs key none)) refl
+
+pub IsDict-push : (next : ℕ) (pairs : List DictPair) (key : Key) (value : Value) → IsDict next pairs → position (is_at key) pairs ≡ None → IsDict (next + 1) (pairs ++ record { serial = next; key = key; value = value } ∷ [])
+IsDict-push next pairs key value is_dict none =
+    let pair : DictPair = record { serial = next; key = key; value = value } in
+    record {
+      distinct = all_pairs_push (λ (a b : DictPair). a.key ≢ b.key) pairs pair is_dict.distinct (λ k d low same. false≢true (sym (missing pairs key none k d low) ∙ (ap (λ x. same_key x key) same ∙ same_key-refl key)));
+      rising = all_pairs_push (λ (a b : DictPair). a.serial < b.serial) pairs pair is_dict.rising (λ k d low. is_dict.below k d low);
+      below = All-push (λ (p : DictPair). p.serial < next + 1) pairs pair (λ k d low. let b : (get_or pairs k d).serial < next = is_dict.below k d low in omega arith) (omega arith);
+    }

@@ -1,0 +1,21 @@
+use Rattle.std.proofs.Common.{◌≡◌, sym, ap, ◌∙◌, Some, None, position}
+use Rattle.ft_model.specs.Contents.{DictContent, is_at, dict_set}
+use Rattle.ft_model.proofs.Dicts.{set_found, set_missing, IsDict-push}
+use Rattle.ft_model.proofs.content.Dict.set.Goals as goal
+
+pub invariant_of-self-in-None : goal.invariant_of-self-in-None
+invariant_of-self-in-None c =
+    let none = sym (rw c.deref.ensures.value at c.in-None.ensures) in
+    rw c.in_ok-push-in-None.ensures.items (IsDict-push c.self.inside.next c.self.inside.pairs.items c.args.key c.args.value c.self.invariant none)
+
+pub returns-in-Some-clause-ok : goal.returns-in-Some-clause-ok
+returns-in-Some-clause-ok c =
+    let dict : DictContent = record { next = c.self.inside.next; pairs = c.self.inside.pairs.items } in
+    let found = sym (rw c.deref.ensures.value at c.in-Some.ensures) in
+    set_found dict c.args.key c.args.value c.in-Some.place c.index_mut.result.now c.self.invariant found c.index_mut.ensures.value ∙ ap (λ d. dict_set d c.args.key c.args.value) c.self.view_is
+
+pub returns-in_ok-push-in-None-clause-ok : goal.returns-in_ok-push-in-None-clause-ok
+returns-in_ok-push-in-None-clause-ok c =
+    let dict : DictContent = record { next = c.self.inside.next; pairs = c.self.inside.pairs.items } in
+    let none = sym (rw c.deref.ensures.value at c.in-None.ensures) in
+    rw c.in_ok-push-in-None.ensures.items (set_missing dict c.args.key c.args.value none ∙ ap (λ d. dict_set d c.args.key c.args.value) c.self.view_is)

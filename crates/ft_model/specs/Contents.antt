@@ -1,0 +1,43 @@
+-- What a dict has: its pairs in insertion order, each with the serial that it drew when its key was added, and the next serial.
+-- (Python manual, Mapping Types: dictionaries preserve insertion order, and updating a key does not affect the order. Serials: profile)
+use Rattle.std.specs.Prelude.{◌≡◌, ◌≢◌, ℕ, Bool, ◌+◌, ◌<◌, List, [], ◌∷◌, ◌++◌, map, Option, option_map, All, AllPairs, if◌then◌else◌}
+use Rattle.std.specs.List.{find, list_any}
+use Rattle.ft_model.specs.declared.data.Key.{Key}
+use Rattle.ft_model.specs.declared.data.Value.{Value}
+use Rattle.ft_model.specs.declared.content.DictPair.{DictPair}
+use Rattle.ft_model.specs.Keys.{same_key}
+
+pub record DictContent : Type 0 where
+  pub next : ℕ
+  pub pairs : List DictPair
+
+abbrev pub empty_dict : DictContent
+empty_dict = record { next = 0; pairs = [] }
+
+-- keys are distinct, and serials rise and are below the next one
+pub record IsDict (next : ℕ) (pairs : List DictPair) : Type 0 where
+  pub distinct : AllPairs (λ a b. a.key ≢ b.key) pairs
+  pub rising : AllPairs (λ a b. a.serial < b.serial) pairs
+  pub below : All (λ pair. pair.serial < next) pairs
+
+-- whether the pair is the key's
+abbrev pub is_at : Key → DictPair → Bool
+is_at key pair = same_key pair.key key
+
+-- `d[k]`: the value at the key, if there is one
+abbrev pub dict_get : List DictPair → Key → Option Value
+dict_get pairs key = option_map (λ pair. pair.value) (find (is_at key) pairs)
+
+abbrev pub has_key : List DictPair → Key → Bool
+has_key pairs key = list_any (is_at key) pairs
+
+-- the pairs with this value at the key, each in its place
+abbrev pub with_value : List DictPair → Key → Value → List DictPair
+with_value pairs key value = map (λ pair. if is_at key pair then record pair { value = value } else pair) pairs
+
+-- `d[k] = v`: a new value at a key that is there keeps the pair's place and serial; a key that isn't goes last
+abbrev pub dict_set : DictContent → Key → Value → DictContent
+dict_set dict key value =
+    if has_key dict.pairs key
+    then record { next = dict.next; pairs = with_value dict.pairs key value }
+    else record { next = dict.next + 1; pairs = dict.pairs ++ record { serial = dict.next; key = key; value = value } ∷ [] }

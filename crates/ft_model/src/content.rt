@@ -1,0 +1,94 @@
+ghost use Rattle.std.specs.Prelude.{◌≡◌, ◌≢◌, ℕ, ◌^◌, ◌<◌, OnOk, OnErr, Some, position};
+ghost use Rattle.ft_model.specs.Keys.{same_key};
+
+use crate::data::{Key, Value};
+use std::alloc::{AllocError, Global};
+use std::marker::Model;
+
+/// A pair of a dict, with the serial that it drew when its key was added.
+#[derive(Clone, Copy, Debug, PartialEq, Eq, Hash)]
+pub struct DictPair {
+    pub serial: u64,
+    pub key: Key,
+    pub value: Value,
+}
+
+/// What a dict has: its pairs in insertion order and the next serial.
+#[derive(Debug, Drop)]
+pub struct Dict {
+    next: u64,
+    pairs: Vec<DictPair>,
+}
+
+impl Model for Dict {
+    ghost use Rattle.ft_model.specs.Contents.{DictContent, IsDict};
+
+    ghost Value = { DictContent };
+
+    ghost view = { λ d. record { next = d.next; pairs = d.pairs.items } };
+
+    ghost invariant = { λ d. IsDict d.next d.pairs.items };
+}
+
+impl Dict {
+    ghost use Rattle.ft_model.specs.Contents.{empty_dict, dict_get, dict_set};
+
+    pub fn new(alloc: Global) -> Self
+        ensures { result ≡ empty_dict }
+    {
+        Dict {
+            next: 0,
+            pairs: Vec::new(alloc),
+        }
+    }
+
+    /// The pairs in insertion order.
+    pub fn pairs(&self) -> &[DictPair]
+        ensures { result.now ≡ self.now.pairs }
+    {
+        &self.pairs
+    }
+
+    /// `d[k]`, or `None` where the key isn't there.
+    pub fn get(&self, key: Key) -> Option<Value>
+        ensures { result ≡ dict_get self.now.pairs key }
+    {
+        self.pairs
+            .iter()
+            .find(|pair| pair.key == key)
+            .map(|pair| pair.value)
+    }
+
+    /// `d[k] = v`. An `Err` changes nothing.
+    pub fn set(&mut self, key: Key, value: Value) -> Result<(), AllocError>
+        requires { self.old.next < 2 ^ 63 }
+        ensures ok { OnOk result (self.new ≡ dict_set self.old key value) }
+        ensures err { OnErr result (self.new ≡ self.old) }
+    {
+        match place_of(&self.pairs, key) {
+            Some(place) => self.pairs[place].value = value,
+            None => {
+                self.pairs.push(DictPair {
+                    serial: self.next,
+                    key,
+                    value,
+                })?;
+                self.next += 1;
+            }
+        }
+        Ok(())
+    }
+}
+
+/// The place of the key's pair.
+fn place_of(pairs: &[DictPair], key: Key) -> Option<usize>
+    ensures { result ≡ position (λ pair. same_key pair.key key) pairs.now }
+{
+    pairs.iter().position(|pair| pair.key == key)
+}
+
+/// What a container has, by its kind.
+#[derive(Debug, Drop)]
+pub enum Content {
+    Dict(Dict),
+}

@@ -3,3 +3,4 @@ pub mod Contents
 pub mod Worlds
 pub mod Answers
 pub mod Histories
+pub mod Parts

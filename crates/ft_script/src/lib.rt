@@ -1,2 +1,6 @@
-//! To be written.
+//! Scripts and transcripts as text.
 #![tactic(auto)]
+
+mod fault;
+
+pub use fault::{ScriptFault, Which};

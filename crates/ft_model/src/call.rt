@@ -24,3 +24,27 @@ pub enum Reply {
     Value(Value),
     Raised(Raise),
 }
+
+impl Call {
+    ghost use Rattle.std.specs.Prelude.{◌≡◌};
+    ghost use Rattle.ft_model.specs.Answers.{is_changing};
+
+    /// Whether the call is of a kind that changes a container.
+    pub fn is_changing(&self) -> bool
+        ensures { result ≡ is_changing self.now }
+    {
+        matches!(self, Call::DictSet { .. })
+    }
+}
+
+impl Reply {
+    ghost use Rattle.std.specs.Prelude.{◌≡◌};
+    ghost use Rattle.ft_model.specs.Answers.{is_raised};
+
+    /// Whether the reply is an exception.
+    pub fn is_raised(&self) -> bool
+        ensures { result ≡ is_raised self.now }
+    {
+        matches!(self, Reply::Raised(_))
+    }
+}

@@ -1,2 +1,4 @@
-//! To be written.
+//! The tool: a script is read, run and written.
 #![tactic(auto)]
+
+mod turns;

@@ -1,0 +1,67 @@
+ghost use Rattle.std.specs.Prelude.{◌≡◌, ℕ, [], ◌∷◌, ◌++◌, ◌^◌, ◌<◌, ◌≤◌, length, All, IfOk};
+ghost use Rattle.ft_model.specs.Worlds.{IsDeclared, HasRoom, no_hands};
+ghost use Rattle.ft_model.specs.Answers.{answer, is_write};
+ghost use Rattle.ft_model.specs.Histories.{writes};
+ghost use Rattle.ft_model.specs.Parts.{IsCallOf};
+ghost use Rattle.ft_runner.specs.Runs.{entry_after, IsRun};
+
+use ft_model::{Call, Entry, Hands, Script, World, apply};
+use std::alloc::{AllocError, Global};
+
+/// What a script has come to: its history, and the world after it.
+#[derive(Debug, Drop)]
+pub(crate) struct Run {
+    pub(crate) entries: Vec<Entry>,
+    pub(crate) world: World,
+}
+
+/// Runs the calls of the one thread, one after the other.
+pub(crate) fn run_calls(alloc: Global, script: &Script, calls: &[Call]) -> Result<Run, AllocError>
+    requires thread { 0 < length script.now.threads }
+    requires calls { All (IsCallOf script.now) calls.now }
+    requires few { length calls.now ≤ 500000 }
+    ensures { IfOk result (λ run. IsRun script.now calls.now run.entries.items run.world) }
+{
+    let mut run = Run {
+        entries: Vec::with_capacity(alloc, calls.len())?,
+        world: World::start(alloc, script.containers.as_slice())?,
+    };
+    let mut hands = Hands;
+    let mut stamp = 0;
+    for call in calls {
+        let wrote = answer_next(&mut run, &mut hands, stamp, call)?;
+        stamp += u64::from(wrote);
+    }
+    Ok(run)
+}
+
+/// Answers the next call and adds its entry, with the number of writes so far as its stamp. It
+/// answers whether the call was a write.
+fn answer_next(
+    run: &mut Run,
+    hands: &mut Hands,
+    stamp: u64,
+    call: &Call,
+) -> Result<bool, AllocError>
+    requires declared { IsDeclared run.old.world call.now }
+    requires room { HasRoom run.old.world call.now }
+    requires stamp { stamp ≡ length (writes run.old.entries.items) }
+    requires few { length run.old.entries.items < 500000 }
+    ensures entry { IfOk result (λ _. run.new.entries.items ≡ run.old.entries.items ++ entry_after run.old.world run.old.entries.items call.now ∷ []) }
+    ensures world { IfOk result (λ _. run.new.world ≡ (answer run.old.world no_hands call.now).world) }
+    ensures wrote { IfOk result (λ wrote. wrote ≡ is_write call.now (answer run.old.world no_hands call.now).reply) }
+{
+    let reply = apply(&mut run.world, hands, call)?;
+    let wrote = call.is_changing() && !reply.is_raised();
+    let index = run.entries.len() as u32 + 1;
+    run.entries.push(Entry {
+        thread: 0,
+        index,
+        stamp,
+        wrote,
+        call: *call,
+        reply,
+        waited: None,
+    })?;
+    Ok(wrote)
+}

@@ -4,7 +4,9 @@
 mod memory;
 mod sink;
 mod source;
+mod standard;
 
 pub use memory::{MemSink, MemSource};
 pub use sink::Sink;
 pub use source::{Failed, Source};
+pub use standard::{StdSink, StdSource};

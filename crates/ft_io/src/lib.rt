@@ -5,6 +5,8 @@ mod memory;
 mod sink;
 mod source;
 mod standard;
+#[cfg(test)]
+mod tests;
 
 pub use memory::{MemSink, MemSource};
 pub use sink::Sink;

@@ -1,10 +1,10 @@
-ghost use Rattle.std.specs.Prelude.{◌≡◌, ℕ, ◌+◌, ◌-◌, ◌<◌, ◌≤◌, ◌↔◌, ◌⊎◌, min, List, [], ◌++◌, length, take, drop, vec_capacity, Some, Contains, IsErr, IfOk, IfSome, OnErr, MatchResult};
-ghost use Rattle.ft_io.specs.Streams.{raised, behind, added};
-
-use std::alloc::{AllocError, Global};
-use std::marker::Model;
+ghost use Rattle.std.specs.Prelude.{◌≡◌, ◌<◌, ◌↔◌, ◌⊎◌, min, [], ◌++◌, length, take, drop, Some, Contains, IsErr, IfOk, OnErr};
+ghost use Rattle.ft_io.specs.Memory.{free_room};
+ghost use Rattle.ft_io.specs.Streams.{raised};
 
 use crate::{Failed, Sink, Source};
+use std::alloc::{AllocError, Global};
+use std::marker::Model;
 
 /// A source over bytes in memory, which can be told to give short pieces and to fail.
 #[derive(Debug, Drop)]
@@ -23,7 +23,13 @@ impl Model for MemSource {
 
     ghost Value = { SourceState };
 
-    ghost view = { λ s. record { left = drop s.start s.bytes.items; most = s.most; fails = s.fails.items; calls = s.calls; faults = s.faults } };
+    ghost view = { λ s. record {
+      left = drop s.start s.bytes.items;
+      most = s.most;
+      fails = s.fails.items;
+      calls = s.calls;
+      faults = s.faults;
+    } };
 
     ghost invariant = { λ s. (s.start ≤ length s.bytes.items) × (0 < s.most) };
 }
@@ -33,7 +39,13 @@ impl MemSource {
     /// from 1, are in `fails` fail.
     pub fn new(bytes: Vec<u8>, most: usize, fails: Vec<u64>) -> MemSource
         requires { 0 < most }
-        ensures { result ≡ record { left = bytes.items; most = most; fails = fails.items; calls = 0; faults = 0 } }
+        ensures { result ≡ record {
+          left = bytes.items;
+          most = most;
+          fails = fails.items;
+          calls = 0;
+          faults = 0;
+        } }
     {
         MemSource {
             bytes,
@@ -61,19 +73,20 @@ impl Source for MemSource {
     /// Takes as many bytes as the greatest size, `buf` and what is left allow. A call that fails
     /// leaves all but the counts as it was. Past 2^64 - 1 calls each has that number.
     fn take(&mut self, buf: &mut [u8]) -> Result<usize, Failed>
-        ensures count { IfOk result (λ n. n ≤ length buf.old) }
-        ensures bytes { IfOk result (λ n. Some self.old.left ≡ behind (take n buf.new) (Some self.new.left)) }
-        ensures end { IfOk result (λ n. n ≡ 0 → 0 < length buf.old → IfSome (Some self.new.left) (λ rest. rest ≡ [])) }
-        ensures failed { OnErr result (Some self.new.left ≡ Some self.old.left) }
-        ensures faults { MatchResult result (λ _. self.new.faults ≡ self.old.faults) (λ _. self.new.faults ≡ raised self.old.faults) }
-
-        // Which calls fail, and how many bytes the others move.
+        ensures end { IfOk result (λ n. n ≡ 0 → 0 < length buf.old → self.new.left ≡ []) }
         ensures fails { IsErr result ↔ Contains self.old.fails (raised self.old.calls) }
-        ensures size { IfOk result (λ n. n ≡ min self.old.most (min (length buf.old) (length self.old.left))) }
+        ensures size { IfOk result (λ n.
+            n ≡ min self.old.most (min (length buf.old) (length self.old.left))) }
         ensures copied { IfOk result (λ n. buf.new ≡ take n self.old.left ++ drop n buf.old) }
+        ensures ok { IfOk result (λ n. self.new ≡ record self.old {
+          left = drop n self.old.left;
+          calls = raised self.old.calls;
+        }) }
         ensures untouched { OnErr result (buf.new ≡ buf.old) }
-        ensures ok { IfOk result (λ n. self.new ≡ record self.old { left = drop n self.old.left; calls = raised self.old.calls }) }
-        ensures err { OnErr result (self.new ≡ record self.old { calls = raised self.old.calls; faults = raised self.old.faults }) }
+        ensures err { OnErr result (self.new ≡ record self.old {
+          calls = raised self.old.calls;
+          faults = raised self.old.faults;
+        }) }
     {
         self.calls = self.calls.saturating_add(1);
         if self.fails.contains(&self.calls) {
@@ -89,6 +102,7 @@ impl Source for MemSource {
 }
 
 /// A sink that keeps in memory what is put, and that can be told to take short pieces and to fail.
+/// It allocates only when it is made.
 #[derive(Debug, Drop)]
 pub struct MemSink {
     bytes: Vec<u8>,
@@ -105,18 +119,38 @@ impl Model for MemSink {
 
     ghost Value = { SinkState };
 
-    ghost view = { λ s. record { taken = s.bytes.items; room = s.room; most = s.most; fails = s.fails.items; calls = s.calls; faults = s.faults } };
+    ghost view = { λ s. record {
+      taken = s.bytes.items;
+      room = s.room;
+      most = s.most;
+      fails = s.fails.items;
+      calls = s.calls;
+      faults = s.faults;
+    } };
 
-    ghost invariant = { λ s. (length s.bytes.items ≤ s.room) × (s.room ≤ vec_capacity s.bytes) × (0 < s.most) };
+    ghost invariant = { λ s.
+        (length s.bytes.items ≤ s.room) × (s.room ≤ vec_capacity s.bytes) × (0 < s.most) };
 }
 
 impl MemSink {
     /// A sink with room for `room` bytes in all, which takes at most `most` of them in a call.
     /// The calls whose numbers, from 1, are in `fails` fail. Fails where there is no memory for
     /// the room.
-    pub fn new(alloc: Global, room: usize, most: usize, fails: Vec<u64>) -> Result<MemSink, AllocError>
+    pub fn new(
+        alloc: Global,
+        room: usize,
+        most: usize,
+        fails: Vec<u64>,
+    ) -> Result<MemSink, AllocError>
         requires { 0 < most }
-        ensures { IfOk result (λ sink. sink ≡ record { taken = []; room = room; most = most; fails = fails.items; calls = 0; faults = 0 }) }
+        ensures { IfOk result (λ sink. sink ≡ record {
+          taken = [];
+          room = room;
+          most = most;
+          fails = fails.items;
+          calls = 0;
+          faults = 0;
+        }) }
     {
         Ok(MemSink {
             bytes: Vec::with_capacity(alloc, room)?,
@@ -152,17 +186,19 @@ impl Sink for MemSink {
     /// fails where it is told to, and where `piece` has bytes and there is no room. It then leaves
     /// all but the counts as it was. Past 2^64 - 1 calls each has that number.
     fn put(&mut self, piece: &[u8]) -> Result<usize, Failed>
-        ensures count { IfOk result (λ n. n ≤ length piece.now) }
         ensures progress { IfOk result (λ n. 0 < length piece.now → 0 < n) }
-        ensures bytes { IfOk result (λ n. Some self.new.taken ≡ added (Some self.old.taken) (take n piece.now)) }
-        ensures failed { OnErr result (Some self.new.taken ≡ Some self.old.taken) }
-        ensures faults { MatchResult result (λ _. self.new.faults ≡ self.old.faults) (λ _. self.new.faults ≡ raised self.old.faults) }
-
-        // Which calls fail, and how many bytes the others move.
-        ensures fails { IsErr result ↔ (Contains self.old.fails (raised self.old.calls) ⊎ (0 < length piece.now) × (self.old.room ≤ length self.old.taken)) }
-        ensures size { IfOk result (λ n. n ≡ min self.old.most (min (length piece.now) (self.old.room - length self.old.taken))) }
-        ensures ok { IfOk result (λ n. self.new ≡ record self.old { taken = self.old.taken ++ take n piece.now; calls = raised self.old.calls }) }
-        ensures err { OnErr result (self.new ≡ record self.old { calls = raised self.old.calls; faults = raised self.old.faults }) }
+        ensures fails { IsErr result ↔ (Contains self.old.fails (raised self.old.calls)
+            ⊎ ((0 < length piece.now) × (free_room self.old ≡ 0))) }
+        ensures size { IfOk result (λ n.
+            n ≡ min self.old.most (min (length piece.now) (free_room self.old))) }
+        ensures ok { IfOk result (λ n. self.new ≡ record self.old {
+          taken = self.old.taken ++ take n piece.now;
+          calls = raised self.old.calls;
+        }) }
+        ensures err { OnErr result (self.new ≡ record self.old {
+          calls = raised self.old.calls;
+          faults = raised self.old.faults;
+        }) }
     {
         self.calls = self.calls.saturating_add(1);
         let left = self.room - self.bytes.len();

@@ -1,15 +1,14 @@
-ghost use Rattle.std.specs.Prelude.{◌≡◌, ℕ, ◌<◌, ◌≤◌, List, length, take, None, IfOk, IfSome, OnErr, MatchResult};
-ghost use Rattle.std.specs.Io.{ReadsAtMost, WritesAtMost};
+ghost use Rattle.std.specs.Prelude.{◌≡◌, ◌<◌, ◌≤◌, length, take, None, IfOk, MatchResult};
 ghost use Rattle.std.specs.Io.KnownBytes.{Appends, ReadConsumes, WriteAppends};
-ghost use Rattle.ft_io.specs.Streams.{raised, behind, added};
+ghost use Rattle.ft_io.specs.Streams.{raised};
 ghost use Rattle.ft_io.specs.Standard.{AppendsSome};
 
-use std::io::{self, ErrorKind, Read, Write};
+use crate::{Failed, Sink, Source};
+use std::io::{ErrorKind, Read, Write};
 use std::marker::Model;
 
-use crate::{Failed, Sink, Source};
-
-/// A source over a reader of std, as the standard input. It doesn't tell what is left.
+/// A source over a reader of std, as a runtime's `stdin()`. What a stream outside the program gives
+/// can't be known, so the source doesn't tell what is left.
 #[derive(Debug, Drop)]
 pub struct StdSource<R: Read> {
     inner: R,
@@ -45,10 +44,11 @@ impl<R: Read> Source for StdSource<R> {
 
     ghost faults = { λ s. s.faults };
 
-    /// Reads once. A read that a signal interrupts is tried again, and any other error is a fault.
+    /// Reads once. A read that a signal interrupts is tried again. Any other error is a fault.
     fn take(&mut self, buf: &mut [u8]) -> Result<usize, Failed>
         ensures count { IfOk result (λ n. n ≤ length buf.old) }
-        ensures faults { MatchResult result (λ _. self.new.faults ≡ self.old.faults) (λ _. self.new.faults ≡ raised self.old.faults) }
+        ensures faults { MatchResult result (λ _. self.new.faults ≡ self.old.faults)
+            (λ _. self.new.faults ≡ raised self.old.faults) }
 
         // What the reader has left, where that is known.
         ensures known { ReadConsumes self.old.known self.new.known result buf.new }
@@ -79,7 +79,8 @@ fn read_retrying<R: Read>(reader: &mut R, buf: &mut [u8]) -> Result<usize, Faile
     Err(Failed)
 }
 
-/// A sink over a writer of std, as the standard output. It doesn't tell what it has taken in.
+/// A sink over a writer of std, as a runtime's `stdout()` or `stderr()`. What a stream outside the
+/// program makes of the bytes can't be known, so the sink doesn't tell what it has taken in.
 #[derive(Debug, Drop)]
 pub struct StdSink<W: Write> {
     inner: W,
@@ -95,8 +96,7 @@ impl<W: Write> Model for StdSink<W> {
 }
 
 impl<W: Write> StdSink<W> {
-    /// A sink that writes to `inner`. Each put flushes it, so that a buffer in `inner` serves
-    /// nothing.
+    /// A sink that writes to `inner`. Each put flushes `inner`, so a buffer there gains nothing.
     pub fn new(inner: W) -> StdSink<W>
         ensures { result ≡ record { known = W.contents inner; faults = 0 } }
     {
@@ -117,15 +117,18 @@ impl<W: Write> Sink for StdSink<W> {
     ghost faults = { λ s. s.faults };
 
     /// Writes once, and flushes. A write that a signal interrupts is tried again. Any other error
-    /// is a fault, and so is a write that takes no byte of a piece that isn't empty. Where the
-    /// flush fails, some of `piece` may have reached the stream.
+    /// is a fault, and so is a write of no byte of a piece that isn't empty. Where the flush fails,
+    /// some of the front of `piece` may have been written.
     fn put(&mut self, piece: &[u8]) -> Result<usize, Failed>
         ensures count { IfOk result (λ n. n ≤ length piece.now) }
         ensures progress { IfOk result (λ n. 0 < length piece.now → 0 < n) }
-        ensures faults { MatchResult result (λ _. self.new.faults ≡ self.old.faults) (λ _. self.new.faults ≡ raised self.old.faults) }
+        ensures faults { MatchResult result (λ _. self.new.faults ≡ self.old.faults)
+            (λ _. self.new.faults ≡ raised self.old.faults) }
 
         // What the writer holds, where that is known.
-        ensures known { MatchResult result (λ n. Appends self.old.known self.new.known (take n piece.now)) (λ _. AppendsSome self.old.known self.new.known piece.now) }
+        ensures known { MatchResult result
+            (λ n. Appends self.old.known self.new.known (take n piece.now))
+            (λ _. AppendsSome self.old.known self.new.known piece.now) }
     {
         let answer = write_through(&mut self.inner, piece);
         if answer.is_err() {
@@ -139,7 +142,9 @@ impl<W: Write> Sink for StdSink<W> {
 fn write_through<W: Write>(writer: &mut W, piece: &[u8]) -> Result<usize, Failed>
     ensures count { IfOk result (λ n. n ≤ length piece.now) }
     ensures progress { IfOk result (λ n. 0 < length piece.now → 0 < n) }
-    ensures known { MatchResult result (λ n. Appends (W.contents writer.old) (W.contents writer.new) (take n piece.now)) (λ _. AppendsSome (W.contents writer.old) (W.contents writer.new) piece.now) }
+    ensures known { MatchResult result
+        (λ n. Appends (W.contents writer.old) (W.contents writer.new) (take n piece.now))
+        (λ _. AppendsSome (W.contents writer.old) (W.contents writer.new) piece.now) }
 {
     let count = write_retrying(writer, piece)?;
     if count == 0 && !piece.is_empty() || writer.flush().is_err() {

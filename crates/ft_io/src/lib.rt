@@ -1,8 +1,14 @@
 //! Bytes that are taken from a source and put into a sink, with a count of what failed.
 #![tactic(auto)]
 
+mod memory;
 mod sink;
 mod source;
+mod standard;
+#[cfg(test)]
+mod tests;
 
+pub use memory::{MemSink, MemSource};
 pub use sink::Sink;
 pub use source::{Failed, Source};
+pub use standard::{StdSink, StdSource};

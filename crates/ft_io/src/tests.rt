@@ -1,0 +1,176 @@
+ghost use Rattle.std.specs.Prelude.{◌≤◌, IfOk};
+
+use crate::{MemSink, MemSource, Sink, Source, StdSink, StdSource};
+use std::io::{self, Cursor, ErrorKind, Read, Write};
+use std::process::Abort;
+use std::test::Fail;
+
+// Takes into a buffer of 4 bytes, once for each piece that is wanted. None is a failure.
+fn check_takes<S: Source>(rt: &impl Abort, source: &mut S, wanted: &[Option<&[u8]>]) {
+    for want in wanted {
+        let mut buf = [0u8; 4];
+        let got = match source.take(&mut buf) {
+            Ok(count) => Some(&buf[..count]),
+            Err(_) => None,
+        };
+        assert_eq!(rt; got, *want);
+    }
+}
+
+// Puts each piece, and compares the count. None is a failure.
+fn check_puts<S: Sink>(rt: &impl Abort, sink: &mut S, wanted: &[(&[u8], Option<usize>)]) {
+    for (piece, want) in wanted {
+        assert_eq!(rt; sink.put(piece).ok(), *want, "at {piece:?}");
+    }
+}
+
+#[test]
+fn a_source_over_memory_goes_on_after_a_failure(rt: HostRuntime) -> Result<(), Fail> {
+    let bytes = b"abcdefgh".to_vec(rt.alloc())?;
+    let fails = vec![in rt.alloc(); 2]?;
+    let mut source = MemSource::new(bytes, 3, fails);
+    let wanted: [Option<&[u8]>; 6] = [
+        Some(b"abc"),
+        None,
+        Some(b"def"),
+        Some(b"gh"),
+        Some(b""),
+        Some(b""),
+    ];
+    check_takes(&rt, &mut source, &wanted);
+    assert_eq!(rt; source.faults(), 1);
+    Ok(())
+}
+
+#[test]
+fn a_source_over_memory_fills_the_buffer(rt: HostRuntime) -> Result<(), Fail> {
+    let bytes = b"abcdef".to_vec(rt.alloc())?;
+    let mut source = MemSource::new(bytes, 100, Vec::new(rt.alloc()));
+    assert_eq!(rt; source.take(&mut []), Ok(0));
+    let wanted: [Option<&[u8]>; 3] = [Some(b"abcd"), Some(b"ef"), Some(b"")];
+    check_takes(&rt, &mut source, &wanted);
+    assert_eq!(rt; source.faults(), 0);
+    Ok(())
+}
+
+#[test]
+fn a_sink_over_memory_fails_when_told_and_when_full(rt: HostRuntime) -> Result<(), Fail> {
+    let fails = vec![in rt.alloc(); 2]?;
+    let mut sink = MemSink::new(rt.alloc(), 5, 3, fails)?;
+    let wanted: [(&[u8], Option<usize>); 7] = [
+        (b"abcdef", Some(3)),
+        (b"def", None),
+        (b"", Some(0)),
+        (b"def", Some(2)),
+        (b"f", None),
+        (b"", Some(0)),
+        (b"f", None),
+    ];
+    check_puts(&rt, &mut sink, &wanted);
+    assert_eq!(rt; sink.bytes(), b"abcde".as_slice());
+    assert_eq!(rt; sink.faults(), 3);
+    Ok(())
+}
+
+// A stream whose first call is interrupted, whose third fails, whose fifth moves no byte and whose
+// sixth can't be flushed. Each other call moves up to two bytes.
+#[derive(Drop)]
+struct Unsteady {
+    calls: u8,
+}
+
+impl Unsteady {
+    fn answer(&mut self, len: usize) -> io::Result<usize>
+        ensures { IfOk result (λ n. n ≤ len) }
+    {
+        self.calls = self.calls.saturating_add(1);
+        match self.calls {
+            1 => Err(ErrorKind::Interrupted.into()),
+            3 => Err(ErrorKind::BrokenPipe.into()),
+            5 => Ok(0),
+            _ => Ok(len.min(2)),
+        }
+    }
+}
+
+impl Read for Unsteady {
+    fn read(&mut self, buf: &mut [u8]) -> io::Result<usize> {
+        let count = self.answer(buf.len())?;
+        for byte in &mut buf[..count] {
+            *byte = b'x';
+        }
+        Ok(count)
+    }
+}
+
+impl Write for Unsteady {
+    fn write(&mut self, buf: &[u8]) -> io::Result<usize> {
+        self.answer(buf.len())
+    }
+
+    fn flush(&mut self) -> io::Result<()> {
+        if self.calls == 6 {
+            return Err(ErrorKind::BrokenPipe.into());
+        }
+        Ok(())
+    }
+}
+
+#[test]
+fn a_source_over_a_reader_counts_its_errors(rt: HostRuntime) {
+    let mut source = StdSource::new(Cursor::new(*b"abcdef"));
+    let whole: [Option<&[u8]>; 3] = [Some(b"abcd"), Some(b"ef"), Some(b"")];
+    check_takes(&rt, &mut source, &whole);
+    assert_eq!(rt; source.faults(), 0);
+
+    let mut source = StdSource::new(Unsteady { calls: 0 });
+    let broken: [Option<&[u8]>; 4] = [Some(b"xx"), None, Some(b"xx"), Some(b"")];
+    check_takes(&rt, &mut source, &broken);
+    assert_eq!(rt; source.faults(), 1);
+}
+
+#[test]
+fn a_sink_over_a_writer_counts_its_errors(rt: HostRuntime) {
+    let mut sink = StdSink::new(Unsteady { calls: 0 });
+    let piece = b"abc".as_slice();
+    let wanted = [
+        (piece, Some(2)),
+        (piece, None),
+        (piece, Some(2)),
+        (piece, None),
+        (piece, None),
+        (b"".as_slice(), Some(0)),
+        (piece, Some(2)),
+    ];
+    check_puts(&rt, &mut sink, &wanted);
+    assert_eq!(rt; sink.faults(), 3);
+}
+
+#[test]
+fn a_sink_over_a_writer_reaches_it(rt: HostRuntime) -> Result<(), Fail> {
+    let mut held = Vec::new(rt.alloc());
+    let mut sink = StdSink::new(&mut held);
+    check_puts(
+        &rt,
+        &mut sink,
+        &[(b"ab", Some(2)), (b"", Some(0)), (b"c", Some(1))],
+    );
+    assert_eq!(rt; sink.faults(), 0);
+    assert_eq!(rt; held.as_slice(), b"abc".as_slice());
+    Ok(())
+}
+
+// What a program's main does with the runtime's streams, and what another thread may be given.
+#[test]
+fn standard_streams_move_between_threads(rt: HostRuntime) {
+    fn moves<T: Send>(_: &T) {}
+
+    let source = StdSource::new(rt.stdin());
+    moves(&source);
+    let mut sink = StdSink::new(rt.stdout());
+    moves(&sink);
+    assert_eq!(rt; sink.put(b""), Ok(0));
+    let errors = StdSink::new(rt.stderr());
+    assert_eq!(rt; errors.faults(), 0);
+    moves(&MemSource::new(Vec::new(rt.alloc()), 1, Vec::new(rt.alloc())));
+}

@@ -209,20 +209,20 @@ module _ (script : Script) (calls : List Call) (entries : List Entry) (world : L
   earlier_more : All (IsEarlier (length longer) (length (writes longer))) longer
   earlier_more =
       All-push (IsEarlier (length longer) (length (writes longer))) entries now
-        (All-weaker (IsEarlier (length entries) (length (writes entries))) (IsEarlier (length longer) (length (writes longer))) (λ e h. record {
-          thread = h.thread;
-          index = omega (arith, counted, h.index);
-          stamp = omega (arith, counted_writes, h.stamp);
-          write = λ w. (let lt : e.stamp < length (writes entries) = h.write w in omega (arith, counted_writes));
-          mark = h.mark;
-        }) entries run.earlier)
-        (record {
-          thread = refl;
-          index = omega (arith, counted);
-          stamp = omega (arith, counted_writes);
-          write = λ w. omega (arith, counted_writes, written_one now w);
-          mark = refl;
-        })
+      (All-weaker (IsEarlier (length entries) (length (writes entries))) (IsEarlier (length longer) (length (writes longer))) (λ e h. record {
+        thread = h.thread;
+        index = omega (arith, counted, h.index);
+        stamp = omega (arith, counted_writes, h.stamp);
+        write = λ w. (let lt : e.stamp < length (writes entries) = h.write w in omega (arith, counted_writes));
+        mark = h.mark;
+      }) entries run.earlier)
+      (record {
+        thread = refl;
+        index = omega (arith, counted);
+        stamp = omega (arith, counted_writes);
+        write = λ w. omega (arith, counted_writes, written_one now w);
+        mark = refl;
+      })
 
   order_more : IsSorted history_cmp longer
   order_more = IsSortedBy-push (λ a b. is_lt (history_cmp a b)) entries now run.order (λ d lt.

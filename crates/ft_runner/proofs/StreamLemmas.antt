@@ -1,0 +1,42 @@
+-- One call of a source or a sink after others.
+use Rattle.std.proofs.Common.{◌≡◌, ℕ, Bool, true, false, List, [], ◌++◌, length, Option, Some, None, refl, sym, ap, ◌∙◌, append_assoc}
+use Rattle.std.proofs.lemmas.List.{append-nil}
+use Rattle.ft_io.specs.Streams.{raised, behind, added}
+use Rattle.ft_runner.specs.Reports.{Stream, stream, Gives, Receives}
+
+behind-nil : (left : Option (List ℕ)) → left ≡ behind [] left
+behind-nil None = refl
+behind-nil (Some bytes) = refl
+
+behind-append : (x y : List ℕ) (left : Option (List ℕ)) → behind x (behind y left) ≡ behind (x ++ y) left
+behind-append x y None = refl
+behind-append x y (Some bytes) = ap (λ (bs : List ℕ). Some bs) (sym (append_assoc x y bytes))
+
+added-nil : (taken : Option (List ℕ)) → taken ≡ added taken []
+added-nil None = refl
+added-nil (Some bytes) = ap (λ (bs : List ℕ). Some bs) (sym (append-nil bytes))
+
+added-append : (taken : Option (List ℕ)) (x y : List ℕ) → added (added taken x) y ≡ added taken (x ++ y)
+added-append None x y = refl
+added-append (Some bytes) x y = ap (λ (bs : List ℕ). Some bs) (append_assoc bytes x y)
+
+pub Gives-none : (a : Stream) → Gives a [] false a
+Gives-none a = record { content = behind-nil a.content; faults = refl }
+
+pub Gives-then : (a b c : Stream) (x y : List ℕ) → Gives a x false b → Gives b y false c → Gives a (x ++ y) false c
+Gives-then a b c x y p q = record { content = p.content ∙ ap (behind x) q.content ∙ behind-append x y c.content; faults = q.faults ∙ p.faults }
+
+-- a call that fails takes nothing
+pub Gives-fails : (a b c : Stream) (x : List ℕ) → Gives a x false b → c.content ≡ b.content → c.faults ≡ raised b.faults → Gives a x true c
+Gives-fails a b c x p same fault = record { content = p.content ∙ ap (behind x) (sym same); faults = fault ∙ ap raised p.faults }
+
+pub Receives-none : (a : Stream) → Receives a [] false a
+Receives-none a = record { content = added-nil a.content; faults = refl }
+
+pub Receives-then : (a b c : Stream) (x y : List ℕ) (failed : Bool) → Receives a x false b → Receives b y failed c → Receives a (x ++ y) failed c
+Receives-then a b c x y true p q = record { content = q.content ∙ ap (λ t. added t y) p.content ∙ added-append a.content x y; faults = q.faults ∙ ap raised p.faults }
+Receives-then a b c x y false p q = record { content = q.content ∙ ap (λ t. added t y) p.content ∙ added-append a.content x y; faults = q.faults ∙ p.faults }
+
+-- a call that fails puts nothing
+pub Receives-fails : (a b c : Stream) (x : List ℕ) → Receives a x false b → c.content ≡ b.content → c.faults ≡ raised b.faults → Receives a x true c
+Receives-fails a b c x p same fault = record { content = same ∙ p.content; faults = fault ∙ ap raised p.faults }

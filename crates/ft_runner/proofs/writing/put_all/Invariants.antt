@@ -1,0 +1,14 @@
+use Rattle.std.proofs.Common.{false, ◌-◌, ◌≤◌, length, take}
+use Rattle.ft_runner.specs.Reports.{stream, Receives}
+use Rattle.ft_runner.proofs.writing.put_all.Given as goal
+
+abbrev pub invariant-loop-done : goal.invariant-loop-done
+invariant-loop-done g l =
+    let sink = g.K.Sink in
+    record {
+      within : l.done ≤ length l.bytes;
+      receives : Receives (stream (sink.taken l.fn.sink) (sink.faults l.fn.sink)) (take l.done l.bytes) false (stream (sink.taken l.sink) (sink.faults l.sink));
+    }
+
+abbrev pub decreases-loop-done : goal.decreases-loop-done
+decreases-loop-done g l = length l.bytes - l.done

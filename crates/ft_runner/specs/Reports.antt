@@ -1,0 +1,179 @@
+-- What the tool is asked, does and reports.
+use Rattle.std.specs.Prelude.{◌≡◌, ℕ, Bool, true, false, not, nat_lt, if◌then◌else◌, IsTrue, ◌⊎◌, ◌≤◌, List, [], ◌∷◌, ◌++◌, map, length, Option, IfSome, Result, Ok, Err, Vec, codes}
+use Rattle.std.specs.declared.alloc.Global.{Global}
+use Rattle.ft_io.specs.declared.source.Failed.{Failed}
+use Rattle.std.specs.Fmt.{decimal}
+use Rattle.std.specs.Str.{bytes_eq}
+use Rattle.ft_io.specs.Streams.{raised, behind, added}
+use Rattle.ft_model.specs.declared.entry.Entry.{Entry}
+use Rattle.ft_model.specs.declared.script.Script.{Script}
+use Rattle.ft_model.specs.Histories.{IsLegal}
+use Rattle.ft_script.specs.Scripts.{IsTextOf}
+use Rattle.ft_script.specs.Texts.{transcript}
+use Rattle.ft_runner.specs.declared.report.Fault.{Fault}
+use Rattle.ft_runner.specs.declared.report.Fault.TheVariants as fault
+use Rattle.ft_runner.specs.declared.report.Report.{Report}
+
+-- ---- the command line
+
+-- the program's name, and then the one word `turns`
+abbrev pub is_turns : List (List ℕ) → Bool
+is_turns [] = false
+is_turns (program ∷ []) = false
+is_turns (program ∷ command ∷ []) = bytes_eq command (codes "turns")
+is_turns (program ∷ command ∷ more ∷ words) = false
+
+-- ---- faults
+
+-- the status that the program ends with
+abbrev pub status_of : Fault → ℕ
+status_of fault.Clean = 0
+status_of (fault.Script line kind) = 1
+status_of fault.Usage = 2
+status_of fault.Read = 3
+status_of fault.Write = 4
+status_of fault.Memory = 5
+status_of fault.TooLong = 6
+status_of (fault.NotLegal place rule) = 7
+status_of (fault.Transcript line) = 8
+
+-- what the errors get; every fault of a script is an unknown word yet
+abbrev pub error_line : Fault → List ℕ
+error_line fault.Clean = []
+error_line (fault.Script line kind) = codes "ftpy: line " ++ decimal line ++ codes ": " ++ decimal kind ++ codes " unknown word\n"
+error_line fault.Usage = codes "ftpy: usage: run | turns | check | make N [turns]\n"
+error_line fault.Read = codes "ftpy: read fault\n"
+error_line fault.Write = codes "ftpy: write fault\n"
+error_line fault.Memory = codes "ftpy: want of memory\n"
+error_line fault.TooLong = codes "ftpy: too long\n"
+error_line (fault.NotLegal place rule) = []
+error_line (fault.Transcript line) = codes "ftpy: transcript line " ++ decimal line ++ codes "\n"
+
+abbrev pub is_usage : Fault → Bool
+is_usage fault.Usage = true
+is_usage _ = false
+
+abbrev pub is_read : Fault → Bool
+is_read fault.Read = true
+is_read _ = false
+
+abbrev pub is_write : Fault → Bool
+is_write fault.Write = true
+is_write _ = false
+
+abbrev pub is_too_long : Fault → Bool
+is_too_long fault.TooLong = true
+is_too_long _ = false
+
+-- the input was read to its end
+abbrev pub has_ended : Fault → Bool
+has_ended fault.Clean = true
+has_ended (fault.Script line kind) = true
+has_ended fault.Write = true
+has_ended _ = false
+
+-- ---- streams
+
+-- what a stream tells of its bytes, and how often it has failed
+pub record Stream : Type 0 where
+  pub content : Option (List ℕ)
+  pub faults : ℕ
+
+abbrev pub stream : Option (List ℕ) → ℕ → Stream
+stream content faults = record { content = content; faults = faults }
+
+-- these bytes came from a source, whose last call failed or not
+pub record Gives (before : Stream) (came : List ℕ) (failed : Bool) (after : Stream) : Type 0 where
+  pub content : before.content ≡ behind came after.content
+  pub faults : after.faults ≡ (if failed then raised before.faults else before.faults)
+
+-- these bytes went into a sink, whose last call failed or not
+pub record Receives (before : Stream) (put : List ℕ) (failed : Bool) (after : Stream) : Type 0 where
+  pub content : after.content ≡ added before.content put
+  pub faults : after.faults ≡ (if failed then raised before.faults else before.faults)
+
+-- the first bytes of a text
+abbrev pub IsFront : List ℕ → List ℕ → Type 0
+IsFront front text = (rest : List ℕ) × (front ++ rest ≡ text)
+
+-- ---- reading and writing
+
+-- a source is read to its end, at most so many bytes
+pub record IsWholeInput (before : Stream) (bytes : List ℕ) (after : Stream) : Type 0 where
+  pub gives : Gives before bytes false after
+  pub few : length bytes ≤ 4194304
+  pub ended : IfSome after.content (λ rest. rest ≡ [])
+
+abbrev pub stops_reading : Fault → Bool
+stops_reading fault.Read = true
+stops_reading fault.Memory = true
+stops_reading fault.TooLong = true
+stops_reading _ = false
+
+-- reading stops at a fault, behind the bytes that came
+pub record StopsReading (fault : Fault) (before after : Stream) : Type 0 where
+  pub came : List ℕ
+  pub gives : Gives before came (is_read fault) after
+  pub too_long : is_too_long fault ≡ nat_lt 4194304 (length came)
+  pub cause : stops_reading fault ≡ true
+
+abbrev pub Reads : Stream → Result (Vec ℕ Global) Fault → Stream → Type 0
+Reads before (Ok bytes) after = IsWholeInput before bytes.items after
+Reads before (Err fault) after = StopsReading fault before after
+
+-- the front of a text goes into a sink, which fails or not
+pub record IsPart (before : Stream) (text : List ℕ) (failed : Bool) (after : Stream) : Type 0 where
+  pub front : List ℕ
+  pub is_front : IsFront front text
+  pub receives : Receives before front failed after
+
+abbrev pub Puts : Stream → List ℕ → Result (Unit {0}) Failed → Stream → Type 0
+Puts before text (Ok u) after = Receives before text false after
+Puts before text (Err e) after = IsPart before text true after
+
+-- a sink gets a text: whole, or its front where the sink failed
+abbrev pub Told : Stream → List ℕ → Stream → Type 0
+Told before text after = Receives before text false after ⊎ IsPart before text true after
+
+-- ---- the report
+
+-- no script has these bytes as its text
+abbrev pub IsNoScript : List ℕ → Type 0
+IsNoScript bytes = (script : Script) → IsTextOf bytes script → ⊥
+
+-- the history is one of the script that the bytes stand for, and this is its text
+pub record IsHistoryOf (bytes : List ℕ) (history : List Entry) (text : List ℕ) : Type 0 where
+  pub script : Script
+  pub read : IsTextOf bytes script
+  pub legal : IsLegal script history
+  pub written : text ≡ transcript script history
+
+-- what a fault says of the bytes that came, of the history, and of the bytes that were put
+abbrev pub Means : Fault → List ℕ → List Entry → List ℕ → Type 0
+Means fault.Clean came history put = IsHistoryOf came history put
+Means fault.Write came history put = (text : List ℕ) × IsHistoryOf came history text × IsFront put text
+Means (fault.Script line kind) came history put = (line ≡ 1) × (kind ≡ 2) × IsNoScript came × (history ≡ []) × (put ≡ [])
+Means fault.Usage came history put = (came ≡ []) × (history ≡ []) × (put ≡ [])
+Means fault.Read came history put = (history ≡ []) × (put ≡ [])
+Means fault.TooLong came history put = (history ≡ []) × (put ≡ [])
+Means fault.Memory came history put = (history ≡ []) × ((put ≡ []) ⊎ ((unsaid : List Entry) × (text : List ℕ) × IsHistoryOf came unsaid text × IsFront put text))
+Means (fault.NotLegal place rule) came history put = ⊥
+Means (fault.Transcript line) came history put = ⊥
+
+-- what the tool does for these words, from what the source, the sink and the errors tell before it to what they tell after it
+pub record IsReport (words : List (List ℕ)) (source source' sink sink' errors errors' : Stream) (report : Report) : Type 0 where
+  pub status : report.status ≡ status_of report.fault
+  -- the bytes that came, and those that were put
+  pub came : List ℕ
+  pub put : List ℕ
+  -- usage exactly where the words are others
+  pub usage : is_usage report.fault ≡ not (is_turns words)
+  -- a fault of reading or writing exactly where the count rose
+  pub reading : Gives source came (is_read report.fault) source'
+  pub writing : Receives sink put (is_write report.fault) sink'
+  -- too long exactly where more came
+  pub too_long : is_too_long report.fault ≡ nat_lt 4194304 (length came)
+  pub ended : IsTrue (has_ended report.fault) → IfSome source'.content (λ rest. rest ≡ [])
+  pub means : Means report.fault came report.history.items put
+  -- the errors get the line of the fault
+  pub told : Told errors (error_line report.fault) errors'

@@ -1,0 +1,34 @@
+use ft_model::{Entry, Rule};
+
+/// Why a call of the tool ended as it did.
+#[derive(Clone, Copy, Debug, PartialEq, Eq, Hash)]
+pub enum Fault {
+    /// All input was read and all output written.
+    Clean,
+    /// The text is no script: the line and the kind of its first fault.
+    Script(u32, u8),
+    /// The words of the command line aren't a command.
+    Usage,
+    /// The source failed.
+    Read,
+    /// The sink failed.
+    Write,
+    /// Memory ran out.
+    Memory,
+    /// More came than a script may have.
+    TooLong,
+    /// A transcript isn't legal: the place and the rule that is broken there.
+    NotLegal(u64, Rule),
+    /// A line of a transcript isn't in the grammar.
+    Transcript(u32),
+}
+
+/// What a call of the tool has come to.
+#[derive(Debug, Drop)]
+pub struct Report {
+    /// The status that the program ends with, which is the fault's.
+    pub status: u8,
+    pub fault: Fault,
+    /// The history that was written, whole or in part; empty where there is none.
+    pub history: Vec<Entry>,
+}

@@ -1,14 +1,17 @@
 -- Texts as what is printed piece after piece.
-use Rattle.std.proofs.Common.{◌≡◌, ℕ, ◌+◌, ◌-◌, ◌<◌, ◌≤◌, List, [], ◌∷◌, ◌++◌, length, get_or, take, drop, map, refl, sym, ap, ◌∙◌, arith, append_assoc}
+use Rattle.std.proofs.Common.{◌≡◌, ℕ, ◌+◌, ◌-◌, ◌<◌, ◌≤◌, List, [], ◌∷◌, ◌++◌, length, get_or, take, drop, map, min, refl, sym, ap, ◌∙◌, arith, append_assoc}
 use Rattle.std.specs.Prelude.{codes}
-use Rattle.std.specs.List.{flat_map, join_with_byte}
-use Rattle.std.proofs.lemmas.List.{append-nil, drop_more, take_all, length-drop}
+use Rattle.std.specs.List.{flat_map, join_with_byte, zip}
+use Rattle.std.proofs.lemmas.List.{append-nil, flat_map_more, take_all, take_more}
 use Rattle.std.proofs.lemmas.List.Concat.{flat_map-append}
+use Rattle.std.proofs.lemmas.Slice.Zip.{length-zip, get_or-zip}
 use Rattle.ft_model.specs.declared.call.Call.{Call}
 use Rattle.ft_model.specs.declared.call.Call.TheVariants.{DictGet, DictSet}
+use Rattle.ft_model.specs.declared.content.Content.{Content}
 use Rattle.ft_model.specs.declared.entry.Entry.{Entry}
+use Rattle.ft_model.specs.declared.script.Declaration.{Declaration}
 use Rattle.ft_model.specs.declared.script.Script.{Script}
-use Rattle.ft_script.specs.Texts.{line, container_name, key_text, value_text, call_words, reply_text, mark_words, place_word, stamp_word, entry_line, listed}
+use Rattle.ft_script.specs.Texts.{line, container_name, key_text, value_text, call_words, reply_text, mark_words, place_word, stamp_word, entry_line, listed, world_line, world_text}
 
 -- each word after a byte
 abbrev pub each_after : ℕ → List (List ℕ) → List ℕ
@@ -74,3 +77,27 @@ pub printed_pairs : {X : Type 0} (old first new : List ℕ) (text : X → List �
 printed_pairs old first new text xs d i some past e1 e2 =
     let rest = take (length xs - 1) (drop 1 xs) in
     rw (e2, take_all i rest past, e1, listed-pieces text xs d some) (append_assoc old (text (get_or xs 0 d)) (each_listed text rest))
+
+-- ---- worlds
+
+-- the first lines of a world's text
+abbrev pub first_lines : Script → List Content → ℕ → List ℕ
+first_lines script world n = flat_map (λ (shown : Declaration × Content). world_line script shown.0 shown.1) (take n (zip script.containers world))
+
+pub first_lines-more : (old before now : List ℕ) (script : Script) (world : List Content) (n m : ℕ) (container : Declaration) (content : Content) →
+    m ≡ n + 1 → n < length script.containers → n < length world →
+    container ≡ get_or script.containers n container → content ≡ get_or world n content →
+    before ≡ old ++ first_lines script world n → now ≡ before ++ world_line script container content →
+    now ≡ old ++ first_lines script world m
+first_lines-more old before now script world n m container content next low high c1 c2 e1 e2 =
+    let text : Declaration × Content → List ℕ = λ shown. world_line script shown.0 shown.1 in
+    let shown = zip script.containers world in
+    let d : Declaration × Content = (container, content) in
+    let at : get_or shown n d ≡ d = get_or-zip script.containers world n d low high ∙ ap (λ (x : Declaration). let pair : Declaration × Content = (x, get_or world n content) in pair) (sym c1) ∙ ap (λ (x : Content). let pair : Declaration × Content = (container, x) in pair) (sym c2) in
+    let long : n < length shown = omega (arith, length-zip script.containers world) in
+    let more : take m shown ≡ take n shown ++ d ∷ [] = rw next (take_more shown n d long ∙ ap (λ (x : Declaration × Content). take n shown ++ x ∷ []) at) in
+    e2 ∙ ap (λ (t : List ℕ). t ++ world_line script container content) e1 ∙ flat_map_more text old (take n shown) d ∙ ap (λ t. old ++ flat_map text t) (sym more)
+
+pub first_lines-all : (script : Script) (world : List Content) (n : ℕ) → n ≡ min (length script.containers) (length world) → first_lines script world n ≡ world_text script world
+first_lines-all script world n all =
+    ap (λ shown. flat_map (λ (pair : Declaration × Content). world_line script pair.0 pair.1) shown) (take_all n (zip script.containers world) (omega (arith, length-zip script.containers world)))

@@ -228,20 +228,4 @@ fn push_pair(out: &mut Vec<u8>, strings: &[Text], pair: &DictPair) -> Result<(),
 }
 
 #[cfg(test)]
-mod tests {
-    use super::{print_entry, print_world};
-    use ft_model::{
-        Call, Declaration, Entry, Hands, Key, Kind, Raise, Reply, Script, Sequence, Sym, Text,
-        Thread, Value, World, apply,
-    };
-    use std::alloc::{AllocError, Global};
-    use std::test::Fail;
-
-    ghost use Rattle.std.specs.Prelude.{◌≡◌, ◌∷◌, [], length, IfOk};
-
-    fn text(alloc: Global, bytes: &[u8]) -> Result<Text, AllocError>
-        ensures { IfOk result (λ text. text ≡ bytes.now) }
-    {
-        Ok(Sequence::from_vec(Vec::from_slice(alloc, bytes)?))
-    }
-}
+mod tests;

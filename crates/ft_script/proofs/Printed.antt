@@ -1,5 +1,5 @@
 -- Texts as what is printed piece after piece.
-use Rattle.std.proofs.Common.{◌≡◌, ℕ, ◌+◌, ◌-◌, ◌<◌, ◌≤◌, List, [], ◌∷◌, ◌++◌, length, get_or, take, drop, map, min, refl, sym, ap, ◌∙◌, arith, append_assoc}
+use Rattle.std.proofs.Common.{◌≡◌, ℕ, ◌+◌, ◌-◌, ◌<◌, ◌≤◌, List, [], ◌∷◌, ◌++◌, length, get_or, take, drop, map, min, sym, ap, ◌∙◌, arith, append_assoc}
 use Rattle.std.specs.Prelude.{codes}
 use Rattle.std.specs.List.{flat_map, join_with_byte, zip}
 use Rattle.std.proofs.lemmas.List.{append-nil, flat_map_more, take_all, take_more}
@@ -72,6 +72,7 @@ pub listed-pieces : {X : Type 0} (text : X → List ℕ) (xs : List X) (d : X) �
 listed-pieces text [] d h = elim h [ ]
 listed-pieces text (x ∷ xs) d h = rw (take_all (length (x ∷ xs) - 1) xs (omega arith)) (listed-cons text x xs)
 
+-- what it has printed when its loop is done
 pub printed_pairs : {X : Type 0} (old first new : List ℕ) (text : X → List ℕ) (xs : List X) (d : X) (i : ℕ) → 0 < length xs → length (take (length xs - 1) (drop 1 xs)) ≤ i →
     first ≡ old ++ text (get_or xs 0 d) → new ≡ first ++ each_listed text (take i (take (length xs - 1) (drop 1 xs))) → new ≡ old ++ listed (map text xs)
 printed_pairs old first new text xs d i some past e1 e2 =

@@ -2,5 +2,7 @@
 #![tactic(auto)]
 
 mod fault;
+mod print;
 
 pub use fault::{ScriptFault, Which};
+pub use print::{print_entry, print_world, push_entry, push_world};

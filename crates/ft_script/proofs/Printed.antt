@@ -1,0 +1,104 @@
+-- Texts as what is printed piece after piece.
+use Rattle.std.proofs.Common.{◌≡◌, ℕ, ◌+◌, ◌-◌, ◌<◌, ◌≤◌, List, [], ◌∷◌, ◌++◌, length, get_or, take, drop, map, min, sym, ap, ◌∙◌, arith, append_assoc}
+use Rattle.std.specs.Prelude.{codes}
+use Rattle.std.specs.List.{flat_map, join_with_byte, zip}
+use Rattle.std.proofs.lemmas.List.{append-nil, flat_map_more, take_all, take_more}
+use Rattle.std.proofs.lemmas.List.Concat.{flat_map-append}
+use Rattle.std.proofs.lemmas.Slice.Zip.{length-zip, get_or-zip}
+use Rattle.ft_model.specs.declared.call.Call.{Call}
+use Rattle.ft_model.specs.declared.call.Call.TheVariants.{DictGet, DictSet}
+use Rattle.ft_model.specs.declared.content.Content.{Content}
+use Rattle.ft_model.specs.declared.entry.Entry.{Entry}
+use Rattle.ft_model.specs.declared.script.Declaration.{Declaration}
+use Rattle.ft_model.specs.declared.script.Script.{Script}
+use Rattle.ft_script.specs.Texts.{line, container_name, key_text, value_text, call_words, reply_text, mark_words, place_word, stamp_word, entry_line, listed, world_line, world_text}
+
+-- each word after a byte
+abbrev pub each_after : ℕ → List (List ℕ) → List ℕ
+each_after c words = flat_map (λ (word : List ℕ). c ∷ word) words
+
+pub join_with_byte-cons : (c : ℕ) (word : List ℕ) (words : List (List ℕ)) → join_with_byte c (word ∷ words) ≡ word ++ each_after c words
+join_with_byte-cons c word [] = sym (append-nil word)
+join_with_byte-cons c word (next ∷ words) = ap (λ (rest : List ℕ). word ++ (c ∷ rest)) (join_with_byte-cons c next words)
+
+join_with_byte-append : (c : ℕ) (first second third : List ℕ) (words rest : List (List ℕ)) →
+    join_with_byte c (first ∷ second ∷ (third ∷ words) ++ rest) ≡ first ++ ((c ∷ second) ++ ((c ∷ third) ++ (each_after c words ++ each_after c rest)))
+join_with_byte-append c first second third words rest =
+    join_with_byte-cons c first (second ∷ (third ∷ words) ++ rest) ∙ ap (λ (t : List ℕ). first ++ ((c ∷ second) ++ ((c ∷ third) ++ t))) (flat_map-append (λ (word : List ℕ). c ∷ word) words rest)
+
+regroup : (before place space stamp head words equals reply marks feed : List ℕ) →
+    ((((((((before ++ place) ++ space) ++ stamp) ++ space) ++ (head ++ words)) ++ ((space ++ equals) ++ space)) ++ reply) ++ marks) ++ feed
+    ≡ before ++ ((place ++ ((space ++ stamp) ++ ((space ++ head) ++ (words ++ ((space ++ equals) ++ ((space ++ reply) ++ marks)))))) ++ feed)
+regroup before place space stamp head words equals reply marks feed = simp append_assoc
+
+-- a line of two words, a call's words, `=`, a reply and further words
+line_of_parts : (before place stamp head reply : List ℕ) (words marks : List (List ℕ)) →
+    ((((((((before ++ place) ++ 32 ∷ []) ++ stamp) ++ 32 ∷ []) ++ join_with_byte 32 (head ∷ words)) ++ codes " = ") ++ reply) ++ each_after 32 marks) ++ 10 ∷ []
+    ≡ before ++ line (place ∷ stamp ∷ (head ∷ words) ++ codes "=" ∷ reply ∷ marks)
+line_of_parts before place stamp head reply words marks =
+    ap (λ (call : List ℕ). ((((((((before ++ place) ++ 32 ∷ []) ++ stamp) ++ 32 ∷ []) ++ call) ++ codes " = ") ++ reply) ++ each_after 32 marks) ++ 10 ∷ []) (join_with_byte-cons 32 head words)
+    ∙ regroup before place (32 ∷ []) stamp head (each_after 32 words) (codes "=") reply (each_after 32 marks) (10 ∷ [])
+    ∙ ap (λ (text : List ℕ). before ++ (text ++ 10 ∷ [])) (sym (join_with_byte-append 32 place stamp head words (codes "=" ∷ reply ∷ marks)))
+
+abbrev call_text : Script → Call → List ℕ
+call_text script call = join_with_byte 32 (call_words script call)
+
+entry_line_of_call : (before place stamp reply : List ℕ) (script : Script) (call : Call) (marks : List (List ℕ)) →
+    ((((((((before ++ place) ++ 32 ∷ []) ++ stamp) ++ 32 ∷ []) ++ call_text script call) ++ codes " = ") ++ reply) ++ each_after 32 marks) ++ 10 ∷ []
+    ≡ before ++ line (place ∷ stamp ∷ call_words script call ++ codes "=" ∷ reply ∷ marks)
+entry_line_of_call before place stamp reply script (DictGet dict key) marks = line_of_parts before place stamp (codes "get") reply (container_name script dict ∷ key_text script.strings key ∷ []) marks
+entry_line_of_call before place stamp reply script (DictSet dict key value) marks = line_of_parts before place stamp (codes "set") reply (container_name script dict ∷ key_text script.strings key ∷ value_text script.strings value ∷ []) marks
+
+-- what `push_entry` prints, piece after piece
+pub entry_line-pieces : (old o1 o2 o3 o4 o5 o6 o7 o8 new : List ℕ) (script : Script) (entry : Entry) →
+    o1 ≡ old ++ place_word script entry → o2 ≡ o1 ++ 32 ∷ [] → o3 ≡ o2 ++ stamp_word entry → o4 ≡ o3 ++ 32 ∷ [] → o5 ≡ o4 ++ call_text script entry.call →
+    o6 ≡ o5 ++ codes " = " → o7 ≡ o6 ++ reply_text script.strings entry.reply → o8 ≡ o7 ++ each_after 32 (mark_words script entry.waited) → new ≡ o8 ++ 10 ∷ [] →
+    new ≡ old ++ entry_line script entry
+entry_line-pieces old o1 o2 o3 o4 o5 o6 o7 o8 new script entry e1 e2 e3 e4 e5 e6 e7 e8 e9 =
+    rw (e9, e8, e7, e6, e5, e4, e3, e2, e1) (entry_line_of_call old (place_word script entry) (stamp_word entry) (reply_text script.strings entry.reply) script entry.call (mark_words script entry.waited))
+
+-- ---- lists
+
+-- each text after a comma and a space
+abbrev pub each_listed : {X : Type 0} → (X → List ℕ) → List X → List ℕ
+each_listed text xs = flat_map (λ x. codes ", " ++ text x) xs
+
+pub listed-cons : {X : Type 0} (text : X → List ℕ) (x : X) (xs : List X) → listed (map text (x ∷ xs)) ≡ text x ++ each_listed text xs
+listed-cons text x [] = sym (append-nil (text x))
+listed-cons text x (next ∷ xs) = append_assoc (text x) (codes ", ") (listed (map text (next ∷ xs))) ∙ ap (λ (rest : List ℕ). text x ++ (codes ", " ++ rest)) (listed-cons text next xs)
+
+-- what `push_pairs` prints
+pub listed-pieces : {X : Type 0} (text : X → List ℕ) (xs : List X) (d : X) → 0 < length xs → listed (map text xs) ≡ text (get_or xs 0 d) ++ each_listed text (take (length xs - 1) (drop 1 xs))
+listed-pieces text [] d h = elim h [ ]
+listed-pieces text (x ∷ xs) d h = rw (take_all (length (x ∷ xs) - 1) xs (omega arith)) (listed-cons text x xs)
+
+-- what it has printed when its loop is done
+pub printed_pairs : {X : Type 0} (old first new : List ℕ) (text : X → List ℕ) (xs : List X) (d : X) (i : ℕ) → 0 < length xs → length (take (length xs - 1) (drop 1 xs)) ≤ i →
+    first ≡ old ++ text (get_or xs 0 d) → new ≡ first ++ each_listed text (take i (take (length xs - 1) (drop 1 xs))) → new ≡ old ++ listed (map text xs)
+printed_pairs old first new text xs d i some past e1 e2 =
+    let rest = take (length xs - 1) (drop 1 xs) in
+    rw (e2, take_all i rest past, e1, listed-pieces text xs d some) (append_assoc old (text (get_or xs 0 d)) (each_listed text rest))
+
+-- ---- worlds
+
+-- the first lines of a world's text
+abbrev pub first_lines : Script → List Content → ℕ → List ℕ
+first_lines script world n = flat_map (λ (shown : Declaration × Content). world_line script shown.0 shown.1) (take n (zip script.containers world))
+
+pub first_lines-more : (old before now : List ℕ) (script : Script) (world : List Content) (n m : ℕ) (container : Declaration) (content : Content) →
+    m ≡ n + 1 → n < length script.containers → n < length world →
+    container ≡ get_or script.containers n container → content ≡ get_or world n content →
+    before ≡ old ++ first_lines script world n → now ≡ before ++ world_line script container content →
+    now ≡ old ++ first_lines script world m
+first_lines-more old before now script world n m container content next low high c1 c2 e1 e2 =
+    let text : Declaration × Content → List ℕ = λ shown. world_line script shown.0 shown.1 in
+    let shown = zip script.containers world in
+    let d : Declaration × Content = (container, content) in
+    let at : get_or shown n d ≡ d = get_or-zip script.containers world n d low high ∙ ap (λ (x : Declaration). let pair : Declaration × Content = (x, get_or world n content) in pair) (sym c1) ∙ ap (λ (x : Content). let pair : Declaration × Content = (container, x) in pair) (sym c2) in
+    let long : n < length shown = omega (arith, length-zip script.containers world) in
+    let more : take m shown ≡ take n shown ++ d ∷ [] = rw next (take_more shown n d long ∙ ap (λ (x : Declaration × Content). take n shown ++ x ∷ []) at) in
+    e2 ∙ ap (λ (t : List ℕ). t ++ world_line script container content) e1 ∙ flat_map_more text old (take n shown) d ∙ ap (λ t. old ++ flat_map text t) (sym more)
+
+pub first_lines-all : (script : Script) (world : List Content) (n : ℕ) → n ≡ min (length script.containers) (length world) → first_lines script world n ≡ world_text script world
+first_lines-all script world n all =
+    ap (λ shown. flat_map (λ (pair : Declaration × Content). world_line script pair.0 pair.1) shown) (take_all n (zip script.containers world) (omega (arith, length-zip script.containers world)))

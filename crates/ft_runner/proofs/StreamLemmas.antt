@@ -1,6 +1,7 @@
 -- One call of a source or a sink after others.
-use Rattle.std.proofs.Common.{◌≡◌, ℕ, Bool, true, false, List, [], ◌++◌, length, Option, Some, None, refl, sym, ap, ◌∙◌, append_assoc}
-use Rattle.std.proofs.lemmas.List.{append-nil}
+use Rattle.std.proofs.Common.{◌≡◌, ℕ, ◌+◌, ◌≤◌, take, drop, arith, Bool, true, false, List, [], ◌++◌, length, Option, Some, None, refl, sym, ap, ◌∙◌, append_assoc}
+use Rattle.std.proofs.lemmas.List.{append-nil, take-take, length-take}
+use Rattle.std.proofs.Math.Seq.{take-add}
 use Rattle.ft_io.specs.Streams.{raised, behind, added}
 use Rattle.ft_runner.specs.Reports.{Stream, stream, Gives, Receives}
 
@@ -40,3 +41,10 @@ Receives-then a b c x y false p q = record { content = q.content ∙ ap (λ t. a
 -- a call that fails puts nothing
 pub Receives-fails : (a b c : Stream) (x : List ℕ) → Receives a x false b → c.content ≡ b.content → c.faults ≡ raised b.faults → Receives a x true c
 Receives-fails a b c x p same fault = record { content = same ∙ p.content; faults = fault ∙ ap raised p.faults }
+
+-- one more piece of the bytes from a place on
+pub Receives-piece : (a b c : Stream) (bytes : List ℕ) (done n most : ℕ) → n ≤ length (take most (drop done bytes)) → Receives a (take done bytes) false b → c.content ≡ added b.content (take n (take most (drop done bytes))) → c.faults ≡ b.faults → Receives a (take (done + n) bytes) false c
+Receives-piece a b c bytes done n most low p content faults =
+    let piece : take n (take most (drop done bytes)) ≡ take n (drop done bytes) = take-take n most (drop done bytes) (omega (arith, length-take most (drop done bytes))) in
+    let q : Receives b (take n (drop done bytes)) false c = record { content = content ∙ ap (added b.content) piece; faults = faults } in
+    rw take-add (Receives-then a b c (take done bytes) (take n (drop done bytes)) false p q)

@@ -1,8 +1,9 @@
+ghost use Rattle.std.specs.Prelude.{◌≡◌, length, IfOk};
 ghost use Rattle.ft_runner.specs.Reports.{stream, Reads};
 
 use crate::report::Fault;
 use ft_io::{Failed, Source};
-use std::alloc::Global;
+use std::alloc::{AllocError, Global};
 
 /// The most bytes that a script may have.
 const SCRIPT_LIMIT: usize = 4_194_304;
@@ -14,7 +15,7 @@ const PIECE: usize = 65_536;
 pub(crate) fn read_all<S: Source>(alloc: Global, source: &mut S) -> Result<Vec<u8>, Fault>
     ensures { Reads (stream (S.left source.old) (S.faults source.old)) result (stream (S.left source.new) (S.faults source.new)) }
 {
-    let Ok(mut buffer) = vec![in alloc; 0; PIECE] else {
+    let Ok(mut buffer) = zeros(alloc, PIECE) else {
         return Err(Fault::Memory);
     };
     let mut bytes = Vec::new(alloc);
@@ -29,9 +30,15 @@ pub(crate) fn read_all<S: Source>(alloc: Global, source: &mut S) -> Result<Vec<u
         if count > SCRIPT_LIMIT - bytes.len() {
             return Err(Fault::TooLong);
         }
-        if bytes.extend_from_slice(&buffer[..count]).is_err() {
+        let Ok(()) = bytes.extend_from_slice(&buffer[..count]) else {
             return Err(Fault::Memory);
-        }
+        };
     }
     unreachable!()
+}
+
+fn zeros(alloc: Global, len: usize) -> Result<Vec<u8>, AllocError>
+    ensures { IfOk result (λ bytes. length bytes.items ≡ len) }
+{
+    vec![in alloc; 0; len]
 }

@@ -1,27 +1,88 @@
-use Rattle.std.proofs.Common.{rules, ◌≡◌, ℕ, ◌+◌, ◌-◌, ◌*◌, ◌<◌, ◌≤◌, length, ◌/◌, ◌%◌, Bool, true, false, nat_eq, nat_lt, List, [], ◌∷◌, ◌++◌, slice_index_or, slice_set, bit_and, bit_or, Fits, w8, w32, w64, Bor, MutBor}
-use Rattle.ft_runner.specs.Reports.{stream, Reads}
+use Rattle.std.proofs.Common.{◌≡◌, ℕ, ◌<◌, ◌≤◌, List, [], ◌++◌, true, false, refl, sym, subst, arith, length, take, drop, ap, ◌∙◌, ◌+◌}
+use Rattle.std.proofs.lemmas.Bool.{lt-ltb, le-ltb}
+use Rattle.std.proofs.lemmas.List.{append-nil, with_items_is, length-append, length-take-le}
+use Rattle.ft_runner.specs.Reports.{stream, Gives}
+use Rattle.ft_runner.proofs.StreamLemmas.{Gives-none, Gives-then, Gives-fails}
 use Rattle.ft_runner.proofs.reading.read_all.Goals as goal
 
--- src/reading.rt:21:5
 pub loop-init : goal.loop-init
-loop-init g c = ?
+loop-init g c =
+    let source = g.S.Source in
+    record {
+      gives = rw c.new-bytes.ensures.items (Gives-none (stream (source.left c.args.source.now) (source.faults c.args.source.now)));
+      few = rw c.new-bytes.ensures.items (omega arith);
+      turns = omega arith;
+      buffer = c.in-Ok.ensures;
+    }
 
--- src/reading.rt:24:28
 pub returns-in-Err : goal.returns-in-Err
-returns-in-Err g c = ?
+returns-in-Err g c =
+    let source = g.S.Source in
+    record {
+      came = c.loop.bytes.items;
+      gives = Gives-fails (stream (source.left c.args.source.now) (source.faults c.args.source.now)) (stream (source.left c.loop.source) (source.faults c.loop.source)) (stream (source.left c.take.new.self) (source.faults c.take.new.self)) c.loop.bytes.items c.loop.invariant.gives c.in-Err.ensures.failed c.in-Err.ensures.faults;
+      too_long = sym (le-ltb 4194304 (length c.loop.bytes.items) c.loop.invariant.few);
+      cause = refl;
+    }
 
--- src/reading.rt:27:13
 pub returns-then-count-eq0 : goal.returns-then-count-eq0
-returns-then-count-eq0 g c = ?
+returns-then-count-eq0 g c =
+    let source = g.S.Source in
+    let a = stream (source.left c.args.source.now) (source.faults c.args.source.now) in
+    let b = stream (source.left c.loop.source) (source.faults c.loop.source) in
+    let d = stream (source.left c.take.new.self) (source.faults c.take.new.self) in
+    let none : Gives b [] false d = record { content = rw c.if-count-eq0.true at c.in-Ok-take.ensures.bytes; faults = c.in-Ok-take.ensures.faults } in
+    record {
+      gives = subst (λ (bytes : List ℕ). Gives a bytes false d) (append-nil c.loop.bytes.items) (Gives-then a b d c.loop.bytes.items [] c.loop.invariant.gives none);
+      few = c.loop.invariant.few;
+      ended = c.in-Ok-take.ensures.end c.if-count-eq0.true (omega (arith, c.loop.invariant.buffer));
+    }
 
--- src/reading.rt:30:13
 pub returns-then-count-len : goal.returns-then-count-len
-returns-then-count-len g c = ?
+returns-then-count-len g c =
+    let source = g.S.Source in
+    let a = stream (source.left c.args.source.now) (source.faults c.args.source.now) in
+    let b = stream (source.left c.loop.source) (source.faults c.loop.source) in
+    let d = stream (source.left c.take.new.self) (source.faults c.take.new.self) in
+    let piece = take c.in-Ok-take.count c.take.new.buf in
+    record {
+      came = c.loop.bytes.items ++ piece;
+      gives = Gives-then a b d c.loop.bytes.items piece c.loop.invariant.gives (record { content = c.in-Ok-take.ensures.bytes; faults = c.in-Ok-take.ensures.faults });
+      too_long = sym (lt-ltb 4194304 (length (c.loop.bytes.items ++ piece)) (omega (arith, length-append c.loop.bytes.items piece, length-take-le c.in-Ok-take.count c.take.new.buf (omega (arith, c.take.auto.buf, c.in-Ok-take.ensures.count)))));
+      cause = refl;
+    }
 
--- src/reading.rt:33:13
-pub returns-then-is_err : goal.returns-then-is_err
-returns-then-is_err g c = ?
+pub returns-in_default-extend_from_slice : goal.returns-in_default-extend_from_slice
+returns-in_default-extend_from_slice g c =
+    let source = g.S.Source in
+    let a = stream (source.left c.args.source.now) (source.faults c.args.source.now) in
+    let b = stream (source.left c.loop.source) (source.faults c.loop.source) in
+    let d = stream (source.left c.take.new.self) (source.faults c.take.new.self) in
+    let piece = take c.in-Ok-take.count c.take.new.buf in
+    record {
+      came = c.loop.bytes.items ++ piece;
+      gives = Gives-then a b d c.loop.bytes.items piece c.loop.invariant.gives (record { content = c.in-Ok-take.ensures.bytes; faults = c.in-Ok-take.ensures.faults });
+      too_long = sym (le-ltb 4194304 (length (c.loop.bytes.items ++ piece)) (omega (arith, length-append c.loop.bytes.items piece, length-take-le c.in-Ok-take.count c.take.new.buf (omega (arith, c.take.auto.buf, c.in-Ok-take.ensures.count)))));
+      cause = refl;
+    }
 
--- src/reading.rt:21:5
 pub loop-preserved : goal.loop-preserved
-loop-preserved g c = ?
+loop-preserved g c =
+    let source = g.S.Source in
+    let a = stream (source.left c.args.source.now) (source.faults c.args.source.now) in
+    let b = stream (source.left c.loop.source) (source.faults c.loop.source) in
+    let d = stream (source.left c.take.new.self) (source.faults c.take.new.self) in
+    let old = c.loop.bytes.items in
+    let read = c.take.new.buf in
+    let piece = take c.in-Ok-take.count read in
+    let whole : length read ≡ c.loop.buffer.len = omega (arith, c.take.auto.buf, c.deref_mut.ensures.len) in
+    let same : take c.loop.buffer.len (read ++ drop (length read) c.loop.buffer.items) ≡ read = with_items_is c.loop.buffer read whole in
+    let items : c.extend_from_slice.new.self.items ≡ old ++ piece = c.in-Ok-extend_from_slice.ensures.items ∙ ap (λ (bytes : List ℕ). old ++ take c.in-Ok-take.count bytes) (c.deref.ensures.value ∙ same) in
+    let size : length piece ≡ c.in-Ok-take.count = length-take-le c.in-Ok-take.count read (omega (arith, c.take.auto.buf, c.in-Ok-take.ensures.count)) in
+    let count : length c.extend_from_slice.new.self.items ≡ length old + c.in-Ok-take.count = ap length items ∙ omega (arith, length-append old piece, size) in
+    record {
+      gives = rw items (Gives-then a b d old piece c.loop.invariant.gives (record { content = c.in-Ok-take.ensures.bytes; faults = c.in-Ok-take.ensures.faults }));
+      few = omega (arith, count, c.loop.invariant.few);
+      turns = omega (arith, count, c.loop.invariant.turns);
+      buffer = ap length same ∙ omega (arith, whole, c.loop.invariant.buffer, c.loop.buffer.ok.0);
+    }

@@ -1,11 +1,29 @@
-use Rattle.std.proofs.Common.{rules, ◌≡◌, ℕ, ◌+◌, ◌-◌, ◌*◌, ◌<◌, ◌≤◌, length, ◌/◌, ◌%◌, Bool, true, false, nat_eq, nat_lt, List, [], ◌∷◌, ◌++◌, slice_index_or, slice_set, bit_and, bit_or, Fits, w8, w32, w64, Bor, MutBor}
-use Rattle.ft_runner.specs.Reports.{stream, Puts}
+use Rattle.std.proofs.Common.{◌≡◌, false, arith, length, take, drop}
+use Rattle.std.proofs.lemmas.List.{take-append-drop, take_rest, length-take, length-drop}
+use Rattle.std.proofs.lemmas.Result.{err_from_is_err_and}
+use Rattle.ft_runner.specs.Reports.{stream}
+use Rattle.ft_runner.proofs.StreamLemmas.{Receives-fails, Receives-piece}
 use Rattle.ft_runner.proofs.writing.put_all.Goals as goal
 
--- src/writing.rt:15:17
 pub returns-in_err-done : goal.returns-in_err-done
-returns-in_err-done g c = ?
+returns-in_err-done g c =
+    let sink = g.K.Sink in
+    let bytes = c.args.bytes.now in
+    let p = err_from_is_err_and c.from_residual.result c.from_residual.ensures.1 in
+    rw p.1 (record {
+      front = take c.loop-done.done bytes;
+      is_front = (drop c.loop-done.done bytes, take-append-drop c.loop-done.done bytes);
+      receives = Receives-fails (stream (sink.taken c.args.sink.now) (sink.faults c.args.sink.now)) (stream (sink.taken c.loop-done.sink) (sink.faults c.loop-done.sink)) (stream (sink.taken c.put.new.self) (sink.faults c.put.new.self)) (take c.loop-done.done bytes) c.loop-done.invariant.receives c.in_err-done.ensures.failed c.in_err-done.ensures.faults;
+    })
 
--- src/writing.rt:13:5
 pub loop-done-preserved : goal.loop-done-preserved
-loop-done-preserved g c = ?
+loop-done-preserved g c =
+    let sink = g.K.Sink in
+    let bytes = c.args.bytes.now in
+    let done = c.loop-done.done in
+    let count = rw take_rest at c.in_ok-done.ensures.count in
+    let more = rw take_rest at c.in_ok-done.ensures.bytes in
+    record {
+      within = omega (arith, count, length-take c.min.result (drop done bytes), length-drop done bytes, c.loop-done.invariant.within);
+      receives = Receives-piece (stream (sink.taken c.args.sink.now) (sink.faults c.args.sink.now)) (stream (sink.taken c.loop-done.sink) (sink.faults c.loop-done.sink)) (stream (sink.taken c.put.new.self) (sink.faults c.put.new.self)) bytes done c.in_ok-done.field-0 c.min.result count c.loop-done.invariant.receives more c.in_ok-done.ensures.faults;
+    }

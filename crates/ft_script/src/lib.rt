@@ -2,5 +2,6 @@
 #![tactic(auto)]
 
 mod fault;
+mod words;
 
 pub use fault::{ScriptFault, Which};

@@ -1,0 +1,124 @@
+//! The words of a line, and what each kind of word says.
+ghost use Rattle.ft_script.specs.Scripts.{is_container_name, is_letters, is_thread_name, words_of};
+ghost use Rattle.ft_script.specs.Texts.{quoted};
+ghost use Rattle.ft_script.specs.Words.{Shows, is_integer, is_positive, rest_pieces};
+ghost use Rattle.std.specs.Fmt.{signed_decimal};
+ghost use Rattle.std.specs.Int.{w64};
+ghost use Rattle.std.specs.List.{slice_split};
+ghost use Rattle.std.specs.Prelude.{◌≡◌, ◌≢◌, ◌==◌, ◌<◌, ℕ, ℤ, List, ◌∷◌, FitsSigned, IfNone, IfSome, true, length, option_copied};
+
+/// The words of a line that has as many as a script's line may have.
+pub(crate) enum Words<'a> {
+    Two(&'a [u8], &'a [u8]),
+    Three(&'a [u8], &'a [u8], &'a [u8]),
+    Four(&'a [u8], &'a [u8], &'a [u8], &'a [u8]),
+    Other,
+}
+
+/// What stands before the first separator, and what stands behind it, where there is one.
+pub(crate) fn cut(bytes: &[u8], separator: u8) -> (&[u8], Option<&[u8]>)
+    ensures pieces { slice_split (λ b. b == separator) bytes.now ≡ result.0.now ∷ rest_pieces separator (option_copied result.1) }
+    ensures shorter { IfSome result.1 (λ rest. length rest.now < length bytes.now) }
+{
+    match bytes.iter().position(|b| *b == separator) {
+        Some(end) => (&bytes[..end], Some(&bytes[end + 1..])),
+        None => (bytes, None),
+    }
+}
+
+/// The words of a line, parted by one space.
+pub(crate) fn words_of_line(line: &[u8]) -> Words<'_>
+    ensures { Shows result (words_of line.now) }
+{
+    let (first, rest) = cut(line, b' ');
+    let Some(rest) = rest else {
+        return Words::Other;
+    };
+    let (second, rest) = cut(rest, b' ');
+    let Some(rest) = rest else {
+        return Words::Two(first, second);
+    };
+    let (third, rest) = cut(rest, b' ');
+    let Some(rest) = rest else {
+        return Words::Three(first, second, third);
+    };
+    let (fourth, rest) = cut(rest, b' ');
+    match rest {
+        None => Words::Four(first, second, third, fourth),
+        Some(_) => Words::Other,
+    }
+}
+
+/// Whether the word may name a dict.
+pub(crate) fn is_dict_name(word: &[u8]) -> bool
+    ensures { result ≡ is_container_name word.now }
+{
+    match word {
+        [b'a'..=b'z', rest @ ..] => {
+            rest.iter().all(|b| matches!(b, b'a'..=b'z' | b'0'..=b'9' | b'_')) && rest.len() <= 31
+        }
+        _ => false,
+    }
+}
+
+/// Whether the word may name a thread.
+pub(crate) fn names_thread(word: &[u8]) -> bool
+    ensures { result ≡ is_thread_name word.now }
+{
+    match word {
+        [b'A'..=b'Z', rest @ ..] => {
+            rest.iter().all(|b| matches!(b, b'a'..=b'z' | b'A'..=b'Z' | b'0'..=b'9' | b'_')) && rest.len() <= 31
+        }
+        _ => false,
+    }
+}
+
+/// Whether the word is a digit from 1 to 9, and then digits.
+fn is_positive(word: &[u8]) -> bool
+    ensures { result ≡ is_positive word.now }
+{
+    match word {
+        [b'1'..=b'9', rest @ ..] => rest.iter().all(|b| matches!(b, b'0'..=b'9')),
+        _ => false,
+    }
+}
+
+/// Whether the word is an integer in decimal, however large, as it would be printed.
+fn is_integer(word: &[u8]) -> bool
+    ensures { result ≡ is_integer word.now }
+{
+    match word {
+        [b'0'] => true,
+        [b'-', magnitude @ ..] => is_positive(magnitude),
+        _ => is_positive(word),
+    }
+}
+
+/// The integer that the word is, where an `i64` has it.
+pub(crate) fn integer_of(word: &[u8]) -> Option<i64>
+    ensures found { IfSome result (λ n. word.now ≡ signed_decimal n) }
+    ensures none { IfNone result ((n : ℤ) → FitsSigned w64 n → word.now ≢ signed_decimal n) }
+{
+    if !is_integer(word) {
+        return None;
+    }
+    str::from_utf8(word).ok()?.parse().ok()
+}
+
+/// The letters between the quotation marks.
+pub(crate) fn letters_of(word: &[u8]) -> Option<&[u8]>
+    ensures found { IfSome result (λ text. (word.now ≡ quoted text.now) × (is_letters text.now ≡ true)) }
+    ensures none { IfNone result ((text : List ℕ) → is_letters text ≡ true → word.now ≢ quoted text) }
+{
+    match word {
+        [b'"', text @ .., b'"'] if are_letters(text) => Some(text),
+        _ => None,
+    }
+}
+
+/// Whether the text is 1 to 32 letters.
+fn are_letters(text: &[u8]) -> bool
+    ensures { result ≡ is_letters text.now }
+{
+    matches!(text.len(), 1..=32) && text.iter().all(|b| matches!(b, b'a'..=b'z'))
+}

@@ -1,7 +1,7 @@
 //! The words of a line, and what each kind of word says.
 ghost use Rattle.ft_script.specs.Scripts.{is_container_name, is_letters, is_thread_name, words_of};
 ghost use Rattle.ft_script.specs.Texts.{quoted};
-ghost use Rattle.ft_script.specs.Words.{Shows, is_integer, is_positive, rest_pieces};
+ghost use Rattle.ft_script.specs.Words.{Shows, is_dict_byte, is_integer, is_positive, is_thread_byte, rest_pieces};
 ghost use Rattle.std.specs.Fmt.{signed_decimal};
 ghost use Rattle.std.specs.Int.{w64};
 ghost use Rattle.std.specs.List.{slice_split};
@@ -55,10 +55,16 @@ pub(crate) fn is_dict_name(word: &[u8]) -> bool
 {
     match word {
         [b'a'..=b'z', rest @ ..] => {
-            rest.iter().all(|b| matches!(b, b'a'..=b'z' | b'0'..=b'9' | b'_')) && rest.len() <= 31
+            rest.iter().all(|b| is_dict_byte(*b)) && rest.len() <= 31
         }
         _ => false,
     }
+}
+
+fn is_dict_byte(byte: u8) -> bool
+    ensures { result ≡ is_dict_byte byte }
+{
+    matches!(byte, b'a'..=b'z' | b'0'..=b'9' | b'_')
 }
 
 /// Whether the word may name a thread.
@@ -67,10 +73,16 @@ pub(crate) fn names_thread(word: &[u8]) -> bool
 {
     match word {
         [b'A'..=b'Z', rest @ ..] => {
-            rest.iter().all(|b| matches!(b, b'a'..=b'z' | b'A'..=b'Z' | b'0'..=b'9' | b'_')) && rest.len() <= 31
+            rest.iter().all(|b| is_thread_byte(*b)) && rest.len() <= 31
         }
         _ => false,
     }
+}
+
+fn is_thread_byte(byte: u8) -> bool
+    ensures { result ≡ is_thread_byte byte }
+{
+    matches!(byte, b'a'..=b'z' | b'A'..=b'Z' | b'0'..=b'9' | b'_')
 }
 
 /// Whether the word is a digit from 1 to 9, and then digits.
@@ -78,7 +90,7 @@ fn is_positive(word: &[u8]) -> bool
     ensures { result ≡ is_positive word.now }
 {
     match word {
-        [b'1'..=b'9', rest @ ..] => rest.iter().all(|b| matches!(b, b'0'..=b'9')),
+        [b'1'..=b'9', rest @ ..] => rest.iter().all(|b| b.is_ascii_digit()),
         _ => false,
     }
 }
@@ -120,5 +132,5 @@ pub(crate) fn letters_of(word: &[u8]) -> Option<&[u8]>
 fn are_letters(text: &[u8]) -> bool
     ensures { result ≡ is_letters text.now }
 {
-    matches!(text.len(), 1..=32) && text.iter().all(|b| matches!(b, b'a'..=b'z'))
+    (1..=32).contains(&text.len()) && text.iter().all(|b| b.is_ascii_lowercase())
 }

@@ -180,13 +180,13 @@ is_ascii-integer (b ∷ bs) h =
           let none : length bs ≡ 0 = eqb-true _ _ e in
           rw is_zero (is_ascii-cons 48 bs (lit< tt) (λ i. rw (get_or_past bs i 0 (omega arith)) (lit< tt)))
       | inr not_zero ↦ elim (cases_eq b 45) [
-          | inl minus ↦
-              let p : is_positive bs ≡ true = rw minus at h in
-              rw minus (is_ascii-cons 45 bs (lit< tt) (is_ascii-positive bs p))
-          | inr plain ↦
-              let p : is_positive (b ∷ bs) ≡ true = rw (ne_eqb b 48 not_zero, ne_eqb b 45 plain) at h in
-              is_ascii-positive (b ∷ bs) p
-        ]
+        | inl minus ↦
+            let p : is_positive bs ≡ true = rw minus at h in
+            rw minus (is_ascii-cons 45 bs (lit< tt) (is_ascii-positive bs p))
+        | inr plain ↦
+            let p : is_positive (b ∷ bs) ≡ true = rw (ne_eqb b 48 not_zero, ne_eqb b 45 plain) at h in
+            is_ascii-positive (b ∷ bs) p
+      ]
     ]
 
 only_zero : (b : ℕ) (bs : List ℕ) → b ≡ 48 → length bs ≡ 0 → b ∷ bs ≡ 48 ∷ []
@@ -209,17 +209,17 @@ signed_decimal-parsed E (b ∷ bs) n h parsed =
           let value : n ≡ pos (digits_value 10 (48 ∷ [])) = parts.1 ∙ ap (λ cs. pos (digits_value 10 cs)) whole in
           whole ∙ sym (decimal_digit 0 (lit< tt)) ∙ ap signed_decimal (sym value)
       | inr not_zero ↦ elim (cases_eq b 45) [
-          | inl minus ↦
-              let p : is_positive bs ≡ true = rw minus at h in
-              let parts = parse_signed_minus own {E = E} w64 (b ∷ bs) (Ok n) parsed minus in
-              let text : 45 ∷ bs ≡ signed_decimal (neg_ℤ (pos (digits_value 10 bs))) = minus_text (digits_value 10 bs) bs (value_above bs p) (decimal-positive bs p (let small : digits_value 10 bs ≤ 2 ^ 63 = parts.0.2 in omega arith)) in
-              rw minus (text ∙ ap signed_decimal (sym parts.1))
-          | inr plain ↦
-              let p : is_positive (b ∷ bs) ≡ true = rw (ne_eqb b 48 not_zero, ne_eqb b 45 plain) at h in
-              let above : 48 < b = (positive (b ∷ bs) p).first in
-              let parts = parse_signed_plain own {E = E} w64 (b ∷ bs) (Ok n) parsed (λ q. omega arith) plain in
-              sym (decimal-positive (b ∷ bs) p (let small : digits_value 10 (b ∷ bs) < 2 ^ 63 = parts.0.2 in omega arith)) ∙ ap signed_decimal (sym parts.1)
-        ]
+        | inl minus ↦
+            let p : is_positive bs ≡ true = rw minus at h in
+            let parts = parse_signed_minus own {E = E} w64 (b ∷ bs) (Ok n) parsed minus in
+            let text : 45 ∷ bs ≡ signed_decimal (neg_ℤ (pos (digits_value 10 bs))) = minus_text (digits_value 10 bs) bs (value_above bs p) (decimal-positive bs p (let small : digits_value 10 bs ≤ 2 ^ 63 = parts.0.2 in omega arith)) in
+            rw minus (text ∙ ap signed_decimal (sym parts.1))
+        | inr plain ↦
+            let p : is_positive (b ∷ bs) ≡ true = rw (ne_eqb b 48 not_zero, ne_eqb b 45 plain) at h in
+            let above : 48 < b = (positive (b ∷ bs) p).first in
+            let parts = parse_signed_plain own {E = E} w64 (b ∷ bs) (Ok n) parsed (λ q. omega arith) plain in
+            sym (decimal-positive (b ∷ bs) p (let small : digits_value 10 (b ∷ bs) < 2 ^ 63 = parts.0.2 in omega arith)) ∙ ap signed_decimal (sym parts.1)
+      ]
     ]
 
 -- what has not the form of an integer is the text of none

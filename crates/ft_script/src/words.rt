@@ -8,6 +8,7 @@ ghost use Rattle.std.specs.List.{slice_split};
 ghost use Rattle.std.specs.Prelude.{◌≡◌, ◌≢◌, ◌==◌, ◌<◌, ℕ, ℤ, List, ◌∷◌, FitsSigned, IfNone, IfSome, true, length, option_copied};
 
 /// The words of a line that has as many as a script's line may have.
+#[derive(Clone, Copy, Debug)]
 pub(crate) enum Words<'a> {
     Two(&'a [u8], &'a [u8]),
     Three(&'a [u8], &'a [u8], &'a [u8]),
@@ -54,13 +55,12 @@ pub(crate) fn is_dict_name(word: &[u8]) -> bool
     ensures { result ≡ is_container_name word.now }
 {
     match word {
-        [b'a'..=b'z', rest @ ..] => {
-            rest.iter().all(|b| is_dict_byte(*b)) && rest.len() <= 31
-        }
+        [b'a'..=b'z', rest @ ..] => rest.iter().all(|b| is_dict_byte(*b)) && rest.len() <= 31,
         _ => false,
     }
 }
 
+/// Whether the byte may stand in a dict's name behind the first.
 fn is_dict_byte(byte: u8) -> bool
     ensures { result ≡ is_dict_byte byte }
 {
@@ -72,13 +72,12 @@ pub(crate) fn names_thread(word: &[u8]) -> bool
     ensures { result ≡ is_thread_name word.now }
 {
     match word {
-        [b'A'..=b'Z', rest @ ..] => {
-            rest.iter().all(|b| is_thread_byte(*b)) && rest.len() <= 31
-        }
+        [b'A'..=b'Z', rest @ ..] => rest.iter().all(|b| is_thread_byte(*b)) && rest.len() <= 31,
         _ => false,
     }
 }
 
+/// Whether the byte may stand in a thread's name behind the first.
 fn is_thread_byte(byte: u8) -> bool
     ensures { result ≡ is_thread_byte byte }
 {
@@ -133,4 +132,64 @@ fn are_letters(text: &[u8]) -> bool
     ensures { result ≡ is_letters text.now }
 {
     (1..=32).contains(&text.len()) && text.iter().all(|b| b.is_ascii_lowercase())
+}
+
+#[cfg(test)]
+mod tests {
+    use super::*;
+
+    #[test]
+    fn integers(rt: HostRuntime) {
+        assert_eq!(rt; integer_of(b"0"), Some(0));
+        assert_eq!(rt; integer_of(b"7"), Some(7));
+        assert_eq!(rt; integer_of(b"-7"), Some(-7));
+        assert_eq!(rt; integer_of(b"9223372036854775807"), Some(i64::MAX));
+        assert_eq!(rt; integer_of(b"-9223372036854775808"), Some(i64::MIN));
+        for word in [
+            "",
+            "-",
+            "-0",
+            "00",
+            "07",
+            "+7",
+            "1a",
+            "9223372036854775808",
+            "-9223372036854775809",
+        ] {
+            assert_eq!(rt; integer_of(word.as_bytes()), None);
+        }
+    }
+
+    #[test]
+    fn letters(rt: HostRuntime) {
+        assert!(rt; letters_of(b"\"abc\"").is_some_and(|text| text == b"abc".as_slice()));
+        for word in [
+            "",
+            "\"",
+            "\"\"",
+            "abc",
+            "\"abc",
+            "abc\"",
+            "\"aBc\"",
+            "\"a1\"",
+            "\"abcdefghijklmnopqrstuvwxyzabcdefg\"",
+        ] {
+            assert!(rt; letters_of(word.as_bytes()).is_none());
+        }
+    }
+
+    #[test]
+    fn words(rt: HostRuntime) {
+        assert!(rt; matches!(words_of_line(b"dict d"), Words::Two(b"dict", b"d")));
+        assert!(rt; matches!(words_of_line(b"get d "), Words::Three(b"get", b"d", b"")));
+        assert!(rt;
+            matches!(
+                words_of_line(b"set d 1 2"),
+                Words::Four(b"set", b"d", b"1", b"2")
+            )
+        );
+        for line in ["", "dict", "1 2 3 4 5"] {
+            assert!(rt; matches!(words_of_line(line.as_bytes()), Words::Other));
+        }
+    }
 }

@@ -1,25 +1,23 @@
 -- Cutting a list at a byte, and which texts are those of integers and of strings.
-use Rattle.std.proofs.Common.{◌≡◌, ◌≢◌, ℕ, ℤ, pos, negsuc, neg_ℤ, ◌+◌, ◌-◌, ◌*◌, ◌^◌, ◌<◌, ◌≤◌, zero, suc, Bool, true, false, cond, eqb, ltb, leb, ◌&&◌, List, [], ◌∷◌, ◌++◌, length, get_or, take, drop, Option, Some, None, Result, Ok, Err, refl, sym, ap, ◌∙◌, subst, inl, inr, arith, rules, FitsSigned, slice_index, lit<, Bor}
-use Rattle.std.specs.Prelude.{All}
+use Rattle.std.proofs.Common.{◌≡◌, ◌≢◌, ℕ, ℤ, pos, negsuc, neg_ℤ, ◌+◌, ◌-◌, ◌^◌, ◌<◌, ◌≤◌, zero, suc, Bool, true, false, eqb, leb, ◌&&◌, List, [], ◌∷◌, ◌++◌, length, get_or, take, drop, Option, Some, None, Result, Ok, Err, refl, sym, ap, ◌∙◌, inl, inr, arith, rules, FitsSigned, lit<, Bor}
 use Rattle.std.specs.Int.{w64}
 use Rattle.std.specs.Fmt.{decimal, signed_decimal}
-use Rattle.std.specs.List.{slice_split, list_all, count_by, position, position_or_len, before_first, after_first}
+use Rattle.std.specs.List.{slice_split, list_all, count_by, position, position_or_len}
 use Rattle.std.specs.Str.{IsAscii, IsUtf8}
 use Rattle.std.specs.Option.{IfSome, IfNone}
 use Rattle.std.specs.Result.{MatchResult, result_ok}
 use Rattle.std.proofs.lemmas.Str.{IsUtf8-from_ascii}
-use Rattle.std.specs.Str.Parse.{digits_value, ParsesSigned, AllDigits}
-use Rattle.std.proofs.lemmas.Bool.{cases_eq, cases_lt, lt-ltb, le-ltb, and_parts, and_from, leb-true, le-leb, eqb-true, eq-eqb, ne_eqb, cases_Bool}
+use Rattle.std.specs.Str.Parse.{digits_value, ParsesSigned}
+use Rattle.std.proofs.lemmas.Bool.{cases_eq, cases_lt, lt-ltb, le-ltb, and_parts, and_from, leb-true, le-leb, eqb-true, ne_eqb}
 use Rattle.std.proofs.lemmas.Bool.Decides.{nat_tests}
-use Rattle.std.proofs.lemmas.Fmt.{digits_decimal, decimal_digit, decimal_nonempty, first_decimal, decimal-digits_value, IsAscii-from_digits, parse-signed_decimal, signed_decimal_injective}
-use Rattle.std.proofs.lemmas.List.{append_cancel_right, take_all, length-drop, length-append, get_or_past}
+use Rattle.std.proofs.lemmas.Fmt.{digits_decimal, decimal_digit, first_decimal, decimal-digits_value, IsAscii-from_digits, parse-signed_decimal, signed_decimal_injective}
+use Rattle.std.proofs.lemmas.List.{append_cancel_right, take_all, length-drop, get_or_past}
 use Rattle.std.proofs.lemmas.List.Splits.{slice_split_first, slice_split_none, length-slice_split}
 use Rattle.std.proofs.lemmas.List.Sums.{fails_before_first}
-use Rattle.std.proofs.lemmas.Str.Parse.{IsNumeralModel, IsDigitsTest, numerals_by_value, parse_signed_plain, parse_signed_minus}
-use Rattle.ft_script.specs.Scripts.{is_digit, is_lower, is_upper, is_letters, is_container_name, is_thread_name, words_of}
-use Rattle.ft_script.specs.Words.{is_dict_byte, is_thread_byte}
+use Rattle.std.proofs.lemmas.Str.Parse.{IsNumeralModel, numerals_by_value, parse_signed_plain, parse_signed_minus}
+use Rattle.ft_script.specs.Scripts.{is_digit, is_lower, is_letters, is_container_name, is_thread_name, words_of}
 use Rattle.ft_script.specs.Texts.{quoted}
-use Rattle.ft_script.specs.Words.{is_positive, is_integer}
+use Rattle.ft_script.specs.Words.{is_positive, is_integer, is_dict_byte, is_thread_byte}
 
 -- ---- cutting
 

@@ -11,7 +11,8 @@ use Rattle.std.specs.Str.Parse.{digits_value, ParsesSigned}
 use Rattle.std.proofs.lemmas.Bool.{cases_eq, cases_lt, lt-ltb, le-ltb, and_parts, and_from, leb-true, le-leb, eqb-true, ne_eqb}
 use Rattle.std.proofs.lemmas.Bool.Decides.{nat_tests}
 use Rattle.std.proofs.lemmas.Fmt.{digits_decimal, decimal_digit, first_decimal, decimal-digits_value, IsAscii-from_digits, parse-signed_decimal, signed_decimal_injective}
-use Rattle.std.proofs.lemmas.List.{append_cancel_right, take_all, length-drop, get_or_past}
+use Rattle.std.proofs.lemmas.List.{append_cancel_right, take_all, length-append, length-drop, get_or_past}
+use Rattle.std.proofs.Math.Seq.{take-append_seam}
 use Rattle.std.proofs.lemmas.List.Splits.{slice_split_first, slice_split_none, length-slice_split}
 use Rattle.std.proofs.lemmas.List.Sums.{fails_before_first}
 use Rattle.std.proofs.lemmas.Str.Parse.{IsNumeralModel, numerals_by_value, parse_signed_plain, parse_signed_minus}
@@ -125,6 +126,18 @@ pub quoted_injective : (s t : List ℕ) → quoted s ≡ quoted t → s ≡ t
 quoted_injective s t same =
     let e : s ++ 34 ∷ [] ≡ t ++ 34 ∷ [] = cc in
     append_cancel_right s t (34 ∷ []) e
+
+last_of : (text : List ℕ) (b d : ℕ) → get_or (text ++ b ∷ []) (length text) d ≡ b
+last_of [] b d = refl
+last_of (c ∷ text) b d = last_of text b d
+
+-- the parts of a word that a quoted text is
+pub quoted_parts : (word text : List ℕ) → word ≡ quoted text → (length word ≡ length text + 2) × (get_or word 0 0 ≡ 34) × (get_or word (length word - 1) 0 ≡ 34) × (take (length word - 1 - 1) (drop 1 word) ≡ text)
+quoted_parts word text same =
+    let long : length (quoted text) ≡ length text + 2 = omega (arith, length-append text (34 ∷ [])) in
+    let last : length (quoted text) - 1 ≡ suc (length text) = omega arith in
+    let inner : length (quoted text) - 1 - 1 ≡ length text = omega arith in
+    rw same (long, refl, rw last (last_of text 34 0), rw inner (take-append_seam text (34 ∷ [])))
 
 pub is_letters-length : (text : List ℕ) (b : Bool) → 1 ≤ length text → length text ≤ 32 → b ≡ list_all is_lower text → b ≡ is_letters text
 is_letters-length text b low high all = rw (le-leb 1 (length text) low, le-leb (length text) 32 high) all

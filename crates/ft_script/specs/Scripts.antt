@@ -121,3 +121,7 @@ script_lines script = map declaration_words script.containers ++ flat_map (λ th
 pub record IsTextOf (bytes : List ℕ) (script : Script) : Type 0 where
   pub form : IsScript script
   pub lines : map words_of (lines_of bytes) ≡ script_lines script
+
+-- no script has these bytes as its text
+abbrev pub IsNoScript : List ℕ → Type 0
+IsNoScript bytes = (script : Script) → IsTextOf bytes script → ⊥

@@ -3,6 +3,7 @@
 
 mod fault;
 mod print;
+mod words;
 
 pub use fault::{ScriptFault, Which};
 pub use print::{print_entry, print_world, push_entry, push_world};

@@ -3,7 +3,10 @@ use Rattle.std.proofs.Common.{◌≡◌, ℕ, ◌+◌, ◌≤◌, take, drop, ar
 use Rattle.std.proofs.lemmas.List.{append-nil, take-take, length-take}
 use Rattle.std.proofs.Math.Seq.{take-add}
 use Rattle.ft_io.specs.Streams.{raised, behind, added}
-use Rattle.ft_runner.specs.Reports.{Stream, stream, Gives, Receives}
+use Rattle.ft_runner.specs.Reports.{Stream, Gives, Receives, IsPart, IsBuffered}
+use Rattle.std.specs.List.{flat_map}
+use Rattle.std.proofs.lemmas.List.Concat.{flat_map-append}
+use Rattle.std.proofs.lemmas.List.{take-append-drop}
 
 behind-nil : (left : Option (List ℕ)) → left ≡ behind [] left
 behind-nil None = refl
@@ -48,3 +51,45 @@ Receives-piece a b c bytes done n most low p content faults =
     let piece : take n (take most (drop done bytes)) ≡ take n (drop done bytes) = take-take n most (drop done bytes) (omega (arith, length-take most (drop done bytes))) in
     let q : Receives b (take n (drop done bytes)) false c = record { content = content ∙ ap (added b.content) piece; faults = faults } in
     rw take-add (Receives-then a b c (take done bytes) (take n (drop done bytes)) false p q)
+
+-- ---- a buffer before a sink
+
+pub IsBuffered-none : (a : Stream) → IsBuffered a a [] []
+IsBuffered-none a = record { put = []; receives = Receives-none a; text_is = refl }
+
+-- what the buffer had goes on
+pub IsBuffered-then : (a b c : Stream) (buffer buffer' text : List ℕ) → IsBuffered a b buffer text → IsBuffered b c buffer' buffer → IsBuffered a c buffer' text
+IsBuffered-then a b c buffer buffer' text p q = record {
+  put = p.put ++ q.put;
+  receives = Receives-then a b c p.put q.put false p.receives q.receives;
+  text_is = append_assoc p.put q.put buffer' ∙ ap (λ (bytes : List ℕ). p.put ++ bytes) q.text_is ∙ p.text_is;
+}
+
+pub IsBuffered-push : (a b : Stream) (buffer buffer' text more : List ℕ) → IsBuffered a b buffer text → buffer' ≡ buffer ++ more → IsBuffered a b buffer' (text ++ more)
+IsBuffered-push a b buffer buffer' text more p e = record {
+  put = p.put;
+  receives = p.receives;
+  text_is = ap (λ (bytes : List ℕ). p.put ++ bytes) e ∙ sym (append_assoc p.put buffer more) ∙ ap (λ (bytes : List ℕ). bytes ++ more) p.text_is;
+}
+
+-- what was put is a part of any longer text
+pub IsPart-put : (a b : Stream) (buffer text more : List ℕ) → IsBuffered a b buffer text → IsPart a (text ++ more) false b
+IsPart-put a b buffer text more p = record {
+  front = p.put;
+  is_front = (buffer ++ more, sym (append_assoc p.put buffer more) ∙ ap (λ (bytes : List ℕ). bytes ++ more) p.text_is);
+  receives = p.receives;
+}
+
+-- and so it is with a part of the buffer
+pub IsPart-then : (a b c : Stream) (buffer text more : List ℕ) → IsBuffered a b buffer text → IsPart b buffer true c → IsPart a (text ++ more) true c
+IsPart-then a b c buffer text more p q =
+    let front : (p.put ++ q.front) ++ q.is_front.0 ≡ text = append_assoc p.put q.front q.is_front.0 ∙ ap (λ (bytes : List ℕ). p.put ++ bytes) q.is_front.1 ∙ p.text_is in
+    record {
+      front = p.put ++ q.front;
+      is_front = (q.is_front.0 ++ more, sym (append_assoc (p.put ++ q.front) q.is_front.0 more) ∙ ap (λ (bytes : List ℕ). bytes ++ more) front);
+      receives = Receives-then a b c p.put q.front true p.receives q.receives;
+    }
+
+-- the lines of the first entries, of the others, and what follows
+pub flat_map-split : {X : Type 0} (f : X → List ℕ) (xs : List X) (i : ℕ) (more : List ℕ) → flat_map f (take i xs) ++ (flat_map f (drop i xs) ++ more) ≡ flat_map f xs ++ more
+flat_map-split f xs i more = sym (append_assoc (flat_map f (take i xs)) (flat_map f (drop i xs)) more) ∙ ap (λ (bytes : List ℕ). bytes ++ more) (sym (flat_map-append f (take i xs) (drop i xs)) ∙ ap (flat_map f) (take-append-drop i xs))

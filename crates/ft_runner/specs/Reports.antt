@@ -8,11 +8,13 @@ use Rattle.ft_io.specs.Streams.{raised, behind, added}
 use Rattle.ft_model.specs.declared.entry.Entry.{Entry}
 use Rattle.ft_model.specs.declared.script.Script.{Script}
 use Rattle.ft_model.specs.Histories.{IsLegal}
-use Rattle.ft_script.specs.Scripts.{IsTextOf}
+use Rattle.ft_script.specs.Scripts.{IsTextOf, IsNoScript}
 use Rattle.ft_script.specs.Texts.{transcript}
 use Rattle.ft_runner.specs.declared.report.Fault.{Fault}
 use Rattle.ft_runner.specs.declared.report.Fault.TheVariants as fault
 use Rattle.ft_runner.specs.declared.report.Report.{Report}
+use Rattle.ft_runner.specs.declared.writing.WriteFault.{WriteFault}
+use Rattle.ft_runner.specs.declared.writing.WriteFault.TheVariants as write
 
 -- ---- the command line
 
@@ -131,15 +133,23 @@ abbrev pub Puts : Stream → List ℕ → Result (Unit {0}) Failed → Stream �
 Puts before text (Ok u) after = Receives before text false after
 Puts before text (Err e) after = IsPart before text true after
 
+-- what was put, and then what the buffer has, are the text so far
+pub record IsBuffered (before now : Stream) (buffer text : List ℕ) : Type 0 where
+  pub put : List ℕ
+  pub receives : Receives before put false now
+  pub text_is : put ++ buffer ≡ text
+
+-- want of memory stops writing behind a part of the text
+abbrev pub Writes : Stream → List ℕ → Result (Unit {0}) WriteFault → Stream → Type 0
+Writes before text (Ok u) after = Receives before text false after
+Writes before text (Err write.Failed) after = IsPart before text true after
+Writes before text (Err write.Memory) after = IsPart before text false after
+
 -- a sink gets a text: whole, or its front where the sink failed
 abbrev pub Told : Stream → List ℕ → Stream → Type 0
 Told before text after = Receives before text false after ⊎ IsPart before text true after
 
 -- ---- the report
-
--- no script has these bytes as its text
-abbrev pub IsNoScript : List ℕ → Type 0
-IsNoScript bytes = (script : Script) → IsTextOf bytes script → ⊥
 
 -- the history is one of the script that the bytes stand for, and this is its text
 pub record IsHistoryOf (bytes : List ℕ) (history : List Entry) (text : List ℕ) : Type 0 where

@@ -1,9 +1,79 @@
-ghost use Rattle.ft_runner.specs.Reports.{stream, Puts};
+ghost use Rattle.std.specs.Prelude.{◌≡◌, true, ◌++◌, All, OnOk, OnErr};
+ghost use Rattle.ft_model.specs.Parts.{IsEntryOf, IsWorldOf};
+ghost use Rattle.ft_script.specs.Texts.{entry_line, world_text};
+ghost use Rattle.std.specs.List.{flat_map};
+ghost use Rattle.ft_runner.specs.Reports.{stream, IsPart, IsBuffered, Puts, Writes};
 
 use ft_io::{Failed, Sink};
+use ft_model::{Entry, Script, World};
+use ft_script::{push_entry, push_world};
+use std::alloc::{AllocError, Global};
 
 /// How many bytes are put at once.
 const PIECE: usize = 65_536;
+
+/// Why a text was not written to its end.
+#[derive(Clone, Copy, Debug, PartialEq, Eq, Hash)]
+pub(crate) enum WriteFault {
+    Failed,
+    Memory,
+}
+
+impl From<Failed> for WriteFault {
+    ghost use Rattle.std.specs.Prelude.{◌≡◌};
+    ghost use Rattle.ft_runner.specs.declared.writing.WriteFault.TheVariants as fault;
+
+    ghost from_gives = { λ _ e. e ≡ fault.Failed };
+
+    fn from(_failed: Failed) -> WriteFault {
+        WriteFault::Failed
+    }
+}
+
+impl From<AllocError> for WriteFault {
+    ghost use Rattle.std.specs.Prelude.{◌≡◌};
+    ghost use Rattle.ft_runner.specs.declared.writing.WriteFault.TheVariants as fault;
+
+    ghost from_gives = { λ _ e. e ≡ fault.Memory };
+
+    fn from(_error: AllocError) -> WriteFault {
+        WriteFault::Memory
+    }
+}
+
+/// Puts the lines of the entries and of the contents, through one buffer.
+pub(crate) fn write_all<K: Sink>(
+    alloc: Global,
+    sink: &mut K,
+    script: &Script,
+    entries: &[Entry],
+    world: &World,
+) -> Result<(), WriteFault>
+    requires entries { All (IsEntryOf script.now) entries.now }
+    requires world { IsWorldOf script.now world.now }
+    ensures { Writes (stream (K.taken sink.old) (K.faults sink.old)) (flat_map (entry_line script.now) entries.now ++ world_text script.now world.now) result (stream (K.taken sink.new) (K.faults sink.new)) }
+{
+    let mut buffer = Vec::with_capacity(alloc, PIECE)?;
+    for entry in entries {
+        push_entry(&mut buffer, script, entry)?;
+        put_full(sink, &mut buffer)?;
+    }
+    push_world(&mut buffer, script, world)?;
+    put_all(sink, &buffer)?;
+    Ok(())
+}
+
+/// Puts what the buffer has, where that fills a piece, and empties it.
+fn put_full<K: Sink>(sink: &mut K, buffer: &mut Vec<u8>) -> Result<(), Failed>
+    ensures ok { OnOk result (IsBuffered (stream (K.taken sink.old) (K.faults sink.old)) (stream (K.taken sink.new) (K.faults sink.new)) buffer.new.items buffer.old.items) }
+    ensures err { OnErr result (IsPart (stream (K.taken sink.old) (K.faults sink.old)) buffer.old.items true (stream (K.taken sink.new) (K.faults sink.new))) }
+{
+    if buffer.len() >= PIECE {
+        put_all(sink, buffer)?;
+        buffer.clear();
+    }
+    Ok(())
+}
 
 /// Puts all bytes, in order and in pieces. Nothing is put after a put that failed.
 pub(crate) fn put_all<K: Sink>(sink: &mut K, bytes: &[u8]) -> Result<(), Failed>

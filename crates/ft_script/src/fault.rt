@@ -26,3 +26,14 @@ pub struct ScriptFault {
     /// The limit that is passed, where the kind tells that.
     pub which: Option<Which>,
 }
+
+impl ScriptFault {
+    ghost use Rattle.std.specs.Prelude.{◌≡◌, ◌==◌};
+
+    /// Whether the fault is want of memory, and not the text's.
+    pub fn is_memory(&self) -> bool
+        ensures { result ≡ (self.now.kind == 14) }
+    {
+        self.kind == 14
+    }
+}

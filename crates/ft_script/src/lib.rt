@@ -2,8 +2,10 @@
 #![tactic(auto)]
 
 mod fault;
+mod parser;
 mod print;
 mod words;
 
 pub use fault::{ScriptFault, Which};
+pub use parser::parse;
 pub use print::{print_entry, print_world, push_entry, push_world};

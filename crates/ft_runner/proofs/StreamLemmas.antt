@@ -1,12 +1,12 @@
 -- One call of a source or a sink after others.
-use Rattle.std.proofs.Common.{◌≡◌, ℕ, ◌+◌, ◌≤◌, take, drop, arith, Bool, true, false, List, [], ◌++◌, length, Option, Some, None, refl, sym, ap, ◌∙◌, append_assoc}
+use Rattle.std.proofs.Common.{◌≡◌, ℕ, ◌+◌, ◌<◌, ◌≤◌, get_or, ◌∷◌, take, drop, arith, Bool, true, false, List, [], ◌++◌, length, Option, Some, None, refl, sym, ap, ◌∙◌, append_assoc}
 use Rattle.std.proofs.lemmas.List.{append-nil, take-take, length-take}
 use Rattle.std.proofs.Math.Seq.{take-add}
 use Rattle.ft_io.specs.Streams.{raised, behind, added}
 use Rattle.ft_runner.specs.Reports.{Stream, Gives, Receives, IsPart, IsBuffered}
 use Rattle.std.specs.List.{flat_map}
 use Rattle.std.proofs.lemmas.List.Concat.{flat_map-append}
-use Rattle.std.proofs.lemmas.List.{take-append-drop}
+use Rattle.std.proofs.lemmas.List.{take-append-drop, take_more, take_all}
 
 behind-nil : (left : Option (List ℕ)) → left ≡ behind [] left
 behind-nil None = refl
@@ -93,3 +93,10 @@ IsPart-then a b c buffer text more p q =
 -- the lines of the first entries, of the others, and what follows
 pub flat_map-split : {X : Type 0} (f : X → List ℕ) (xs : List X) (i : ℕ) (more : List ℕ) → flat_map f (take i xs) ++ (flat_map f (drop i xs) ++ more) ≡ flat_map f xs ++ more
 flat_map-split f xs i more = sym (append_assoc (flat_map f (take i xs)) (flat_map f (drop i xs)) more) ∙ ap (λ (bytes : List ℕ). bytes ++ more) (sym (flat_map-append f (take i xs) (drop i xs)) ∙ ap (flat_map f) (take-append-drop i xs))
+
+-- one more entry's line
+pub flat_map-more : {X : Type 0} (f : X → List ℕ) (xs : List X) (i : ℕ) (d : X) → i < length xs → flat_map f (take i xs) ++ f (get_or xs i d) ≡ flat_map f (take (i + 1) xs)
+flat_map-more f xs i d low = sym (ap (flat_map f) (take_more xs i d low) ∙ flat_map-append f (take i xs) (get_or xs i d ∷ []) ∙ ap (λ (bytes : List ℕ). flat_map f (take i xs) ++ bytes) (append-nil (f (get_or xs i d))))
+
+pub flat_map-all : {X : Type 0} (f : X → List ℕ) (xs : List X) (i : ℕ) → length xs ≤ i → flat_map f (take i xs) ≡ flat_map f xs
+flat_map-all f xs i high = ap (flat_map f) (take_all i xs high)

@@ -170,6 +170,33 @@ Means fault.Memory came history put = (history ≡ []) × ((put ≡ []) ⊎ ((un
 Means (fault.NotLegal place rule) came history put = ⊥
 Means (fault.Transcript line) came history put = ⊥
 
+-- ---- the parts of a call
+
+-- a text that was read whole has come to this, and to this history
+abbrev pub comes_of_text : Fault → Bool
+comes_of_text fault.Clean = true
+comes_of_text (fault.Script line kind) = true
+comes_of_text fault.Write = true
+comes_of_text fault.Memory = true
+comes_of_text _ = false
+
+pub record IsRunOf (bytes : List ℕ) (sink sink' : Stream) (fault : Fault) (history : List Entry) : Type 0 where
+  pub put : List ℕ
+  pub writing : Receives sink put (is_write fault) sink'
+  pub means : Means fault bytes history put
+  pub cause : comes_of_text fault ≡ true
+
+-- the command `turns` has come to this, and to this history
+pub record IsTurnsOf (source source' sink sink' : Stream) (fault : Fault) (history : List Entry) : Type 0 where
+  pub came : List ℕ
+  pub put : List ℕ
+  pub not_usage : is_usage fault ≡ false
+  pub reading : Gives source came (is_read fault) source'
+  pub writing : Receives sink put (is_write fault) sink'
+  pub too_long : is_too_long fault ≡ nat_lt 4194304 (length came)
+  pub ended : IsTrue (has_ended fault) → IfSome source'.content (λ rest. rest ≡ [])
+  pub means : Means fault came history put
+
 -- what the tool does for these words, from what the source, the sink and the errors tell before it to what they tell after it
 pub record IsReport (words : List (List ℕ)) (source source' sink sink' errors errors' : Stream) (report : Report) : Type 0 where
   pub status : report.status ≡ status_of report.fault

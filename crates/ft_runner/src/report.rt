@@ -23,6 +23,28 @@ pub enum Fault {
     Transcript(u32),
 }
 
+impl Fault {
+    ghost use Rattle.std.specs.Prelude.{◌≡◌};
+    ghost use Rattle.ft_runner.specs.Reports.{status_of};
+
+    /// The status that the program ends with.
+    pub fn status(self) -> u8
+        ensures { result ≡ status_of self }
+    {
+        match self {
+            Fault::Clean => 0,
+            Fault::Script(..) => 1,
+            Fault::Usage => 2,
+            Fault::Read => 3,
+            Fault::Write => 4,
+            Fault::Memory => 5,
+            Fault::TooLong => 6,
+            Fault::NotLegal(..) => 7,
+            Fault::Transcript(_) => 8,
+        }
+    }
+}
+
 /// What a call of the tool has come to.
 #[derive(Debug, Drop)]
 pub struct Report {

@@ -1,8 +1,9 @@
 ghost use Rattle.std.specs.Prelude.{◌≡◌, ℕ, [], ◌∷◌, ◌++◌, ◌^◌, ◌<◌, ◌≤◌, length, All, IfOk};
 ghost use Rattle.ft_model.specs.Worlds.{IsDeclared, HasRoom, no_hands};
 ghost use Rattle.ft_model.specs.Answers.{answer, is_write};
-ghost use Rattle.ft_model.specs.Histories.{writes};
-ghost use Rattle.ft_model.specs.Parts.{IsCallOf};
+ghost use Rattle.ft_model.specs.Histories.{writes, world_at, IsLegal};
+ghost use Rattle.ft_model.specs.Parts.{IsCallOf, IsEntryOf, IsWorldOf};
+ghost use Rattle.ft_script.specs.Scripts.{IsScript};
 ghost use Rattle.ft_runner.specs.Runs.{entry_after, IsRun};
 
 use ft_model::{Call, Entry, Hands, Script, World, apply};
@@ -15,8 +16,20 @@ pub(crate) struct Run {
     pub(crate) world: World,
 }
 
+/// Runs a script on this thread.
+pub(crate) fn run_turns(alloc: Global, script: &Script) -> Result<Run, AllocError>
+    requires { IsScript script.now }
+    ensures legal { IfOk result (λ run. IsLegal script.now run.entries.items) }
+    ensures world { IfOk result (λ run. run.world ≡ world_at script.now run.entries.items (length (writes run.entries.items))) }
+    ensures entries_of { IfOk result (λ run. All (IsEntryOf script.now) run.entries.items) }
+    ensures world_of { IfOk result (λ run. IsWorldOf script.now run.world) }
+{
+    let thread = &script.threads.as_slice()[0];
+    run_calls(alloc, script, thread.calls.as_slice())
+}
+
 /// Runs the calls of the one thread, one after the other.
-pub(crate) fn run_calls(alloc: Global, script: &Script, calls: &[Call]) -> Result<Run, AllocError>
+fn run_calls(alloc: Global, script: &Script, calls: &[Call]) -> Result<Run, AllocError>
     requires thread { 0 < length script.now.threads }
     requires calls { All (IsCallOf script.now) calls.now }
     requires few { length calls.now ≤ 500000 }

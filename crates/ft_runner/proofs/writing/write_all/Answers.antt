@@ -1,26 +1,73 @@
-use Rattle.std.proofs.Common.{◌≡◌, ℕ, List, ◌++◌, sym, ap, subst, ◌∙◌, true, false, take, drop}
+use Rattle.std.proofs.Common.{◌≡◌, ℕ, ◌+◌, List, [], ◌++◌, sym, ap, subst, ◌∙◌, true, false, take, drop}
 use Rattle.std.specs.List.{flat_map}
+use Rattle.std.proofs.lemmas.List.{append-nil}
 use Rattle.std.proofs.lemmas.Result.{err_from_is_err_and}
 use Rattle.ft_script.specs.Texts.{entry_line, world_text}
-use Rattle.ft_runner.specs.Reports.{stream, IsPart, IsBuffered}
-use Rattle.ft_runner.proofs.StreamLemmas.{IsBuffered-then, IsBuffered-push, IsPart-put, IsPart-then, flat_map-split}
+use Rattle.ft_runner.specs.Reports.{Stream, stream, IsPart, IsBuffered}
+use Rattle.ft_runner.proofs.StreamLemmas.{IsBuffered-then, IsBuffered-push, IsPart-put, IsPart-then, flat_map-split, flat_map-more, flat_map-all}
 use Rattle.ft_runner.proofs.writing.write_all.Goals as goal
 
 pub returns-in_err-push_entry : goal.returns-in_err-push_entry
 returns-in_err-push_entry g c =
-    let r = err_from_is_err_and c.from_residual-in_err-push_entry.result c.from_residual-in_err-push_entry.ensures.1 in ?
+    let sink = g.K.Sink in
+    let a = stream (sink.taken c.args.sink.now) (sink.faults c.args.sink.now) in
+    let b = stream (sink.taken c.loop-entry.sink) (sink.faults c.loop-entry.sink) in
+    let lines = entry_line c.args.script.now in
+    let i = c.loop-entry.entry-index in
+    let world = world_text c.args.script.now c.args.world.now in
+    let r = err_from_is_err_and c.from_residual-in_err-push_entry.result c.from_residual-in_err-push_entry.ensures.1 in
+    rw (r.1, r.2) (subst (λ (text : List ℕ). IsPart a text false b) (flat_map-split lines c.args.entries.now i world) (IsPart-put a b c.loop-entry.buffer.items (flat_map lines (take i c.args.entries.now)) (flat_map lines (drop i c.args.entries.now) ++ world) c.loop-entry.invariant))
 
 pub returns-in_err-put_full : goal.returns-in_err-put_full
 returns-in_err-put_full g c =
+    let sink = g.K.Sink in
+    let a = stream (sink.taken c.args.sink.now) (sink.faults c.args.sink.now) in
+    let b = stream (sink.taken c.loop-entry.sink) (sink.faults c.loop-entry.sink) in
+    let d = stream (sink.taken c.put_full.new.sink) (sink.faults c.put_full.new.sink) in
+    let lines = entry_line c.args.script.now in
+    let entries = c.args.entries.now in
+    let i = c.loop-entry.entry-index in
+    let world = world_text c.args.script.now c.args.world.now in
     let r = err_from_is_err_and c.from_residual-in_err-put_full.result c.from_residual-in_err-put_full.ensures.1 in
-    let p = c.in_ok-push_entry.ensures in
-    let q = c.in_err-put_full.ensures.err in ?
+    let pushed = IsBuffered-push a b c.loop-entry.buffer.items c.push_entry.new.out.items (flat_map lines (take i entries)) _ c.loop-entry.invariant c.in_ok-push_entry.ensures in
+    let more : IsBuffered a b c.push_entry.new.out.items (flat_map lines (take (i + 1) entries)) = subst (λ (text : List ℕ). IsBuffered a b c.push_entry.new.out.items text) (flat_map-more lines entries i _ c.loop-entry-test.true) pushed in
+    rw (r.1, r.2) (subst (λ (text : List ℕ). IsPart a text true d) (flat_map-split lines entries (i + 1) world) (IsPart-then a b d c.push_entry.new.out.items (flat_map lines (take (i + 1) entries)) (flat_map lines (drop (i + 1) entries) ++ world) more c.in_err-put_full.ensures.err))
 
 pub loop-entry-preserved : goal.loop-entry-preserved
-loop-entry-preserved g c = ?
+loop-entry-preserved g c =
+    let sink = g.K.Sink in
+    let a = stream (sink.taken c.args.sink.now) (sink.faults c.args.sink.now) in
+    let b = stream (sink.taken c.loop-entry.sink) (sink.faults c.loop-entry.sink) in
+    let d = stream (sink.taken c.put_full.new.sink) (sink.faults c.put_full.new.sink) in
+    let lines = entry_line c.args.script.now in
+    let entries = c.args.entries.now in
+    let i = c.loop-entry.entry-index in
+    let pushed = IsBuffered-push a b c.loop-entry.buffer.items c.push_entry.new.out.items (flat_map lines (take i entries)) _ c.loop-entry.invariant c.in_ok-push_entry.ensures in
+    let more : IsBuffered a b c.push_entry.new.out.items (flat_map lines (take (i + 1) entries)) = subst (λ (text : List ℕ). IsBuffered a b c.push_entry.new.out.items text) (flat_map-more lines entries i _ c.loop-entry-test.true) pushed in
+    IsBuffered-then a b d c.push_entry.new.out.items c.put_full.new.buffer.items (flat_map lines (take (i + 1) entries)) more c.in_ok-put_full.ensures.ok
 
 pub returns-in_err-push_world : goal.returns-in_err-push_world
-returns-in_err-push_world g c = ?
+returns-in_err-push_world g c =
+    let sink = g.K.Sink in
+    let a = stream (sink.taken c.args.sink.now) (sink.faults c.args.sink.now) in
+    let b = stream (sink.taken c.loop-entry.sink) (sink.faults c.loop-entry.sink) in
+    let lines = entry_line c.args.script.now in
+    let i = c.loop-entry.entry-index in
+    let world = world_text c.args.script.now c.args.world.now in
+    let r = err_from_is_err_and c.from_residual-in_err-push_world.result c.from_residual-in_err-push_world.ensures.1 in
+    rw (r.1, r.2) (subst (λ (text : List ℕ). IsPart a text false b) (flat_map-split lines c.args.entries.now i world) (IsPart-put a b c.loop-entry.buffer.items (flat_map lines (take i c.args.entries.now)) (flat_map lines (drop i c.args.entries.now) ++ world) c.loop-entry.invariant))
 
 pub returns-in_err-put_all : goal.returns-in_err-put_all
-returns-in_err-put_all g c = let h = c.in_err-put_all.ensures in ?
+returns-in_err-put_all g c =
+    let sink = g.K.Sink in
+    let a = stream (sink.taken c.args.sink.now) (sink.faults c.args.sink.now) in
+    let b = stream (sink.taken c.loop-entry.sink) (sink.faults c.loop-entry.sink) in
+    let d = stream (sink.taken c.put_all.new.sink) (sink.faults c.put_all.new.sink) in
+    let lines = entry_line c.args.script.now in
+    let entries = c.args.entries.now in
+    let world = world_text c.args.script.now c.args.world.now in
+    let r = err_from_is_err_and c.from_residual-in_err-put_all.result c.from_residual-in_err-put_all.ensures.1 in
+    let all : IsBuffered a b c.loop-entry.buffer.items (flat_map lines entries) = subst (λ (text : List ℕ). IsBuffered a b c.loop-entry.buffer.items text) (flat_map-all lines entries c.loop-entry.entry-index c.loop-entry-test.false) c.loop-entry.invariant in
+    let pushed = IsBuffered-push a b c.loop-entry.buffer.items c.push_world.new.out.items (flat_map lines entries) world all c.in_ok-push_world.ensures in
+    let part = rw c.deref.ensures.value at c.in_err-put_all.ensures in
+    rw (r.1, r.2) (subst (λ (text : List ℕ). IsPart a text true d) (append-nil (flat_map lines entries ++ world)) (IsPart-then a b d c.push_world.new.out.items (flat_map lines entries ++ world) [] pushed part))

@@ -1,0 +1,44 @@
+ghost use Rattle.std.specs.Prelude.{◌≡◌, ◌++◌, decimal};
+ghost use Rattle.ft_runner.specs.Reports.{stream, error_line, Puts};
+
+use crate::report::Fault;
+use crate::writing::put_all;
+use ft_io::{Failed, Sink};
+use itoa::Buffer;
+
+/// Puts the line of a fault, where it has one.
+pub(crate) fn tell<E: Sink>(errors: &mut E, fault: Fault) -> Result<(), Failed>
+    ensures { Puts (stream (E.taken errors.old) (E.faults errors.old)) (error_line fault) result (stream (E.taken errors.new) (E.faults errors.new)) }
+{
+    match fault {
+        Fault::Clean | Fault::NotLegal(..) => put_all(errors, b""),
+        Fault::Script(line, kind) => {
+            put_number(errors, b"ftpy: line ", line, b": ")?;
+            put_number(errors, b"", u32::from(kind), b" unknown word\n")
+        }
+        Fault::Usage => put_all(
+            errors,
+            b"ftpy: usage: run | turns | check | make N [turns]\n",
+        ),
+        Fault::Read => put_all(errors, b"ftpy: read fault\n"),
+        Fault::Write => put_all(errors, b"ftpy: write fault\n"),
+        Fault::Memory => put_all(errors, b"ftpy: want of memory\n"),
+        Fault::TooLong => put_all(errors, b"ftpy: too long\n"),
+        Fault::Transcript(line) => put_number(errors, b"ftpy: transcript line ", line, b"\n"),
+    }
+}
+
+/// Puts a number with what stands before it and behind it.
+fn put_number<E: Sink>(
+    errors: &mut E,
+    before: &[u8],
+    number: u32,
+    behind: &[u8],
+) -> Result<(), Failed>
+    ensures { Puts (stream (E.taken errors.old) (E.faults errors.old)) (before.now ++ decimal number ++ behind.now) result (stream (E.taken errors.new) (E.faults errors.new)) }
+{
+    put_all(errors, before)?;
+    let mut buffer = Buffer::new();
+    put_all(errors, buffer.format(number).as_bytes())?;
+    put_all(errors, behind)
+}

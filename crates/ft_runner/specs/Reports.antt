@@ -186,31 +186,24 @@ pub record IsRunOf (bytes : List ℕ) (sink sink' : Stream) (fault : Fault) (his
   pub means : Means fault bytes history put
   pub cause : comes_of_text fault ≡ true
 
--- the command `turns` has come to this, and to this history
-pub record IsTurnsOf (source source' sink sink' : Stream) (fault : Fault) (history : List Entry) : Type 0 where
-  pub came : List ℕ
-  pub put : List ℕ
-  pub not_usage : is_usage fault ≡ false
-  pub reading : Gives source came (is_read fault) source'
-  pub writing : Receives sink put (is_write fault) sink'
-  pub too_long : is_too_long fault ≡ nat_lt 4194304 (length came)
-  pub ended : IsTrue (has_ended fault) → IfSome source'.content (λ rest. rest ≡ [])
-  pub means : Means fault came history put
-
--- what the tool does for these words, from what the source, the sink and the errors tell before it to what they tell after it
-pub record IsReport (words : List (List ℕ)) (source source' sink sink' errors errors' : Stream) (report : Report) : Type 0 where
-  pub status : report.status ≡ status_of report.fault
+-- what is done for these words, and the fault and the history that it comes to
+pub record IsDone (words : List (List ℕ)) (source source' sink sink' : Stream) (fault : Fault) (history : List Entry) : Type 0 where
   -- the bytes that came, and those that were put
   pub came : List ℕ
   pub put : List ℕ
   -- usage exactly where the words are others
-  pub usage : is_usage report.fault ≡ not (is_turns words)
+  pub usage : is_usage fault ≡ not (is_turns words)
   -- a fault of reading or writing exactly where the count rose
-  pub reading : Gives source came (is_read report.fault) source'
-  pub writing : Receives sink put (is_write report.fault) sink'
+  pub reading : Gives source came (is_read fault) source'
+  pub writing : Receives sink put (is_write fault) sink'
   -- too long exactly where more came
-  pub too_long : is_too_long report.fault ≡ nat_lt 4194304 (length came)
-  pub ended : IsTrue (has_ended report.fault) → IfSome source'.content (λ rest. rest ≡ [])
-  pub means : Means report.fault came report.history.items put
+  pub too_long : is_too_long fault ≡ nat_lt 4194304 (length came)
+  pub ended : IsTrue (has_ended fault) → IfSome source'.content (λ rest. rest ≡ [])
+  pub means : Means fault came history put
+
+-- what the tool reports for these words, from what the source, the sink and the errors tell before it to what they tell after it
+pub record IsReport (words : List (List ℕ)) (source source' sink sink' errors errors' : Stream) (report : Report) : Type 0 where
+  pub done : IsDone words source source' sink sink' report.fault report.history.items
+  pub status : report.status ≡ status_of report.fault
   -- the errors get the line of the fault
   pub told : Told errors (error_line report.fault) errors'

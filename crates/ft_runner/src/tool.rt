@@ -1,6 +1,6 @@
 ghost use Rattle.ft_runner.specs.declared.report.Fault.TheVariants as fault;
-ghost use Rattle.std.specs.Prelude.{◌≡◌, ◌==◌, if◌then◌else◌, map, string_bytes, IsSomeAnd};
-ghost use Rattle.ft_runner.specs.Reports.{is_turns, stream, IsRunOf, IsTurnsOf, IsReport};
+ghost use Rattle.std.specs.Prelude.{◌≡◌, ℕ, true, List, ◌==◌, if◌then◌else◌, map, string_bytes, IsSomeAnd};
+ghost use Rattle.ft_runner.specs.Reports.{is_turns, stream, IsRunOf, IsDone, IsReport};
 
 use crate::errors::tell;
 use crate::reading::read_all;
@@ -62,11 +62,7 @@ pub fn run_still<S: Source, K: Sink, E: Sink>(
         (stream (K.taken sink.old) (K.faults sink.old)) (stream (K.taken sink.new) (K.faults sink.new))
         (stream (E.taken errors.old) (E.faults errors.old)) (stream (E.taken errors.new) (E.faults errors.new)) report) }
 {
-    let outcome = if asks_turns(words) {
-        turns(alloc, source, sink)
-    } else {
-        Outcome::of(alloc, Fault::Usage)
-    };
+    let outcome = perform(alloc, words, source, sink);
     let _ = tell(errors, outcome.fault);
     Some(Report {
         status: outcome.fault.status(),
@@ -97,6 +93,23 @@ impl Outcome {
     }
 }
 
+/// Does what the words ask, but for the errors' line.
+fn perform<S: Source, K: Sink>(
+    alloc: Global,
+    words: &[String],
+    source: &mut S,
+    sink: &mut K,
+) -> Outcome
+    ensures { IsDone (map string_bytes words.now)
+        (stream (S.left source.old) (S.faults source.old)) (stream (S.left source.new) (S.faults source.new))
+        (stream (K.taken sink.old) (K.faults sink.old)) (stream (K.taken sink.new) (K.faults sink.new)) result.fault result.history.items }
+{
+    if !asks_turns(words) {
+        return Outcome::of(alloc, Fault::Usage);
+    }
+    turns(alloc, source, sink)
+}
+
 /// Whether the words are the program's name and `turns`.
 fn asks_turns(words: &[String]) -> bool
     ensures { result ≡ is_turns (map string_bytes words.now) }
@@ -109,7 +122,8 @@ fn asks_turns(words: &[String]) -> bool
 
 /// Reads a script, runs it and writes its history.
 fn turns<S: Source, K: Sink>(alloc: Global, source: &mut S, sink: &mut K) -> Outcome
-    ensures { IsTurnsOf (stream (S.left source.old) (S.faults source.old)) (stream (S.left source.new) (S.faults source.new))
+    ensures { (words : List (List ℕ)) → is_turns words ≡ true → IsDone words
+        (stream (S.left source.old) (S.faults source.old)) (stream (S.left source.new) (S.faults source.new))
         (stream (K.taken sink.old) (K.faults sink.old)) (stream (K.taken sink.new) (K.faults sink.new)) result.fault result.history.items }
 {
     match read_all(alloc, source) {

@@ -4,6 +4,8 @@
 mod errors;
 mod reading;
 mod report;
+#[cfg(test)]
+mod tests;
 mod tool;
 mod turns;
 mod writing;

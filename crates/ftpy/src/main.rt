@@ -1,4 +1,28 @@
-//! To be written.
+//! The tool on the standard streams.
 #![tactic(auto)]
 
-fn main() {}
+use ft_io::{StdSink, StdSource};
+use ft_runner::{NoGate, run_tool};
+use std::process::ExitCode;
+use std::rt::Env;
+use std::{env, io};
+
+fn main(rt: HostRuntime) -> ExitCode {
+    // Words that can't be had are no command.
+    let words = command_line(&rt).unwrap_or(Vec::new(rt.alloc()));
+    let report = run_tool(
+        &rt,
+        rt.alloc(),
+        &words,
+        &mut StdSource::new(rt.stdin()),
+        &mut StdSink::new(rt.stdout()),
+        &mut StdSink::new(rt.stderr()),
+        &NoGate,
+    );
+    ExitCode::from(report.status)
+}
+
+/// The words of the command line, with the program's name first.
+fn command_line<R: Env + AllocGlobal>(rt: &R) -> io::Result<Vec<String>> {
+    Ok(env::args(rt)?.collect(rt.alloc())?)
+}

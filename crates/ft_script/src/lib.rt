@@ -3,6 +3,7 @@
 
 mod fault;
 mod print;
+mod strings;
 mod words;
 
 pub use fault::{ScriptFault, Which};

@@ -1,3 +1,4 @@
 pub mod Printed
 pub mod WordLemmas
 pub mod StringLemmas
+pub mod CallLemmas

@@ -1,5 +1,5 @@
 -- How lines are read as calls of the one dict, while the strings that they name are numbered.
-use Rattle.std.specs.Prelude.{◌≡◌, ◌≢◌, ℕ, ◌<◌, true, List, [], ◌∷◌, ◌++◌, length, map, All, AllPairs, codes, slice_index_or, ◌⊎◌}
+use Rattle.std.specs.Prelude.{◌≡◌, ◌≢◌, ℕ, ◌<◌, ◌≤◌, true, List, [], ◌∷◌, ◌++◌, length, map, All, AllPairs, codes, slice_index_or, ◌⊎◌}
 use Rattle.std.specs.List.{flat_map}
 use Rattle.ft_model.specs.declared.data.Key.{Key}
 use Rattle.ft_model.specs.declared.data.Key.TheVariants as key
@@ -9,7 +9,7 @@ use Rattle.ft_model.specs.declared.call.Call.{Call}
 use Rattle.ft_model.specs.declared.call.Call.TheVariants.{DictGet, DictSet}
 use Rattle.ft_script.specs.declared.fault.ScriptFault.{ScriptFault}
 use Rattle.ft_script.specs.Faults.{unknown_word, no_memory}
-use Rattle.ft_script.specs.Scripts.{is_letters, IsKeyIn, IsCallIn, key_mentions, call_mentions, IsNumbered}
+use Rattle.ft_script.specs.Scripts.{words_of, lines_of, is_container_name, is_thread_name, is_letters, IsKeyIn, IsCallIn, key_mentions, call_mentions, IsNumbered}
 use Rattle.ft_script.specs.Texts.{key_text, value_text}
 
 -- ---- strings
@@ -74,3 +74,21 @@ pub record AreCalls (name : List ℕ) (strings : List (List ℕ)) (lines : List 
 -- a refusal for want of memory, or one that is right
 abbrev pub Refuses : ScriptFault → Type 0 → Type 0
 Refuses fault reason = ((fault ≡ unknown_word) × reason) ⊎ (fault ≡ no_memory)
+
+-- the lines are those of no calls, as few as a script may have
+abbrev pub IsNoCalls : List ℕ → List (List (List ℕ)) → Type 0
+IsNoCalls name lines = (strings : List (List ℕ)) (calls : List Call) → length calls ≤ 500000 → AreCalls name strings lines calls → ⊥
+
+-- ---- the first two lines
+
+abbrev pub dict_line : List ℕ → List (List ℕ)
+dict_line name = codes "dict" ∷ name ∷ []
+
+abbrev pub thread_line : List ℕ → List (List ℕ)
+thread_line name = codes "thread" ∷ name ∷ []
+
+-- the text begins with a dict's line and a thread's, and the lines below them are these
+pub record HasHead (bytes : List ℕ) (dict thread : List ℕ) (lines : List (List (List ℕ))) : Type 0 where
+  pub text : map words_of (lines_of bytes) ≡ dict_line dict ∷ thread_line thread ∷ lines
+  pub dict_name : is_container_name dict ≡ true
+  pub thread_name : is_thread_name thread ≡ true

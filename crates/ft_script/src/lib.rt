@@ -2,9 +2,11 @@
 #![tactic(auto)]
 
 mod fault;
+mod parser;
 mod print;
 mod strings;
 mod words;
 
 pub use fault::{ScriptFault, Which};
+pub use parser::parse;
 pub use print::{print_entry, print_world, push_entry, push_world};

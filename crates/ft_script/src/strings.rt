@@ -33,6 +33,13 @@ impl Strings {
         }
     }
 
+    /// How many strings there are.
+    pub(crate) fn len(&self) -> usize
+        ensures { result ≡ length self.now }
+    {
+        self.texts.len()
+    }
+
     /// The text's number. A text that has none gets the next one.
     pub(crate) fn number_of(&mut self, text: &[u8]) -> Result<u32, AllocError>
         requires { length self.old < 2 ^ 32 }

@@ -1,0 +1,189 @@
+-- Reading calls while their strings are numbered.
+use Rattle.std.proofs.Common.{◌≡◌, ◌≢◌, ℕ, ℤ, zero, suc, ◌+◌, ◌<◌, ◌≤◌, Bool, true, false, List, [], ◌∷◌, ◌++◌, length, get_or, map, refl, sym, ap, ◌∙◌, subst, inl, inr, arith, rules, append_assoc, FitsSigned}
+use Rattle.std.specs.Prelude.{All, AllPairs, ◌⊎◌, codes}
+use Rattle.std.specs.Int.{w64}
+use Rattle.std.specs.Fmt.{signed_decimal}
+use Rattle.std.specs.List.{flat_map}
+use Rattle.std.proofs.lemmas.List.{append-nil, get_or_append_left, get_or_push, length-append, length_push, length-map, map_push, get_or_default}
+use Rattle.std.proofs.lemmas.List.Elements.{All-push, All-nil, All-head, All-tail, All-weaker}
+use Rattle.std.proofs.lemmas.List.Quantifiers.{all_pairs_push}
+use Rattle.std.proofs.lemmas.List.Concat.{flat_map-append}
+use Rattle.ft_model.specs.declared.data.Key.{Key}
+use Rattle.ft_model.specs.declared.data.Key.TheVariants as key
+use Rattle.ft_model.specs.declared.data.Value.{Value}
+use Rattle.ft_model.specs.declared.data.Value.TheVariants as value
+use Rattle.ft_model.specs.declared.data.Sym.{Sym}
+use Rattle.ft_model.specs.declared.call.Call.{Call}
+use Rattle.ft_model.specs.declared.call.Call.TheVariants.{DictGet, DictSet}
+use Rattle.ft_script.specs.Scripts.{is_letters, IsKeyIn, IsValueIn, IsCallIn, key_mentions, value_mentions, call_mentions, IsNumbered}
+use Rattle.ft_script.specs.Texts.{quoted, key_text, value_text}
+use Rattle.ft_script.specs.Calls.{IsTable, IsNumberOf, Grows, words_in, as_value, IsKeyRead, IsCallRead, IsNoKey, IsNoCall, AreCalls, IsNoCalls, Refuses}
+use Rattle.ft_script.proofs.WordLemmas.{quoted_injective, integer_not_quoted, integer_injective}
+
+-- ---- numbers
+
+IsNumbered-append : (n m k : ℕ) (xs ys : List ℕ) → IsNumbered n xs m → IsNumbered m ys k → IsNumbered n (xs ++ ys) k
+IsNumbered-append n m k [] ys h g = subst (λ i. IsNumbered i ys k) (sym h) g
+IsNumbered-append n m k (x ∷ xs) ys h g =
+    elim h [
+      | inl old ↦ inl (old.0, IsNumbered-append n m k xs ys old.1 g)
+      | inr next ↦ inr (next.0, IsNumbered-append (suc n) m k xs ys next.1 g)
+    ]
+
+-- each number that is named names at most one string more
+IsNumbered-most : (n m : ℕ) (xs : List ℕ) → IsNumbered n xs m → m ≤ n + length xs
+IsNumbered-most n m [] h = omega arith
+IsNumbered-most n m (x ∷ xs) h =
+    elim h [
+      | inl old ↦ (let most : m ≤ n + length xs = IsNumbered-most n m xs old.1 in omega arith)
+      | inr next ↦ (let most : m ≤ suc n + length xs = IsNumbered-most (suc n) m xs next.1 in omega arith)
+    ]
+
+-- ---- tables that grow
+
+pub Grows-none : (old : List (List ℕ)) → Grows old [] old
+Grows-none old = record { more = []; kept = sym (append-nil old); numbered = refl; table = λ h. h }
+
+pub Grows-then : (a b c : List (List ℕ)) (xs ys : List ℕ) → Grows a xs b → Grows b ys c → Grows a (xs ++ ys) c
+Grows-then a b c xs ys h g = record {
+  more = h.more ++ g.more;
+  kept = g.kept ∙ ap (λ (l : List (List ℕ)). l ++ g.more) h.kept ∙ append_assoc a h.more g.more;
+  numbered = IsNumbered-append (length a) (length b) (length c) xs ys h.numbered g.numbered;
+  table = λ t. g.table (h.table t);
+}
+
+-- a table with one string more
+table_push : (old : List (List ℕ)) (text : List ℕ) → is_letters text ≡ true → All (λ s. s ≢ text) old → IsTable old → IsTable (old ++ text ∷ [])
+table_push old text letters other table = record {
+  letters = All-push (λ (s : List ℕ). is_letters s ≡ true) old text table.letters letters;
+  distinct = all_pairs_push (λ (s t : List ℕ). s ≢ t) old text table.distinct (λ k d low. other k d low);
+}
+
+-- what a text's number says
+pub record IsNamed (text : List ℕ) (n : ℕ) (old new : List (List ℕ)) : Type 0 where
+  pub low : n < length new
+  pub here : get_or new n [] ≡ text
+  pub grows : Grows old (n ∷ []) new
+
+pub named : (text : List ℕ) (n : ℕ) (old new : List (List ℕ)) → is_letters text ≡ true → IsNumberOf text n old new → IsNamed text n old new
+named text n old new letters h =
+    elim h [
+      | inl there ↦ record {
+          low = rw there.2 there.0;
+          here = rw there.2 there.1;
+          grows = rw there.2 (record { more = []; kept = sym (append-nil old); numbered = inl (there.0, refl); table = λ t. t });
+        }
+      | inr last ↦
+          let size : length new ≡ length old + 1 = ap length last.2 ∙ length_push old text in
+          let next : suc (length old) ≡ length new = omega arith in
+          record {
+            low = omega arith;
+            here = rw last.2 (get_or_push old text [] n (sym last.0));
+            grows = record {
+              more = text ∷ [];
+              kept = last.2;
+              numbered = inr (last.0, next);
+              table = λ t. rw last.2 (table_push old text letters last.1 t);
+            };
+          }
+    ]
+
+-- ---- a table that grows keeps the texts
+
+module _ (old new more : List (List ℕ)) (kept : new ≡ old ++ more) where
+  longer : length old ≤ length new
+  longer = omega (arith, ap length kept ∙ length-append old more)
+
+  string_kept : (n : ℕ) → n < length old → get_or new n [] ≡ get_or old n []
+  string_kept n low = rw kept (get_or_append_left old more [] n low)
+
+  key_text_kept : (key : Key) → IsKeyIn old key → key_text new key ≡ key_text old key
+  key_text_kept (key.Int n) known = refl
+  key_text_kept (key.Text number) known = ap quoted (string_kept number.0 known)
+
+  key_kept : (key : Key) → IsKeyIn old key → IsKeyIn new key
+  key_kept (key.Int n) known = known
+  key_kept (key.Text number) known = (let low : number.0 < length old = known in omega (arith, longer))
+
+  value_text_kept : (value : Value) → IsValueIn old value → value_text new value ≡ value_text old value
+  value_text_kept value.Nothing known = refl
+  value_text_kept (value.Int n) known = refl
+  value_text_kept (value.Text number) known = ap quoted (string_kept number.0 known)
+
+  value_kept : (value : Value) → IsValueIn old value → IsValueIn new value
+  value_kept value.Nothing known = known
+  value_kept (value.Int n) known = known
+  value_kept (value.Text number) known = (let low : number.0 < length old = known in omega (arith, longer))
+
+  call_kept : (call : Call) → IsCallIn old call → IsCallIn new call
+  call_kept (DictGet dict key) known = (known.0, key_kept key known.1)
+  call_kept (DictSet dict key value) known = (known.0, key_kept key known.1, value_kept value known.2)
+
+  words_kept : (name : List ℕ) (call : Call) → IsCallIn old call → words_in name new call ≡ words_in name old call
+  words_kept name (DictGet dict key) known = ap (λ (t : List ℕ). codes "get" ∷ name ∷ t ∷ []) (key_text_kept key known.1)
+  words_kept name (DictSet dict key value) known = rw (key_text_kept key known.1, value_text_kept value known.2) refl
+
+  all_words_kept : (name : List ℕ) (calls : List Call) → All (IsCallIn old) calls → map (words_in name new) calls ≡ map (words_in name old) calls
+  all_words_kept name [] known = refl
+  all_words_kept name (call ∷ calls) known =
+      rw (words_kept name call (All-head (IsCallIn old) call calls known), all_words_kept name calls (All-tail (IsCallIn old) call calls known)) refl
+
+-- ---- keys
+
+pub int_read : (word : List ℕ) (n : ℤ) (old : List (List ℕ)) → word ≡ signed_decimal n → FitsSigned w64 n → IsKeyRead word (key.Int n) old old
+int_read word n old text fits = record { text = text; known = fits; grows = Grows-none old }
+
+pub text_read : (word text : List ℕ) (number : Sym) (old new : List (List ℕ)) → word ≡ quoted text → is_letters text ≡ true → IsNumberOf text number.0 old new → IsKeyRead word (key.Text number) old new
+text_read word text number old new same letters h =
+    let there : IsNamed text number.0 old new = named text number.0 old new letters h in
+    record { text = same ∙ ap quoted (sym there.here); known = there.low; grows = there.grows }
+
+pub no_key : (word : List ℕ) → ((n : ℤ) → FitsSigned w64 n → word ≢ signed_decimal n) → ((text : List ℕ) → is_letters text ≡ true → word ≢ quoted text) → IsNoKey word
+no_key word no_int no_text strings (key.Int n) table known same = no_int n known same
+no_key word no_int no_text strings (key.Text number) table known same = no_text (get_or strings number.0 []) (table.letters number.0 [] known) same
+
+-- ---- calls
+
+value_of_key : (strings : List (List ℕ)) (key : Key) → value_text strings (as_value key) ≡ key_text strings key
+value_of_key strings (key.Int n) = refl
+value_of_key strings (key.Text number) = refl
+
+value_known : (strings : List (List ℕ)) (key : Key) → IsKeyIn strings key → IsValueIn strings (as_value key)
+value_known strings (key.Int n) known = known
+value_known strings (key.Text number) known = known
+
+value_mentioned : (key : Key) → value_mentions (as_value key) ≡ key_mentions key
+value_mentioned (key.Int n) = refl
+value_mentioned (key.Text number) = refl
+
+pub get_read : (word : List ℕ) (key : Key) (old new : List (List ℕ)) → IsKeyRead word key old new → (name : List ℕ) → IsCallRead name (codes "get" ∷ name ∷ word ∷ []) (DictGet 0 key) old new
+get_read word key old new h name = record {
+  text = ap (λ (t : List ℕ). codes "get" ∷ name ∷ t ∷ []) h.text;
+  known = (refl, h.known);
+  grows = h.grows;
+}
+
+pub set_read : (first second : List ℕ) (key value : Key) (old middle new : List (List ℕ)) → IsKeyRead first key old middle → IsKeyRead second value middle new → (name : List ℕ)
+    → IsCallRead name (codes "set" ∷ name ∷ first ∷ second ∷ []) (DictSet 0 key (as_value value)) old new
+set_read first second key value old middle new h g name = record {
+  text = rw (h.text, g.text, key_text_kept middle new g.grows.more g.grows.kept key h.known, value_of_key new value) refl;
+  known = (refl, key_kept middle new g.grows.more g.grows.kept key h.known, value_known new value g.known);
+  grows = rw (value_mentioned value) (Grows-then old middle new (key_mentions key) (key_mentions value) h.grows g.grows);
+}
+
+pub no_get : (word : List ℕ) → IsNoKey word → (name : List ℕ) → IsNoCall name (codes "get" ∷ name ∷ word ∷ [])
+no_get word none name strings (DictGet dict key) table known same = none strings key table known.1 cc
+no_get word none name strings (DictSet dict key value) table known same = cc
+
+no_value : (word : List ℕ) (strings : List (List ℕ)) (value : Value) → IsNoKey word → IsTable strings → IsValueIn strings value → word ≢ value_text strings value
+no_value word strings value.Nothing none table known same = known
+no_value word strings (value.Int n) none table known same = none strings (key.Int n) table known same
+no_value word strings (value.Text number) none table known same = none strings (key.Text number) table known same
+
+pub no_set_key : (first second : List ℕ) → IsNoKey first → (name : List ℕ) → IsNoCall name (codes "set" ∷ name ∷ first ∷ second ∷ [])
+no_set_key first second none name strings (DictGet dict key) table known same = cc
+no_set_key first second none name strings (DictSet dict key value) table known same = none strings key table known.1 cc
+
+pub no_set_value : (first second : List ℕ) → IsNoKey second → (name : List ℕ) → IsNoCall name (codes "set" ∷ name ∷ first ∷ second ∷ [])
+no_set_value first second none name strings (DictGet dict key) table known same = cc
+no_set_value first second none name strings (DictSet dict key value) table known same = no_value second strings value none table known.2 cc

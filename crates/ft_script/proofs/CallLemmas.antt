@@ -1,9 +1,10 @@
 -- Reading calls while their strings are numbered.
-use Rattle.std.proofs.Common.{◌≡◌, ◌≢◌, ℕ, ℤ, zero, suc, ◌+◌, ◌<◌, ◌≤◌, Bool, true, false, List, [], ◌∷◌, ◌++◌, length, get_or, map, refl, sym, ap, ◌∙◌, subst, inl, inr, arith, rules, append_assoc, FitsSigned}
+use Rattle.std.proofs.Common.{◌≡◌, ◌≢◌, ℕ, ℤ, zero, suc, ◌+◌, ◌*◌, ◌<◌, ◌≤◌, Bool, true, false, List, [], ◌∷◌, ◌++◌, length, get_or, map, refl, sym, ap, ◌∙◌, subst, inl, inr, arith, append_assoc, FitsSigned, Result, Err}
 use Rattle.std.specs.Prelude.{All, AllPairs, ◌⊎◌, codes}
 use Rattle.std.specs.Int.{w64}
 use Rattle.std.specs.Fmt.{signed_decimal}
 use Rattle.std.specs.List.{flat_map}
+use Rattle.std.specs.Result.{IfErr}
 use Rattle.std.proofs.lemmas.List.{append-nil, get_or_append_left, get_or_push, length-append, length_push, length-map, map_push, get_or_default}
 use Rattle.std.proofs.lemmas.List.Elements.{All-push, All-nil, All-head, All-tail, All-weaker}
 use Rattle.std.proofs.lemmas.List.Quantifiers.{all_pairs_push}
@@ -15,6 +16,7 @@ use Rattle.ft_model.specs.declared.data.Value.TheVariants as value
 use Rattle.ft_model.specs.declared.data.Sym.{Sym}
 use Rattle.ft_model.specs.declared.call.Call.{Call}
 use Rattle.ft_model.specs.declared.call.Call.TheVariants.{DictGet, DictSet}
+use Rattle.ft_script.specs.declared.fault.ScriptFault.{ScriptFault}
 use Rattle.ft_script.specs.Scripts.{is_letters, IsKeyIn, IsValueIn, IsCallIn, key_mentions, value_mentions, call_mentions, IsNumbered}
 use Rattle.ft_script.specs.Texts.{quoted, key_text, value_text}
 use Rattle.ft_script.specs.Calls.{IsTable, IsNumberOf, Grows, words_in, as_value, IsKeyRead, IsCallRead, IsNoKey, IsNoCall, AreCalls, IsNoCalls, Refuses}
@@ -187,3 +189,99 @@ no_set_key first second none name strings (DictSet dict key value) table known s
 pub no_set_value : (first second : List ℕ) → IsNoKey second → (name : List ℕ) → IsNoCall name (codes "set" ∷ name ∷ first ∷ second ∷ [])
 no_set_value first second none name strings (DictGet dict key) table known same = cc
 no_set_value first second none name strings (DictSet dict key value) table known same = no_value second strings value none table known.2 cc
+
+-- ---- refusals
+
+pub refused_by : {T : Type 0} (r : Result T ScriptFault) (fault : ScriptFault) (P Q : Type 0) → (x : ScriptFault) × (r ≡ Err x) × (x ≡ fault) → (P → Q) → Refuses fault P → IfErr r (λ f. Refuses f Q)
+refused_by r fault P Q exit weaker h =
+    rw (exit.1, exit.2) (elim h [ inl right ↦ inl (right.0, weaker right.1) | inr memory ↦ inr memory ])
+
+-- ---- lines
+
+-- what is known while lines are read: those of the calls so far, and the rest
+pub record IsReading (name : List ℕ) (lines : List (List (List ℕ))) (calls : List Call) (strings : List (List ℕ)) (rest : List (List (List ℕ))) : Type 0 where
+  pub text : lines ≡ map (words_in name strings) calls ++ rest
+  pub known : All (IsCallIn strings) calls
+  pub numbered : IsNumbered 0 (flat_map call_mentions calls) (length strings)
+  pub table : IsTable strings
+  pub few : length calls ≤ 500000
+  pub few_strings : length strings ≤ 2 * length calls
+
+pub reading_begins : (name : List ℕ) (lines : List (List (List ℕ))) → IsReading name lines [] [] lines
+reading_begins name lines = record {
+  text = refl;
+  known = All-nil (IsCallIn []);
+  numbered = refl;
+  table = record { letters = All-nil (λ (s : List ℕ). is_letters s ≡ true); distinct = λ i j d e low high. absurd (omega arith) };
+  few = omega arith;
+  few_strings = omega arith;
+}
+
+few_mentions : (call : Call) → length (call_mentions call) ≤ 2
+few_mentions (DictGet dict (key.Int n)) = omega arith
+few_mentions (DictGet dict (key.Text s)) = omega arith
+few_mentions (DictSet dict (key.Int n) value.Nothing) = omega arith
+few_mentions (DictSet dict (key.Int n) (value.Int m)) = omega arith
+few_mentions (DictSet dict (key.Int n) (value.Text t)) = omega arith
+few_mentions (DictSet dict (key.Text s) value.Nothing) = omega arith
+few_mentions (DictSet dict (key.Text s) (value.Int m)) = omega arith
+few_mentions (DictSet dict (key.Text s) (value.Text t)) = omega arith
+
+pub reading_goes_on : (name : List ℕ) (lines : List (List (List ℕ))) (calls : List Call) (old new : List (List ℕ)) (words : List (List ℕ)) (now rest : List (List (List ℕ))) (call : Call) →
+    IsReading name lines calls old now → now ≡ words ∷ rest → IsCallRead name words call old new → length calls < 500000 → IsReading name lines (calls ++ call ∷ []) new rest
+reading_goes_on name lines calls old new words now rest call reading next read few =
+    let more = read.grows.more in
+    let kept = read.grows.kept in
+    let size : length (calls ++ call ∷ []) ≡ length calls + 1 = length_push calls call in
+    let before : map (words_in name old) calls ≡ map (words_in name new) calls = sym (all_words_kept old new more kept name calls reading.known) in
+    record {
+      text =
+          reading.text
+          ∙ ap (λ (l : List (List (List ℕ))). map (words_in name old) calls ++ l) next
+          ∙ ap (λ (l : List (List (List ℕ))). l ++ (words ∷ rest)) before
+          ∙ ap (λ (w : List (List ℕ)). map (words_in name new) calls ++ (w ∷ rest)) read.text
+          ∙ sym (append_assoc (map (words_in name new) calls) (words_in name new call ∷ []) rest)
+          ∙ ap (λ (l : List (List (List ℕ))). l ++ rest) (sym (map_push (words_in name new) calls call));
+      known = All-push (IsCallIn new) calls call (All-weaker (IsCallIn old) (IsCallIn new) (call_kept old new more kept) calls reading.known) read.known;
+      numbered = subst (λ (l : List ℕ). IsNumbered 0 l (length new)) (mentions_push calls call)
+          (IsNumbered-append 0 (length old) (length new) (flat_map call_mentions calls) (call_mentions call) reading.numbered read.grows.numbered);
+      table = read.grows.table reading.table;
+      few = omega arith;
+      few_strings = omega (arith, reading.few_strings, few_mentions call, IsNumbered-most (length old) (length new) (call_mentions call) read.grows.numbered);
+    }
+  where
+    mentions_push : (cs : List Call) (c : Call) → flat_map call_mentions cs ++ call_mentions c ≡ flat_map call_mentions (cs ++ c ∷ [])
+    mentions_push cs c = ap (λ (l : List ℕ). flat_map call_mentions cs ++ l) (sym (append-nil (call_mentions c))) ∙ sym (flat_map-append call_mentions cs (c ∷ []))
+
+pub reading_ends : (name : List ℕ) (lines : List (List (List ℕ))) (calls : List Call) (strings : List (List ℕ)) → IsReading name lines calls strings [] → AreCalls name strings lines calls
+reading_ends name lines calls strings reading = record {
+  text = reading.text ∙ append-nil (map (words_in name strings) calls);
+  known = reading.known;
+  numbered = reading.numbered;
+  table = reading.table;
+}
+
+-- a word in the middle is that of a call
+call_at : (f : Call → List (List ℕ)) (P : Call → Type 0) (before rest : List (List (List ℕ))) (words : List (List ℕ)) (calls : List Call) → before ++ words ∷ rest ≡ map f calls → All P calls → (call : Call) × P call × (words ≡ f call)
+call_at f P [] rest words [] same all = absurd cc
+call_at f P [] rest words (call ∷ calls) same all = (call, All-head P call calls all, cc)
+call_at f P (w ∷ before) rest words [] same all = absurd cc
+call_at f P (w ∷ before) rest words (call ∷ calls) same all =
+    let below : before ++ words ∷ rest ≡ map f calls = cc in
+    call_at f P before rest words calls below (All-tail P call calls all)
+
+pub no_calls : (name : List ℕ) (lines : List (List (List ℕ))) (calls : List Call) (old : List (List ℕ)) (words : List (List ℕ)) (now rest : List (List (List ℕ))) →
+    IsReading name lines calls old now → now ≡ words ∷ rest → IsNoCall name words → IsNoCalls name lines
+no_calls name lines calls old words now rest reading next none strings others few are =
+    let same : map (words_in name old) calls ++ words ∷ rest ≡ map (words_in name strings) others =
+        ap (λ (l : List (List (List ℕ))). map (words_in name old) calls ++ l) (sym next) ∙ sym reading.text ∙ are.text in
+    let at = call_at (words_in name strings) (IsCallIn strings) (map (words_in name old) calls) rest words others same are.known in
+    none strings at.0 are.table at.1 at.2
+
+pub too_many : (name : List ℕ) (lines : List (List (List ℕ))) (calls : List Call) (old : List (List ℕ)) (words : List (List ℕ)) (now rest : List (List (List ℕ))) →
+    IsReading name lines calls old now → now ≡ words ∷ rest → length calls ≡ 500000 → IsNoCalls name lines
+too_many name lines calls old words now rest reading next full strings others few are =
+    let long : length lines ≡ length calls + suc (length rest) =
+        ap length reading.text ∙ ap (λ (l : List (List (List ℕ))). length (map (words_in name old) calls ++ l)) next ∙ length-append (map (words_in name old) calls) (words ∷ rest) ∙ ap (λ n. n + suc (length rest)) (length-map calls (words_in name old)) in
+    let short : length lines ≡ length others = ap length are.text ∙ length-map others (words_in name strings) in
+    omega arith

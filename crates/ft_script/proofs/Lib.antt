@@ -2,3 +2,5 @@ pub mod Printed
 pub mod WordLemmas
 pub mod StringLemmas
 pub mod CallLemmas
+pub mod OneScript
+pub mod Heads

@@ -1,14 +1,15 @@
 -- Reading calls while their strings are numbered.
-use Rattle.std.proofs.Common.{◌≡◌, ◌≢◌, ℕ, ℤ, zero, suc, ◌+◌, ◌*◌, ◌<◌, ◌≤◌, Bool, true, false, List, [], ◌∷◌, ◌++◌, length, get_or, map, refl, sym, ap, ◌∙◌, subst, inl, inr, arith, append_assoc, FitsSigned, Result, Err}
+use Rattle.std.proofs.Common.{◌≡◌, ◌≢◌, ℕ, ℤ, zero, suc, ◌+◌, ◌*◌, ◌<◌, ◌≤◌, Bool, true, false, eqb, List, [], ◌∷◌, ◌++◌, length, get_or, map, refl, sym, ap, ◌∙◌, subst, inl, inr, arith, append_assoc, FitsSigned, Result, Err}
 use Rattle.std.specs.Prelude.{All, AllPairs, ◌⊎◌, codes}
 use Rattle.std.specs.Int.{w64}
 use Rattle.std.specs.Fmt.{signed_decimal}
-use Rattle.std.specs.List.{flat_map}
+use Rattle.std.specs.List.{flat_map, slice_split}
 use Rattle.std.specs.Result.{IfErr}
 use Rattle.std.proofs.lemmas.List.{append-nil, get_or_append_left, get_or_push, length-append, length_push, length-map, map_push, get_or_default}
 use Rattle.std.proofs.lemmas.List.Elements.{All-push, All-nil, All-head, All-tail, All-weaker}
 use Rattle.std.proofs.lemmas.List.Quantifiers.{all_pairs_push}
 use Rattle.std.proofs.lemmas.List.Concat.{flat_map-append}
+use Rattle.std.proofs.lemmas.List.Splits.{length-slice_split}
 use Rattle.ft_model.specs.declared.data.Key.{Key}
 use Rattle.ft_model.specs.declared.data.Key.TheVariants as key
 use Rattle.ft_model.specs.declared.data.Value.{Value}
@@ -17,7 +18,7 @@ use Rattle.ft_model.specs.declared.data.Sym.{Sym}
 use Rattle.ft_model.specs.declared.call.Call.{Call}
 use Rattle.ft_model.specs.declared.call.Call.TheVariants.{DictGet, DictSet}
 use Rattle.ft_script.specs.declared.fault.ScriptFault.{ScriptFault}
-use Rattle.ft_script.specs.Scripts.{is_letters, IsKeyIn, IsValueIn, IsCallIn, key_mentions, value_mentions, call_mentions, IsNumbered}
+use Rattle.ft_script.specs.Scripts.{words_of, is_letters, IsKeyIn, IsValueIn, IsCallIn, key_mentions, value_mentions, call_mentions, IsNumbered}
 use Rattle.ft_script.specs.Texts.{quoted, key_text, value_text}
 use Rattle.ft_script.specs.Calls.{IsTable, IsNumberOf, Grows, words_in, as_value, IsKeyRead, IsCallRead, IsNoKey, IsNoCall, AreCalls, IsNoCalls, Refuses}
 use Rattle.ft_script.proofs.WordLemmas.{quoted_injective, integer_not_quoted, integer_injective}
@@ -212,7 +213,7 @@ reading_begins name lines = record {
   text = refl;
   known = All-nil (IsCallIn []);
   numbered = refl;
-  table = record { letters = All-nil (λ (s : List ℕ). is_letters s ≡ true); distinct = λ i j d e low high. absurd (omega arith) };
+  table = record { letters = All-nil (λ (s : List ℕ). is_letters s ≡ true); distinct = λ i j d low high. absurd (omega arith) };
   few = omega arith;
   few_strings = omega arith;
 }
@@ -278,10 +279,14 @@ no_calls name lines calls old words now rest reading next none strings others fe
     let at = call_at (words_in name strings) (IsCallIn strings) (map (words_in name old) calls) rest words others same are.known in
     none strings at.0 are.table at.1 at.2
 
-pub too_many : (name : List ℕ) (lines : List (List (List ℕ))) (calls : List Call) (old : List (List ℕ)) (words : List (List ℕ)) (now rest : List (List (List ℕ))) →
-    IsReading name lines calls old now → now ≡ words ∷ rest → length calls ≡ 500000 → IsNoCalls name lines
-too_many name lines calls old words now rest reading next full strings others few are =
-    let long : length lines ≡ length calls + suc (length rest) =
-        ap length reading.text ∙ ap (λ (l : List (List (List ℕ))). length (map (words_in name old) calls ++ l)) next ∙ length-append (map (words_in name old) calls) (words ∷ rest) ∙ ap (λ n. n + suc (length rest)) (length-map calls (words_in name old)) in
+-- what is left of a text is a line at least
+pub some_line : (bytes : List ℕ) → 0 < length (map words_of (slice_split (λ b. eqb b 10) bytes))
+some_line bytes = omega (arith, length-map (slice_split (λ b. eqb b 10) bytes) words_of, length-slice_split (λ b. eqb b 10) bytes)
+
+pub too_many : (name : List ℕ) (lines : List (List (List ℕ))) (calls : List Call) (old : List (List ℕ)) (now : List (List (List ℕ))) →
+    IsReading name lines calls old now → 0 < length now → length calls ≡ 500000 → IsNoCalls name lines
+too_many name lines calls old now reading some full strings others few are =
+    let long : length lines ≡ length calls + length now =
+        ap length reading.text ∙ length-append (map (words_in name old) calls) now ∙ ap (λ n. n + length now) (length-map calls (words_in name old)) in
     let short : length lines ≡ length others = ap length are.text ∙ length-map others (words_in name strings) in
     omega arith

@@ -4,3 +4,4 @@ pub mod StringLemmas
 pub mod CallLemmas
 pub mod OneScript
 pub mod Heads
+pub mod Counts

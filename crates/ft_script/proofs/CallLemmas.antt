@@ -72,10 +72,10 @@ pub named : (text : List ℕ) (n : ℕ) (old new : List (List ℕ)) → is_lette
 named text n old new letters h =
     elim h [
       | inl there ↦ record {
-          low = rw there.2 there.0;
-          here = rw there.2 there.1;
-          grows = rw there.2 (record { more = []; kept = sym (append-nil old); numbered = inl (there.0, refl); table = λ t. t });
-        }
+        low = rw there.2 there.0;
+        here = rw there.2 there.1;
+        grows = rw there.2 (record { more = []; kept = sym (append-nil old); numbered = inl (there.0, refl); table = λ t. t });
+      }
       | inr last ↦
           let size : length new ≡ length old + 1 = ap length last.2 ∙ length_push old text in
           let next : suc (length old) ≡ length new = omega arith in
@@ -275,7 +275,7 @@ pub no_calls : (name : List ℕ) (lines : List (List (List ℕ))) (calls : List 
     IsReading name lines calls old now → now ≡ words ∷ rest → IsNoCall name words → IsNoCalls name lines
 no_calls name lines calls old words now rest reading next none strings others few are =
     let same : map (words_in name old) calls ++ words ∷ rest ≡ map (words_in name strings) others =
-        ap (λ (l : List (List (List ℕ))). map (words_in name old) calls ++ l) (sym next) ∙ sym reading.text ∙ are.text in
+    ap (λ (l : List (List (List ℕ))). map (words_in name old) calls ++ l) (sym next) ∙ sym reading.text ∙ are.text in
     let at = call_at (words_in name strings) (IsCallIn strings) (map (words_in name old) calls) rest words others same are.known in
     none strings at.0 are.table at.1 at.2
 
@@ -287,6 +287,6 @@ pub too_many : (name : List ℕ) (lines : List (List (List ℕ))) (calls : List 
     IsReading name lines calls old now → 0 < length now → length calls ≡ 500000 → IsNoCalls name lines
 too_many name lines calls old now reading some full strings others few are =
     let long : length lines ≡ length calls + length now =
-        ap length reading.text ∙ length-append (map (words_in name old) calls) now ∙ ap (λ n. n + length now) (length-map calls (words_in name old)) in
+    ap length reading.text ∙ length-append (map (words_in name old) calls) now ∙ ap (λ n. n + length now) (length-map calls (words_in name old)) in
     let short : length lines ≡ length others = ap length are.text ∙ length-map others (words_in name strings) in
     omega arith

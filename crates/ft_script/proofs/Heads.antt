@@ -1,6 +1,6 @@
 -- Scripts by their parts, and texts that no script has.
-use Rattle.std.proofs.Common.{◌≡◌, ◌≢◌, ℕ, suc, ◌+◌, ◌-◌, ◌<◌, ◌≤◌, true, eqb, List, [], ◌∷◌, ◌++◌, length, get_or, take, map, refl, sym, ap, ◌∙◌, subst, arith}
-use Rattle.std.specs.Prelude.{All, codes}
+use Rattle.std.proofs.Common.{◌≡◌, ◌≢◌, ℕ, suc, ◌+◌, ◌-◌, ◌<◌, ◌≤◌, true, eqb, List, [], ◌∷◌, ◌++◌, length, get_or, take, map, refl, sym, ap, ◌∙◌, subst, arith, Option, Some, None, Bor}
+use Rattle.std.specs.Prelude.{All, codes, unwrap_or, MatchOption}
 use Rattle.std.specs.List.{slice_split}
 use Rattle.std.proofs.lemmas.Bool.{cases_eq, ne_eqb}
 use Rattle.std.proofs.lemmas.List.{append-nil}
@@ -17,21 +17,19 @@ use Rattle.ft_script.specs.Calls.{IsTable, words_in, AreCalls, IsNoCalls, dict_l
 
 -- ---- the line feed at the end
 
-pub feed_taken : (bytes : List ℕ) → 1 ≤ length bytes → get_or bytes (length bytes - 1) 0 ≡ 10 → take (length bytes - 1) bytes ≡ without_last_feed bytes
-feed_taken [] some last = absurd (omega arith)
-feed_taken (b ∷ []) some last = rw last refl
-feed_taken (b ∷ c ∷ bytes) some last =
-    let n : length (b ∷ c ∷ bytes) - 1 ≡ suc (length (c ∷ bytes) - 1) = omega arith in
-    let low : get_or (c ∷ bytes) (length (c ∷ bytes) - 1) 0 ≡ 10 = rw n at last in
-    rw n (ap (λ (l : List ℕ). b ∷ l) (feed_taken (c ∷ bytes) (omega arith) low))
+feed_taken : (text : List ℕ) → text ≡ without_last_feed (text ++ 10 ∷ [])
+feed_taken [] = refl
+feed_taken (b ∷ []) = refl
+feed_taken (b ∷ c ∷ text) = ap (λ (l : List ℕ). b ∷ l) (feed_taken (c ∷ text))
 
-pub no_feed : (bytes : List ℕ) → 1 ≤ length bytes → get_or bytes (length bytes - 1) 0 ≢ 10 → bytes ≡ without_last_feed bytes
-no_feed [] some last = absurd (omega arith)
-no_feed (b ∷ []) some last = rw (ne_eqb b 10 last) refl
-no_feed (b ∷ c ∷ bytes) some last =
-    let n : length (b ∷ c ∷ bytes) - 1 ≡ suc (length (c ∷ bytes) - 1) = omega arith in
-    let low : get_or (c ∷ bytes) (length (c ∷ bytes) - 1) 0 ≢ 10 = rw n at last in
-    ap (λ (l : List ℕ). b ∷ l) (no_feed (c ∷ bytes) (omega arith) low)
+no_feed : (bytes : List ℕ) → ((text : List ℕ) → bytes ≢ text ++ 10 ∷ []) → bytes ≡ without_last_feed bytes
+no_feed [] none = refl
+no_feed (b ∷ []) none = rw (ne_eqb b 10 (λ feed. none [] (ap (λ (c : ℕ). c ∷ []) feed))) refl
+no_feed (b ∷ c ∷ bytes) none = ap (λ (l : List ℕ). b ∷ l) (no_feed (c ∷ bytes) (λ text same. none (b ∷ text) (ap (λ (l : List ℕ). b ∷ l) same)))
+
+pub without_feed : (bytes : Bor (List ℕ)) (found : Option (Bor (List ℕ))) → MatchOption found ((text : List ℕ) → bytes.now ≢ text ++ 10 ∷ []) (λ text. bytes.now ≡ text.now ++ 10 ∷ []) → (unwrap_or found bytes).now ≡ without_last_feed bytes.now
+without_feed bytes None none = no_feed bytes.now none
+without_feed bytes (Some text) same = rw same (feed_taken text.now)
 
 -- ---- the parts of a script
 
@@ -67,7 +65,7 @@ module _ (container : Declaration) (thread : Thread) (strings : List (List ℕ))
   lines_in : All (IsCallIn strings) thread.calls → script_lines script_of ≡ dict_line container.name ∷ thread_line thread.name ∷ map (words_in container.name strings) thread.calls
   lines_in known =
       let calls : map (call_words script_of) thread.calls ++ [] ≡ map (words_in container.name strings) thread.calls =
-          append-nil (map (call_words script_of) thread.calls) ∙ all_words_in container (thread ∷ []) strings thread.calls known in
+      append-nil (map (call_words script_of) thread.calls) ∙ all_words_in container (thread ∷ []) strings thread.calls known in
       ap (λ (l : List (List (List ℕ))). dict_line container.name ∷ thread_line thread.name ∷ l) calls
 
   parts_of_one : IsScript script_of → HasParts script_of

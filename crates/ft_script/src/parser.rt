@@ -72,10 +72,7 @@ fn read_head(bytes: &[u8]) -> Option<Head<'_>>
 fn without_last_feed(bytes: &[u8]) -> &[u8]
     ensures { result.now ≡ without_last_feed bytes.now }
 {
-    match bytes {
-        [text @ .., b'\n'] => text,
-        _ => bytes,
-    }
+    bytes.strip_suffix(b"\n".as_slice()).unwrap_or(bytes)
 }
 
 /// The name in a dict's line.
@@ -222,3 +219,6 @@ fn copy(alloc: Global, text: &[u8]) -> Result<Text, AllocError>
 {
     Ok(Sequence::from_vec(Vec::from_slice(alloc, text)?))
 }
+
+#[cfg(test)]
+mod tests;

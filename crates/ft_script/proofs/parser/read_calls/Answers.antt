@@ -16,9 +16,12 @@ next_line rest below bytes line is pieces = ap lines_in is ∙ ap (map words_of)
 
 pub returns-then-len-eq-CALL_LIMIT-clause-refused : goal.returns-then-len-eq-CALL_LIMIT-clause-refused
 returns-then-len-eq-CALL_LIMIT-clause-refused c =
-    inl (refl, too_many c.args.dict.now (lines_in c.args.lines) c.loop-rest.calls.items c.loop-rest.strings (lines_in c.loop-rest.rest) c.loop-rest.invariant
-    (let some : 0 < length (lines_in (Some c.in-Some.bytes)) = some_line c.in-Some.bytes.now in subst (λ (rest : Option (Bor (List ℕ))). 0 < length (lines_in rest)) (sym c.in-Some.is) some)
-    (omega arith))
+    inl (
+      refl,
+      too_many c.args.dict.now (lines_in c.args.lines) c.loop-rest.calls.items c.loop-rest.strings (lines_in c.loop-rest.rest) c.loop-rest.invariant
+          (let some : 0 < length (lines_in (Some c.in-Some.bytes)) = some_line c.in-Some.bytes.now in subst (λ (rest : Option (Bor (List ℕ))). 0 < length (lines_in rest)) (sym c.in-Some.is) some)
+          (omega arith),
+    )
 
 pub returns-in_err-call-clause-refused : goal.returns-in_err-call-clause-refused
 returns-in_err-call-clause-refused c =

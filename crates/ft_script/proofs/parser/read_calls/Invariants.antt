@@ -1,4 +1,4 @@
-use Rattle.std.proofs.Common.{ℕ, suc, List, length, map, Option, Bor, option_copied}
+use Rattle.std.proofs.Common.{ℕ, suc, List, length, map, Bor, option_copied}
 use Rattle.std.specs.Option.{option_map_or}
 use Rattle.ft_script.specs.Scripts.{words_of}
 use Rattle.ft_script.specs.Words.{rest_pieces}

@@ -1,4 +1,4 @@
-use Rattle.std.proofs.Common.{◌≡◌, ◌∙◌, ap, refl, ℕ, Vec, Global}
+use Rattle.std.proofs.Common.{ℕ, Vec, Global}
 use Rattle.ft_script.proofs.StringLemmas.{number_found, number_new}
 use Rattle.ft_script.proofs.strings.Strings.number_of.Goals as goal
 

@@ -1,11 +1,9 @@
 -- Reading calls while their strings are numbered.
-use Rattle.std.proofs.Common.{◌≡◌, ◌≢◌, ℕ, ℤ, zero, suc, ◌+◌, ◌*◌, ◌<◌, ◌≤◌, Bool, true, false, eqb, List, [], ◌∷◌, ◌++◌, length, get_or, map, refl, sym, ap, ◌∙◌, subst, inl, inr, arith, append_assoc, FitsSigned, Result, Err}
-use Rattle.std.specs.Prelude.{All, AllPairs, ◌⊎◌, codes}
-use Rattle.std.specs.Int.{w64}
-use Rattle.std.specs.Fmt.{signed_decimal}
+use Rattle.std.proofs.Common.{◌≡◌, ◌≢◌, ℕ, suc, ◌+◌, ◌*◌, ◌<◌, ◌≤◌, true, eqb, List, [], ◌∷◌, ◌++◌, length, get_or, map, refl, sym, ap, ◌∙◌, subst, inl, inr, arith, append_assoc, Result, Err}
+use Rattle.std.specs.Prelude.{All, codes}
 use Rattle.std.specs.List.{flat_map, slice_split}
 use Rattle.std.specs.Result.{IfErr}
-use Rattle.std.proofs.lemmas.List.{append-nil, get_or_append_left, get_or_push, length-append, length_push, length-map, map_push, get_or_default}
+use Rattle.std.proofs.lemmas.List.{append-nil, get_or_append_left, get_or_push, length-append, length_push, length-map, map_push}
 use Rattle.std.proofs.lemmas.List.Elements.{All-push, All-nil, All-head, All-tail, All-weaker}
 use Rattle.std.proofs.lemmas.List.Quantifiers.{all_pairs_push}
 use Rattle.std.proofs.lemmas.List.Concat.{flat_map-append}
@@ -21,7 +19,6 @@ use Rattle.ft_script.specs.declared.fault.ScriptFault.{ScriptFault}
 use Rattle.ft_script.specs.Scripts.{words_of, is_letters, IsKeyIn, IsValueIn, IsCallIn, key_mentions, value_mentions, call_mentions, IsNumbered}
 use Rattle.ft_script.specs.Texts.{quoted, key_text, value_text}
 use Rattle.ft_script.specs.Calls.{IsTable, IsNumberOf, Grows, words_in, as_value, IsKeyRead, IsCallRead, IsNoKey, IsNoCall, AreCalls, IsNoCalls, Refuses}
-use Rattle.ft_script.proofs.WordLemmas.{quoted_injective, integer_not_quoted, integer_injective}
 
 -- ---- numbers
 
@@ -44,10 +41,7 @@ IsNumbered-most n m (x ∷ xs) h =
 
 -- ---- tables that grow
 
-pub Grows-none : (old : List (List ℕ)) → Grows old [] old
-Grows-none old = record { more = []; kept = sym (append-nil old); numbered = refl; table = λ h. h }
-
-pub Grows-then : (a b c : List (List ℕ)) (xs ys : List ℕ) → Grows a xs b → Grows b ys c → Grows a (xs ++ ys) c
+Grows-then : (a b c : List (List ℕ)) (xs ys : List ℕ) → Grows a xs b → Grows b ys c → Grows a (xs ++ ys) c
 Grows-then a b c xs ys h g = record {
   more = h.more ++ g.more;
   kept = g.kept ∙ ap (λ (l : List (List ℕ)). l ++ g.more) h.kept ∙ append_assoc a h.more g.more;
@@ -63,12 +57,12 @@ table_push old text letters other table = record {
 }
 
 -- what a text's number says
-pub record IsNamed (text : List ℕ) (n : ℕ) (old new : List (List ℕ)) : Type 0 where
-  pub low : n < length new
-  pub here : get_or new n [] ≡ text
-  pub grows : Grows old (n ∷ []) new
+record IsNamed (text : List ℕ) (n : ℕ) (old new : List (List ℕ)) : Type 0 where
+  low : n < length new
+  here : get_or new n [] ≡ text
+  grows : Grows old (n ∷ []) new
 
-pub named : (text : List ℕ) (n : ℕ) (old new : List (List ℕ)) → is_letters text ≡ true → IsNumberOf text n old new → IsNamed text n old new
+named : (text : List ℕ) (n : ℕ) (old new : List (List ℕ)) → is_letters text ≡ true → IsNumberOf text n old new → IsNamed text n old new
 named text n old new letters h =
     elim h [
       | inl there ↦ record {
@@ -133,17 +127,10 @@ module _ (old new more : List (List ℕ)) (kept : new ≡ old ++ more) where
 
 -- ---- keys
 
-pub int_read : (word : List ℕ) (n : ℤ) (old : List (List ℕ)) → word ≡ signed_decimal n → FitsSigned w64 n → IsKeyRead word (key.Int n) old old
-int_read word n old text fits = record { text = text; known = fits; grows = Grows-none old }
-
 pub text_read : (word text : List ℕ) (number : Sym) (old new : List (List ℕ)) → word ≡ quoted text → is_letters text ≡ true → IsNumberOf text number.0 old new → IsKeyRead word (key.Text number) old new
 text_read word text number old new same letters h =
     let there : IsNamed text number.0 old new = named text number.0 old new letters h in
     record { text = same ∙ ap quoted (sym there.here); known = there.low; grows = there.grows }
-
-pub no_key : (word : List ℕ) → ((n : ℤ) → FitsSigned w64 n → word ≢ signed_decimal n) → ((text : List ℕ) → is_letters text ≡ true → word ≢ quoted text) → IsNoKey word
-no_key word no_int no_text strings (key.Int n) table known same = no_int n known same
-no_key word no_int no_text strings (key.Text number) table known same = no_text (get_or strings number.0 []) (table.letters number.0 [] known) same
 
 -- ---- calls
 
@@ -159,13 +146,6 @@ value_mentioned : (key : Key) → value_mentions (as_value key) ≡ key_mentions
 value_mentioned (key.Int n) = refl
 value_mentioned (key.Text number) = refl
 
-pub get_read : (word : List ℕ) (key : Key) (old new : List (List ℕ)) → IsKeyRead word key old new → (name : List ℕ) → IsCallRead name (codes "get" ∷ name ∷ word ∷ []) (DictGet 0 key) old new
-get_read word key old new h name = record {
-  text = ap (λ (t : List ℕ). codes "get" ∷ name ∷ t ∷ []) h.text;
-  known = (refl, h.known);
-  grows = h.grows;
-}
-
 pub set_read : (first second : List ℕ) (key value : Key) (old middle new : List (List ℕ)) → IsKeyRead first key old middle → IsKeyRead second value middle new → (name : List ℕ)
     → IsCallRead name (codes "set" ∷ name ∷ first ∷ second ∷ []) (DictSet 0 key (as_value value)) old new
 set_read first second key value old middle new h g name = record {
@@ -174,18 +154,10 @@ set_read first second key value old middle new h g name = record {
   grows = rw (value_mentioned value) (Grows-then old middle new (key_mentions key) (key_mentions value) h.grows g.grows);
 }
 
-pub no_get : (word : List ℕ) → IsNoKey word → (name : List ℕ) → IsNoCall name (codes "get" ∷ name ∷ word ∷ [])
-no_get word none name strings (DictGet dict key) table known same = none strings key table known.1 cc
-no_get word none name strings (DictSet dict key value) table known same = cc
-
 no_value : (word : List ℕ) (strings : List (List ℕ)) (value : Value) → IsNoKey word → IsTable strings → IsValueIn strings value → word ≢ value_text strings value
 no_value word strings value.Nothing none table known same = known
 no_value word strings (value.Int n) none table known same = none strings (key.Int n) table known same
 no_value word strings (value.Text number) none table known same = none strings (key.Text number) table known same
-
-pub no_set_key : (first second : List ℕ) → IsNoKey first → (name : List ℕ) → IsNoCall name (codes "set" ∷ name ∷ first ∷ second ∷ [])
-no_set_key first second none name strings (DictGet dict key) table known same = cc
-no_set_key first second none name strings (DictSet dict key value) table known same = none strings key table known.1 cc
 
 pub no_set_value : (first second : List ℕ) → IsNoKey second → (name : List ℕ) → IsNoCall name (codes "set" ∷ name ∷ first ∷ second ∷ [])
 no_set_value first second none name strings (DictGet dict key) table known same = cc

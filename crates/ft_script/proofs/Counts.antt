@@ -1,6 +1,6 @@
 -- Lines are those of calls with one number of strings.
-use Rattle.std.proofs.Common.{◌≡◌, ◌≢◌, ℕ, suc, ◌+◌, ◌<◌, ◌≤◌, List, [], ◌∷◌, ◌++◌, length, get_or, map, refl, sym, ap, ◌∙◌, subst, inl, inr, arith, below_more}
-use Rattle.std.specs.Prelude.{All, AllPairs, codes}
+use Rattle.std.proofs.Common.{◌≡◌, ◌≢◌, ℕ, suc, ◌<◌, ◌≤◌, List, [], ◌∷◌, ◌++◌, length, get_or, map, refl, sym, ap, ◌∙◌, inl, inr, arith, below_more}
+use Rattle.std.specs.Prelude.{All, AllPairs}
 use Rattle.std.specs.List.{flat_map}
 use Rattle.std.proofs.lemmas.List.{map-append}
 use Rattle.std.proofs.lemmas.List.Elements.{All-head, All-tail}
@@ -10,8 +10,8 @@ use Rattle.ft_model.specs.declared.data.Value.{Value}
 use Rattle.ft_model.specs.declared.data.Value.TheVariants as value
 use Rattle.ft_model.specs.declared.call.Call.{Call}
 use Rattle.ft_model.specs.declared.call.Call.TheVariants.{DictGet, DictSet}
-use Rattle.ft_script.specs.Scripts.{IsKeyIn, IsValueIn, IsCallIn, key_mentions, value_mentions, call_mentions, IsNumbered, IsNoScript, IsTextOf}
-use Rattle.ft_script.specs.Texts.{quoted, key_text, value_text}
+use Rattle.ft_script.specs.Scripts.{IsKeyIn, IsValueIn, IsCallIn, key_mentions, value_mentions, call_mentions, IsNumbered, IsNoScript}
+use Rattle.ft_script.specs.Texts.{key_text, value_text}
 use Rattle.ft_script.specs.Calls.{words_in, AreCalls, HasHead}
 use Rattle.ft_script.proofs.WordLemmas.{quoted_injective, integer_not_quoted}
 use Rattle.ft_script.proofs.Heads.{calls_below}

@@ -1,8 +1,8 @@
 -- Scripts by their parts, and texts that no script has.
-use Rattle.std.proofs.Common.{◌≡◌, ◌≢◌, ℕ, suc, ◌+◌, ◌-◌, ◌<◌, ◌≤◌, true, eqb, List, [], ◌∷◌, ◌++◌, length, get_or, take, map, refl, sym, ap, ◌∙◌, subst, arith, Option, Some, None, Bor}
-use Rattle.std.specs.Prelude.{All, codes, unwrap_or, MatchOption}
+use Rattle.std.proofs.Common.{◌≡◌, ◌≢◌, ℕ, ◌≤◌, true, eqb, List, [], ◌∷◌, ◌++◌, length, map, refl, sym, ap, ◌∙◌, subst, arith, Option, Some, None, Bor}
+use Rattle.std.specs.Prelude.{All, unwrap_or, MatchOption}
 use Rattle.std.specs.List.{slice_split}
-use Rattle.std.proofs.lemmas.Bool.{cases_eq, ne_eqb}
+use Rattle.std.proofs.lemmas.Bool.{ne_eqb}
 use Rattle.std.proofs.lemmas.List.{append-nil}
 use Rattle.std.proofs.lemmas.List.Elements.{All-head, All-tail, All-cons, All-nil}
 use Rattle.ft_model.specs.declared.call.Call.{Call}
@@ -11,9 +11,9 @@ use Rattle.ft_model.specs.declared.script.Declaration.{Declaration}
 use Rattle.ft_model.specs.declared.script.Kind.TheVariants as kind
 use Rattle.ft_model.specs.declared.script.Thread.{Thread}
 use Rattle.ft_model.specs.declared.script.Script.{Script}
-use Rattle.ft_script.specs.Scripts.{without_last_feed, lines_of, words_of, is_container_name, is_thread_name, is_letters, IsCallIn, IsScript, IsTextOf, IsNoScript, script_lines}
+use Rattle.ft_script.specs.Scripts.{without_last_feed, lines_of, words_of, is_container_name, is_thread_name, IsCallIn, IsScript, IsTextOf, IsNoScript, script_lines}
 use Rattle.ft_script.specs.Texts.{call_words}
-use Rattle.ft_script.specs.Calls.{IsTable, words_in, AreCalls, IsNoCalls, dict_line, thread_line, HasHead}
+use Rattle.ft_script.specs.Calls.{words_in, AreCalls, IsNoCalls, dict_line, thread_line, HasHead}
 
 -- ---- the line feed at the end
 

@@ -1,8 +1,7 @@
 //! Reads scripts.
-ghost use Rattle.ft_model.specs.Histories.{calls_of};
 ghost use Rattle.ft_script.specs.Calls.{AreCalls, HasHead, IsCallRead, IsKeyRead, IsNoCall, IsNoCalls, IsNoKey, Refuses, as_value, dict_line, thread_line};
 ghost use Rattle.ft_script.specs.Faults.{no_memory, unknown_word};
-ghost use Rattle.ft_script.specs.Scripts.{IsNoScript, IsTextOf, is_container_name, is_thread_name, lines_of, without_last_feed, words_of};
+ghost use Rattle.ft_script.specs.Scripts.{IsNoScript, IsTextOf, is_container_name, is_thread_name, without_last_feed, words_of};
 ghost use Rattle.ft_script.specs.Words.{rest_pieces};
 ghost use Rattle.std.specs.Prelude.{◌≡◌, ◌≢◌, ◌+◌, ◌^◌, ◌<◌, ◌≤◌, ◌⊎◌, ℕ, List, [], ◌∷◌, codes, length, map, option_copied, true, IfErr, IfNone, IfOk, IfSome};
 

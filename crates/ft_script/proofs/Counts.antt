@@ -1,8 +1,8 @@
--- Lines are those of calls with one number of strings.
+-- Lines are those of calls with one list of strings.
 use Rattle.std.proofs.Common.{◌≡◌, ◌≢◌, ℕ, suc, ◌<◌, ◌≤◌, List, [], ◌∷◌, ◌++◌, length, get_or, map, refl, sym, ap, ◌∙◌, inl, inr, arith, below_more}
 use Rattle.std.specs.Prelude.{All, AllPairs}
 use Rattle.std.specs.List.{flat_map}
-use Rattle.std.proofs.lemmas.List.{map-append}
+use Rattle.std.proofs.lemmas.List.{map-append, ext_get_or}
 use Rattle.std.proofs.lemmas.List.Elements.{All-head, All-tail}
 use Rattle.ft_model.specs.declared.data.Key.{Key}
 use Rattle.ft_model.specs.declared.data.Key.TheVariants as key
@@ -86,8 +86,13 @@ agree_more s t n below here k low = below_more (λ k. get_or s k [] ≡ get_or t
 not_again : (s t : List (List ℕ)) (n x : ℕ) → AllPairs (λ s t. s ≢ t) t → Agree s t n → x < n → n < length t → get_or s x [] ≢ get_or t n []
 not_again s t n x distinct agree low high same = distinct x n [] low high (sym (agree x low) ∙ same)
 
-same_counts : (s t : List (List ℕ)) → AllPairs (λ s t. s ≢ t) s → AllPairs (λ s t. s ≢ t) t → (n : ℕ) (xs ys : List ℕ) → IsNumbered n xs (length s) → IsNumbered n ys (length t) → texts_at s xs ≡ texts_at t ys → Agree s t n → length s ≡ length t
-same_counts s t s_distinct t_distinct n [] [] h g same agree = sym h ∙ g
+-- two tables are the same as far as the first goes
+record SameTables (s t : List (List ℕ)) : Type 0 where
+  pub count : length s ≡ length t
+  pub agree : Agree s t (length s)
+
+same_counts : (s t : List (List ℕ)) → AllPairs (λ s t. s ≢ t) s → AllPairs (λ s t. s ≢ t) t → (n : ℕ) (xs ys : List ℕ) → IsNumbered n xs (length s) → IsNumbered n ys (length t) → texts_at s xs ≡ texts_at t ys → Agree s t n → SameTables s t
+same_counts s t s_distinct t_distinct n [] [] h g same agree = record { count = sym h ∙ g; agree = λ k low. agree k (omega (arith, h)) }
 same_counts s t s_distinct t_distinct n [] (y ∷ ys) h g same agree = absurd cc
 same_counts s t s_distinct t_distinct n (x ∷ xs) [] h g same agree = absurd cc
 same_counts s t s_distinct t_distinct n (x ∷ xs) (y ∷ ys) h g same agree =
@@ -110,14 +115,20 @@ same_counts s t s_distinct t_distinct n (x ∷ xs) (y ∷ ys) h g same agree =
       ]
     ]
 
-pub same_count : (name : List ℕ) (lines : List (List (List ℕ))) (s t : List (List ℕ)) (cs ds : List Call) → AreCalls name s lines cs → AreCalls name t lines ds → length s ≡ length t
-same_count name lines s t cs ds a b =
+same_tables : (name : List ℕ) (lines : List (List (List ℕ))) (s t : List (List ℕ)) (cs ds : List Call) → AreCalls name s lines cs → AreCalls name t lines ds → SameTables s t
+same_tables name lines s t cs ds a b =
     same_counts s t a.table.distinct b.table.distinct 0 (flat_map call_mentions cs) (flat_map call_mentions ds) a.numbered b.numbered (same_texts s t name cs ds a.known b.known (sym a.text ∙ b.text)) (λ k low. absurd (omega arith))
+
+-- the lines' strings are the same, and in the same order
+pub same_strings : (name : List ℕ) (lines : List (List (List ℕ))) (s t : List (List ℕ)) (cs ds : List Call) → AreCalls name s lines cs → AreCalls name t lines ds → s ≡ t
+same_strings name lines s t cs ds a b =
+    let same : SameTables s t = same_tables name lines s t cs ds a b in
+    ext_get_or [] s t same.count same.agree
 
 -- lines with more strings than a script may have are no script's
 pub too_many_strings : (bytes dict thread : List ℕ) (lines : List (List (List ℕ))) (calls : List Call) (strings : List (List ℕ)) → HasHead bytes dict thread lines → AreCalls dict strings lines calls → 65536 < length strings → IsNoScript bytes
 too_many_strings bytes dict thread lines calls strings head are many script text =
     let below = calls_below bytes dict thread lines script head text in
-    let same : length strings ≡ length script.strings = same_count dict lines strings script.strings calls below.0 are below.3 in
+    let same : length strings ≡ length script.strings = ap length (same_strings dict lines strings script.strings calls below.0 are below.3) in
     let few : length script.strings ≤ 65536 = below.2 in
     omega arith

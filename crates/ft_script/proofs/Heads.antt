@@ -8,6 +8,7 @@ use Rattle.std.proofs.lemmas.List.Elements.{All-head, All-tail, All-cons, All-ni
 use Rattle.ft_model.specs.declared.call.Call.{Call}
 use Rattle.ft_model.specs.declared.call.Call.TheVariants.{DictGet, DictSet}
 use Rattle.ft_model.specs.declared.script.Declaration.{Declaration}
+use Rattle.ft_model.specs.declared.script.Kind.{Kind}
 use Rattle.ft_model.specs.declared.script.Kind.TheVariants as kind
 use Rattle.ft_model.specs.declared.script.Thread.{Thread}
 use Rattle.ft_model.specs.declared.script.Script.{Script}
@@ -33,10 +34,19 @@ without_feed bytes (Some text) same = rw same (feed_taken text.now)
 
 -- ---- the parts of a script
 
+-- a script of one dict and one thread
+abbrev pub plain_script : List ℕ → List ℕ → List Call → List (List ℕ) → Script
+plain_script dict thread calls strings = record {
+  containers = record { kind = kind.Dict; name = dict } ∷ [];
+  threads = record { name = thread; calls = calls } ∷ [];
+  strings = strings;
+}
+
 pub record HasParts (script : Script) : Type 0 where
   pub dict : List ℕ
   pub thread : List ℕ
   pub calls : List Call
+  pub is : script ≡ plain_script dict thread calls script.strings
   pub lines : script_lines script ≡ dict_line dict ∷ thread_line thread ∷ map (words_in dict script.strings) calls
   pub dict_name : is_container_name dict ≡ true
   pub thread_name : is_thread_name thread ≡ true
@@ -58,6 +68,9 @@ module _ (container : Declaration) (threads : List Thread) (strings : List (List
   all_words_in (call ∷ calls) known =
       rw (call_words_in call (All-head (IsCallIn strings) call calls known), all_words_in calls (All-tail (IsCallIn strings) call calls known)) refl
 
+is_dict : (k : Kind) → k ≡ kind.Dict
+is_dict kind.Dict = refl
+
 module _ (container : Declaration) (thread : Thread) (strings : List (List ℕ)) where
   abbrev script_of : Script
   script_of = record { containers = container ∷ []; threads = thread ∷ []; strings = strings }
@@ -68,11 +81,15 @@ module _ (container : Declaration) (thread : Thread) (strings : List (List ℕ))
       append-nil (map (call_words script_of) thread.calls) ∙ all_words_in container (thread ∷ []) strings thread.calls known in
       ap (λ (l : List (List (List ℕ))). dict_line container.name ∷ thread_line thread.name ∷ l) calls
 
+  is_plain : script_of ≡ plain_script container.name thread.name thread.calls strings
+  is_plain = ap (λ (k : Kind). let c : Declaration = record { kind = k; name = container.name } in let s : Script = record { containers = c ∷ []; threads = thread ∷ []; strings = strings } in s) (is_dict container.kind)
+
   parts_of_one : IsScript script_of → HasParts script_of
   parts_of_one form = record {
     dict = container.name;
     thread = thread.name;
     calls = thread.calls;
+    is = is_plain;
     lines = lines_in form.calls;
     dict_name = All-head (λ (c : Declaration). is_container_name c.name ≡ true) container [] form.dict_name;
     thread_name = All-head (λ (t : Thread). is_thread_name t.name ≡ true) thread [] form.thread_name;
@@ -93,13 +110,13 @@ parts_by (container ∷ []) (thread ∷ []) strings form = parts_of_one containe
 parts_by (container ∷ []) (thread ∷ other ∷ threads) strings form = absurd (omega (arith, form.one_thread))
 parts_by (container ∷ other ∷ containers) threads strings form = absurd (omega (arith, form.one_dict))
 
-parts : (script : Script) → IsScript script → HasParts script
+pub parts : (script : Script) → IsScript script → HasParts script
 parts script form = parts_by script.containers script.threads script.strings form
 
 -- ---- texts that no script has
 
 -- a script's text by lines
-text_lines : (bytes : List ℕ) (script : Script) (text : IsTextOf bytes script) → map words_of (lines_of bytes) ≡ dict_line (parts script text.form).dict ∷ thread_line (parts script text.form).thread ∷ map (words_in (parts script text.form).dict script.strings) (parts script text.form).calls
+pub text_lines : (bytes : List ℕ) (script : Script) (text : IsTextOf bytes script) → map words_of (lines_of bytes) ≡ dict_line (parts script text.form).dict ∷ thread_line (parts script text.form).thread ∷ map (words_in (parts script text.form).dict script.strings) (parts script text.form).calls
 text_lines bytes script text = text.lines ∙ (parts script text.form).lines
 
 pub lines_cut : (bytes text first : List ℕ) (rest : List (List ℕ)) → text ≡ without_last_feed bytes → slice_split (λ b. eqb b 10) text ≡ first ∷ rest → map words_of (lines_of bytes) ≡ words_of first ∷ map words_of rest

@@ -1,3 +1,7 @@
-pub mod Printed
-pub mod WordLemmas
+pub mod CallLemmas
+pub mod Counts
+pub mod Heads
 pub mod OneScript
+pub mod Printed
+pub mod StringLemmas
+pub mod WordLemmas

@@ -2,3 +2,4 @@ pub mod Texts
 pub mod Faults
 pub mod Scripts
 pub mod Words
+pub mod Calls

@@ -1,3 +1,7 @@
+ghost use Rattle.ft_script.specs.Faults.{no_memory};
+ghost use Rattle.std.specs.Prelude.{◌≡◌, ◌==◌};
+
+use std::alloc::{AllocError, AllocFailed};
 use thiserror::Error;
 
 /// A limit that a script passes.
@@ -28,12 +32,40 @@ pub struct ScriptFault {
 }
 
 impl ScriptFault {
-    ghost use Rattle.std.specs.Prelude.{◌≡◌, ◌==◌};
+    /// What is told of every text that is no script.
+    pub const UNKNOWN_WORD: ScriptFault = ScriptFault {
+        line: 1,
+        kind: 2,
+        which: None,
+    };
 
-    /// Whether the fault is want of memory, and not the text's.
+    /// Memory ran out.
+    pub const NO_MEMORY: ScriptFault = ScriptFault {
+        line: 1,
+        kind: 14,
+        which: None,
+    };
+
+    /// Whether memory ran out, which says nothing of the text.
     pub fn is_memory(&self) -> bool
         ensures { result ≡ (self.now.kind == 14) }
     {
-        self.kind == 14
+        self.kind == Self::NO_MEMORY.kind
+    }
+}
+
+impl From<AllocError> for ScriptFault {
+    ghost from_gives = { λ _ fault. fault ≡ no_memory };
+
+    fn from(_: AllocError) -> Self {
+        ScriptFault::NO_MEMORY
+    }
+}
+
+impl<T: Drop> From<AllocFailed<T>> for ScriptFault {
+    ghost from_gives = { λ _ fault. fault ≡ no_memory };
+
+    fn from(_: AllocFailed<T>) -> Self {
+        ScriptFault::NO_MEMORY
     }
 }

@@ -4,6 +4,7 @@
 mod fault;
 mod parser;
 mod print;
+mod strings;
 mod words;
 
 pub use fault::{ScriptFault, Which};

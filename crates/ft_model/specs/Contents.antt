@@ -41,3 +41,14 @@ dict_set dict key value =
     if has_key dict.pairs key
     then record { next = dict.next; pairs = with_value dict.pairs key value }
     else record { next = dict.next + 1; pairs = dict.pairs ++ record { serial = dict.next; key = key; value = value } ∷ [] }
+
+-- a new value at a key that is there: keys and serials stand as they stood, and no serial is drawn (Python manual, Mapping Types: updating a key does not affect the order)
+pub record KeepsPlaces (old new : DictContent) : Type 0 where
+  pub keys : map (λ pair. pair.key) new.pairs ≡ map (λ pair. pair.key) old.pairs
+  pub serials : map (λ pair. pair.serial) new.pairs ≡ map (λ pair. pair.serial) old.pairs
+  pub next : new.next ≡ old.next
+
+-- a key that was not there goes last with the serial that it draws (Python manual, Mapping Types: keys added after deletion are inserted at the end)
+pub record GoesLast (old new : DictContent) (key : Key) (value : Value) : Type 0 where
+  pub pairs : new.pairs ≡ old.pairs ++ record { serial = old.next; key = key; value = value } ∷ []
+  pub next : new.next ≡ old.next + 1

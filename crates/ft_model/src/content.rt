@@ -1,4 +1,4 @@
-ghost use Rattle.std.specs.Prelude.{◌≡◌, ◌≢◌, ℕ, ◌^◌, ◌<◌, OnOk, OnErr, Some, position};
+ghost use Rattle.std.specs.Prelude.{◌≡◌, ◌≢◌, ℕ, ◌^◌, ◌<◌, IsTrue, OnOk, OnErr, Some, position, false};
 ghost use Rattle.ft_model.specs.Keys.{same_key};
 
 use crate::data::{Key, Value};
@@ -31,7 +31,9 @@ impl Model for Dict {
 }
 
 impl Dict {
-    ghost use Rattle.ft_model.specs.Contents.{empty_dict, dict_get, dict_set};
+    ghost use Rattle.ft_model.specs.declared.data.Key.{Key};
+    ghost use Rattle.ft_model.specs.Contents.{empty_dict, IsDict, dict_get, has_key, dict_set};
+    ghost use Rattle.ft_model.specs.Contents.{KeepsPlaces, GoesLast};
 
     pub fn new(alloc: Global) -> Self
         ensures { result ≡ empty_dict }
@@ -44,7 +46,8 @@ impl Dict {
 
     /// The pairs in insertion order.
     pub fn pairs(&self) -> &[DictPair]
-        ensures { result.now ≡ self.now.pairs }
+        ensures pairs { result.now ≡ self.now.pairs }
+        ensures is_dict { IsDict self.now.next self.now.pairs }
     {
         &self.pairs
     }
@@ -64,6 +67,12 @@ impl Dict {
         requires { self.old.next < 2 ^ 63 }
         ensures ok { OnOk result (self.new ≡ dict_set self.old key value) }
         ensures err { OnErr result (self.new ≡ self.old) }
+
+        // What it means for who reads the dict.
+        ensures reads_back { OnOk result (dict_get self.new.pairs key ≡ Some value) }
+        ensures others { OnOk result ((other : Key) → other ≢ key → dict_get self.new.pairs other ≡ dict_get self.old.pairs other) }
+        ensures keeps_places { OnOk result (IsTrue (has_key self.old.pairs key) → KeepsPlaces self.old self.new) }
+        ensures goes_last { OnOk result (has_key self.old.pairs key ≡ false → GoesLast self.old self.new key value) }
     {
         match place_of(&self.pairs, key) {
             Some(place) => self.pairs[place].value = value,

@@ -5,15 +5,20 @@ use crate::data::{Key, Value};
 use std::alloc::{AllocError, Global};
 use std::marker::Model;
 
-/// A pair of a dict, with the serial that it drew when its key was added.
+/// A pair of a dict.
 #[derive(Clone, Copy, Debug, PartialEq, Eq, Hash)]
 pub struct DictPair {
+    /// The serial that the dict drew when the key was added. A new value at the key keeps it.
     pub serial: u64,
+    /// The key, which no other pair of the dict has.
     pub key: Key,
+    /// The value that was last stored at the key.
     pub value: Value,
 }
 
-/// What a dict has: its pairs in insertion order and the next serial.
+/// What a dict has: its pairs in insertion order and the next serial. A new value at a key keeps
+/// the key's place, and a key that is added goes last (Python manual, Mapping Types). No serial is
+/// drawn twice.
 #[derive(Debug, Drop)]
 pub struct Dict {
     next: u64,
@@ -35,6 +40,7 @@ impl Dict {
     ghost use Rattle.ft_model.specs.Contents.{empty_dict, IsDict, dict_get, has_key, dict_set};
     ghost use Rattle.ft_model.specs.Contents.{KeepsPlaces, GoesLast};
 
+    /// `{}`: an empty dict, which takes no memory.
     pub fn new(alloc: Global) -> Self
         ensures { result ≡ empty_dict }
     {
@@ -44,7 +50,7 @@ impl Dict {
         }
     }
 
-    /// The pairs in insertion order.
+    /// The pairs in insertion order (Python manual, Mapping Types), so in the order of serials.
     pub fn pairs(&self) -> &[DictPair]
         ensures pairs { result.now ≡ self.now.pairs }
         ensures is_dict { IsDict self.now.next self.now.pairs }
@@ -52,7 +58,7 @@ impl Dict {
         &self.pairs
     }
 
-    /// `d[k]`, or `None` where the key isn't there.
+    /// `d[k]`, or `None` where the key isn't there (Python manual, Mapping Types).
     pub fn get(&self, key: Key) -> Option<Value>
         ensures { result ≡ dict_get self.now.pairs key }
     {
@@ -62,7 +68,7 @@ impl Dict {
             .map(|pair| pair.value)
     }
 
-    /// `d[k] = v`. An `Err` changes nothing.
+    /// `d[k] = v` (Python manual, Mapping Types). An `Err` changes nothing.
     pub fn set(&mut self, key: Key, value: Value) -> Result<(), AllocError>
         requires { self.old.next < 2 ^ 63 }
         ensures ok { OnOk result (self.new ≡ dict_set self.old key value) }
@@ -99,5 +105,6 @@ fn place_of(pairs: &[DictPair], key: Key) -> Option<usize>
 /// What a container has, by its kind.
 #[derive(Debug, Drop)]
 pub enum Content {
+    /// A dict's pairs and its next serial.
     Dict(Dict),
 }

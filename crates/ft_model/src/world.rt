@@ -40,6 +40,7 @@ impl World {
         Ok(World { contents })
     }
 
+    /// What each container has, in the order of declaration.
     pub fn contents(&self) -> &[Content]
         ensures { result.now ≡ self.now }
     {
@@ -51,7 +52,9 @@ impl World {
 #[derive(Clone, Copy, Debug, PartialEq, Eq, Hash, Default)]
 pub struct Hands;
 
-/// Answers a call as the plain containers of one thread do. An `Err` changes nothing.
+/// Answers a call as the plain containers of one thread do: `d[k]` and `d[k] = v` as the Python
+/// manual says under Mapping Types. An exception is a reply, and an `Err` says that memory ran out:
+/// neither changes anything.
 pub fn apply(world: &mut World, hands: &mut Hands, call: &Call) -> Result<Reply, AllocError>
     requires declared { IsDeclared world.old call.now }
     requires room { HasRoom world.old call.now }

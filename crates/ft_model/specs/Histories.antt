@@ -1,5 +1,5 @@
 -- What makes a list of answered calls a legal history of a script.
-use Rattle.std.specs.Prelude.{◌≡◌, ℕ, Bool, List, [], map, filter, fold, take, length, All, Option, Some, None, slice_get, ◌==◌}
+use Rattle.std.specs.Prelude.{◌≡◌, ℕ, List, [], map, filter, fold, take, length, All, Some, None, slice_get, ◌==◌}
 use Rattle.std.specs.declared.cmp.Ordering.{Ordering}
 use Rattle.std.specs.Ordering.{nat_cmp, bool_cmp, ordering_then}
 use Rattle.std.specs.Option.{option_map_or}

@@ -1,4 +1,4 @@
-ghost use Rattle.std.specs.Prelude.{◌≡◌, ◌≢◌, ℕ, ◌^◌, ◌<◌, IsTrue, OnOk, OnErr, Some, position, false};
+ghost use Rattle.std.specs.Prelude.{◌≡◌, ◌≢◌, ℕ, ◌^◌, ◌<◌, IsTrue, IfSome, IfNone, All, Any, OnOk, OnErr, Some, position, false};
 ghost use Rattle.ft_model.specs.Keys.{same_key};
 
 use crate::data::{Key, Value};
@@ -60,7 +60,9 @@ impl Dict {
 
     /// `d[k]`, or `None` where the key isn't there (Python manual, Mapping Types).
     pub fn get(&self, key: Key) -> Option<Value>
-        ensures { result ≡ dict_get self.now.pairs key }
+        ensures answer { result ≡ dict_get self.now.pairs key }
+        ensures found { IfSome result (λ value. Any (λ pair. (pair.key ≡ key) × (pair.value ≡ value)) self.now.pairs) }
+        ensures missing { IfNone result (All (λ pair. pair.key ≢ key) self.now.pairs) }
     {
         self.pairs
             .iter()

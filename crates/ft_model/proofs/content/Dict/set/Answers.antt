@@ -1,8 +1,13 @@
-use Rattle.std.proofs.Common.{◌≡◌, sym, ap, ◌∙◌, Some, None, position}
-use Rattle.ft_model.specs.Contents.{DictContent, is_at, dict_set}
-use Rattle.ft_model.proofs.Dicts.{set_found, set_missing, IsDict-push}
+use Rattle.std.proofs.Common.{sym, ap, ◌∙◌}
+use Rattle.ft_model.specs.Contents.{DictContent, dict_set}
+use Rattle.ft_model.proofs.Dicts.{set_found, set_missing, IsDict-push, IsDict-set}
 use Rattle.ft_model.proofs.DictLaws.{set-reads_back, set-others, set-keeps_places, set-goes_last}
 use Rattle.ft_model.proofs.content.Dict.set.Goals as goal
+
+pub invariant_of-self : goal.invariant_of-self
+invariant_of-self c =
+    let found = sym (rw c.deref.ensures.value at c.in-Some.ensures) in
+    IsDict-set c.self.inside.next c.self.inside.pairs.items c.args.key c.args.value c.in-Some.place c.index_mut.result.now c.self.invariant found c.index_mut.ensures.value
 
 pub invariant_of-self-in-None : goal.invariant_of-self-in-None
 invariant_of-self-in-None c =

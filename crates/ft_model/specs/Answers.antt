@@ -23,7 +23,7 @@ abbrev pub value_reply : Option Value → Reply
 value_reply None = reply.Raised NoKey
 value_reply (Some value) = reply.Value value
 
--- the reply of the plain containers, one case for each call
+-- what the plain containers of one thread reply to a call, and what it leaves
 abbrev pub answer : List Content → Hands → Call → Answer
 -- d[k] (Python manual, Mapping Types: raises a KeyError if key is not in the map)
 answer world hands (DictGet dict key) = record { reply = value_reply (dict_get (dict_at world dict).pairs key); world = world; hands = hands }

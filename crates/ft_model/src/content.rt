@@ -78,7 +78,8 @@ impl Dict {
 
         // What it means for who reads the dict.
         ensures reads_back { OnOk result (dict_get self.new.pairs key ≡ Some value) }
-        ensures others { OnOk result ((other : Key) → other ≢ key → dict_get self.new.pairs other ≡ dict_get self.old.pairs other) }
+        ensures others { OnOk result ((other : Key) → other ≢ key →
+            dict_get self.new.pairs other ≡ dict_get self.old.pairs other) }
         ensures keeps_places { OnOk result (IsTrue (has_key self.old.pairs key) → KeepsPlaces self.old self.new) }
         ensures goes_last { OnOk result (has_key self.old.pairs key ≡ false → GoesLast self.old self.new key value) }
     {

@@ -67,7 +67,8 @@ pub fn apply(world: &mut World, hands: &mut Hands, call: &Call) -> Result<Reply,
     ensures exceptions { IfOk result (λ reply. IsTrue (is_raised reply) → world.new ≡ world.old) }
     ensures only_writes { IfOk result (λ reply. is_write call.now reply ≡ false → world.new ≡ world.old) }
     ensures containers { OnOk result (length world.new ≡ length world.old) }
-    ensures others { OnOk result ((other : ℕ) → other ≢ container_of call.now → slice_get world.new other ≡ slice_get world.old other) }
+    ensures others { OnOk result ((other : ℕ) → other ≢ container_of call.now →
+        slice_get world.new other ≡ slice_get world.old other) }
     ensures hands_stay { hands.new ≡ hands.old }
 {
     match *call {

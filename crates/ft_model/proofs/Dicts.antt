@@ -1,10 +1,9 @@
 -- What a dict has after a call.
-use Rattle.std.proofs.Common.{◌≡◌, ◌≢◌, ℕ, ◌+◌, ◌<◌, ◌≤◌, Bool, true, false, cond, List, [], ◌∷◌, ◌++◌, length, get_or, set, map, Option, Some, None, refl, sym, ap, ◌∙◌, subst, arith, rules, inl, inr, position, eqb, ltb}
-use Rattle.std.specs.Prelude.{AllPairs, All, nat_lt, pos, if◌then◌else◌}
-use Rattle.std.specs.List.{list_any, position_or_len}
+use Rattle.std.proofs.Common.{◌≡◌, ◌≢◌, ℕ, ◌+◌, ◌<◌, true, false, List, [], ◌∷◌, ◌++◌, length, get_or, set, Some, None, refl, sym, ap, ◌∙◌, arith, inl, inr, position, ltb}
+use Rattle.std.specs.Prelude.{AllPairs, All, pos, if◌then◌else◌}
+use Rattle.std.specs.List.{position_or_len}
 use Rattle.std.proofs.lemmas.Bool.{cases_eq, cases_lt, lt-ltb, false≢true}
-use Rattle.std.proofs.lemmas.Bool.Decides.{nat_tests}
-use Rattle.std.proofs.lemmas.List.{same_lists, get_or-map, get_or-set_same, get_or-set_other, length-map, length-set, get_or_default}
+use Rattle.std.proofs.lemmas.List.{same_lists, get_or-map, get_or-set_same, get_or-set_other, length-map, length-set, get_or_default, get_or_read}
 use Rattle.std.proofs.lemmas.List.Quantifiers.{position-Some, all_pairs_push}
 use Rattle.std.proofs.lemmas.List.Elements.{All-push}
 use Rattle.std.proofs.lemmas.List.Folds.{list_any_none, list_any-from_Any}
@@ -92,4 +91,25 @@ IsDict-push next pairs key value is_dict none =
       distinct = all_pairs_push (λ (a b : DictPair). a.key ≢ b.key) pairs pair is_dict.distinct (λ k d low same. false≢true (sym (missing pairs key none k d low) ∙ (ap (λ x. same_key x key) same ∙ same_key-refl key)));
       rising = all_pairs_push (λ (a b : DictPair). a.serial < b.serial) pairs pair is_dict.rising (λ k d low. is_dict.below k d low);
       below = All-push (λ (p : DictPair). p.serial < next + 1) pairs pair (λ k d low. let b : (get_or pairs k d).serial < next = is_dict.below k d low in omega arith) (omega arith);
+    }
+
+-- a write at a place keeps at each place what it keeps at that one
+kept_at : {X : Type 0} (f : DictPair → X) (pairs : List DictPair) (i k : ℕ) (new d : DictPair) → i < length pairs → f new ≡ f (get_or pairs i d) → f (get_or (set pairs i new) k d) ≡ f (get_or pairs k d)
+kept_at f pairs i k new d low is =
+    elim (cases_eq k i) [
+      | inl same ↦ ap (λ j. f (get_or (set pairs i new) j d)) same ∙ ap f (get_or-set_same pairs i new d low) ∙ is ∙ ap (λ j. f (get_or pairs j d)) (sym same)
+      | inr differ ↦ ap f (get_or-set_other pairs i k new d differ)
+    ]
+
+pub IsDict-set : (next : ℕ) (pairs : List DictPair) (key : Key) (value : Value) (i : ℕ) (pair : DictPair) → IsDict next pairs → position (is_at key) pairs ≡ Some i → pair ≡ get_or pairs i pair → IsDict next (set pairs i (with_new pair value))
+IsDict-set next pairs key value i pair is_dict found at =
+    let new : DictPair = with_new pair value in
+    let low : i < length pairs = (position-Some (is_at key) pairs i pair found).0 in
+    let same_length : length (set pairs i new) ≡ length pairs = length-set pairs i new in
+    let key_at : (k : ℕ) (d : DictPair) → (get_or (set pairs i new) k d).key ≡ (get_or pairs k d).key = λ k d. kept_at (λ (p : DictPair). p.key) pairs i k new d low (ap (λ (p : DictPair). p.key) (get_or_read pairs i pair low at d)) in
+    let serial_at : (k : ℕ) (d : DictPair) → (get_or (set pairs i new) k d).serial ≡ (get_or pairs k d).serial = λ k d. kept_at (λ (p : DictPair). p.serial) pairs i k new d low (ap (λ (p : DictPair). p.serial) (get_or_read pairs i pair low at d)) in
+    record {
+      distinct = λ j k d lt within same. is_dict.distinct j k d lt (omega arith) (sym (key_at j d) ∙ same ∙ key_at k d);
+      rising = λ j k d lt within. rw (serial_at j d, serial_at k d) (is_dict.rising j k d lt (omega arith));
+      below = λ k d within. rw (serial_at k d) (is_dict.below k d (omega arith));
     }

@@ -1,5 +1,5 @@
 -- When two keys are the same: of one kind, with one payload. (Python manual, Mapping Types: keys that compare equal are one key)
-use Rattle.std.specs.Prelude.{ℕ, Bool, false, nat_eq}
+use Rattle.std.specs.Prelude.{Bool, false, nat_eq}
 use Rattle.std.specs.Ordering.{int_eq}
 use Rattle.ft_model.specs.declared.data.Key.{Key}
 use Rattle.ft_model.specs.declared.data.Key.TheVariants.{Int, Text}

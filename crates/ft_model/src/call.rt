@@ -1,18 +1,32 @@
 use crate::data::{Key, Value};
 
-/// A call of a script, with its containers by their places in the script's declarations.
+/// A call of a script. It names its container by its place in the script's declarations.
 #[derive(Clone, Copy, Debug, PartialEq, Eq, Hash)]
 pub enum Call {
-    /// `d[k]` (Python manual, Mapping Types).
-    DictGet { dict: u32, key: Key },
-    /// `d[k] = v` (Python manual, Mapping Types).
-    DictSet { dict: u32, key: Key, value: Value },
+    /// `d[k]`: the value at the key, or a KeyError where the key isn't there (Python manual,
+    /// Mapping Types).
+    DictGet {
+        /// The container.
+        dict: u32,
+        /// What is looked up.
+        key: Key,
+    },
+    /// `d[k] = v`: sets the value at the key, which goes last where it wasn't there (Python manual,
+    /// Mapping Types).
+    DictSet {
+        /// The container.
+        dict: u32,
+        /// Where the value goes.
+        key: Key,
+        /// What is stored.
+        value: Value,
+    },
 }
 
 /// An exception, by its class.
 #[derive(Clone, Copy, Debug, PartialEq, Eq, Hash)]
 pub enum Raise {
-    /// KeyError
+    /// KeyError: a mapping has no such key (Python manual, Mapping Types).
     NoKey,
 }
 
@@ -21,7 +35,9 @@ pub enum Raise {
 pub enum Reply {
     /// The call was done, and has nothing to show.
     Done,
+    /// The value that the call found.
     Value(Value),
+    /// The exception that the call raised.
     Raised(Raise),
 }
 

@@ -2,17 +2,23 @@
 #[derive(Clone, Copy, Debug, PartialEq, Eq, Hash)]
 pub struct Sym(pub u32);
 
-/// What a dict is looked up by: an integer of 64 bits or a string.
+/// What a dict is looked up by: an integer of 64 bits or a string. Two keys that compare equal are
+/// one key (Python manual, Mapping Types), and an integer never equals a string.
 #[derive(Clone, Copy, Debug, PartialEq, Eq, Hash)]
 pub enum Key {
+    /// An integer.
     Int(i64),
+    /// A string.
     Text(Sym),
 }
 
 /// What a container holds: `None`, an integer of 64 bits or a string.
 #[derive(Clone, Copy, Debug, PartialEq, Eq, Hash)]
 pub enum Value {
+    /// `None`.
     Nothing,
+    /// An integer.
     Int(i64),
+    /// A string.
     Text(Sym),
 }

@@ -11,7 +11,9 @@ pub struct Entry {
     pub stamp: u64,
     /// Whether the call is a write.
     pub wrote: bool,
+    /// The call, as the script has it.
     pub call: Call,
+    /// What the call answered.
     pub reply: Reply,
     /// The thread that held a lock when this call first could not go on, where that happened.
     pub waited: Option<u32>,

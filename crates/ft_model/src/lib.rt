@@ -8,6 +8,8 @@ mod data;
 mod entry;
 mod script;
 mod sequence;
+#[cfg(test)]
+mod tests;
 mod world;
 
 pub use call::{Call, Raise, Reply};

@@ -1,7 +1,7 @@
-ghost use Rattle.std.specs.Prelude.{◌≡◌, ℕ, ◌+◌, ◌^◌, ◌<◌, length, slice_set, IfOk, OnOk, OnErr};
+ghost use Rattle.std.specs.Prelude.{◌≡◌, ◌≢◌, ℕ, ◌+◌, ◌^◌, ◌<◌, length, slice_get, slice_set, false, IsTrue, IfOk, OnOk, OnErr};
 ghost use Rattle.ft_model.specs.Contents.{dict_get, dict_set};
-ghost use Rattle.ft_model.specs.Worlds.{dict_at, start_world, IsDeclared, HasRoom};
-ghost use Rattle.ft_model.specs.Answers.{answer};
+ghost use Rattle.ft_model.specs.Worlds.{dict_at, start_world, container_of, IsDeclared, HasRoom};
+ghost use Rattle.ft_model.specs.Answers.{answer, is_raised, is_write};
 ghost use Rattle.ft_model.specs.declared.content.Content.TheVariants as content;
 
 use crate::call::{Call, Raise, Reply};
@@ -40,6 +40,7 @@ impl World {
         Ok(World { contents })
     }
 
+    /// What each container has, in the order of declaration.
     pub fn contents(&self) -> &[Content]
         ensures { result.now ≡ self.now }
     {
@@ -51,7 +52,9 @@ impl World {
 #[derive(Clone, Copy, Debug, PartialEq, Eq, Hash, Default)]
 pub struct Hands;
 
-/// Answers a call as the plain containers of one thread do. An `Err` changes nothing.
+/// Answers a call as the plain containers of one thread do: `d[k]` and `d[k] = v` as the Python
+/// manual says under Mapping Types. An exception is a reply, and an `Err` says that memory ran out:
+/// neither changes anything.
 pub fn apply(world: &mut World, hands: &mut Hands, call: &Call) -> Result<Reply, AllocError>
     requires declared { IsDeclared world.old call.now }
     requires room { HasRoom world.old call.now }
@@ -59,6 +62,14 @@ pub fn apply(world: &mut World, hands: &mut Hands, call: &Call) -> Result<Reply,
     ensures world { OnOk result (world.new ≡ (answer world.old hands.old call.now).world) }
     ensures hands { OnOk result (hands.new ≡ (answer world.old hands.old call.now).hands) }
     ensures err { OnErr result ((world.new ≡ world.old) × (hands.new ≡ hands.old)) }
+
+    // What a call can change.
+    ensures exceptions { IfOk result (λ reply. IsTrue (is_raised reply) → world.new ≡ world.old) }
+    ensures only_writes { IfOk result (λ reply. is_write call.now reply ≡ false → world.new ≡ world.old) }
+    ensures containers { OnOk result (length world.new ≡ length world.old) }
+    ensures others { OnOk result ((other : ℕ) → other ≢ container_of call.now →
+        slice_get world.new other ≡ slice_get world.old other) }
+    ensures hands_stay { hands.new ≡ hands.old }
 {
     match *call {
         Call::DictGet { dict, key } => Ok(match read(&world.contents, dict, key) {

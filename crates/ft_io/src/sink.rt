@@ -11,7 +11,7 @@ pub trait Sink {
     /// How often a call has failed. It never falls, and stands still at 2^64 - 1.
     ghost faults: { Self → ℕ };
 
-    /// Puts some of the front of `piece`, and answers how many bytes were put: at least one, where
+    /// Puts a prefix of `piece`, and answers how many bytes were put: at least one, where
     /// `piece` isn't empty.
     fn put(&mut self, piece: &[u8]) -> Result<usize, Failed>
         ensures count { IfOk result (λ n. n ≤ length piece.now) }

@@ -23,16 +23,16 @@ use Rattle.ft_runner.proofs.StreamLemmas.{Gives-none, Receives-none, Receives-th
 pub Puts-then : (a b c : Stream) (x y : List ℕ) (r : Result (Unit {0}) Failed) → Receives a x false b → Puts b y r c → Puts a (x ++ y) r c
 Puts-then a b c x y (Ok u) p q = Receives-then a b c x y false p q
 Puts-then a b c x y (Err e) p q = record {
-  front = x ++ q.front;
-  is_front = (q.is_front.0, append_assoc x q.front q.is_front.0 ∙ ap (λ (bytes : List ℕ). x ++ bytes) q.is_front.1);
-  receives = Receives-then a b c x q.front true p q.receives;
+  prefix = x ++ q.prefix;
+  is_prefix = (q.is_prefix.0, append_assoc x q.prefix q.is_prefix.0 ∙ ap (λ (bytes : List ℕ). x ++ bytes) q.is_prefix.1);
+  receives = Receives-then a b c x q.prefix true p q.receives;
 }
 
 -- a part of a text is one of any longer text
 pub IsPart-longer : (a b : Stream) (x y : List ℕ) (failed : Bool) → IsPart a x failed b → IsPart a (x ++ y) failed b
 IsPart-longer a b x y failed p = record {
-  front = p.front;
-  is_front = (p.is_front.0 ++ y, sym (append_assoc p.front p.is_front.0 y) ∙ ap (λ (bytes : List ℕ). bytes ++ y) p.is_front.1);
+  prefix = p.prefix;
+  is_prefix = (p.is_prefix.0 ++ y, sym (append_assoc p.prefix p.is_prefix.0 y) ∙ ap (λ (bytes : List ℕ). bytes ++ y) p.is_prefix.1);
   receives = p.receives;
 }
 
@@ -101,7 +101,7 @@ module _ (bytes : List ℕ) (script : Script) (history : List Entry) (world : Li
   history_of = record { script = script; read = read; legal = legal; written = ap (λ (w : List Content). flat_map (entry_line script) history ++ world_text script w) last }
 
   pub run_failed : (sink sink' : Stream) → IsPart sink text true sink' → IsRunOf bytes sink sink' fault.Write history
-  run_failed sink sink' part = record { put = part.front; writing = part.receives; means = (text, history_of, part.is_front); cause = refl }
+  run_failed sink sink' part = record { put = part.prefix; writing = part.receives; means = (text, history_of, part.is_prefix); cause = refl }
 
   pub run_short : (sink sink' : Stream) → IsPart sink text false sink' → IsRunOf bytes sink sink' fault.Memory []
-  run_short sink sink' part = record { put = part.front; writing = part.receives; means = (refl, inr (history, text, history_of, part.is_front)); cause = refl }
+  run_short sink sink' part = record { put = part.prefix; writing = part.receives; means = (refl, inr (history, text, history_of, part.is_prefix)); cause = refl }

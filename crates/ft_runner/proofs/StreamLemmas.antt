@@ -75,19 +75,19 @@ IsBuffered-push a b buffer buffer' text more p e = record {
 -- what was put is a part of any longer text
 pub IsPart-put : (a b : Stream) (buffer text more : List ℕ) → IsBuffered a b buffer text → IsPart a (text ++ more) false b
 IsPart-put a b buffer text more p = record {
-  front = p.put;
-  is_front = (buffer ++ more, sym (append_assoc p.put buffer more) ∙ ap (λ (bytes : List ℕ). bytes ++ more) p.text_is);
+  prefix = p.put;
+  is_prefix = (buffer ++ more, sym (append_assoc p.put buffer more) ∙ ap (λ (bytes : List ℕ). bytes ++ more) p.text_is);
   receives = p.receives;
 }
 
 -- and so it is with a part of the buffer
 pub IsPart-then : (a b c : Stream) (buffer text more : List ℕ) → IsBuffered a b buffer text → IsPart b buffer true c → IsPart a (text ++ more) true c
 IsPart-then a b c buffer text more p q =
-    let front : (p.put ++ q.front) ++ q.is_front.0 ≡ text = append_assoc p.put q.front q.is_front.0 ∙ ap (λ (bytes : List ℕ). p.put ++ bytes) q.is_front.1 ∙ p.text_is in
+    let prefix : (p.put ++ q.prefix) ++ q.is_prefix.0 ≡ text = append_assoc p.put q.prefix q.is_prefix.0 ∙ ap (λ (bytes : List ℕ). p.put ++ bytes) q.is_prefix.1 ∙ p.text_is in
     record {
-      front = p.put ++ q.front;
-      is_front = (q.is_front.0 ++ more, sym (append_assoc (p.put ++ q.front) q.is_front.0 more) ∙ ap (λ (bytes : List ℕ). bytes ++ more) front);
-      receives = Receives-then a b c p.put q.front true p.receives q.receives;
+      prefix = p.put ++ q.prefix;
+      is_prefix = (q.is_prefix.0 ++ more, sym (append_assoc (p.put ++ q.prefix) q.is_prefix.0 more) ∙ ap (λ (bytes : List ℕ). bytes ++ more) prefix);
+      receives = Receives-then a b c p.put q.prefix true p.receives q.receives;
     }
 
 -- the lines of the first entries, of the others, and what follows

@@ -95,8 +95,8 @@ pub record Receives (before : Stream) (put : List ℕ) (failed : Bool) (after : 
   pub faults : after.faults ≡ (if failed then raised before.faults else before.faults)
 
 -- the first bytes of a text
-abbrev pub IsFront : List ℕ → List ℕ → Type 0
-IsFront front text = (rest : List ℕ) × (front ++ rest ≡ text)
+abbrev pub IsPrefix : List ℕ → List ℕ → Type 0
+IsPrefix prefix text = (rest : List ℕ) × (prefix ++ rest ≡ text)
 
 -- ---- reading and writing
 
@@ -123,11 +123,11 @@ abbrev pub Reads : Stream → Result (Vec ℕ Global) Fault → Stream → Type 
 Reads before (Ok bytes) after = IsWholeInput before bytes.items after
 Reads before (Err fault) after = StopsReading fault before after
 
--- the front of a text goes into a sink, which fails or not
+-- a prefix of a text goes into a sink, which fails or not
 pub record IsPart (before : Stream) (text : List ℕ) (failed : Bool) (after : Stream) : Type 0 where
-  pub front : List ℕ
-  pub is_front : IsFront front text
-  pub receives : Receives before front failed after
+  pub prefix : List ℕ
+  pub is_prefix : IsPrefix prefix text
+  pub receives : Receives before prefix failed after
 
 abbrev pub Puts : Stream → List ℕ → Result (Unit {0}) Failed → Stream → Type 0
 Puts before text (Ok u) after = Receives before text false after
@@ -145,7 +145,7 @@ Writes before text (Ok u) after = Receives before text false after
 Writes before text (Err write.Failed) after = IsPart before text true after
 Writes before text (Err write.Memory) after = IsPart before text false after
 
--- a sink gets a text: whole, or its front where the sink failed
+-- a sink gets a text: whole, or a prefix where the sink failed
 abbrev pub Told : Stream → List ℕ → Stream → Type 0
 Told before text after = Receives before text false after ⊎ IsPart before text true after
 
@@ -161,12 +161,12 @@ pub record IsHistoryOf (bytes : List ℕ) (history : List Entry) (text : List �
 -- what a fault says of the bytes that came, of the history, and of the bytes that were put
 abbrev pub Means : Fault → List ℕ → List Entry → List ℕ → Type 0
 Means fault.Clean came history put = IsHistoryOf came history put
-Means fault.Write came history put = (text : List ℕ) × IsHistoryOf came history text × IsFront put text
+Means fault.Write came history put = (text : List ℕ) × IsHistoryOf came history text × IsPrefix put text
 Means (fault.Script line kind) came history put = (line ≡ 1) × (kind ≡ 2) × IsNoScript came × (history ≡ []) × (put ≡ [])
 Means fault.Usage came history put = (came ≡ []) × (history ≡ []) × (put ≡ [])
 Means fault.Read came history put = (history ≡ []) × (put ≡ [])
 Means fault.TooLong came history put = (history ≡ []) × (put ≡ [])
-Means fault.Memory came history put = (history ≡ []) × ((put ≡ []) ⊎ ((unsaid : List Entry) × (text : List ℕ) × IsHistoryOf came unsaid text × IsFront put text))
+Means fault.Memory came history put = (history ≡ []) × ((put ≡ []) ⊎ ((unsaid : List Entry) × (text : List ℕ) × IsHistoryOf came unsaid text × IsPrefix put text))
 Means (fault.NotLegal place rule) came history put = ⊥
 Means (fault.Transcript line) came history put = ⊥
 

@@ -11,8 +11,8 @@ returns-in_err-done g c =
     let bytes = c.args.bytes.now in
     let p = err_from_is_err_and c.from_residual.result c.from_residual.ensures.1 in
     rw p.1 (record {
-      front = take c.loop-done.done bytes;
-      is_front = (drop c.loop-done.done bytes, take-append-drop c.loop-done.done bytes);
+      prefix = take c.loop-done.done bytes;
+      is_prefix = (drop c.loop-done.done bytes, take-append-drop c.loop-done.done bytes);
       receives = Receives-fails (stream (sink.taken c.args.sink.now) (sink.faults c.args.sink.now)) (stream (sink.taken c.loop-done.sink) (sink.faults c.loop-done.sink)) (stream (sink.taken c.put.new.self) (sink.faults c.put.new.self)) (take c.loop-done.done bytes) c.loop-done.invariant.receives c.in_err-done.ensures.failed c.in_err-done.ensures.faults;
     })
 

@@ -81,7 +81,7 @@ same_parts s t p q same =
     let thread : p.thread ≡ q.thread = cc in
     let lines : map (words_in p.dict s.strings) p.calls ≡ map (words_in q.dict t.strings) q.calls = cc in
     let other : AreCalls p.dict t.strings (map (words_in p.dict s.strings) p.calls) q.calls =
-        subst (λ (n : List ℕ). AreCalls n t.strings (map (words_in p.dict s.strings) p.calls) q.calls) (sym dict) (record { text = lines; known = q.are.known; numbered = q.are.numbered; table = q.are.table }) in
+    subst (λ (n : List ℕ). AreCalls n t.strings (map (words_in p.dict s.strings) p.calls) q.calls) (sym dict) (record { text = lines; known = q.are.known; numbered = q.are.numbered; table = q.are.table }) in
     let strings : s.strings ≡ t.strings = same_strings p.dict (map (words_in p.dict s.strings) p.calls) s.strings t.strings p.calls q.calls p.are other in
     let words : map (words_in p.dict s.strings) p.calls ≡ map (words_in p.dict s.strings) q.calls = other.text ∙ ap (λ (table : List (List ℕ)). map (words_in p.dict table) q.calls) (sym strings) in
     let known : All (IsCallIn s.strings) q.calls = subst (λ (table : List (List ℕ)). All (IsCallIn table) q.calls) (sym strings) q.are.known in

@@ -1,6 +1,6 @@
 -- A whole run of a script's calls is a legal history of the script.
-use Rattle.std.proofs.Common.{◌≡◌, ℕ, zero, suc, ◌+◌, ◌<◌, ◌≤◌, Bool, true, false, cond, eqb, List, [], ◌∷◌, ◌++◌, length, get_or, take, map, Option, Some, None, refl, sym, ap, ◌∙◌, subst, arith}
-use Rattle.std.specs.Prelude.{All, fold, filter, slice_get}
+use Rattle.std.proofs.Common.{◌≡◌, ℕ, zero, suc, true, false, eqb, List, [], ◌∷◌, length, get_or, map, Option, None, refl, sym, ap, ◌∙◌, arith}
+use Rattle.std.specs.Prelude.{All, fold}
 use Rattle.std.specs.List.{range_with_len}
 use Rattle.std.specs.Option.{option_map_or}
 use Rattle.std.proofs.lemmas.List.{take_all}
@@ -18,7 +18,7 @@ use Rattle.ft_model.specs.declared.entry.Entry.{Entry}
 use Rattle.ft_model.specs.declared.script.Script.{Script}
 use Rattle.ft_model.specs.declared.script.Thread.{Thread}
 use Rattle.ft_model.specs.Worlds.{start_world}
-use Rattle.ft_model.specs.Histories.{writes, after_write, world_at, entries_of, calls_of, IsLegal, IsWhole}
+use Rattle.ft_model.specs.Histories.{writes, after_write, world_at, entries_of, calls_of, IsLegal}
 use Rattle.ft_model.specs.Parts.{IsKeyOf, IsValueOf, IsCallOf}
 use Rattle.ft_script.specs.Scripts.{IsKeyIn, IsValueIn, IsCallIn, IsScript}
 use Rattle.ft_runner.specs.Runs.{IsEarlier, IsRun}

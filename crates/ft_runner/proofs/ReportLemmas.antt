@@ -1,15 +1,11 @@
 -- From the parts of a call to its report.
-use Rattle.std.proofs.Common.{◌≡◌, ℕ, ◌≤◌, Bool, true, false, not, List, [], ◌++◌, length, Option, Result, Ok, Err, Vec, refl, sym, ap, subst, ◌∙◌, inl, inr, append_assoc, arith}
+use Rattle.std.proofs.Common.{◌≡◌, ℕ, Bool, true, false, not, List, [], ◌++◌, length, Result, Ok, Err, refl, sym, ap, subst, ◌∙◌, inl, inr, append_assoc}
 use Rattle.std.proofs.lemmas.Bool.{le-ltb, false≢true}
-use Rattle.std.proofs.lemmas.List.{append-nil}
-use Rattle.std.specs.Prelude.{IfSome, IsTrue, nat_lt}
-use Rattle.std.specs.declared.alloc.Global.{Global}
 use Rattle.ft_io.specs.declared.source.Failed.{Failed}
 use Rattle.ft_model.specs.declared.entry.Entry.{Entry}
 use Rattle.ft_runner.specs.declared.report.Fault.{Fault}
 use Rattle.ft_runner.specs.declared.report.Fault.TheVariants as fault
-use Rattle.ft_runner.specs.declared.report.Report.{Report}
-use Rattle.ft_runner.specs.Reports.{Stream, Gives, Receives, IsPart, Puts, Told, Reads, StopsReading, IsWholeInput, stops_reading, error_line, status_of, is_turns, is_usage, is_read, is_write, is_too_long, has_ended, comes_of_text, Means, IsHistoryOf, IsRunOf, IsDone}
+use Rattle.ft_runner.specs.Reports.{Stream, Gives, Receives, IsPart, Puts, Told, StopsReading, IsWholeInput, is_turns, is_usage, is_read, is_too_long, comes_of_text, IsHistoryOf, IsRunOf, IsDone}
 use Rattle.std.specs.List.{flat_map}
 use Rattle.ft_model.specs.declared.content.Content.{Content}
 use Rattle.ft_model.specs.declared.script.Script.{Script}

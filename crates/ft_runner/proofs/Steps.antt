@@ -1,12 +1,12 @@
 -- A run goes on by one call.
-use Rattle.std.proofs.Common.{◌≡◌, ◌≢◌, ℕ, zero, suc, ◌+◌, ◌-◌, ◌<◌, ◌≤◌, Bool, true, false, not, ◌&&◌, cond, List, [], ◌∷◌, ◌++◌, length, get_or, set, take, map, Option, Some, None, refl, sym, ap, ◌∙◌, subst, arith, rules, inl, inr, add-zero}
+use Rattle.std.proofs.Common.{◌≡◌, ℕ, zero, suc, ◌+◌, ◌-◌, ◌<◌, ◌≤◌, Bool, true, false, cond, List, [], ◌∷◌, ◌++◌, length, get_or, take, map, Some, refl, sym, ap, ◌∙◌, subst, arith, inl, inr, add-zero}
 use Rattle.std.specs.Prelude.{if◌then◌else◌, All, fold, filter, slice_get, ◌⊎◌}
-use Rattle.std.specs.declared.cmp.Ordering.TheVariants.{Less, Equal, Greater}
+use Rattle.std.specs.declared.cmp.Ordering.TheVariants.{Equal, Greater}
 use Rattle.std.proofs.lemmas.Bool.Decides.{nat_tests}
 use Rattle.std.specs.Ordering.{nat_cmp, bool_cmp, ordering_then, is_lt}
 use Rattle.std.specs.List.{range_with_len}
 use Rattle.std.specs.List.Sorted.{IsSorted}
-use Rattle.std.proofs.lemmas.Bool.{cases_eq, cases_lt, false≢true}
+use Rattle.std.proofs.lemmas.Bool.{cases_lt}
 use mir.Val.{bool_byte}
 use Rattle.std.proofs.lemmas.List.{take_more, map-append, take_at, take-append-le, length-append, length-map, length-set, length_push}
 use Rattle.std.proofs.lemmas.List.Sums.{fold-append, length-filter, count_by-le-length}
@@ -30,7 +30,7 @@ use Rattle.ft_model.specs.declared.content.DictPair.{DictPair}
 use Rattle.ft_model.specs.declared.content.Content.TheVariants as content
 use Rattle.ft_model.specs.Contents.{DictContent, empty_dict, is_at, has_key, with_value, dict_get, dict_set}
 use Rattle.ft_model.specs.Parts.{IsKeyOf, IsValueOf, IsReplyOf, IsContentOf, IsCallOf, IsEntryOf, IsWorldOf}
-use Rattle.ft_model.specs.Answers.{answer, value_reply, is_changing, is_raised, is_write}
+use Rattle.ft_model.specs.Answers.{answer, value_reply, is_write}
 use Rattle.ft_model.specs.Histories.{history_cmp, writes, after_write, world_at, IsAnswered}
 use Rattle.ft_runner.specs.Runs.{entry_after, IsEarlier, IsSmall, IsRun}
 

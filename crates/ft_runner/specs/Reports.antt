@@ -1,5 +1,5 @@
 -- What the tool is asked, does and reports.
-use Rattle.std.specs.Prelude.{◌≡◌, ℕ, Bool, true, false, not, nat_lt, if◌then◌else◌, IsTrue, ◌⊎◌, ◌≤◌, List, [], ◌∷◌, ◌++◌, map, length, Option, IfSome, Result, Ok, Err, Vec, codes}
+use Rattle.std.specs.Prelude.{◌≡◌, ℕ, Bool, true, false, not, nat_lt, if◌then◌else◌, IsTrue, ◌⊎◌, ◌≤◌, List, [], ◌∷◌, ◌++◌, length, Option, IfSome, Result, Ok, Err, Vec, codes}
 use Rattle.std.specs.declared.alloc.Global.{Global}
 use Rattle.ft_io.specs.declared.source.Failed.{Failed}
 use Rattle.std.specs.Fmt.{decimal}

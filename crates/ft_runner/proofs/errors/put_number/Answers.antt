@@ -1,4 +1,4 @@
-use Rattle.std.proofs.Common.{◌≡◌, ◌++◌, Err, true, sym, ap, ◌∙◌, false}
+use Rattle.std.proofs.Common.{◌++◌, Err, true, false}
 use Rattle.std.proofs.lemmas.Result.{err_from_is_err_and}
 use Rattle.std.specs.Fmt.{decimal}
 use Rattle.ft_runner.specs.Reports.{stream}

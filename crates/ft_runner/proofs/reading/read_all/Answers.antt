@@ -1,4 +1,4 @@
-use Rattle.std.proofs.Common.{◌≡◌, ℕ, ◌<◌, ◌≤◌, List, [], ◌++◌, true, false, refl, sym, subst, arith, length, take, drop, ap, ◌∙◌, ◌+◌}
+use Rattle.std.proofs.Common.{◌≡◌, ℕ, List, [], ◌++◌, false, refl, sym, subst, arith, length, take, drop, ap, ◌∙◌, ◌+◌}
 use Rattle.std.proofs.lemmas.Bool.{lt-ltb, le-ltb}
 use Rattle.std.proofs.lemmas.List.{append-nil, with_items_is, length-append, length-take-le}
 use Rattle.ft_runner.specs.Reports.{stream, Gives}

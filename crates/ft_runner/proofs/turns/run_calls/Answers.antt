@@ -1,6 +1,5 @@
-use Rattle.std.proofs.Common.{◌≡◌, sym, ap, refl, ◌∙◌, arith, length, take}
+use Rattle.std.proofs.Common.{sym, refl, arith, take}
 use Rattle.std.proofs.lemmas.List.{length-take-le}
-use Rattle.ft_model.specs.Histories.{writes}
 use Rattle.ft_runner.proofs.Steps.{begins, goes_on_at, run_length, stamp_more, bool_byte-le, few_writes}
 use Rattle.ft_runner.proofs.turns.run_calls.Goals as goal
 

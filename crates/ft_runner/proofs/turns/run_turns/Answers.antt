@@ -1,8 +1,8 @@
-use Rattle.std.proofs.Common.{◌≡◌, List, sym, ap, subst, ◌∙◌, get_or}
+use Rattle.std.proofs.Common.{◌≡◌, List, ap, subst, ◌∙◌, get_or}
 use Rattle.std.proofs.lemmas.Result.{IfOk-weaker}
 use Rattle.ft_model.specs.declared.call.Call.{Call}
 use Rattle.ft_model.specs.declared.script.Thread.{Thread}
-use Rattle.ft_model.specs.Histories.{calls_of, IsLegal}
+use Rattle.ft_model.specs.Histories.{calls_of}
 use Rattle.ft_runner.specs.Runs.{IsRun}
 use Rattle.ft_runner.proofs.Legal.{legal, calls_of_first}
 use Rattle.ft_runner.proofs.turns.run_turns.Goals as goal

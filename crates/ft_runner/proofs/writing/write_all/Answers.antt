@@ -1,9 +1,9 @@
-use Rattle.std.proofs.Common.{◌≡◌, ℕ, ◌+◌, List, [], ◌++◌, sym, ap, subst, ◌∙◌, true, false, take, drop}
+use Rattle.std.proofs.Common.{ℕ, ◌+◌, List, [], ◌++◌, subst, true, false, take, drop}
 use Rattle.std.specs.List.{flat_map}
 use Rattle.std.proofs.lemmas.List.{append-nil}
 use Rattle.std.proofs.lemmas.Result.{err_from_is_err_and}
 use Rattle.ft_script.specs.Texts.{entry_line, world_text}
-use Rattle.ft_runner.specs.Reports.{Stream, stream, IsPart, IsBuffered}
+use Rattle.ft_runner.specs.Reports.{stream, IsPart, IsBuffered}
 use Rattle.ft_runner.proofs.StreamLemmas.{IsBuffered-then, IsBuffered-push, IsPart-put, IsPart-then, flat_map-split, flat_map-more, flat_map-all}
 use Rattle.ft_runner.proofs.writing.write_all.Goals as goal
 

@@ -1,5 +1,5 @@
 -- From the parts of a call to its report.
-use Rattle.std.proofs.Common.{◌≡◌, ℕ, Bool, true, false, not, List, [], ◌++◌, length, Result, Ok, Err, refl, sym, ap, subst, ◌∙◌, inl, inr, append_assoc}
+use Rattle.std.proofs.Common.{◌≡◌, ℕ, Bool, true, false, not, List, [], ◌++◌, length, Result, Ok, Err, refl, sym, ap, subst, ◌∙◌, inl, inr, append_assoc, arith}
 use Rattle.std.proofs.lemmas.Bool.{le-ltb, false≢true}
 use Rattle.ft_io.specs.declared.source.Failed.{Failed}
 use Rattle.ft_model.specs.declared.entry.Entry.{Entry}
@@ -39,9 +39,9 @@ told a b text (Err e) p = inr p
 -- ---- the command
 
 pub stops_reading_done : (words : List (List ℕ)) (source source' sink : Stream) (f : Fault) → is_turns words ≡ true → StopsReading f source source' → IsDone words source source' sink sink f []
-stops_reading_done words source source' sink fault.Read turns p = record { came = p.came; put = []; usage = ap not (sym turns); reading = p.gives; writing = Receives-none sink; too_long = p.too_long; ended = λ h. absurd (false≢true h); means = (refl, refl) }
-stops_reading_done words source source' sink fault.TooLong turns p = record { came = p.came; put = []; usage = ap not (sym turns); reading = p.gives; writing = Receives-none sink; too_long = p.too_long; ended = λ h. absurd (false≢true h); means = (refl, refl) }
-stops_reading_done words source source' sink fault.Memory turns p = record { came = p.came; put = []; usage = ap not (sym turns); reading = p.gives; writing = Receives-none sink; too_long = p.too_long; ended = λ h. absurd (false≢true h); means = (refl, inl refl) }
+stops_reading_done words source source' sink fault.Read turns p = record { came = p.came; put = []; usage = ap not (sym turns); reading = p.gives; writing = Receives-none sink; too_long = p.too_long; few = p.few; ended = λ h. absurd (false≢true h); means = (refl, refl) }
+stops_reading_done words source source' sink fault.TooLong turns p = record { came = p.came; put = []; usage = ap not (sym turns); reading = p.gives; writing = Receives-none sink; too_long = p.too_long; few = p.few; ended = λ h. absurd (false≢true h); means = (refl, refl) }
+stops_reading_done words source source' sink fault.Memory turns p = record { came = p.came; put = []; usage = ap not (sym turns); reading = p.gives; writing = Receives-none sink; too_long = p.too_long; few = p.few; ended = λ h. absurd (false≢true h); means = (refl, inl refl) }
 stops_reading_done words source source' sink fault.Clean turns p = absurd (false≢true p.cause)
 stops_reading_done words source source' sink (fault.Script line kind) turns p = absurd (false≢true p.cause)
 stops_reading_done words source source' sink fault.Usage turns p = absurd (false≢true p.cause)
@@ -71,6 +71,7 @@ text_done words source source' sink sink' bytes f history turns p q =
       reading = subst (λ failed. Gives source bytes failed source') (sym kind.1) p.gives;
       writing = q.writing;
       too_long = kind.2 ∙ sym (le-ltb 4194304 (length bytes) p.few);
+      few = omega (arith, p.few);
       ended = λ h. p.ended;
       means = q.means;
     }
@@ -83,6 +84,7 @@ usage_done words source sink others = record {
   reading = Gives-none source;
   writing = Receives-none sink;
   too_long = refl;
+  few = omega arith;
   ended = λ h. absurd (false≢true h);
   means = (refl, refl, refl);
 }

@@ -1,5 +1,5 @@
 -- What the tool is asked, does and reports.
-use Rattle.std.specs.Prelude.{◌≡◌, ℕ, Bool, true, false, not, nat_lt, if◌then◌else◌, IsTrue, ◌⊎◌, ◌≤◌, List, [], ◌∷◌, ◌++◌, length, Option, IfSome, Result, Ok, Err, Vec, codes}
+use Rattle.std.specs.Prelude.{◌≡◌, ℕ, Bool, true, false, not, nat_lt, if◌then◌else◌, IsTrue, ◌⊎◌, ◌≤◌, ◌+◌, List, [], ◌∷◌, ◌++◌, length, Option, IfSome, Result, Ok, Err, Vec, codes}
 use Rattle.std.specs.declared.alloc.Global.{Global}
 use Rattle.ft_io.specs.declared.source.Failed.{Failed}
 use Rattle.std.specs.Fmt.{decimal}
@@ -106,6 +106,10 @@ pub record IsWholeInput (before : Stream) (bytes : List ℕ) (after : Stream) : 
   pub few : length bytes ≤ 4194304
   pub ended : IfSome after.content (λ rest. rest ≡ [])
 
+-- no more than this is read: what a script may have, and a piece of 65,536 bytes
+abbrev pub most_read : ℕ
+most_read = 4194304 + 65536
+
 abbrev pub stops_reading : Fault → Bool
 stops_reading fault.Read = true
 stops_reading fault.Memory = true
@@ -117,6 +121,7 @@ pub record StopsReading (fault : Fault) (before after : Stream) : Type 0 where
   pub came : List ℕ
   pub gives : Gives before came (is_read fault) after
   pub too_long : is_too_long fault ≡ nat_lt 4194304 (length came)
+  pub few : length came ≤ most_read
   pub cause : stops_reading fault ≡ true
 
 abbrev pub Reads : Stream → Result (Vec ℕ Global) Fault → Stream → Type 0
@@ -196,8 +201,9 @@ pub record IsDone (words : List (List ℕ)) (source source' sink sink' : Stream)
   -- a fault of reading or writing exactly where the count rose
   pub reading : Gives source came (is_read fault) source'
   pub writing : Receives sink put (is_write fault) sink'
-  -- too long exactly where more came
+  -- too long exactly where more came, which stops the reading
   pub too_long : is_too_long fault ≡ nat_lt 4194304 (length came)
+  pub few : length came ≤ most_read
   pub ended : IsTrue (has_ended fault) → IfSome source'.content (λ rest. rest ≡ [])
   pub means : Means fault came history put
 

@@ -22,6 +22,7 @@ returns-in-Err g c =
       came = c.loop.bytes.items;
       gives = Gives-fails (stream (source.left c.args.source.now) (source.faults c.args.source.now)) (stream (source.left c.loop.source) (source.faults c.loop.source)) (stream (source.left c.take.new.self) (source.faults c.take.new.self)) c.loop.bytes.items c.loop.invariant.gives c.in-Err.ensures.failed c.in-Err.ensures.faults;
       too_long = sym (le-ltb 4194304 (length c.loop.bytes.items) c.loop.invariant.few);
+      few = omega (arith, c.loop.invariant.few);
       cause = refl;
     }
 
@@ -49,6 +50,7 @@ returns-then-count-len g c =
       came = c.loop.bytes.items ++ piece;
       gives = Gives-then a b d c.loop.bytes.items piece c.loop.invariant.gives (record { content = c.in-Ok-take.ensures.bytes; faults = c.in-Ok-take.ensures.faults });
       too_long = sym (lt-ltb 4194304 (length (c.loop.bytes.items ++ piece)) (omega (arith, length-append c.loop.bytes.items piece, length-take-le c.in-Ok-take.count c.take.new.buf (omega (arith, c.take.auto.buf, c.in-Ok-take.ensures.count)))));
+      few = omega (arith, length-append c.loop.bytes.items piece, length-take-le c.in-Ok-take.count c.take.new.buf (omega (arith, c.take.auto.buf, c.in-Ok-take.ensures.count)), c.in-Ok-take.ensures.count, c.take.auto.buf, c.deref_mut.ensures.len, c.loop.invariant.buffer, c.loop.buffer.ok.0, c.loop.invariant.few);
       cause = refl;
     }
 
@@ -63,6 +65,7 @@ returns-in_default-extend_from_slice g c =
       came = c.loop.bytes.items ++ piece;
       gives = Gives-then a b d c.loop.bytes.items piece c.loop.invariant.gives (record { content = c.in-Ok-take.ensures.bytes; faults = c.in-Ok-take.ensures.faults });
       too_long = sym (le-ltb 4194304 (length (c.loop.bytes.items ++ piece)) (omega (arith, length-append c.loop.bytes.items piece, length-take-le c.in-Ok-take.count c.take.new.buf (omega (arith, c.take.auto.buf, c.in-Ok-take.ensures.count)))));
+      few = omega (arith, length-append c.loop.bytes.items piece, length-take-le c.in-Ok-take.count c.take.new.buf (omega (arith, c.take.auto.buf, c.in-Ok-take.ensures.count)), c.in-Ok-take.ensures.count, c.take.auto.buf, c.deref_mut.ensures.len, c.loop.invariant.buffer, c.loop.buffer.ok.0, c.loop.invariant.few);
       cause = refl;
     }
 

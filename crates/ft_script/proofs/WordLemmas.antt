@@ -16,9 +16,9 @@ use Rattle.std.proofs.Math.Seq.{take-append_seam}
 use Rattle.std.proofs.lemmas.List.Splits.{slice_split_first, slice_split_none, length-slice_split}
 use Rattle.std.proofs.lemmas.List.Sums.{fails_before_first}
 use Rattle.std.proofs.lemmas.Str.Parse.{IsNumeralModel, numerals_by_value, parse_signed_plain, parse_signed_minus}
-use Rattle.ft_script.specs.Scripts.{is_digit, is_lower, is_letters, is_container_name, is_thread_name, words_of}
+use Rattle.ft_script.specs.Scripts.{is_digit, is_lower, is_letters, is_container_byte, is_container_name, is_thread_byte, is_thread_name, words_of}
 use Rattle.ft_script.specs.Texts.{quoted}
-use Rattle.ft_script.specs.Words.{is_positive, is_integer, is_dict_byte, is_thread_byte}
+use Rattle.ft_script.specs.Words.{is_positive, is_integer}
 
 -- ---- cutting
 
@@ -144,11 +144,11 @@ is_letters-length text b low high all = rw (le-leb 1 (length text) low, le-leb (
 
 -- ---- names
 
-pub is_container_name-rest : (word : List ℕ) (b : Bool) → 1 ≤ length word → 97 ≤ get_or word 0 0 → get_or word 0 0 ≤ 122 → b ≡ list_all is_dict_byte (take (length word - 1) (drop 1 word)) → b ≡ true → leb (length (take (length word - 1) (drop 1 word))) 31 ≡ is_container_name word
+pub is_container_name-rest : (word : List ℕ) (b : Bool) → 1 ≤ length word → 97 ≤ get_or word 0 0 → get_or word 0 0 ≤ 122 → b ≡ list_all is_container_byte (take (length word - 1) (drop 1 word)) → b ≡ true → leb (length (take (length word - 1) (drop 1 word))) 31 ≡ is_container_name word
 is_container_name-rest [] b some low high all passed = absurd (omega arith)
 is_container_name-rest (c ∷ cs) b some low high all passed =
     let e : take (length (c ∷ cs) - 1) (drop 1 (c ∷ cs)) ≡ cs = rest_all (c ∷ cs) 1 in
-    let passes : list_all is_dict_byte cs ≡ true = rw e at (sym all ∙ passed) in
+    let passes : list_all is_container_byte cs ≡ true = rw e at (sym all ∙ passed) in
     rw e (rw (le-leb 97 c low, le-leb c 122 high, passes) refl)
 
 pub is_thread_name-rest : (word : List ℕ) (b : Bool) → 1 ≤ length word → 65 ≤ get_or word 0 0 → get_or word 0 0 ≤ 90 → b ≡ list_all is_thread_byte (take (length word - 1) (drop 1 word)) → b ≡ true → leb (length (take (length word - 1) (drop 1 word))) 31 ≡ is_thread_name word

@@ -41,15 +41,23 @@ is_upper b = nat_le 65 b && nat_le b 90
 abbrev pub is_digit : ℕ → Bool
 is_digit b = nat_le 48 b && nat_le b 57
 
+-- a byte of a container's name behind the first
+abbrev pub is_container_byte : ℕ → Bool
+is_container_byte b = is_lower b || is_digit b || b == 95
+
+-- a byte of a thread's name behind the first
+abbrev pub is_thread_byte : ℕ → Bool
+is_thread_byte b = is_lower b || is_upper b || is_digit b || b == 95
+
 -- a lower-case letter, and then lower-case letters, digits and `_`; at most 32 bytes
 abbrev pub is_container_name : List ℕ → Bool
 is_container_name [] = false
-is_container_name (b ∷ bytes) = is_lower b && list_all (λ c. is_lower c || is_digit c || c == 95) bytes && nat_le (length bytes) 31
+is_container_name (b ∷ bytes) = is_lower b && list_all is_container_byte bytes && nat_le (length bytes) 31
 
 -- a capital letter, and then letters, digits and `_`; at most 32 bytes
 abbrev pub is_thread_name : List ℕ → Bool
 is_thread_name [] = false
-is_thread_name (b ∷ bytes) = is_upper b && list_all (λ c. is_lower c || is_upper c || is_digit c || c == 95) bytes && nat_le (length bytes) 31
+is_thread_name (b ∷ bytes) = is_upper b && list_all is_thread_byte bytes && nat_le (length bytes) 31
 
 -- a string: 1 to 32 letters a to z
 abbrev pub is_letters : List ℕ → Bool

@@ -1,9 +1,9 @@
 -- What cutting a line into words gives, and which words are integers.
-use Rattle.std.specs.Prelude.{◌≡◌, ◌≢◌, ◌==◌, ◌&&◌, ◌||◌, ℕ, Bool, false, nat_le, List, [], ◌∷◌, length, Option, Some, None, if◌then◌else◌}
+use Rattle.std.specs.Prelude.{◌≡◌, ◌≢◌, ◌==◌, ◌&&◌, ℕ, Bool, false, nat_le, List, [], ◌∷◌, length, Option, Some, None, if◌then◌else◌}
 use Rattle.std.specs.List.{slice_split, list_all}
 use Rattle.ft_script.specs.declared.words.Words.{Words}
 use Rattle.ft_script.specs.declared.words.Words.TheVariants.{Two, Three, Four, Other}
-use Rattle.ft_script.specs.Scripts.{is_digit, is_lower, is_upper}
+use Rattle.ft_script.specs.Scripts.{is_digit}
 
 -- the pieces of what stands behind a separator, where there is one
 abbrev pub rest_pieces : ℕ → Option (List ℕ) → List (List ℕ)
@@ -26,10 +26,3 @@ is_positive (b ∷ bytes) = nat_le 49 b && nat_le b 57 && list_all is_digit byte
 abbrev pub is_integer : List ℕ → Bool
 is_integer [] = false
 is_integer (b ∷ bytes) = if b == 48 then length bytes == 0 else (if b == 45 then is_positive bytes else is_positive (b ∷ bytes))
-
--- the bytes of a name behind its first
-abbrev pub is_dict_byte : ℕ → Bool
-is_dict_byte b = is_lower b || is_digit b || b == 95
-
-abbrev pub is_thread_byte : ℕ → Bool
-is_thread_byte b = is_lower b || is_upper b || is_digit b || b == 95

@@ -7,7 +7,9 @@ ghost use Rattle.std.specs.Prelude.{◌≡◌, ◌≢◌, ◌+◌, ◌^◌, ◌<
 
 use crate::fault::ScriptFault;
 use crate::strings::Strings;
-use crate::words::{Words, cut, integer_of, is_dict_name, letters_of, names_thread, words_of_line};
+use crate::words::{
+    Words, cut, integer_of, is_container_name, is_thread_name, letters_of, words_of_line,
+};
 use ft_model::{Call, Declaration, Key, Kind, Script, Sequence, Sym, Text, Thread, Value};
 use std::alloc::{AllocError, Global};
 
@@ -80,7 +82,9 @@ fn read_dict(line: &[u8]) -> Option<&[u8]>
     ensures none { IfNone result ((name : List ℕ) → is_container_name name ≡ true → words_of line.now ≢ dict_line name) }
 {
     match words_of_line(line) {
-        Words::Two(word, name) if word == b"dict".as_slice() && is_dict_name(name) => Some(name),
+        Words::Two(word, name) if word == b"dict".as_slice() && is_container_name(name) => {
+            Some(name)
+        }
         _ => None,
     }
 }
@@ -91,7 +95,9 @@ fn read_thread(line: &[u8]) -> Option<&[u8]>
     ensures none { IfNone result ((name : List ℕ) → is_thread_name name ≡ true → words_of line.now ≢ thread_line name) }
 {
     match words_of_line(line) {
-        Words::Two(word, name) if word == b"thread".as_slice() && names_thread(name) => Some(name),
+        Words::Two(word, name) if word == b"thread".as_slice() && is_thread_name(name) => {
+            Some(name)
+        }
         _ => None,
     }
 }

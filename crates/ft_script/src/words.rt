@@ -1,7 +1,7 @@
 //! The words of a line, and what each kind of word says.
-ghost use Rattle.ft_script.specs.Scripts.{is_container_name, is_letters, is_thread_name, words_of};
+ghost use Rattle.ft_script.specs.Scripts.{is_container_byte, is_container_name, is_letters, is_thread_byte, is_thread_name, words_of};
 ghost use Rattle.ft_script.specs.Texts.{quoted};
-ghost use Rattle.ft_script.specs.Words.{Shows, is_dict_byte, is_integer, is_positive, is_thread_byte, rest_pieces};
+ghost use Rattle.ft_script.specs.Words.{Shows, is_integer, is_positive, rest_pieces};
 ghost use Rattle.std.specs.Fmt.{signed_decimal};
 ghost use Rattle.std.specs.Int.{w64};
 ghost use Rattle.std.specs.List.{slice_split};
@@ -50,25 +50,25 @@ pub(crate) fn words_of_line(line: &[u8]) -> Words<'_>
     }
 }
 
-/// Whether the word may name a dict.
-pub(crate) fn is_dict_name(word: &[u8]) -> bool
+/// Whether the word may name a container.
+pub(crate) fn is_container_name(word: &[u8]) -> bool
     ensures { result ≡ is_container_name word.now }
 {
     match word {
-        [b'a'..=b'z', rest @ ..] => rest.iter().all(|b| is_dict_byte(*b)) && rest.len() <= 31,
+        [b'a'..=b'z', rest @ ..] => rest.iter().all(|b| is_container_byte(*b)) && rest.len() <= 31,
         _ => false,
     }
 }
 
-/// Whether the byte may stand in a dict's name behind the first.
-fn is_dict_byte(byte: u8) -> bool
-    ensures { result ≡ is_dict_byte byte }
+/// Whether the byte may stand in a container's name behind the first.
+fn is_container_byte(byte: u8) -> bool
+    ensures { result ≡ is_container_byte byte }
 {
     matches!(byte, b'a'..=b'z' | b'0'..=b'9' | b'_')
 }
 
 /// Whether the word may name a thread.
-pub(crate) fn names_thread(word: &[u8]) -> bool
+pub(crate) fn is_thread_name(word: &[u8]) -> bool
     ensures { result ≡ is_thread_name word.now }
 {
     match word {

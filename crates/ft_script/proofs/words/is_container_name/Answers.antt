@@ -2,13 +2,13 @@ use Rattle.std.proofs.Common.{◌≡◌, ◌-◌, length, take, drop, arith, rul
 use Rattle.std.proofs.lemmas.Iterator.{YieldsList-from_slice}
 use Rattle.std.proofs.lemmas.Iterator.Search.{all_from_yields_List}
 use Rattle.std.specs.List.{list_all}
-use Rattle.ft_script.specs.Words.{is_dict_byte}
+use Rattle.ft_script.specs.Scripts.{is_container_byte}
 use Rattle.ft_script.proofs.WordLemmas.{is_container_name-rest}
-use Rattle.ft_script.proofs.words.is_dict_name.Goals as goal
+use Rattle.ft_script.proofs.words.is_container_name.Goals as goal
 
 pub returns-then-all : goal.returns-then-all
 returns-then-all c =
     let word = c.args.word.now in
     let rest = take (length word - 1) (drop 1 word) in
-    let all : c.all.result ≡ list_all is_dict_byte rest = all_from_yields_List is_dict_byte _ _ c.all.result c.all.ensures.ran (YieldsList-from_slice rest cc) (λ x b q k. search (rules, tests)) in
+    let all : c.all.result ≡ list_all is_container_byte rest = all_from_yields_List is_container_byte _ _ c.all.result c.all.ensures.ran (YieldsList-from_slice rest cc) (λ x b q k. search (rules, tests)) in
     is_container_name-rest word c.all.result (omega arith) (omega arith) (omega arith) all c.if-all.true

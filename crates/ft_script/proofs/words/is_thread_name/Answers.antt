@@ -2,9 +2,9 @@ use Rattle.std.proofs.Common.{◌≡◌, ◌-◌, length, take, drop, arith, rul
 use Rattle.std.proofs.lemmas.Iterator.{YieldsList-from_slice}
 use Rattle.std.proofs.lemmas.Iterator.Search.{all_from_yields_List}
 use Rattle.std.specs.List.{list_all}
-use Rattle.ft_script.specs.Words.{is_thread_byte}
+use Rattle.ft_script.specs.Scripts.{is_thread_byte}
 use Rattle.ft_script.proofs.WordLemmas.{is_thread_name-rest}
-use Rattle.ft_script.proofs.words.names_thread.Goals as goal
+use Rattle.ft_script.proofs.words.is_thread_name.Goals as goal
 
 pub returns-then-all : goal.returns-then-all
 returns-then-all c =

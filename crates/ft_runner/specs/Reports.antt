@@ -100,15 +100,19 @@ IsPrefix prefix text = (rest : List ℕ) × (prefix ++ rest ≡ text)
 
 -- ---- reading and writing
 
--- a source is read to its end, at most so many bytes
+-- the most bytes that a script may have
+abbrev pub script_limit : ℕ
+script_limit = 4194304
+
+-- a source is read to its end, and gives no more than a script may have
 pub record IsWholeInput (before : Stream) (bytes : List ℕ) (after : Stream) : Type 0 where
   pub gives : Gives before bytes false after
-  pub few : length bytes ≤ 4194304
+  pub few : length bytes ≤ script_limit
   pub ended : IfSome after.content (λ rest. rest ≡ [])
 
--- no more than this is read: what a script may have, and a piece of 65,536 bytes
+-- no more bytes are read than a script may have and one piece
 abbrev pub most_read : ℕ
-most_read = 4194304 + 65536
+most_read = script_limit + 65536
 
 abbrev pub stops_reading : Fault → Bool
 stops_reading fault.Read = true
@@ -120,7 +124,7 @@ stops_reading _ = false
 pub record StopsReading (fault : Fault) (before after : Stream) : Type 0 where
   pub came : List ℕ
   pub gives : Gives before came (is_read fault) after
-  pub too_long : is_too_long fault ≡ nat_lt 4194304 (length came)
+  pub too_long : is_too_long fault ≡ nat_lt script_limit (length came)
   pub few : length came ≤ most_read
   pub cause : stops_reading fault ≡ true
 
@@ -202,7 +206,7 @@ pub record IsDone (words : List (List ℕ)) (source source' sink sink' : Stream)
   pub reading : Gives source came (is_read fault) source'
   pub writing : Receives sink put (is_write fault) sink'
   -- too long exactly where more came, which stops the reading
-  pub too_long : is_too_long fault ≡ nat_lt 4194304 (length came)
+  pub too_long : is_too_long fault ≡ nat_lt script_limit (length came)
   pub few : length came ≤ most_read
   pub ended : IsTrue (has_ended fault) → IfSome source'.content (λ rest. rest ≡ [])
   pub means : Means fault came history put

@@ -1,12 +1,16 @@
 -- What a reader sees of a dict after `d[k] = v`: the laws of `dict_set`.
-use Rattle.std.proofs.Common.{◌≡◌, ◌≢◌, ◌+◌, true, false, IsTrue, List, [], ◌∷◌, ◌++◌, map, Some, refl, sym, ap, ◌∙◌}
+use Rattle.std.proofs.Common.{◌≡◌, ◌≢◌, ℕ, suc, zero, ◌+◌, ◌<◌, ◌≤◌, length, get_or, None, arith, true, false, IsTrue, List, [], ◌∷◌, ◌++◌, map, Some, refl, sym, ap, ◌∙◌}
+use Rattle.std.specs.Prelude.{AllPairs, All, not, filter}
+use Rattle.std.specs.Option.{option_or}
 use Rattle.std.proofs.lemmas.Bool.{false≢true}
 use Rattle.ft_model.specs.declared.data.Key.{Key}
 use Rattle.ft_model.specs.declared.data.Value.{Value}
 use Rattle.ft_model.specs.declared.content.DictPair.{DictPair}
 use Rattle.ft_model.specs.Keys.{same_key}
-use Rattle.ft_model.specs.Contents.{DictContent, is_at, dict_get, has_key, with_value, dict_set, KeepsPlaces, GoesLast}
+use Rattle.ft_model.specs.Contents.{DictContent, is_at, dict_get, has_key, IsDict, with_value, dict_set, dict_del, dict_update, dict_copy, pairs_from, KeepsPlaces, GoesLast}
+use Rattle.ft_model.specs.Answers.{items_of}
 use Rattle.ft_model.proofs.KeyLemmas.{same_key-true, same_key-refl}
+use Rattle.ft_model.proofs.Copies.{length-pairs_from, get-pairs_from}
 
 -- a key that differs from the pair's is not the pair's
 is_at-other : (key other : Key) → other ≢ key → same_key key other ≡ false
@@ -98,3 +102,73 @@ set-goes_last dict new key value is absent =
       pairs = ap (λ (d : DictContent). d.pairs) s;
       next = ap (λ (d : DictContent). d.next) s;
     }
+
+-- ---- `del d[k]`
+
+get-filter-gone : (pairs : List DictPair) (key : Key) → dict_get (filter (λ pair. not (is_at key pair)) pairs) key ≡ None
+get-filter-gone [] key = refl
+get-filter-gone (pair ∷ pairs) key =
+    elim (is_at key pair) as (λ b. is_at key pair ≡ b → dict_get (filter (λ pair. not (is_at key pair)) (pair ∷ pairs)) key ≡ None) [
+      | true ↦ λ here. simp here (get-filter-gone pairs key)
+      | false ↦ λ past. simp past (get-filter-gone pairs key)
+    ] refl
+
+pub del_gone : (dict : DictContent) (key : Key) → dict_get (dict_del dict key).pairs key ≡ None
+del_gone dict key = get-filter-gone dict.pairs key
+
+get-filter-other : (pairs : List DictPair) (key other : Key) → other ≢ key → dict_get (filter (λ pair. not (is_at key pair)) pairs) other ≡ dict_get pairs other
+get-filter-other [] key other differ = refl
+get-filter-other (pair ∷ pairs) key other differ =
+    let rest = get-filter-other pairs key other differ in
+    elim (is_at key pair) as (λ b. is_at key pair ≡ b → dict_get (filter (λ pair. not (is_at key pair)) (pair ∷ pairs)) other ≡ dict_get (pair ∷ pairs) other) [
+      | true ↦ λ here.
+          let past : is_at other pair ≡ false = ap (λ k. same_key k other) (same_key-true pair.key key here) ∙ is_at-other key other differ in
+          simp (here, past) rest
+      | false ↦ λ past.
+          elim (is_at other pair) as (λ b. is_at other pair ≡ b → dict_get (filter (λ pair. not (is_at key pair)) (pair ∷ pairs)) other ≡ dict_get (pair ∷ pairs) other) [
+            | true ↦ λ at. simp (past, at)
+            | false ↦ λ beyond. simp (past, beyond) rest
+          ] refl
+    ] refl
+
+pub del_others : (dict : DictContent) (key other : Key) → other ≢ key → dict_get (dict_del dict key).pairs other ≡ dict_get dict.pairs other
+del_others dict key other differ = get-filter-other dict.pairs key other differ
+
+-- ---- `d.update(e)`
+
+-- keys that no other pair has
+distinct_tail : (pair : DictPair) (pairs : List DictPair) → AllPairs (λ a b. a.key ≢ b.key) (pair ∷ pairs) → AllPairs (λ a b. a.key ≢ b.key) pairs
+distinct_tail pair pairs distinct = λ i j d lt within. distinct (suc i) (suc j) d (omega arith) (omega arith)
+
+absent_in : (pairs : List DictPair) (key : Key) → All (λ pair. key ≢ pair.key) pairs → dict_get pairs key ≡ None
+absent_in [] key each = refl
+absent_in (pair ∷ pairs) key each =
+    let past : is_at key pair ≡ false = is_at-other pair.key key (each zero pair (omega arith)) in
+    simp past (absent_in pairs key (λ k d low. each (suc k) d (omega arith)))
+
+pub update_reads : (others : List DictPair) (dict : DictContent) → AllPairs (λ a b. a.key ≢ b.key) others → (key : Key) → dict_get (dict_update dict others).pairs key ≡ option_or (dict_get others key) (dict_get dict.pairs key)
+update_reads [] dict distinct key = refl
+update_reads (pair ∷ others) dict distinct key =
+    let rest = update_reads others (dict_set dict pair.key pair.value) (distinct_tail pair others distinct) key in
+    elim (is_at key pair) as (λ b. is_at key pair ≡ b → dict_get (dict_update dict (pair ∷ others)).pairs key ≡ option_or (dict_get (pair ∷ others) key) (dict_get dict.pairs key)) [
+      | true ↦ λ here.
+          let same : pair.key ≡ key = same_key-true pair.key key here in
+          let last : dict_get others key ≡ None = absent_in others key (λ k d low. λ is. distinct zero (suc k) d (omega arith) (omega arith) (same ∙ is)) in
+          let stored : dict_get (dict_set dict pair.key pair.value).pairs key ≡ Some pair.value = ap (dict_get (dict_set dict pair.key pair.value).pairs) (sym same) ∙ set-reads_back dict (dict_set dict pair.key pair.value) pair.key pair.value refl in
+          rest ∙ ap (λ o. option_or o (dict_get (dict_set dict pair.key pair.value).pairs key)) last ∙ stored ∙ sym (simp here)
+      | false ↦ λ past.
+          let differ : key ≢ pair.key = λ is. false≢true (sym past ∙ ap (same_key pair.key) is ∙ same_key-refl pair.key) in
+          rest ∙ ap (λ o. option_or (dict_get others key) o) (set-others dict (dict_set dict pair.key pair.value) pair.key pair.value refl key differ) ∙ sym (simp past)
+    ] refl
+
+-- ---- copies
+
+items-pairs_from : (next : ℕ) (pairs : List DictPair) → items_of (pairs_from next pairs) ≡ items_of pairs
+items-pairs_from next [] = refl
+items-pairs_from next (pair ∷ pairs) = ap (λ (rest : List (Key × Value)). (pair.key, pair.value) ∷ rest) (items-pairs_from (next + 1) pairs)
+
+pub copy_same : (dict : DictContent) (pairs : List DictPair) → items_of (dict_copy dict pairs).pairs ≡ items_of pairs
+copy_same dict pairs = items-pairs_from dict.next pairs
+
+pub copy_fresh : (dict : DictContent) (pairs : List DictPair) → All (λ pair. dict.next ≤ pair.serial) (dict_copy dict pairs).pairs
+copy_fresh dict pairs = λ k d low. let count : length (pairs_from dict.next pairs) ≡ length pairs = length-pairs_from dict.next pairs in rw (get-pairs_from dict.next pairs k d (omega arith)) (omega arith)

@@ -1,11 +1,12 @@
 -- What a dict has after a call.
 use Rattle.std.proofs.Common.{◌≡◌, ◌≢◌, ℕ, ◌+◌, ◌<◌, true, false, List, [], ◌∷◌, ◌++◌, length, get_or, set, Some, None, refl, sym, ap, ◌∙◌, arith, inl, inr, position, ltb}
-use Rattle.std.specs.Prelude.{AllPairs, All, pos, if◌then◌else◌}
+use Rattle.std.specs.Prelude.{AllPairs, All, Bool, not, ◌||◌, filter, pos, if◌then◌else◌}
 use Rattle.std.specs.List.{position_or_len}
 use Rattle.std.proofs.lemmas.Bool.{cases_eq, cases_lt, lt-ltb, false≢true}
 use Rattle.std.proofs.lemmas.List.{same_lists, get_or-map, get_or-set_same, get_or-set_other, length-map, length-set, get_or_default, get_or_read}
 use Rattle.std.proofs.lemmas.List.Quantifiers.{position-Some, all_pairs_push}
-use Rattle.std.proofs.lemmas.List.Elements.{All-push}
+use Rattle.std.proofs.lemmas.List.Elements.{All-push, All-filter}
+use Rattle.std.proofs.lemmas.List.Kept.{AllPairs-filter}
 use Rattle.std.proofs.lemmas.List.Folds.{list_any_none, list_any-from_Any}
 use Rattle.std.proofs.lemmas.List.Sums.{fails_before_first}
 use Rattle.ft_model.specs.declared.data.Key.{Key}
@@ -14,7 +15,7 @@ use Rattle.ft_model.specs.declared.data.Value.{Value}
 use Rattle.ft_model.specs.declared.data.Value.TheVariants.{Nothing}
 use Rattle.ft_model.specs.declared.content.DictPair.{DictPair}
 use Rattle.ft_model.specs.Keys.{same_key}
-use Rattle.ft_model.specs.Contents.{DictContent, IsDict, is_at, has_key, with_value, dict_set}
+use Rattle.ft_model.specs.Contents.{DictContent, IsDict, is_at, has_key, dict_get, with_value, dict_set, dict_del}
 use Rattle.ft_model.proofs.KeyLemmas.{same_key-true, same_key-refl}
 
 abbrev with_new : DictPair → Value → DictPair
@@ -113,3 +114,32 @@ IsDict-set next pairs key value i pair is_dict found at =
       rising = λ j k d lt within. rw (serial_at j d, serial_at k d) (is_dict.rising j k d lt (omega arith));
       below = λ k d within. rw (serial_at k d) (is_dict.below k d (omega arith));
     }
+
+-- some of the pairs of a dict, in their order, are those of a dict
+pub IsDict-filter : (next : ℕ) (pairs : List DictPair) (stays : DictPair → Bool) → IsDict next pairs → IsDict next (filter stays pairs)
+IsDict-filter next pairs stays is_dict =
+    record {
+      distinct = AllPairs-filter (λ a b. a.key ≢ b.key) stays pairs is_dict.distinct;
+      rising = AllPairs-filter (λ a b. a.serial < b.serial) stays pairs is_dict.rising;
+      below = All-filter stays (λ pair. pair.serial < next) pairs is_dict.below;
+    }
+
+-- a key that isn't there has no value, and the pairs without it are the pairs
+pub has_key_none : (pairs : List DictPair) (key : Key) → dict_get pairs key ≡ None → has_key pairs key ≡ false
+has_key_none [] key none = refl
+has_key_none (pair ∷ pairs) key none =
+    elim (is_at key pair) as (λ b. is_at key pair ≡ b → has_key (pair ∷ pairs) key ≡ false) [
+      | true ↦ λ here. absurd (let some : Some pair.value ≡ None = simp here at none in cc)
+      | false ↦ λ no. simp no (has_key_none pairs key (simp no at none))
+    ] refl
+
+del-missing : (pairs : List DictPair) (key : Key) → has_key pairs key ≡ false → filter (λ pair. not (is_at key pair)) pairs ≡ pairs
+del-missing [] key absent = refl
+del-missing (pair ∷ pairs) key absent =
+    elim (is_at key pair) as (λ b. is_at key pair ≡ b → filter (λ pair. not (is_at key pair)) (pair ∷ pairs) ≡ pair ∷ pairs) [
+      | true ↦ λ here. absurd (false≢true (sym absent ∙ simp here))
+      | false ↦ λ no. simp no (ap (λ (rest : List DictPair). pair ∷ rest) (del-missing pairs key (simp no at absent)))
+    ] refl
+
+pub del_missing : (dict : DictContent) (key : Key) → has_key dict.pairs key ≡ false → dict_del dict key ≡ dict
+del_missing dict key absent = ap (λ (pairs : List DictPair). let r : DictContent = record { next = dict.next; pairs = pairs } in r) (del-missing dict.pairs key absent)

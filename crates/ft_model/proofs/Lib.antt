@@ -1,3 +1,10 @@
 pub mod KeyLemmas
 pub mod Dicts
 pub mod DictLaws
+pub mod Copies
+pub mod Sets
+pub mod Places
+pub mod AnswerLaws
+pub mod SetLaws
+pub mod ListLaws
+pub mod CursorLaws

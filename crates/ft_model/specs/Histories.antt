@@ -1,57 +1,181 @@
--- What makes a list of answered calls a legal history of a script.
-use Rattle.std.specs.Prelude.{◌≡◌, ℕ, List, [], map, filter, fold, take, length, All, Some, None, slice_get, ◌==◌}
+-- What makes a list of answered calls a legal history of a script: what each entry has to say at its place.
+use Rattle.std.specs.Prelude.{◌≡◌, ◌≢◌, ℕ, Bool, true, false, not, ◌&&◌, ◌+◌, ◌≤◌, List, [], ◌∷◌, ◌++◌, map, filter, fold, take, drop, length, Option, Some, is_some, IfSome, slice_get, ◌==◌, ◌⊎◌, if◌then◌else◌}
 use Rattle.std.specs.declared.cmp.Ordering.{Ordering}
 use Rattle.std.specs.Ordering.{nat_cmp, bool_cmp, ordering_then}
 use Rattle.std.specs.Option.{option_map_or}
-use Rattle.std.specs.List.{range_with_len}
+use Rattle.std.specs.List.{range_with_len, between, count_by, enumerate_from, list_any}
 use Rattle.std.specs.List.Sorted.{IsSorted}
 use Rattle.ft_model.specs.declared.call.Call.{Call}
+use Rattle.ft_model.specs.declared.call.Call.TheVariants as call
+use Rattle.ft_model.specs.declared.reply.Reply.{Reply}
+use Rattle.ft_model.specs.declared.reply.Reply.TheVariants as reply
 use Rattle.ft_model.specs.declared.content.Content.{Content}
+use Rattle.ft_model.specs.declared.cursor.Cursor.{Cursor}
 use Rattle.ft_model.specs.declared.entry.Entry.{Entry}
-use Rattle.ft_model.specs.declared.script.Script.{Script}
-use Rattle.ft_model.specs.Worlds.{start_world, no_hands}
-use Rattle.ft_model.specs.Answers.{answer, is_write}
+use Rattle.ft_model.specs.declared.entry.Storage.{Storage}
+use Rattle.ft_model.specs.declared.script.ScriptParts.{ScriptParts}
+use Rattle.ft_model.specs.Calls.{containers_of}
+use Rattle.ft_model.specs.Worlds.{start_world, start_hands, objects_of}
+use Rattle.ft_model.specs.Answers.{answer, after_write, is_memory, is_write}
+use Rattle.ft_model.specs.Tables.{IsEarned}
+
+-- ---- order
 
 -- by stamp, reads before the write of that number, then by thread and by index (profile)
 abbrev pub history_cmp : Entry → Entry → Ordering
 history_cmp a b = ordering_then (nat_cmp a.stamp b.stamp) (ordering_then (bool_cmp a.wrote b.wrote) (ordering_then (nat_cmp a.thread b.thread) (nat_cmp a.index b.index)))
 
+-- ---- the world and the hands at a place; places count from 0
+
 -- the calls that are marked as writes, in order (profile)
 abbrev pub writes : List Entry → List Call
 writes entries = map (λ entry. entry.call) (filter (λ entry. entry.wrote) entries)
 
--- the world that a write leaves, whoever's it is (profile)
-abbrev pub after_write : List Content → Call → List Content
-after_write world call = (answer world no_hands call).world
-
 -- the start world after the first n writes of the history (profile)
-abbrev pub world_at : Script → List Entry → ℕ → List Content
+abbrev pub world_at : ScriptParts → List Entry → ℕ → List Content
 world_at script entries n = fold after_write (start_world script.containers) (take n (writes entries))
-
--- an entry is what the plain containers reply at its place (profile)
-pub record IsAnswered (script : Script) (entries : List Entry) (place : ℕ) (entry : Entry) : Type 0 where
-  -- its stamp is the number of writes before it
-  pub stamp : entry.stamp ≡ length (writes (take place entries))
-  pub wrote : entry.wrote ≡ is_write entry.call entry.reply
-  pub reply : entry.reply ≡ (answer (world_at script entries entry.stamp) no_hands entry.call).reply
 
 -- a thread's entries, in order (profile)
 abbrev pub entries_of : ℕ → List Entry → List Entry
 entries_of thread entries = filter (λ entry. entry.thread == thread) entries
 
 -- a thread's calls in the script; none where there is no such thread (profile)
-abbrev pub calls_of : Script → ℕ → List Call
+abbrev pub calls_of : ScriptParts → ℕ → List Call
 calls_of script thread = option_map_or (λ found. found.calls) (slice_get script.threads thread) []
 
+-- how many cursors a thread has in the script (profile)
+abbrev pub cursors_of : ScriptParts → ℕ → ℕ
+cursors_of script thread = option_map_or (λ found. length found.cursors) (slice_get script.threads thread) 0
+
+-- the hands that an entry leaves to its thread; a MemoryError leaves them as they were (profile)
+abbrev pub after_entry : ScriptParts → List Entry → List (Option Cursor) → Entry → List (Option Cursor)
+after_entry script entries hands entry = if is_memory entry.reply then hands else (answer (world_at script entries entry.stamp) hands entry.call).hands
+
+-- the hands of a thread at a place: those that its entries before it leave (profile)
+abbrev pub hands_at : ScriptParts → List Entry → ℕ → ℕ → List (Option Cursor)
+hands_at script entries thread place = fold (after_entry script entries) (start_hands (cursors_of script thread)) (entries_of thread (take place entries))
+
+-- ---- answers
+
+-- what a call may reply at a place: a section is entered, and ends kept or suspended (C API, critical sections); a container replies as the plain one does there, or raises a MemoryError
+abbrev pub IsReplied : Call → Reply → Reply → Type 0
+IsReplied (call.Begin first second) said plain = said ≡ reply.Entered
+IsReplied call.End said plain = (said ≡ reply.Kept) ⊎ ((count : ℕ) × (said ≡ reply.Suspended count))
+IsReplied call.Quiesce said plain = said ≡ reply.Done
+IsReplied other said plain = (is_memory said ≡ true) ⊎ (said ≡ plain)
+
+-- an entry is what the plain containers reply at its place (profile)
+pub record IsAnswered (script : ScriptParts) (entries : List Entry) (place : ℕ) (entry : Entry) : Type 0 where
+  -- its stamp is the number of writes before it
+  pub stamp : entry.stamp ≡ length (writes (take place entries))
+  pub wrote : entry.wrote ≡ is_write entry.call entry.reply
+  pub reply : IsReplied entry.call entry.reply (answer (world_at script entries entry.stamp) (hands_at script entries entry.thread place) entry.call).reply
+
+-- ---- whole histories
+
 -- each thread's entries are its calls in the script, each once, in its order (profile)
-pub record IsWhole (script : Script) (entries : List Entry) : Type 0 where
+pub record IsWhole (script : ScriptParts) (entries : List Entry) : Type 0 where
   pub calls : (thread : ℕ) → map (λ entry. entry.call) (entries_of thread entries) ≡ calls_of script thread
   pub indexes : (thread : ℕ) → map (λ entry. entry.index) (entries_of thread entries) ≡ range_with_len 1 (length (entries_of thread entries))
 
--- a history of the script that containers of one thread can have (profile)
-pub record IsLegal (script : Script) (entries : List Entry) : Type 0 where
+-- ---- sections
+
+-- an open section: its containers, and the place of its `begin` in the history (C API, critical sections)
+pub record Section : Type 0 where
+  pub objects : List ℕ
+  pub begun : ℕ
+
+-- the open sections of a thread after a call of it, innermost first
+abbrev pub after_section : ℕ → Call → List Section → List Section
+after_section place (call.Begin first second) sections = record { objects = containers_of (call.Begin first second); begun = place } ∷ sections
+after_section place call.End sections = drop 1 sections
+after_section place other sections = sections
+
+-- the open sections after an entry at its place, where the thread is the entry's
+abbrev pub after_numbered : ℕ → List Section → ℕ × Entry → List Section
+after_numbered thread sections numbered = if numbered.1.thread == thread then after_section numbered.0 numbered.1.call sections else sections
+
+-- the open sections of a thread at a place, innermost first
+abbrev pub sections_at : List Entry → ℕ → ℕ → List Section
+sections_at entries thread place = fold (after_numbered thread) [] (enumerate_from 0 (take place entries))
+
+-- the containers of the innermost open section, where there is one
+abbrev pub innermost : List Section → List ℕ
+innermost [] = []
+innermost (section ∷ sections) = section.objects
+
+-- of an `end`, this holds for the section that it ends: the innermost open one
+abbrev pub IfEnds : List Section → Call → (Section → Type 0) → Type 0
+IfEnds (section ∷ sections) call.End P = P section
+IfEnds sections other P = Unit {0}
+
+-- whether a call names the container
+abbrev pub names : ℕ → Call → Bool
+names object called = list_any (λ named. named == object) (containers_of called)
+
+-- whether an entry is another thread's write on one of the containers
+abbrev pub disturbs : ℕ → List ℕ → Entry → Bool
+disturbs thread objects entry = (entry.wrote && not (entry.thread == thread)) && list_any (λ object. names object entry.call) objects
+
+-- whether another thread's write on the section's containers stands between its `begin` and a place
+abbrev pub is_disturbed : List Entry → ℕ → ℕ → Section → Bool
+is_disturbed entries thread place section = list_any (disturbs thread section.objects) (between (section.begun + 1) place entries)
+
+-- whether an entry is a call of the thread that waited for a lock
+abbrev pub is_marked : ℕ → Entry → Bool
+is_marked thread entry = (entry.thread == thread) && is_some entry.waited
+
+-- how many calls of the thread strictly between the section's `begin` and a place waited for a lock (profile)
+abbrev pub marks_between : List Entry → ℕ → ℕ → Section → ℕ
+marks_between entries thread place section = count_by (is_marked thread) (between (section.begun + 1) place entries)
+
+-- `end` says kept only where no other thread wrote in between (C API, critical sections: the locks were held all the while)
+abbrev pub IsKeptBy : List Entry → ℕ → ℕ → Section → Reply → Type 0
+IsKeptBy entries thread place section reply.Kept = is_disturbed entries thread place section ≡ false
+IsKeptBy entries thread place section said = Unit {0}
+
+-- `end` says kept where no call in the section waited, and else how many did (C API, critical sections: a thread that would block may let its locks go; the count: profile)
+abbrev pub IsCountedBy : List Entry → ℕ → ℕ → Section → Reply → Type 0
+IsCountedBy entries thread place section reply.Kept = marks_between entries thread place section ≡ 0
+IsCountedBy entries thread place section (reply.Suspended count) = (1 ≤ count) × (marks_between entries thread place section ≡ count)
+IsCountedBy entries thread place section said = Unit {0}
+
+-- an `end` that says kept is right
+abbrev pub IsKept : List Entry → ℕ → Entry → Type 0
+IsKept entries place entry = IfEnds (sections_at entries entry.thread place) entry.call (λ section. IsKeptBy entries entry.thread place section entry.reply)
+
+-- an `end` says how many calls in its section waited
+abbrev pub IsCounted : List Entry → ℕ → Entry → Type 0
+IsCounted entries place entry = IfEnds (sections_at entries entry.thread place) entry.call (λ section. IsCountedBy entries entry.thread place section entry.reply)
+
+-- ---- marks
+
+-- whether the thread has a call in the script that names the container
+abbrev pub has_call_on : ScriptParts → ℕ → ℕ → Bool
+has_call_on script thread object = list_any (names object) (calls_of script thread)
+
+-- the containers whose locks a call needs: its own, and those of the section that is innermost behind it, which it enters or takes up again (C API, critical sections)
+abbrev pub needs_at : ScriptParts → List Entry → ℕ → Entry → List ℕ
+needs_at script entries place entry =
+    objects_of (hands_at script entries entry.thread place) entry.call
+    ++ innermost (after_section place entry.call (sections_at entries entry.thread place))
+
+-- a mark names another thread that has a call on a container that the marked call needs (profile)
+abbrev pub IsMarked : ScriptParts → List Entry → ℕ → Entry → Type 0
+IsMarked script entries place entry = IfSome entry.waited (λ thread. (thread ≢ entry.thread) × (list_any (has_call_on script thread) (needs_at script entries place entry) ≡ true))
+
+-- ---- legal histories
+
+-- this holds of each entry at its place
+abbrev pub EachAt : List Entry → (ℕ → Entry → Type 0) → Type 0
+EachAt entries P = (place : ℕ) (entry : Entry) → slice_get entries place ≡ Some entry → P place entry
+
+-- a history of the script that containers of one thread can have, each of whose MemoryErrors has its cause (profile)
+pub record IsLegal (storage : Storage) (script : ScriptParts) (entries : List Entry) : Type 0 where
   pub order : IsSorted history_cmp entries
-  pub answered : (place : ℕ) (entry : Entry) → slice_get entries place ≡ Some entry → IsAnswered script entries place entry
   pub whole : IsWhole script entries
-  -- no call of a script with one thread waits for another
-  pub marks : All (λ entry. entry.waited ≡ None) entries
+  pub answered : EachAt entries (IsAnswered script entries)
+  pub marked : EachAt entries (IsMarked script entries)
+  pub kept : EachAt entries (IsKept entries)
+  pub counted : EachAt entries (IsCounted entries)
+  pub earned : EachAt entries (λ place entry. IsEarned storage script (writes (take place entries)) entry)

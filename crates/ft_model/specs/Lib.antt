@@ -1,6 +1,14 @@
 pub mod Keys
+pub mod Calls
 pub mod Contents
+pub mod Lists
+pub mod Cursors
+pub mod Names
+pub mod Scripts
 pub mod Worlds
 pub mod Answers
+pub mod Tables
 pub mod Histories
+pub mod Judging
+pub mod Chronicles
 pub mod Parts

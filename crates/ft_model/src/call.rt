@@ -1,66 +1,303 @@
 use crate::data::{Key, Value};
 
-/// A call of a script. It names its container by its place in the script's declarations.
+/// A call of a script. Containers are named by their places in the script's declarations, cursors
+/// by their numbers among those of the calling thread.
 #[derive(Clone, Copy, Debug, PartialEq, Eq, Hash)]
 pub enum Call {
-    /// `d[k]`: the value at the key, or a KeyError where the key isn't there (Python manual,
-    /// Mapping Types).
-    DictGet {
-        /// The container.
-        dict: u32,
+    /// A call of a dict (Python manual, Mapping Types).
+    Dict {
+        /// The dict.
+        container: u32,
+        /// What is called.
+        call: DictCall,
+    },
+    /// A call of a list (Python manual, Sequence Types).
+    List {
+        /// The list.
+        container: u32,
+        /// What is called.
+        call: ListCall,
+    },
+    /// A call of a set (Python manual, Set Types).
+    Set {
+        /// The set.
+        container: u32,
+        /// What is called.
+        call: SetCall,
+    },
+    /// `next(c)`: the cursor's next pair, item or element, or the end of its walk (Python manual,
+    /// Iterator Types).
+    Next {
+        /// The cursor.
+        cursor: u32,
+    },
+    /// Begins a critical section on one or two containers (C API, critical sections). Two equal
+    /// containers count as one.
+    Begin {
+        /// The container, or the first of two.
+        first: u32,
+        /// The second of two.
+        second: Option<u32>,
+    },
+    /// Ends the critical section that was begun last (C API, critical sections).
+    End,
+    /// Says that the thread uses nothing that it read before.
+    Quiesce,
+}
+
+/// A call of a dict (Python manual, Mapping Types).
+#[derive(Clone, Copy, Debug, PartialEq, Eq, Hash)]
+pub enum DictCall {
+    /// `d[k]`, a KeyError where the key isn't there.
+    Get {
         /// What is looked up.
         key: Key,
     },
-    /// `d[k] = v`: sets the value at the key, which goes last where it wasn't there (Python manual,
-    /// Mapping Types).
-    DictSet {
-        /// The container.
-        dict: u32,
+    /// `d.get(k, v)`: the value at the key, or the default.
+    GetOr {
+        /// What is looked up.
+        key: Key,
+        /// What is answered where the key isn't there.
+        default: Value,
+    },
+    /// `d[k] = v`: a new key goes last, an old one keeps its place.
+    Set {
         /// Where the value goes.
         key: Key,
         /// What is stored.
         value: Value,
     },
+    /// `del d[k]`, a KeyError where the key isn't there.
+    Del {
+        /// What is taken out.
+        key: Key,
+    },
+    /// `d.pop(k)`: takes the pair out and gives its value, a KeyError where the key isn't there.
+    Pop {
+        /// What is taken out.
+        key: Key,
+    },
+    /// `d.pop(k, v)`: takes the pair out and gives its value, or gives the default.
+    PopOr {
+        /// What is taken out.
+        key: Key,
+        /// What is answered where the key isn't there.
+        default: Value,
+    },
+    /// `d.popitem()`: takes the last pair out, a KeyError where there is none.
+    PopItem,
+    /// `d.setdefault(k, v)`: the value at the key; the default is stored first where the key isn't
+    /// there.
+    SetDefault {
+        /// What is looked up.
+        key: Key,
+        /// What is stored where the key isn't there.
+        default: Value,
+    },
+    /// `k in d`.
+    Has {
+        /// What is looked for.
+        key: Key,
+    },
+    /// `len(d)`.
+    Len,
+    /// `d.items()`, all of them in order.
+    Items,
+    /// `d.update(e)`: sets each pair of the other dict, in its order.
+    Update {
+        /// The dict whose pairs are set.
+        other: u32,
+    },
+    /// `d.clear()`.
+    Clear,
+    /// Gives the other dict these pairs, in this order, in place of its own.
+    CopyTo {
+        /// The dict that gets the pairs.
+        other: u32,
+    },
+    /// `d == e`: the same keys with equal values, in any order.
+    Eq {
+        /// The dict to compare with.
+        other: u32,
+    },
+    /// `c = iter(d.items())`.
+    Iter {
+        /// The number of the cursor that is made, or made anew.
+        cursor: u32,
+    },
 }
 
-/// An exception, by its class.
+/// A call of a list (Python manual, Sequence Types). A negative index counts from the end.
 #[derive(Clone, Copy, Debug, PartialEq, Eq, Hash)]
-pub enum Raise {
-    /// KeyError: a mapping has no such key (Python manual, Mapping Types).
-    NoKey,
+pub enum ListCall {
+    /// `l.append(v)`.
+    Append {
+        /// What goes last.
+        value: Value,
+    },
+    /// `l.insert(i, v)`: the index is clamped to the list.
+    Insert {
+        /// Before which item the value goes.
+        index: i64,
+        /// What goes there.
+        value: Value,
+    },
+    /// `l[i]`, an IndexError where there is no such item.
+    Get {
+        /// Which item.
+        index: i64,
+    },
+    /// `l[i] = v`, an IndexError where there is no such item.
+    Set {
+        /// Which item.
+        index: i64,
+        /// What is stored there.
+        value: Value,
+    },
+    /// `del l[i]`, an IndexError where there is no such item.
+    Del {
+        /// Which item.
+        index: i64,
+    },
+    /// `l.pop()` or `l.pop(i)`: takes the last item or item i out, an IndexError where there is
+    /// none.
+    Pop {
+        /// Which item, or the last one.
+        index: Option<i64>,
+    },
+    /// `l.remove(v)`: takes the first equal item out, a ValueError where there is none.
+    Remove {
+        /// What is taken out.
+        value: Value,
+    },
+    /// `l.index(v)`: the index of the first equal item, a ValueError where there is none.
+    Index {
+        /// What is looked for.
+        value: Value,
+    },
+    /// `l.count(v)`: how many items are equal.
+    Count {
+        /// What is counted.
+        value: Value,
+    },
+    /// `v in l`.
+    Has {
+        /// What is looked for.
+        value: Value,
+    },
+    /// `l.reverse()`.
+    Reverse,
+    /// `l.extend(m)`.
+    Extend {
+        /// The list whose items go last.
+        other: u32,
+    },
+    /// `l[i:j]`, both ends clamped to the list.
+    Slice {
+        /// The first index.
+        start: i64,
+        /// The index behind the last.
+        end: i64,
+    },
+    /// `l.clear()`.
+    Clear,
+    /// `len(l)`.
+    Len,
+    /// All items, in order.
+    Items,
+    /// `l == m`: equal items in the same order.
+    Eq {
+        /// The list to compare with.
+        other: u32,
+    },
+    /// `c = iter(l)`.
+    Iter {
+        /// The number of the cursor that is made, or made anew.
+        cursor: u32,
+    },
 }
 
-/// What a call answers.
+/// A call of a set (Python manual, Set Types). Elements are walked in the order in which they were
+/// added.
 #[derive(Clone, Copy, Debug, PartialEq, Eq, Hash)]
-pub enum Reply {
-    /// The call was done, and has nothing to show.
-    Done,
-    /// The value that the call found.
-    Value(Value),
-    /// The exception that the call raised.
-    Raised(Raise),
+pub enum SetCall {
+    /// `s.add(k)`.
+    Add {
+        /// What is added.
+        key: Key,
+    },
+    /// `s.discard(k)`.
+    Discard {
+        /// What is taken out where it is there.
+        key: Key,
+    },
+    /// `s.remove(k)`, a KeyError where the element isn't there.
+    Remove {
+        /// What is taken out.
+        key: Key,
+    },
+    /// `s.pop()`: takes the first element out, a KeyError where there is none.
+    Pop,
+    /// `k in s`.
+    Has {
+        /// What is looked for.
+        key: Key,
+    },
+    /// `len(s)`.
+    Len,
+    /// All elements, in order.
+    Items,
+    /// `s == t`, in any order.
+    Eq {
+        /// The set to compare with.
+        other: u32,
+    },
+    /// `s |= t`: adds the other's elements.
+    Or {
+        /// The other set.
+        other: u32,
+    },
+    /// `s &= t`: keeps the elements that the other has.
+    And {
+        /// The other set.
+        other: u32,
+    },
+    /// `s -= t`: takes the other's elements out.
+    Sub {
+        /// The other set.
+        other: u32,
+    },
+    /// `s ^= t`: keeps the elements that the other hasn't, and adds the other's that this hadn't.
+    Xor {
+        /// The other set.
+        other: u32,
+    },
+    /// `s <= t`.
+    Subset {
+        /// The other set.
+        other: u32,
+    },
+    /// `s.isdisjoint(t)`.
+    Disjoint {
+        /// The other set.
+        other: u32,
+    },
+    /// `s.clear()`.
+    Clear,
+    /// `c = iter(s)`.
+    Iter {
+        /// The number of the cursor that is made, or made anew.
+        cursor: u32,
+    },
 }
 
-impl Call {
-    ghost use Rattle.std.specs.Prelude.{◌≡◌};
-    ghost use Rattle.ft_model.specs.Answers.{is_changing};
-
-    /// Whether the call is of a kind that changes a container.
-    pub fn is_changing(&self) -> bool
-        ensures { result ≡ is_changing self.now }
-    {
-        matches!(self, Call::DictSet { .. })
-    }
-}
-
-impl Reply {
-    ghost use Rattle.std.specs.Prelude.{◌≡◌};
-    ghost use Rattle.ft_model.specs.Answers.{is_raised};
-
-    /// Whether the reply is an exception.
-    pub fn is_raised(&self) -> bool
-        ensures { result ≡ is_raised self.now }
-    {
-        matches!(self, Reply::Raised(_))
-    }
+/// The containers that a call names: none, one, or two that differ.
+#[derive(Clone, Copy, Debug, PartialEq, Eq, Hash)]
+pub enum Containers {
+    /// None.
+    None,
+    /// One, which may be named twice.
+    One(u32),
+    /// The one that the call is made on, and the other.
+    Two(u32, u32),
 }

@@ -12,6 +12,21 @@ pub enum Key {
     Text(Sym),
 }
 
+impl Key {
+    ghost use Rattle.std.specs.Prelude.{◌≡◌};
+    ghost use Rattle.ft_model.specs.Keys.{as_value};
+
+    /// The value that the key is.
+    pub fn into_value(self) -> Value
+        ensures { result ≡ as_value self }
+    {
+        match self {
+            Key::Int(integer) => Value::Int(integer),
+            Key::Text(text) => Value::Text(text),
+        }
+    }
+}
+
 /// What a container holds: `None`, an integer of 64 bits or a string.
 #[derive(Clone, Copy, Debug, PartialEq, Eq, Hash)]
 pub enum Value {

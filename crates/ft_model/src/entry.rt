@@ -1,7 +1,8 @@
-use crate::call::{Call, Reply};
+use crate::call::Call;
+use crate::reply::Reply;
 
 /// A call of a history with its reply and its place.
-#[derive(Clone, Copy, Debug, PartialEq, Eq, Hash)]
+#[derive(Debug, PartialEq, Eq, Drop)]
 pub struct Entry {
     /// The thread, by its place in the script.
     pub thread: u32,
@@ -17,6 +18,15 @@ pub struct Entry {
     pub reply: Reply,
     /// The thread that held a lock when this call first could not go on, where that happened.
     pub waited: Option<u32>,
+}
+
+/// What the containers of a history are stored in, which decides when a MemoryError is right.
+#[derive(Clone, Copy, Debug, PartialEq, Eq, Hash)]
+pub enum Storage {
+    /// Plain memory: no call raises a MemoryError.
+    Plain,
+    /// Tables of classes, of which a script has so many each.
+    Tables,
 }
 
 /// What a history that isn't legal breaks.

@@ -2,20 +2,40 @@
 //! what makes a list of answered calls a legal history of a script.
 #![tactic(auto)]
 
+mod accepts;
+mod answers;
 mod call;
+mod call_kinds;
 mod content;
+mod cursor;
+mod cursor_calls;
 mod data;
+mod dict;
+mod dict_calls;
 mod entry;
+mod list;
+mod list_calls;
+mod reply;
 mod script;
 mod sequence;
+mod set;
+mod set_calls;
 #[cfg(test)]
 mod tests;
 mod world;
 
-pub use call::{Call, Raise, Reply};
-pub use content::{Content, Dict, DictPair};
+pub use accepts::{has_room, is_declared};
+pub use answers::apply;
+pub use call::{Call, Containers, DictCall, ListCall, SetCall};
+pub use content::{Content, DictPair, Element};
+pub use cursor::{Cursor, Walk};
+pub use cursor_calls::{Step, advance};
 pub use data::{Key, Sym, Value};
-pub use entry::{Entry, Rule};
-pub use script::{Declaration, Kind, Script, Text, Thread};
+pub use dict::Dict;
+pub use entry::{Entry, Rule, Storage};
+pub use list::List;
+pub use reply::{Keys, Pairs, Raise, Reply, Values};
+pub use script::{Declaration, Kind, Script, ScriptParts, Text, Thread};
 pub use sequence::Sequence;
-pub use world::{Hands, World, apply};
+pub use set::Set;
+pub use world::{Hands, World};

@@ -1,5 +1,6 @@
 use crate::call::Call;
 use crate::sequence::Sequence;
+use std::marker::Model;
 
 /// The bytes of a text, in UTF-8.
 pub type Text = Sequence<u8>;
@@ -9,6 +10,10 @@ pub type Text = Sequence<u8>;
 pub enum Kind {
     /// A dict (Python manual, Mapping Types).
     Dict,
+    /// A list (Python manual, Sequence Types).
+    List,
+    /// A set (Python manual, Set Types).
+    Set,
 }
 
 /// A container of a script.
@@ -25,18 +30,74 @@ pub struct Declaration {
 pub struct Thread {
     /// The name that the script gives it.
     pub name: Text,
+    /// The names of its cursors, which its calls name by their places here.
+    pub cursors: Sequence<Text>,
     /// Its calls, in the order in which it makes them.
     pub calls: Sequence<Call>,
 }
 
-/// A script: its containers and threads in the order of declaration, and the distinct strings of
-/// its calls, each at the place that its `Sym` says.
+/// The parts of a script: its containers and threads in the order of declaration, and the distinct
+/// strings of its calls, each at the place that its `Sym` says.
 #[derive(Debug, Drop)]
-pub struct Script {
+pub struct ScriptParts {
     /// The containers, which calls name by their places here.
     pub containers: Sequence<Declaration>,
     /// The threads, which entries name by their places here.
     pub threads: Sequence<Thread>,
     /// The distinct strings.
     pub strings: Sequence<Text>,
+    /// How many tables there are of each class, from class 3 to class 12.
+    pub tables: Sequence<u32>,
+    /// How many places the heap of each thread has.
+    pub heap: u32,
+    /// The threads whose turns come first, one turn for each name here.
+    pub order: Sequence<u32>,
+}
+
+/// A script. Its names, kinds, cursors, sections and limits are what a script's have to be, so that
+/// whoever is given one may rest on them.
+#[derive(Debug, Drop)]
+pub struct Script {
+    parts: ScriptParts,
+}
+
+impl Model for Script {
+    ghost use Rattle.ft_model.specs.declared.script.ScriptParts.{ScriptParts};
+    ghost use Rattle.ft_model.specs.Scripts.{IsScript};
+
+    ghost Value = { ScriptParts };
+
+    ghost view = { λ s. s.parts };
+
+    ghost invariant = { λ s. IsScript s.parts };
+}
+
+impl Script {
+    ghost use Rattle.std.specs.Prelude.{◌≡◌};
+    ghost use Rattle.ft_model.specs.Scripts.{IsScript};
+
+    /// The script of these parts.
+    pub fn new(parts: ScriptParts) -> Self
+        requires { IsScript parts }
+        ensures { result ≡ parts }
+    {
+        Script { parts }
+    }
+
+    /// Its parts.
+    pub fn parts(&self) -> &ScriptParts
+        ensures parts { result.now ≡ self.now }
+        ensures rule { IsScript self.now }
+    {
+        &self.parts
+    }
+
+    /// Gives the parts back.
+    pub fn into_parts(self) -> ScriptParts
+        ensures parts { result ≡ self }
+        ensures rule { IsScript self }
+    {
+        let Script { parts } = self;
+        parts
+    }
 }

@@ -1,111 +1,100 @@
-use crate::{
-    Call, Content, Declaration, Dict, DictPair, Hands, Key, Kind, Raise, Reply, Sequence, Sym,
-    Value, World, apply,
-};
-use std::test::Fail;
+mod printing;
+mod reading;
+mod tables;
 
-const fn pair(serial: u64, key: Key, value: Value) -> DictPair {
-    DictPair { serial, key, value }
+use crate::{Declaration, Hands, Kind, Sequence, World, apply, has_room, is_declared};
+use printing::{print_content, print_reply};
+use reading::read_call;
+use std::process::Abort;
+use std::test::Fail;
+use tables::{DICTS, KINDS, LISTS, SETS};
+
+/// Calls that are made one after the other, what each replies, and what the containers named have
+/// in the end.
+pub struct Case {
+    calls: &'static str,
+    replies: &'static str,
+    contents: &'static str,
 }
 
-// d = {}; d[7] = 1; d["s"] = None; d[-1] = "s"; d[7] = 2, and then a key at each end of 64 bits.
+fn start(alloc: std::alloc::Global) -> Result<World, Fail> {
+    let kinds = [
+        Kind::Dict,
+        Kind::Dict,
+        Kind::List,
+        Kind::List,
+        Kind::Set,
+        Kind::Set,
+    ];
+    let mut declared = Vec::new(alloc);
+    for kind in kinds {
+        let name = Sequence::new(alloc);
+        declared.push(Declaration { kind, name })?;
+    }
+    Ok(World::start(alloc, &declared)?)
+}
+
+fn check(rt: &(impl Abort + AllocGlobal), case: &Case) -> Result<(), Fail> {
+    let alloc = rt.alloc();
+    let mut world = start(alloc)?;
+    let mut hands = Hands::start(alloc, 3)?;
+    let mut replies = String::new(alloc);
+    for text in case.calls.split(" / ") {
+        let call = read_call(text).ok_or("call")?;
+        assert!(rt; is_declared(&world, &hands, &call), "{text}");
+        assert!(rt; has_room(&world, &call));
+        let reply = apply(alloc, &mut world, &mut hands, &call)?;
+        if replies.len() > 0 {
+            replies.push_str(" / ")?;
+        }
+        replies.push_str(print_reply(alloc, &reply)?.as_str())?;
+    }
+    assert_eq!(rt; replies.as_str(), case.replies, "{}", case.calls);
+
+    let mut contents = String::new(alloc);
+    for content in world.contents() {
+        if content.len() > 0 {
+            if contents.len() > 0 {
+                contents.push_str(" ")?;
+            }
+            contents.push_str(print_content(alloc, content)?.as_str())?;
+        }
+    }
+    assert_eq!(rt; contents.as_str(), case.contents, "{}", case.calls);
+    Ok(())
+}
+
 #[test]
-fn a_dict_keeps_insertion_order(rt: HostRuntime) -> Result<(), Fail> {
-    let word = Sym(0);
-    let mut dict = Dict::new(rt.alloc());
-    dict.set(Key::Int(7), Value::Int(1))?;
-    dict.set(Key::Text(word), Value::Nothing)?;
-    dict.set(Key::Int(-1), Value::Text(word))?;
-    dict.set(Key::Int(7), Value::Int(2))?;
-    let wanted = [
-        pair(0, Key::Int(7), Value::Int(2)),
-        pair(1, Key::Text(word), Value::Nothing),
-        pair(2, Key::Int(-1), Value::Text(word)),
-    ];
-    assert_eq!(rt; dict.pairs(), wanted.as_slice());
-
-    dict.set(
-        Key::Int(9223372036854775807),
-        Value::Int(-9223372036854775808),
-    )?;
-    dict.set(
-        Key::Int(-9223372036854775808),
-        Value::Int(9223372036854775807),
-    )?;
-    let wanted = [
-        pair(0, Key::Int(7), Value::Int(2)),
-        pair(1, Key::Text(word), Value::Nothing),
-        pair(2, Key::Int(-1), Value::Text(word)),
-        pair(
-            3,
-            Key::Int(9223372036854775807),
-            Value::Int(-9223372036854775808),
-        ),
-        pair(
-            4,
-            Key::Int(-9223372036854775808),
-            Value::Int(9223372036854775807),
-        ),
-    ];
-    assert_eq!(rt; dict.pairs(), wanted.as_slice());
-
-    let wanted = [
-        (Key::Int(7), Some(Value::Int(2))),
-        (Key::Text(word), Some(Value::Nothing)),
-        (Key::Int(-1), Some(Value::Text(word))),
-        (
-            Key::Int(9223372036854775807),
-            Some(Value::Int(-9223372036854775808)),
-        ),
-        (
-            Key::Int(-9223372036854775808),
-            Some(Value::Int(9223372036854775807)),
-        ),
-        (Key::Int(0), None),
-        (Key::Text(Sym(7)), None),
-    ];
-    for (key, value) in wanted {
-        assert_eq!(rt; dict.get(key), value, "at {key:?}");
+fn dicts_answer_as_in_python(rt: HostRuntime) -> Result<(), Fail> {
+    for case in &DICTS {
+        check(&rt, case)?;
     }
     Ok(())
 }
 
-// d = {}; d["a"] = 1; d["a"] is 1, and d["b"] is a KeyError.
 #[test]
-fn calls_are_answered(rt: HostRuntime) -> Result<(), Fail> {
-    let declared = [
-        Declaration {
-            kind: Kind::Dict,
-            name: Sequence::from_vec(b"d".to_vec(rt.alloc())?),
-        },
-        Declaration {
-            kind: Kind::Dict,
-            name: Sequence::from_vec(b"e".to_vec(rt.alloc())?),
-        },
-    ];
-    let mut world = World::start(rt.alloc(), &declared)?;
-    let mut hands = Hands;
-    let a = Key::Text(Sym(0));
-    let b = Key::Text(Sym(1));
-    let set = Call::DictSet {
-        dict: 0,
-        key: a,
-        value: Value::Int(1),
-    };
-    let done = apply(&mut world, &mut hands, &set)?;
-    assert_eq!(rt; done, Reply::Done);
-    let found = apply(&mut world, &mut hands, &Call::DictGet { dict: 0, key: a })?;
-    assert_eq!(rt; found, Reply::Value(Value::Int(1)));
-    let missing = apply(&mut world, &mut hands, &Call::DictGet { dict: 0, key: b })?;
-    assert_eq!(rt; missing, Reply::Raised(Raise::NoKey));
-    let elsewhere = apply(&mut world, &mut hands, &Call::DictGet { dict: 1, key: a })?;
-    assert_eq!(rt; elsewhere, Reply::Raised(Raise::NoKey));
-
-    let mut lengths = Vec::new(rt.alloc());
-    for Content::Dict(dict) in world.contents() {
-        lengths.push(dict.pairs().len())?;
+fn lists_answer_as_in_python(rt: HostRuntime) -> Result<(), Fail> {
+    for case in &LISTS {
+        check(&rt, case)?;
     }
-    assert_eq!(rt; lengths.as_slice(), [1, 0].as_slice());
+    Ok(())
+}
+
+#[test]
+fn sets_answer_as_in_python_in_the_order_of_adding(rt: HostRuntime) -> Result<(), Fail> {
+    for case in &SETS {
+        check(&rt, case)?;
+    }
+    Ok(())
+}
+
+#[test]
+fn calls_change_and_take_locks_by_their_kind(rt: HostRuntime) -> Result<(), Fail> {
+    for (text, changing, locks) in &KINDS {
+        let call = read_call(text).ok_or("call")?;
+        assert_eq!(rt; call.is_changing(), *changing, "{text}");
+        assert_eq!(rt; call.locks(), *locks, "{text}");
+    }
     Ok(())
 }
 

@@ -1,20 +1,20 @@
-ghost use Rattle.std.specs.Prelude.{◌≡◌, ◌≢◌, ℕ, ◌+◌, ◌^◌, ◌<◌, length, slice_get, slice_set, false, IsTrue, IfOk, OnOk, OnErr};
-ghost use Rattle.ft_model.specs.Contents.{dict_get, dict_set};
-ghost use Rattle.ft_model.specs.Worlds.{dict_at, start_world, container_of, IsDeclared, HasRoom};
-ghost use Rattle.ft_model.specs.Answers.{answer, is_raised, is_write};
-ghost use Rattle.ft_model.specs.declared.content.Content.TheVariants as content;
+ghost use Rattle.std.specs.Prelude.{◌≡◌, ◌<◌, length, Some, slice_set, IfOk};
+ghost use Rattle.ft_model.specs.Worlds.{start_world, IsOfKind, dict_at, list_at, set_at};
+ghost use Rattle.ft_model.specs.declared.script.Kind.TheVariants as kind;
 
-use crate::call::{Call, Raise, Reply};
-use crate::content::{Content, Dict};
-use crate::data::{Key, Value};
+use crate::content::Content;
+use crate::cursor::Cursor;
+use crate::dict::Dict;
+use crate::list::List;
 use crate::script::{Declaration, Kind};
+use crate::set::Set;
 use std::alloc::{AllocError, Global};
 use std::marker::Model;
 
 /// What the containers of a script have, one content for each in the order of declaration.
 #[derive(Debug, Drop)]
 pub struct World {
-    contents: Vec<Content>,
+    pub(crate) contents: Vec<Content>,
 }
 
 impl Model for World {
@@ -35,9 +35,44 @@ impl World {
         for container in containers {
             contents.push(match container.kind {
                 Kind::Dict => Content::Dict(Dict::new(alloc)),
+                Kind::List => Content::List(List::new(alloc)),
+                Kind::Set => Content::Set(Set::new(alloc)),
             })?;
         }
         Ok(World { contents })
+    }
+
+    /// The dict at a place.
+    pub fn dict(&self, place: u32) -> &Dict
+        requires { IsOfKind self.now kind.Dict place }
+        ensures { result.now ≡ dict_at self.now place }
+    {
+        match &self.contents[place as usize] {
+            Content::Dict(dict) => dict,
+            _ => unreachable!(),
+        }
+    }
+
+    /// The list at a place.
+    pub fn list(&self, place: u32) -> &List
+        requires { IsOfKind self.now kind.List place }
+        ensures { result.now ≡ list_at self.now place }
+    {
+        match &self.contents[place as usize] {
+            Content::List(list) => list,
+            _ => unreachable!(),
+        }
+    }
+
+    /// The set at a place.
+    pub fn set(&self, place: u32) -> &Set
+        requires { IsOfKind self.now kind.Set place }
+        ensures { result.now ≡ set_at self.now place }
+    {
+        match &self.contents[place as usize] {
+            Content::Set(set) => set,
+            _ => unreachable!(),
+        }
     }
 
     /// What each container has, in the order of declaration.
@@ -48,59 +83,48 @@ impl World {
     }
 }
 
-/// The cursors of a thread. No call makes one yet.
-#[derive(Clone, Copy, Debug, PartialEq, Eq, Hash, Default)]
-pub struct Hands;
+/// The cursors of a thread, by number: those that it has made, and room for those that it may
+/// make.
+#[derive(Debug, Drop)]
+pub struct Hands {
+    cursors: Vec<Option<Cursor>>,
+}
 
-/// Answers a call as the plain containers of one thread do: `d[k]` and `d[k] = v` as the Python
-/// manual says under Mapping Types. An exception is a reply, and an `Err` says that memory ran out:
-/// neither changes anything.
-pub fn apply(world: &mut World, hands: &mut Hands, call: &Call) -> Result<Reply, AllocError>
-    requires declared { IsDeclared world.old call.now }
-    requires room { HasRoom world.old call.now }
-    ensures reply { IfOk result (λ reply. reply ≡ (answer world.old hands.old call.now).reply) }
-    ensures world { OnOk result (world.new ≡ (answer world.old hands.old call.now).world) }
-    ensures hands { OnOk result (hands.new ≡ (answer world.old hands.old call.now).hands) }
-    ensures err { OnErr result ((world.new ≡ world.old) × (hands.new ≡ hands.old)) }
+impl Model for Hands {
+    ghost use Rattle.std.specs.Prelude.{List, Option};
+    ghost use Rattle.ft_model.specs.declared.cursor.Cursor.{Cursor};
 
-    // What a call can change.
-    ensures exceptions { IfOk result (λ reply. IsTrue (is_raised reply) → world.new ≡ world.old) }
-    ensures only_writes { IfOk result (λ reply. is_write call.now reply ≡ false → world.new ≡ world.old) }
-    ensures containers { OnOk result (length world.new ≡ length world.old) }
-    ensures others { OnOk result ((other : ℕ) → other ≢ container_of call.now →
-        slice_get world.new other ≡ slice_get world.old other) }
-    ensures hands_stay { hands.new ≡ hands.old }
-{
-    match *call {
-        Call::DictGet { dict, key } => Ok(match read(&world.contents, dict, key) {
-            Some(value) => Reply::Value(value),
-            None => Reply::Raised(Raise::NoKey),
-        }),
-        Call::DictSet { dict, key, value } => {
-            write(&mut world.contents, dict, key, value)?;
-            Ok(Reply::Done)
+    ghost Value = { List (Option Cursor) };
+
+    ghost view = { λ h. h.cursors.items };
+}
+
+impl Hands {
+    ghost use Rattle.ft_model.specs.Worlds.{start_hands};
+
+    /// Hands with room for so many cursors, of which none is made.
+    pub fn start(alloc: Global, room: usize) -> Result<Self, AllocError>
+        ensures { IfOk result (λ hands. hands ≡ start_hands room) }
+    {
+        let mut cursors = Vec::new(alloc);
+        for _ in 0..room {
+            cursors.push(None)?;
         }
+        Ok(Hands { cursors })
     }
-}
 
-fn read(contents: &[Content], dict: u32, key: Key) -> Option<Value>
-    requires { dict < length contents.now }
-    ensures { result ≡ dict_get (dict_at contents.now dict).pairs key }
-{
-    let content = &contents[dict as usize];
-    match content {
-        Content::Dict(dict) => dict.get(key),
+    /// Puts a cursor in place of the one of that number.
+    pub(crate) fn put(&mut self, number: u32, cursor: Cursor)
+        requires { number < length self.old }
+        ensures { self.new ≡ slice_set self.old number (Some cursor) }
+    {
+        self.cursors[number as usize] = Some(cursor);
     }
-}
 
-fn write(contents: &mut [Content], dict: u32, key: Key, value: Value) -> Result<(), AllocError>
-    requires declared { dict < length contents.old }
-    requires room { (dict_at contents.old dict).next < 2 ^ 63 }
-    ensures ok { OnOk result (contents.new ≡ slice_set contents.old dict (content.Dict (dict_set (dict_at contents.old dict) key value))) }
-    ensures err { OnErr result (contents.new ≡ contents.old) }
-{
-    let content = &mut contents[dict as usize];
-    match content {
-        Content::Dict(dict) => dict.set(key, value),
+    /// The cursors by number, `None` where none was made.
+    pub fn cursors(&self) -> &[Option<Cursor>]
+        ensures { result.now ≡ self.now }
+    {
+        &self.cursors
     }
 }

@@ -1,0 +1,118 @@
+-- Cursors: what `iter` makes, and what one `next` answers and leaves. (Python manual, Iterator Types. Serials, and what changes of the container mean: profile)
+use Rattle.std.specs.Prelude.{◌≡◌, IsSomeAnd, ℕ, Bool, true, false, ◌+◌, ◌-◌, not, ◌==◌, nat_lt, List, length, slice_get, Option, Some, None, if◌then◌else◌}
+use Rattle.std.specs.List.{find}
+use Rattle.ft_model.specs.declared.data.Value.{Value}
+use Rattle.ft_model.specs.declared.reply.Reply.{Reply}
+use Rattle.ft_model.specs.declared.reply.Reply.TheVariants as reply
+use Rattle.ft_model.specs.declared.reply.Raise.TheVariants as raise
+use Rattle.ft_model.specs.declared.content.DictPair.{DictPair}
+use Rattle.ft_model.specs.declared.content.Element.{Element}
+use Rattle.ft_model.specs.declared.cursor.Cursor.{Cursor}
+use Rattle.ft_model.specs.declared.cursor.Cursor.TheVariants as cursor
+use Rattle.ft_model.specs.declared.cursor.Walk.{Walk}
+use Rattle.ft_model.specs.declared.cursor.Walk.TheVariants as walk
+use Rattle.ft_model.specs.Keys.{as_value}
+
+-- what one `next` answers, and the cursor that it leaves
+pub record CursorStep : Type 0 where
+  pub reply : Reply
+  pub cursor : Cursor
+
+-- whether the serial is greater than the last one given; at first every serial is
+abbrev pub is_behind : Option ℕ → ℕ → Bool
+is_behind None serial = true
+is_behind (Some last) serial = nat_lt last serial
+
+-- ---- dicts
+
+-- `iter(d.items())`: all pairs are expected (Python manual, Dictionary view objects)
+abbrev pub dict_iter : ℕ → List DictPair → Cursor
+dict_iter container pairs = cursor.Dict container walk.Live (length pairs) (length pairs) None
+
+-- the pair with the least serial that is greater than the last one given; serials rise in the order of pairs
+abbrev pub next_pair : List DictPair → Option ℕ → Option DictPair
+next_pair pairs last = find (λ pair. is_behind last pair.serial) pairs
+
+-- a live walk whose dict has the size that it had: it has come to the end, or the keys changed, or it gives a pair
+abbrev pub dict_walk : Option DictPair → ℕ → ℕ → ℕ → Option ℕ → CursorStep
+dict_walk None container size expected last = record { reply = reply.Stop; cursor = cursor.Dict container walk.Ended size expected last }
+dict_walk (Some pair) container size expected last =
+    if expected == 0
+    then record { reply = reply.Raised raise.Keys; cursor = cursor.Dict container walk.Ended size expected last }
+    else record { reply = reply.Pair pair.key pair.value; cursor = cursor.Dict container walk.Live size (expected - 1) (Some pair.serial) }
+
+-- the first that holds: it has ended; it was told of a changed size; the size has changed; it goes on (profile)
+abbrev pub dict_next : List DictPair → ℕ → Walk → ℕ → ℕ → Option ℕ → CursorStep
+dict_next pairs container walk.Ended size expected last = record { reply = reply.Stop; cursor = cursor.Dict container walk.Ended size expected last }
+dict_next pairs container walk.Told size expected last = record { reply = reply.Raised raise.Size; cursor = cursor.Dict container walk.Told size expected last }
+dict_next pairs container walk.Live size expected last =
+    if length pairs == size
+    then dict_walk (next_pair pairs last) container size expected last
+    else record { reply = reply.Raised raise.Size; cursor = cursor.Dict container walk.Told size expected last }
+
+-- ---- sets
+
+-- `iter(s)` (Python manual, Set Types)
+abbrev pub set_iter : ℕ → List Element → Cursor
+set_iter container elements = cursor.Set container walk.Live (length elements) None
+
+-- the element with the least serial that is greater than the last one given
+abbrev pub next_element : List Element → Option ℕ → Option Element
+next_element elements last = find (λ element. is_behind last element.serial) elements
+
+-- a live walk whose set has the size that it had: it has come to the end, or it gives an element
+abbrev pub set_walk : Option Element → ℕ → ℕ → Option ℕ → CursorStep
+set_walk None container size last = record { reply = reply.Stop; cursor = cursor.Set container walk.Ended size last }
+set_walk (Some element) container size last = record { reply = reply.Value (as_value element.key); cursor = cursor.Set container walk.Live size (Some element.serial) }
+
+-- as for a dict, without a count of what is expected (profile)
+abbrev pub set_next : List Element → ℕ → Walk → ℕ → Option ℕ → CursorStep
+set_next elements container walk.Ended size last = record { reply = reply.Stop; cursor = cursor.Set container walk.Ended size last }
+set_next elements container walk.Told size last = record { reply = reply.Raised raise.Size; cursor = cursor.Set container walk.Told size last }
+set_next elements container walk.Live size last =
+    if length elements == size
+    then set_walk (next_element elements last) container size last
+    else record { reply = reply.Raised raise.Size; cursor = cursor.Set container walk.Told size last }
+
+-- ---- lists
+
+-- `iter(l)` (Python manual, Sequence Types)
+abbrev pub list_iter : ℕ → Cursor
+list_iter container = cursor.List container 0 false
+
+-- the item at the index, or the end for good (Python manual, Iterator Types)
+abbrev pub list_walk : Option Value → ℕ → ℕ → CursorStep
+list_walk None container index = record { reply = reply.Stop; cursor = cursor.List container index true }
+list_walk (Some value) container index = record { reply = reply.Value value; cursor = cursor.List container (index + 1) false }
+
+abbrev pub list_next : List Value → ℕ → ℕ → Bool → CursorStep
+list_next items container index true = record { reply = reply.Stop; cursor = cursor.List container index true }
+list_next items container index false = list_walk (slice_get items index) container index
+
+-- ---- what a walk keeps to
+
+-- whether a reply of `next` gives a pair, an item or an element
+abbrev pub is_given : Reply → Bool
+is_given (reply.Pair key value) = true
+is_given (reply.Value value) = true
+is_given _ = false
+
+-- how many pairs or elements there were when the cursor was made; a list's cursor doesn't ask
+abbrev pub has_size : Cursor → ℕ → Bool
+has_size (cursor.Dict container walk size expected last) length = length == size
+has_size (cursor.List container index ended) length = true
+has_size (cursor.Set container walk size last) length = length == size
+
+-- whether the walk has ended for good
+abbrev pub is_ended : Cursor → Bool
+is_ended (cursor.Dict container walk.Ended size expected last) = true
+is_ended (cursor.Set container walk.Ended size last) = true
+is_ended (cursor.List container index true) = true
+is_ended _ = false
+
+-- the second cursor gave one more than the first: a serial greater than all that the first gave, or the next index (profile)
+abbrev pub GoesOn : Cursor → Cursor → Type 0
+GoesOn (cursor.Dict container walk size expected last) (cursor.Dict _ _ _ _ new) = IsSomeAnd new (λ serial. is_behind last serial ≡ true)
+GoesOn (cursor.List container index ended) (cursor.List _ new _) = new ≡ index + 1
+GoesOn (cursor.Set container walk size last) (cursor.Set _ _ _ new) = IsSomeAnd new (λ serial. is_behind last serial ≡ true)
+GoesOn _ _ = ⊥

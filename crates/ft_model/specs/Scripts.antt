@@ -1,0 +1,150 @@
+-- The rule of scripts: what names, kinds, cursors, sections and limits a script has. (profile)
+use Rattle.std.specs.Prelude.{◌≡◌, ◌≢◌, ℕ, ◌+◌, ◌-◌, ◌%◌, ◌<◌, ◌≤◌, true, List, [], ◌∷◌, map, sum, length, take, slice_get, All, Any, AllPairs, Option, option_map, Some, None, IfSome}
+use Rattle.ft_model.specs.declared.data.Key.{Key}
+use Rattle.ft_model.specs.declared.data.Key.TheVariants as key
+use Rattle.ft_model.specs.declared.data.Value.{Value}
+use Rattle.ft_model.specs.declared.data.Value.TheVariants as value
+use Rattle.ft_model.specs.declared.call.Call.{Call}
+use Rattle.ft_model.specs.declared.call.Call.TheVariants as call
+use Rattle.ft_model.specs.declared.call.DictCall.{DictCall}
+use Rattle.ft_model.specs.declared.call.DictCall.TheVariants as dict
+use Rattle.ft_model.specs.declared.call.ListCall.{ListCall}
+use Rattle.ft_model.specs.declared.call.ListCall.TheVariants as list
+use Rattle.ft_model.specs.declared.call.SetCall.{SetCall}
+use Rattle.ft_model.specs.declared.call.SetCall.TheVariants as set
+use Rattle.ft_model.specs.declared.script.Declaration.{Declaration}
+use Rattle.ft_model.specs.declared.script.Kind.{Kind}
+use Rattle.ft_model.specs.declared.script.Kind.TheVariants as kind
+use Rattle.ft_model.specs.declared.script.Thread.{Thread}
+use Rattle.ft_model.specs.declared.script.ScriptParts.{ScriptParts}
+use Rattle.ft_model.specs.Calls.{other_dict, other_list, other_set, cursor_of_dict, cursor_of_list, cursor_of_set}
+use Rattle.ft_model.specs.Names.{is_container_name, is_thread_name, IsString}
+
+-- ---- strings
+
+-- a key names a string that is declared, of so many
+abbrev pub IsKeyOf : ℕ → Key → Type 0
+IsKeyOf strings (key.Int n) = Unit {0}
+IsKeyOf strings (key.Text symbol) = symbol.0 < strings
+
+-- and so does a value
+abbrev pub IsValueOf : ℕ → Value → Type 0
+IsValueOf strings value.Nothing = Unit {0}
+IsValueOf strings (value.Int n) = Unit {0}
+IsValueOf strings (value.Text symbol) = symbol.0 < strings
+
+-- and so does each key and value of a call
+abbrev pub AreStringsOfDict : ℕ → DictCall → Type 0
+AreStringsOfDict strings (dict.Get key) = IsKeyOf strings key
+AreStringsOfDict strings (dict.GetOr key default) = IsKeyOf strings key × IsValueOf strings default
+AreStringsOfDict strings (dict.Set key value) = IsKeyOf strings key × IsValueOf strings value
+AreStringsOfDict strings (dict.Del key) = IsKeyOf strings key
+AreStringsOfDict strings (dict.Pop key) = IsKeyOf strings key
+AreStringsOfDict strings (dict.PopOr key default) = IsKeyOf strings key × IsValueOf strings default
+AreStringsOfDict strings (dict.SetDefault key default) = IsKeyOf strings key × IsValueOf strings default
+AreStringsOfDict strings (dict.Has key) = IsKeyOf strings key
+AreStringsOfDict strings _ = Unit {0}
+
+abbrev pub AreStringsOfList : ℕ → ListCall → Type 0
+AreStringsOfList strings (list.Append value) = IsValueOf strings value
+AreStringsOfList strings (list.Insert index value) = IsValueOf strings value
+AreStringsOfList strings (list.Set index value) = IsValueOf strings value
+AreStringsOfList strings (list.Remove value) = IsValueOf strings value
+AreStringsOfList strings (list.Index value) = IsValueOf strings value
+AreStringsOfList strings (list.Count value) = IsValueOf strings value
+AreStringsOfList strings (list.Has value) = IsValueOf strings value
+AreStringsOfList strings _ = Unit {0}
+
+abbrev pub AreStringsOfSet : ℕ → SetCall → Type 0
+AreStringsOfSet strings (set.Add key) = IsKeyOf strings key
+AreStringsOfSet strings (set.Discard key) = IsKeyOf strings key
+AreStringsOfSet strings (set.Remove key) = IsKeyOf strings key
+AreStringsOfSet strings (set.Has key) = IsKeyOf strings key
+AreStringsOfSet strings _ = Unit {0}
+
+abbrev pub AreStringsOf : ℕ → Call → Type 0
+AreStringsOf strings (call.Dict container dict_call) = AreStringsOfDict strings dict_call
+AreStringsOf strings (call.List container list_call) = AreStringsOfList strings list_call
+AreStringsOf strings (call.Set container set_call) = AreStringsOfSet strings set_call
+AreStringsOf strings _ = Unit {0}
+
+-- ---- containers and cursors
+
+-- the container is declared, and of that kind
+abbrev pub IsDeclaredAs : List Declaration → Kind → ℕ → Type 0
+IsDeclaredAs containers kind place = option_map (λ container. container.kind) (slice_get containers place) ≡ Some kind
+
+-- the containers are declared, and of that kind, and there is such a cursor, of so many
+pub record AreNamesOf (containers : List Declaration) (cursors : ℕ) (kind : Kind) (one : ℕ) (other cursor : Option ℕ) : Type 0 where
+  pub container : IsDeclaredAs containers kind one
+  pub second : IfSome other (λ place. IsDeclaredAs containers kind place)
+  pub made : IfSome cursor (λ number. number < cursors)
+
+-- a call names containers of its kind and cursors of its thread
+abbrev pub NamesOf : List Declaration → ℕ → Call → Type 0
+NamesOf containers cursors (call.Dict place dict_call) = AreNamesOf containers cursors kind.Dict place (other_dict dict_call) (cursor_of_dict dict_call)
+NamesOf containers cursors (call.List place list_call) = AreNamesOf containers cursors kind.List place (other_list list_call) (cursor_of_list list_call)
+NamesOf containers cursors (call.Set place set_call) = AreNamesOf containers cursors kind.Set place (other_set set_call) (cursor_of_set set_call)
+NamesOf containers cursors (call.Next number) = number < cursors
+NamesOf containers cursors (call.Begin first second) = (first < length containers) × IfSome second (λ place. place < length containers)
+NamesOf containers cursors call.End = Unit {0}
+NamesOf containers cursors call.Quiesce = Unit {0}
+
+-- a call's containers, cursors and strings are the script's and the thread's
+pub record IsCallOf (script : ScriptParts) (cursors : ℕ) (called : Call) : Type 0 where
+  pub names : NamesOf script.containers cursors called
+  pub strings : AreStringsOf (length script.strings) called
+
+-- the cursor that a call makes, if it makes one
+abbrev pub cursor_of : Call → Option ℕ
+cursor_of (call.Dict place dict_call) = cursor_of_dict dict_call
+cursor_of (call.List place list_call) = cursor_of_list list_call
+cursor_of (call.Set place set_call) = cursor_of_set set_call
+cursor_of _ = None
+
+-- a cursor is made before it is moved
+abbrev pub AreMade : List Call → Type 0
+AreMade calls = (place number : ℕ) → slice_get calls place ≡ Some (call.Next number) → Any (λ earlier. cursor_of earlier ≡ Some number) (take place calls)
+
+-- ---- sections
+
+-- from so many open sections on each `end` has its `begin`, no more than 16 are open at once, and all are ended (C API, critical sections; the limit: profile)
+abbrev pub AreNested : ℕ → List Call → Type 0
+AreNested depth [] = depth ≡ 0
+AreNested depth (call.Begin first second ∷ calls) = (depth < 16) × AreNested (depth + 1) calls
+AreNested depth (call.End ∷ calls) = (0 < depth) × AreNested (depth - 1) calls
+AreNested depth (other ∷ calls) = AreNested depth calls
+
+-- ---- scripts
+
+-- a thread of the script, with its cursors and calls
+pub record IsThread (script : ScriptParts) (thread : Thread) : Type 0 where
+  pub name : is_thread_name thread.name ≡ true
+  pub few_cursors : length thread.cursors ≤ 256
+  pub cursor_names : All (λ cursor. is_container_name cursor ≡ true) thread.cursors
+  pub cursors_differ : AllPairs (λ a b. a ≢ b) thread.cursors
+  pub calls : All (IsCallOf script (length thread.cursors)) thread.calls
+  pub made : AreMade thread.calls
+  pub nested : AreNested 0 thread.calls
+
+-- what every script keeps
+pub record IsScript (script : ScriptParts) : Type 0 where
+  pub few_containers : length script.containers ≤ 256
+  pub container_names : All (λ container. is_container_name container.name ≡ true) script.containers
+  pub containers_differ : AllPairs (λ a b. a.name ≢ b.name) script.containers
+  pub few_threads : length script.threads ≤ 64
+  pub threads : All (IsThread script) script.threads
+  pub threads_differ : AllPairs (λ a b. a.name ≢ b.name) script.threads
+  pub few_calls : sum (map (λ thread. length thread.calls) script.threads) ≤ 500000
+  pub few_strings : length script.strings ≤ 65536
+  pub strings : All IsString script.strings
+  pub strings_differ : AllPairs (λ a b. a ≢ b) script.strings
+  -- from 1 to 64 tables of each class from 3 to 12
+  pub classes : length script.tables ≡ 10
+  pub tables : All (λ count. (1 ≤ count) × (count ≤ 64)) script.tables
+  -- from 64 to 4096 places in steps of 64
+  pub least_heap : 64 ≤ script.heap
+  pub greatest_heap : script.heap ≤ 4096
+  pub heap_steps : script.heap % 64 ≡ 0
+  pub few_turns : length script.order ≤ 1000000
+  pub turns : All (λ thread. thread < length script.threads) script.order

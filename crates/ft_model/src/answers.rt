@@ -1,0 +1,80 @@
+ghost use Rattle.std.specs.Prelude.{◌≡◌, ◌≢◌, ℕ, IsTrue, false, length, map, slice_get, Contains, Some, IfOk, OnOk, OnErr};
+ghost use Rattle.ft_model.specs.declared.call.Call.TheVariants.{Next};
+ghost use Rattle.ft_model.specs.Calls.{containers_of, moved_cursor};
+ghost use Rattle.ft_model.specs.Worlds.{IsDeclared, HasRoom, kind_of};
+ghost use Rattle.ft_model.specs.Answers.{answer, is_raised, is_write};
+
+use crate::call::Call;
+use crate::reply::Reply;
+use crate::world::{Hands, World};
+use crate::{cursor_calls, dict_calls, list_calls, set_calls};
+use std::alloc::{AllocError, Global};
+
+/// Answers a call as the plain containers of one thread do, as the Python manual says under Mapping
+/// Types, Sequence Types, Set Types and Iterator Types. An exception is a reply, and an `Err` says
+/// that memory ran out: neither changes what a container has.
+#[tactic(auto, using(crate::proofs::AnswerLaws::answer_exceptions, crate::proofs::AnswerLaws::answer_only_writes, crate::proofs::AnswerLaws::answer_containers, crate::proofs::AnswerLaws::answer_others, crate::proofs::AnswerLaws::answer_cursors))]
+pub fn apply(
+    alloc: Global,
+    world: &mut World,
+    hands: &mut Hands,
+    call: &Call,
+) -> Result<Reply, AllocError>
+    requires declared { IsDeclared world.old hands.old call.now }
+    requires room { HasRoom world.old call.now }
+    ensures reply { IfOk result (λ reply. reply ≡ (answer world.old hands.old call.now).reply) }
+    ensures world { OnOk result (world.new ≡ (answer world.old hands.old call.now).world) }
+    ensures hands { OnOk result (hands.new ≡ (answer world.old hands.old call.now).hands) }
+    ensures err { OnErr result ((world.new ≡ world.old) × (hands.new ≡ hands.old)) }
+
+    // What a call can change.
+    ensures exceptions { IfOk result (λ reply. IsTrue (is_raised reply) → world.new ≡ world.old) }
+    ensures only_writes { IfOk result (λ reply. is_write call.now reply ≡ false → world.new ≡ world.old) }
+    ensures containers { map kind_of world.new ≡ map kind_of world.old }
+    ensures others { (other : ℕ) → (Contains (containers_of call.now) other → ⊥) → slice_get world.new other ≡ slice_get world.old other }
+    ensures cursors { (number : ℕ) → moved_cursor call.now ≢ Some number → slice_get hands.new number ≡ slice_get hands.old number }
+{
+    answer_any(alloc, world, hands, call)
+}
+
+fn answer_any(
+    alloc: Global,
+    world: &mut World,
+    hands: &mut Hands,
+    call: &Call,
+) -> Result<Reply, AllocError>
+    requires declared { IsDeclared world.old hands.old call.now }
+    requires room { HasRoom world.old call.now }
+    ensures reply { IfOk result (λ reply. reply ≡ (answer world.old hands.old call.now).reply) }
+    ensures world { OnOk result (world.new ≡ (answer world.old hands.old call.now).world) }
+    ensures hands { OnOk result (hands.new ≡ (answer world.old hands.old call.now).hands) }
+    ensures err { OnErr result ((world.new ≡ world.old) × (hands.new ≡ hands.old)) }
+{
+    match call {
+        Call::Dict { container, call } => {
+            dict_calls::answer(alloc, world, hands, *container, call)
+        }
+        Call::List { container, call } => {
+            list_calls::answer(alloc, world, hands, *container, call)
+        }
+        Call::Set { container, call } => set_calls::answer(alloc, world, hands, *container, call),
+        Call::Next { cursor } => Ok(next(world, hands, *cursor)),
+        Call::Begin { .. } | Call::End | Call::Quiesce => unreachable!(),
+    }
+}
+
+/// `next(c)`.
+fn next(world: &World, hands: &mut Hands, number: u32) -> Reply
+    requires { IsDeclared world.now hands.old (Next number) }
+    ensures reply { result ≡ (answer world.now hands.old (Next number)).reply }
+    ensures hands { hands.new ≡ (answer world.now hands.old (Next number)).hands }
+{
+    match hands.cursors()[number as usize] {
+        Some(cursor) => {
+            let step = cursor_calls::advance(world, &cursor);
+            hands.put(number, step.cursor);
+            step.reply
+        }
+        None => unreachable!(),
+    }
+}

@@ -1,0 +1,266 @@
+ghost use Rattle.std.specs.Prelude.{◌≡◌, true};
+ghost use Rattle.ft_model.specs.declared.reply.Reply.TheVariants.{Stop};
+ghost use Rattle.ft_model.specs.Cursors.{is_behind, next_pair, next_element, dict_walk, dict_next, set_walk, set_next, list_next};
+ghost use Rattle.ft_model.specs.Cursors.{is_given, has_size, is_ended, GoesOn};
+ghost use Rattle.ft_model.specs.Worlds.{IsOfKind, cursor_kind, container_of};
+ghost use Rattle.ft_model.specs.Answers.{cursor_step, walked_length};
+
+use crate::content::{DictPair, Element};
+use crate::cursor::{Cursor, Walk};
+use crate::data::{Key, Value};
+use crate::reply::{Raise, Reply};
+use crate::world::World;
+
+/// What one `next` answers, and the cursor that it leaves (Python manual, Iterator Types).
+#[derive(Debug, Drop)]
+pub struct Step {
+    /// What `next` answers.
+    pub reply: Reply,
+    /// The cursor behind it.
+    pub cursor: Cursor,
+}
+
+/// One `next` of a cursor over a container of the world (Python manual, Iterator Types).
+#[tactic(auto, using(crate::proofs::CursorLaws::step_rising, crate::proofs::CursorLaws::step_sized, crate::proofs::CursorLaws::step_ended))]
+pub fn advance(world: &World, cursor: &Cursor) -> Step
+    requires { IsOfKind world.now (cursor_kind cursor.now) (container_of cursor.now) }
+    ensures reply { result.reply ≡ (cursor_step world.now cursor.now).reply }
+    ensures cursor { result.cursor ≡ (cursor_step world.now cursor.now).cursor }
+
+    // What it means for who walks.
+    ensures rising { is_given result.reply ≡ true → GoesOn cursor.now result.cursor }
+    ensures sized { is_given result.reply ≡ true → has_size cursor.now (walked_length world.now cursor.now) ≡ true }
+    ensures ended { is_ended cursor.now ≡ true → (result.reply ≡ Stop) × (result.cursor ≡ cursor.now) }
+{
+    step_of(world, cursor)
+}
+
+fn step_of(world: &World, cursor: &Cursor) -> Step
+    requires { IsOfKind world.now (cursor_kind cursor.now) (container_of cursor.now) }
+    ensures reply { result.reply ≡ (cursor_step world.now cursor.now).reply }
+    ensures cursor { result.cursor ≡ (cursor_step world.now cursor.now).cursor }
+{
+    match *cursor {
+        Cursor::Dict {
+            container,
+            walk,
+            size,
+            expected,
+            last,
+        } => step_dict(
+            world.dict(container).pairs(),
+            container,
+            walk,
+            size,
+            expected,
+            last,
+        ),
+        Cursor::List {
+            container,
+            index,
+            ended,
+        } => step_list(world.list(container).items(), container, index, ended),
+        Cursor::Set {
+            container,
+            walk,
+            size,
+            last,
+        } => step_set(world.set(container).elements(), container, walk, size, last),
+    }
+}
+
+/// One `next` of a cursor over the pairs of a dict.
+fn step_dict(
+    pairs: &[DictPair],
+    container: u32,
+    walk: Walk,
+    size: u64,
+    expected: u64,
+    last: Option<u64>,
+) -> Step
+    ensures reply { result.reply ≡ (dict_next pairs.now container walk size expected last).reply }
+    ensures cursor { result.cursor ≡ (dict_next pairs.now container walk size expected last).cursor }
+{
+    match walk {
+        Walk::Ended => Step {
+            reply: Reply::Stop,
+            cursor: Cursor::Dict {
+                container,
+                walk,
+                size,
+                expected,
+                last,
+            },
+        },
+        Walk::Live if pairs.len() as u64 == size => {
+            walk_dict(following_pair(pairs, last), container, size, expected, last)
+        }
+        Walk::Live | Walk::Told => Step {
+            reply: Reply::Raised(Raise::Size),
+            cursor: Cursor::Dict {
+                container,
+                walk: Walk::Told,
+                size,
+                expected,
+                last,
+            },
+        },
+    }
+}
+
+/// Goes on to the pair, or to the end, in a dict of the size that it had.
+fn walk_dict(
+    pair: Option<DictPair>,
+    container: u32,
+    size: u64,
+    expected: u64,
+    last: Option<u64>,
+) -> Step
+    ensures reply { result.reply ≡ (dict_walk pair container size expected last).reply }
+    ensures cursor { result.cursor ≡ (dict_walk pair container size expected last).cursor }
+{
+    match pair {
+        None => Step {
+            reply: Reply::Stop,
+            cursor: Cursor::Dict {
+                container,
+                walk: Walk::Ended,
+                size,
+                expected,
+                last,
+            },
+        },
+        Some(_) if expected == 0 => Step {
+            reply: Reply::Raised(Raise::Keys),
+            cursor: Cursor::Dict {
+                container,
+                walk: Walk::Ended,
+                size,
+                expected,
+                last,
+            },
+        },
+        Some(pair) => Step {
+            reply: Reply::Pair(pair.key, pair.value),
+            cursor: Cursor::Dict {
+                container,
+                walk: Walk::Live,
+                size,
+                expected: expected - 1,
+                last: Some(pair.serial),
+            },
+        },
+    }
+}
+
+/// The pair with the least serial behind the last one given.
+fn following_pair(pairs: &[DictPair], last: Option<u64>) -> Option<DictPair>
+    ensures { result ≡ next_pair pairs.now last }
+{
+    pairs
+        .iter()
+        .copied()
+        .find(|pair| is_behind(last, pair.serial))
+}
+
+/// Whether the serial is behind the last one given.
+fn is_behind(last: Option<u64>, serial: u64) -> bool
+    ensures { result ≡ is_behind last serial }
+{
+    match last {
+        Some(last) => last < serial,
+        None => true,
+    }
+}
+
+/// One `next` of a cursor over the items of a list.
+fn step_list(items: &[Value], container: u32, index: u64, ended: bool) -> Step
+    ensures reply { result.reply ≡ (list_next items.now container index ended).reply }
+    ensures cursor { result.cursor ≡ (list_next items.now container index ended).cursor }
+{
+    match items.get(index as usize) {
+        Some(value) if !ended => Step {
+            reply: Reply::Value(*value),
+            cursor: Cursor::List {
+                container,
+                index: index + 1,
+                ended: false,
+            },
+        },
+        _ => Step {
+            reply: Reply::Stop,
+            cursor: Cursor::List {
+                container,
+                index,
+                ended: true,
+            },
+        },
+    }
+}
+
+/// One `next` of a cursor over the elements of a set.
+fn step_set(elements: &[Element], container: u32, walk: Walk, size: u64, last: Option<u64>) -> Step
+    ensures reply { result.reply ≡ (set_next elements.now container walk size last).reply }
+    ensures cursor { result.cursor ≡ (set_next elements.now container walk size last).cursor }
+{
+    match walk {
+        Walk::Ended => Step {
+            reply: Reply::Stop,
+            cursor: Cursor::Set {
+                container,
+                walk,
+                size,
+                last,
+            },
+        },
+        Walk::Live if elements.len() as u64 == size => {
+            walk_set(following_element(elements, last), container, size, last)
+        }
+        Walk::Live | Walk::Told => Step {
+            reply: Reply::Raised(Raise::Size),
+            cursor: Cursor::Set {
+                container,
+                walk: Walk::Told,
+                size,
+                last,
+            },
+        },
+    }
+}
+
+/// Goes on to the element, or to the end, in a set of the size that it had.
+fn walk_set(element: Option<Element>, container: u32, size: u64, last: Option<u64>) -> Step
+    ensures reply { result.reply ≡ (set_walk element container size last).reply }
+    ensures cursor { result.cursor ≡ (set_walk element container size last).cursor }
+{
+    match element {
+        None => Step {
+            reply: Reply::Stop,
+            cursor: Cursor::Set {
+                container,
+                walk: Walk::Ended,
+                size,
+                last,
+            },
+        },
+        Some(element) => Step {
+            reply: Reply::Value(element.key.into_value()),
+            cursor: Cursor::Set {
+                container,
+                walk: Walk::Live,
+                size,
+                last: Some(element.serial),
+            },
+        },
+    }
+}
+
+/// The element with the least serial behind the last one given.
+fn following_element(elements: &[Element], last: Option<u64>) -> Option<Element>
+    ensures { result ≡ next_element elements.now last }
+{
+    elements
+        .iter()
+        .copied()
+        .find(|element| is_behind(last, element.serial))
+}

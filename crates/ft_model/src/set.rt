@@ -1,0 +1,304 @@
+ghost use Rattle.std.specs.Prelude.{◌≡◌, ◌≢◌, ◌↔◌, ◌&&◌, ◌||◌, not, IsTrue, ℕ, ◌+◌, ◌^◌, ◌<◌, ◌==◌, false, length, slice_get, option_map, IfOk, OnOk, OnErr, IfNone};
+ghost use Rattle.std.specs.List.{list_any};
+ghost use Rattle.ft_model.specs.Contents.{has_element, elements_from, those_not_in, is_subset, same_elements, is_disjoint};
+
+use crate::content::Element;
+use crate::data::Key;
+use std::alloc::{AllocError, Global};
+use std::marker::Model;
+
+/// What a set has: its elements, in the order in which they were added, and the next serial (Python
+/// manual, Set Types; the order is this project's choice). No serial is drawn twice.
+#[derive(Debug, Drop)]
+pub struct Set {
+    next: u64,
+    elements: Vec<Element>,
+}
+
+impl Model for Set {
+    ghost use Rattle.ft_model.specs.Contents.{SetContent, IsSet};
+
+    ghost Value = { SetContent };
+
+    ghost view = { λ s. record { next = s.next; elements = s.elements.items } };
+
+    ghost invariant = { λ s. IsSet s.next s.elements.items };
+}
+
+impl Set {
+    ghost use Rattle.ft_model.specs.declared.data.Key.{Key};
+    ghost use Rattle.ft_model.specs.Keys.{same_key};
+    ghost use Rattle.ft_model.specs.Contents.{empty_set, IsSet, set_add, set_discard, set_clear, set_or, set_and, set_sub, set_xor};
+    ghost use Rattle.ft_model.specs.Answers.{without_first};
+
+    /// `set()`: an empty set, which takes no memory.
+    pub fn new(alloc: Global) -> Self
+        ensures { result ≡ empty_set }
+    {
+        Set {
+            next: 0,
+            elements: Vec::new(alloc),
+        }
+    }
+
+    /// The elements in the order in which they were added, so in the order of serials.
+    pub fn elements(&self) -> &[Element]
+        ensures elements { result.now ≡ self.now.elements }
+        ensures is_set { IsSet self.now.next self.now.elements }
+    {
+        &self.elements
+    }
+
+    /// `len(s)` (Python manual, Set Types).
+    pub fn len(&self) -> usize
+        ensures length { result ≡ length self.now.elements }
+        ensures small { result < 2 ^ 63 }
+    {
+        self.elements.len()
+    }
+
+    /// The serial that the next element draws.
+    pub fn next_serial(&self) -> u64
+        ensures { result ≡ self.now.next }
+    {
+        self.next
+    }
+
+    /// Whether there is no element.
+    pub fn is_empty(&self) -> bool
+        ensures { result ≡ (length self.now.elements == 0) }
+    {
+        self.elements.is_empty()
+    }
+
+    /// `k in s` (Python manual, Set Types).
+    pub fn has(&self, key: Key) -> bool
+        ensures { result ≡ has_element self.now.elements key }
+    {
+        has(&self.elements, key)
+    }
+
+    /// `s <= t` (Python manual, Set Types). It looks each element up in the other, as do all calls
+    /// on two sets, so its time is the product of the lengths.
+    pub fn is_subset(&self, other: &Set) -> bool
+        ensures answer { result ≡ is_subset self.now.elements other.now.elements }
+        ensures members { IsTrue result ↔ ((key : Key) →
+            IsTrue (has_element self.now.elements key) → IsTrue (has_element other.now.elements key)) }
+    {
+        are_among(&other.elements, &self.elements)
+    }
+
+    /// `s == t`: the same elements, in any order (Python manual, Set Types).
+    pub fn equals(&self, other: &Set) -> bool
+        ensures answer { result ≡ same_elements self.now.elements other.now.elements }
+        ensures members { IsTrue result ↔ ((key : Key) →
+            has_element self.now.elements key ≡ has_element other.now.elements key) }
+    {
+        same_elements(&self.elements, &other.elements)
+    }
+
+    /// `s.isdisjoint(t)` (Python manual, Set Types).
+    pub fn is_disjoint(&self, other: &Set) -> bool
+        ensures answer { result ≡ is_disjoint self.now.elements other.now.elements }
+        ensures members { IsTrue result ↔ ((key : Key) →
+            IsTrue (has_element self.now.elements key) → has_element other.now.elements key ≡ false) }
+    {
+        are_disjoint(&self.elements, &other.elements)
+    }
+
+    /// A set with the same elements and the same next serial. An `Err` says that memory ran out.
+    pub fn copy(&self, alloc: Global) -> Result<Self, AllocError>
+        ensures { IfOk result (λ set. set ≡ self.now) }
+    {
+        Ok(Set {
+            next: self.next,
+            elements: Vec::from_slice(alloc, &self.elements)?,
+        })
+    }
+
+    /// `s.add(k)`: an element that isn't there (Python manual, Set Types) goes last (this project's
+    /// choice). An `Err` changes nothing.
+    #[tactic(auto, using(crate::proofs::SetLaws::add_members))]
+    pub fn add(&mut self, key: Key) -> Result<(), AllocError>
+        requires { self.old.next < 2 ^ 63 }
+        ensures ok { OnOk result (self.new ≡ set_add self.old key) }
+        ensures err { OnErr result (self.new ≡ self.old) }
+        ensures members { OnOk result ((other : Key) → has_element self.new.elements other ≡
+            (has_element self.old.elements other || same_key key other)) }
+    {
+        if !self.has(key) {
+            self.elements.push(Element {
+                serial: self.next,
+                key,
+            })?;
+            self.next += 1;
+        }
+        Ok(())
+    }
+
+    /// `s.discard(k)`, and whether the element was there: takes it out, and leaves the others as
+    /// they were (Python manual, Set Types).
+    #[tactic(auto, using(crate::proofs::Sets::discard_missing, crate::proofs::SetLaws::discard_members))]
+    pub fn discard(&mut self, key: Key) -> bool
+        ensures answer { result ≡ has_element self.old.elements key }
+        ensures set { self.new ≡ set_discard self.old key }
+        ensures missing { result ≡ false → self.new ≡ self.old }
+        ensures members { (other : Key) → has_element self.new.elements other ≡
+            (has_element self.old.elements other && not (same_key other key)) }
+    {
+        let found = self.has(key);
+        self.take_out(key);
+        found
+    }
+
+    fn take_out(&mut self, key: Key)
+        ensures { self.new ≡ set_discard self.old key }
+    {
+        self.elements.retain(|element| element.key != key);
+    }
+
+    /// `s.pop()`, or `None` where there is no element (Python manual, Set Types): takes the first
+    /// element out (this project's choice).
+    pub fn pop_first(&mut self) -> Option<Key>
+        ensures answer { result ≡ option_map (λ element. element.key) (slice_get self.old.elements 0) }
+        ensures set { self.new ≡ without_first self.old }
+        ensures missing { IfNone result (self.new ≡ self.old) }
+    {
+        let key = self.elements.first()?.key;
+        self.elements.remove(0);
+        Some(key)
+    }
+
+    /// `s |= t`: the other's elements that aren't there (Python manual, Set Types) go last, in the
+    /// other's order (this project's choice). An `Err` changes nothing.
+    #[tactic(auto, using(crate::proofs::SetLaws::or_members))]
+    pub fn or(&mut self, alloc: Global, other: &Set) -> Result<(), AllocError>
+        requires { self.old.next + length other.now.elements < 2 ^ 63 }
+        ensures ok { OnOk result (self.new ≡ set_or self.old other.now.elements) }
+        ensures err { OnErr result (self.new ≡ self.old) }
+        ensures members { OnOk result ((key : Key) → has_element self.new.elements key ≡
+            (has_element self.old.elements key || has_element other.now.elements key)) }
+    {
+        let added = added(alloc, self.next, &self.elements, other.elements())?;
+        self.elements.extend_from_slice(&added)?;
+        self.next += added.len() as u64;
+        Ok(())
+    }
+
+    /// `s &= t`: keeps the elements that the other has, as they were (Python manual, Set Types).
+    pub fn and(&mut self, other: &Set)
+        ensures set { self.new ≡ set_and self.old other.now.elements }
+        ensures members { (key : Key) → has_element self.new.elements key ≡
+            (has_element self.old.elements key && has_element other.now.elements key) }
+    {
+        self.elements
+            .retain(|element| has(&other.elements, element.key));
+    }
+
+    /// `s -= t`: keeps the elements that the other hasn't, as they were (Python manual, Set Types).
+    pub fn sub(&mut self, other: &Set)
+        ensures set { self.new ≡ set_sub self.old other.now.elements }
+        ensures members { (key : Key) → has_element self.new.elements key ≡
+            (has_element self.old.elements key && not (has_element other.now.elements key)) }
+    {
+        self.elements
+            .retain(|element| !has(&other.elements, element.key));
+    }
+
+    /// `s ^= t`: the elements that were in both go, and the other's that weren't there (Python
+    /// manual, Set Types) go last, in the other's order (this project's choice). An `Err` changes
+    /// nothing.
+    #[tactic(auto, using(crate::proofs::SetLaws::xor_members))]
+    pub fn xor(&mut self, alloc: Global, other: &Set) -> Result<(), AllocError>
+        requires { self.old.next + length other.now.elements < 2 ^ 63 }
+        ensures ok { OnOk result (self.new ≡ set_xor self.old other.now.elements) }
+        ensures err { OnErr result (self.new ≡ self.old) }
+        ensures members { OnOk result ((key : Key) → has_element self.new.elements key ≡
+            ((has_element self.old.elements key && not (has_element other.now.elements key))
+            || (has_element other.now.elements key && not (has_element self.old.elements key)))) }
+    {
+        let added = added(alloc, self.next, &self.elements, other.elements())?;
+        let mut elements = kept(alloc, &self.elements, other.elements())?;
+        elements.extend_from_slice(&added)?;
+        self.elements = elements;
+        self.next += added.len() as u64;
+        Ok(())
+    }
+
+    /// `s.clear()` (Python manual, Set Types). No serial is drawn again.
+    pub fn clear(&mut self)
+        ensures { self.new ≡ set_clear self.old }
+    {
+        self.elements.clear();
+    }
+}
+
+/// Whether the key is among the elements.
+fn has(elements: &[Element], key: Key) -> bool
+    ensures { result ≡ has_element elements.now key }
+{
+    elements.iter().any(|element| element.key == key)
+}
+
+/// Whether none of the elements is among the others.
+fn are_disjoint(elements: &[Element], others: &[Element]) -> bool
+    ensures { result ≡ is_disjoint elements.now others.now }
+{
+    !has_any(others, elements)
+}
+
+/// Whether they are the same elements, in any order.
+fn same_elements(elements: &[Element], others: &[Element]) -> bool
+    ensures { result ≡ same_elements elements.now others.now }
+{
+    are_among(others, elements) && are_among(elements, others)
+}
+
+/// Whether all of the elements are among the others.
+fn are_among(others: &[Element], elements: &[Element]) -> bool
+    ensures { result ≡ is_subset elements.now others.now }
+{
+    elements.iter().all(|element| has(others, element.key))
+}
+
+/// Whether some of the elements are among the others.
+fn has_any(others: &[Element], elements: &[Element]) -> bool
+    ensures { result ≡ list_any (λ element. has_element others.now element.key) elements.now }
+{
+    elements.iter().any(|element| has(others, element.key))
+}
+
+/// The others that aren't among the elements, with new serials, one after the other from this one
+/// on.
+#[tactic(auto, using(crate::proofs::Copies::added_no, crate::proofs::Copies::added_yes))]
+fn added(
+    alloc: Global,
+    next: u64,
+    elements: &[Element],
+    others: &[Element],
+) -> Result<Vec<Element>, AllocError>
+    requires { next + length others.now < 2 ^ 63 }
+    ensures { IfOk result (λ added. added.items ≡ elements_from next (those_not_in elements.now others.now)) }
+{
+    let mut added = Vec::new(alloc);
+    for other in others {
+        if !has(elements, other.key) {
+            added.push(Element {
+                serial: next + added.len() as u64,
+                key: other.key,
+            })?;
+        }
+    }
+    Ok(added)
+}
+
+/// The elements that aren't among the others.
+fn kept(alloc: Global, elements: &[Element], others: &[Element]) -> Result<Vec<Element>, AllocError>
+    ensures { IfOk result (λ kept. kept.items ≡ those_not_in others.now elements.now) }
+{
+    elements
+        .iter()
+        .copied()
+        .filter(|element| !has(others, element.key))
+        .collect(alloc)
+}

@@ -1,0 +1,55 @@
+-- What the judge's tests say of the rules.
+use Rattle.std.proofs.Common.{◌≡◌, ◌↔◌, IsTrue, ℕ, ◌+◌, ◌-◌, ◌<◌, ◌≤◌, Bool, true, false, List, [], ◌∷◌, ◌++◌, map, length, take, drop, Option, Some, None, refl, sym, ap, subst, ◌∙◌, arith, inl, inr, ◌==◌}
+use Rattle.std.specs.Prelude.{slice_get, IfSome, All}
+use Rattle.std.proofs.lemmas.Bool.{cases_lt}
+use Rattle.std.proofs.lemmas.List.{length-take-le}
+use Rattle.std.proofs.lemmas.List.Sums.{length-filter, count_by-le-length}
+use Rattle.std.proofs.lemmas.Option.{slice_get_within}
+use Rattle.ft_model.specs.declared.call.Call.{Call}
+use Rattle.ft_model.specs.declared.entry.Entry.{Entry}
+use Rattle.ft_model.specs.declared.entry.Rule.{Rule}
+use Rattle.ft_model.specs.declared.entry.Rule.TheVariants as rule
+use Rattle.ft_model.specs.declared.entry.Storage.{Storage}
+use Rattle.ft_model.specs.declared.script.Thread.{Thread}
+use Rattle.ft_model.specs.declared.script.ScriptParts.{ScriptParts}
+use Rattle.ft_model.specs.Answers.{is_write}
+use Rattle.ft_model.specs.Histories.{writes, calls_of, entries_of}
+use Rattle.ft_model.specs.Judging.{IsNext, IsStamped, Keeps, rank_of}
+use Rattle.ft_history.specs.declared.progress.Progress.{Progress}
+use Rattle.ft_history.specs.States.{IsProgress}
+use Rattle.ft_history.specs.Steps.{KeepsFirst, BreaksFirst}
+use Rattle.ft_history.proofs.OneVerdict.{same_rule}
+
+-- ---- one rule more
+
+module _ (storage : Storage) (script : ScriptParts) (entries : List Entry) (place : ℕ) (entry : Entry) where
+  pub keeps_none : KeepsFirst storage script entries place entry 0
+  keeps_none other low = absurd (omega arith)
+
+  pub keeps_more : (count : ℕ) (r : Rule) → rank_of r ≡ count → KeepsFirst storage script entries place entry count → Keeps storage script entries r place entry → KeepsFirst storage script entries place entry (count + 1)
+  keeps_more count r rank first keeps other low =
+      elim (cases_lt (rank_of other) count) [
+        | inl before ↦ first other before
+        | inr here ↦ subst (λ q. Keeps storage script entries q place entry) (same_rule r other (omega arith)) keeps
+      ]
+
+-- ---- whole and stamp
+
+pub next_iff : (script : ScriptParts) (entries : List Entry) (place : ℕ) (entry : Entry) (found : Thread) (progress : Progress) (r : Bool)
+    → calls_of script entry.thread ≡ found.calls → progress.made ≡ length (entries_of entry.thread (take place entries))
+    → IsTrue r ↔ ((entry.index ≡ progress.made + 1) × (slice_get found.calls progress.made ≡ Some entry.call)) → IsTrue r ↔ IsNext script entries place entry
+next_iff script entries place entry found progress r calls made is = (
+  λ yes. record {
+    index = (is.0 yes).0 ∙ ap (λ n. n + 1) made;
+    call = ap (λ (cs : List Call). slice_get cs (length (entries_of entry.thread (take place entries)))) calls ∙ ap (slice_get found.calls) (sym made) ∙ (is.0 yes).1;
+  },
+  λ next. is.1 (next.index ∙ ap (λ n. n + 1) (sym made), ap (slice_get found.calls) made ∙ ap (λ (cs : List Call). slice_get cs (length (entries_of entry.thread (take place entries)))) (sym calls) ∙ next.call),
+)
+
+pub stamped_iff : (entries : List Entry) (place : ℕ) (entry : Entry) (count : ℕ) (r : Bool) → count ≡ length (writes (take place entries))
+    → IsTrue r ↔ ((entry.stamp ≡ count) × (entry.wrote ≡ is_write entry.call entry.reply)) → IsTrue r ↔ IsStamped entries place entry
+stamped_iff entries place entry count r is_count is = (λ yes. record { stamp = (is.0 yes).0 ∙ is_count; wrote = (is.0 yes).1 }, λ stamped. is.1 (stamped.stamp ∙ sym is_count, stamped.wrote))
+
+-- a thread makes no more calls than there are entries
+pub few_made : (entries : List Entry) (place thread : ℕ) → place ≤ length entries → length (entries_of thread (take place entries)) ≤ place
+few_made entries place thread within = omega (arith, length-filter (λ (e : Entry). e.thread == thread) (take place entries), count_by-le-length (λ (e : Entry). e.thread == thread) (take place entries), length-take-le place entries within)

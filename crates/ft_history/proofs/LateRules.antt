@@ -1,0 +1,143 @@
+-- What the judge's tests say of the rules on marks and sections.
+use Rattle.std.proofs.Common.{◌≡◌, ◌≢◌, ◌↔◌, IsTrue, ℕ, ◌+◌, ◌-◌, ◌<◌, ◌≤◌, Bool, true, false, ◌||◌, List, [], ◌∷◌, ◌++◌, map, length, take, drop, get_or, Option, Some, None, refl, sym, ap, subst, ◌∙◌, arith, inl, inr, cond}
+use Rattle.std.specs.Prelude.{slice_get, IfSome, All}
+use Rattle.std.specs.Option.{option_map_or}
+use Rattle.std.specs.List.{list_any, count_by, between, AllByRecursion}
+use Rattle.std.proofs.lemmas.List.{take-take, length-take-le}
+use Rattle.std.proofs.lemmas.List.Elements.{recursion_from_All}
+use Rattle.std.proofs.lemmas.List.Sums.{sum_by-take-drop}
+use Rattle.std.proofs.lemmas.Slice.{between_is}
+use Rattle.std.proofs.lemmas.Option.{IfSome_then, slice_get_cases}
+use Rattle.ft_model.specs.declared.call.Call.{Call}
+use Rattle.ft_model.specs.declared.call.Call.TheVariants as call
+use Rattle.ft_model.specs.declared.reply.Reply.{Reply}
+use Rattle.ft_model.specs.declared.reply.Reply.TheVariants as reply
+use Rattle.ft_model.specs.declared.reply.Raise.{Raise}
+use Rattle.ft_model.specs.declared.cursor.Cursor.{Cursor}
+use Rattle.ft_model.specs.declared.entry.Entry.{Entry}
+use Rattle.ft_model.specs.declared.script.ScriptParts.{ScriptParts}
+use Rattle.std.specs.Global.{Vec}
+use Rattle.ft_model.specs.Worlds.{objects_of}
+use Rattle.ft_model.specs.Histories.{Section, innermost, after_section, sections_at, hands_at, has_call_on, needs_at, disturbs, is_disturbed, is_marked, marks_between, IfEnds, IsKeptBy, IsCountedBy, IsMarked, IsKept, IsCounted}
+use Rattle.ft_history.specs.declared.objects.Objects.{Objects}
+use Rattle.ft_history.specs.declared.progress.Progress.{Progress}
+use Rattle.ft_history.specs.declared.writers.LastWrites.{LastWrites}
+use Rattle.ft_history.specs.States.{Begun, listed, is_used, AreUsers, all_begun, after_begun, inner_begun, section_of, IfEndsBegun, IsCountedAs, IsOpen, IsProgress, IsLast, is_written_since, is_written_on, IsKeptSince}
+use Rattle.ft_history.proofs.ProgressLemmas.{sections_alike}
+use Rattle.ft_history.proofs.LastWriteLemmas.{any_of_objects}
+
+any_alike : {X : Type 0} (p q : X → Bool) (xs : List X) → ((x : X) → p x ≡ q x) → list_any p xs ≡ list_any q xs
+any_alike p q [] same = refl
+any_alike p q (x ∷ xs) same = λ i. same x i || any_alike p q xs same i
+
+any_alike_on : {X : Type 0} (p q : X → Bool) (xs : List X) → AllByRecursion (λ x. p x ≡ q x) xs → list_any p xs ≡ list_any q xs
+any_alike_on p q [] same = refl
+any_alike_on p q (x ∷ xs) same = λ i. same.0 i || any_alike_on p q xs same.1 i
+
+-- ---- marks
+
+inner_alike : (sections : List Begun) → innermost (map section_of sections) ≡ inner_begun sections
+inner_alike [] = refl
+inner_alike (section ∷ sections) = refl
+
+pub marked_iff : (script : ScriptParts) (entries : List Entry) (place : ℕ) (entry : Entry) (progress : Progress) (users : List (Vec Bool)) (own inner : Objects) (r : Bool)
+    → AreUsers script users → IsProgress script entries entry.thread place progress → listed own ≡ objects_of progress.hands entry.call
+    → ((at marks : ℕ) → listed inner ≡ inner_begun (after_begun at marks entry.call (all_begun progress.sections.items)))
+    → IsTrue r ↔ IfSome entry.waited (λ thread. (thread ≢ entry.thread) × (list_any (is_used users thread) (listed own ++ listed inner) ≡ true)) → IsTrue r ↔ IsMarked script entries place entry
+marked_iff script entries place entry progress users own inner r are_users so_far own_is inner_is is =
+    let called = entry.call in
+    let begun = all_begun progress.sections.items in
+    let needs : listed own ++ listed inner ≡ needs_at script entries place entry = λ i.
+    (own_is ∙ ap (λ (hs : List (Option Cursor)). objects_of hs called) so_far.hands) i
+    ++ (inner_is place 0 ∙ sym (inner_alike (after_begun place 0 called begun)) ∙ ap innermost (sections_alike place 0 called begun) ∙ ap (λ (ss : List Section). innermost (after_section place called ss)) (sym so_far.sections)) i in
+    let same : (thread : ℕ) → list_any (is_used users thread) (listed own ++ listed inner) ≡ list_any (has_call_on script thread) (needs_at script entries place entry) = λ thread.
+    any_alike (is_used users thread) (has_call_on script thread) (listed own ++ listed inner) (are_users thread) ∙ ap (list_any (has_call_on script thread)) needs in
+    (λ yes. IfSome_then entry.waited (is.0 yes) (λ thread both. (both.0, sym (same thread) ∙ both.1)), λ marked. is.1 (IfSome_then entry.waited marked (λ thread both. (both.0, same thread ∙ both.1))))
+
+-- ---- ends
+
+ends_iff : (sections : List Begun) (called : Call) (R Q : Begun → Type 0) (P : Section → Type 0) → AllByRecursion R sections → ((section : Begun) → R section → Q section ↔ P (section_of section))
+    → IfEndsBegun sections called Q ↔ IfEnds (map section_of sections) called P
+ends_iff [] called R Q P each same = (λ _. tt, λ _. nothing called)
+  where
+    nothing : (c : Call) → IfEndsBegun [] c Q
+    nothing c = tt
+ends_iff (section ∷ sections) call.End R Q P each same = same section each.0
+ends_iff (section ∷ sections) (call.Dict container dict_call) R Q P each same = (λ _. tt, λ _. tt)
+ends_iff (section ∷ sections) (call.List container list_call) R Q P each same = (λ _. tt, λ _. tt)
+ends_iff (section ∷ sections) (call.Set container set_call) R Q P each same = (λ _. tt, λ _. tt)
+ends_iff (section ∷ sections) (call.Next cursor) R Q P each same = (λ _. tt, λ _. tt)
+ends_iff (section ∷ sections) (call.Begin first second) R Q P each same = (λ _. tt, λ _. tt)
+ends_iff (section ∷ sections) call.Quiesce R Q P each same = (λ _. tt, λ _. tt)
+
+-- ---- kept
+
+module _ (script : ScriptParts) (entries : List Entry) (place : ℕ) (thread : ℕ) (containers : List LastWrites) (long : length containers ≡ length script.containers) (lasts : (object : ℕ) (last : LastWrites) → slice_get containers object ≡ Some last → IsLast entries place object last) where
+  written_alike : (since object : ℕ) → object < length script.containers → list_any (disturbs thread (object ∷ [])) (drop since (take place entries)) ≡ is_written_on containers thread since object
+  written_alike since object low =
+      elim (slice_get_cases containers object).1 [
+        | inl found ↦ (lasts object found.0 found.2).since thread since ∙ sym (ap (λ o. option_map_or (λ (writes : LastWrites). is_written_since writes thread since) o false) found.2)
+        | inr past ↦ absurd (omega (arith, past.0))
+      ]
+
+  disturbed_alike : (section : Begun) → All (λ object. object < length script.containers) section.objects → is_disturbed entries thread place (section_of section) ≡ list_any (is_written_on containers thread (section.begun + 1)) section.objects
+  disturbed_alike section within =
+      ap (list_any (disturbs thread section.objects)) (between_is entries (section.begun + 1) place) ∙ any_of_objects (drop (section.begun + 1) (take place entries)) thread section.objects
+      ∙ any_alike_on (λ object. list_any (disturbs thread (object ∷ [])) (drop (section.begun + 1) (take place entries))) (is_written_on containers thread (section.begun + 1)) section.objects
+      (recursion_from_All (λ object. list_any (disturbs thread (object ∷ [])) (drop (section.begun + 1) (take place entries)) ≡ is_written_on containers thread (section.begun + 1) object) section.objects (λ k d low. written_alike (section.begun + 1) _ (within k d low)))
+
+  kept_alike : (said : Reply) (section : Begun) → IsOpen script entries thread place section → IsKeptSince containers thread section said ↔ IsKeptBy entries thread place (section_of section) said
+  kept_alike reply.Kept section is_open = (λ calm. disturbed_alike section is_open.objects ∙ calm, λ calm. sym (disturbed_alike section is_open.objects) ∙ calm)
+  kept_alike reply.Done section is_open = (λ _. tt, λ _. tt)
+  kept_alike (reply.Value value) section is_open = (λ _. tt, λ _. tt)
+  kept_alike (reply.Pair key value) section is_open = (λ _. tt, λ _. tt)
+  kept_alike (reply.Truth b) section is_open = (λ _. tt, λ _. tt)
+  kept_alike (reply.Count n) section is_open = (λ _. tt, λ _. tt)
+  kept_alike (reply.Dict pairs) section is_open = (λ _. tt, λ _. tt)
+  kept_alike (reply.List items) section is_open = (λ _. tt, λ _. tt)
+  kept_alike (reply.Set elements) section is_open = (λ _. tt, λ _. tt)
+  kept_alike reply.Stop section is_open = (λ _. tt, λ _. tt)
+  kept_alike reply.Entered section is_open = (λ _. tt, λ _. tt)
+  kept_alike (reply.Suspended n) section is_open = (λ _. tt, λ _. tt)
+  kept_alike (reply.Raised raise) section is_open = (λ _. tt, λ _. tt)
+
+pub kept_iff : (script : ScriptParts) (entries : List Entry) (place : ℕ) (entry : Entry) (progress : Progress) (containers : List LastWrites) (r : Bool)
+    → length containers ≡ length script.containers → ((object : ℕ) (last : LastWrites) → slice_get containers object ≡ Some last → IsLast entries place object last) → IsProgress script entries entry.thread place progress
+    → IsTrue r ↔ IfEndsBegun (all_begun progress.sections.items) entry.call (λ section. IsKeptSince containers entry.thread section entry.reply) → IsTrue r ↔ IsKept entries place entry
+kept_iff script entries place entry progress containers r long lasts so_far is =
+    let ends = ends_iff (all_begun progress.sections.items) entry.call (IsOpen script entries entry.thread place) (λ section. IsKeptSince containers entry.thread section entry.reply) (λ section. IsKeptBy entries entry.thread place section entry.reply) so_far.«open» (kept_alike script entries place entry.thread containers long lasts entry.reply) in
+    let P : List Section → Type 0 = λ ss. IfEnds ss entry.call (λ section. IsKeptBy entries entry.thread place section entry.reply) in
+    (λ yes. subst P (sym so_far.sections) (ends.0 (is.0 yes)), λ kept. is.1 (ends.1 (subst P so_far.sections kept)))
+
+-- ---- counted
+
+module _ (script : ScriptParts) (entries : List Entry) (place thread marks : ℕ) (count : marks ≡ count_by (is_marked thread) (take place entries)) where
+  marks_alike : (section : Begun) → IsOpen script entries thread place section → marks_between entries thread place (section_of section) ≡ marks - section.marks
+  marks_alike section is_open =
+      let start = section.begun + 1 in
+      let part : count_by (is_marked thread) (between start place entries) ≡ count_by (is_marked thread) (drop start (take place entries)) = ap (count_by (is_marked thread)) (between_is entries start place) in
+      let front : count_by (is_marked thread) (take start (take place entries)) ≡ section.marks = ap (count_by (is_marked thread)) (take-take start place entries (omega (arith, is_open.before))) ∙ sym is_open.marks in
+      omega (arith, sum_by-take-drop (λ e. cond (is_marked thread e) 1 0) (take place entries) start)
+
+  counted_alike : (said : Reply) (section : Begun) → IsOpen script entries thread place section → IsCountedAs (marks - section.marks) said ↔ IsCountedBy entries thread place (section_of section) said
+  counted_alike reply.Kept section is_open = (λ none. marks_alike section is_open ∙ none, λ none. sym (marks_alike section is_open) ∙ none)
+  counted_alike (reply.Suspended n) section is_open = (λ some. (some.0, marks_alike section is_open ∙ some.1), λ some. (some.0, sym (marks_alike section is_open) ∙ some.1))
+  counted_alike reply.Done section is_open = (λ _. tt, λ _. tt)
+  counted_alike (reply.Value value) section is_open = (λ _. tt, λ _. tt)
+  counted_alike (reply.Pair key value) section is_open = (λ _. tt, λ _. tt)
+  counted_alike (reply.Truth b) section is_open = (λ _. tt, λ _. tt)
+  counted_alike (reply.Count n) section is_open = (λ _. tt, λ _. tt)
+  counted_alike (reply.Dict pairs) section is_open = (λ _. tt, λ _. tt)
+  counted_alike (reply.List items) section is_open = (λ _. tt, λ _. tt)
+  counted_alike (reply.Set elements) section is_open = (λ _. tt, λ _. tt)
+  counted_alike reply.Stop section is_open = (λ _. tt, λ _. tt)
+  counted_alike reply.Entered section is_open = (λ _. tt, λ _. tt)
+  counted_alike (reply.Raised raise) section is_open = (λ _. tt, λ _. tt)
+
+pub counted_iff : (script : ScriptParts) (entries : List Entry) (place : ℕ) (entry : Entry) (progress : Progress) (r : Bool)
+    → IsProgress script entries entry.thread place progress
+    → IsTrue r ↔ IfEndsBegun (all_begun progress.sections.items) entry.call (λ section. IsCountedAs (progress.marks - section.marks) entry.reply) → IsTrue r ↔ IsCounted entries place entry
+counted_iff script entries place entry progress r so_far is =
+    let ends = ends_iff (all_begun progress.sections.items) entry.call (IsOpen script entries entry.thread place) (λ section. IsCountedAs (progress.marks - section.marks) entry.reply) (λ section. IsCountedBy entries entry.thread place section entry.reply) so_far.«open» (counted_alike script entries place entry.thread progress.marks so_far.marks entry.reply) in
+    let P : List Section → Type 0 = λ ss. IfEnds ss entry.call (λ section. IsCountedBy entries entry.thread place section entry.reply) in
+    (λ yes. subst P (sym so_far.sections) (ends.0 (is.0 yes)), λ counted. is.1 (ends.1 (subst P so_far.sections counted)))

@@ -1,0 +1,74 @@
+-- What the rule of scripts says of threads and of their calls.
+use Rattle.std.proofs.Common.{◌≡◌, ℕ, zero, suc, ◌<◌, ◌≤◌, Bool, true, false, List, [], ◌∷◌, length, get_or, Option, Some, None, refl, sym, ap, subst, ◌∙◌, arith, cond, eqb}
+use Rattle.std.specs.Prelude.{slice_get, All, IfSome}
+use Rattle.std.specs.Option.{option_map, option_map_or}
+use Rattle.std.specs.List.{AllByRecursion}
+use Rattle.std.proofs.lemmas.List.Elements.{All-from_recursion}
+use Rattle.std.proofs.lemmas.Option.{slice_get-map, slice_get_within, get_or_from_slice_get, slice_get_past, IfSome_then}
+use Rattle.std.proofs.lemmas.List.{length-map}
+use Rattle.ft_model.specs.declared.call.Call.{Call}
+use Rattle.ft_model.specs.declared.call.Call.TheVariants as call
+use Rattle.ft_model.specs.declared.script.Declaration.{Declaration}
+use Rattle.ft_model.specs.declared.script.Kind.{Kind}
+use Rattle.ft_model.specs.declared.script.Thread.{Thread}
+use Rattle.ft_model.specs.declared.script.ScriptParts.{ScriptParts}
+use Rattle.ft_model.specs.Calls.{one_or_two, containers_of}
+use Rattle.ft_model.specs.Scripts.{IsDeclaredAs, NamesOf, IsCallOf, IsThread, IsScript}
+use Rattle.ft_model.specs.Histories.{calls_of, cursors_of}
+
+declared_within : (containers : List Declaration) (k : Kind) (place : ℕ) → IsDeclaredAs containers k place → place < length containers
+declared_within containers k place is = omega (arith, length-map containers (λ (c : Declaration). c.kind), slice_get_within _ place k (slice_get-map (λ (c : Declaration). c.kind) containers place ∙ is))
+
+one_or_two_within : (n first : ℕ) (second : Option ℕ) → first < n → IfSome second (λ place. place < n) → All (λ object. object < n) (one_or_two first second)
+one_or_two_within n first None low both = All-from_recursion (λ object. object < n) (first ∷ []) (low, tt)
+one_or_two_within n first (Some second) low both =
+    elim (eqb first second) as (λ b. All (λ object. object < n) (cond b (first ∷ []) (first ∷ second ∷ []))) [
+      | true ↦ All-from_recursion (λ object. object < n) (first ∷ []) (low, tt)
+      | false ↦ All-from_recursion (λ object. object < n) (first ∷ second ∷ []) (low, (both, tt))
+    ]
+
+none_within : (n : ℕ) → All (λ object. object < n) []
+none_within n = All-from_recursion (λ object. object < n) [] tt
+
+-- the containers that a call of a script names are declared
+pub named_within : (containers : List Declaration) (cursors : ℕ) (called : Call) → NamesOf containers cursors called → All (λ object. object < length containers) (containers_of called)
+named_within containers cursors (call.Dict place dict_call) names = one_or_two_within _ place _ (declared_within containers _ place names.container) (IfSome_then _ names.second (λ other is. declared_within containers _ other is))
+named_within containers cursors (call.List place list_call) names = one_or_two_within _ place _ (declared_within containers _ place names.container) (IfSome_then _ names.second (λ other is. declared_within containers _ other is))
+named_within containers cursors (call.Set place set_call) names = one_or_two_within _ place _ (declared_within containers _ place names.container) (IfSome_then _ names.second (λ other is. declared_within containers _ other is))
+named_within containers cursors (call.Next number) names = none_within (length containers)
+named_within containers cursors (call.Begin first second) names = one_or_two_within _ first second names.0 names.1
+named_within containers cursors call.End names = none_within (length containers)
+named_within containers cursors call.Quiesce names = none_within (length containers)
+
+-- ---- threads
+
+module _ (script : ScriptParts) (is_script : IsScript script) (thread : ℕ) (found : Thread) (at : slice_get script.threads thread ≡ Some found) where
+  pub is_thread : IsThread script found
+  is_thread = subst (IsThread script) (get_or_from_slice_get script.threads thread found found at) (is_script.threads thread found (slice_get_within script.threads thread found at))
+
+  pub calls_of_thread : calls_of script thread ≡ found.calls
+  calls_of_thread = ap (λ (o : Option Thread). option_map_or (λ (f : Thread). f.calls) o []) at
+
+  pub cursors_of_thread : cursors_of script thread ≡ length found.cursors
+  cursors_of_thread = ap (λ (o : Option Thread). option_map_or (λ (f : Thread). length f.cursors) o 0) at
+
+  -- a call of the thread is one of the script
+  pub call_of_thread : (place : ℕ) (called : Call) → slice_get (calls_of script thread) place ≡ Some called → IsCallOf script (cursors_of script thread) called
+  call_of_thread place called here =
+      let in_thread : slice_get found.calls place ≡ Some called = ap (λ (cs : List Call). slice_get cs place) (sym calls_of_thread) ∙ here in
+      subst (λ n. IsCallOf script n called) (sym cursors_of_thread)
+      (subst (IsCallOf script (length found.cursors)) (get_or_from_slice_get found.calls place called called in_thread) (is_thread.calls place called (slice_get_within found.calls place called in_thread)))
+
+  -- and names containers of the script
+  pub calls_within : All (λ called. All (λ object. object < length script.containers) (containers_of called)) found.calls
+  calls_within k d low = named_within script.containers _ (get_or found.calls k d) (is_thread.calls k d low).names
+
+pub calls_of-at : (script : ScriptParts) (thread : ℕ) (found : Thread) → slice_get script.threads thread ≡ Some found → calls_of script thread ≡ found.calls
+calls_of-at script thread found at = ap (λ (o : Option Thread). option_map_or (λ (f : Thread). f.calls) o []) at
+
+-- a thread that is none of the script has no call
+pub no_calls : (script : ScriptParts) (thread place : ℕ) (called : Call) → length script.threads ≤ thread → slice_get (calls_of script thread) place ≡ Some called → ⊥
+no_calls script thread place called past at =
+    let none : calls_of script thread ≡ [] = ap (λ (o : Option Thread). option_map_or (λ (f : Thread). f.calls) o []) (slice_get_past script.threads thread past) in
+    let e : None ≡ Some called = ap (λ (cs : List Call). slice_get cs place) (sym none) ∙ at in
+    cc

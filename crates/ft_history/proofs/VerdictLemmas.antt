@@ -1,0 +1,106 @@
+-- What the judge's answer says of the history.
+use Rattle.std.proofs.Common.{◌≡◌, ◌↔◌, IsTrue, ℕ, ◌+◌, ◌-◌, ◌<◌, ◌≤◌, Bool, true, false, List, [], length, take, Option, Some, None, refl, sym, ap, subst, ◌∙◌, arith, inl, inr}
+use Rattle.std.specs.Prelude.{slice_get}
+use Rattle.std.specs.Option.{option_map_or}
+use Rattle.std.proofs.lemmas.Bool.{cases_lt, false≢true}
+use Rattle.std.proofs.lemmas.List.{take_all}
+use Rattle.std.proofs.lemmas.Option.{slice_get_within, slice_get_cases, slice_get_past}
+use Rattle.ft_model.specs.declared.entry.Entry.{Entry}
+use Rattle.ft_model.specs.declared.entry.Rule.{Rule}
+use Rattle.ft_model.specs.declared.entry.Rule.TheVariants as rule
+use Rattle.ft_model.specs.declared.entry.Storage.TheVariants as storage
+use Rattle.ft_model.specs.declared.script.Thread.{Thread}
+use Rattle.ft_model.specs.declared.script.ScriptParts.{ScriptParts}
+use Rattle.ft_model.specs.Histories.{calls_of, entries_of, IsLegal}
+use Rattle.ft_model.specs.Judging.{IsKeptAt, KeepsBehind, IsComplete, IsUnbroken, IsFirstBroken, rank_of}
+use Rattle.ft_history.specs.declared.progress.Progress.{Progress}
+use Rattle.ft_history.specs.declared.state.State.{State}
+use Rattle.ft_history.specs.Steps.{IsState, IsUnbrokenBefore, BreaksFirst, Finds, HaveMadeAll}
+use Rattle.ft_history.proofs.Unbroken.{legal_of_unbroken}
+
+module _ (script : ScriptParts) (entries : List Entry) (place : ℕ) (low : place < length entries) (unbroken : IsUnbrokenBefore storage.Plain script entries place) where
+  -- nothing is found at a place, and nothing is broken before the next
+  pub goes_on : ((entry : Entry) → slice_get entries place ≡ Some entry → Finds storage.Plain script entries place entry None) → IsUnbrokenBefore storage.Plain script entries (place + 1)
+  goes_on finds before r below =
+      elim (cases_lt before place) [
+        | inl earlier ↦ unbroken before r earlier
+        | inr late ↦
+            let here : place ≡ before = omega arith in
+            subst (λ p. IsKeptAt storage.Plain script entries p r) here (record { entry = λ entry at. finds entry at r; behind = λ end. absurd (omega arith) })
+      ]
+
+  -- what is found is the first that is broken
+  pub first_broken : (r : Rule) → ((entry : Entry) → slice_get entries place ≡ Some entry → Finds storage.Plain script entries place entry (Some r)) → IsFirstBroken storage.Plain script entries place r
+  first_broken r finds =
+      record {
+        before = record { earlier = unbroken; here = λ other rank. record { entry = λ entry at. (finds entry at).before other rank; behind = λ end. absurd (omega arith) } };
+        broken = λ kept. elim (slice_get_cases entries place).1 [
+          | inl found ↦ (finds found.0 found.2).broken (kept.entry found.0 found.2)
+          | inr past ↦ absurd (omega (arith, past.0))
+        ];
+      }
+
+-- ---- at the end
+
+complete_iff : (script : ScriptParts) (entries : List Entry) (state : State) (r : Bool) → IsState script entries (length entries) state → IsTrue r ↔ HaveMadeAll script.threads state.threads.items → IsTrue r ↔ IsComplete script entries
+complete_iff script entries state r is_state is =
+    let all : take (length entries) entries ≡ entries = take_all (length entries) entries (omega arith) in (
+      λ yes thread.
+          elim (slice_get_cases script.threads thread).1 [
+            | inr past ↦ omega (arith, ap (λ (o : Option Thread). length (option_map_or (λ (f : Thread). f.calls) o [])) past.1)
+            | inl found ↦ elim (slice_get_cases state.threads.items thread).1 [
+              | inr past ↦ absurd (omega (arith, past.0, found.1, is_state.threads))
+              | inl progress ↦
+                  let made = (is_state.progress thread progress.0 progress.2).made ∙ ap (λ es. length (entries_of thread es)) all in
+                  let enough = is.0 yes thread found.0 progress.0 found.2 progress.2 in
+                  omega (arith, made, enough, ap (λ (o : Option Thread). length (option_map_or (λ (f : Thread). f.calls) o [])) found.2)
+            ]
+          ],
+      λ complete. is.1 (λ thread found progress at made_at.
+          let made = (is_state.progress thread progress made_at).made ∙ ap (λ es. length (entries_of thread es)) all in
+          omega (arith, made, complete thread, ap (λ (o : Option Thread). length (option_map_or (λ (f : Thread). f.calls) o [])) at)),
+    )
+
+module _ (script : ScriptParts) (entries : List Entry) (unbroken : IsUnbrokenBefore storage.Plain script entries (length entries)) where
+  behind_all : (place : ℕ) (r : Rule) → length entries ≤ place → (place ≡ length entries → KeepsBehind script entries r) → IsKeptAt storage.Plain script entries place r
+  behind_all place r past behind = record { entry = λ entry at. absurd (let low = slice_get_within entries place entry at in omega arith); behind = behind }
+
+  keeps_behind : (r : Rule) → IsComplete script entries → KeepsBehind script entries r
+  keeps_behind rule.Missing complete = complete
+  keeps_behind rule.Whole complete = tt
+  keeps_behind rule.Stamp complete = tt
+  keeps_behind rule.Order complete = tt
+  keeps_behind rule.Reply complete = tt
+  keeps_behind rule.Mark complete = tt
+  keeps_behind rule.Kept complete = tt
+  keeps_behind rule.Suspended complete = tt
+  keeps_behind rule.Memory complete = tt
+  keeps_behind rule.World complete = tt
+
+  keeps_lower : (r : Rule) → rank_of r < 8 → KeepsBehind script entries r
+  keeps_lower rule.Missing low = absurd (omega arith)
+  keeps_lower rule.World low = tt
+  keeps_lower rule.Whole low = tt
+  keeps_lower rule.Stamp low = tt
+  keeps_lower rule.Order low = tt
+  keeps_lower rule.Reply low = tt
+  keeps_lower rule.Mark low = tt
+  keeps_lower rule.Kept low = tt
+  keeps_lower rule.Suspended low = tt
+  keeps_lower rule.Memory low = tt
+
+  pub legal_at_end : (state : State) (r : Bool) → IsState script entries (length entries) state → IsTrue r ↔ HaveMadeAll script.threads state.threads.items → r ≡ true → IsLegal storage.Plain script entries
+  legal_at_end state r is_state is on =
+      let complete = (complete_iff script entries state r is_state is).0 on in
+      legal_of_unbroken storage.Plain script entries (λ place q.
+      elim (cases_lt place (length entries)) [
+        | inl low ↦ unbroken place q low
+        | inr past ↦ behind_all place q past (λ _. keeps_behind q complete)
+      ])
+
+  pub missing_at_end : (state : State) (r : Bool) → IsState script entries (length entries) state → IsTrue r ↔ HaveMadeAll script.threads state.threads.items → r ≡ false → IsFirstBroken storage.Plain script entries (length entries) rule.Missing
+  missing_at_end state r is_state is off =
+      record {
+        before = record { earlier = unbroken; here = λ other low. behind_all (length entries) other (omega arith) (λ _. keeps_lower other low) };
+        broken = λ kept. false≢true (sym off ∙ (complete_iff script entries state r is_state is).1 (kept.behind refl));
+      }

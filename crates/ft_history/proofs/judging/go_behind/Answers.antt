@@ -1,0 +1,61 @@
+use Rattle.std.proofs.Common.{◌≡◌, ℕ, ◌&&◌, ◌||◌, ◌<◌, Bool, true, false, List, length, get_or, set, Some, refl, sym, ap, subst, ◌∙◌, arith, cond, ◌==◌, ◌+◌}
+use Rattle.std.specs.Prelude.{slice_get}
+use Rattle.std.specs.List.{list_any}
+use Rattle.std.proofs.lemmas.Option.{slice_get_read}
+use Rattle.ft_model.specs.Histories.{names}
+use Rattle.ft_history.specs.declared.progress.Progress.{Progress}
+use Rattle.ft_history.specs.declared.writers.LastWrites.{LastWrites}
+use Rattle.ft_history.specs.States.{behind_one}
+use Rattle.ft_history.proofs.judging.go_behind.Goals as goal
+
+pub returns-then-entry : goal.returns-then-entry
+returns-then-entry c =
+    let threads = c.args.state.now.threads in
+    let entry = c.args.entry.now in
+    let before : Progress = c.index_mut-progress.result.now in
+    let after : Progress = c.go_through.new.progress in
+    let low : entry.thread < length threads.items = omega (arith, c.requires.thread, threads.ok.0) in (
+      before,
+      after,
+      record {
+        at = slice_get_read threads.items _ entry.thread before refl low c.index_mut-progress.ensures.value;
+        threads = refl;
+        told = c.in_ok-told.ensures.told;
+        world = c.in_ok-told.ensures.world;
+        hands = c.in_ok-told.ensures.hands;
+        made = c.in_ok-told.ensures.made;
+        marks = c.in_ok-told.ensures.marks;
+        sections = c.in_ok-told.ensures.sections;
+        writes = ap (λ b. c.args.state.now.writes + cond b 1 0) (sym c.if-entry.true);
+        containers = sym c.note_write.new.containers.ok.0 ∙ c.note_write.ensures.length ∙ c.args.state.now.containers.ok.0;
+        lasts = λ object other.
+            let old : LastWrites = get_or c.args.state.now.containers.items object other in
+            c.note_write.ensures.noted object other
+            ∙ ap (λ (ns : List ℕ). cond (list_any (λ n. n == object) ns) (behind_one old entry.thread c.args.place) old) c.containers_named.ensures
+            ∙ ap (λ b. cond (b && names object entry.call) (behind_one old entry.thread c.args.place) old) (sym c.if-entry.true);
+      },
+    )
+
+pub returns-else-entry : goal.returns-else-entry
+returns-else-entry c =
+    let threads = c.args.state.now.threads in
+    let entry = c.args.entry.now in
+    let before : Progress = c.index_mut-progress.result.now in
+    let after : Progress = c.go_through.new.progress in
+    let low : entry.thread < length threads.items = omega (arith, c.requires.thread, threads.ok.0) in (
+      before,
+      after,
+      record {
+        at = slice_get_read threads.items _ entry.thread before refl low c.index_mut-progress.ensures.value;
+        threads = refl;
+        told = c.in_ok-told.ensures.told;
+        world = c.in_ok-told.ensures.world;
+        hands = c.in_ok-told.ensures.hands;
+        made = c.in_ok-told.ensures.made;
+        marks = c.in_ok-told.ensures.marks;
+        sections = c.in_ok-told.ensures.sections;
+        writes = let none : c.args.state.now.writes ≡ c.args.state.now.writes + 0 = omega arith in none ∙ ap (λ b. c.args.state.now.writes + cond b 1 0) (sym c.if-entry.false);
+        containers = refl;
+        lasts = λ object other. ap (λ b. cond (b && names object entry.call) (behind_one (get_or c.args.state.now.containers.items object other) entry.thread c.args.place) (get_or c.args.state.now.containers.items object other)) (sym c.if-entry.false);
+      },
+    )

@@ -1,0 +1,56 @@
+use Rattle.std.proofs.Common.{◌≡◌, ◌↔◌, IsTrue, ℕ, ◌+◌, ◌-◌, ◌<◌, ◌≤◌, List, length, Option, Some, None, refl, sym, ap, subst, ◌∙◌, arith}
+use Rattle.std.specs.Prelude.{slice_get, IfNone}
+use Rattle.ft_model.specs.declared.entry.Entry.{Entry}
+use Rattle.ft_model.specs.declared.entry.Rule.TheVariants as rule
+use Rattle.ft_model.specs.declared.entry.Storage.TheVariants as storage
+use Rattle.ft_model.specs.declared.script.Thread.{Thread}
+use Rattle.ft_model.specs.Histories.{IsLegal}
+use Rattle.ft_model.specs.Judging.{IsFirstBroken}
+use Rattle.ft_history.specs.declared.progress.Progress.{Progress}
+use Rattle.ft_history.specs.Steps.{IsState, IsUnbrokenBefore, Finds, HaveMadeAll}
+use Rattle.ft_history.proofs.VerdictLemmas.{goes_on, first_broken, legal_at_end, missing_at_end}
+use Rattle.ft_history.proofs.judging.judge.Goals as goal
+
+pub loop-place-init : goal.loop-place-init
+loop-place-init c = record { unbroken = λ before r low. absurd (omega arith); is_state = c.in_ok-state.ensures c.args.entries.now }
+
+pub returns-in-Some : goal.returns-in-Some
+returns-in-Some c =
+    let parts = c.parts-parts.result.now in
+    let entries = c.args.entries.now in
+    let place : ℕ = c.loop-place.place in
+    let finds : (entry : Entry) → slice_get entries place ≡ Some entry → Finds storage.Plain parts entries place entry (Some c.in-Some.rule) = λ entry at. subst (Finds storage.Plain parts entries place entry) c.in-Some.is (c.in_ok-rule.ensures.found entry at) in
+    let broken = first_broken parts entries place c.loop-place-test.true c.loop-place.invariant.unbroken c.in-Some.rule finds in
+    let back : place ≡ place + 1 - 1 = omega arith in
+    (omega arith, subst (λ p. IsFirstBroken storage.Plain p entries (place + 1 - 1) c.in-Some.rule) c.parts-parts.ensures.parts (subst (λ k. IsFirstBroken storage.Plain parts entries k c.in-Some.rule) back broken))
+
+pub loop-place-preserved : goal.loop-place-preserved
+loop-place-preserved c =
+    let parts = c.parts-parts.result.now in
+    let entries = c.args.entries.now in
+    let place : ℕ = c.loop-place.place in
+    record {
+      unbroken = goes_on parts entries place c.loop-place-test.true c.loop-place.invariant.unbroken (λ entry at. subst (Finds storage.Plain parts entries place entry) c.in_default.is (c.in_ok-rule.ensures.found entry at));
+      is_state = subst (λ o. IfNone o (IsState parts entries (place + 1) c.step.new.state)) c.in_default.is c.in_ok-rule.ensures.state;
+    }
+
+pub returns-then-is_complete : goal.returns-then-is_complete
+returns-then-is_complete c =
+    let parts = c.parts-parts.result.now in
+    let entries = c.args.entries.now in
+    let end : c.loop-place.place ≡ length entries = omega (arith, c.loop-place-test.false, c.loop-place.auto.place-end) in
+    let is : IsTrue c.is_complete.result ↔ HaveMadeAll parts.threads c.loop-place.state.threads.items =
+    subst (λ ts. IsTrue c.is_complete.result ↔ HaveMadeAll ts c.loop-place.state.threads.items) c.as_slice.ensures (subst (λ ps. IsTrue c.is_complete.result ↔ HaveMadeAll c.as_slice.result.now ps) c.deref-2.ensures.value c.is_complete.ensures) in
+    subst (λ p. IsLegal storage.Plain p entries) c.parts-parts.ensures.parts
+    (legal_at_end parts entries (subst (IsUnbrokenBefore storage.Plain parts entries) end c.loop-place.invariant.unbroken) c.loop-place.state c.is_complete.result (subst (λ n. IsState parts entries n c.loop-place.state) end c.loop-place.invariant.is_state) is c.if-is_complete.true)
+
+pub returns : goal.returns
+returns c =
+    let parts = c.parts-parts.result.now in
+    let entries = c.args.entries.now in
+    let end : c.loop-place.place ≡ length entries = omega (arith, c.loop-place-test.false, c.loop-place.auto.place-end) in
+    let is : IsTrue c.is_complete.result ↔ HaveMadeAll parts.threads c.loop-place.state.threads.items =
+    subst (λ ts. IsTrue c.is_complete.result ↔ HaveMadeAll ts c.loop-place.state.threads.items) c.as_slice.ensures (subst (λ ps. IsTrue c.is_complete.result ↔ HaveMadeAll c.as_slice.result.now ps) c.deref-2.ensures.value c.is_complete.ensures) in
+    let broken = missing_at_end parts entries (subst (IsUnbrokenBefore storage.Plain parts entries) end c.loop-place.invariant.unbroken) c.loop-place.state c.is_complete.result (subst (λ n. IsState parts entries n c.loop-place.state) end c.loop-place.invariant.is_state) is c.if-is_complete.false in
+    let back : length entries ≡ length entries + 1 - 1 = omega arith in
+    (omega arith, subst (λ p. IsFirstBroken storage.Plain p entries (length entries + 1 - 1) rule.Missing) c.parts-parts.ensures.parts (subst (λ k. IsFirstBroken storage.Plain parts entries k rule.Missing) back broken))

@@ -1,0 +1,80 @@
+use Rattle.std.proofs.Common.{◌≡◌, ℕ, ◌+◌, ◌<◌, ◌≤◌, List, length, Option, Some, refl, sym, ap, subst, ◌∙◌, arith}
+use Rattle.std.specs.Prelude.{slice_get, slice_index_or, All}
+use Rattle.ft_model.specs.Calls.{containers_of}
+use Rattle.std.proofs.lemmas.Option.{slice_get_read, same_Some}
+use Rattle.ft_model.specs.declared.entry.Entry.{Entry}
+use Rattle.ft_model.specs.declared.entry.Rule.TheVariants as rule
+use Rattle.ft_model.specs.declared.entry.Storage.TheVariants as storage
+use Rattle.ft_history.specs.declared.progress.Progress.{Progress}
+use Rattle.ft_history.specs.Steps.{IsState, BreaksFirst, Finds}
+use Rattle.ft_history.proofs.Judged.{few_made}
+use Rattle.ft_history.proofs.GoesBehindLemmas.{state_behind, askable_at, within_containers, thread_within, few_writes, few_marks, breaks_reply, keeps_four, finds_all, where_none}
+use Rattle.ft_history.proofs.judging.step.Goals as goal
+
+-- the entry that stands at the place
+here : (entries : List Entry) (place : ℕ) (entry : Entry) → place < length entries → entry ≡ slice_index_or entries place entry → slice_get entries place ≡ Some entry
+here entries place entry low read = slice_get_read entries (length entries) place entry refl low read
+
+pub returns-in-Some-clause-found : goal.returns-in-Some-clause-found
+returns-in-Some-clause-found c = λ entry at.
+    let same = same_Some _ _ (sym (here c.args.entries.now c.args.place c.index-entries-place.result c.requires.place c.index-entries-place.is) ∙ at) in
+    subst (λ e. BreaksFirst storage.Plain c.args.parts.now c.args.entries.now c.args.place e c.in-Some.rule) same (c.in-Some.ensures storage.Plain)
+
+pub late_rule-late-requires : goal.late_rule-late-requires
+late_rule-late-requires c =
+    let at = here c.args.entries.now c.args.place c.index-entries-place.result c.requires.place c.index-entries-place.is in
+    let next = c.in_default.ensures storage.Plain rule.Whole (omega arith) in
+    omega (arith, c.args.state.now.threads.ok.0, thread_within c.args.parts.now c.requires.script c.args.entries.now c.args.place c.index-entries-place.result at next c.args.state.now c.requires.state)
+
+pub go_behind-requires-clause-thread : goal.go_behind-requires-clause-thread
+go_behind-requires-clause-thread c =
+    let at = here c.args.entries.now c.args.place c.index-entries-place.result c.requires.place c.index-entries-place.is in
+    let next = c.in_default.ensures storage.Plain rule.Whole (omega arith) in
+    omega (arith, c.args.state.now.threads.ok.0, thread_within c.args.parts.now c.requires.script c.args.entries.now c.args.place c.index-entries-place.result at next c.args.state.now c.requires.state)
+
+pub go_behind-requires-clause-askable : goal.go_behind-requires-clause-askable
+go_behind-requires-clause-askable c = λ progress made.
+    let at = here c.args.entries.now c.args.place c.index-entries-place.result c.requires.place c.index-entries-place.is in
+    let next = c.in_default.ensures storage.Plain rule.Whole (omega arith) in
+    askable_at c.args.parts.now c.requires.script c.args.entries.now c.args.place c.index-entries-place.result at next c.args.state.now progress c.requires.state made
+
+pub go_behind-requires-clause-few : goal.go_behind-requires-clause-few
+go_behind-requires-clause-few c = λ progress made.
+    let so_far = c.requires.state.progress c.index-entries-place.result.thread progress made in
+    let within : c.args.place ≤ length c.args.entries.now = omega (arith, c.requires.place) in (
+      omega (arith, so_far.made, few_made c.args.entries.now c.args.place c.index-entries-place.result.thread within, c.requires.few, c.requires.place),
+      omega (arith, so_far.marks, few_marks c.args.entries.now c.args.place c.index-entries-place.result.thread within, c.requires.few, c.requires.place),
+    )
+
+pub go_behind-requires-clause-writes : goal.go_behind-requires-clause-writes
+go_behind-requires-clause-writes c = omega (arith, c.requires.state.count, few_writes c.args.entries.now c.args.place (omega (arith, c.requires.place)), c.requires.few, c.requires.place)
+
+pub go_behind-requires-clause-containers : goal.go_behind-requires-clause-containers
+go_behind-requires-clause-containers c =
+    let at = here c.args.entries.now c.args.place c.index-entries-place.result c.requires.place c.index-entries-place.is in
+    let next = c.in_default.ensures storage.Plain rule.Whole (omega arith) in
+    subst (λ n. All (λ object. object < n) (containers_of c.index-entries-place.result.call)) (sym c.args.state.now.containers.ok.0)
+    (within_containers c.args.parts.now c.requires.script c.args.entries.now c.args.place c.index-entries-place.result at next c.args.state.now c.requires.state)
+
+pub returns-then-told-clause-found : goal.returns-then-told-clause-found
+returns-then-told-clause-found c = λ entry at'.
+    let at = here c.args.entries.now c.args.place c.index-entries-place.result c.requires.place c.index-entries-place.is in
+    let goes = c.in_ok-told.ensures in
+    let first = keeps_four c.args.parts.now c.args.entries.now c.args.place c.index-entries-place.result c.in_ok-told.told goes.0 goes.1 c.args.state.now c.go_behind.new.state c.requires.state goes.2 (c.in_default.ensures storage.Plain) c.if-told.true in
+    subst (λ e. Finds storage.Plain c.args.parts.now c.args.entries.now c.args.place e c.late_rule-late.result) (same_Some _ _ (sym at ∙ at'))
+    (finds_all c.args.parts.now c.args.entries.now c.args.place c.index-entries-place.result c.late_rule-late.result first (c.late_rule-late.ensures c.args.parts.now c.args.entries.now c.args.place at c.requires.users c.requires.state))
+
+pub returns-then-told-clause-state : goal.returns-then-told-clause-state
+returns-then-told-clause-state c =
+    let at = here c.args.entries.now c.args.place c.index-entries-place.result c.requires.place c.index-entries-place.is in
+    let goes = c.in_ok-told.ensures in
+    let first = c.in_default.ensures storage.Plain in
+    where_none c.args.parts.now c.args.entries.now c.args.place c.index-entries-place.result _ c.late_rule-late.result (c.late_rule-late.ensures c.args.parts.now c.args.entries.now c.args.place at c.requires.users c.requires.state)
+    (λ late. state_behind c.args.parts.now c.requires.script c.args.entries.now c.args.place c.index-entries-place.result at (first rule.Whole (omega arith)) (first rule.Stamp (omega arith)) late.memory c.in_ok-told.told goes.0 goes.1 c.args.state.now c.go_behind.new.state c.requires.state goes.2 c.if-told.true)
+
+pub returns-else-told-clause-found : goal.returns-else-told-clause-found
+returns-else-told-clause-found c = λ entry at'.
+    let at = here c.args.entries.now c.args.place c.index-entries-place.result c.requires.place c.index-entries-place.is in
+    let goes = c.in_ok-told.ensures in
+    subst (λ e. BreaksFirst storage.Plain c.args.parts.now c.args.entries.now c.args.place e rule.Reply) (same_Some _ _ (sym at ∙ at'))
+    (breaks_reply c.args.parts.now c.args.entries.now c.args.place c.index-entries-place.result c.in_ok-told.told goes.0 goes.1 c.args.state.now c.go_behind.new.state c.requires.state goes.2 (c.in_default.ensures storage.Plain) c.if-told.false)

@@ -1,0 +1,4 @@
+pub mod Verdicts
+pub mod Laws
+pub mod States
+pub mod Steps

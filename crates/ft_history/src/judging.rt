@@ -1,0 +1,178 @@
+ghost use Rattle.std.specs.Prelude.{◌≡◌, ◌↔◌, ℕ, List, IsTrue, ◌+◌, ◌<◌, ◌≤◌, ◌^◌, All, length, IfOk, IfNone, Some, slice_get, vec_len};
+ghost use Rattle.ft_model.specs.Scripts.{IsScript};
+ghost use Rattle.ft_model.specs.Judging.{IsNext};
+ghost use Rattle.ft_model.specs.declared.entry.Entry.{Entry};
+ghost use Rattle.ft_model.specs.declared.entry.Storage.{Storage};
+ghost use Rattle.ft_model.specs.declared.entry.Storage.TheVariants as storage;
+ghost use Rattle.ft_model.specs.declared.script.ScriptParts.{ScriptParts};
+ghost use Rattle.ft_model.specs.Calls.{containers_of};
+ghost use Rattle.ft_history.specs.declared.progress.Progress.{Progress};
+ghost use Rattle.ft_history.specs.Verdicts.{IsVerdict};
+ghost use Rattle.ft_history.specs.States.{AreUsers, IsAskable};
+ghost use Rattle.ft_history.specs.Steps.{IsState, IsUnbrokenBefore, FindsEarly, FindsLate, Finds, GoesBehind, HaveMadeAll};
+
+use crate::objects::{containers_named, objects_needed};
+use crate::progress::{Progress, go_through};
+use crate::rules::{
+    inner_objects, is_behind, is_counted_right, is_kept_right, is_marked_right, is_memory_error,
+    is_next, is_stamped,
+};
+use crate::state::{State, start};
+use crate::users::users_of;
+use crate::verdict::Verdict;
+use crate::writers::note_write;
+use ft_model::{Entry, Rule, Script, ScriptParts, Thread};
+use std::alloc::{AllocError, Global};
+
+/// Judges the history of a script whose containers are plain, so that no call raises a MemoryError:
+/// that it is legal, or the first place at which a rule is broken and the first rule that is broken
+/// there. It goes through the entries once. A content that would grow past what memory holds is want
+/// of memory.
+pub fn judge(alloc: Global, script: &Script, entries: &[Entry]) -> Result<Verdict, AllocError>
+    ensures { IfOk result (λ verdict. IsVerdict storage.Plain script.now entries.now verdict) }
+{
+    let parts = script.parts();
+    let users = users_of(alloc, parts)?;
+    let mut state = start(alloc, parts)?;
+    for place in 0..entries.len() {
+        if let Some(rule) = step(alloc, parts, &users, &mut state, entries, place)? {
+            return Ok(Verdict::Not(place as u64 + 1, rule));
+        }
+    }
+    if is_complete(parts.threads.as_slice(), &state.threads) {
+        return Ok(Verdict::Legal);
+    }
+    Ok(Verdict::Not(entries.len() as u64 + 1, Rule::Missing))
+}
+
+/// Whether each thread has made all its calls.
+fn is_complete(threads: &[Thread], progresses: &[Progress]) -> bool
+    requires { length threads.now ≡ length progresses.now }
+    ensures { IsTrue result ↔ HaveMadeAll threads.now progresses.now }
+{
+    for (place, thread) in threads.iter().enumerate() {
+        if progresses[place].made < thread.calls.len() as u64 {
+            return false;
+        }
+    }
+    true
+}
+
+/// Whether the entry is the next call of its thread.
+fn keeps_whole(parts: &ScriptParts, state: &State, entry: &Entry) -> bool
+    ensures { (entries : List Entry) (place : ℕ) → IsState parts.now entries place state.now → IsTrue result ↔ IsNext parts.now entries place entry.now }
+{
+    let thread = entry.thread as usize;
+    match (
+        parts.threads.as_slice().get(thread),
+        state.threads.get(thread),
+    ) {
+        (Some(found), Some(progress)) => is_next(found.calls.as_slice(), progress.made, entry),
+        _ => false,
+    }
+}
+
+/// Of the rules on a call's place, its stamp and its order, the first that the entry breaks.
+fn early_rule(
+    parts: &ScriptParts,
+    state: &State,
+    entries: &[Entry],
+    place: usize,
+    entry: &Entry,
+) -> Option<Rule>
+    requires place { place < length entries.now }
+    requires state { IsState parts.now entries.now place state.now }
+    ensures { (storage : Storage) → FindsEarly storage parts.now entries.now place entry.now result }
+{
+    if !keeps_whole(parts, state, entry) {
+        return Some(Rule::Whole);
+    }
+    if !is_stamped(state.writes, entry) {
+        return Some(Rule::Stamp);
+    }
+    if !is_behind(entries, place, entry) {
+        return Some(Rule::Order);
+    }
+    None
+}
+
+/// Of the rules on marks, sections and MemoryErrors, the first that the entry breaks.
+fn late_rule(users: &[Vec<bool>], state: &State, entry: &Entry) -> Option<Rule>
+    requires { entry.now.thread < vec_len state.now.threads }
+    ensures { (parts : ScriptParts) (entries : List Entry) (place : ℕ) → slice_get entries place ≡ Some entry.now → AreUsers parts users.now → IsState parts entries place state.now → FindsLate storage.Plain parts entries place entry.now result }
+{
+    let progress = &state.threads[entry.thread as usize];
+    let own = objects_needed(&progress.hands, &entry.call);
+    if !is_marked_right(
+        users,
+        entry,
+        own,
+        inner_objects(&progress.sections, &entry.call),
+    ) {
+        return Some(Rule::Mark);
+    }
+    if !is_kept_right(&state.containers, &progress.sections, entry) {
+        return Some(Rule::Kept);
+    }
+    if !is_counted_right(progress.marks, &progress.sections, entry) {
+        return Some(Rule::Suspended);
+    }
+    if is_memory_error(&entry.reply) {
+        return Some(Rule::Memory);
+    }
+    None
+}
+
+/// Whether the reply is right, and goes on behind the entry.
+fn go_behind(
+    alloc: Global,
+    state: &mut State,
+    place: u64,
+    entry: &Entry,
+) -> Result<bool, AllocError>
+    requires thread { entry.now.thread < vec_len state.old.threads }
+    requires askable { (progress : Progress) → slice_get state.old.threads.items entry.now.thread ≡ Some progress → IsAskable state.old.world progress.hands entry.now.call }
+    requires few { (progress : Progress) → slice_get state.old.threads.items entry.now.thread ≡ Some progress → (progress.made < 2 ^ 63) × (progress.marks < 2 ^ 63) }
+    requires writes { state.old.writes < 2 ^ 63 }
+    requires containers { All (λ object. object < vec_len state.old.containers) (containers_of entry.now.call) }
+    ensures { IfOk result (λ told. (before : Progress) × (after : Progress) × GoesBehind place entry.now told before after state.old state.new) }
+{
+    let progress = &mut state.threads[entry.thread as usize];
+    let told = go_through(alloc, &mut state.world, progress, place, entry)?;
+    if entry.wrote {
+        state.writes += 1;
+        note_write(
+            &mut state.containers,
+            containers_named(&entry.call),
+            entry.thread,
+            place,
+        );
+    }
+    Ok(told)
+}
+
+/// The first rule that the entry breaks, or none, and then the state is the one behind it.
+fn step(
+    alloc: Global,
+    parts: &ScriptParts,
+    users: &[Vec<bool>],
+    state: &mut State,
+    entries: &[Entry],
+    place: usize,
+) -> Result<Option<Rule>, AllocError>
+    requires script { IsScript parts.now }
+    requires users { AreUsers parts.now users.now }
+    requires place { place < length entries.now }
+    requires few { length entries.now < 2 ^ 63 }
+    requires state { IsState parts.now entries.now place state.old }
+    ensures found { IfOk result (λ found. (entry : Entry) → slice_get entries.now place ≡ Some entry → Finds storage.Plain parts.now entries.now place entry found) }
+    ensures state { IfOk result (λ found. IfNone found (IsState parts.now entries.now (place + 1) state.new)) }
+{
+    let entry = &entries[place];
+    if let Some(rule) = early_rule(parts, state, entries, place, entry) {
+        return Ok(Some(rule));
+    }
+    let late = late_rule(users, state, entry);
+    let told = go_behind(alloc, state, place as u64, entry)?;
+    Ok(if told { late } else { Some(Rule::Reply) })
+}

@@ -1,0 +1,28 @@
+//! Histories: one list of the entries of all threads, and whether it is one that containers of one
+//! thread can have.
+#![tactic(auto)]
+
+mod chronicles;
+mod equal;
+mod judging;
+mod laws;
+mod merging;
+mod objects;
+mod progress;
+mod replies;
+mod rules;
+mod state;
+#[cfg(test)]
+mod tests;
+mod users;
+mod verdict;
+mod writers;
+
+pub use chronicles::{put_in_order, sorted_chronicles_are_legal};
+pub use judging::judge;
+pub use laws::{
+    kept_sections_are_untouched, legal_is_unbroken, one_order, one_verdict,
+    threads_keep_their_order, writes_are_numbered,
+};
+pub use merging::{history_order, merge};
+pub use verdict::Verdict;

@@ -1,0 +1,85 @@
+ghost use Rattle.std.specs.Prelude.{◌≡◌, ◌↔◌, ◌+◌, ◌<◌, ◌^◌, IsTrue, IfOk, OnOk, is_some, if◌then◌else◌};
+ghost use Rattle.ft_model.specs.Answers.{answer, is_memory};
+ghost use Rattle.ft_model.specs.Histories.{IsReplied};
+ghost use Rattle.ft_history.specs.States.{IsAskable, all_begun, after_begun};
+
+use crate::objects::{Objects, containers_named};
+use crate::replies::is_replied;
+use ft_model::{Call, Entry, Hands, World};
+use std::alloc::{AllocError, Global};
+
+/// An open section of a thread.
+#[derive(Clone, Copy, Debug)]
+pub struct OpenSection {
+    /// Its containers.
+    pub objects: Objects,
+    /// The place of its `begin`.
+    pub begun: u64,
+    /// How many calls of the thread had waited by then, the `begin` among them.
+    pub marks: u64,
+}
+
+/// How far a thread has come.
+#[derive(Drop)]
+pub struct Progress {
+    /// How many of its calls it has made.
+    pub made: u64,
+    /// How many of these waited for a lock.
+    pub marks: u64,
+    /// Its cursors.
+    pub hands: Hands,
+    /// Its open sections, the innermost last.
+    pub sections: Vec<OpenSection>,
+}
+
+/// Whether the entry's reply is right, and goes on behind it: in the world, and in the thread.
+pub fn go_through(
+    alloc: Global,
+    world: &mut World,
+    progress: &mut Progress,
+    place: u64,
+    entry: &Entry,
+) -> Result<bool, AllocError>
+    requires askable { IsAskable world.old progress.old.hands entry.now.call }
+    requires made { progress.old.made < 2 ^ 63 }
+    requires marks { progress.old.marks < 2 ^ 63 }
+    ensures told { IfOk result (λ told. IsTrue told ↔ IsReplied entry.now.call entry.now.reply (answer world.old progress.old.hands entry.now.call).reply) }
+    ensures world { OnOk result (world.new ≡ (if is_memory entry.now.reply then world.old else (answer world.old progress.old.hands entry.now.call).world)) }
+    ensures hands { OnOk result (progress.new.hands ≡ (if is_memory entry.now.reply then progress.old.hands else (answer world.old progress.old.hands entry.now.call).hands)) }
+    ensures made { OnOk result (progress.new.made ≡ progress.old.made + 1) }
+    ensures marks { OnOk result (progress.new.marks ≡ progress.old.marks + (if is_some entry.now.waited then 1 else 0)) }
+    ensures sections { OnOk result (all_begun progress.new.sections.items ≡ after_begun place progress.new.marks entry.now.call (all_begun progress.old.sections.items)) }
+{
+    let told = is_replied(alloc, world, &mut progress.hands, entry)?;
+    go_on(progress, place, entry)?;
+    Ok(told)
+}
+
+/// Goes on behind an entry of the thread, but for what its call does to the cursors.
+fn go_on(progress: &mut Progress, place: u64, entry: &Entry) -> Result<(), AllocError>
+    requires made { progress.old.made < 2 ^ 63 }
+    requires marks { progress.old.marks < 2 ^ 63 }
+    ensures made { OnOk result (progress.new.made ≡ progress.old.made + 1) }
+    ensures marks { OnOk result (progress.new.marks ≡ progress.old.marks + (if is_some entry.now.waited then 1 else 0)) }
+    ensures hands { progress.new.hands ≡ progress.old.hands }
+    ensures sections { OnOk result (all_begun progress.new.sections.items ≡ after_begun place progress.new.marks entry.now.call (all_begun progress.old.sections.items)) }
+{
+    progress.made += 1;
+    if entry.waited.is_some() {
+        progress.marks += 1;
+    }
+    match entry.call {
+        Call::Begin { .. } => {
+            progress.sections.push(OpenSection {
+                objects: containers_named(&entry.call),
+                begun: place,
+                marks: progress.marks,
+            })?;
+        }
+        Call::End => {
+            let _ = progress.sections.pop();
+        }
+        _ => {}
+    }
+    Ok(())
+}

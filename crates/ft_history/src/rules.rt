@@ -1,0 +1,170 @@
+ghost use Rattle.std.specs.Prelude.{◌≡◌, ◌≢◌, ◌↔◌, ℕ, ◌+◌, ◌-◌, ◌<◌, ◌≤◌, ◌^◌, ◌++◌, true, false, length, drop, IsTrue, IfSome, Some, slice_get, slice_index_or};
+ghost use Rattle.std.specs.List.{list_any};
+ghost use Rattle.std.specs.Option.{option_to_list};
+ghost use Rattle.ft_model.specs.Answers.{is_write, is_memory};
+ghost use Rattle.std.specs.Ordering.{is_lt};
+ghost use Rattle.ft_model.specs.Histories.{history_cmp};
+ghost use Rattle.ft_model.specs.Judging.{IsBehind};
+ghost use Rattle.ft_history.specs.States.{listed, is_used, all_begun, after_begun, inner_begun, IfEndsBegun, IsCountedAs, is_written_on, IsKeptSince};
+
+use crate::equal::same_call;
+use crate::merging::history_order;
+use crate::objects::{Objects, containers_named};
+use crate::progress::OpenSection;
+use crate::writers::{LastWrites, wrote_behind};
+use ft_model::{Call, Entry, Raise, Reply};
+
+/// Whether the entry is the call behind those that its thread has made.
+pub fn is_next(calls: &[Call], made: u64, entry: &Entry) -> bool
+    ensures { IsTrue result ↔ ((entry.now.index ≡ made + 1) × (slice_get calls.now made ≡ Some entry.now.call)) }
+{
+    match calls.get(made as usize) {
+        Some(call) => {
+            same_call(call, &entry.call) && entry.index > 0 && u64::from(entry.index) - 1 == made
+        }
+        None => false,
+    }
+}
+
+/// Whether the stamp is the number of writes so far, and the entry is marked as a write where it is
+/// one.
+pub fn is_stamped(writes: u64, entry: &Entry) -> bool
+    ensures { IsTrue result ↔ ((entry.now.stamp ≡ writes) × (entry.now.wrote ≡ is_write entry.now.call entry.now.reply)) }
+{
+    entry.stamp == writes && entry.wrote == (entry.call.is_changing() && !entry.reply.is_raised())
+}
+
+/// Whether a read does not stand behind a read of its stamp that belongs behind it.
+pub fn is_behind(entries: &[Entry], place: usize, entry: &Entry) -> bool
+    requires { place < length entries.now }
+    ensures { IsTrue result ↔ IsBehind entries.now place entry.now }
+{
+    if place == 0 {
+        return true;
+    }
+    follows(&entries[place - 1], entry)
+}
+
+/// Whether two entries are no reads of one stamp, or stand in the order of a history.
+fn follows(before: &Entry, entry: &Entry) -> bool
+    ensures { IsTrue result ↔ (before.now.wrote ≡ false → entry.now.wrote ≡ false → before.now.stamp ≡ entry.now.stamp → is_lt (history_cmp entry.now before.now) ≡ false) }
+{
+    if before.wrote || entry.wrote || before.stamp != entry.stamp {
+        return true;
+    }
+    !history_order(entry, before).is_lt()
+}
+
+/// Whether a reply is a MemoryError, of whatever cause.
+pub fn is_memory_error(reply: &Reply) -> bool
+    ensures { result ≡ is_memory reply.now }
+{
+    matches!(
+        reply,
+        Reply::Raised(Raise::Memory(_) | Raise::Over | Raise::Heap)
+    )
+}
+
+/// Whether the mark names another thread, which has a call on one of the containers.
+pub fn is_marked_right(users: &[Vec<bool>], entry: &Entry, own: Objects, inner: Objects) -> bool
+    ensures { IsTrue result ↔ IfSome entry.now.waited (λ thread. (thread ≢ entry.now.thread) × (list_any (is_used users.now thread) (listed own ++ listed inner) ≡ true)) }
+{
+    match entry.waited {
+        Some(thread) => {
+            thread != entry.thread
+                && (uses_one(users, thread, own) || uses_one(users, thread, inner))
+        }
+        None => true,
+    }
+}
+
+/// Whether the thread has a call on one of the containers.
+fn uses_one(users: &[Vec<bool>], thread: u32, objects: Objects) -> bool
+    ensures { result ≡ list_any (is_used users.now thread) (listed objects) }
+{
+    uses(users, thread, objects.first) || uses(users, thread, objects.second)
+}
+
+/// Whether the thread has a call on the container, if there is one.
+fn uses(users: &[Vec<bool>], thread: u32, object: Option<u32>) -> bool
+    ensures { result ≡ list_any (is_used users.now thread) (option_to_list object) }
+{
+    match (object, users.get(thread as usize)) {
+        (Some(object), Some(used)) => used.get(object as usize).copied().unwrap_or(false),
+        _ => false,
+    }
+}
+
+/// The containers of the section that is innermost behind the call.
+pub fn inner_objects(sections: &[OpenSection], call: &Call) -> Objects
+    ensures { (place marks : ℕ) → listed result ≡ inner_begun (after_begun place marks call.now (all_begun sections.now)) }
+{
+    match call {
+        Call::Begin { .. } => containers_named(call),
+        Call::End => innermost_but_one(sections),
+        _ => innermost(sections),
+    }
+}
+
+/// The containers of the section that is innermost behind the end of one.
+fn innermost_but_one(sections: &[OpenSection]) -> Objects
+    ensures { listed result ≡ inner_begun (drop 1 (all_begun sections.now)) }
+{
+    match sections {
+        [outer @ .., _] => innermost(outer),
+        [] => innermost(sections),
+    }
+}
+
+/// The containers of the innermost section.
+fn innermost(sections: &[OpenSection]) -> Objects
+    ensures { listed result ≡ inner_begun (all_begun sections.now) }
+{
+    match sections {
+        [.., section] => section.objects,
+        [] => Objects {
+            first: None,
+            second: None,
+        },
+    }
+}
+
+/// Whether an `end` says kept only where no other thread wrote on the section's containers.
+pub fn is_kept_right(containers: &[LastWrites], sections: &[OpenSection], entry: &Entry) -> bool
+    ensures { IsTrue result ↔ IfEndsBegun (all_begun sections.now) entry.now.call (λ section. IsKeptSince containers.now entry.now.thread section entry.now.reply) }
+{
+    match (&entry.call, sections, &entry.reply) {
+        (Call::End, [.., section], Reply::Kept) => {
+            let begun = section.begun;
+            !(is_disturbed(containers, entry.thread, begun, section.objects.first)
+                || is_disturbed(containers, entry.thread, begun, section.objects.second))
+        }
+        _ => true,
+    }
+}
+
+/// Whether another thread wrote on the container behind a place.
+fn is_disturbed(containers: &[LastWrites], thread: u32, begun: u64, object: Option<u32>) -> bool
+    ensures { result ≡ list_any (is_written_on containers.now thread (begun + 1)) (option_to_list object) }
+{
+    match object {
+        Some(object) => match containers.get(object as usize) {
+            Some(writes) => wrote_behind(*writes, thread, begun),
+            None => false,
+        },
+        None => false,
+    }
+}
+
+/// Whether an `end` says how many calls in its section waited, of so many in all.
+pub fn is_counted_right(marks: u64, sections: &[OpenSection], entry: &Entry) -> bool
+    ensures { IsTrue result ↔ IfEndsBegun (all_begun sections.now) entry.now.call (λ section. IsCountedAs (marks - section.marks) entry.now.reply) }
+{
+    match (&entry.call, sections, &entry.reply) {
+        (Call::End, [.., section], Reply::Kept) => marks.saturating_sub(section.marks) == 0,
+        (Call::End, [.., section], Reply::Suspended(count)) => {
+            *count >= 1 && marks.saturating_sub(section.marks) == u64::from(*count)
+        }
+        _ => true,
+    }
+}

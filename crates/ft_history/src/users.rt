@@ -1,0 +1,57 @@
+ghost use Rattle.std.specs.Prelude.{◌≡◌, ◌||◌, ◌==◌, ℕ, ◌<◌, false, length, map, All, IfOk, IfSome, slice_index_or, vec_len};
+ghost use Rattle.std.specs.List.{list_any};
+ghost use Rattle.std.specs.Option.{option_to_list};
+ghost use Rattle.ft_model.specs.Calls.{containers_of};
+ghost use Rattle.ft_model.specs.Histories.{names};
+ghost use Rattle.ft_model.specs.Scripts.{IsScript};
+ghost use Rattle.ft_history.specs.States.{listed, AreUsers};
+
+use crate::objects::{Objects, containers_named};
+use ft_model::{Call, ScriptParts};
+use std::alloc::{AllocError, Global};
+
+/// For each thread of a script, which of the containers its calls name.
+pub fn users_of(alloc: Global, parts: &ScriptParts) -> Result<Vec<Vec<bool>>, AllocError>
+    requires { IsScript parts.now }
+    ensures { IfOk result (λ users. AreUsers parts.now users.items) }
+{
+    let containers = parts.containers.len();
+    let mut users = Vec::new(alloc);
+    for thread in parts.threads.as_slice() {
+        users.push(used_by(alloc, containers, thread.calls.as_slice())?)?;
+    }
+    Ok(users)
+}
+
+/// Which of so many containers the calls name.
+fn used_by(alloc: Global, containers: usize, calls: &[Call]) -> Result<Vec<bool>, AllocError>
+    requires { All (λ call. All (λ object. object < containers) (containers_of call)) calls.now }
+    ensures { IfOk result (λ used. (object : ℕ) → slice_index_or used.items object false ≡ list_any (names object) calls.now) }
+{
+    let mut used = vec![in alloc; false; containers]?;
+    for call in calls {
+        mark_both(&mut used, containers_named(call));
+    }
+    Ok(used)
+}
+
+/// Marks containers as used.
+fn mark_both(used: &mut Vec<bool>, named: Objects)
+    requires { All (λ object. object < vec_len used.old) (listed named) }
+    ensures length { vec_len used.new ≡ vec_len used.old }
+    ensures marked { (other : ℕ) → slice_index_or used.new.items other false ≡ (slice_index_or used.old.items other false || list_any (λ object. object == other) (listed named)) }
+{
+    mark(used, named.first);
+    mark(used, named.second);
+}
+
+/// Marks a container as used, if there is one.
+fn mark(used: &mut Vec<bool>, object: Option<u32>)
+    requires { IfSome object (λ object. object < vec_len used.old) }
+    ensures length { vec_len used.new ≡ vec_len used.old }
+    ensures marked { (other : ℕ) → slice_index_or used.new.items other false ≡ (slice_index_or used.old.items other false || list_any (λ object. object == other) (option_to_list object)) }
+{
+    if let Some(object) = object {
+        used[object as usize] = true;
+    }
+}

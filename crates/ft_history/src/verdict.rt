@@ -1,0 +1,11 @@
+use ft_model::Rule;
+
+/// What `judge` finds of a history.
+#[derive(Clone, Copy, Debug, PartialEq, Eq, Hash)]
+pub enum Verdict {
+    /// It is legal.
+    Legal,
+    /// The place of the first entry that breaks a rule, from 1, and the first rule that it breaks. A
+    /// place behind the last entry is that of a call that is missing.
+    Not(u64, Rule),
+}

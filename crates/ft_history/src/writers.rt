@@ -1,0 +1,76 @@
+ghost use Rattle.std.specs.Prelude.{◌≡◌, ◌+◌, ◌<◌, ◌==◌, ℕ, All, IfSome, if◌then◌else◌, slice_index_or, vec_len};
+ghost use Rattle.std.specs.List.{list_any};
+ghost use Rattle.std.specs.Option.{option_to_list};
+ghost use Rattle.ft_history.specs.declared.writers.LastWrites.{LastWrites};
+ghost use Rattle.ft_history.specs.States.{listed, behind_one, is_written_since};
+
+use crate::objects::Objects;
+
+/// A write on a container.
+#[derive(Clone, Copy, Debug)]
+pub struct Write {
+    /// The thread that made it.
+    pub thread: u32,
+    /// Its place.
+    pub place: u64,
+}
+
+/// The last writes on a container.
+#[derive(Clone, Copy, Debug)]
+pub struct LastWrites {
+    /// The last write.
+    pub last: Option<Write>,
+    /// The place of the last write by another thread than that one's.
+    pub other: Option<u64>,
+}
+
+/// Notes a write on containers.
+pub fn note_write(containers: &mut Vec<LastWrites>, named: Objects, thread: u32, place: u64)
+    requires { All (λ object. object < vec_len containers.old) (listed named) }
+    ensures length { vec_len containers.new ≡ vec_len containers.old }
+    ensures noted { (object : ℕ) (other : LastWrites) → slice_index_or containers.new.items object other
+        ≡ (if list_any (λ name. name == object) (listed named) then behind_one (slice_index_or containers.old.items object other) thread place else slice_index_or containers.old.items object other) }
+{
+    note_one(containers, named.first, thread, place);
+    note_one(containers, named.second, thread, place);
+}
+
+/// Notes a write on a container, if there is one.
+fn note_one(containers: &mut Vec<LastWrites>, object: Option<u32>, thread: u32, place: u64)
+    requires { IfSome object (λ object. object < vec_len containers.old) }
+    ensures length { vec_len containers.new ≡ vec_len containers.old }
+    ensures noted { (object' : ℕ) (other : LastWrites) → slice_index_or containers.new.items object' other
+        ≡ (if list_any (λ name. name == object') (option_to_list object) then behind_one (slice_index_or containers.old.items object' other) thread place else slice_index_or containers.old.items object' other) }
+{
+    if let Some(object) = object {
+        let writes = containers[object as usize];
+        containers[object as usize] = behind_write(writes, thread, place);
+    }
+}
+
+/// The last writes, behind one more.
+fn behind_write(writes: LastWrites, thread: u32, place: u64) -> LastWrites
+    ensures { result ≡ behind_one writes thread place }
+{
+    LastWrites {
+        last: Some(Write { thread, place }),
+        other: match writes.last {
+            Some(last) if last.thread != thread => Some(last.place),
+            _ => writes.other,
+        },
+    }
+}
+
+/// Whether another thread than this one wrote behind the place.
+pub fn wrote_behind(writes: LastWrites, thread: u32, place: u64) -> bool
+    ensures { result ≡ is_written_since writes thread (place + 1) }
+{
+    match writes.last {
+        Some(last) if last.thread != thread => last.place > place,
+        Some(_) => match writes.other {
+            Some(other) => other > place,
+            None => false,
+        },
+        None => false,
+    }
+}

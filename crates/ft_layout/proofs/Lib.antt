@@ -1,0 +1,7 @@
+pub mod WordLaws
+pub mod ContentLaws
+pub mod Powers
+pub mod PartLaws
+pub mod FieldLaws
+pub mod TableLaws
+pub mod LiveLaws

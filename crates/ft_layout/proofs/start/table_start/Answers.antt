@@ -1,0 +1,24 @@
+use Rattle.std.proofs.Common.{◌≡◌, ℕ, ◌-◌, ◌*◌, ◌≤◌, ap, ◌∙◌, arith}
+use Rattle.std.proofs.lemmas.Nat.{mul-le}
+use Rattle.ft_layout.specs.Sizes.{table_size}
+use Rattle.ft_layout.specs.Starts.{count_of}
+use Rattle.ft_layout.proofs.Powers.{words_below-none, words_below-more}
+use Rattle.ft_layout.proofs.start.table_start.Goals as goal
+
+pub loop-below-init : goal.loop-below-init
+loop-below-init c = record { is = omega (arith, words_below-none c.args.tables.now); most = omega arith }
+
+pub loop-below-preserved : goal.loop-below-preserved
+loop-below-preserved c =
+    let tables = c.args.tables.now in
+    let below = c.loop-below.below in
+    let more = words_below-more tables below c.loop-below.auto.below in
+    let size : c.table_size.result ≡ table_size below = c.table_size.ensures.is in
+    let count : c.from.result ≡ count_of tables below = c.from.ensures in
+    let few : c.from.result ≤ 64 = let h = (c.requires.tables.counts (below - 3) 0 (omega arith)).1 in omega arith in
+    let product : c.from.result * c.table_size.result ≤ 64 * 25938 = mul-le c.from.result c.table_size.result 64 25938 few c.table_size.ensures.most in
+    let words : c.from.result * c.table_size.result ≡ count_of tables below * table_size below = ap (λ (n : ℕ). n * c.table_size.result) count ∙ ap (λ (n : ℕ). count_of tables below * n) size in
+    record {
+      is = omega arith;
+      most = omega arith;
+    }

@@ -1,0 +1,33 @@
+-- How one entry of a table changes: its words alone, while its key and serial stay.
+use Rattle.std.specs.Prelude.{◌≡◌, ℕ, ◌<◌, ◌≤◌, false, List, length, map, filter, remove, IsTrue, ◌⊎◌, slice_index, slice_index_or, slice_set}
+use Rattle.ft_layout.specs.Words.{IsEntry}
+use Rattle.ft_layout.specs.Tables.{entry_at, entry_word, table_length, UsedEntry, is_live, hash_of, slot_of}
+
+-- a table of this length all whose words are 0 but the second, its goal
+pub record IsBlankTable (mask : ℕ) (words : List ℕ) : Type 0 where
+  pub size : length words ≡ table_length mask
+  pub zeros : (i : ℕ) → (i < 1) ⊎ (2 ≤ i) → slice_index words i ≡ 0
+
+-- the entry has another value, or was deleted: key and serial stay, and a deleted entry doesn't come back
+pub record KeepsKey (old new : UsedEntry) : Type 0 where
+  pub key : new.key ≡ old.key
+  pub serial : new.serial ≡ old.serial
+  pub live : IsTrue (is_live new) → IsTrue (is_live old)
+
+-- only words of the entry at this place changed
+pub record ChangesEntry (mask place : ℕ) (old new : List ℕ) : Type 0 where
+  pub size : length new ≡ length old
+  pub rest : (i : ℕ) → (i < entry_at mask place 0) ⊎ (entry_at mask place 8 ≤ i) → slice_index new i ≡ slice_index old i
+
+-- the words of the entry at this place are those of this used entry
+pub record SaysUsed (texts : List ℕ) (mask : ℕ) (words : List ℕ) (place : ℕ) (entry : UsedEntry) : Type 0 where
+  pub says : IsEntry (entry_word mask words place) (slot_of texts entry)
+  pub hash : entry_word mask words place 1 ≡ hash_of texts entry.key
+  pub spare : (entry_word mask words place 0 ≡ 0) × (entry_word mask words place 7 ≡ 0)
+
+-- Where `of` makes used entries of pairs, or of elements, and the live ones are those: the entry at the place is that of pair number k. With another pair's entry there, pair number k is that one; with a deleted entry there, it is gone.
+pub record StandsFor {Y : Type 0} (of : Y → UsedEntry) (used : List UsedEntry) (place : ℕ) (pairs : List Y) (k : ℕ) : Type 0 where
+  pub low : k < length pairs
+  pub is : (pair : Y) (any : UsedEntry) → of (slice_index_or pairs k pair) ≡ slice_index_or used place any
+  pub changed : (pair : Y) → filter is_live (slice_set used place (of pair)) ≡ map of (slice_set pairs k pair)
+  pub deleted : (gone : UsedEntry) → is_live gone ≡ false → filter is_live (slice_set used place gone) ≡ map of (remove pairs k)

@@ -1,0 +1,7 @@
+pub mod Words
+pub mod Sizes
+pub mod Starts
+pub mod Tables
+pub mod Fields
+pub mod Changes
+pub mod Containers

@@ -1,0 +1,111 @@
+-- Where in the bank's list of words each part lies: the words for all, a block of each container, the heap of each pass, and the tables, class by class. (profile)
+use Rattle.std.specs.Prelude.{◌≡◌, ℕ, ◌+◌, ◌-◌, ◌*◌, ◌/◌, ◌%◌, ◌<◌, ◌≤◌, List, length, map, sum, All, slice_index}
+use Rattle.std.specs.List.{range_with_len}
+use Rattle.ft_layout.specs.Words.{IsClass}
+use Rattle.ft_layout.specs.Sizes.{table_size}
+
+-- ---- limits
+
+abbrev pub IsHeap : ℕ → Type 0
+IsHeap heap = (64 ≤ heap) × (heap ≤ 4096) × (heap % 64 ≡ 0)
+
+-- how many tables there are of each class, class 3 first
+pub record AreTables (tables : List ℕ) : Type 0 where
+  pub classes : length tables ≡ 10
+  pub counts : All (λ count. (1 ≤ count) × (count ≤ 64)) tables
+
+abbrev pub count_of : List ℕ → ℕ → ℕ
+count_of tables class = slice_index tables (class - 3)
+
+-- ---- starts
+
+-- the announced number of a pass, behind the counter and the write number
+abbrev pub announced_word : ℕ → ℕ
+announced_word pass = 2 + pass
+
+-- which tables of a class are free, behind the announced numbers of 64 passes
+abbrev pub free_word : ℕ → ℕ
+free_word class = 66 + (class - 3)
+
+-- a block has eight words
+abbrev pub block_start : ℕ → ℕ
+block_start container = 76 + 8 * container
+
+-- the heap of a pass: a bit for each place, 64 in a word, and then three words for each place
+abbrev pub heap_size : ℕ → ℕ
+heap_size heap = heap / 64 + 3 * heap
+
+-- heaps lie behind the blocks
+abbrev pub heap_start : ℕ → ℕ → ℕ → ℕ
+heap_start containers heap pass = block_start containers + pass * heap_size heap
+
+abbrev pub box_start : ℕ → ℕ → ℕ → ℕ → ℕ
+box_start containers heap pass place = heap_start containers heap pass + heap / 64 + 3 * place
+
+-- how many words the tables of all lower classes have
+unfoldable pub words_below : List ℕ → ℕ → ℕ
+words_below tables class = sum (map (λ below. count_of tables below * table_size below) (range_with_len 3 (class - 3)))
+
+-- tables lie behind the heaps
+abbrev pub table_start : ℕ → ℕ → ℕ → List ℕ → ℕ → ℕ → ℕ
+table_start containers heap passes tables class number = heap_start containers heap passes + words_below tables class + number * table_size class
+
+-- ---- parts of a bank
+
+-- how many containers there are, places in the heap of each pass, passes, and tables of each class
+pub record BankSizes : Type 0 where
+  pub containers : ℕ
+  pub heap : ℕ
+  pub passes : ℕ
+  pub tables : List ℕ
+
+pub data Part : Type 0 where
+  Counter : Part
+  WriteNumber : Part
+  Announced : ℕ → Part
+  FreeTables : ℕ → Part
+  Block : ℕ → Part
+  FreePlaces : ℕ → ℕ → Part
+  Box : ℕ → ℕ → Part
+  Table : ℕ → ℕ → Part
+
+-- the bank has this part: an announced number of a pass, a block of a container, a word of bits or a box of a pass, a table of a class
+abbrev pub IsPart : BankSizes → Part → Type 0
+IsPart bank Counter = Unit {0}
+IsPart bank WriteNumber = Unit {0}
+IsPart bank (Announced pass) = pass < 64
+IsPart bank (FreeTables class) = IsClass class
+IsPart bank (Block container) = container < bank.containers
+IsPart bank (FreePlaces pass word) = (pass < bank.passes) × (word < bank.heap / 64)
+IsPart bank (Box pass place) = (pass < bank.passes) × (place < bank.heap)
+IsPart bank (Table class number) = IsClass class × (number < count_of bank.tables class)
+
+abbrev pub part_start : BankSizes → Part → ℕ
+part_start bank Counter = 0
+part_start bank WriteNumber = 1
+part_start bank (Announced pass) = announced_word pass
+part_start bank (FreeTables class) = free_word class
+part_start bank (Block container) = block_start container
+part_start bank (FreePlaces pass word) = heap_start bank.containers bank.heap pass + word
+part_start bank (Box pass place) = box_start bank.containers bank.heap pass place
+part_start bank (Table class number) = table_start bank.containers bank.heap bank.passes bank.tables class number
+
+abbrev pub part_size : Part → ℕ
+part_size Counter = 1
+part_size WriteNumber = 1
+part_size (Announced pass) = 1
+part_size (FreeTables class) = 1
+part_size (Block container) = 8
+part_size (FreePlaces pass word) = 1
+part_size (Box pass place) = 3
+part_size (Table class number) = table_size class
+
+-- the part has this word of the bank
+pub record HasWord (bank : BankSizes) (part : Part) (word : ℕ) : Type 0 where
+  pub is_part : IsPart bank part
+  pub from : part_start bank part ≤ word
+  pub before : word < part_start bank part + part_size part
+
+-- how many words the bank has
+abbrev pub bank_size : BankSizes → ℕ
+bank_size bank = table_start bank.containers bank.heap bank.passes bank.tables 13 0

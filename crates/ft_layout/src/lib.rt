@@ -1,0 +1,37 @@
+//! The words of 64 bits in which containers lie: locks, roots, tables, entries and items, and what it
+//! is for words to stand for a dict, a set or a list.
+#![tactic(auto)]
+
+mod entry;
+mod item;
+mod key;
+mod laws;
+pub mod limit;
+mod lock;
+mod root;
+mod size;
+mod slot;
+mod start;
+mod stored;
+#[cfg(test)]
+mod tests;
+mod word;
+
+pub use entry::{entry_of, entry_words};
+pub use item::{item_of, item_words};
+pub use key::{gone_kind_of, kind_of, payload_of};
+pub use laws::{
+    bank_words_are_of_one_part, changed_words_are_of_a_table, dict_words_are_of_one_dict,
+    list_words_are_of_one_list, live_entries_stand_for_contents, set_words_are_of_one_set,
+    sizes_are_by_class, table_words_are_of_one_field,
+};
+pub use lock::{lock_of, lock_word};
+pub use root::{root_of, root_word};
+pub use size::{dict_entries, entry_at, index_at, item_at, list_items, set_entries, table_size};
+pub use slot::{Pair, Ref, Slot, Stored};
+pub use start::{
+    COUNTER, WRITE_NUMBER, announced_word, block_start, box_start, free_word, heap_start,
+    table_start,
+};
+pub use stored::{stored_kind_of, stored_payload_of};
+pub use word::{block_word, entry_word, item_word};

@@ -1,0 +1,81 @@
+ghost use Rattle.std.specs.Prelude.{◌≡◌, ℕ, ◌<◌, ◌≤◌, ◌^◌};
+ghost use Rattle.ft_layout.specs.Words.{IsClass};
+ghost use Rattle.ft_layout.specs.Sizes.{dict_entries, set_entries, list_items, table_size};
+ghost use Rattle.ft_layout.specs.Tables.{index_at, entry_at, item_at};
+
+/// How many words the header of a table has.
+const HEADER: u64 = 2;
+/// How many words an entry has.
+const ENTRY: u64 = 8;
+/// How many words an item has.
+const ITEM: u64 = 4;
+
+/// How many index slots a table of this class has.
+fn slots(class: u32) -> u64
+    requires { IsClass class }
+    ensures is { result ≡ 2 ^ class }
+    ensures least { 8 ≤ result }
+    ensures most { result ≤ 4096 }
+{
+    1 << class
+}
+
+/// How many entries a dict has in a table of this class.
+pub fn dict_entries(class: u32) -> u64
+    requires { IsClass class }
+    ensures { result ≡ dict_entries class }
+{
+    2 * slots(class) / 3
+}
+
+/// How many entries a set has in a table of this class.
+pub fn set_entries(class: u32) -> u64
+    requires { IsClass class }
+    ensures { result ≡ set_entries class }
+{
+    3 * slots(class) / 5
+}
+
+/// How many items a list has in a table of this class.
+pub fn list_items(class: u32) -> u64
+    requires { IsClass class }
+    ensures { result ≡ list_items class }
+{
+    slots(class)
+}
+
+/// How many words a table of this class has.
+pub fn table_size(class: u32) -> u64
+    requires { IsClass class }
+    ensures is { result ≡ table_size class }
+    ensures most { result ≤ 25938 }
+{
+    HEADER + slots(class) + ENTRY * dict_entries(class)
+}
+
+/// Which word of a table is this index slot.
+pub fn index_at(slot: u64) -> u64
+    requires { slot < 2 ^ 16 }
+    ensures { result ≡ index_at slot }
+{
+    HEADER + slot
+}
+
+/// Which word of a table whose last index slot is `mask` is this word of an entry.
+pub fn entry_at(mask: u64, place: u64, word: u64) -> u64
+    requires mask { mask < 2 ^ 16 }
+    requires place { place ≤ mask }
+    requires word { word < 8 }
+    ensures { result ≡ entry_at mask place word }
+{
+    HEADER + mask + 1 + ENTRY * place + word
+}
+
+/// Which word of a table is this word of an item.
+pub fn item_at(place: u64, word: u64) -> u64
+    requires place { place < 2 ^ 16 }
+    requires word { word < 4 }
+    ensures { result ≡ item_at place word }
+{
+    HEADER + ITEM * place + word
+}

@@ -1,0 +1,97 @@
+ghost use Rattle.std.specs.Prelude.{◌≡◌, ℕ, ◌<◌, ◌≤◌};
+ghost use Rattle.ft_layout.specs.Words.{IsClass, IsHolder};
+ghost use Rattle.ft_layout.specs.Starts.{IsHeap, AreTables, count_of, announced_word, free_word, block_start, heap_start, box_start, table_start};
+
+use crate::limit::{CONTAINERS, FIRST_CLASS, PASSES};
+use crate::size::table_size;
+
+/// The word that counts the writes.
+pub const COUNTER: u64 = 0;
+/// The word of the write number, which tables that were given up wait for.
+pub const WRITE_NUMBER: u64 = 1;
+
+/// Where the announced numbers of passes begin.
+const ANNOUNCED: u64 = 2;
+/// Where the words of the free tables begin.
+const FREE: u64 = 66;
+/// Where the containers' blocks begin.
+const BLOCKS: u64 = 76;
+/// How many words a block has.
+const BLOCK: u64 = 8;
+/// How many words a box has.
+const BOX: u64 = 3;
+/// How many places one word of bits tells of.
+const BITS: u64 = 64;
+
+/// The word with the announced number of a pass.
+pub fn announced_word(pass: u32) -> u64
+    requires { IsHolder pass }
+    ensures { result ≡ announced_word pass }
+{
+    ANNOUNCED + u64::from(pass)
+}
+
+/// The word that tells which tables of a class are free: bit b is 1 where table b is.
+pub fn free_word(class: u32) -> u64
+    requires { IsClass class }
+    ensures { result ≡ free_word class }
+{
+    FREE + u64::from(class - FIRST_CLASS)
+}
+
+/// Where the block of a container begins; for the number of containers, where the blocks end.
+pub fn block_start(container: u32) -> u64
+    requires { container ≤ CONTAINERS }
+    ensures { result ≡ block_start container }
+{
+    BLOCKS + BLOCK * u64::from(container)
+}
+
+/// Where the heap of a pass begins, with its words of bits; for the number of passes, where the heaps
+/// end.
+pub fn heap_start(containers: u32, heap: u32, pass: u32) -> u64
+    requires containers { containers ≤ CONTAINERS }
+    requires heap { IsHeap heap }
+    requires pass { pass ≤ PASSES }
+    ensures is { result ≡ heap_start containers heap pass }
+    ensures most { result < 800000 }
+{
+    let heap = u64::from(heap);
+    block_start(containers) + u64::from(pass) * (heap / BITS + BOX * heap)
+}
+
+/// Where a box of a pass begins.
+pub fn box_start(containers: u32, heap: u32, pass: u32, place: u32) -> u64
+    requires containers { containers ≤ CONTAINERS }
+    requires heap { IsHeap heap }
+    requires pass { IsHolder pass }
+    requires place { place < heap }
+    ensures { result ≡ box_start containers heap pass place }
+{
+    heap_start(containers, heap, pass) + u64::from(heap) / BITS + BOX * u64::from(place)
+}
+
+/// Where a table begins. `tables` has how many there are of each class, class 3 first; they lie class
+/// by class, and in each class by number.
+pub fn table_start(
+    containers: u32,
+    heap: u32,
+    passes: u32,
+    tables: &[u32],
+    class: u32,
+    number: u32,
+) -> u64
+    requires containers { containers ≤ CONTAINERS }
+    requires heap { IsHeap heap }
+    requires passes { passes ≤ PASSES }
+    requires tables { AreTables tables.now }
+    requires class { IsClass class }
+    requires number { number < count_of tables.now class }
+    ensures { result ≡ table_start containers heap passes tables.now class number }
+{
+    let mut start = heap_start(containers, heap, passes);
+    for below in FIRST_CLASS..class {
+        start += u64::from(tables[(below - FIRST_CLASS) as usize]) * table_size(below);
+    }
+    start + u64::from(number) * table_size(class)
+}

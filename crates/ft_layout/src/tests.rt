@@ -1,0 +1,223 @@
+use crate::{
+    Pair, Ref, Slot, Stored, announced_word, bank_words_are_of_one_part, block_start, box_start,
+    changed_words_are_of_a_table, dict_entries, dict_words_are_of_one_dict, entry_at, entry_of,
+    entry_words, free_word, gone_kind_of, heap_start, index_at, item_at, item_of, item_words,
+    kind_of, list_items, list_words_are_of_one_list, live_entries_stand_for_contents, lock_of,
+    lock_word, payload_of, root_of, root_word, set_entries, set_words_are_of_one_set,
+    sizes_are_by_class, stored_kind_of, stored_payload_of, table_size, table_start,
+    table_words_are_of_one_field,
+};
+use ft_model::{Key, Sym, Value};
+use std::test::Fail;
+
+const MINUS_ONE: u64 = 18446744073709551615;
+
+const LEAST: u64 = 9223372036854775808;
+
+#[test]
+fn tables_have_their_entries_items_and_words(rt: HostRuntime) -> Result<(), Fail> {
+    let wanted: [(u64, u64, u64, u64); 10] = [
+        (5, 4, 8, 50),
+        (10, 9, 16, 98),
+        (21, 19, 32, 202),
+        (42, 38, 64, 402),
+        (85, 76, 128, 810),
+        (170, 153, 256, 1618),
+        (341, 307, 512, 3242),
+        (682, 614, 1024, 6482),
+        (1365, 1228, 2048, 12970),
+        (2730, 2457, 4096, 25938),
+    ];
+    for class in 3..13 {
+        let (pairs, elements, items, words) = wanted[(class - 3) as usize];
+        assert_eq!(rt; dict_entries(class), pairs, "of class {class}");
+        assert_eq!(rt; set_entries(class), elements, "of class {class}");
+        assert_eq!(rt; list_items(class), items, "of class {class}");
+        assert_eq!(rt; table_size(class), words, "of class {class}");
+    }
+    Ok(())
+}
+
+// A table of class 3 has 8 slots behind its header, and then 5 entries; as a list's, 8 items.
+#[test]
+fn fields_lie_behind_each_other(rt: HostRuntime) -> Result<(), Fail> {
+    assert_eq!(rt; index_at(0), 2);
+    assert_eq!(rt; index_at(7), 9);
+    assert_eq!(rt; entry_at(7, 0, 0), 10);
+    assert_eq!(rt; entry_at(7, 0, 7), 17);
+    assert_eq!(rt; entry_at(7, 4, 7), 49);
+    assert_eq!(rt; item_at(0, 0), 2);
+    assert_eq!(rt; item_at(7, 3), 33);
+    Ok(())
+}
+
+// Two containers, and two passes with 64 places each: one word of bits and 192 of boxes.
+#[test]
+fn parts_of_a_small_bank_begin_where_the_last_ended(rt: HostRuntime) -> Result<(), Fail> {
+    let tables = [2, 1, 1, 1, 1, 1, 1, 1, 1, 1];
+    assert_eq!(rt; announced_word(0), 2);
+    assert_eq!(rt; announced_word(63), 65);
+    assert_eq!(rt; free_word(3), 66);
+    assert_eq!(rt; free_word(12), 75);
+    assert_eq!(rt; block_start(0), 76);
+    assert_eq!(rt; block_start(1), 84);
+    assert_eq!(rt; heap_start(2, 64, 0), 92);
+    assert_eq!(rt; box_start(2, 64, 0, 0), 93);
+    assert_eq!(rt; box_start(2, 64, 0, 63), 282);
+    assert_eq!(rt; heap_start(2, 64, 1), 285);
+    assert_eq!(rt; box_start(2, 64, 1, 0), 286);
+    assert_eq!(rt; table_start(2, 64, 2, &tables, 3, 0), 478);
+    assert_eq!(rt; table_start(2, 64, 2, &tables, 3, 1), 528);
+    assert_eq!(rt; table_start(2, 64, 2, &tables, 4, 0), 578);
+    assert_eq!(rt; table_start(2, 64, 2, &tables, 5, 0), 676);
+    assert_eq!(rt; table_start(2, 64, 2, &tables, 12, 0), 26402);
+    Ok(())
+}
+
+#[test]
+fn a_root_names_a_table_or_none(rt: HostRuntime) -> Result<(), Fail> {
+    assert_eq!(rt; root_word(3, 0), 196609);
+    assert_eq!(rt; root_word(12, 63), 786496);
+    let wanted: [(u64, Option<(u32, u32)>); 9] = [
+        (0, None),
+        (1, None),
+        (196608, None),
+        (196609, Some((3, 0))),
+        (196672, Some((3, 63))),
+        (196673, None),
+        (786496, Some((12, 63))),
+        (851969, None),
+        (MINUS_ONE, None),
+    ];
+    for (word, table) in wanted {
+        assert_eq!(rt; root_of(word), table, "of {word}");
+    }
+    Ok(())
+}
+
+#[test]
+fn a_lock_names_its_holder_or_none(rt: HostRuntime) -> Result<(), Fail> {
+    assert_eq!(rt; lock_word(None), 0);
+    assert_eq!(rt; lock_word(Some(0)), 1);
+    assert_eq!(rt; lock_word(Some(63)), 64);
+    let wanted: [(u64, Option<u32>); 5] = [
+        (0, None),
+        (1, Some(0)),
+        (64, Some(63)),
+        (65, None),
+        (MINUS_ONE, None),
+    ];
+    for (word, holder) in wanted {
+        assert_eq!(rt; lock_of(word), holder, "of {word}");
+    }
+    Ok(())
+}
+
+const fn live(key: Key, value: Stored) -> Option<Slot> {
+    Some(Slot::Live(Pair {
+        hash: 5,
+        key,
+        value,
+        serial: 9,
+    }))
+}
+
+#[test]
+fn entries_are_read_by_the_kind_of_their_key(rt: HostRuntime) -> Result<(), Fail> {
+    let none = Stored::Plain(Value::Nothing);
+    let wanted: [([u64; 8], Option<Slot>); 14] = [
+        ([0, 0, 0, 0, 0, 0, 0, 0], Some(Slot::Never)),
+        ([8, 5, 0, 0, 0, 0, 9, 1], Some(Slot::Never)),
+        ([0, 5, 1, 7, 1, 0, 9, 0], live(Key::Int(7), none)),
+        ([2, 5, 1, MINUS_ONE, 1, 0, 9, 3], live(Key::Int(-1), none)),
+        ([0, 5, 2, 7, 1, 0, 9, 0], live(Key::Text(Sym(7)), none)),
+        ([0, 5, 3, 7, 1, 0, 9, 0], Some(Slot::Gone(Key::Int(7), 9))),
+        (
+            [0, 5, 4, 7, 0, 0, 9, 0],
+            Some(Slot::Gone(Key::Text(Sym(7)), 9)),
+        ),
+        ([0, 5, 0, 7, 0, 0, 9, 0], None),
+        ([0, 5, 0, 0, 1, 0, 9, 0], None),
+        ([0, 5, 2, 4294967296, 1, 0, 9, 0], None),
+        ([0, 5, 4, 4294967296, 1, 0, 9, 0], None),
+        ([0, 5, 5, 7, 1, 0, 9, 0], None),
+        ([0, 5, 1, 7, 5, 0, 9, 0], None),
+        ([0, 5, 3, 7, 1, 1, 9, 0], None),
+    ];
+    for (words, slot) in wanted {
+        assert_eq!(rt; entry_of(&words), slot, "of {words:?}");
+    }
+    Ok(())
+}
+
+#[test]
+fn items_are_read_by_the_kind_of_their_value(rt: HostRuntime) -> Result<(), Fail> {
+    let last = Ref {
+        pass: 63,
+        place: 4095,
+    };
+    let wanted: [([u64; 4], Option<Stored>); 13] = [
+        ([0, 0, 0, 0], Some(Stored::Empty)),
+        ([6, 0, 0, 6], Some(Stored::Empty)),
+        ([0, 1, 0, 0], Some(Stored::Plain(Value::Nothing))),
+        ([0, 2, 7, 0], Some(Stored::Plain(Value::Int(7)))),
+        ([0, 2, LEAST, 0], Some(Stored::Plain(Value::Int(i64::MIN)))),
+        (
+            [0, 3, 4294967295, 0],
+            Some(Stored::Plain(Value::Text(Sym(4294967295)))),
+        ),
+        ([0, 4, 4132863, 0], Some(Stored::Boxed(last))),
+        ([0, 0, 1, 0], None),
+        ([0, 1, 1, 0], None),
+        ([0, 3, 4294967296, 0], None),
+        ([0, 4, 4096, 0], None),
+        ([0, 4, 4194304, 0], None),
+        ([0, 5, 0, 0], None),
+    ];
+    for (words, stored) in wanted {
+        assert_eq!(rt; item_of(&words), stored, "of {words:?}");
+    }
+    Ok(())
+}
+
+#[test]
+fn words_are_written_as_they_are_read(rt: HostRuntime) -> Result<(), Fail> {
+    let pair = Pair {
+        hash: 5,
+        key: Key::Int(-1),
+        value: Stored::Plain(Value::Text(Sym(3))),
+        serial: 9,
+    };
+    assert_eq!(rt; entry_words(&pair), [0, 5, 1, MINUS_ONE, 3, 3, 9, 0]);
+    assert_eq!(rt; entry_of(&entry_words(&pair)), Some(Slot::Live(pair)));
+    let boxed = Stored::Boxed(Ref { pass: 2, place: 5 });
+    assert_eq!(rt; item_words(boxed), [0, 4, 131077, 0]);
+    assert_eq!(rt; item_of(&item_words(boxed)), Some(boxed));
+    assert_eq!(rt; item_words(Stored::Empty), [0, 0, 0, 0]);
+    Ok(())
+}
+
+#[test]
+fn keys_and_values_have_kind_and_payload(rt: HostRuntime) -> Result<(), Fail> {
+    assert_eq!(rt; kind_of(Key::Int(-2)), 1);
+    assert_eq!(rt; kind_of(Key::Text(Sym(0))), 2);
+    assert_eq!(rt; gone_kind_of(Key::Int(-2)), 3);
+    assert_eq!(rt; gone_kind_of(Key::Text(Sym(0))), 4);
+    assert_eq!(rt; payload_of(Key::Int(i64::MIN)), LEAST);
+    assert_eq!(rt; payload_of(Key::Text(Sym(6))), 6);
+    assert_eq!(rt; stored_kind_of(Stored::Plain(Value::Nothing)), 1);
+    assert_eq!(rt; stored_payload_of(Stored::Plain(Value::Int(-1))), MINUS_ONE);
+    Ok(())
+}
+
+#[test]
+fn laws_take_nothing() {
+    dict_words_are_of_one_dict();
+    set_words_are_of_one_set();
+    list_words_are_of_one_list();
+    bank_words_are_of_one_part();
+    table_words_are_of_one_field();
+    sizes_are_by_class();
+    changed_words_are_of_a_table();
+    live_entries_stand_for_contents();
+}

@@ -1,0 +1,13 @@
+pub mod Ways
+pub mod Shown
+pub mod Naming
+pub mod Trying
+pub mod Distinct
+pub mod Reaching
+pub mod Finding
+pub mod Bounds
+pub mod Putting
+pub mod Written
+pub mod Adding
+pub mod Moving
+pub mod Listing

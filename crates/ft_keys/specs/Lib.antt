@@ -1,0 +1,7 @@
+pub mod Ways
+pub mod Walks
+pub mod Accesses
+pub mod Searches
+pub mod Costs
+pub mod Changes
+pub mod Lists

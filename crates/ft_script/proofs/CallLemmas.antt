@@ -1,7 +1,9 @@
 -- Reading calls while their strings are numbered.
-use Rattle.std.proofs.Common.{◌≡◌, ◌≢◌, ℕ, suc, ◌+◌, ◌*◌, ◌<◌, ◌≤◌, true, eqb, List, [], ◌∷◌, ◌++◌, length, get_or, map, refl, sym, ap, ◌∙◌, subst, inl, inr, arith, append_assoc, Result, Err}
+use Rattle.std.proofs.Common.{◌≡◌, ◌≢◌, ℕ, ℤ, FitsSigned, suc, ◌+◌, ◌*◌, ◌<◌, ◌≤◌, true, eqb, List, [], ◌∷◌, ◌++◌, length, get_or, map, refl, sym, ap, ◌∙◌, subst, inl, inr, arith, append_assoc, Result, Err}
 use Rattle.std.specs.Prelude.{All, codes}
 use Rattle.std.specs.List.{flat_map, slice_split}
+use Rattle.std.specs.Int.{w64}
+use Rattle.std.specs.Fmt.{signed_decimal}
 use Rattle.std.specs.Result.{IfErr}
 use Rattle.std.proofs.lemmas.List.{append-nil, get_or_append_left, get_or_push, length-append, length_push, length-map, map_push}
 use Rattle.std.proofs.lemmas.List.Elements.{All-push, All-nil, All-head, All-tail, All-weaker}
@@ -14,11 +16,15 @@ use Rattle.ft_model.specs.declared.data.Value.{Value}
 use Rattle.ft_model.specs.declared.data.Value.TheVariants as value
 use Rattle.ft_model.specs.declared.data.Sym.{Sym}
 use Rattle.ft_model.specs.declared.call.Call.{Call}
-use Rattle.ft_model.specs.declared.call.Call.TheVariants.{DictGet, DictSet}
+use Rattle.ft_model.specs.declared.call.Call.TheVariants as call
+use Rattle.ft_model.specs.declared.call.DictCall.TheVariants as dict
+use Rattle.ft_model.specs.Keys.{as_value}
 use Rattle.ft_script.specs.declared.fault.ScriptFault.{ScriptFault}
 use Rattle.ft_script.specs.Scripts.{words_of, is_letters, IsKeyIn, IsValueIn, IsCallIn, key_mentions, value_mentions, call_mentions, IsNumbered}
 use Rattle.ft_script.specs.Texts.{quoted, key_text, value_text}
-use Rattle.ft_script.specs.Calls.{IsTable, IsNumberOf, Grows, words_in, as_value, IsKeyRead, IsCallRead, IsNoKey, IsNoCall, AreCalls, IsNoCalls, Refuses}
+use Rattle.ft_script.specs.Words.{between_marks}
+use Rattle.ft_script.proofs.WordLemmas.{quoted_letters}
+use Rattle.ft_script.specs.Calls.{IsTable, IsNumberOf, Grows, words_in, IsKeyRead, IsCallRead, IsNoKey, IsNoCall, AreCalls, IsNoCalls, Refuses}
 
 -- ---- numbers
 
@@ -113,12 +119,14 @@ module _ (old new more : List (List ℕ)) (kept : new ≡ old ++ more) where
   value_kept (value.Text number) known = (let low : number.0 < length old = known in omega (arith, longer))
 
   call_kept : (call : Call) → IsCallIn old call → IsCallIn new call
-  call_kept (DictGet dict key) known = (known.0, key_kept key known.1)
-  call_kept (DictSet dict key value) known = (known.0, key_kept key known.1, value_kept value known.2)
+  call_kept (call.Dict place (dict.Get key)) known = (known.0, key_kept key known.1)
+  call_kept (call.Dict place (dict.Set key value)) known = (known.0, key_kept key known.1, value_kept value known.2)
+  call_kept other known = absurd known
 
   words_kept : (name : List ℕ) (call : Call) → IsCallIn old call → words_in name new call ≡ words_in name old call
-  words_kept name (DictGet dict key) known = ap (λ (t : List ℕ). codes "get" ∷ name ∷ t ∷ []) (key_text_kept key known.1)
-  words_kept name (DictSet dict key value) known = rw (key_text_kept key known.1, value_text_kept value known.2) refl
+  words_kept name (call.Dict place (dict.Get key)) known = ap (λ (t : List ℕ). codes "get" ∷ name ∷ t ∷ []) (key_text_kept key known.1)
+  words_kept name (call.Dict place (dict.Set key value)) known = rw (key_text_kept key known.1, value_text_kept value known.2) refl
+  words_kept name other known = absurd known
 
   all_words_kept : (name : List ℕ) (calls : List Call) → All (IsCallIn old) calls → map (words_in name new) calls ≡ map (words_in name old) calls
   all_words_kept name [] known = refl
@@ -131,6 +139,14 @@ pub text_read : (word text : List ℕ) (number : Sym) (old new : List (List ℕ)
 text_read word text number old new same letters h =
     let there : IsNamed text number.0 old new = named text number.0 old new letters h in
     record { text = same ∙ ap quoted (sym there.here); known = there.low; grows = there.grows }
+
+-- a word that is neither an integer nor letters between marks is no key
+pub no_key_read : (word : List ℕ) → ((n : ℤ) → FitsSigned w64 n → word ≢ signed_decimal n) → ((text : List ℕ) → is_letters text ≡ true → word ≢ between_marks text) → IsNoKey word
+no_key_read word integers letters strings (key.Int n) table known same = integers n known same
+no_key_read word integers letters strings (key.Text number) table known same =
+    let text = get_or strings number.0 [] in
+    let are : is_letters text ≡ true = table.letters number.0 [] known in
+    letters text are (same ∙ quoted_letters text are)
 
 -- ---- calls
 
@@ -147,7 +163,7 @@ value_mentioned (key.Int n) = refl
 value_mentioned (key.Text number) = refl
 
 pub set_read : (first second : List ℕ) (key value : Key) (old middle new : List (List ℕ)) → IsKeyRead first key old middle → IsKeyRead second value middle new → (name : List ℕ)
-    → IsCallRead name (codes "set" ∷ name ∷ first ∷ second ∷ []) (DictSet 0 key (as_value value)) old new
+    → IsCallRead name (codes "set" ∷ name ∷ first ∷ second ∷ []) (call.Dict 0 (dict.Set key (as_value value))) old new
 set_read first second key value old middle new h g name = record {
   text = rw (h.text, g.text, key_text_kept middle new g.grows.more g.grows.kept key h.known, value_of_key new value) refl;
   known = (refl, key_kept middle new g.grows.more g.grows.kept key h.known, value_known new value g.known);
@@ -160,8 +176,9 @@ no_value word strings (value.Int n) none table known same = none strings (key.In
 no_value word strings (value.Text number) none table known same = none strings (key.Text number) table known same
 
 pub no_set_value : (first second : List ℕ) → IsNoKey second → (name : List ℕ) → IsNoCall name (codes "set" ∷ name ∷ first ∷ second ∷ [])
-no_set_value first second none name strings (DictGet dict key) table known same = cc
-no_set_value first second none name strings (DictSet dict key value) table known same = no_value second strings value none table known.2 cc
+no_set_value first second none name strings (call.Dict place (dict.Get key)) table known same = cc
+no_set_value first second none name strings (call.Dict place (dict.Set key value)) table known same = no_value second strings value none table known.2 cc
+no_set_value first second none name strings other table known same = known
 
 -- ---- refusals
 
@@ -190,15 +207,19 @@ reading_begins name lines = record {
   few_strings = omega arith;
 }
 
-few_mentions : (call : Call) → length (call_mentions call) ≤ 2
-few_mentions (DictGet dict (key.Int n)) = omega arith
-few_mentions (DictGet dict (key.Text s)) = omega arith
-few_mentions (DictSet dict (key.Int n) value.Nothing) = omega arith
-few_mentions (DictSet dict (key.Int n) (value.Int m)) = omega arith
-few_mentions (DictSet dict (key.Int n) (value.Text t)) = omega arith
-few_mentions (DictSet dict (key.Text s) value.Nothing) = omega arith
-few_mentions (DictSet dict (key.Text s) (value.Int m)) = omega arith
-few_mentions (DictSet dict (key.Text s) (value.Text t)) = omega arith
+few_in_key : (key : Key) → length (key_mentions key) ≤ 1
+few_in_key (key.Int n) = omega arith
+few_in_key (key.Text s) = omega arith
+
+few_in_value : (value : Value) → length (value_mentions value) ≤ 1
+few_in_value value.Nothing = omega arith
+few_in_value (value.Int n) = omega arith
+few_in_value (value.Text s) = omega arith
+
+few_mentions : (called : Call) → length (call_mentions called) ≤ 2
+few_mentions (call.Dict place (dict.Get key)) = omega (arith, few_in_key key)
+few_mentions (call.Dict place (dict.Set key value)) = omega (arith, length-append (key_mentions key) (value_mentions value), few_in_key key, few_in_value value)
+few_mentions other = omega arith
 
 pub reading_goes_on : (name : List ℕ) (lines : List (List (List ℕ))) (calls : List Call) (old new : List (List ℕ)) (words : List (List ℕ)) (now rest : List (List (List ℕ))) (call : Call) →
     IsReading name lines calls old now → now ≡ words ∷ rest → IsCallRead name words call old new → length calls < 500000 → IsReading name lines (calls ++ call ∷ []) new rest

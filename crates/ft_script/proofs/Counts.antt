@@ -9,7 +9,8 @@ use Rattle.ft_model.specs.declared.data.Key.TheVariants as key
 use Rattle.ft_model.specs.declared.data.Value.{Value}
 use Rattle.ft_model.specs.declared.data.Value.TheVariants as value
 use Rattle.ft_model.specs.declared.call.Call.{Call}
-use Rattle.ft_model.specs.declared.call.Call.TheVariants.{DictGet, DictSet}
+use Rattle.ft_model.specs.declared.call.Call.TheVariants as call
+use Rattle.ft_model.specs.declared.call.DictCall.TheVariants as dict
 use Rattle.ft_script.specs.Scripts.{IsKeyIn, IsValueIn, IsCallIn, key_mentions, value_mentions, call_mentions, IsNumbered, IsNoScript}
 use Rattle.ft_script.specs.Texts.{key_text, value_text}
 use Rattle.ft_script.specs.Calls.{words_in, AreCalls, HasHead}
@@ -42,16 +43,19 @@ module _ (s t : List (List ℕ)) where
   same_value_texts (value.Text x) (value.Text y) x_in y_in same = ap (λ (text : List ℕ). text ∷ []) (quoted_injective (get_or s x.0 []) (get_or t y.0 []) same)
 
   same_call_texts : (name : List ℕ) (c d : Call) → IsCallIn s c → IsCallIn t d → words_in name s c ≡ words_in name t d → texts_at s (call_mentions c) ≡ texts_at t (call_mentions d)
-  same_call_texts name (DictGet i k) (DictGet j l) c_in d_in same = same_key_texts k l c_in.1 d_in.1 cc
-  same_call_texts name (DictGet i k) (DictSet j l v) c_in d_in same = absurd cc
-  same_call_texts name (DictSet i k v) (DictGet j l) c_in d_in same = absurd cc
-  same_call_texts name (DictSet i k v) (DictSet j l w) c_in d_in same =
+  same_call_texts name (call.Dict i (dict.Get k)) (call.Dict j (dict.Get l)) c_in d_in same = same_key_texts k l c_in.1 d_in.1 cc
+  same_call_texts name (call.Dict i (dict.Get k)) (call.Dict j (dict.Set l v)) c_in d_in same = absurd cc
+  same_call_texts name (call.Dict i (dict.Set k v)) (call.Dict j (dict.Get l)) c_in d_in same = absurd cc
+  same_call_texts name (call.Dict i (dict.Set k v)) (call.Dict j (dict.Set l w)) c_in d_in same =
       let keys : key_text s k ≡ key_text t l = cc in
       let values : value_text s v ≡ value_text t w = cc in
       texts_at-append s (key_mentions k) (value_mentions v)
       ∙ ap (λ (l : List (List ℕ)). l ++ texts_at s (value_mentions v)) (same_key_texts k l c_in.1 d_in.1 keys)
       ∙ ap (λ (r : List (List ℕ)). texts_at t (key_mentions l) ++ r) (same_value_texts v w c_in.2 d_in.2 values)
       ∙ sym (texts_at-append t (key_mentions l) (value_mentions w))
+  same_call_texts name (call.Dict i (dict.Get k)) other c_in d_in same = absurd d_in
+  same_call_texts name (call.Dict i (dict.Set k v)) other c_in d_in same = absurd d_in
+  same_call_texts name other d c_in d_in same = absurd c_in
 
   same_texts : (name : List ℕ) (cs ds : List Call) → All (IsCallIn s) cs → All (IsCallIn t) ds → map (words_in name s) cs ≡ map (words_in name t) ds → texts_at s (flat_map call_mentions cs) ≡ texts_at t (flat_map call_mentions ds)
   same_texts name [] [] cs_in ds_in same = refl

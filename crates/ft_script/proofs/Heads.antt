@@ -6,14 +6,15 @@ use Rattle.std.proofs.lemmas.Bool.{ne_eqb}
 use Rattle.std.proofs.lemmas.List.{append-nil}
 use Rattle.std.proofs.lemmas.List.Elements.{All-head, All-tail, All-cons, All-nil}
 use Rattle.ft_model.specs.declared.call.Call.{Call}
-use Rattle.ft_model.specs.declared.call.Call.TheVariants.{DictGet, DictSet}
+use Rattle.ft_model.specs.declared.call.Call.TheVariants as call
+use Rattle.ft_model.specs.declared.call.DictCall.TheVariants as dict
 use Rattle.ft_model.specs.declared.script.Declaration.{Declaration}
-use Rattle.ft_model.specs.declared.script.Kind.{Kind}
 use Rattle.ft_model.specs.declared.script.Kind.TheVariants as kind
 use Rattle.ft_model.specs.declared.script.Thread.{Thread}
-use Rattle.ft_model.specs.declared.script.Script.{Script}
-use Rattle.ft_script.specs.Scripts.{without_last_feed, lines_of, words_of, is_container_name, is_thread_name, IsCallIn, IsScript, IsTextOf, IsNoScript, script_lines}
-use Rattle.ft_script.specs.Texts.{call_words}
+use Rattle.ft_model.specs.declared.script.ScriptParts.{ScriptParts}
+use Rattle.ft_model.specs.Names.{is_container_name, is_thread_name}
+use Rattle.ft_script.specs.Scripts.{without_last_feed, lines_of, words_of, IsCallIn, IsPlainScript, IsTextOf, IsNoScript, script_lines, plain_script, plain_tables, plain_heap}
+use Rattle.ft_script.specs.Texts.{container_name, call_words}
 use Rattle.ft_script.specs.Calls.{words_in, AreCalls, IsNoCalls, dict_line, thread_line, HasHead}
 
 -- ---- the line feed at the end
@@ -34,15 +35,7 @@ without_feed bytes (Some text) same = rw same (feed_taken text.now)
 
 -- ---- the parts of a script
 
--- a script of one dict and one thread
-abbrev pub plain_script : List ℕ → List ℕ → List Call → List (List ℕ) → Script
-plain_script dict thread calls strings = record {
-  containers = record { kind = kind.Dict; name = dict } ∷ [];
-  threads = record { name = thread; calls = calls } ∷ [];
-  strings = strings;
-}
-
-pub record HasParts (script : Script) : Type 0 where
+pub record HasParts (script : ScriptParts) : Type 0 where
   pub dict : List ℕ
   pub thread : List ℕ
   pub calls : List Call
@@ -54,45 +47,37 @@ pub record HasParts (script : Script) : Type 0 where
   pub few : length calls ≤ 500000
   pub few_strings : length script.strings ≤ 65536
 
-module _ (container : Declaration) (threads : List Thread) (strings : List (List ℕ)) where
-  abbrev whole : Script
-  whole = record { containers = container ∷ []; threads = threads; strings = strings }
-
+module _ (script : ScriptParts) (name : List ℕ) (named : container_name script 0 ≡ name) where
   -- a call's words, where its dict is the one
-  call_words_in : (call : Call) → IsCallIn strings call → call_words whole call ≡ words_in container.name strings call
-  call_words_in (DictGet dict key) known = rw known.0 refl
-  call_words_in (DictSet dict key value) known = rw known.0 refl
+  call_words_in : (call : Call) → IsCallIn script.strings call → call_words script 0 call ≡ words_in name script.strings call
+  call_words_in (call.Dict place (dict.Get key)) known = rw (known.0, named) refl
+  call_words_in (call.Dict place (dict.Set key value)) known = rw (known.0, named) refl
+  call_words_in other known = absurd known
 
-  all_words_in : (calls : List Call) → All (IsCallIn strings) calls → map (call_words whole) calls ≡ map (words_in container.name strings) calls
+  all_words_in : (calls : List Call) → All (IsCallIn script.strings) calls → map (call_words script 0) calls ≡ map (words_in name script.strings) calls
   all_words_in [] known = refl
   all_words_in (call ∷ calls) known =
-      rw (call_words_in call (All-head (IsCallIn strings) call calls known), all_words_in calls (All-tail (IsCallIn strings) call calls known)) refl
+      rw (call_words_in call (All-head (IsCallIn script.strings) call calls known), all_words_in calls (All-tail (IsCallIn script.strings) call calls known)) refl
 
-is_dict : (k : Kind) → k ≡ kind.Dict
-is_dict kind.Dict = refl
+module _ (dict thread : List ℕ) (calls : List Call) (strings : List (List ℕ)) where
+  abbrev plain : ScriptParts
+  plain = plain_script dict thread calls strings
 
-module _ (container : Declaration) (thread : Thread) (strings : List (List ℕ)) where
-  abbrev script_of : Script
-  script_of = record { containers = container ∷ []; threads = thread ∷ []; strings = strings }
+  plain_lines : All (IsCallIn strings) calls → script_lines plain ≡ dict_line dict ∷ thread_line thread ∷ map (words_in dict strings) calls
+  plain_lines known =
+      let words : map (call_words plain 0) calls ++ [] ≡ map (words_in dict strings) calls =
+      append-nil (map (call_words plain 0) calls) ∙ all_words_in plain dict refl calls known in
+      ap (λ (l : List (List (List ℕ))). dict_line dict ∷ thread_line thread ∷ l) words
 
-  lines_in : All (IsCallIn strings) thread.calls → script_lines script_of ≡ dict_line container.name ∷ thread_line thread.name ∷ map (words_in container.name strings) thread.calls
-  lines_in known =
-      let calls : map (call_words script_of) thread.calls ++ [] ≡ map (words_in container.name strings) thread.calls =
-      append-nil (map (call_words script_of) thread.calls) ∙ all_words_in container (thread ∷ []) strings thread.calls known in
-      ap (λ (l : List (List (List ℕ))). dict_line container.name ∷ thread_line thread.name ∷ l) calls
-
-  is_plain : script_of ≡ plain_script container.name thread.name thread.calls strings
-  is_plain = ap (λ (k : Kind). let c : Declaration = record { kind = k; name = container.name } in let s : Script = record { containers = c ∷ []; threads = thread ∷ []; strings = strings } in s) (is_dict container.kind)
-
-  parts_of_one : IsScript script_of → HasParts script_of
-  parts_of_one form = record {
-    dict = container.name;
-    thread = thread.name;
-    calls = thread.calls;
-    is = is_plain;
-    lines = lines_in form.calls;
-    dict_name = All-head (λ (c : Declaration). is_container_name c.name ≡ true) container [] form.dict_name;
-    thread_name = All-head (λ (t : Thread). is_thread_name t.name ≡ true) thread [] form.thread_name;
+  plain_parts : IsPlainScript plain → HasParts plain
+  plain_parts form = record {
+    dict = dict;
+    thread = thread;
+    calls = calls;
+    is = refl;
+    lines = plain_lines form.calls;
+    dict_name = All-head (λ (c : Declaration). is_container_name c.name ≡ true) (record { kind = kind.Dict; name = dict }) [] form.dict_name;
+    thread_name = All-head (λ (t : Thread). is_thread_name t.name ≡ true) (record { name = thread; cursors = []; calls = calls }) [] form.thread_name;
     are = record {
       text = refl;
       known = form.calls;
@@ -103,20 +88,38 @@ module _ (container : Declaration) (thread : Thread) (strings : List (List ℕ))
     few_strings = form.few_strings;
   }
 
-parts_by : (containers : List Declaration) (threads : List Thread) (strings : List (List ℕ)) → IsScript (record { containers = containers; threads = threads; strings = strings }) → HasParts (record { containers = containers; threads = threads; strings = strings })
-parts_by [] threads strings form = absurd (omega (arith, form.one_dict))
-parts_by (container ∷ []) [] strings form = absurd (omega (arith, form.one_thread))
-parts_by (container ∷ []) (thread ∷ []) strings form = parts_of_one container thread strings form
-parts_by (container ∷ []) (thread ∷ other ∷ threads) strings form = absurd (omega (arith, form.one_thread))
-parts_by (container ∷ other ∷ containers) threads strings form = absurd (omega (arith, form.one_dict))
+is_plain : (container : Declaration) (thread : Thread) (strings : List (List ℕ)) (tables : List ℕ) (heap : ℕ) (order : List ℕ) →
+    container.kind ≡ kind.Dict → thread.cursors ≡ [] → tables ≡ plain_tables → heap ≡ plain_heap → order ≡ [] →
+    plain_script container.name thread.name thread.calls strings ≡ record { containers = container ∷ []; threads = thread ∷ []; strings = strings; tables = tables; heap = heap; order = order }
+is_plain container thread strings tables heap order kinds cursors t h o = sym (λ i. record {
+  containers = record { kind = kinds i; name = container.name } ∷ [];
+  threads = record { name = thread.name; cursors = cursors i; calls = thread.calls } ∷ [];
+  strings = strings;
+  tables = t i;
+  heap = h i;
+  order = o i;
+})
 
-pub parts : (script : Script) → IsScript script → HasParts script
-parts script form = parts_by script.containers script.threads script.strings form
+parts_by : (containers : List Declaration) (threads : List Thread) (strings : List (List ℕ)) (tables : List ℕ) (heap : ℕ) (order : List ℕ) →
+    IsPlainScript (record { containers = containers; threads = threads; strings = strings; tables = tables; heap = heap; order = order }) →
+    HasParts (record { containers = containers; threads = threads; strings = strings; tables = tables; heap = heap; order = order })
+parts_by [] threads strings tables heap order form = absurd (omega (arith, form.one_dict))
+parts_by (container ∷ []) [] strings tables heap order form = absurd (omega (arith, form.one_thread))
+parts_by (container ∷ []) (thread ∷ []) strings tables heap order form =
+    let kinds = All-head (λ (c : Declaration). c.kind ≡ kind.Dict) container [] form.dict_kind in
+    let cursors = All-head (λ (t : Thread). t.cursors ≡ []) thread [] form.no_cursors in
+    let same = is_plain container thread strings tables heap order kinds cursors form.tables form.heap form.order in
+    subst HasParts same (plain_parts container.name thread.name thread.calls strings (subst IsPlainScript (sym same) form))
+parts_by (container ∷ []) (thread ∷ other ∷ threads) strings tables heap order form = absurd (omega (arith, form.one_thread))
+parts_by (container ∷ other ∷ containers) threads strings tables heap order form = absurd (omega (arith, form.one_dict))
+
+pub parts : (script : ScriptParts) → IsPlainScript script → HasParts script
+parts script form = parts_by script.containers script.threads script.strings script.tables script.heap script.order form
 
 -- ---- texts that no script has
 
 -- a script's text by lines
-pub text_lines : (bytes : List ℕ) (script : Script) (text : IsTextOf bytes script) → map words_of (lines_of bytes) ≡ dict_line (parts script text.form).dict ∷ thread_line (parts script text.form).thread ∷ map (words_in (parts script text.form).dict script.strings) (parts script text.form).calls
+pub text_lines : (bytes : List ℕ) (script : ScriptParts) (text : IsTextOf bytes script) → map words_of (lines_of bytes) ≡ dict_line (parts script text.form).dict ∷ thread_line (parts script text.form).thread ∷ map (words_in (parts script text.form).dict script.strings) (parts script text.form).calls
 text_lines bytes script text = text.lines ∙ (parts script text.form).lines
 
 pub lines_cut : (bytes text first : List ℕ) (rest : List (List ℕ)) → text ≡ without_last_feed bytes → slice_split (λ b. eqb b 10) text ≡ first ∷ rest → map words_of (lines_of bytes) ≡ words_of first ∷ map words_of rest
@@ -146,7 +149,7 @@ no_thread bytes first second rest lines none script text =
     none p.thread p.thread_name cc
 
 -- of a text with a head, each script has that head and the calls below it
-pub calls_below : (bytes dict thread : List ℕ) (lines : List (List (List ℕ))) (script : Script) → HasHead bytes dict thread lines → IsTextOf bytes script →
+pub calls_below : (bytes dict thread : List ℕ) (lines : List (List (List ℕ))) (script : ScriptParts) → HasHead bytes dict thread lines → IsTextOf bytes script →
     (calls : List Call) × (length calls ≤ 500000) × (length script.strings ≤ 65536) × AreCalls dict script.strings lines calls
 calls_below bytes dict thread lines script head text =
     let p = parts script text.form in
@@ -163,28 +166,32 @@ no_script bytes dict thread lines head none script text =
 -- ---- the script that was read
 
 text_of : (bytes dict thread : List ℕ) (lines : List (List (List ℕ))) (calls : List Call) (strings : List (List ℕ)) → HasHead bytes dict thread lines → AreCalls dict strings lines calls → length calls ≤ 500000 → length strings ≤ 65536 →
-    IsTextOf bytes (script_of (record { kind = kind.Dict; name = dict }) (record { name = thread; calls = calls }) strings)
+    IsTextOf bytes (plain_script dict thread calls strings)
 text_of bytes dict thread lines calls strings head are few few_strings =
     let container : Declaration = record { kind = kind.Dict; name = dict } in
-    let only : Thread = record { name = thread; calls = calls } in
+    let only : Thread = record { name = thread; cursors = []; calls = calls } in
     record {
       form = record {
         one_dict = refl;
+        dict_kind = All-cons (λ (c : Declaration). c.kind ≡ kind.Dict) container [] refl (All-nil (λ (c : Declaration). c.kind ≡ kind.Dict));
         dict_name = All-cons (λ (c : Declaration). is_container_name c.name ≡ true) container [] head.dict_name (All-nil (λ (c : Declaration). is_container_name c.name ≡ true));
         one_thread = refl;
         thread_name = All-cons (λ (t : Thread). is_thread_name t.name ≡ true) only [] head.thread_name (All-nil (λ (t : Thread). is_thread_name t.name ≡ true));
+        no_cursors = All-cons (λ (t : Thread). t.cursors ≡ []) only [] refl (All-nil (λ (t : Thread). t.cursors ≡ []));
         calls = are.known;
         few_calls = few;
         letters = are.table.letters;
         distinct = are.table.distinct;
         numbered = are.numbered;
         few_strings = few_strings;
+        tables = refl;
+        heap = refl;
+        order = refl;
       };
-      lines = head.text ∙ ap (λ (l : List (List (List ℕ))). dict_line dict ∷ thread_line thread ∷ l) are.text ∙ sym (lines_in container only strings are.known);
+      lines = head.text ∙ ap (λ (l : List (List (List ℕ))). dict_line dict ∷ thread_line thread ∷ l) are.text ∙ sym (plain_lines dict thread calls strings are.known);
     }
 
-pub script_read : (bytes dict thread : List ℕ) (lines : List (List (List ℕ))) (calls : List Call) (strings : List (List ℕ)) (script : Script) → HasHead bytes dict thread lines → AreCalls dict strings lines calls → length calls ≤ 500000 → length strings ≤ 65536 →
-    script.containers ≡ record { kind = kind.Dict; name = dict } ∷ [] → script.threads ≡ record { name = thread; calls = calls } ∷ [] → script.strings ≡ strings → IsTextOf bytes script
-script_read bytes dict thread lines calls strings script head are few few_strings containers threads texts =
-    let same : script_of (record { kind = kind.Dict; name = dict }) (record { name = thread; calls = calls }) strings ≡ script = sym (λ i. record { containers = containers i; threads = threads i; strings = texts i }) in
-    subst (IsTextOf bytes) same (text_of bytes dict thread lines calls strings head are few few_strings)
+pub script_read : (bytes dict thread : List ℕ) (lines : List (List (List ℕ))) (calls : List Call) (strings : List (List ℕ)) (script : ScriptParts) → HasHead bytes dict thread lines → AreCalls dict strings lines calls → length calls ≤ 500000 → length strings ≤ 65536 →
+    script ≡ plain_script dict thread calls strings → IsTextOf bytes script
+script_read bytes dict thread lines calls strings script head are few few_strings same =
+    subst (IsTextOf bytes) (sym same) (text_of bytes dict thread lines calls strings head are few few_strings)

@@ -4,5 +4,6 @@ pub mod Heads
 pub mod OneScript
 pub mod OneText
 pub mod Printed
+pub mod Rules
 pub mod StringLemmas
 pub mod WordLemmas

@@ -9,13 +9,14 @@ use Rattle.ft_model.specs.declared.data.Value.{Value}
 use Rattle.ft_model.specs.declared.data.Value.TheVariants as value
 use Rattle.ft_model.specs.declared.data.Sym.{Sym}
 use Rattle.ft_model.specs.declared.call.Call.{Call}
-use Rattle.ft_model.specs.declared.call.Call.TheVariants.{DictGet, DictSet}
-use Rattle.ft_model.specs.declared.script.Script.{Script}
-use Rattle.ft_script.specs.Scripts.{IsKeyIn, IsValueIn, IsCallIn, IsTextOf}
+use Rattle.ft_model.specs.declared.call.Call.TheVariants as call
+use Rattle.ft_model.specs.declared.call.DictCall.TheVariants as dict
+use Rattle.ft_model.specs.declared.script.ScriptParts.{ScriptParts}
+use Rattle.ft_script.specs.Scripts.{plain_script, IsKeyIn, IsValueIn, IsCallIn, IsTextOf}
 use Rattle.ft_script.specs.Texts.{key_text, value_text}
 use Rattle.ft_script.specs.Calls.{words_in, AreCalls, dict_line, thread_line}
 use Rattle.ft_script.proofs.WordLemmas.{quoted_injective, integer_not_quoted, integer_injective}
-use Rattle.ft_script.proofs.Heads.{HasParts, plain_script, parts, text_lines}
+use Rattle.ft_script.proofs.Heads.{HasParts, parts, text_lines}
 use Rattle.ft_script.proofs.Counts.{same_strings}
 
 -- ---- with one table the words say the call
@@ -49,17 +50,20 @@ module _ (strings : List (List ℕ)) (distinct : AllPairs (λ s t. s ≢ t) stri
       ap (λ (n : ℕ). value.Text (record { 0 = n })) (same_sym x y x_in y_in (quoted_injective (get_or strings x.0 []) (get_or strings y.0 []) same))
 
   same_call : (name : List ℕ) (c d : Call) → IsCallIn strings c → IsCallIn strings d → words_in name strings c ≡ words_in name strings d → c ≡ d
-  same_call name (DictGet i k) (DictGet j l) c_in d_in same =
+  same_call name (call.Dict i (dict.Get k)) (call.Dict j (dict.Get l)) c_in d_in same =
       let dicts : i ≡ j = c_in.0 ∙ sym d_in.0 in
       let keys : k ≡ l = same_key k l c_in.1 d_in.1 cc in
       cc
-  same_call name (DictGet i k) (DictSet j l w) c_in d_in same = absurd cc
-  same_call name (DictSet i k v) (DictGet j l) c_in d_in same = absurd cc
-  same_call name (DictSet i k v) (DictSet j l w) c_in d_in same =
+  same_call name (call.Dict i (dict.Get k)) (call.Dict j (dict.Set l w)) c_in d_in same = absurd cc
+  same_call name (call.Dict i (dict.Set k v)) (call.Dict j (dict.Get l)) c_in d_in same = absurd cc
+  same_call name (call.Dict i (dict.Set k v)) (call.Dict j (dict.Set l w)) c_in d_in same =
       let dicts : i ≡ j = c_in.0 ∙ sym d_in.0 in
       let keys : k ≡ l = same_key k l c_in.1 d_in.1 cc in
       let values : v ≡ w = same_value v w c_in.2 d_in.2 cc in
       cc
+  same_call name (call.Dict i (dict.Get k)) other c_in d_in same = absurd d_in
+  same_call name (call.Dict i (dict.Set k v)) other c_in d_in same = absurd d_in
+  same_call name other d c_in d_in same = absurd c_in
 
   same_calls : (name : List ℕ) (cs ds : List Call) → All (IsCallIn strings) cs → All (IsCallIn strings) ds → map (words_in name strings) cs ≡ map (words_in name strings) ds → cs ≡ ds
   same_calls name [] [] cs_in ds_in same = refl
@@ -75,7 +79,7 @@ module _ (strings : List (List ℕ)) (distinct : AllPairs (λ s t. s ≢ t) stri
 same_plain : (d d' t t' : List ℕ) (cs cs' : List Call) (strings strings' : List (List ℕ)) → d ≡ d' → t ≡ t' → cs ≡ cs' → strings ≡ strings' → plain_script d t cs strings ≡ plain_script d' t' cs' strings'
 same_plain d d' t t' cs cs' strings strings' dict thread calls table = λ i. plain_script (dict i) (thread i) (calls i) (table i)
 
-same_parts : (s t : Script) (p : HasParts s) (q : HasParts t) → dict_line p.dict ∷ thread_line p.thread ∷ map (words_in p.dict s.strings) p.calls ≡ dict_line q.dict ∷ thread_line q.thread ∷ map (words_in q.dict t.strings) q.calls → s ≡ t
+same_parts : (s t : ScriptParts) (p : HasParts s) (q : HasParts t) → dict_line p.dict ∷ thread_line p.thread ∷ map (words_in p.dict s.strings) p.calls ≡ dict_line q.dict ∷ thread_line q.thread ∷ map (words_in q.dict t.strings) q.calls → s ≡ t
 same_parts s t p q same =
     let dict : p.dict ≡ q.dict = cc in
     let thread : p.thread ≡ q.thread = cc in
@@ -89,6 +93,6 @@ same_parts s t p q same =
     p.is ∙ same_plain p.dict q.dict p.thread q.thread p.calls q.calls s.strings t.strings dict thread calls strings ∙ sym q.is
 
 -- bytes are the text of at most one script
-pub same_script : (bytes : List ℕ) (s t : Script) → IsTextOf bytes s → IsTextOf bytes t → s ≡ t
+pub same_script : (bytes : List ℕ) (s t : ScriptParts) → IsTextOf bytes s → IsTextOf bytes t → s ≡ t
 same_script bytes s t p q =
     same_parts s t (parts s p.form) (parts t q.form) (sym (text_lines bytes s p) ∙ text_lines bytes t q)

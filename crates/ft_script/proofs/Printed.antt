@@ -5,13 +5,12 @@ use Rattle.std.specs.List.{flat_map, join_with_byte, zip}
 use Rattle.std.proofs.lemmas.List.{append-nil, flat_map_more, take_all, take_more}
 use Rattle.std.proofs.lemmas.List.Concat.{flat_map-append}
 use Rattle.std.proofs.lemmas.Slice.Zip.{length-zip, get_or-zip}
-use Rattle.ft_model.specs.declared.call.Call.{Call}
-use Rattle.ft_model.specs.declared.call.Call.TheVariants.{DictGet, DictSet}
 use Rattle.ft_model.specs.declared.content.Content.{Content}
 use Rattle.ft_model.specs.declared.entry.Entry.{Entry}
 use Rattle.ft_model.specs.declared.script.Declaration.{Declaration}
-use Rattle.ft_model.specs.declared.script.Script.{Script}
-use Rattle.ft_script.specs.Texts.{line, container_name, key_text, value_text, call_words, reply_text, mark_words, place_word, stamp_word, entry_line, listed, world_line, world_text}
+use Rattle.ft_model.specs.declared.script.ScriptParts.{ScriptParts}
+use Rattle.ft_script.specs.Forms.{call_form}
+use Rattle.ft_script.specs.Texts.{line, argument_text, call_words, reply_text, mark_words, place_word, stamp_word, entry_line, listed, world_line, world_text}
 
 -- each word after a byte
 abbrev pub each_after : ℕ → List (List ℕ) → List ℕ
@@ -40,22 +39,22 @@ line_of_parts before place stamp head reply words marks =
     ∙ regroup before place (32 ∷ []) stamp head (each_after 32 words) (codes "=") reply (each_after 32 marks) (10 ∷ [])
     ∙ ap (λ (text : List ℕ). before ++ (text ++ 10 ∷ [])) (sym (join_with_byte-append 32 place stamp head words (codes "=" ∷ reply ∷ marks)))
 
-abbrev call_text : Script → Call → List ℕ
-call_text script call = join_with_byte 32 (call_words script call)
+abbrev call_text : ScriptParts → Entry → List ℕ
+call_text script entry = join_with_byte 32 (call_words script entry.thread entry.call)
 
-entry_line_of_call : (before place stamp reply : List ℕ) (script : Script) (call : Call) (marks : List (List ℕ)) →
-    ((((((((before ++ place) ++ 32 ∷ []) ++ stamp) ++ 32 ∷ []) ++ call_text script call) ++ codes " = ") ++ reply) ++ each_after 32 marks) ++ 10 ∷ []
-    ≡ before ++ line (place ∷ stamp ∷ call_words script call ++ codes "=" ∷ reply ∷ marks)
-entry_line_of_call before place stamp reply script (DictGet dict key) marks = line_of_parts before place stamp (codes "get") reply (container_name script dict ∷ key_text script.strings key ∷ []) marks
-entry_line_of_call before place stamp reply script (DictSet dict key value) marks = line_of_parts before place stamp (codes "set") reply (container_name script dict ∷ key_text script.strings key ∷ value_text script.strings value ∷ []) marks
+entry_line_of_call : (before place stamp reply : List ℕ) (script : ScriptParts) (entry : Entry) (marks : List (List ℕ)) →
+    ((((((((before ++ place) ++ 32 ∷ []) ++ stamp) ++ 32 ∷ []) ++ call_text script entry) ++ codes " = ") ++ reply) ++ each_after 32 marks) ++ 10 ∷ []
+    ≡ before ++ line (place ∷ stamp ∷ call_words script entry.thread entry.call ++ codes "=" ∷ reply ∷ marks)
+entry_line_of_call before place stamp reply script entry marks =
+    line_of_parts before place stamp (call_form entry.call).word reply (map (argument_text script entry.thread) (call_form entry.call).arguments) marks
 
 -- what `push_entry` prints, piece after piece
-pub entry_line-pieces : (old o1 o2 o3 o4 o5 o6 o7 o8 new : List ℕ) (script : Script) (entry : Entry) →
-    o1 ≡ old ++ place_word script entry → o2 ≡ o1 ++ 32 ∷ [] → o3 ≡ o2 ++ stamp_word entry → o4 ≡ o3 ++ 32 ∷ [] → o5 ≡ o4 ++ call_text script entry.call →
+pub entry_line-pieces : (old o1 o2 o3 o4 o5 o6 o7 o8 new : List ℕ) (script : ScriptParts) (entry : Entry) →
+    o1 ≡ old ++ place_word script entry → o2 ≡ o1 ++ 32 ∷ [] → o3 ≡ o2 ++ stamp_word entry → o4 ≡ o3 ++ 32 ∷ [] → o5 ≡ o4 ++ call_text script entry →
     o6 ≡ o5 ++ codes " = " → o7 ≡ o6 ++ reply_text script.strings entry.reply → o8 ≡ o7 ++ each_after 32 (mark_words script entry.waited) → new ≡ o8 ++ 10 ∷ [] →
     new ≡ old ++ entry_line script entry
 entry_line-pieces old o1 o2 o3 o4 o5 o6 o7 o8 new script entry e1 e2 e3 e4 e5 e6 e7 e8 e9 =
-    rw (e9, e8, e7, e6, e5, e4, e3, e2, e1) (entry_line_of_call old (place_word script entry) (stamp_word entry) (reply_text script.strings entry.reply) script entry.call (mark_words script entry.waited))
+    rw (e9, e8, e7, e6, e5, e4, e3, e2, e1) (entry_line_of_call old (place_word script entry) (stamp_word entry) (reply_text script.strings entry.reply) script entry (mark_words script entry.waited))
 
 -- ---- lists
 
@@ -67,25 +66,26 @@ pub listed-cons : {X : Type 0} (text : X → List ℕ) (x : X) (xs : List X) →
 listed-cons text x [] = sym (append-nil (text x))
 listed-cons text x (next ∷ xs) = append_assoc (text x) (codes ", ") (listed (map text (next ∷ xs))) ∙ ap (λ (rest : List ℕ). text x ++ (codes ", " ++ rest)) (listed-cons text next xs)
 
--- what `push_pairs` prints
+-- what `push_listed` prints
 pub listed-pieces : {X : Type 0} (text : X → List ℕ) (xs : List X) (d : X) → 0 < length xs → listed (map text xs) ≡ text (get_or xs 0 d) ++ each_listed text (take (length xs - 1) (drop 1 xs))
 listed-pieces text [] d h = elim h [ ]
 listed-pieces text (x ∷ xs) d h = rw (take_all (length (x ∷ xs) - 1) xs (omega arith)) (listed-cons text x xs)
 
 -- what it has printed when its loop is done
-pub printed_pairs : {X : Type 0} (old first new : List ℕ) (text : X → List ℕ) (xs : List X) (d : X) (i : ℕ) → 0 < length xs → length (take (length xs - 1) (drop 1 xs)) ≤ i →
-    first ≡ old ++ text (get_or xs 0 d) → new ≡ first ++ each_listed text (take i (take (length xs - 1) (drop 1 xs))) → new ≡ old ++ listed (map text xs)
-printed_pairs old first new text xs d i some past e1 e2 =
+pub printed_list : {X : Type 0} (old first new : List ℕ) (text : X → List ℕ) (xs : List X) (x : X) (i : ℕ) → 0 < length xs → length (take (length xs - 1) (drop 1 xs)) ≤ i → x ≡ get_or xs 0 x →
+    first ≡ old ++ text x → new ≡ first ++ each_listed text (take i (take (length xs - 1) (drop 1 xs))) → new ≡ old ++ listed (map text xs)
+printed_list old first new text xs x i some past is e1 e2 =
     let rest = take (length xs - 1) (drop 1 xs) in
-    rw (e2, take_all i rest past, e1, listed-pieces text xs d some) (append_assoc old (text (get_or xs 0 d)) (each_listed text rest))
+    let begun : first ≡ old ++ text (get_or xs 0 x) = rw (sym is) e1 in
+    rw (e2, take_all i rest past, begun, listed-pieces text xs x some) (append_assoc old (text (get_or xs 0 x)) (each_listed text rest))
 
 -- ---- worlds
 
 -- the first lines of a world's text
-abbrev pub first_lines : Script → List Content → ℕ → List ℕ
+abbrev pub first_lines : ScriptParts → List Content → ℕ → List ℕ
 first_lines script world n = flat_map (λ (shown : Declaration × Content). world_line script shown.0 shown.1) (take n (zip script.containers world))
 
-pub first_lines-more : (old before now : List ℕ) (script : Script) (world : List Content) (n m : ℕ) (container : Declaration) (content : Content) →
+pub first_lines-more : (old before now : List ℕ) (script : ScriptParts) (world : List Content) (n m : ℕ) (container : Declaration) (content : Content) →
     m ≡ n + 1 → n < length script.containers → n < length world →
     container ≡ get_or script.containers n container → content ≡ get_or world n content →
     before ≡ old ++ first_lines script world n → now ≡ before ++ world_line script container content →
@@ -99,6 +99,13 @@ first_lines-more old before now script world n m container content next low high
     let more : take m shown ≡ take n shown ++ d ∷ [] = rw next (take_more shown n d long ∙ ap (λ (x : Declaration × Content). take n shown ++ x ∷ []) at) in
     e2 ∙ ap (λ (t : List ℕ). t ++ world_line script container content) e1 ∙ flat_map_more text old (take n shown) d ∙ ap (λ t. old ++ flat_map text t) (sym more)
 
-pub first_lines-all : (script : Script) (world : List Content) (n : ℕ) → n ≡ min (length script.containers) (length world) → first_lines script world n ≡ world_text script world
+pub first_lines-all : (script : ScriptParts) (world : List Content) (n : ℕ) → n ≡ min (length script.containers) (length world) → first_lines script world n ≡ world_text script world
 first_lines-all script world n all =
     ap (λ shown. flat_map (λ (pair : Declaration × Content). world_line script pair.0 pair.1) shown) (take_all n (zip script.containers world) (omega (arith, length-zip script.containers world)))
+
+-- ---- calls
+
+-- what `push_form` has printed when its loop is done
+pub printed_words : {X : Type 0} (old first new word : List ℕ) (text : X → List ℕ) (xs : List X) (i : ℕ) → length xs ≤ i → first ≡ old ++ word → new ≡ first ++ each_after 32 (map text (take i xs)) → new ≡ old ++ join_with_byte 32 (word ∷ map text xs)
+printed_words old first new word text xs i past e1 e2 =
+    rw (e2, e1, take_all i xs past, join_with_byte-cons 32 word (map text xs)) (append_assoc old word (each_after 32 (map text xs)))

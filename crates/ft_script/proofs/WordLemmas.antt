@@ -1,8 +1,8 @@
 -- Cutting a list at a byte, and which texts are those of integers and of strings.
-use Rattle.std.proofs.Common.{◌≡◌, ◌≢◌, ℕ, ℤ, pos, negsuc, neg_ℤ, ◌+◌, ◌-◌, ◌^◌, ◌<◌, ◌≤◌, zero, suc, Bool, true, false, eqb, leb, ◌&&◌, List, [], ◌∷◌, ◌++◌, length, get_or, take, drop, Option, Some, None, Result, Ok, Err, refl, sym, ap, ◌∙◌, inl, inr, arith, rules, FitsSigned, lit<, Bor}
+use Rattle.std.proofs.Common.{◌≡◌, ◌≢◌, ◌⊎◌, cond, append_assoc, ℕ, ℤ, pos, negsuc, neg_ℤ, ◌+◌, ◌-◌, ◌^◌, ◌<◌, ◌≤◌, zero, suc, Bool, true, false, eqb, leb, ◌&&◌, List, [], ◌∷◌, ◌++◌, length, get_or, take, drop, Option, Some, None, Result, Ok, Err, refl, sym, ap, ◌∙◌, inl, inr, arith, rules, FitsSigned, lit<, Bor}
 use Rattle.std.specs.Int.{w64}
 use Rattle.std.specs.Fmt.{decimal, signed_decimal}
-use Rattle.std.specs.List.{slice_split, list_all, count_by, position, position_or_len}
+use Rattle.std.specs.List.{flat_map, slice_split, list_all, count_by, position, position_or_len}
 use Rattle.std.specs.Str.{IsAscii, IsUtf8}
 use Rattle.std.specs.Option.{IfSome, IfNone}
 use Rattle.std.specs.Result.{MatchResult, result_ok}
@@ -11,14 +11,15 @@ use Rattle.std.specs.Str.Parse.{digits_value, ParsesSigned}
 use Rattle.std.proofs.lemmas.Bool.{cases_eq, cases_lt, lt-ltb, le-ltb, and_parts, and_from, leb-true, le-leb, eqb-true, ne_eqb}
 use Rattle.std.proofs.lemmas.Bool.Decides.{nat_tests}
 use Rattle.std.proofs.lemmas.Fmt.{digits_decimal, decimal_digit, first_decimal, decimal-digits_value, IsAscii-from_digits, parse-signed_decimal, signed_decimal_injective}
-use Rattle.std.proofs.lemmas.List.{append_cancel_right, take_all, length-append, length-drop, get_or_past}
+use Rattle.std.proofs.lemmas.List.{take_all, length-append, length-drop, get_or_past}
 use Rattle.std.proofs.Math.Seq.{take-append_seam}
 use Rattle.std.proofs.lemmas.List.Splits.{slice_split_first, slice_split_none, length-slice_split}
 use Rattle.std.proofs.lemmas.List.Sums.{fails_before_first}
 use Rattle.std.proofs.lemmas.Str.Parse.{IsNumeralModel, numerals_by_value, parse_signed_plain, parse_signed_minus}
-use Rattle.ft_script.specs.Scripts.{is_digit, is_lower, is_letters, is_container_byte, is_container_name, is_thread_byte, is_thread_name, words_of}
-use Rattle.ft_script.specs.Texts.{quoted}
-use Rattle.ft_script.specs.Words.{is_positive, is_integer}
+use Rattle.ft_model.specs.Names.{is_digit, is_lower, is_container_byte, is_container_name, is_thread_byte, is_thread_name}
+use Rattle.ft_script.specs.Scripts.{is_letters, words_of}
+use Rattle.ft_script.specs.Texts.{quoted, escaped}
+use Rattle.ft_script.specs.Words.{is_positive, is_integer, between_marks}
 
 -- ---- cutting
 
@@ -122,21 +123,109 @@ integer_injective m n m_fits n_fits same = signed_decimal_injective m n m_fits.s
 
 -- ---- strings
 
+-- what stands for a byte: two bytes for four of them, and itself for any other
+record IsItself (b : ℕ) : Type 0 where
+  no_mark : b ≢ 34
+  no_slash : b ≢ 92
+  no_feed : b ≢ 10
+  no_tab : b ≢ 9
+  is : escaped b ≡ b ∷ []
+
+-- the byte that stands behind a backslash as this
+abbrev decoded : ℕ → ℕ
+decoded code = cond (eqb code 34) 34 (cond (eqb code 92) 92 (cond (eqb code 110) 10 9))
+
+abbrev IsEscaped : ℕ → Type 0
+IsEscaped b = (code : ℕ) × (escaped b ≡ 92 ∷ code ∷ []) × (decoded code ≡ b)
+
+escaping : (b : ℕ) → IsEscaped b ⊎ IsItself b
+escaping b =
+    elim (cases_eq b 34) [
+      | inl mark ↦ inl (34, rw mark refl, sym mark)
+      | inr no_mark ↦ elim (cases_eq b 92) [
+        | inl slash ↦ inl (92, rw slash refl, sym slash)
+        | inr no_slash ↦ elim (cases_eq b 10) [
+          | inl feed ↦ inl (110, rw feed refl, sym feed)
+          | inr no_feed ↦ elim (cases_eq b 9) [
+            | inl tab ↦ inl (116, rw tab refl, sym tab)
+            | inr no_tab ↦ inr (record {
+              no_mark = no_mark;
+              no_slash = no_slash;
+              no_feed = no_feed;
+              no_tab = no_tab;
+              is = rw (ne_eqb b 34 no_mark, ne_eqb b 92 no_slash, ne_eqb b 10 no_feed, ne_eqb b 9 no_tab) refl;
+            })
+          ]
+        ]
+      ]
+    ]
+
+-- letters stand as they are
+letters_escaped : (text : List ℕ) → list_all is_lower text ≡ true → flat_map escaped text ≡ text
+letters_escaped [] all = refl
+letters_escaped (b ∷ text) all =
+    let parts = and_parts _ _ all in
+    let low : 97 ≤ b = leb-true 97 b (and_parts _ _ parts.0).0 in
+    rw (ne_eqb b 34 (λ e. absurd (omega arith)), ne_eqb b 92 (λ e. absurd (omega arith)), ne_eqb b 10 (λ e. absurd (omega arith)), ne_eqb b 9 (λ e. absurd (omega arith)), letters_escaped text parts.1) refl
+
+pub quoted_letters : (text : List ℕ) → is_letters text ≡ true → quoted text ≡ between_marks text
+quoted_letters text letters = ap between_marks (letters_escaped text (and_parts _ _ letters).1)
+
+-- the same bytes stand for the same byte
+same_escaped : (b c : ℕ) (xs ys : List ℕ) → escaped b ++ xs ≡ escaped c ++ ys → (b ≡ c) × (xs ≡ ys)
+same_escaped b c xs ys same =
+    elim (escaping b) [
+      | inl x ↦ elim (escaping c) [
+        | inl y ↦
+            let e : 92 ∷ x.0 ∷ xs ≡ 92 ∷ y.0 ∷ ys = rw (x.1, y.1) at same in
+            let code : x.0 ≡ y.0 = cc in
+            let rest : xs ≡ ys = cc in
+            (sym x.2 ∙ ap decoded code ∙ y.2, rest)
+        | inr y ↦
+            let e : 92 ∷ x.0 ∷ xs ≡ c ∷ ys = rw (x.1, y.is) at same in
+            absurd (y.no_slash cc)
+      ]
+      | inr x ↦ elim (escaping c) [
+        | inl y ↦
+            let e : b ∷ xs ≡ 92 ∷ y.0 ∷ ys = rw (x.is, y.1) at same in
+            absurd (x.no_slash cc)
+        | inr y ↦
+            let e : b ∷ xs ≡ c ∷ ys = rw (x.is, y.is) at same in
+            (cc, cc)
+      ]
+    ]
+
+-- no byte of a string begins as the closing mark does
+no_mark_first : (b : ℕ) (xs ys : List ℕ) → escaped b ++ xs ≡ 34 ∷ ys → ⊥
+no_mark_first b xs ys same =
+    elim (escaping b) [
+      | inl x ↦ (let e : 92 ∷ x.0 ∷ xs ≡ 34 ∷ ys = rw x.1 at same in absurd cc)
+      | inr x ↦ (let e : b ∷ xs ≡ 34 ∷ ys = rw x.is at same in absurd (x.no_mark cc))
+    ]
+
+same_escapes : (s t : List ℕ) → flat_map escaped s ++ 34 ∷ [] ≡ flat_map escaped t ++ 34 ∷ [] → s ≡ t
+same_escapes [] [] same = refl
+same_escapes [] (c ∷ t) same = absurd (no_mark_first c (flat_map escaped t ++ 34 ∷ []) [] (sym (append_assoc (escaped c) (flat_map escaped t) (34 ∷ [])) ∙ sym same))
+same_escapes (b ∷ s) [] same = absurd (no_mark_first b (flat_map escaped s ++ 34 ∷ []) [] (sym (append_assoc (escaped b) (flat_map escaped s) (34 ∷ [])) ∙ same))
+same_escapes (b ∷ s) (c ∷ t) same =
+    let both = same_escaped b c (flat_map escaped s ++ 34 ∷ []) (flat_map escaped t ++ 34 ∷ []) (sym (append_assoc (escaped b) (flat_map escaped s) (34 ∷ [])) ∙ same ∙ append_assoc (escaped c) (flat_map escaped t) (34 ∷ [])) in
+    let rest : s ≡ t = same_escapes s t both.1 in
+    let first : b ≡ c = both.0 in
+    cc
+
 pub quoted_injective : (s t : List ℕ) → quoted s ≡ quoted t → s ≡ t
-quoted_injective s t same =
-    let e : s ++ 34 ∷ [] ≡ t ++ 34 ∷ [] = cc in
-    append_cancel_right s t (34 ∷ []) e
+quoted_injective s t same = same_escapes s t cc
 
 last_of : (text : List ℕ) (b d : ℕ) → get_or (text ++ b ∷ []) (length text) d ≡ b
 last_of [] b d = refl
 last_of (c ∷ text) b d = last_of text b d
 
--- the parts of a word that a quoted text is
-pub quoted_parts : (word text : List ℕ) → word ≡ quoted text → (length word ≡ length text + 2) × (get_or word 0 0 ≡ 34) × (get_or word (length word - 1) 0 ≡ 34) × (take (length word - 1 - 1) (drop 1 word) ≡ text)
+-- the parts of a word that a text between marks is
+pub quoted_parts : (word text : List ℕ) → word ≡ between_marks text → (length word ≡ length text + 2) × (get_or word 0 0 ≡ 34) × (get_or word (length word - 1) 0 ≡ 34) × (take (length word - 1 - 1) (drop 1 word) ≡ text)
 quoted_parts word text same =
-    let long : length (quoted text) ≡ length text + 2 = omega (arith, length-append text (34 ∷ [])) in
-    let last : length (quoted text) - 1 ≡ suc (length text) = omega arith in
-    let inner : length (quoted text) - 1 - 1 ≡ length text = omega arith in
+    let long : length (between_marks text) ≡ length text + 2 = omega (arith, length-append text (34 ∷ [])) in
+    let last : length (between_marks text) - 1 ≡ suc (length text) = omega arith in
+    let inner : length (between_marks text) - 1 - 1 ≡ length text = omega arith in
     rw same (long, refl, rw last (last_of text 34 0), rw inner (take-append_seam text (34 ∷ [])))
 
 pub is_letters-length : (text : List ℕ) (b : Bool) → 1 ≤ length text → length text ≤ 32 → b ≡ list_all is_lower text → b ≡ is_letters text

@@ -2,14 +2,13 @@
 use Rattle.std.specs.Prelude.{◌≡◌, ◌≢◌, ℕ, ◌<◌, ◌≤◌, true, List, [], ◌∷◌, ◌++◌, length, map, All, AllPairs, codes, slice_index_or, ◌⊎◌}
 use Rattle.std.specs.List.{flat_map}
 use Rattle.ft_model.specs.declared.data.Key.{Key}
-use Rattle.ft_model.specs.declared.data.Key.TheVariants as key
-use Rattle.ft_model.specs.declared.data.Value.{Value}
-use Rattle.ft_model.specs.declared.data.Value.TheVariants as value
 use Rattle.ft_model.specs.declared.call.Call.{Call}
-use Rattle.ft_model.specs.declared.call.Call.TheVariants.{DictGet, DictSet}
+use Rattle.ft_model.specs.declared.call.Call.TheVariants as call
+use Rattle.ft_model.specs.declared.call.DictCall.TheVariants as dict
 use Rattle.ft_script.specs.declared.fault.ScriptFault.{ScriptFault}
 use Rattle.ft_script.specs.Faults.{unknown_word, no_memory}
-use Rattle.ft_script.specs.Scripts.{words_of, lines_of, is_container_name, is_thread_name, is_letters, IsKeyIn, IsCallIn, key_mentions, call_mentions, IsNumbered}
+use Rattle.ft_model.specs.Names.{is_container_name, is_thread_name}
+use Rattle.ft_script.specs.Scripts.{words_of, lines_of, is_letters, IsKeyIn, IsCallIn, key_mentions, call_mentions, IsNumbered}
 use Rattle.ft_script.specs.Texts.{key_text, value_text}
 
 -- ---- strings
@@ -36,13 +35,9 @@ pub record Grows (old : List (List ℕ)) (syms : List ℕ) (new : List (List ℕ
 
 -- the words of a call of the dict of that name
 abbrev pub words_in : List ℕ → List (List ℕ) → Call → List (List ℕ)
-words_in name strings (DictGet dict key) = codes "get" ∷ name ∷ key_text strings key ∷ []
-words_in name strings (DictSet dict key value) = codes "set" ∷ name ∷ key_text strings key ∷ value_text strings value ∷ []
-
--- the value that is a key
-abbrev pub as_value : Key → Value
-as_value (key.Int n) = value.Int n
-as_value (key.Text sym) = value.Text sym
+words_in name strings (call.Dict place (dict.Get key)) = codes "get" ∷ name ∷ key_text strings key ∷ []
+words_in name strings (call.Dict place (dict.Set key value)) = codes "set" ∷ name ∷ key_text strings key ∷ value_text strings value ∷ []
+words_in name strings other = []
 
 pub record IsKeyRead (word : List ℕ) (key : Key) (old new : List (List ℕ)) : Type 0 where
   pub text : word ≡ key_text new key

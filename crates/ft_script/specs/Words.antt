@@ -1,9 +1,9 @@
 -- What cutting a line into words gives, and which words are integers.
-use Rattle.std.specs.Prelude.{◌≡◌, ◌≢◌, ◌==◌, ◌&&◌, ℕ, Bool, false, nat_le, List, [], ◌∷◌, length, Option, Some, None, if◌then◌else◌}
+use Rattle.std.specs.Prelude.{◌≡◌, ◌≢◌, ◌==◌, ◌&&◌, ℕ, Bool, false, nat_le, List, [], ◌∷◌, ◌++◌, length, Option, Some, None, if◌then◌else◌}
 use Rattle.std.specs.List.{slice_split, list_all}
 use Rattle.ft_script.specs.declared.words.Words.{Words}
 use Rattle.ft_script.specs.declared.words.Words.TheVariants.{Two, Three, Four, Other}
-use Rattle.ft_script.specs.Scripts.{is_digit}
+use Rattle.ft_model.specs.Names.{is_digit}
 
 -- the pieces of what stands behind a separator, where there is one
 abbrev pub rest_pieces : ℕ → Option (List ℕ) → List (List ℕ)
@@ -26,3 +26,7 @@ is_positive (b ∷ bytes) = nat_le 49 b && nat_le b 57 && list_all is_digit byte
 abbrev pub is_integer : List ℕ → Bool
 is_integer [] = false
 is_integer (b ∷ bytes) = if b == 48 then length bytes == 0 else (if b == 45 then is_positive bytes else is_positive (b ∷ bytes))
+
+-- a text between quotation marks, as it is
+abbrev pub between_marks : List ℕ → List ℕ
+between_marks text = 34 ∷ text ++ 34 ∷ []

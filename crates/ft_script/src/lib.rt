@@ -2,8 +2,10 @@
 #![tactic(auto)]
 
 mod fault;
+mod forms;
 mod parser;
 mod print;
+mod shown;
 mod strings;
 mod words;
 

@@ -1,7 +1,10 @@
 //! Reads scripts.
-ghost use Rattle.ft_script.specs.Calls.{AreCalls, HasHead, IsCallRead, IsKeyRead, IsNoCall, IsNoCalls, IsNoKey, Refuses, as_value, dict_line, thread_line};
+ghost use Rattle.ft_model.specs.Keys.{as_value};
+ghost use Rattle.ft_model.specs.Names.{is_container_name, is_thread_name};
+ghost use Rattle.ft_model.specs.declared.script.ScriptParts.{ScriptParts};
+ghost use Rattle.ft_script.specs.Calls.{AreCalls, HasHead, IsCallRead, IsKeyRead, IsNoCall, IsNoCalls, IsNoKey, Refuses, dict_line, thread_line};
 ghost use Rattle.ft_script.specs.Faults.{no_memory, unknown_word};
-ghost use Rattle.ft_script.specs.Scripts.{IsNoScript, IsTextOf, is_container_name, is_thread_name, without_last_feed, words_of};
+ghost use Rattle.ft_script.specs.Scripts.{IsNoScript, IsTextOf, plain_script, without_last_feed, words_of};
 ghost use Rattle.ft_script.specs.Words.{rest_pieces};
 ghost use Rattle.std.specs.Prelude.{◌≡◌, ◌≢◌, ◌+◌, ◌^◌, ◌<◌, ◌≤◌, ◌⊎◌, ℕ, List, [], ◌∷◌, codes, length, map, option_copied, true, IfErr, IfNone, IfOk, IfSome};
 
@@ -10,7 +13,9 @@ use crate::strings::Strings;
 use crate::words::{
     Words, cut, integer_of, is_container_name, is_thread_name, letters_of, words_of_line,
 };
-use ft_model::{Call, Declaration, Key, Kind, Script, Sequence, Sym, Text, Thread, Value};
+use ft_model::{
+    Call, Declaration, DictCall, Key, Kind, Script, ScriptParts, Sequence, Sym, Text, Thread, Value,
+};
 use std::alloc::{AllocError, Global};
 
 /// The most calls that a script may have.
@@ -32,7 +37,7 @@ const STRING_LIMIT: usize = 65_536;
 pub fn parse(alloc: Global, bytes: &[u8]) -> Result<Script, ScriptFault>
     // The bytes are the text of the script, and of no other.
     ensures found { IfOk result (λ script. IsTextOf bytes.now script) }
-    ensures only { IfOk result (λ script. (other : Script) → IsTextOf bytes.now other → other ≡ script) }
+    ensures only { IfOk result (λ script. (other : ScriptParts) → IsTextOf bytes.now other → other ≡ script) }
     // Every other text has one fault.
     ensures fault { IfErr result (λ fault. ((fault ≡ unknown_word) × IsNoScript bytes.now) ⊎ (fault ≡ no_memory)) }
 {
@@ -43,7 +48,7 @@ pub fn parse(alloc: Global, bytes: &[u8]) -> Result<Script, ScriptFault>
     if strings.len() > STRING_LIMIT {
         return Err(ScriptFault::UNKNOWN_WORD);
     }
-    Ok(make_script(alloc, &head, calls, strings)?)
+    Ok(Script::new(make_parts(alloc, &head, calls, strings)?))
 }
 
 /// What a script's first two lines say, and what stands below them.
@@ -150,7 +155,10 @@ fn read_get(key: &[u8], strings: &mut Strings) -> Result<Call, ScriptFault>
     ensures refused { IfErr result (λ fault. Refuses fault ((name : List ℕ) → IsNoCall name (codes "get" ∷ name ∷ key.now ∷ []))) }
 {
     let key = read_key(key, strings)?;
-    Ok(Call::DictGet { dict: 0, key })
+    Ok(Call::Dict {
+        container: 0,
+        call: DictCall::Get { key },
+    })
 }
 
 fn read_set(key: &[u8], value: &[u8], strings: &mut Strings) -> Result<Call, ScriptFault>
@@ -160,10 +168,9 @@ fn read_set(key: &[u8], value: &[u8], strings: &mut Strings) -> Result<Call, Scr
 {
     let key = read_key(key, strings)?;
     let value = as_value(read_key(value, strings)?);
-    Ok(Call::DictSet {
-        dict: 0,
-        key,
-        value,
+    Ok(Call::Dict {
+        container: 0,
+        call: DictCall::Set { key, value },
     })
 }
 
@@ -193,16 +200,20 @@ fn read_key(word: &[u8], strings: &mut Strings) -> Result<Key, ScriptFault>
     Ok(Key::Text(Sym(number)))
 }
 
-/// The script of one dict and one thread.
-fn make_script(
+/// How many tables a script has of each class, where it says nothing of them.
+const PLAIN_TABLES: [u32; 10] = [4; 10];
+
+/// How many places each heap has, where a script says nothing of them.
+const PLAIN_HEAP: u32 = 64;
+
+/// The parts of a script of one dict and one thread.
+fn make_parts(
     alloc: Global,
     head: &Head<'_>,
     calls: Vec<Call>,
     strings: Strings,
-) -> Result<Script, AllocError>
-    ensures containers { IfOk result (λ script. script.containers ≡ record { kind = Kind.Dict; name = head.now.dict.now } ∷ []) }
-    ensures threads { IfOk result (λ script. script.threads ≡ record { name = head.now.thread.now; calls = calls.items } ∷ []) }
-    ensures strings { IfOk result (λ script. script.strings ≡ strings) }
+) -> Result<ScriptParts, AllocError>
+    ensures { IfOk result (λ parts. parts ≡ plain_script head.now.dict.now head.now.thread.now calls.items strings) }
 {
     let dict = Declaration {
         kind: Kind::Dict,
@@ -210,12 +221,16 @@ fn make_script(
     };
     let thread = Thread {
         name: copy(alloc, head.thread)?,
+        cursors: Sequence::new(alloc),
         calls: Sequence::from_vec(calls),
     };
-    Ok(Script {
+    Ok(ScriptParts {
         containers: Sequence::from_vec(vec![in alloc; dict]?),
         threads: Sequence::from_vec(vec![in alloc; thread]?),
         strings: Sequence::from_vec(strings.into_texts()?),
+        tables: Sequence::from_vec(Vec::from_slice(alloc, &PLAIN_TABLES)?),
+        heap: PLAIN_HEAP,
+        order: Sequence::new(alloc),
     })
 }
 

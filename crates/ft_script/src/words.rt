@@ -1,7 +1,7 @@
 //! The words of a line, and what each kind of word says.
-ghost use Rattle.ft_script.specs.Scripts.{is_container_byte, is_container_name, is_letters, is_thread_byte, is_thread_name, words_of};
-ghost use Rattle.ft_script.specs.Texts.{quoted};
-ghost use Rattle.ft_script.specs.Words.{Shows, is_integer, is_positive, rest_pieces};
+ghost use Rattle.ft_model.specs.Names.{is_container_byte, is_container_name, is_thread_byte, is_thread_name};
+ghost use Rattle.ft_script.specs.Scripts.{is_letters, words_of};
+ghost use Rattle.ft_script.specs.Words.{Shows, between_marks, is_integer, is_positive, rest_pieces};
 ghost use Rattle.std.specs.Fmt.{signed_decimal};
 ghost use Rattle.std.specs.Int.{w64};
 ghost use Rattle.std.specs.List.{slice_split};
@@ -118,8 +118,8 @@ pub(crate) fn integer_of(word: &[u8]) -> Option<i64>
 
 /// The letters between the quotation marks.
 pub(crate) fn letters_of(word: &[u8]) -> Option<&[u8]>
-    ensures found { IfSome result (λ text. (word.now ≡ quoted text.now) × (is_letters text.now ≡ true)) }
-    ensures none { IfNone result ((text : List ℕ) → is_letters text ≡ true → word.now ≢ quoted text) }
+    ensures found { IfSome result (λ text. (word.now ≡ between_marks text.now) × (is_letters text.now ≡ true)) }
+    ensures none { IfNone result ((text : List ℕ) → is_letters text ≡ true → word.now ≢ between_marks text) }
 {
     match word {
         [b'"', text @ .., b'"'] if are_letters(text) => Some(text),

@@ -3,9 +3,10 @@ use super::*;
 /// Whether the text is a script of one dict and one thread with so many calls and strings.
 fn has(alloc: Global, text: &str, calls: usize, strings: usize) -> bool {
     parse(alloc, text.as_bytes()).is_ok_and(|script| {
-        script.containers.len() == 1
-            && script.strings.len() == strings
-            && matches!(script.threads.as_slice(), [thread] if thread.calls.len() == calls)
+        let parts = script.parts();
+        parts.containers.len() == 1
+            && parts.strings.len() == strings
+            && matches!(parts.threads.as_slice(), [thread] if thread.calls.len() == calls)
     })
 }
 

@@ -1,10 +1,11 @@
 ghost use Rattle.std.specs.Prelude.{◌≡◌, ◌∷◌, [], length, codes, IfOk};
-ghost use Rattle.ft_model.specs.Parts.{IsWorldOf};
+ghost use Rattle.ft_model.specs.Parts.{IsEntryOf};
+ghost use Rattle.ft_model.specs.declared.script.Kind.TheVariants as kind;
 
-use crate::print::{print_entry, print_world};
+use crate::print::{push_entry_line, push_world_lines};
 use ft_model::{
-    Call, Declaration, Entry, Hands, Key, Kind, Raise, Reply, Script, Sequence, Sym, Text, Thread,
-    Value, World, apply,
+    Call, Declaration, DictCall, Entry, Key, Kind, ListCall, Raise, Reply, ScriptParts, Sequence,
+    SetCall, Sym, Text, Thread, Value, World,
 };
 use std::alloc::{AllocError, Global};
 use std::test::Fail;
@@ -15,110 +16,133 @@ fn text(alloc: Global, bytes: &[u8]) -> Result<Text, AllocError>
     Ok(Sequence::from_vec(Vec::from_slice(alloc, bytes)?))
 }
 
-// A dict `d`, a thread `A`, and the string "a".
-fn sample_script(alloc: Global) -> Result<Script, AllocError>
-    ensures containers { IfOk result (λ script. script.containers ≡ record { kind = Kind.Dict; name = codes "d" } ∷ []) }
-    ensures threads { IfOk result (λ script. length script.threads ≡ 1) }
-    ensures strings { IfOk result (λ script. length script.strings ≡ 1) }
+// A dict `d`, a list `l`, a set `s`, a thread `A` with a cursor `c`, and a string of all that stands
+// behind a backslash.
+fn sample_parts(alloc: Global) -> Result<ScriptParts, AllocError>
+    ensures containers { IfOk result (λ parts. parts.containers ≡ record { kind = kind.Dict; name = codes "d" } ∷ record { kind = kind.List; name = codes "l" } ∷ record { kind = kind.Set; name = codes "s" } ∷ []) }
+    ensures threads { IfOk result (λ parts. parts.threads ≡ record { name = codes "A"; cursors = codes "c" ∷ []; calls = [] } ∷ []) }
+    ensures strings { IfOk result (λ parts. length parts.strings ≡ 1) }
 {
     let dict = Declaration {
         kind: Kind::Dict,
         name: text(alloc, b"d")?,
     };
+    let list = Declaration {
+        kind: Kind::List,
+        name: text(alloc, b"l")?,
+    };
+    let set = Declaration {
+        kind: Kind::Set,
+        name: text(alloc, b"s")?,
+    };
+    let cursor = text(alloc, b"c")?;
     let thread = Thread {
         name: text(alloc, b"A")?,
+        cursors: Sequence::from_vec(vec![in alloc; cursor]?),
         calls: Sequence::new(alloc),
     };
-    let string = text(alloc, b"a")?;
-    Ok(Script {
-        containers: Sequence::from_vec(vec![in alloc; dict]?),
+    let string = text(alloc, b"a\"\\\n\tz")?;
+    Ok(ScriptParts {
+        containers: Sequence::from_vec(vec![in alloc; dict, list, set]?),
         threads: Sequence::from_vec(vec![in alloc; thread]?),
         strings: Sequence::from_vec(vec![in alloc; string]?),
+        tables: Sequence::new(alloc),
+        heap: 64,
+        order: Sequence::new(alloc),
     })
 }
 
-// After `d["a"] = 1` and `d[-2] = None`.
-fn sample_world(alloc: Global, script: &Script) -> Result<World, AllocError>
-    requires containers { script.now.containers ≡ record { kind = Kind.Dict; name = codes "d" } ∷ [] }
-    requires strings { length script.now.strings ≡ 1 }
-    ensures { IfOk result (λ world. IsWorldOf script.now world) }
+const fn entry(index: u32, stamp: u64, wrote: bool, call: Call, reply: Reply) -> Entry
+    ensures { result ≡ record { thread = 0; index = index; stamp = stamp; wrote = wrote; call = call; reply = reply; waited = None } }
 {
-    let mut world = World::start(alloc, script.containers.as_slice())?;
-    let mut hands = Hands;
-    let first = Call::DictSet {
-        dict: 0,
-        key: Key::Text(Sym(0)),
-        value: Value::Int(1),
-    };
-    let second = Call::DictSet {
-        dict: 0,
-        key: Key::Int(-2),
-        value: Value::Nothing,
-    };
-    apply(&mut world, &mut hands, &first)?;
-    apply(&mut world, &mut hands, &second)?;
-    Ok(world)
+    Entry {
+        thread: 0,
+        index,
+        stamp,
+        wrote,
+        call,
+        reply,
+        waited: None,
+    }
+}
+
+// The line of an entry of the sample script.
+fn line(alloc: Global, parts: &ScriptParts, entry: &Entry) -> Result<Vec<u8>, AllocError>
+    requires { IsEntryOf parts.now entry.now }
+{
+    let mut text = Vec::new(alloc);
+    push_entry_line(&mut text, parts, entry)?;
+    Ok(text)
 }
 
 #[test]
 fn prints_entries(rt: HostRuntime) -> Result<(), Fail> {
-    let script = sample_script(rt.alloc())?;
-    let key = Key::Text(Sym(0));
-    let value = Value::Int(1);
-    let set = Entry {
-        thread: 0,
-        index: 1,
-        stamp: 0,
-        wrote: true,
-        call: Call::DictSet {
-            dict: 0,
-            key,
-            value,
+    let alloc = rt.alloc();
+    let parts = sample_parts(alloc)?;
+    let set = Call::Dict {
+        container: 0,
+        call: DictCall::Set {
+            key: Key::Text(Sym(0)),
+            value: Value::Nothing,
         },
-        reply: Reply::Done,
-        waited: None,
     };
-    let get = Entry {
-        thread: 0,
-        index: 2,
-        stamp: 1,
-        wrote: false,
-        call: Call::DictGet { dict: 0, key },
-        reply: Reply::Value(value),
-        waited: None,
-    };
-    let missing = Entry {
-        thread: 0,
-        index: 30,
-        stamp: 1,
-        wrote: false,
-        call: Call::DictGet {
-            dict: 0,
-            key: Key::Int(-17),
-        },
-        reply: Reply::Raised(Raise::NoKey),
-        waited: Some(0),
-    };
-    let line = print_entry(rt.alloc(), &script, &set)?;
-    assert_eq!(rt; line.as_slice(), b"A.1 w0 set d \"a\" 1 = ok\n".as_slice());
-    let line = print_entry(rt.alloc(), &script, &get)?;
-    assert_eq!(rt; line.as_slice(), b"A.2 r1 get d \"a\" = 1\n".as_slice());
-    let line = print_entry(rt.alloc(), &script, &missing)?;
+    let text = line(alloc, &parts, &entry(1, 0, true, set, Reply::Done))?;
     assert_eq!(rt;
-        line.as_slice(),
-        b"A.30 r1 get d -17 = KeyError waited A\n".as_slice()
+        text.as_slice(),
+        b"A.1 w0 set d \"a\\\"\\\\\\n\\tz\" None = ok\n".as_slice()
+    );
+
+    let slice = Call::List {
+        container: 1,
+        call: ListCall::Slice { start: -3, end: 9 },
+    };
+    let values = Sequence::from_vec(vec![in alloc; Value::Int(-1), Value::Nothing]?);
+    let text = line(
+        alloc,
+        &parts,
+        &entry(30, 1, false, slice, Reply::List(values)),
+    )?;
+    assert_eq!(rt;
+        text.as_slice(),
+        b"A.30 r1 slice l -3 9 = [-1, None]\n".as_slice()
+    );
+
+    let items = Call::Set {
+        container: 2,
+        call: SetCall::Items,
+    };
+    let none = Sequence::new(alloc);
+    let text = line(alloc, &parts, &entry(2, 7, false, items, Reply::Set(none)))?;
+    assert_eq!(rt; text.as_slice(), b"A.2 r7 items s = set()\n".as_slice());
+
+    let next = Call::Next { cursor: 0 };
+    let raised = Reply::Raised(Raise::Memory(12));
+    let text = line(alloc, &parts, &entry(3, 7, false, next, raised))?;
+    assert_eq!(rt;
+        text.as_slice(),
+        b"A.3 r7 next c = MemoryError 12\n".as_slice()
+    );
+
+    let begin = Call::Begin {
+        first: 2,
+        second: Some(0),
+    };
+    let mut entered = entry(4, 7, false, begin, Reply::Entered);
+    entered.waited = Some(0);
+    let text = line(alloc, &parts, &entered)?;
+    assert_eq!(rt;
+        text.as_slice(),
+        b"A.4 r7 begin s d = entered waited A\n".as_slice()
     );
     Ok(())
 }
 
 #[test]
 fn prints_worlds(rt: HostRuntime) -> Result<(), Fail> {
-    let script = sample_script(rt.alloc())?;
-    let world = World::start(rt.alloc(), script.containers.as_slice())?;
-    let text = print_world(rt.alloc(), &script, &world)?;
-    assert_eq!(rt; text.as_slice(), b"d = {}\n".as_slice());
-    let world = sample_world(rt.alloc(), &script)?;
-    let text = print_world(rt.alloc(), &script, &world)?;
-    assert_eq!(rt; text.as_slice(), b"d = {\"a\": 1, -2: None}\n".as_slice());
+    let parts = sample_parts(rt.alloc())?;
+    let world = World::start(rt.alloc(), parts.containers.as_slice())?;
+    let mut text = Vec::new(rt.alloc());
+    push_world_lines(&mut text, &parts, &world)?;
+    assert_eq!(rt; text.as_slice(), b"d = {}\nl = []\ns = set()\n".as_slice());
     Ok(())
 }

@@ -2,7 +2,7 @@ use Rattle.std.proofs.Common.{◌≡◌, ◌≤◌, length, rules, tests}
 use Rattle.std.proofs.lemmas.Iterator.{YieldsList-from_slice}
 use Rattle.std.proofs.lemmas.Iterator.Search.{all_from_yields_List}
 use Rattle.std.specs.List.{list_all}
-use Rattle.ft_script.specs.Scripts.{is_lower}
+use Rattle.ft_model.specs.Names.{is_lower}
 use Rattle.ft_script.proofs.WordLemmas.{is_letters-length}
 use Rattle.ft_script.proofs.words.are_letters.Goals as goal
 

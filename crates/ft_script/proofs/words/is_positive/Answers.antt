@@ -2,7 +2,7 @@ use Rattle.std.proofs.Common.{◌≡◌, ◌-◌, length, take, drop, arith, rul
 use Rattle.std.proofs.lemmas.Iterator.{YieldsList-from_slice}
 use Rattle.std.proofs.lemmas.Iterator.Search.{all_from_yields_List}
 use Rattle.std.specs.List.{list_all}
-use Rattle.ft_script.specs.Scripts.{is_digit}
+use Rattle.ft_model.specs.Names.{is_digit}
 use Rattle.ft_script.proofs.WordLemmas.{is_positive-rest}
 use Rattle.ft_script.proofs.words.is_positive.Goals as goal
 

@@ -1,5 +1,5 @@
 use Rattle.ft_script.proofs.Printed.{entry_line-pieces}
-use Rattle.ft_script.proofs.print.push_entry.Goals as goal
+use Rattle.ft_script.proofs.print.push_entry_line.Goals as goal
 
 pub returns : goal.returns
 returns c =

@@ -2,7 +2,7 @@ use Rattle.std.proofs.Common.{◌∙◌, ◌++◌, List, ℕ, ap}
 use Rattle.std.proofs.lemmas.List.{length_push}
 use Rattle.std.proofs.lemmas.Slice.Zip.{zip_turn, zip_end}
 use Rattle.ft_script.proofs.Printed.{first_lines-more, first_lines-all}
-use Rattle.ft_script.proofs.print.push_world.Goals as goal
+use Rattle.ft_script.proofs.print.push_world_lines.Goals as goal
 
 pub loop-container-preserved : goal.loop-container-preserved
 loop-container-preserved c =

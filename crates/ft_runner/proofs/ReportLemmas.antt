@@ -3,12 +3,13 @@ use Rattle.std.proofs.Common.{◌≡◌, ℕ, Bool, true, false, not, List, [], 
 use Rattle.std.proofs.lemmas.Bool.{le-ltb, false≢true}
 use Rattle.ft_io.specs.declared.source.Failed.{Failed}
 use Rattle.ft_model.specs.declared.entry.Entry.{Entry}
+use Rattle.ft_model.specs.declared.entry.Storage.TheVariants as storage
 use Rattle.ft_runner.specs.declared.report.Fault.{Fault}
 use Rattle.ft_runner.specs.declared.report.Fault.TheVariants as fault
 use Rattle.ft_runner.specs.Reports.{Stream, Gives, Receives, IsPart, Puts, Told, StopsReading, IsWholeInput, is_turns, is_usage, is_read, is_too_long, comes_of_text, IsHistoryOf, IsRunOf, IsDone}
 use Rattle.std.specs.List.{flat_map}
 use Rattle.ft_model.specs.declared.content.Content.{Content}
-use Rattle.ft_model.specs.declared.script.Script.{Script}
+use Rattle.ft_model.specs.declared.script.ScriptParts.{ScriptParts}
 use Rattle.ft_model.specs.Histories.{writes, world_at, IsLegal}
 use Rattle.ft_script.specs.Scripts.{IsTextOf}
 use Rattle.ft_script.specs.Texts.{entry_line, world_text}
@@ -91,7 +92,7 @@ usage_done words source sink others = record {
 
 -- ---- a text that is written in part
 
-module _ (bytes : List ℕ) (script : Script) (history : List Entry) (world : List Content) (read : IsTextOf bytes script) (legal : IsLegal script history) (last : world ≡ world_at script history (length (writes history))) where
+module _ (bytes : List ℕ) (script : ScriptParts) (history : List Entry) (world : List Content) (read : IsTextOf bytes script) (legal : IsLegal storage.Plain script history) (last : world ≡ world_at script history (length (writes history))) where
   abbrev text : List ℕ
   text = flat_map (entry_line script) history ++ world_text script world
 

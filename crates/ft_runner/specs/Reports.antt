@@ -6,7 +6,8 @@ use Rattle.std.specs.Fmt.{decimal}
 use Rattle.std.specs.Str.{bytes_eq}
 use Rattle.ft_io.specs.Streams.{raised, behind, added}
 use Rattle.ft_model.specs.declared.entry.Entry.{Entry}
-use Rattle.ft_model.specs.declared.script.Script.{Script}
+use Rattle.ft_model.specs.declared.entry.Storage.TheVariants as storage
+use Rattle.ft_model.specs.declared.script.ScriptParts.{ScriptParts}
 use Rattle.ft_model.specs.Histories.{IsLegal}
 use Rattle.ft_script.specs.Scripts.{IsTextOf, IsNoScript}
 use Rattle.ft_script.specs.Texts.{transcript}
@@ -162,9 +163,9 @@ Told before text after = Receives before text false after ⊎ IsPart before text
 
 -- the history is one of the script that the bytes stand for, and this is its text
 pub record IsHistoryOf (bytes : List ℕ) (history : List Entry) (text : List ℕ) : Type 0 where
-  pub script : Script
+  pub script : ScriptParts
   pub read : IsTextOf bytes script
-  pub legal : IsLegal script history
+  pub legal : IsLegal storage.Plain script history
   pub written : text ≡ transcript script history
 
 -- what a fault says of the bytes that came, of the history, and of the bytes that were put

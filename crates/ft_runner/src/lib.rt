@@ -1,6 +1,7 @@
 //! The tool: a script is read, run and written.
 #![tactic(auto)]
 
+mod chronicles;
 mod errors;
 mod reading;
 mod report;
@@ -10,5 +11,6 @@ mod tool;
 mod turns;
 mod writing;
 
+pub use chronicles::turns_make_a_chronicle;
 pub use report::{Fault, Report};
 pub use tool::{Gate, NoGate, run_still, run_tool};

@@ -2,6 +2,7 @@
 #![tactic(auto)]
 
 mod memory;
+mod quiet;
 mod sink;
 mod source;
 mod standard;
@@ -9,6 +10,7 @@ mod standard;
 mod tests;
 
 pub use memory::{MemSink, MemSource};
+pub use quiet::{QuietSink, QuietSource};
 pub use sink::Sink;
 pub use source::{Failed, Source};
 pub use standard::{StdSink, StdSource};

@@ -1,6 +1,6 @@
 ghost use Rattle.std.specs.Prelude.{◌≤◌, IfOk};
 
-use crate::{MemSink, MemSource, Sink, Source, StdSink, StdSource};
+use crate::{MemSink, MemSource, QuietSink, QuietSource, Sink, Source, StdSink, StdSource};
 use std::io::{self, Cursor, ErrorKind, Read, Write};
 use std::process::Abort;
 use std::test::Fail;
@@ -69,6 +69,18 @@ fn a_sink_over_memory_fails_when_told_and_when_full(rt: HostRuntime) -> Result<(
     check_puts(&rt, &mut sink, &wanted);
     assert_eq!(rt; sink.bytes(), b"abcde".as_slice());
     assert_eq!(rt; sink.faults(), 3);
+    Ok(())
+}
+
+#[test]
+fn quiet_streams_never_fail(rt: HostRuntime) -> Result<(), Fail> {
+    let mut source = QuietSource::new(b"abcdef".to_vec(rt.alloc())?);
+    assert_eq!(rt; source.take(&mut []), Ok(0));
+    let taken: [Option<&[u8]>; 3] = [Some(b"abcd"), Some(b"ef"), Some(b"")];
+    check_takes(&rt, &mut source, &taken);
+
+    let put: [(&[u8], Option<usize>); 3] = [(b"abcdef", Some(6)), (b"", Some(0)), (b"g", Some(1))];
+    check_puts(&rt, &mut QuietSink::new(), &put);
     Ok(())
 }
 

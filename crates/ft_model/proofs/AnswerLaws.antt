@@ -1,16 +1,12 @@
 -- What the answer to a call leaves of the world and the hands.
-use Rattle.std.proofs.Common.{◌≡◌, ◌≢◌, ℕ, suc, zero, ◌<◌, Bool, true, false, not, IsTrue, List, [], ◌∷◌, length, map, get_or, set, Option, Some, None, refl, sym, ap, ◌∙◌, arith, inl, inr}
-use Rattle.std.specs.Prelude.{◌-◌, ◌&&◌, ◌==◌, negsuc, unwrap_or, Contains, slice_get, if◌then◌else◌}
+use Rattle.std.proofs.Common.{◌≡◌, ◌≢◌, ℕ, suc, zero, Bool, true, false, List, [], ◌∷◌, length, map, get_or, set, Option, Some, None, refl, sym, ap, ◌∙◌, arith, inl, inr}
+use Rattle.std.specs.Prelude.{◌-◌, ◌==◌, negsuc, unwrap_or, Contains, slice_get, if◌then◌else◌}
 use Rattle.std.specs.Option.{option_map_or}
 use Rattle.std.proofs.lemmas.Bool.{false≢true}
 use Rattle.std.proofs.lemmas.Bool.Decides.{eqb_tells}
 use Rattle.std.proofs.Math.Seq.{map-set_same}
-use Rattle.ft_model.specs.declared.data.Key.{Key}
 use Rattle.ft_model.specs.declared.data.Value.{Value}
 use Rattle.ft_model.specs.declared.content.Content.{Content}
-use Rattle.ft_model.specs.declared.content.Content.TheVariants as content
-use Rattle.ft_model.specs.declared.content.DictPair.{DictPair}
-use Rattle.ft_model.specs.declared.content.Element.{Element}
 use Rattle.ft_model.specs.declared.cursor.Cursor.{Cursor}
 use Rattle.ft_model.specs.declared.call.Call.{Call}
 use Rattle.ft_model.specs.declared.call.Call.TheVariants as call
@@ -27,7 +23,7 @@ use Rattle.ft_model.specs.Calls.{is_changing, one_or_two, containers_of, moved_c
 use Rattle.ft_model.specs.Contents.{DictContent, SetContent, dict_get, has_key, has_element}
 use Rattle.ft_model.specs.Lists.{index_in, index_of}
 use Rattle.ft_model.specs.Worlds.{WorldContent, HandsContent, IsOfKind, IsNamed, IsDeclared, kind_of, cursor_at, dict_at, list_at, set_at}
-use Rattle.ft_model.specs.Answers.{Answer, shows, puts, moves, answer_dict, answer_list, answer_set, cursor_step, answer, is_raised, is_write}
+use Rattle.ft_model.specs.Answers.{Answer, shows, puts, moves, answer_dict, answer_list, answer_set, answer, is_raised, is_write}
 
 -- an answer leaves all as it was, or it is a write that puts a content of the same kind in place of a container that the call names, or it moves the call's cursor
 data Shape (world : WorldContent) (hands : HandsContent) (named : Call) (answered : Answer) : Type 0 where

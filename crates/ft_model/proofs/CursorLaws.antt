@@ -1,10 +1,9 @@
 -- What a walk by `next` keeps to.
-use Rattle.std.proofs.Common.{◌≡◌, ℕ, suc, ◌+◌, ◌-◌, Bool, true, false, List, [], ◌∷◌, length, Option, Some, None, refl, sym, ap, ◌∙◌}
+use Rattle.std.proofs.Common.{◌≡◌, ℕ, Bool, true, false, List, [], ◌∷◌, length, Option, Some, None, refl, sym, ap, ◌∙◌}
 use Rattle.std.specs.Prelude.{◌==◌, slice_get}
 use Rattle.std.specs.List.{find}
 use Rattle.std.proofs.lemmas.Bool.{false≢true}
 use Rattle.ft_model.specs.declared.data.Value.{Value}
-use Rattle.ft_model.specs.declared.reply.Reply.{Reply}
 use Rattle.ft_model.specs.declared.reply.Reply.TheVariants as reply
 use Rattle.ft_model.specs.declared.content.DictPair.{DictPair}
 use Rattle.ft_model.specs.declared.content.Element.{Element}
@@ -12,7 +11,7 @@ use Rattle.ft_model.specs.declared.cursor.Cursor.{Cursor}
 use Rattle.ft_model.specs.declared.cursor.Cursor.TheVariants as cursor
 use Rattle.ft_model.specs.declared.cursor.Walk.{Walk}
 use Rattle.ft_model.specs.declared.cursor.Walk.TheVariants as walk
-use Rattle.ft_model.specs.Cursors.{CursorStep, is_behind, next_pair, next_element, dict_walk, dict_next, set_walk, set_next, list_walk, list_next, is_given, has_size, is_ended, GoesOn}
+use Rattle.ft_model.specs.Cursors.{is_behind, next_pair, next_element, dict_walk, dict_next, set_walk, set_next, list_walk, is_given, has_size, is_ended, GoesOn}
 use Rattle.ft_model.specs.Worlds.{WorldContent, dict_at, list_at, set_at}
 use Rattle.ft_model.specs.Answers.{cursor_step, walked_length}
 

@@ -1,5 +1,5 @@
 -- What a reader sees of a dict after `d[k] = v`: the laws of `dict_set`.
-use Rattle.std.proofs.Common.{◌≡◌, ◌≢◌, ℕ, suc, zero, ◌+◌, ◌<◌, ◌≤◌, length, get_or, None, arith, true, false, IsTrue, List, [], ◌∷◌, ◌++◌, map, Some, refl, sym, ap, ◌∙◌}
+use Rattle.std.proofs.Common.{◌≡◌, ◌≢◌, ℕ, suc, zero, ◌+◌, ◌≤◌, length, None, arith, true, false, IsTrue, List, [], ◌∷◌, ◌++◌, map, Some, refl, sym, ap, ◌∙◌}
 use Rattle.std.specs.Prelude.{AllPairs, All, not, filter}
 use Rattle.std.specs.Option.{option_or}
 use Rattle.std.proofs.lemmas.Bool.{false≢true}
@@ -7,7 +7,7 @@ use Rattle.ft_model.specs.declared.data.Key.{Key}
 use Rattle.ft_model.specs.declared.data.Value.{Value}
 use Rattle.ft_model.specs.declared.content.DictPair.{DictPair}
 use Rattle.ft_model.specs.Keys.{same_key}
-use Rattle.ft_model.specs.Contents.{DictContent, is_at, dict_get, has_key, IsDict, with_value, dict_set, dict_del, dict_update, dict_copy, pairs_from, KeepsPlaces, GoesLast}
+use Rattle.ft_model.specs.Contents.{DictContent, is_at, dict_get, has_key, with_value, dict_set, dict_del, dict_update, dict_copy, pairs_from, KeepsPlaces, GoesLast}
 use Rattle.ft_model.specs.Answers.{items_of}
 use Rattle.ft_model.proofs.KeyLemmas.{same_key-true, same_key-refl}
 use Rattle.ft_model.proofs.Copies.{length-pairs_from, get-pairs_from}
@@ -137,10 +137,10 @@ del_others dict key other differ = get-filter-other dict.pairs key other differ
 -- ---- `d.update(e)`
 
 -- keys that no other pair has
-distinct_tail : (pair : DictPair) (pairs : List DictPair) → AllPairs (λ a b. a.key ≢ b.key) (pair ∷ pairs) → AllPairs (λ a b. a.key ≢ b.key) pairs
+pub distinct_tail : (pair : DictPair) (pairs : List DictPair) → AllPairs (λ a b. a.key ≢ b.key) (pair ∷ pairs) → AllPairs (λ a b. a.key ≢ b.key) pairs
 distinct_tail pair pairs distinct = λ i j d lt within. distinct (suc i) (suc j) d (omega arith) (omega arith)
 
-absent_in : (pairs : List DictPair) (key : Key) → All (λ pair. key ≢ pair.key) pairs → dict_get pairs key ≡ None
+pub absent_in : (pairs : List DictPair) (key : Key) → All (λ pair. key ≢ pair.key) pairs → dict_get pairs key ≡ None
 absent_in [] key each = refl
 absent_in (pair ∷ pairs) key each =
     let past : is_at key pair ≡ false = is_at-other pair.key key (each zero pair (omega arith)) in

@@ -1,6 +1,6 @@
 -- What a dict has after a call.
 use Rattle.std.proofs.Common.{◌≡◌, ◌≢◌, ℕ, ◌+◌, ◌<◌, true, false, List, [], ◌∷◌, ◌++◌, length, get_or, set, Some, None, refl, sym, ap, ◌∙◌, arith, inl, inr, position, ltb}
-use Rattle.std.specs.Prelude.{AllPairs, All, Bool, not, ◌||◌, filter, pos, if◌then◌else◌}
+use Rattle.std.specs.Prelude.{AllPairs, All, Bool, not, filter, pos, if◌then◌else◌}
 use Rattle.std.specs.List.{position_or_len}
 use Rattle.std.proofs.lemmas.Bool.{cases_eq, cases_lt, lt-ltb, false≢true}
 use Rattle.std.proofs.lemmas.List.{same_lists, get_or-map, get_or-set_same, get_or-set_other, length-map, length-set, get_or_default, get_or_read}

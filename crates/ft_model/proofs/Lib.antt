@@ -1,6 +1,8 @@
 pub mod KeyLemmas
+pub mod ValueLemmas
 pub mod Dicts
 pub mod DictLaws
+pub mod EqualDicts
 pub mod Copies
 pub mod Sets
 pub mod Places

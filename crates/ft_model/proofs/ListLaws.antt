@@ -1,5 +1,5 @@
 -- What a slice of a list has, and where the items of a list stand after `insert`.
-use Rattle.std.proofs.Common.{◌≡◌, ℕ, suc, zero, ◌+◌, ◌-◌, ◌<◌, ◌≤◌, List, [], ◌∷◌, ◌++◌, length, take, drop, min, Some, None, refl, sym, ap, ◌∙◌, arith}
+use Rattle.std.proofs.Common.{◌≡◌, ℕ, suc, zero, ◌+◌, ◌-◌, ◌<◌, ◌≤◌, List, [], ◌∷◌, length, take, drop, Some, refl, ap, ◌∙◌, arith}
 use Rattle.std.specs.Prelude.{slice_get, ℤ, pos, negsuc}
 use Rattle.std.specs.List.{insert}
 use Rattle.std.proofs.lemmas.List.{length-take, length-drop}

@@ -1,12 +1,12 @@
 -- Which elements sets have after a call: the laws of the set operations.
-use Rattle.std.proofs.Common.{◌≡◌, ◌≢◌, ℕ, ◌+◌, Bool, true, false, not, List, [], ◌∷◌, ◌++◌, refl, sym, ap, ◌∙◌}
+use Rattle.std.proofs.Common.{◌≡◌, ℕ, ◌+◌, Bool, true, false, not, List, [], ◌∷◌, ◌++◌, refl, sym, ap, ◌∙◌}
 use Rattle.std.specs.Prelude.{◌&&◌, ◌||◌, filter, IsTrue, ◌↔◌}
-use Rattle.std.specs.List.{list_any, list_all}
-use Rattle.std.proofs.lemmas.Bool.{false≢true}
+use Rattle.std.specs.Cmp.{both_ways}
+use Rattle.std.proofs.lemmas.Bool.{false≢true, and_parts}
 use Rattle.ft_model.specs.declared.data.Key.{Key}
 use Rattle.ft_model.specs.declared.content.Element.{Element}
 use Rattle.ft_model.specs.Keys.{same_key}
-use Rattle.ft_model.specs.Contents.{SetContent, has_element, those_in, those_not_in, elements_from, set_add, set_discard, set_or, set_and, set_sub, set_xor, is_subset, same_elements, is_disjoint}
+use Rattle.ft_model.specs.Contents.{SetContent, has_element, those_not_in, elements_from, set_add, set_discard, set_or, set_and, set_sub, set_xor, is_subset, same_elements, is_disjoint}
 use Rattle.ft_model.proofs.KeyLemmas.{same_key-true, same_key-refl}
 
 and_false : (b : Bool) → (b && false) ≡ false
@@ -113,19 +113,9 @@ subset-from (element ∷ elements) others each =
 pub subset_members : (elements others : List Element) → IsTrue (is_subset elements others) ↔ ((key : Key) → IsTrue (has_element elements key) → IsTrue (has_element others key))
 subset_members elements others = (subset-to elements others, subset-from elements others)
 
-both : (a b : Bool) → (a && b) ≡ true → (a ≡ true) × (b ≡ true)
-both true true h = (refl, refl)
-both true false h = absurd (false≢true h)
-both false b h = absurd (false≢true h)
-
-same_bools : (a b : Bool) → (a ≡ true → b ≡ true) → (b ≡ true → a ≡ true) → a ≡ b
-same_bools true b there back = sym (there refl)
-same_bools false true there back = back refl
-same_bools false false there back = refl
-
 pub equals_members : (elements others : List Element) → IsTrue (same_elements elements others) ↔ ((key : Key) → has_element elements key ≡ has_element others key)
 equals_members elements others = (
-  λ same. let parts = both (is_subset elements others) (is_subset others elements) same in λ key. same_bools _ _ (subset-to elements others parts.0 key) (subset-to others elements parts.1 key),
+  λ same. let parts = and_parts (is_subset elements others) (is_subset others elements) same in λ key. both_ways _ _ (subset-to elements others parts.0 key) (subset-to others elements parts.1 key),
   λ each. let first : is_subset elements others ≡ true = subset-from elements others (λ key there. sym (each key) ∙ there) in let second : is_subset others elements ≡ true = subset-from others elements (λ key there. each key ∙ there) in simp (first, second),
 )
 

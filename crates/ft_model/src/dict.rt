@@ -1,8 +1,8 @@
-ghost use Rattle.std.specs.Prelude.{◌≡◌, ◌≢◌, ℕ, ◌+◌, ◌-◌, ◌^◌, ◌<◌, ◌≤◌, ◌==◌, None, length, slice_get, IsTrue, IfSome, OnSome, IfNone, All, Any, IfOk, OnOk, OnErr, Some, position, false};
+ghost use Rattle.std.specs.Prelude.{◌≡◌, ◌≢◌, ◌↔◌, ℕ, ◌+◌, ◌-◌, ◌^◌, ◌<◌, ◌≤◌, ◌==◌, None, length, slice_get, IsTrue, IfSome, OnSome, IfNone, All, Any, IfOk, OnOk, OnErr, Some, position, false};
 ghost use Rattle.std.specs.Option.{unwrap_or, option_or};
 ghost use Rattle.std.specs.List.{list_all};
 ghost use Rattle.ft_model.specs.Keys.{same_key};
-ghost use Rattle.ft_model.specs.Contents.{has_pair, pairs_from};
+ghost use Rattle.ft_model.specs.Contents.{has_pair, same_pairs, pairs_from};
 
 use crate::content::DictPair;
 use crate::data::{Key, Value};
@@ -31,7 +31,7 @@ impl Model for Dict {
 impl Dict {
     ghost use Rattle.ft_model.specs.declared.data.Key.{Key};
     ghost use Rattle.ft_model.specs.Contents.{empty_dict, IsDict, dict_get, has_key, dict_set, dict_del, dict_clear};
-    ghost use Rattle.ft_model.specs.Contents.{dict_update, dict_copy, same_pairs, KeepsPlaces, GoesLast};
+    ghost use Rattle.ft_model.specs.Contents.{dict_update, dict_copy, KeepsPlaces, GoesLast};
     ghost use Rattle.ft_model.specs.Answers.{without_last, items_of};
 
     /// `{}`: an empty dict, which takes no memory.
@@ -103,9 +103,10 @@ impl Dict {
     /// `d == e`: the same keys with equal values, in any order (Python manual, Mapping Types). It
     /// looks each pair of one up in the other, so its time is the product of the lengths.
     pub fn equals(&self, other: &Dict) -> bool
-        ensures { result ≡ same_pairs self.now.pairs other.now.pairs }
+        ensures answer { result ≡ same_pairs self.now.pairs other.now.pairs }
+        ensures reads { IsTrue result ↔ ((key : Key) → dict_get self.now.pairs key ≡ dict_get other.now.pairs key) }
     {
-        has_pairs(&other.pairs, &self.pairs) && has_pairs(&self.pairs, &other.pairs)
+        same_pairs(&self.pairs, &other.pairs)
     }
 
     /// A dict with the same pairs and the same next serial. An `Err` says that memory ran out.
@@ -251,6 +252,13 @@ impl Dict {
     {
         self.pairs.clear();
     }
+}
+
+/// Whether they are the same keys with equal values, in any order.
+fn same_pairs(pairs: &[DictPair], others: &[DictPair]) -> bool
+    ensures { result ≡ same_pairs pairs.now others.now }
+{
+    has_pairs(others, pairs) && has_pairs(pairs, others)
 }
 
 /// Whether each of the pairs stands, with an equal value, in the others.

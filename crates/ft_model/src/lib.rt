@@ -13,6 +13,7 @@ mod data;
 mod dict;
 mod dict_calls;
 mod entry;
+mod indexed;
 mod list;
 mod list_calls;
 mod reply;

@@ -4,6 +4,7 @@ ghost use Rattle.ft_model.specs.Contents.{has_element, elements_from, those_not_
 
 use crate::content::Element;
 use crate::data::Key;
+use crate::indexed::Indexed;
 use std::alloc::{AllocError, Global};
 use std::marker::Model;
 
@@ -75,35 +76,37 @@ impl Set {
     pub fn has(&self, key: Key) -> bool
         ensures { result ≡ has_element self.now.elements key }
     {
-        has(&self.elements, key)
+        self.elements.iter().any(|element| element.key == key)
     }
 
-    /// `s <= t` (Python manual, Set Types). It looks each element up in the other, as do all calls
-    /// on two sets, so its time is the product of the lengths.
-    pub fn is_subset(&self, other: &Set) -> bool
-        ensures answer { result ≡ is_subset self.now.elements other.now.elements }
-        ensures members { IsTrue result ↔ ((key : Key) →
-            IsTrue (has_element self.now.elements key) → IsTrue (has_element other.now.elements key)) }
+    /// `s <= t` (Python manual, Set Types). As every call on two sets, it looks the elements up in a
+    /// hash table, so its time is the sum of the lengths. An `Err` says that memory for the table
+    /// ran out.
+    pub fn is_subset(&self, alloc: Global, other: &Set) -> Result<bool, AllocError>
+        ensures answer { IfOk result (λ is. is ≡ is_subset self.now.elements other.now.elements) }
+        ensures members { IfOk result (λ is. IsTrue is ↔ ((key : Key) →
+            IsTrue (has_element self.now.elements key) → IsTrue (has_element other.now.elements key))) }
     {
-        are_among(&other.elements, &self.elements)
+        are_among(alloc, &other.elements, &self.elements)
     }
 
-    /// `s == t`: the same elements, in any order (Python manual, Set Types).
-    pub fn equals(&self, other: &Set) -> bool
-        ensures answer { result ≡ same_elements self.now.elements other.now.elements }
-        ensures members { IsTrue result ↔ ((key : Key) →
-            has_element self.now.elements key ≡ has_element other.now.elements key) }
+    /// `s == t`: the same elements, in any order (Python manual, Set Types). An `Err` says that
+    /// memory ran out.
+    pub fn equals(&self, alloc: Global, other: &Set) -> Result<bool, AllocError>
+        ensures answer { IfOk result (λ same. same ≡ same_elements self.now.elements other.now.elements) }
+        ensures members { IfOk result (λ same. IsTrue same ↔ ((key : Key) →
+            has_element self.now.elements key ≡ has_element other.now.elements key)) }
     {
-        same_elements(&self.elements, &other.elements)
+        same_elements(alloc, &self.elements, &other.elements)
     }
 
-    /// `s.isdisjoint(t)` (Python manual, Set Types).
-    pub fn is_disjoint(&self, other: &Set) -> bool
-        ensures answer { result ≡ is_disjoint self.now.elements other.now.elements }
-        ensures members { IsTrue result ↔ ((key : Key) →
-            IsTrue (has_element self.now.elements key) → has_element other.now.elements key ≡ false) }
+    /// `s.isdisjoint(t)` (Python manual, Set Types). An `Err` says that memory ran out.
+    pub fn is_disjoint(&self, alloc: Global, other: &Set) -> Result<bool, AllocError>
+        ensures answer { IfOk result (λ is. is ≡ is_disjoint self.now.elements other.now.elements) }
+        ensures members { IfOk result (λ is. IsTrue is ↔ ((key : Key) →
+            IsTrue (has_element self.now.elements key) → has_element other.now.elements key ≡ false)) }
     {
-        are_disjoint(&self.elements, &other.elements)
+        are_disjoint(alloc, &self.elements, &other.elements)
     }
 
     /// A set with the same elements and the same next serial. An `Err` says that memory ran out.
@@ -185,24 +188,48 @@ impl Set {
         Ok(())
     }
 
-    /// `s &= t`: keeps the elements that the other has, as they were (Python manual, Set Types).
-    pub fn and(&mut self, other: &Set)
-        ensures set { self.new ≡ set_and self.old other.now.elements }
-        ensures members { (key : Key) → has_element self.new.elements key ≡
-            (has_element self.old.elements key && has_element other.now.elements key) }
+    /// `s &= t`: keeps the elements that the other has, as they were (Python manual, Set Types). An
+    /// `Err` changes nothing.
+    pub fn and(&mut self, alloc: Global, other: &Set) -> Result<(), AllocError>
+        ensures ok { OnOk result (self.new ≡ set_and self.old other.now.elements) }
+        ensures err { OnErr result (self.new ≡ self.old) }
+        ensures members { OnOk result ((key : Key) → has_element self.new.elements key ≡
+            (has_element self.old.elements key && has_element other.now.elements key)) }
     {
-        self.elements
-            .retain(|element| has(&other.elements, element.key));
+        let others = Indexed::new(alloc, &other.elements)?;
+        self.keep_common(&others);
+        Ok(())
     }
 
     /// `s -= t`: keeps the elements that the other hasn't, as they were (Python manual, Set Types).
-    pub fn sub(&mut self, other: &Set)
-        ensures set { self.new ≡ set_sub self.old other.now.elements }
-        ensures members { (key : Key) → has_element self.new.elements key ≡
-            (has_element self.old.elements key && not (has_element other.now.elements key)) }
+    /// An `Err` changes nothing.
+    pub fn sub(&mut self, alloc: Global, other: &Set) -> Result<(), AllocError>
+        ensures ok { OnOk result (self.new ≡ set_sub self.old other.now.elements) }
+        ensures err { OnErr result (self.new ≡ self.old) }
+        ensures members { OnOk result ((key : Key) → has_element self.new.elements key ≡
+            (has_element self.old.elements key && not (has_element other.now.elements key))) }
     {
-        self.elements
-            .retain(|element| !has(&other.elements, element.key));
+        let others = Indexed::new(alloc, &other.elements)?;
+        self.remove_common(&others);
+        Ok(())
+    }
+
+    /// Keeps the elements that are among the others.
+    fn keep_common(&mut self, others: &Indexed)
+        ensures set { self.new ≡ set_and self.old others.now }
+        ensures members { (key : Key) → has_element self.new.elements key ≡
+            (has_element self.old.elements key && has_element others.now key) }
+    {
+        self.elements.retain(|element| others.has(element.key));
+    }
+
+    /// Takes out the elements that are among the others.
+    fn remove_common(&mut self, others: &Indexed)
+        ensures set { self.new ≡ set_sub self.old others.now }
+        ensures members { (key : Key) → has_element self.new.elements key ≡
+            (has_element self.old.elements key && not (has_element others.now key)) }
+    {
+        self.elements.retain(|element| !others.has(element.key));
     }
 
     /// `s ^= t`: the elements that were in both go, and the other's that weren't there (Python
@@ -233,39 +260,38 @@ impl Set {
     }
 }
 
-/// Whether the key is among the elements.
-fn has(elements: &[Element], key: Key) -> bool
-    ensures { result ≡ has_element elements.now key }
-{
-    elements.iter().any(|element| element.key == key)
-}
-
 /// Whether none of the elements is among the others.
-fn are_disjoint(elements: &[Element], others: &[Element]) -> bool
-    ensures { result ≡ is_disjoint elements.now others.now }
+fn are_disjoint(alloc: Global, elements: &[Element], others: &[Element]) -> Result<bool, AllocError>
+    ensures { IfOk result (λ are. are ≡ is_disjoint elements.now others.now) }
 {
-    !has_any(others, elements)
-}
-
-/// Whether they are the same elements, in any order.
-fn same_elements(elements: &[Element], others: &[Element]) -> bool
-    ensures { result ≡ same_elements elements.now others.now }
-{
-    are_among(others, elements) && are_among(elements, others)
-}
-
-/// Whether all of the elements are among the others.
-fn are_among(others: &[Element], elements: &[Element]) -> bool
-    ensures { result ≡ is_subset elements.now others.now }
-{
-    elements.iter().all(|element| has(others, element.key))
+    let others = Indexed::new(alloc, others)?;
+    Ok(!has_any(&others, elements))
 }
 
 /// Whether some of the elements are among the others.
-fn has_any(others: &[Element], elements: &[Element]) -> bool
+fn has_any(others: &Indexed, elements: &[Element]) -> bool
     ensures { result ≡ list_any (λ element. has_element others.now element.key) elements.now }
 {
-    elements.iter().any(|element| has(others, element.key))
+    elements.iter().any(|element| others.has(element.key))
+}
+
+/// Whether they are the same elements, in any order.
+fn same_elements(
+    alloc: Global,
+    elements: &[Element],
+    others: &[Element],
+) -> Result<bool, AllocError>
+    ensures { IfOk result (λ same. same ≡ same_elements elements.now others.now) }
+{
+    Ok(are_among(alloc, others, elements)? && are_among(alloc, elements, others)?)
+}
+
+/// Whether all of the elements are among the others.
+fn are_among(alloc: Global, others: &[Element], elements: &[Element]) -> Result<bool, AllocError>
+    ensures { IfOk result (λ are. are ≡ is_subset elements.now others.now) }
+{
+    let others = Indexed::new(alloc, others)?;
+    Ok(elements.iter().all(|element| others.has(element.key)))
 }
 
 /// The others that aren't among the elements, with new serials, one after the other from this one
@@ -280,9 +306,10 @@ fn added(
     requires { next + length others.now < 2 ^ 63 }
     ensures { IfOk result (λ added. added.items ≡ elements_from next (those_not_in elements.now others.now)) }
 {
+    let elements = Indexed::new(alloc, elements)?;
     let mut added = Vec::new(alloc);
     for other in others {
-        if !has(elements, other.key) {
+        if !elements.has(other.key) {
             added.push(Element {
                 serial: next + added.len() as u64,
                 key: other.key,
@@ -296,9 +323,10 @@ fn added(
 fn kept(alloc: Global, elements: &[Element], others: &[Element]) -> Result<Vec<Element>, AllocError>
     ensures { IfOk result (λ kept. kept.items ≡ those_not_in others.now elements.now) }
 {
+    let others = Indexed::new(alloc, others)?;
     elements
         .iter()
         .copied()
-        .filter(|element| !has(others, element.key))
+        .filter(|element| !others.has(element.key))
         .collect(alloc)
 }

@@ -38,12 +38,17 @@ pub(crate) fn answer(
             let keys = keys(alloc, world.set(place))?;
             Ok(Reply::Set(Sequence::from_vec(keys)))
         }
-        SetCall::Eq { other } => Ok(Reply::Truth(world.set(place).equals(world.set(other)))),
+        SetCall::Eq { other } => {
+            let same = world.set(place).equals(alloc, world.set(other))?;
+            Ok(Reply::Truth(same))
+        }
         SetCall::Subset { other } => {
-            Ok(Reply::Truth(world.set(place).is_subset(world.set(other))))
+            let is_subset = world.set(place).is_subset(alloc, world.set(other))?;
+            Ok(Reply::Truth(is_subset))
         }
         SetCall::Disjoint { other } => {
-            Ok(Reply::Truth(world.set(place).is_disjoint(world.set(other))))
+            let is_disjoint = world.set(place).is_disjoint(alloc, world.set(other))?;
+            Ok(Reply::Truth(is_disjoint))
         }
         SetCall::Iter { cursor } => {
             let size = world.set(place).len() as u64;
@@ -118,14 +123,8 @@ fn combine(alloc: Global, set: &mut Set, other: &Set, call: &SetCall) -> Result<
 {
     match *call {
         SetCall::Or { .. } => set.or(alloc, other),
-        SetCall::And { .. } => {
-            set.and(other);
-            Ok(())
-        }
-        SetCall::Sub { .. } => {
-            set.sub(other);
-            Ok(())
-        }
+        SetCall::And { .. } => set.and(alloc, other),
+        SetCall::Sub { .. } => set.sub(alloc, other),
         SetCall::Xor { .. } => set.xor(alloc, other),
         _ => unreachable!(),
     }

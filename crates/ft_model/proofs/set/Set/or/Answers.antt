@@ -1,5 +1,5 @@
-use Rattle.std.proofs.Common.{rules, arith, ap, ◌≡◌, ◌∙◌, length}
-use Rattle.ft_model.specs.Contents.{SetContent, those_not_in, elements_from, set_or}
+use Rattle.std.proofs.Common.{arith, ap, ◌≡◌, length}
+use Rattle.ft_model.specs.Contents.{SetContent, those_not_in, set_or}
 use Rattle.ft_model.proofs.Copies.{length-elements_from}
 use Rattle.ft_model.proofs.Sets.{IsSet-or}
 use Rattle.ft_model.proofs.set.Set.or.Goals as goal

@@ -2,7 +2,7 @@ use Rattle.std.proofs.Common.{rules, not, ap}
 use Rattle.std.proofs.lemmas.Fn.{filter_same}
 use Rattle.ft_model.specs.declared.content.Element.{Element}
 use Rattle.ft_model.specs.Keys.{same_key}
-use Rattle.ft_model.specs.Contents.{SetContent, has_element, set_discard}
+use Rattle.ft_model.specs.Contents.{SetContent, set_discard}
 use Rattle.ft_model.proofs.Sets.{IsSet-filter}
 use Rattle.ft_model.proofs.set.Set.take_out.Goals as goal
 

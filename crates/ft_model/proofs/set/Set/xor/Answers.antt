@@ -1,5 +1,5 @@
-use Rattle.std.proofs.Common.{rules, arith, ap, ◌≡◌, ◌∙◌, length}
-use Rattle.ft_model.specs.Contents.{SetContent, those_not_in, elements_from, set_xor}
+use Rattle.std.proofs.Common.{arith, ap, ◌≡◌, length}
+use Rattle.ft_model.specs.Contents.{SetContent, those_not_in, set_xor}
 use Rattle.ft_model.proofs.Copies.{length-elements_from}
 use Rattle.ft_model.proofs.Sets.{IsSet-xor}
 use Rattle.ft_model.proofs.set.Set.xor.Goals as goal

@@ -13,8 +13,9 @@ use Rattle.ft_model.specs.declared.cursor.Cursor.{Cursor}
 use Rattle.ft_model.specs.declared.entry.Entry.{Entry}
 use Rattle.ft_model.specs.declared.entry.Rule.{Rule}
 use Rattle.ft_model.specs.declared.entry.Rule.TheVariants as rule
-use Rattle.ft_model.specs.declared.entry.Storage.TheVariants as storage
+use Rattle.ft_model.specs.declared.entry.Storage.{Storage}
 use Rattle.ft_model.specs.declared.reply.Reply.{Reply}
+use Rattle.ft_model.specs.declared.reply.Reply.TheVariants as reply
 use Rattle.ft_model.specs.declared.script.Thread.{Thread}
 use Rattle.ft_model.specs.declared.script.ScriptParts.{ScriptParts}
 use Rattle.ft_model.specs.Calls.{is_changing, containers_of}
@@ -26,13 +27,15 @@ use Rattle.ft_model.specs.Judging.{IsNext, IsStamped, IsTold, Keeps}
 use Rattle.ft_history.specs.declared.progress.Progress.{Progress}
 use Rattle.ft_history.specs.declared.writers.LastWrites.{LastWrites}
 use Rattle.ft_history.specs.declared.state.State.{State}
+use Rattle.ft_history.specs.Ledgers.{IsLedger, AreOfKind}
 use Rattle.ft_history.specs.States.{IsAskable, world_before, behind_one, IsProgress, AreHandsOf, IsLast}
 use Rattle.ft_history.specs.Steps.{IsState, GoesBehind, KeepsFirst, BreaksFirst, FindsLate, KeepsLate, Finds}
 use Rattle.ft_history.proofs.Places.{writes_next, count_next, world_at-before}
 use Rattle.ft_history.proofs.Judged.{keeps_more}
 use Rattle.ft_history.proofs.ScriptLemmas.{call_of_thread, calls_of_thread, is_thread, named_within, no_calls}
-use Rattle.ft_history.proofs.Leaves.{Leaves, leaves_of, askable}
-use Rattle.ft_history.proofs.HandLemmas.{hands_next, own_cursors}
+use Rattle.ft_history.proofs.Leaves.{Leaves, leaves_of, of_kinds, askable}
+use Rattle.ft_history.proofs.HandLemmas.{hands_next, hands_same, own_cursors}
+use Rattle.ft_history.proofs.LedgerLemmas.{world_after, ledger_next}
 use Rattle.ft_history.proofs.ProgressLemmas.{progress_other, progress_mine}
 use Rattle.ft_history.proofs.LastWriteLemmas.{last_after_other, last_after_write}
 
@@ -60,6 +63,11 @@ write_alike (call.Set container set_call) said plain (inr same) none = ap (is_wr
 write_alike (call.Next cursor) said plain (inl memory) none = absurd (false≢true (sym none ∙ memory))
 write_alike (call.Next cursor) said plain (inr same) none = ap (is_write (call.Next cursor)) (sym same)
 
+-- a MemoryError is no write
+memory_no_write : (called : Call) (said : Reply) → is_memory said ≡ true → is_write called said ≡ false
+memory_no_write called (reply.Raised said) memory = elim (is_changing called) as (λ b. (b && false) ≡ false) [ true ↦ refl | false ↦ refl ]
+memory_no_write called _ memory = absurd (false≢true memory)
+
 module _ (script : ScriptParts) (is_script : IsScript script) (entries : List Entry) (place : ℕ) (entry : Entry) (at : slice_get entries place ≡ Some entry) (next : IsNext script entries place entry) where
   -- the thread of the script whose call it is
   pub thread_found : (found : Thread) × (slice_get script.threads entry.thread ≡ Some found)
@@ -72,7 +80,7 @@ module _ (script : ScriptParts) (is_script : IsScript script) (entries : List En
   pub its_call : IsCallOf script (cursors_of script entry.thread) entry.call
   its_call = call_of_thread script is_script entry.thread thread_found.0 thread_found.1 _ entry.call next.call
 
-  module _ (stamped : IsStamped entries place entry) (plain : is_memory entry.reply ≡ false) (said : Bool) (before after : Progress) (old new : State) (is_state : IsState script entries place old) (goes : GoesBehind place entry said before after old new) (told : IsTrue said) where
+  module _ (stamped : IsStamped entries place entry) (no_cursor : is_memory entry.reply ≡ true → cursor_of entry.call ≡ None) (said : Bool) (before after : Progress) (old new : State) (is_state : IsState script entries place old) (goes : GoesBehind place entry said before after old new) (told : IsTrue said) where
     so_far : IsProgress script entries entry.thread place before
     so_far = is_state.progress entry.thread before goes.at
 
@@ -85,22 +93,66 @@ module _ (script : ScriptParts) (is_script : IsScript script) (entries : List En
     replied : IsReplied entry.call entry.reply (answer old.world before.hands entry.call).reply
     replied = goes.told.0 told
 
-    world_is : new.world ≡ (answer old.world before.hands entry.call).world
-    world_is = goes.world ∙ ap (λ b. cond b old.world (answer old.world before.hands entry.call).world) plain
+    module _ (plain : is_memory entry.reply ≡ false) where
+      world_is : new.world ≡ (answer old.world before.hands entry.call).world
+      world_is = goes.world ∙ ap (λ b. cond b old.world (answer old.world before.hands entry.call).world) plain
 
-    writes_alike : is_write entry.call (answer old.world before.hands entry.call).reply ≡ entry.wrote
-    writes_alike = write_alike entry.call entry.reply _ replied plain ∙ sym stamped.wrote
+      writes_alike : is_write entry.call (answer old.world before.hands entry.call).reply ≡ entry.wrote
+      writes_alike = write_alike entry.call entry.reply _ replied plain ∙ sym stamped.wrote
+
+      -- a write leaves what it leaves for all hands
+      world_written : entry.wrote ≡ true → new.world ≡ after_write old.world entry.call
+      world_written wrote = world_is ∙ left.alike (and_parts (is_changing entry.call) (not (is_raised (answer old.world before.hands entry.call).reply)) (writes_alike ∙ wrote)).0
+
+      world_quiet : entry.wrote ≡ false → new.world ≡ old.world
+      world_quiet quiet = world_is ∙ left.quiet (writes_alike ∙ quiet)
+
+    -- so does a call that raises a MemoryError, which is no write
+    memory_quiet : is_memory entry.reply ≡ true → entry.wrote ≡ false
+    memory_quiet memory = stamped.wrote ∙ memory_no_write entry.call entry.reply memory
+
+    memory_world : is_memory entry.reply ≡ true → new.world ≡ old.world
+    memory_world memory = goes.world ∙ ap (λ b. cond b old.world (answer old.world before.hands entry.call).world) memory
+
+    written : entry.wrote ≡ true → new.world ≡ after_write old.world entry.call
+    written wrote =
+        elim (is_memory entry.reply) as (λ b. is_memory entry.reply ≡ b → new.world ≡ after_write old.world entry.call) [
+          | true ↦ λ memory. absurd (false≢true (sym (memory_quiet memory) ∙ wrote))
+          | false ↦ λ plain. world_written plain wrote
+        ] refl
+
+    quiet : entry.wrote ≡ false → new.world ≡ old.world
+    quiet calm =
+        elim (is_memory entry.reply) as (λ b. is_memory entry.reply ≡ b → new.world ≡ old.world) [
+          | true ↦ memory_world
+          | false ↦ λ plain. world_quiet plain calm
+        ] refl
 
     world_behind : new.world ≡ world_before script entries (place + 1)
     world_behind =
         let start = start_world script.containers in
         let done = writes (take place entries) in
-        world_is ∙
-        elim entry.wrote as (λ b. entry.wrote ≡ b → (answer old.world before.hands entry.call).world ≡ fold after_write start (done ++ cond b (entry.call ∷ []) [])) [
-          | true ↦ λ wrote. left.alike (and_parts (is_changing entry.call) (not (is_raised (answer old.world before.hands entry.call).reply)) (writes_alike ∙ wrote)).0 ∙ ap (λ world. after_write world entry.call) is_state.world ∙ sym (fold_push after_write start done entry.call)
-          | false ↦ λ quiet. left.quiet (writes_alike ∙ quiet) ∙ is_state.world ∙ ap (fold after_write start) (sym (append-nil done))
+        elim entry.wrote as (λ b. entry.wrote ≡ b → new.world ≡ fold after_write start (done ++ cond b (entry.call ∷ []) [])) [
+          | true ↦ λ wrote. written wrote ∙ ap (λ world. after_write world entry.call) is_state.world ∙ sym (fold_push after_write start done entry.call)
+          | false ↦ λ calm. quiet calm ∙ is_state.world ∙ ap (fold after_write start) (sym (append-nil done))
         ] refl
         ∙ ap (fold after_write start) (sym (writes_next entries place entry at))
+
+    kinds_behind : map kind_of new.world ≡ map kind_of old.world
+    kinds_behind =
+        elim (is_memory entry.reply) as (λ b. is_memory entry.reply ≡ b → map kind_of new.world ≡ map kind_of old.world) [
+          | true ↦ λ memory. ap (map kind_of) (memory_world memory)
+          | false ↦ λ plain. ap (map kind_of) (world_is plain) ∙ left.kinds
+        ] refl
+
+    ledger_behind : IsLedger script (writes (take (place + 1) entries)) new.ledger
+    ledger_behind =
+        let done = writes (take place entries) in
+        subst (λ (calls : List Call). IsLedger script calls new.ledger) (sym (writes_next entries place entry at))
+        (elim entry.wrote as (λ b. entry.wrote ≡ b → IsLedger script (done ++ cond b (entry.call ∷ []) []) new.ledger) [
+          | true ↦ λ wrote. ledger_next script done entry.call old.world new.world old.ledger new.ledger (is_state.world ∙ sym (world_after script done)) (written wrote) is_state.ledger (goes.taking wrote)
+          | false ↦ λ calm. subst (λ (calls : List Call). IsLedger script calls new.ledger) (sym (append-nil done)) (subst (IsLedger script done) (sym (goes.same calm)) is_state.ledger)
+        ] refl)
 
     low : entry.thread < length old.threads.items
     low = slice_get_within old.threads.items entry.thread before goes.at
@@ -114,8 +166,16 @@ module _ (script : ScriptParts) (is_script : IsScript script) (entries : List En
     new_hands =
         let room : (number : ℕ) → cursor_of entry.call ≡ Some number → number < length before.hands = λ number makes. let n = own_cursors script (cursors_of script entry.thread) entry.call its_call.names number makes in omega (arith, its_hands.room) in
         let call : slice_get (calls_of script entry.thread) before.made ≡ Some entry.call = ap (slice_get (calls_of script entry.thread)) so_far.made ∙ next.call in
-        let hands : after.hands ≡ (answer old.world before.hands entry.call).hands = goes.hands ∙ ap (λ b. cond b before.hands (answer old.world before.hands entry.call).hands) plain in
-        subst (λ n. AreHandsOf script entry.thread n after.hands) (sym goes.made) (subst (λ hs. AreHandsOf script entry.thread (before.made + 1) hs) (sym hands) (hands_next script entry.thread before.made old.world before.hands entry.call call room left its_hands))
+        let next : AreHandsOf script entry.thread (before.made + 1) after.hands =
+        elim (is_memory entry.reply) as (λ b. is_memory entry.reply ≡ b → AreHandsOf script entry.thread (before.made + 1) after.hands) [
+          | true ↦ λ memory.
+              let hands : after.hands ≡ before.hands = goes.hands ∙ ap (λ b. cond b before.hands (answer old.world before.hands entry.call).hands) memory in
+              subst (λ hs. AreHandsOf script entry.thread (before.made + 1) hs) (sym hands) (hands_same script entry.thread before.made before.hands entry.call call (no_cursor memory) its_hands)
+          | false ↦ λ plain.
+              let hands : after.hands ≡ (answer old.world before.hands entry.call).hands = goes.hands ∙ ap (λ b. cond b before.hands (answer old.world before.hands entry.call).hands) plain in
+              subst (λ hs. AreHandsOf script entry.thread (before.made + 1) hs) (sym hands) (hands_next script entry.thread before.made old.world before.hands entry.call call room left its_hands)
+        ] refl in
+        subst (λ n. AreHandsOf script entry.thread n after.hands) (sym goes.made) next
 
     last_behind : (object : ℕ) (last : LastWrites) → slice_get new.containers.items object ≡ Some last → IsLast entries (place + 1) object last
     last_behind object last here =
@@ -132,7 +192,7 @@ module _ (script : ScriptParts) (is_script : IsScript script) (entries : List En
     state_behind =
         record {
           world = world_behind;
-          kinds = ap (map kind_of) world_is ∙ left.kinds ∙ is_state.kinds;
+          kinds = kinds_behind ∙ is_state.kinds;
           count = goes.writes ∙ ap (λ n. n + cond entry.wrote 1 0) is_state.count ∙ sym (count_next entries place entry at);
           threads = ap length goes.threads ∙ length-set old.threads.items entry.thread after ∙ is_state.threads;
           progress = λ thread progress here.
@@ -147,6 +207,7 @@ module _ (script : ScriptParts) (is_script : IsScript script) (entries : List En
               ];
           containers = goes.containers ∙ is_state.containers;
           lasts = last_behind;
+          ledger = ledger_behind;
         }
 
   -- its call may be made in the state
@@ -156,6 +217,10 @@ module _ (script : ScriptParts) (is_script : IsScript script) (entries : List En
       let calls_made : AreMade (calls_of script entry.thread) = subst AreMade (sym (calls_of_thread script is_script entry.thread thread_found.0 thread_found.1)) (is_thread script is_script entry.thread thread_found.0 thread_found.1).made in
       askable script.containers state.world is_state.kinds progress.hands (cursors_of script entry.thread) entry.call hands.room its_call.names hands.kinds
       (λ number is. hands.cursors number (subst (λ n. Any (λ called. cursor_of called ≡ Some number) (take n (calls_of script entry.thread))) (sym (is_state.progress entry.thread progress here).made) (calls_made _ number (next.call ∙ ap Some is))))
+
+  -- it names containers of its kind
+  pub of_kind_at : (state : State) → IsState script entries place state → AreOfKind state.world entry.call
+  of_kind_at state is_state = of_kinds script.containers state.world is_state.kinds (cursors_of script entry.thread) entry.call its_call.names
 
   pub within_containers : (state : State) → IsState script entries place state → All (λ object. object < length state.containers.items) (containers_of entry.call)
   within_containers state is_state = subst (λ n. All (λ object. object < n) (containers_of entry.call)) (sym is_state.containers) (named_within script.containers (cursors_of script entry.thread) entry.call its_call.names)
@@ -173,7 +238,7 @@ few_marks entries place thread within = omega (arith, count_by-le-length (is_mar
 
 -- ---- what is found at a place
 
-module _ (script : ScriptParts) (entries : List Entry) (place : ℕ) (entry : Entry) (said : Bool) (before after : Progress) (old new : State) (is_state : IsState script entries place old) (goes : GoesBehind place entry said before after old new) where
+module _ (s : Storage) (script : ScriptParts) (entries : List Entry) (place : ℕ) (entry : Entry) (said : Bool) (before after : Progress) (old new : State) (is_state : IsState script entries place old) (goes : GoesBehind place entry said before after old new) where
   same_world : old.world ≡ world_at script entries (length (writes (take place entries)))
   same_world = is_state.world ∙ sym (world_at-before script entries place)
 
@@ -186,17 +251,17 @@ module _ (script : ScriptParts) (entries : List Entry) (place : ℕ) (entry : En
   pub told_here : IsTold script entries place entry → IsReplied entry.call entry.reply (answer old.world before.hands entry.call).reply
   told_here told = subst (λ (w : List Content). IsReplied entry.call entry.reply (answer w before.hands entry.call).reply) (sym same_world) (subst (λ (hs : List (Option Cursor)). IsReplied entry.call entry.reply (answer (world_at script entries (length (writes (take place entries)))) hs entry.call).reply) (sym same_hands) told)
 
-  pub breaks_reply : KeepsFirst storage.Plain script entries place entry 3 → said ≡ false → BreaksFirst storage.Plain script entries place entry rule.Reply
+  pub breaks_reply : KeepsFirst s script entries place entry 3 → said ≡ false → BreaksFirst s script entries place entry rule.Reply
   breaks_reply first off = record { before = first; broken = λ told. false≢true (sym off ∙ goes.told.1 (told_here told)) }
 
-  pub keeps_four : KeepsFirst storage.Plain script entries place entry 3 → said ≡ true → KeepsFirst storage.Plain script entries place entry 4
-  keeps_four first on = keeps_more storage.Plain script entries place entry 3 rule.Reply refl first (told_there (goes.told.0 on))
+  pub keeps_four : KeepsFirst s script entries place entry 3 → said ≡ true → KeepsFirst s script entries place entry 4
+  keeps_four first on = keeps_more s script entries place entry 3 rule.Reply refl first (told_there (goes.told.0 on))
 
-pub finds_all : (script : ScriptParts) (entries : List Entry) (place : ℕ) (entry : Entry) (found : Option Rule) → KeepsFirst storage.Plain script entries place entry 4 → FindsLate storage.Plain script entries place entry found → Finds storage.Plain script entries place entry found
-finds_all script entries place entry (Some r) first late = late first
-finds_all script entries place entry None first late = all
+pub finds_all : (s : Storage) (script : ScriptParts) (entries : List Entry) (place : ℕ) (entry : Entry) (found : Option Rule) → KeepsFirst s script entries place entry 4 → FindsLate s script entries place entry found → Finds s script entries place entry found
+finds_all s script entries place entry (Some r) first late = late first
+finds_all s script entries place entry None first late = all
   where
-    all : (r : Rule) → Keeps storage.Plain script entries r place entry
+    all : (r : Rule) → Keeps s script entries r place entry
     all rule.Whole = first rule.Whole (omega arith)
     all rule.Stamp = first rule.Stamp (omega arith)
     all rule.Order = first rule.Order (omega arith)
@@ -208,6 +273,6 @@ finds_all script entries place entry None first late = all
     all rule.Missing = tt
     all rule.World = tt
 
-pub where_none : (script : ScriptParts) (entries : List Entry) (place : ℕ) (entry : Entry) (X : Type 0) (found : Option Rule) → FindsLate storage.Plain script entries place entry found → (KeepsLate storage.Plain script entries place entry → X) → IfNone found X
-where_none script entries place entry X None late so = so late
-where_none script entries place entry X (Some r) late so = tt
+pub where_none : (s : Storage) (script : ScriptParts) (entries : List Entry) (place : ℕ) (entry : Entry) (X : Type 0) (found : Option Rule) → FindsLate s script entries place entry found → (KeepsLate s script entries place entry → X) → IfNone found X
+where_none s script entries place entry X None late so = so late
+where_none s script entries place entry X (Some r) late so = tt

@@ -38,6 +38,20 @@ hands_next script thread made world hands called at room leaves are =
           ];
     }
 
+-- a call that makes no cursor and leaves the hands as they were
+pub hands_same : (script : ScriptParts) (thread made : ℕ) (hands : List (Option Cursor)) (called : Call) → slice_get (calls_of script thread) made ≡ Some called
+    → cursor_of called ≡ None → AreHandsOf script thread made hands → AreHandsOf script thread (made + 1) hands
+hands_same script thread made hands called at none are =
+    record {
+      room = are.room;
+      kinds = are.kinds;
+      cursors = λ number some.
+          elim (any_push_cases (λ c. cursor_of c ≡ Some number) (take made (calls_of script thread)) called (subst (Any (λ c. cursor_of c ≡ Some number)) (take_next (calls_of script thread) made called at) some)) [
+            | inl before ↦ are.cursors number before
+            | inr now ↦ absurd (let e : None ≡ Some number = sym none ∙ now in cc)
+          ];
+    }
+
 -- the cursors that a call makes are its thread's
 pub own_cursors : (script : ScriptParts) (cursors : ℕ) (called : Call) → NamesOf script.containers cursors called → (number : ℕ) → cursor_of called ≡ Some number → number < cursors
 own_cursors script cursors (call.Dict place dict_call) names number is = subst (λ o. IfSome o (λ n. n < cursors)) is names.made

@@ -25,6 +25,7 @@ use Rattle.ft_model.specs.Scripts.{IsDeclaredAs, AreNamesOf, NamesOf, cursor_of}
 use Rattle.ft_model.specs.Cursors.{CursorStep, dict_next, dict_walk, next_pair, set_next, set_walk, next_element, list_next, list_walk}
 use Rattle.ft_model.specs.Worlds.{IsOfKind, IsNamed, IsDeclared, kind_of, cursor_kind, container_of, cursor_at, no_hands, dict_at, list_at, set_at}
 use Rattle.ft_model.specs.Answers.{Answer, answer, cursor_step, is_raised, is_write, shows, moves}
+use Rattle.ft_history.specs.Ledgers.{AreOfKind}
 use Rattle.ft_history.specs.States.{IsAskable}
 use Rattle.ft_history.proofs.Effects.{Effect, shown, put, moved, effect_dict, effect_list, effect_set}
 
@@ -228,3 +229,10 @@ module _ (containers : List Declaration) (world : List Content) (same : map kind
   askable cursors (call.Begin first second) room names fits made = tt
   askable cursors call.End room names fits made = tt
   askable cursors call.Quiesce room names fits made = tt
+
+-- a call of the script names containers of its kind
+pub of_kinds : (containers : List Declaration) (world : List Content) → map kind_of world ≡ map (λ (c : Declaration). c.kind) containers → (cursors : ℕ) (called : Call) → NamesOf containers cursors called → AreOfKind world called
+of_kinds containers world same cursors (call.Dict place dict_call) names = (declared containers world same kind.Dict place names.container, IfSome_then _ names.second (λ other is. declared containers world same kind.Dict other is))
+of_kinds containers world same cursors (call.List place list_call) names = (declared containers world same kind.List place names.container, IfSome_then _ names.second (λ other is. declared containers world same kind.List other is))
+of_kinds containers world same cursors (call.Set place set_call) names = (declared containers world same kind.Set place names.container, IfSome_then _ names.second (λ other is. declared containers world same kind.Set other is))
+of_kinds containers world same cursors _ names = tt

@@ -9,10 +9,12 @@ pub mod Judged
 pub mod LastWriteLemmas
 pub mod LateRules
 pub mod Leaves
+pub mod LedgerLemmas
 pub mod Numbered
 pub mod OneOrder
 pub mod OneVerdict
 pub mod OpenSections
+pub mod PassingLemmas
 pub mod Permutations
 pub mod Places
 pub mod ProgressLemmas
@@ -21,5 +23,6 @@ pub mod Sections
 pub mod SortedChronicles
 pub mod StartLemmas
 pub mod Unbroken
+pub mod UpdatedDicts
 pub mod VerdictLemmas
 pub mod WriteNumbers

@@ -108,7 +108,7 @@ module _ (script : ScriptParts) (chronicle history : List Entry) (whole : IsWhol
   same_passed : (p : Entry → Bool) → IsSorted history_cmp (filter p chronicle) → AllPairs (λ a b. history_cmp a b ≢ Equal) (filter p chronicle) → filter p chronicle ≡ filter p history
   same_passed p rises differ = one_order (filter p chronicle) (filter p history) (IsPermutation-filter p chronicle history moved) rises (IsSortedBy-filter (λ a b. is_lt (history_cmp a b)) history_ranks p history sorted) differ
 
-  same_written : written chronicle ≡ written history
+  pub same_written : written chronicle ≡ written history
   same_written = same_passed (λ (e : Entry). e.wrote) (written_sorted script chronicle whole numbered) (written_differ script chronicle whole numbered)
 
   same_mine : (thread : ℕ) → entries_of thread chronicle ≡ entries_of thread history

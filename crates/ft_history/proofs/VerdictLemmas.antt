@@ -8,7 +8,7 @@ use Rattle.std.proofs.lemmas.Option.{slice_get_within, slice_get_cases, slice_ge
 use Rattle.ft_model.specs.declared.entry.Entry.{Entry}
 use Rattle.ft_model.specs.declared.entry.Rule.{Rule}
 use Rattle.ft_model.specs.declared.entry.Rule.TheVariants as rule
-use Rattle.ft_model.specs.declared.entry.Storage.TheVariants as storage
+use Rattle.ft_model.specs.declared.entry.Storage.{Storage}
 use Rattle.ft_model.specs.declared.script.Thread.{Thread}
 use Rattle.ft_model.specs.declared.script.ScriptParts.{ScriptParts}
 use Rattle.ft_model.specs.Histories.{calls_of, entries_of, IsLegal}
@@ -18,19 +18,19 @@ use Rattle.ft_history.specs.declared.state.State.{State}
 use Rattle.ft_history.specs.Steps.{IsState, IsUnbrokenBefore, BreaksFirst, Finds, HaveMadeAll}
 use Rattle.ft_history.proofs.Unbroken.{legal_of_unbroken}
 
-module _ (script : ScriptParts) (entries : List Entry) (place : ℕ) (low : place < length entries) (unbroken : IsUnbrokenBefore storage.Plain script entries place) where
+module _ (s : Storage) (script : ScriptParts) (entries : List Entry) (place : ℕ) (low : place < length entries) (unbroken : IsUnbrokenBefore s script entries place) where
   -- nothing is found at a place, and nothing is broken before the next
-  pub goes_on : ((entry : Entry) → slice_get entries place ≡ Some entry → Finds storage.Plain script entries place entry None) → IsUnbrokenBefore storage.Plain script entries (place + 1)
+  pub goes_on : ((entry : Entry) → slice_get entries place ≡ Some entry → Finds s script entries place entry None) → IsUnbrokenBefore s script entries (place + 1)
   goes_on finds before r below =
       elim (cases_lt before place) [
         | inl earlier ↦ unbroken before r earlier
         | inr late ↦
             let here : place ≡ before = omega arith in
-            subst (λ p. IsKeptAt storage.Plain script entries p r) here (record { entry = λ entry at. finds entry at r; behind = λ end. absurd (omega arith) })
+            subst (λ p. IsKeptAt s script entries p r) here (record { entry = λ entry at. finds entry at r; behind = λ end. absurd (omega arith) })
       ]
 
   -- what is found is the first that is broken
-  pub first_broken : (r : Rule) → ((entry : Entry) → slice_get entries place ≡ Some entry → Finds storage.Plain script entries place entry (Some r)) → IsFirstBroken storage.Plain script entries place r
+  pub first_broken : (r : Rule) → ((entry : Entry) → slice_get entries place ≡ Some entry → Finds s script entries place entry (Some r)) → IsFirstBroken s script entries place r
   first_broken r finds =
       record {
         before = record { earlier = unbroken; here = λ other rank. record { entry = λ entry at. (finds entry at).before other rank; behind = λ end. absurd (omega arith) } };
@@ -61,8 +61,8 @@ complete_iff script entries state r is_state is =
           omega (arith, made, complete thread, ap (λ (o : Option Thread). length (option_map_or (λ (f : Thread). f.calls) o [])) at)),
     )
 
-module _ (script : ScriptParts) (entries : List Entry) (unbroken : IsUnbrokenBefore storage.Plain script entries (length entries)) where
-  behind_all : (place : ℕ) (r : Rule) → length entries ≤ place → (place ≡ length entries → KeepsBehind script entries r) → IsKeptAt storage.Plain script entries place r
+module _ (s : Storage) (script : ScriptParts) (entries : List Entry) (unbroken : IsUnbrokenBefore s script entries (length entries)) where
+  behind_all : (place : ℕ) (r : Rule) → length entries ≤ place → (place ≡ length entries → KeepsBehind script entries r) → IsKeptAt s script entries place r
   behind_all place r past behind = record { entry = λ entry at. absurd (let low = slice_get_within entries place entry at in omega arith); behind = behind }
 
   keeps_behind : (r : Rule) → IsComplete script entries → KeepsBehind script entries r
@@ -89,16 +89,16 @@ module _ (script : ScriptParts) (entries : List Entry) (unbroken : IsUnbrokenBef
   keeps_lower rule.Suspended low = tt
   keeps_lower rule.Memory low = tt
 
-  pub legal_at_end : (state : State) (r : Bool) → IsState script entries (length entries) state → IsTrue r ↔ HaveMadeAll script.threads state.threads.items → r ≡ true → IsLegal storage.Plain script entries
+  pub legal_at_end : (state : State) (r : Bool) → IsState script entries (length entries) state → IsTrue r ↔ HaveMadeAll script.threads state.threads.items → r ≡ true → IsLegal s script entries
   legal_at_end state r is_state is on =
       let complete = (complete_iff script entries state r is_state is).0 on in
-      legal_of_unbroken storage.Plain script entries (λ place q.
+      legal_of_unbroken s script entries (λ place q.
       elim (cases_lt place (length entries)) [
         | inl low ↦ unbroken place q low
         | inr past ↦ behind_all place q past (λ _. keeps_behind q complete)
       ])
 
-  pub missing_at_end : (state : State) (r : Bool) → IsState script entries (length entries) state → IsTrue r ↔ HaveMadeAll script.threads state.threads.items → r ≡ false → IsFirstBroken storage.Plain script entries (length entries) rule.Missing
+  pub missing_at_end : (state : State) (r : Bool) → IsState script entries (length entries) state → IsTrue r ↔ HaveMadeAll script.threads state.threads.items → r ≡ false → IsFirstBroken s script entries (length entries) rule.Missing
   missing_at_end state r is_state is off =
       record {
         before = record { earlier = unbroken; here = λ other low. behind_all (length entries) other (omega arith) (λ _. keeps_lower other low) };

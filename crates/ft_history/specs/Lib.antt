@@ -1,4 +1,5 @@
 pub mod Verdicts
 pub mod Laws
+pub mod Ledgers
 pub mod States
 pub mod Steps

@@ -1,5 +1,5 @@
 -- What the judge keeps before a place, and what it finds there. None of it is needed to say what a legal history is.
-use Rattle.std.specs.Prelude.{◌≡◌, ◌↔◌, ℕ, Bool, IsTrue, ◌&&◌, ◌+◌, ◌<◌, ◌≤◌, List, map, take, length, Option, Some, None, is_some, slice_get, slice_set, slice_index_or, if◌then◌else◌}
+use Rattle.std.specs.Prelude.{◌≡◌, ◌↔◌, ℕ, Bool, true, false, IsTrue, ◌&&◌, ◌+◌, ◌<◌, ◌≤◌, List, map, take, length, Option, Some, None, is_some, slice_get, slice_set, slice_index_or, if◌then◌else◌}
 use Rattle.ft_model.specs.declared.entry.Entry.{Entry}
 use Rattle.ft_model.specs.declared.entry.Rule.{Rule}
 use Rattle.ft_model.specs.declared.entry.Rule.TheVariants as rule
@@ -13,6 +13,7 @@ use Rattle.ft_model.specs.Judging.{Keeps, IsKeptAt, rank_of}
 use Rattle.ft_history.specs.declared.progress.Progress.{Progress}
 use Rattle.ft_history.specs.declared.writers.LastWrites.{LastWrites}
 use Rattle.ft_history.specs.declared.state.State.{State}
+use Rattle.ft_history.specs.Ledgers.{IsLedger, GoesOn}
 use Rattle.ft_history.specs.States.{world_before, all_begun, after_begun, behind_one, IsProgress, AreHandsOf, IsLast}
 
 -- the state says what the entries before a place come to
@@ -25,6 +26,7 @@ pub record IsState (script : ScriptParts) (entries : List Entry) (place : ℕ) (
   pub hands : (thread : ℕ) (progress : Progress) → slice_get state.threads.items thread ≡ Some progress → AreHandsOf script thread progress.made progress.hands
   pub containers : length state.containers.items ≡ length script.containers
   pub lasts : (object : ℕ) (last : LastWrites) → slice_get state.containers.items object ≡ Some last → IsLast entries place object last
+  pub ledger : IsLedger script (writes (take place entries)) state.ledger
 
 -- the state goes on behind an entry of the thread that went on from one progress to another
 pub record GoesBehind (place : ℕ) (entry : Entry) (said : Bool) (before after : Progress) (old new : State) : Type 0 where
@@ -40,6 +42,8 @@ pub record GoesBehind (place : ℕ) (entry : Entry) (said : Bool) (before after 
   pub containers : length new.containers.items ≡ length old.containers.items
   pub lasts : (object : ℕ) (other : LastWrites) → slice_index_or new.containers.items object other
       ≡ (if entry.wrote && names object entry.call then behind_one (slice_index_or old.containers.items object other) entry.thread place else slice_index_or old.containers.items object other)
+  pub taking : entry.wrote ≡ true → GoesOn old.world new.world entry.call old.ledger new.ledger
+  pub same : entry.wrote ≡ false → new.ledger ≡ old.ledger
 
 -- every rule holds at every place before this one
 abbrev pub IsUnbrokenBefore : Storage → ScriptParts → List Entry → ℕ → Type 0

@@ -1,41 +1,50 @@
-ghost use Rattle.std.specs.Prelude.{◌≡◌, ◌↔◌, ℕ, List, IsTrue, ◌+◌, ◌<◌, ◌≤◌, ◌^◌, All, length, IfOk, IfNone, Some, slice_get, vec_len};
+ghost use Rattle.std.specs.Prelude.{◌≡◌, ◌↔◌, ℕ, List, IsTrue, ◌+◌, ◌<◌, ◌≤◌, ◌^◌, All, length, take, IfOk, IfNone, Some, slice_get, vec_len};
 ghost use Rattle.ft_model.specs.Scripts.{IsScript};
 ghost use Rattle.ft_model.specs.Judging.{IsNext};
 ghost use Rattle.ft_model.specs.declared.entry.Entry.{Entry};
 ghost use Rattle.ft_model.specs.declared.entry.Storage.{Storage};
-ghost use Rattle.ft_model.specs.declared.entry.Storage.TheVariants as storage;
 ghost use Rattle.ft_model.specs.declared.script.ScriptParts.{ScriptParts};
 ghost use Rattle.ft_model.specs.Calls.{containers_of};
+ghost use Rattle.ft_model.specs.Histories.{writes};
+ghost use Rattle.ft_model.specs.Tables.{IsEarned};
+ghost use Rattle.ft_history.specs.Ledgers.{AreOfKind};
 ghost use Rattle.ft_history.specs.declared.progress.Progress.{Progress};
 ghost use Rattle.ft_history.specs.Verdicts.{IsVerdict};
 ghost use Rattle.ft_history.specs.States.{AreUsers, IsAskable};
 ghost use Rattle.ft_history.specs.Steps.{IsState, IsUnbrokenBefore, FindsEarly, FindsLate, Finds, GoesBehind, HaveMadeAll};
 
+use crate::ledger::note_taking;
+use crate::memory::is_earned;
 use crate::objects::{containers_named, objects_needed};
 use crate::progress::{Progress, go_through};
 use crate::rules::{
     inner_objects, is_behind, is_counted_right, is_kept_right, is_marked_right, is_memory_error,
     is_next, is_stamped,
 };
+use crate::sizes::size_of_own;
 use crate::state::{State, start};
 use crate::users::users_of;
 use crate::verdict::Verdict;
 use crate::writers::note_write;
-use ft_model::{Entry, Rule, Script, ScriptParts, Thread};
+use ft_model::{Entry, Rule, Script, ScriptParts, Storage, Thread};
 use std::alloc::{AllocError, Global};
 
-/// Judges the history of a script whose containers are plain, so that no call raises a MemoryError:
-/// that it is legal, or the first place at which a rule is broken and the first rule that is broken
-/// there. It goes through the entries once. A content that would grow past what memory holds is want
-/// of memory.
-pub fn judge(alloc: Global, script: &Script, entries: &[Entry]) -> Result<Verdict, AllocError>
-    ensures { IfOk result (λ verdict. IsVerdict storage.Plain script.now entries.now verdict) }
+/// Judges the history of a script whose containers are stored so: that it is legal, or the first
+/// place at which a rule is broken and the first rule that is broken there. It goes through the
+/// entries once. A content that would grow past what memory holds is want of memory.
+pub fn judge(
+    alloc: Global,
+    storage: Storage,
+    script: &Script,
+    entries: &[Entry],
+) -> Result<Verdict, AllocError>
+    ensures { IfOk result (λ verdict. IsVerdict storage script.now entries.now verdict) }
 {
     let parts = script.parts();
     let users = users_of(alloc, parts)?;
     let mut state = start(alloc, parts)?;
     for place in 0..entries.len() {
-        if let Some(rule) = step(alloc, parts, &users, &mut state, entries, place)? {
+        if let Some(rule) = step(alloc, storage, parts, &users, &mut state, entries, place)? {
             return Ok(Verdict::Not(place as u64 + 1, rule));
         }
     }
@@ -97,9 +106,16 @@ fn early_rule(
 }
 
 /// Of the rules on marks, sections and MemoryErrors, the first that the entry breaks.
-fn late_rule(users: &[Vec<bool>], state: &State, entry: &Entry) -> Option<Rule>
-    requires { entry.now.thread < vec_len state.now.threads }
-    ensures { (parts : ScriptParts) (entries : List Entry) (place : ℕ) → slice_get entries place ≡ Some entry.now → AreUsers parts users.now → IsState parts entries place state.now → FindsLate storage.Plain parts entries place entry.now result }
+fn late_rule(
+    storage: Storage,
+    parts: &ScriptParts,
+    users: &[Vec<bool>],
+    state: &State,
+    entry: &Entry,
+) -> Option<Rule>
+    requires thread { entry.now.thread < vec_len state.now.threads }
+    requires kinds { AreOfKind state.now.world entry.now.call }
+    ensures { (entries : List Entry) (place : ℕ) → slice_get entries place ≡ Some entry.now → AreUsers parts.now users.now → IsState parts.now entries place state.now → FindsLate storage parts.now entries place entry.now result }
 {
     let progress = &state.threads[entry.thread as usize];
     let own = objects_needed(&progress.hands, &entry.call);
@@ -117,10 +133,21 @@ fn late_rule(users: &[Vec<bool>], state: &State, entry: &Entry) -> Option<Rule>
     if !is_counted_right(progress.marks, &progress.sections, entry) {
         return Some(Rule::Suspended);
     }
-    if is_memory_error(&entry.reply) {
+    if !has_cause(storage, parts, state, entry) {
         return Some(Rule::Memory);
     }
     None
+}
+
+/// Whether the reply is a MemoryError where one is due, and nowhere without cause.
+fn has_cause(storage: Storage, parts: &ScriptParts, state: &State, entry: &Entry) -> bool
+    requires { AreOfKind state.now.world entry.now.call }
+    ensures { (entries : List Entry) (place : ℕ) → IsState parts.now entries place state.now → IsTrue result ↔ IsEarned storage parts.now (writes (take place entries)) entry.now }
+{
+    match storage {
+        Storage::Plain => !is_memory_error(&entry.reply),
+        Storage::Tables => is_earned(parts, &state.world, &state.ledger, entry),
+    }
 }
 
 /// Whether the reply is right, and goes on behind the entry.
@@ -135,8 +162,10 @@ fn go_behind(
     requires few { (progress : Progress) → slice_get state.old.threads.items entry.now.thread ≡ Some progress → (progress.made < 2 ^ 63) × (progress.marks < 2 ^ 63) }
     requires writes { state.old.writes < 2 ^ 63 }
     requires containers { All (λ object. object < vec_len state.old.containers) (containers_of entry.now.call) }
+    requires ledger { vec_len state.old.ledger.takings ≡ 10 }
     ensures { IfOk result (λ told. (before : Progress) × (after : Progress) × GoesBehind place entry.now told before after state.old state.new) }
 {
+    let size = size_of_own(&state.world, &entry.call);
     let progress = &mut state.threads[entry.thread as usize];
     let told = go_through(alloc, &mut state.world, progress, place, entry)?;
     if entry.wrote {
@@ -147,6 +176,7 @@ fn go_behind(
             entry.thread,
             place,
         );
+        note_taking(&mut state.ledger, &state.world, &entry.call, size)?;
     }
     Ok(told)
 }
@@ -154,6 +184,7 @@ fn go_behind(
 /// The first rule that the entry breaks, or none, and then the state is the one behind it.
 fn step(
     alloc: Global,
+    storage: Storage,
     parts: &ScriptParts,
     users: &[Vec<bool>],
     state: &mut State,
@@ -165,14 +196,14 @@ fn step(
     requires place { place < length entries.now }
     requires few { length entries.now < 2 ^ 63 }
     requires state { IsState parts.now entries.now place state.old }
-    ensures found { IfOk result (λ found. (entry : Entry) → slice_get entries.now place ≡ Some entry → Finds storage.Plain parts.now entries.now place entry found) }
+    ensures found { IfOk result (λ found. (entry : Entry) → slice_get entries.now place ≡ Some entry → Finds storage parts.now entries.now place entry found) }
     ensures state { IfOk result (λ found. IfNone found (IsState parts.now entries.now (place + 1) state.new)) }
 {
     let entry = &entries[place];
     if let Some(rule) = early_rule(parts, state, entries, place, entry) {
         return Ok(Some(rule));
     }
-    let late = late_rule(users, state, entry);
+    let late = late_rule(storage, parts, users, state, entry);
     let told = go_behind(alloc, state, place as u64, entry)?;
     Ok(if told { late } else { Some(Rule::Reply) })
 }

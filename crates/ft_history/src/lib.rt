@@ -3,15 +3,21 @@
 #![tactic(auto)]
 
 mod chronicles;
+mod classes;
 mod equal;
 mod judging;
 mod laws;
+mod ledger;
+mod memory;
 mod merging;
 mod objects;
+mod passing;
 mod progress;
 mod replies;
 mod rules;
+mod sizes;
 mod state;
+mod table;
 #[cfg(test)]
 mod tests;
 mod users;
@@ -25,4 +31,5 @@ pub use laws::{
     threads_keep_their_order, writes_are_numbered,
 };
 pub use merging::{history_order, merge};
+pub use objects::{Objects, containers_named};
 pub use verdict::Verdict;

@@ -6,6 +6,7 @@ ghost use Rattle.ft_history.specs.declared.progress.Progress.{Progress};
 ghost use Rattle.ft_history.specs.Steps.{IsState};
 ghost use Rattle.ft_history.specs.States.{IsFresh};
 
+use crate::ledger::{Ledger, start_ledger};
 use crate::progress::Progress;
 use crate::writers::LastWrites;
 use ft_model::{Hands, ScriptParts, Thread, World};
@@ -22,6 +23,8 @@ pub struct State {
     pub threads: Vec<Progress>,
     /// The last writes on each container.
     pub containers: Vec<LastWrites>,
+    /// The tables that containers on tables would have.
+    pub ledger: Ledger,
 }
 
 /// The state at the start of a script.
@@ -35,6 +38,7 @@ pub fn start(alloc: Global, parts: &ScriptParts) -> Result<State, AllocError>
         writes: 0,
         threads: start_threads(alloc, parts.threads.as_slice())?,
         containers: start_containers(alloc, containers.len())?,
+        ledger: start_ledger(alloc, parts)?,
     })
 }
 

@@ -1,6 +1,7 @@
 use Rattle.std.proofs.Common.{◌≡◌, ℕ, ◌&&◌, ◌||◌, ◌<◌, Bool, true, false, List, length, get_or, set, Some, refl, sym, ap, subst, ◌∙◌, arith, cond, ◌==◌, ◌+◌}
 use Rattle.std.specs.Prelude.{slice_get}
 use Rattle.std.specs.List.{list_any}
+use Rattle.std.proofs.lemmas.Bool.{false≢true}
 use Rattle.std.proofs.lemmas.Option.{slice_get_read}
 use Rattle.ft_model.specs.Histories.{names}
 use Rattle.ft_history.specs.declared.progress.Progress.{Progress}
@@ -8,8 +9,8 @@ use Rattle.ft_history.specs.declared.writers.LastWrites.{LastWrites}
 use Rattle.ft_history.specs.States.{behind_one}
 use Rattle.ft_history.proofs.judging.go_behind.Goals as goal
 
-pub returns-then-entry : goal.returns-then-entry
-returns-then-entry c =
+pub returns-in_ok-note_taking : goal.returns-in_ok-note_taking
+returns-in_ok-note_taking c =
     let threads = c.args.state.now.threads in
     let entry = c.args.entry.now in
     let before : Progress = c.index_mut-progress.result.now in
@@ -33,6 +34,8 @@ returns-then-entry c =
             c.note_write.ensures.noted object other
             ∙ ap (λ (ns : List ℕ). cond (list_any (λ n. n == object) ns) (behind_one old entry.thread c.args.place) old) c.containers_named.ensures
             ∙ ap (λ b. cond (b && names object entry.call) (behind_one old entry.thread c.args.place) old) (sym c.if-entry.true);
+        taking = λ wrote. c.in_ok-note_taking.ensures c.args.state.now.world c.size_of_own-size.ensures;
+        same = λ quiet. absurd (false≢true (sym quiet ∙ c.if-entry.true));
       },
     )
 
@@ -57,5 +60,7 @@ returns-else-entry c =
         writes = let none : c.args.state.now.writes ≡ c.args.state.now.writes + 0 = omega arith in none ∙ ap (λ b. c.args.state.now.writes + cond b 1 0) (sym c.if-entry.false);
         containers = refl;
         lasts = λ object other. ap (λ b. cond (b && names object entry.call) (behind_one (get_or c.args.state.now.containers.items object other) entry.thread c.args.place) (get_or c.args.state.now.containers.items object other)) (sym c.if-entry.false);
+        taking = λ wrote. absurd (false≢true (sym c.if-entry.false ∙ wrote));
+        same = λ quiet. refl;
       },
     )

@@ -2,7 +2,6 @@ use Rattle.std.proofs.Common.{◌≡◌, ◌↔◌, IsTrue, ℕ, ◌+◌, ◌-�
 use Rattle.std.specs.Prelude.{slice_get, IfNone}
 use Rattle.ft_model.specs.declared.entry.Entry.{Entry}
 use Rattle.ft_model.specs.declared.entry.Rule.TheVariants as rule
-use Rattle.ft_model.specs.declared.entry.Storage.TheVariants as storage
 use Rattle.ft_model.specs.declared.script.Thread.{Thread}
 use Rattle.ft_model.specs.Histories.{IsLegal}
 use Rattle.ft_model.specs.Judging.{IsFirstBroken}
@@ -19,10 +18,10 @@ returns-in-Some c =
     let parts = c.parts-parts.result.now in
     let entries = c.args.entries.now in
     let place : ℕ = c.loop-place.place in
-    let finds : (entry : Entry) → slice_get entries place ≡ Some entry → Finds storage.Plain parts entries place entry (Some c.in-Some.rule) = λ entry at. subst (Finds storage.Plain parts entries place entry) c.in-Some.is (c.in_ok-rule.ensures.found entry at) in
-    let broken = first_broken parts entries place c.loop-place-test.true c.loop-place.invariant.unbroken c.in-Some.rule finds in
+    let finds : (entry : Entry) → slice_get entries place ≡ Some entry → Finds c.args.storage parts entries place entry (Some c.in-Some.rule) = λ entry at. subst (Finds c.args.storage parts entries place entry) c.in-Some.is (c.in_ok-rule.ensures.found entry at) in
+    let broken = first_broken c.args.storage parts entries place c.loop-place-test.true c.loop-place.invariant.unbroken c.in-Some.rule finds in
     let back : place ≡ place + 1 - 1 = omega arith in
-    (omega arith, subst (λ p. IsFirstBroken storage.Plain p entries (place + 1 - 1) c.in-Some.rule) c.parts-parts.ensures.parts (subst (λ k. IsFirstBroken storage.Plain parts entries k c.in-Some.rule) back broken))
+    (omega arith, subst (λ p. IsFirstBroken c.args.storage p entries (place + 1 - 1) c.in-Some.rule) c.parts-parts.ensures.parts (subst (λ k. IsFirstBroken c.args.storage parts entries k c.in-Some.rule) back broken))
 
 pub loop-place-preserved : goal.loop-place-preserved
 loop-place-preserved c =
@@ -30,7 +29,7 @@ loop-place-preserved c =
     let entries = c.args.entries.now in
     let place : ℕ = c.loop-place.place in
     record {
-      unbroken = goes_on parts entries place c.loop-place-test.true c.loop-place.invariant.unbroken (λ entry at. subst (Finds storage.Plain parts entries place entry) c.in_default.is (c.in_ok-rule.ensures.found entry at));
+      unbroken = goes_on c.args.storage parts entries place c.loop-place-test.true c.loop-place.invariant.unbroken (λ entry at. subst (Finds c.args.storage parts entries place entry) c.in_default.is (c.in_ok-rule.ensures.found entry at));
       is_state = subst (λ o. IfNone o (IsState parts entries (place + 1) c.step.new.state)) c.in_default.is c.in_ok-rule.ensures.state;
     }
 
@@ -41,8 +40,8 @@ returns-then-is_complete c =
     let end : c.loop-place.place ≡ length entries = omega (arith, c.loop-place-test.false, c.loop-place.auto.place-end) in
     let is : IsTrue c.is_complete.result ↔ HaveMadeAll parts.threads c.loop-place.state.threads.items =
     subst (λ ts. IsTrue c.is_complete.result ↔ HaveMadeAll ts c.loop-place.state.threads.items) c.as_slice.ensures (subst (λ ps. IsTrue c.is_complete.result ↔ HaveMadeAll c.as_slice.result.now ps) c.deref-2.ensures.value c.is_complete.ensures) in
-    subst (λ p. IsLegal storage.Plain p entries) c.parts-parts.ensures.parts
-    (legal_at_end parts entries (subst (IsUnbrokenBefore storage.Plain parts entries) end c.loop-place.invariant.unbroken) c.loop-place.state c.is_complete.result (subst (λ n. IsState parts entries n c.loop-place.state) end c.loop-place.invariant.is_state) is c.if-is_complete.true)
+    subst (λ p. IsLegal c.args.storage p entries) c.parts-parts.ensures.parts
+    (legal_at_end c.args.storage parts entries (subst (IsUnbrokenBefore c.args.storage parts entries) end c.loop-place.invariant.unbroken) c.loop-place.state c.is_complete.result (subst (λ n. IsState parts entries n c.loop-place.state) end c.loop-place.invariant.is_state) is c.if-is_complete.true)
 
 pub returns : goal.returns
 returns c =
@@ -51,6 +50,6 @@ returns c =
     let end : c.loop-place.place ≡ length entries = omega (arith, c.loop-place-test.false, c.loop-place.auto.place-end) in
     let is : IsTrue c.is_complete.result ↔ HaveMadeAll parts.threads c.loop-place.state.threads.items =
     subst (λ ts. IsTrue c.is_complete.result ↔ HaveMadeAll ts c.loop-place.state.threads.items) c.as_slice.ensures (subst (λ ps. IsTrue c.is_complete.result ↔ HaveMadeAll c.as_slice.result.now ps) c.deref-2.ensures.value c.is_complete.ensures) in
-    let broken = missing_at_end parts entries (subst (IsUnbrokenBefore storage.Plain parts entries) end c.loop-place.invariant.unbroken) c.loop-place.state c.is_complete.result (subst (λ n. IsState parts entries n c.loop-place.state) end c.loop-place.invariant.is_state) is c.if-is_complete.false in
+    let broken = missing_at_end c.args.storage parts entries (subst (IsUnbrokenBefore c.args.storage parts entries) end c.loop-place.invariant.unbroken) c.loop-place.state c.is_complete.result (subst (λ n. IsState parts entries n c.loop-place.state) end c.loop-place.invariant.is_state) is c.if-is_complete.false in
     let back : length entries ≡ length entries + 1 - 1 = omega arith in
-    (omega arith, subst (λ p. IsFirstBroken storage.Plain p entries (length entries + 1 - 1) rule.Missing) c.parts-parts.ensures.parts (subst (λ k. IsFirstBroken storage.Plain parts entries k rule.Missing) back broken))
+    (omega arith, subst (λ p. IsFirstBroken c.args.storage p entries (length entries + 1 - 1) rule.Missing) c.parts-parts.ensures.parts (subst (λ k. IsFirstBroken c.args.storage parts entries k rule.Missing) back broken))

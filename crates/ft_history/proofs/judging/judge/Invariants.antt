@@ -1,10 +1,9 @@
-use Rattle.ft_model.specs.declared.entry.Storage.TheVariants as storage
 use Rattle.ft_history.specs.Steps.{IsState, IsUnbrokenBefore}
 use Rattle.ft_history.proofs.judging.judge.Given as goal
 
 abbrev pub invariant-loop-place : goal.invariant-loop-place
 invariant-loop-place l =
     record {
-      unbroken : IsUnbrokenBefore storage.Plain l.parts l.entries l.place;
+      unbroken : IsUnbrokenBefore l.storage l.parts l.entries l.place;
       is_state : IsState l.parts l.entries l.place l.state;
     }

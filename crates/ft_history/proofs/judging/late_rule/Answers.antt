@@ -4,7 +4,6 @@ use Rattle.std.proofs.lemmas.Bool.{false≢true}
 use Rattle.std.proofs.lemmas.Option.{slice_get_read}
 use Rattle.ft_model.specs.declared.entry.Entry.{Entry}
 use Rattle.ft_model.specs.declared.entry.Rule.TheVariants as rule
-use Rattle.ft_model.specs.declared.entry.Storage.TheVariants as storage
 use Rattle.ft_model.specs.declared.script.ScriptParts.{ScriptParts}
 use Rattle.ft_model.specs.Answers.{is_memory}
 use Rattle.ft_model.specs.Histories.{IsMarked, IsKept, IsCounted}
@@ -38,60 +37,65 @@ counted : (parts : ScriptParts) (entries : List Entry) (place : ℕ) (entry : En
 counted parts entries place entry progress r sections same so_far is = counted_iff parts entries place entry progress r so_far (subst (λ ss. IsTrue r ↔ IfEndsBegun (all_begun ss) entry.call (λ section. IsCountedAs (progress.marks - section.marks) entry.reply)) same is)
 
 pub returns-then-not-is_marked_right : goal.returns-then-not-is_marked_right
-returns-then-not-is_marked_right c = λ parts entries place at users is_state first.
+returns-then-not-is_marked_right c = λ entries place at users is_state first.
+    let parts = c.args.parts.now in
     let progress : Progress = c.index-progress.result.now in
-    let so_far = there parts entries place c.args.entry.now.thread c.args.state.now progress is_state (omega (arith, c.requires, c.args.state.now.threads.ok.0)) c.index-progress.ensures in
+    let so_far = there parts entries place c.args.entry.now.thread c.args.state.now progress is_state (omega (arith, c.requires.thread, c.args.state.now.threads.ok.0)) c.index-progress.ensures in
     let inner = λ (at marks : ℕ). c.inner_objects.ensures at marks ∙ ap (λ ss. inner_begun (after_begun at marks c.args.entry.now.call (all_begun ss))) c.deref.ensures.value in
     record { before = first; broken = refuted c.is_marked_right.result c.if-not-is_marked_right.true (marked_iff parts entries place c.args.entry.now progress c.args.users.now _ _ c.is_marked_right.result users so_far c.objects_needed-own.ensures inner c.is_marked_right.ensures) }
 
 pub returns-then-not-is_kept_right : goal.returns-then-not-is_kept_right
-returns-then-not-is_kept_right c = λ parts entries place at users is_state first.
+returns-then-not-is_kept_right c = λ entries place at users is_state first.
+    let parts = c.args.parts.now in
     let progress : Progress = c.index-progress.result.now in
     let entry = c.args.entry.now in
-    let so_far = there parts entries place entry.thread c.args.state.now progress is_state (omega (arith, c.requires, c.args.state.now.threads.ok.0)) c.index-progress.ensures in
+    let so_far = there parts entries place entry.thread c.args.state.now progress is_state (omega (arith, c.requires.thread, c.args.state.now.threads.ok.0)) c.index-progress.ensures in
     let inner = λ (at marks : ℕ). c.inner_objects.ensures at marks ∙ ap (λ ss. inner_begun (after_begun at marks entry.call (all_begun ss))) c.deref.ensures.value in
     let marked = (marked_iff parts entries place entry progress c.args.users.now _ _ c.is_marked_right.result users so_far c.objects_needed-own.ensures inner c.is_marked_right.ensures).0 c.if-not-is_marked_right.false in
     record {
-      before = keeps_more storage.Plain parts entries place entry 4 rule.Mark refl first marked;
+      before = keeps_more c.args.storage parts entries place entry 4 rule.Mark refl first marked;
       broken = refuted c.is_kept_right.result c.if-not-is_kept_right.true (kept parts entries place entry c.args.state.now progress c.is_kept_right.result _ _ c.deref-2.ensures.value c.deref-3.ensures.value is_state so_far c.is_kept_right.ensures);
     }
 
 pub returns-then-not-is_counted_right : goal.returns-then-not-is_counted_right
-returns-then-not-is_counted_right c = λ parts entries place at users is_state first.
+returns-then-not-is_counted_right c = λ entries place at users is_state first.
+    let parts = c.args.parts.now in
     let progress : Progress = c.index-progress.result.now in
     let entry = c.args.entry.now in
-    let so_far = there parts entries place entry.thread c.args.state.now progress is_state (omega (arith, c.requires, c.args.state.now.threads.ok.0)) c.index-progress.ensures in
+    let so_far = there parts entries place entry.thread c.args.state.now progress is_state (omega (arith, c.requires.thread, c.args.state.now.threads.ok.0)) c.index-progress.ensures in
     let inner = λ (at marks : ℕ). c.inner_objects.ensures at marks ∙ ap (λ ss. inner_begun (after_begun at marks entry.call (all_begun ss))) c.deref.ensures.value in
     let marked = (marked_iff parts entries place entry progress c.args.users.now _ _ c.is_marked_right.result users so_far c.objects_needed-own.ensures inner c.is_marked_right.ensures).0 c.if-not-is_marked_right.false in
     let is_kept = (kept parts entries place entry c.args.state.now progress c.is_kept_right.result _ _ c.deref-2.ensures.value c.deref-3.ensures.value is_state so_far c.is_kept_right.ensures).0 c.if-not-is_kept_right.false in
     record {
-      before = keeps_more storage.Plain parts entries place entry 5 rule.Kept refl (keeps_more storage.Plain parts entries place entry 4 rule.Mark refl first marked) is_kept;
+      before = keeps_more c.args.storage parts entries place entry 5 rule.Kept refl (keeps_more c.args.storage parts entries place entry 4 rule.Mark refl first marked) is_kept;
       broken = refuted c.is_counted_right.result c.if-not-is_counted_right.true (counted parts entries place entry progress c.is_counted_right.result _ c.deref-4.ensures.value so_far c.is_counted_right.ensures);
     }
 
-pub returns-then-is_memory_error : goal.returns-then-is_memory_error
-returns-then-is_memory_error c = λ parts entries place at users is_state first.
+pub returns-then-not-has_cause : goal.returns-then-not-has_cause
+returns-then-not-has_cause c = λ entries place at users is_state first.
+    let parts = c.args.parts.now in
     let progress : Progress = c.index-progress.result.now in
     let entry = c.args.entry.now in
-    let so_far = there parts entries place entry.thread c.args.state.now progress is_state (omega (arith, c.requires, c.args.state.now.threads.ok.0)) c.index-progress.ensures in
+    let so_far = there parts entries place entry.thread c.args.state.now progress is_state (omega (arith, c.requires.thread, c.args.state.now.threads.ok.0)) c.index-progress.ensures in
     let inner = λ (at marks : ℕ). c.inner_objects.ensures at marks ∙ ap (λ ss. inner_begun (after_begun at marks entry.call (all_begun ss))) c.deref.ensures.value in
     let marked = (marked_iff parts entries place entry progress c.args.users.now _ _ c.is_marked_right.result users so_far c.objects_needed-own.ensures inner c.is_marked_right.ensures).0 c.if-not-is_marked_right.false in
     let is_kept = (kept parts entries place entry c.args.state.now progress c.is_kept_right.result _ _ c.deref-2.ensures.value c.deref-3.ensures.value is_state so_far c.is_kept_right.ensures).0 c.if-not-is_kept_right.false in
     let is_counted = (counted parts entries place entry progress c.is_counted_right.result _ c.deref-4.ensures.value so_far c.is_counted_right.ensures).0 c.if-not-is_counted_right.false in
     record {
-      before = keeps_more storage.Plain parts entries place entry 6 rule.Suspended refl (keeps_more storage.Plain parts entries place entry 5 rule.Kept refl (keeps_more storage.Plain parts entries place entry 4 rule.Mark refl first marked) is_kept) is_counted;
-      broken = λ none. false≢true (sym none ∙ sym c.is_memory_error.ensures ∙ c.if-is_memory_error.true);
+      before = keeps_more c.args.storage parts entries place entry 6 rule.Suspended refl (keeps_more c.args.storage parts entries place entry 5 rule.Kept refl (keeps_more c.args.storage parts entries place entry 4 rule.Mark refl first marked) is_kept) is_counted;
+      broken = refuted c.has_cause.result c.if-not-has_cause.true (c.has_cause.ensures entries place is_state);
     }
 
 pub returns : goal.returns
-returns c = λ parts entries place at users is_state.
+returns c = λ entries place at users is_state.
+    let parts = c.args.parts.now in
     let progress : Progress = c.index-progress.result.now in
     let entry = c.args.entry.now in
-    let so_far = there parts entries place entry.thread c.args.state.now progress is_state (omega (arith, c.requires, c.args.state.now.threads.ok.0)) c.index-progress.ensures in
+    let so_far = there parts entries place entry.thread c.args.state.now progress is_state (omega (arith, c.requires.thread, c.args.state.now.threads.ok.0)) c.index-progress.ensures in
     let inner = λ (at marks : ℕ). c.inner_objects.ensures at marks ∙ ap (λ ss. inner_begun (after_begun at marks entry.call (all_begun ss))) c.deref.ensures.value in
     record {
       mark = (marked_iff parts entries place entry progress c.args.users.now _ _ c.is_marked_right.result users so_far c.objects_needed-own.ensures inner c.is_marked_right.ensures).0 c.if-not-is_marked_right.false;
       kept = (kept parts entries place entry c.args.state.now progress c.is_kept_right.result _ _ c.deref-2.ensures.value c.deref-3.ensures.value is_state so_far c.is_kept_right.ensures).0 c.if-not-is_kept_right.false;
       suspended = (counted parts entries place entry progress c.is_counted_right.result _ c.deref-4.ensures.value so_far c.is_counted_right.ensures).0 c.if-not-is_counted_right.false;
-      memory = sym c.is_memory_error.ensures ∙ c.if-is_memory_error.false;
+      memory = (c.has_cause.ensures entries place is_state).0 c.if-not-has_cause.false;
     }

@@ -1,14 +1,15 @@
-use Rattle.std.proofs.Common.{◌≡◌, ℕ, ◌+◌, ◌<◌, ◌≤◌, List, length, Option, Some, refl, sym, ap, subst, ◌∙◌, arith}
+use Rattle.std.proofs.Common.{◌≡◌, ℕ, ◌+◌, ◌<◌, ◌≤◌, List, length, take, Option, Some, refl, sym, ap, subst, ◌∙◌, arith}
 use Rattle.std.specs.Prelude.{slice_get, slice_index_or, All}
 use Rattle.ft_model.specs.Calls.{containers_of}
 use Rattle.std.proofs.lemmas.Option.{slice_get_read, same_Some}
 use Rattle.ft_model.specs.declared.entry.Entry.{Entry}
 use Rattle.ft_model.specs.declared.entry.Rule.TheVariants as rule
-use Rattle.ft_model.specs.declared.entry.Storage.TheVariants as storage
 use Rattle.ft_history.specs.declared.progress.Progress.{Progress}
 use Rattle.ft_history.specs.Steps.{IsState, BreaksFirst, Finds}
+use Rattle.ft_model.specs.Histories.{writes}
 use Rattle.ft_history.proofs.Judged.{few_made}
-use Rattle.ft_history.proofs.GoesBehindLemmas.{state_behind, askable_at, within_containers, thread_within, few_writes, few_marks, breaks_reply, keeps_four, finds_all, where_none}
+use Rattle.ft_history.proofs.LedgerLemmas.{earned_no_cursor}
+use Rattle.ft_history.proofs.GoesBehindLemmas.{state_behind, askable_at, of_kind_at, within_containers, thread_within, few_writes, few_marks, breaks_reply, keeps_four, finds_all, where_none}
 use Rattle.ft_history.proofs.judging.step.Goals as goal
 
 -- the entry that stands at the place
@@ -18,24 +19,33 @@ here entries place entry low read = slice_get_read entries (length entries) plac
 pub returns-in-Some-clause-found : goal.returns-in-Some-clause-found
 returns-in-Some-clause-found c = λ entry at.
     let same = same_Some _ _ (sym (here c.args.entries.now c.args.place c.index-entries-place.result c.requires.place c.index-entries-place.is) ∙ at) in
-    subst (λ e. BreaksFirst storage.Plain c.args.parts.now c.args.entries.now c.args.place e c.in-Some.rule) same (c.in-Some.ensures storage.Plain)
+    subst (λ e. BreaksFirst c.args.storage c.args.parts.now c.args.entries.now c.args.place e c.in-Some.rule) same (c.in-Some.ensures c.args.storage)
 
-pub late_rule-late-requires : goal.late_rule-late-requires
-late_rule-late-requires c =
+pub late_rule-late-requires-clause-thread : goal.late_rule-late-requires-clause-thread
+late_rule-late-requires-clause-thread c =
     let at = here c.args.entries.now c.args.place c.index-entries-place.result c.requires.place c.index-entries-place.is in
-    let next = c.in_default.ensures storage.Plain rule.Whole (omega arith) in
+    let next = c.in_default.ensures c.args.storage rule.Whole (omega arith) in
     omega (arith, c.args.state.now.threads.ok.0, thread_within c.args.parts.now c.requires.script c.args.entries.now c.args.place c.index-entries-place.result at next c.args.state.now c.requires.state)
+
+pub late_rule-late-requires-clause-kinds : goal.late_rule-late-requires-clause-kinds
+late_rule-late-requires-clause-kinds c =
+    let at = here c.args.entries.now c.args.place c.index-entries-place.result c.requires.place c.index-entries-place.is in
+    let next = c.in_default.ensures c.args.storage rule.Whole (omega arith) in
+    of_kind_at c.args.parts.now c.requires.script c.args.entries.now c.args.place c.index-entries-place.result at next c.args.state.now c.requires.state
+
+pub go_behind-requires-clause-ledger : goal.go_behind-requires-clause-ledger
+go_behind-requires-clause-ledger c = omega (arith, c.args.state.now.ledger.takings.ok.0, c.requires.state.ledger.classes)
 
 pub go_behind-requires-clause-thread : goal.go_behind-requires-clause-thread
 go_behind-requires-clause-thread c =
     let at = here c.args.entries.now c.args.place c.index-entries-place.result c.requires.place c.index-entries-place.is in
-    let next = c.in_default.ensures storage.Plain rule.Whole (omega arith) in
+    let next = c.in_default.ensures c.args.storage rule.Whole (omega arith) in
     omega (arith, c.args.state.now.threads.ok.0, thread_within c.args.parts.now c.requires.script c.args.entries.now c.args.place c.index-entries-place.result at next c.args.state.now c.requires.state)
 
 pub go_behind-requires-clause-askable : goal.go_behind-requires-clause-askable
 go_behind-requires-clause-askable c = λ progress made.
     let at = here c.args.entries.now c.args.place c.index-entries-place.result c.requires.place c.index-entries-place.is in
-    let next = c.in_default.ensures storage.Plain rule.Whole (omega arith) in
+    let next = c.in_default.ensures c.args.storage rule.Whole (omega arith) in
     askable_at c.args.parts.now c.requires.script c.args.entries.now c.args.place c.index-entries-place.result at next c.args.state.now progress c.requires.state made
 
 pub go_behind-requires-clause-few : goal.go_behind-requires-clause-few
@@ -52,7 +62,7 @@ go_behind-requires-clause-writes c = omega (arith, c.requires.state.count, few_w
 pub go_behind-requires-clause-containers : goal.go_behind-requires-clause-containers
 go_behind-requires-clause-containers c =
     let at = here c.args.entries.now c.args.place c.index-entries-place.result c.requires.place c.index-entries-place.is in
-    let next = c.in_default.ensures storage.Plain rule.Whole (omega arith) in
+    let next = c.in_default.ensures c.args.storage rule.Whole (omega arith) in
     subst (λ n. All (λ object. object < n) (containers_of c.index-entries-place.result.call)) (sym c.args.state.now.containers.ok.0)
     (within_containers c.args.parts.now c.requires.script c.args.entries.now c.args.place c.index-entries-place.result at next c.args.state.now c.requires.state)
 
@@ -60,21 +70,21 @@ pub returns-then-told-clause-found : goal.returns-then-told-clause-found
 returns-then-told-clause-found c = λ entry at'.
     let at = here c.args.entries.now c.args.place c.index-entries-place.result c.requires.place c.index-entries-place.is in
     let goes = c.in_ok-told.ensures in
-    let first = keeps_four c.args.parts.now c.args.entries.now c.args.place c.index-entries-place.result c.in_ok-told.told goes.0 goes.1 c.args.state.now c.go_behind.new.state c.requires.state goes.2 (c.in_default.ensures storage.Plain) c.if-told.true in
-    subst (λ e. Finds storage.Plain c.args.parts.now c.args.entries.now c.args.place e c.late_rule-late.result) (same_Some _ _ (sym at ∙ at'))
-    (finds_all c.args.parts.now c.args.entries.now c.args.place c.index-entries-place.result c.late_rule-late.result first (c.late_rule-late.ensures c.args.parts.now c.args.entries.now c.args.place at c.requires.users c.requires.state))
+    let first = keeps_four c.args.storage c.args.parts.now c.args.entries.now c.args.place c.index-entries-place.result c.in_ok-told.told goes.0 goes.1 c.args.state.now c.go_behind.new.state c.requires.state goes.2 (c.in_default.ensures c.args.storage) c.if-told.true in
+    subst (λ e. Finds c.args.storage c.args.parts.now c.args.entries.now c.args.place e c.late_rule-late.result) (same_Some _ _ (sym at ∙ at'))
+    (finds_all c.args.storage c.args.parts.now c.args.entries.now c.args.place c.index-entries-place.result c.late_rule-late.result first (c.late_rule-late.ensures c.args.entries.now c.args.place at c.requires.users c.requires.state))
 
 pub returns-then-told-clause-state : goal.returns-then-told-clause-state
 returns-then-told-clause-state c =
     let at = here c.args.entries.now c.args.place c.index-entries-place.result c.requires.place c.index-entries-place.is in
     let goes = c.in_ok-told.ensures in
-    let first = c.in_default.ensures storage.Plain in
-    where_none c.args.parts.now c.args.entries.now c.args.place c.index-entries-place.result _ c.late_rule-late.result (c.late_rule-late.ensures c.args.parts.now c.args.entries.now c.args.place at c.requires.users c.requires.state)
-    (λ late. state_behind c.args.parts.now c.requires.script c.args.entries.now c.args.place c.index-entries-place.result at (first rule.Whole (omega arith)) (first rule.Stamp (omega arith)) late.memory c.in_ok-told.told goes.0 goes.1 c.args.state.now c.go_behind.new.state c.requires.state goes.2 c.if-told.true)
+    let first = c.in_default.ensures c.args.storage in
+    where_none c.args.storage c.args.parts.now c.args.entries.now c.args.place c.index-entries-place.result _ c.late_rule-late.result (c.late_rule-late.ensures c.args.entries.now c.args.place at c.requires.users c.requires.state)
+    (λ late. state_behind c.args.parts.now c.requires.script c.args.entries.now c.args.place c.index-entries-place.result at (first rule.Whole (omega arith)) (first rule.Stamp (omega arith)) (earned_no_cursor c.args.storage c.args.parts.now (writes (take c.args.place c.args.entries.now)) c.index-entries-place.result late.memory) c.in_ok-told.told goes.0 goes.1 c.args.state.now c.go_behind.new.state c.requires.state goes.2 c.if-told.true)
 
 pub returns-else-told-clause-found : goal.returns-else-told-clause-found
 returns-else-told-clause-found c = λ entry at'.
     let at = here c.args.entries.now c.args.place c.index-entries-place.result c.requires.place c.index-entries-place.is in
     let goes = c.in_ok-told.ensures in
-    subst (λ e. BreaksFirst storage.Plain c.args.parts.now c.args.entries.now c.args.place e rule.Reply) (same_Some _ _ (sym at ∙ at'))
-    (breaks_reply c.args.parts.now c.args.entries.now c.args.place c.index-entries-place.result c.in_ok-told.told goes.0 goes.1 c.args.state.now c.go_behind.new.state c.requires.state goes.2 (c.in_default.ensures storage.Plain) c.if-told.false)
+    subst (λ e. BreaksFirst c.args.storage c.args.parts.now c.args.entries.now c.args.place e rule.Reply) (same_Some _ _ (sym at ∙ at'))
+    (breaks_reply c.args.storage c.args.parts.now c.args.entries.now c.args.place c.index-entries-place.result c.in_ok-told.told goes.0 goes.1 c.args.state.now c.go_behind.new.state c.requires.state goes.2 (c.in_default.ensures c.args.storage) c.if-told.false)

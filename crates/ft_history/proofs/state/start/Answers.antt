@@ -48,4 +48,5 @@ returns c = λ entries.
       hands = λ thread progress at. hands_at_start parts entries thread (there thread progress at).0 progress (there thread progress at).1 (there thread progress at).2;
       containers = ap length blank ∙ length-replicate (length parts.containers) nothing;
       lasts = λ object last at. last_at_start entries object last (ap (λ (w : LastWrites). w.last) (last_is object last at)) (ap (λ (w : LastWrites). w.other) (last_is object last at));
+      ledger = c.in_ok-start_ledger.ensures;
     }

@@ -1,0 +1,170 @@
+ghost use Rattle.std.specs.Prelude.{◌≡◌, ◌+◌, ◌^◌, ◌<◌, ◌&&◌, ◌||◌, ◌==◌, not, nat_lt, IfSome, length, filter, if◌then◌else◌};
+ghost use Rattle.ft_model.specs.declared.call.Call.TheVariants as call_of;
+ghost use Rattle.ft_model.specs.declared.script.Kind.TheVariants as kind;
+ghost use Rattle.ft_model.specs.Calls.{other_dict, other_list, other_set};
+ghost use Rattle.ft_model.specs.Contents.{has_key, has_element, those_not_in, dict_update};
+ghost use Rattle.ft_model.specs.Tables.{can_add, would_pass};
+ghost use Rattle.ft_model.specs.Worlds.{IsOfKind};
+ghost use Rattle.ft_history.specs.Ledgers.{AreOfKind};
+
+use ft_model::{Call, Dict, DictCall, DictPair, Key, ListCall, Set, SetCall, World};
+
+/// How many pairs, items and elements the largest tables hold.
+const MOST_PAIRS: usize = 2730;
+
+const MOST_ITEMS: usize = 4096;
+
+const MOST_ELEMENTS: usize = 2457;
+
+/// Whether the call is of a kind that can add to a container.
+pub fn can_add(call: &Call) -> bool
+    ensures { result ≡ can_add call.now }
+{
+    match call {
+        Call::Dict { call, .. } => matches!(
+            call,
+            DictCall::Set { .. }
+                | DictCall::SetDefault { .. }
+                | DictCall::Update { .. }
+                | DictCall::CopyTo { .. }
+        ),
+        Call::List { call, .. } => matches!(
+            call,
+            ListCall::Append { .. } | ListCall::Insert { .. } | ListCall::Extend { .. }
+        ),
+        Call::Set { call, .. } => matches!(
+            call,
+            SetCall::Add { .. } | SetCall::Or { .. } | SetCall::Xor { .. }
+        ),
+        Call::Next { .. } | Call::Begin { .. } | Call::End | Call::Quiesce => false,
+    }
+}
+
+/// Whether the call can add, and would leave a container that it names with more than the largest
+/// table holds.
+pub fn would_pass(world: &World, call: &Call) -> bool
+    requires { AreOfKind world.now call.now }
+    ensures { result ≡ would_pass world.now call.now }
+{
+    match call {
+        Call::Dict { container, call } => dict_would_pass(world, *container, call),
+        Call::List { container, call } => list_would_pass(world, *container, call),
+        Call::Set { container, call } => set_would_pass(world, *container, call),
+        Call::Next { .. } | Call::Begin { .. } | Call::End | Call::Quiesce => false,
+    }
+}
+
+fn dict_would_pass(world: &World, place: u32, call: &DictCall) -> bool
+    requires one { IsOfKind world.now kind.Dict place }
+    requires both { IfSome (other_dict call.now) (λ other. IsOfKind world.now kind.Dict other) }
+    ensures { result ≡ would_pass world.now (call_of.Dict place call.now) }
+{
+    let dict = world.dict(place);
+    match *call {
+        DictCall::Set { key, .. } => length_with_key(dict, key) > MOST_PAIRS,
+        DictCall::SetDefault { key, .. } => length_with_key(dict, key) > MOST_PAIRS,
+        DictCall::Update { other } => {
+            let others = world.dict(other);
+            let count = others.len();
+            one_passes(
+                MOST_PAIRS,
+                length_with_keys(dict, others),
+                count,
+                place,
+                other,
+            )
+        }
+        DictCall::CopyTo { .. } => dict.len() > MOST_PAIRS,
+        _ => false,
+    }
+}
+
+fn list_would_pass(world: &World, place: u32, call: &ListCall) -> bool
+    requires one { IsOfKind world.now kind.List place }
+    requires both { IfSome (other_list call.now) (λ other. IsOfKind world.now kind.List other) }
+    ensures { result ≡ would_pass world.now (call_of.List place call.now) }
+{
+    let list = world.list(place);
+    match *call {
+        ListCall::Append { .. } => list.len() + 1 > MOST_ITEMS,
+        ListCall::Insert { .. } => list.len() + 1 > MOST_ITEMS,
+        ListCall::Extend { other } => {
+            let count = world.list(other).len();
+            one_passes(MOST_ITEMS, list.len() + count, count, place, other)
+        }
+        _ => false,
+    }
+}
+
+fn set_would_pass(world: &World, place: u32, call: &SetCall) -> bool
+    requires one { IsOfKind world.now kind.Set place }
+    requires both { IfSome (other_set call.now) (λ other. IsOfKind world.now kind.Set other) }
+    ensures { result ≡ would_pass world.now (call_of.Set place call.now) }
+{
+    let set = world.set(place);
+    match *call {
+        SetCall::Add { key } => length_with_element(set, key) > MOST_ELEMENTS,
+        SetCall::Or { other } => {
+            let others = world.set(other);
+            let count = others.len();
+            let behind = set.len() + new_elements(set, others);
+            one_passes(MOST_ELEMENTS, behind, count, place, other)
+        }
+        SetCall::Xor { other } => {
+            let others = world.set(other);
+            let count = others.len();
+            let behind = new_elements(others, set) + new_elements(set, others);
+            one_passes(MOST_ELEMENTS, behind, count, place, other)
+        }
+        _ => false,
+    }
+}
+
+/// Whether a container has more than most behind a call, or the other one does, where it is another.
+fn one_passes(most: usize, behind: usize, others: usize, place: u32, other: u32) -> bool
+    ensures { result ≡ (nat_lt most behind || (not (place == other) && nat_lt most others)) }
+{
+    behind > most || (place != other && others > most)
+}
+
+/// How many pairs a dict has that has the key too.
+fn length_with_key(dict: &Dict, key: Key) -> usize
+    ensures { result ≡ length dict.now.pairs + (if has_key dict.now.pairs key then 0 else 1) }
+{
+    dict.len() + usize::from(!dict.has(key))
+}
+
+/// How many elements a set has that has the key too.
+fn length_with_element(set: &Set, key: Key) -> usize
+    ensures { result ≡ length set.now.elements + (if has_element set.now.elements key then 0 else 1) }
+{
+    set.len() + usize::from(!set.has(key))
+}
+
+/// How many pairs a dict has that is updated with the other.
+fn length_with_keys(dict: &Dict, other: &Dict) -> usize
+    ensures { result ≡ length (dict_update dict.now other.now.pairs).pairs }
+{
+    let others = other.pairs();
+    dict.len() + new_keys(dict, others)
+}
+
+/// How many keys of the pairs aren't in the dict.
+fn new_keys(dict: &Dict, pairs: &[DictPair]) -> usize
+    ensures keys { result ≡ length (filter (λ pair. not (has_key dict.now.pairs pair.key)) pairs.now) }
+    ensures few { result < 2 ^ 63 }
+{
+    pairs.iter().filter(|pair| !dict.has(pair.key)).count()
+}
+
+/// How many elements of the other set aren't in the set.
+fn new_elements(set: &Set, other: &Set) -> usize
+    ensures elements { result ≡ length (those_not_in set.now.elements other.now.elements) }
+    ensures few { result < 2 ^ 63 }
+{
+    other
+        .elements()
+        .iter()
+        .filter(|element| !set.has(element.key))
+        .count()
+}

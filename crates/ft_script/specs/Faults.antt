@@ -1,11 +1,77 @@
--- The faults of a script's text.
-use Rattle.std.specs.Prelude.{None}
+-- The faults of a script's text, and how they are told. (profile)
+use Rattle.std.specs.Prelude.{ℕ, ◌==◌, List, [], Option, Some, None, Result, Ok, Err, codes, if◌then◌else◌}
+use Rattle.ft_script.specs.declared.fault.Fault.{Fault}
+use Rattle.ft_script.specs.declared.fault.Fault.TheVariants as fault
+use Rattle.ft_script.specs.declared.fault.LineError.{LineError}
+use Rattle.ft_script.specs.declared.fault.LineError.TheVariants as error
 use Rattle.ft_script.specs.declared.fault.ScriptFault.{ScriptFault}
-
--- what is told of every text that is no script: an unknown word on line 1
-abbrev pub unknown_word : ScriptFault
-unknown_word = record { line = 1; kind = 2; which = None }
+use Rattle.ft_script.specs.declared.fault.Which.{Which}
+use Rattle.ft_script.specs.declared.fault.Which.TheVariants as which
 
 -- memory ran out; the line says nothing
 abbrev pub no_memory : ScriptFault
 no_memory = record { line = 1; kind = 14; which = None }
+
+-- the number that a fault is told by
+abbrev pub kind_of : Fault → ℕ
+kind_of fault.Encoding = 1
+kind_of fault.UnknownWord = 2
+kind_of fault.WordCount = 3
+kind_of fault.Number = 4
+kind_of fault.String = 5
+kind_of fault.Name = 6
+kind_of fault.NameTwice = 7
+kind_of fault.WrongKind = 8
+kind_of fault.EndWithoutBegin = 9
+kind_of fault.BeginWithoutEnd = 10
+kind_of fault.TooDeep = 11
+kind_of (fault.Limit limit) = 12
+kind_of fault.OrderName = 13
+
+abbrev pub which_of : Fault → Option Which
+which_of (fault.Limit limit) = Some limit
+which_of other = None
+
+-- a fault at a line
+abbrev pub fault_at : ℕ → Fault → ScriptFault
+fault_at line found = record { line = line; kind = kind_of found; which = which_of found }
+
+-- a line's answer, with the line's number
+abbrev pub told : {X : Type 0} → Result X LineError → ℕ → Result X ScriptFault
+told (Ok x) line = Ok x
+told (Err error.Memory) line = Err no_memory
+told (Err (error.Fault found)) line = Err (fault_at line found)
+
+abbrev pub limit_text : Which → List ℕ
+limit_text which.Threads = codes "limit threads"
+limit_text which.Containers = codes "limit containers"
+limit_text which.Calls = codes "limit calls"
+limit_text which.Strings = codes "limit strings"
+limit_text which.StringBytes = codes "limit string bytes"
+limit_text which.Class = codes "limit class"
+limit_text which.Tables = codes "limit tables"
+limit_text which.Heap = codes "limit heap"
+limit_text which.Cursors = codes "limit cursors"
+limit_text which.Order = codes "limit order"
+
+abbrev pub some_limit_text : Option Which → List ℕ
+some_limit_text None = codes "limit"
+some_limit_text (Some limit) = limit_text limit
+
+-- what the number says
+abbrev pub kind_text : ℕ → Option Which → List ℕ
+kind_text kind limit =
+    if kind == 1 then codes "not UTF-8" else (
+    if kind == 2 then codes "unknown word" else (
+    if kind == 3 then codes "wrong count of words" else (
+    if kind == 4 then codes "bad number" else (
+    if kind == 5 then codes "bad string" else (
+    if kind == 6 then codes "name" else (
+    if kind == 7 then codes "name twice" else (
+    if kind == 8 then codes "wrong kind" else (
+    if kind == 9 then codes "end without begin" else (
+    if kind == 10 then codes "begin without end" else (
+    if kind == 11 then codes "section too deep" else (
+    if kind == 12 then some_limit_text limit else (
+    if kind == 13 then codes "order name" else (
+    if kind == 14 then codes "want of memory" else [])))))))))))))

@@ -1,6 +1,14 @@
 pub mod Forms
 pub mod Texts
 pub mod Faults
-pub mod Scripts
+pub mod Lines
 pub mod Words
-pub mod Calls
+pub mod CallWords
+pub mod Drafts
+pub mod Arguments
+pub mod Reading
+pub mod Scripts
+pub mod Transcripts
+pub mod Tokens
+pub mod Candidates
+pub mod Readers

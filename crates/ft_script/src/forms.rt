@@ -425,7 +425,11 @@ fn push_argument(
     }
 }
 
-fn push_container(out: &mut Vec<u8>, script: &ScriptParts, container: u32) -> Result<(), AllocError>
+pub(crate) fn push_container(
+    out: &mut Vec<u8>,
+    script: &ScriptParts,
+    container: u32,
+) -> Result<(), AllocError>
     requires { container < length script.now.containers }
     ensures { OnOk result (out.new.items ≡ out.old.items ++ container_name script.now container) }
 {

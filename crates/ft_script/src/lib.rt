@@ -1,14 +1,29 @@
 //! Scripts and transcripts as text.
 #![tactic(auto)]
 
+mod arguments;
+mod call_words;
+mod calls;
+mod declared;
+mod draft;
+mod entries;
 mod fault;
 mod forms;
+mod laws;
+mod lines;
 mod parser;
 mod print;
+mod replies;
+mod reply_words;
 mod shown;
+mod statements;
 mod strings;
+mod tokens;
+mod transcript;
 mod words;
 
 pub use fault::{ScriptFault, Which};
+pub use laws::{no_transcript_is_bad, one_transcript};
 pub use parser::parse;
 pub use print::{print_entry, print_world, push_entry, push_world};
+pub use transcript::{Transcript, TranscriptFault, read_transcript};

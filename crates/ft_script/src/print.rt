@@ -37,7 +37,12 @@ pub fn push_entry(out: &mut Vec<u8>, script: &Script, entry: &Entry) -> Result<(
     push_entry_line(out, script.parts(), entry)
 }
 
-fn push_entry_line(out: &mut Vec<u8>, script: &ScriptParts, entry: &Entry) -> Result<(), AllocError>
+/// Adds an entry's line at the end of `out`, by the parts of the script.
+pub(crate) fn push_entry_line(
+    out: &mut Vec<u8>,
+    script: &ScriptParts,
+    entry: &Entry,
+) -> Result<(), AllocError>
     requires { IsEntryOf script.now entry.now }
     ensures { OnOk result (out.new.items ≡ out.old.items ++ entry_line script.now entry.now) }
 {

@@ -1,6 +1,6 @@
 //! The distinct strings of a script, each with its number.
-ghost use Rattle.ft_script.specs.Calls.{IsNumberOf};
-ghost use Rattle.std.specs.Prelude.{◌≡◌, ◌^◌, ◌<◌, [], length, IfOk, OnErr};
+ghost use Rattle.ft_script.specs.Drafts.{text_place};
+ghost use Rattle.std.specs.Prelude.{◌≡◌, [], ◌∷◌, ◌++◌, length, None, IfOk, OnOk};
 
 use ft_model::{Sequence, Text};
 use indexmap::IndexSet;
@@ -40,19 +40,21 @@ impl Strings {
         self.texts.len()
     }
 
-    /// The text's number. A text that has none gets the next one.
-    pub(crate) fn number_of(&mut self, text: &[u8]) -> Result<u32, AllocError>
-        requires { length self.old < 2 ^ 32 }
-        ensures number { IfOk result (λ n. IsNumberOf text.now n self.old self.new) }
-        ensures err { OnErr result (self.new ≡ self.old) }
+    /// The text's number, where it has one.
+    pub(crate) fn place_of(&self, text: &[u8]) -> Option<usize>
+        ensures { result ≡ text_place self.now text.now }
     {
-        if let Some(number) = self.texts.get_index_of(text) {
-            return Ok(number as u32);
-        }
-        let number = self.texts.len() as u32;
+        self.texts.get_index_of(text)
+    }
+
+    /// Adds a text, which has the next number.
+    pub(crate) fn add(&mut self, text: &[u8]) -> Result<(), AllocError>
+        requires { text_place self.old text.now ≡ None }
+        ensures { OnOk result (self.new ≡ self.old ++ text.now ∷ []) }
+    {
         let text = Vec::from_slice(self.alloc, text)?;
         self.texts.insert(text)?;
-        Ok(number)
+        Ok(())
     }
 
     /// The strings by their numbers.

@@ -1,54 +1,9 @@
-//! The words of a line, and what each kind of word says.
+//! What the words of a line say.
 ghost use Rattle.ft_model.specs.Names.{is_container_byte, is_container_name, is_thread_byte, is_thread_name};
-ghost use Rattle.ft_script.specs.Scripts.{is_letters, words_of};
-ghost use Rattle.ft_script.specs.Words.{Shows, between_marks, is_integer, is_positive, rest_pieces};
-ghost use Rattle.std.specs.Fmt.{signed_decimal};
-ghost use Rattle.std.specs.Int.{w64};
-ghost use Rattle.std.specs.List.{slice_split};
-ghost use Rattle.std.specs.Prelude.{◌≡◌, ◌≢◌, ◌==◌, ◌<◌, ℕ, ℤ, List, ◌∷◌, FitsSigned, IfNone, IfSome, true, length, option_copied};
+ghost use Rattle.ft_script.specs.Words.{integer_of, is_integer, is_positive, is_string, text_of, unescaped};
+ghost use Rattle.std.specs.Prelude.{◌≡◌, ◌<◌, IfOk, length};
 
-/// The words of a line that has as many as a script's line may have.
-#[derive(Clone, Copy, Debug)]
-pub(crate) enum Words<'a> {
-    Two(&'a [u8], &'a [u8]),
-    Three(&'a [u8], &'a [u8], &'a [u8]),
-    Four(&'a [u8], &'a [u8], &'a [u8], &'a [u8]),
-    Other,
-}
-
-/// What stands before the first separator, and what stands behind it, where there is one.
-pub(crate) fn cut(bytes: &[u8], separator: u8) -> (&[u8], Option<&[u8]>)
-    ensures pieces { slice_split (λ b. b == separator) bytes.now ≡ result.0.now ∷ rest_pieces separator (option_copied result.1) }
-    ensures shorter { IfSome result.1 (λ rest. length rest.now < length bytes.now) }
-{
-    match bytes.iter().position(|b| *b == separator) {
-        Some(end) => (&bytes[..end], Some(&bytes[end + 1..])),
-        None => (bytes, None),
-    }
-}
-
-/// The words of a line, parted by one space.
-pub(crate) fn words_of_line(line: &[u8]) -> Words<'_>
-    ensures { Shows result (words_of line.now) }
-{
-    let (first, rest) = cut(line, b' ');
-    let Some(rest) = rest else {
-        return Words::Other;
-    };
-    let (second, rest) = cut(rest, b' ');
-    let Some(rest) = rest else {
-        return Words::Two(first, second);
-    };
-    let (third, rest) = cut(rest, b' ');
-    let Some(rest) = rest else {
-        return Words::Three(first, second, third);
-    };
-    let (fourth, rest) = cut(rest, b' ');
-    match rest {
-        None => Words::Four(first, second, third, fourth),
-        Some(_) => Words::Other,
-    }
-}
+use std::alloc::{AllocError, Global};
 
 /// Whether the word may name a container.
 pub(crate) fn is_container_name(word: &[u8]) -> bool
@@ -107,8 +62,7 @@ fn is_integer(word: &[u8]) -> bool
 
 /// The integer that the word is, where an `i64` has it.
 pub(crate) fn integer_of(word: &[u8]) -> Option<i64>
-    ensures found { IfSome result (λ n. word.now ≡ signed_decimal n) }
-    ensures none { IfNone result ((n : ℤ) → FitsSigned w64 n → word.now ≢ signed_decimal n) }
+    ensures { result ≡ integer_of word.now }
 {
     if !is_integer(word) {
         return None;
@@ -116,22 +70,45 @@ pub(crate) fn integer_of(word: &[u8]) -> Option<i64>
     str::from_utf8(word).ok()?.parse().ok()
 }
 
-/// The letters between the quotation marks.
-pub(crate) fn letters_of(word: &[u8]) -> Option<&[u8]>
-    ensures found { IfSome result (λ text. (word.now ≡ between_marks text.now) × (is_letters text.now ≡ true)) }
-    ensures none { IfNone result ((text : List ℕ) → is_letters text ≡ true → word.now ≢ between_marks text) }
+/// Whether the word is a string.
+pub(crate) fn is_string(word: &[u8]) -> bool
+    ensures { result ≡ is_string word.now }
 {
-    match word {
-        [b'"', text @ .., b'"'] if are_letters(text) => Some(text),
-        _ => None,
-    }
+    matches!(word, [b'"', ..])
 }
 
-/// Whether the text is 1 to 32 letters.
-fn are_letters(text: &[u8]) -> bool
-    ensures { result ≡ is_letters text.now }
+/// What a string says: the bytes between its marks, each escape being one byte.
+#[tactic(auto, unfolding(crate::specs::Words::text_of))]
+pub(crate) fn text_of(alloc: Global, word: &[u8]) -> Result<Vec<u8>, AllocError>
+    requires { 0 < length word.now }
+    ensures { IfOk result (λ text. text.items ≡ text_of word.now) }
 {
-    (1..=32).contains(&text.len()) && text.iter().all(|b| b.is_ascii_lowercase())
+    let mut text = Vec::new(alloc);
+    let mut behind = false;
+    let letters = &word[1..];
+    for byte in letters {
+        match (behind, *byte) {
+            (false, b'\\') => behind = true,
+            (false, b'"') => return Ok(text),
+            (false, byte) => text.push(byte)?,
+            (true, byte) => {
+                text.push(unescaped(byte))?;
+                behind = false;
+            }
+        }
+    }
+    Ok(text)
+}
+
+/// The byte that stands behind a backslash as this one.
+fn unescaped(byte: u8) -> u8
+    ensures { result ≡ unescaped byte }
+{
+    match byte {
+        b'n' => b'\n',
+        b't' => b'\t',
+        _ => byte,
+    }
 }
 
 #[cfg(test)]
@@ -157,39 +134,6 @@ mod tests {
             "-9223372036854775809",
         ] {
             assert_eq!(rt; integer_of(word.as_bytes()), None);
-        }
-    }
-
-    #[test]
-    fn letters(rt: HostRuntime) {
-        assert!(rt; letters_of(b"\"abc\"").is_some_and(|text| text == b"abc".as_slice()));
-        for word in [
-            "",
-            "\"",
-            "\"\"",
-            "abc",
-            "\"abc",
-            "abc\"",
-            "\"aBc\"",
-            "\"a1\"",
-            "\"abcdefghijklmnopqrstuvwxyzabcdefg\"",
-        ] {
-            assert!(rt; letters_of(word.as_bytes()).is_none());
-        }
-    }
-
-    #[test]
-    fn words(rt: HostRuntime) {
-        assert!(rt; matches!(words_of_line(b"dict d"), Words::Two(b"dict", b"d")));
-        assert!(rt; matches!(words_of_line(b"get d "), Words::Three(b"get", b"d", b"")));
-        assert!(rt;
-            matches!(
-                words_of_line(b"set d 1 2"),
-                Words::Four(b"set", b"d", b"1", b"2")
-            )
-        );
-        for line in ["", "dict", "1 2 3 4 5"] {
-            assert!(rt; matches!(words_of_line(line.as_bytes()), Words::Other));
         }
     }
 }

@@ -1,0 +1,65 @@
+-- What the reading of lines keeps of a draft, so that it becomes a script.
+use Rattle.std.proofs.Common.{◌≡◌, ◌≢◌, ℕ, ◌+◌, ◌-◌, ◌<◌, Bool, true, false, cond, eqb, ltb, List, [], ◌∷◌, ◌++◌, Option, Result, Ok, Err, refl, sym, ap, ◌∙◌, subst, arith}
+use Rattle.std.proofs.lemmas.Bool.{ltb-true, eqb-false}
+use Rattle.ft_model.specs.declared.call.Call.{Call}
+use Rattle.ft_model.specs.declared.call.Call.TheVariants as call
+use Rattle.ft_model.specs.Scripts.{AreNested}
+use Rattle.ft_script.specs.declared.fault.Fault.{Fault}
+use Rattle.ft_script.specs.Drafts.{◌>>=◌}
+use Rattle.ft_script.specs.Reading.{depth_after}
+
+-- ---- sections
+
+bind_ok : {A B : Type 0} (r : Result A Fault) (f : A → Result B Fault) (y : B) → (r >>= f) ≡ Ok y → (x : A) × (r ≡ Ok x) × (f x ≡ Ok y)
+bind_ok (Ok x) f y e = (x, refl, e)
+bind_ok (Err d) f y e = absurd cc
+
+passed_left : {A : Type 0} (b : Bool) (x y : A) (e : Fault) → cond b (Ok x) (Err e) ≡ Ok y → (b ≡ true) × (x ≡ y)
+passed_left true x y e h = (refl, cc)
+passed_left false x y e h = absurd cc
+
+passed_right : {A : Type 0} (b : Bool) (x y : A) (e : Fault) → cond b (Err e) (Ok x) ≡ Ok y → (b ≡ false) × (x ≡ y)
+passed_right true x y e h = absurd cc
+passed_right false x y e h = (refl, cc)
+
+-- the sections that are open behind some calls
+abbrev pub depth_behind : ℕ → List Call → Result ℕ Fault
+depth_behind depth [] = Ok depth
+depth_behind depth (first ∷ calls) = depth_after depth first >>= λ next. depth_behind next calls
+
+abbrev then_done : Call → ℕ → Result ℕ Fault
+then_done last depth = depth_after depth last >>= λ next. Ok next
+
+pub behind_push : (depth : ℕ) (calls : List Call) (last : Call) (mid end : ℕ) → depth_behind depth calls ≡ Ok mid → depth_after mid last ≡ Ok end → depth_behind depth (calls ++ last ∷ []) ≡ Ok end
+behind_push depth [] last mid end is next =
+    let same : depth ≡ mid = cc in
+    ap (then_done last) same ∙ rw next refl
+behind_push depth (first ∷ calls) last mid end is next =
+    let b = bind_ok (depth_after depth first) (λ next. depth_behind next calls) mid is in
+    let rest : depth_behind b.0 (calls ++ last ∷ []) ≡ Ok end = behind_push b.0 calls last mid end b.2 next in
+    rw b.1 rest
+
+begin_depth : (depth first : ℕ) (second : Option ℕ) (next : ℕ) → depth_after depth (call.Begin first second) ≡ Ok next → (depth < 16) × (depth + 1 ≡ next)
+unfolding depth_after
+begin_depth depth first second next h = let p = passed_left (ltb depth 16) (depth + 1) next _ h in (ltb-true depth 16 p.0, p.1)
+
+end_depth : (depth next : ℕ) → depth_after depth call.End ≡ Ok next → (0 < depth) × (depth - 1 ≡ next)
+unfolding depth_after
+end_depth depth next h = let p = passed_right (eqb depth 0) (depth - 1) next _ h in let some : depth ≢ 0 = eqb-false depth 0 p.0 in (omega arith, p.1)
+
+pub nested_from : (depth : ℕ) (calls : List Call) → depth_behind depth calls ≡ Ok 0 → AreNested depth calls
+unfolding depth_after
+nested_from depth [] is = cc
+nested_from depth (call.Begin first second ∷ calls) is =
+    let b = bind_ok (depth_after depth (call.Begin first second)) (λ next. depth_behind next calls) 0 is in
+    let p = begin_depth depth first second b.0 b.1 in
+    (p.0, subst (λ (n : ℕ). AreNested n calls) (sym p.1) (nested_from b.0 calls b.2))
+nested_from depth (call.End ∷ calls) is =
+    let b = bind_ok (depth_after depth call.End) (λ next. depth_behind next calls) 0 is in
+    let p = end_depth depth b.0 b.1 in
+    (p.0, subst (λ (n : ℕ). AreNested n calls) (sym p.1) (nested_from b.0 calls b.2))
+nested_from depth (call.Dict place inner ∷ calls) is = nested_from depth calls is
+nested_from depth (call.List place inner ∷ calls) is = nested_from depth calls is
+nested_from depth (call.Set place inner ∷ calls) is = nested_from depth calls is
+nested_from depth (call.Next number ∷ calls) is = nested_from depth calls is
+nested_from depth (call.Quiesce ∷ calls) is = nested_from depth calls is

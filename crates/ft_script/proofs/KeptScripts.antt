@@ -1,0 +1,138 @@
+-- The lines of a text make a draft that becomes a script.
+use Rattle.std.proofs.Common.{◌≡◌, ◌⊎◌, ℕ, ◌+◌, ◌%◌, ◌<◌, ◌≤◌, true, false, eqb, List, [], ◌∷◌, length, Option, Some, None, Result, Ok, Err, refl, sym, ◌∙◌, subst, inl, inr, arith}
+use Rattle.std.specs.Prelude.{IfSome, IfOk}
+use Rattle.std.specs.Option.{unwrap_or}
+use Rattle.std.specs.Str.{IsUtf8}
+use Rattle.std.proofs.lemmas.List.{length-map}
+use Rattle.std.proofs.lemmas.List.Elements.{All-map, All-nil, All-replicate, All-weaker}
+use Rattle.ft_model.specs.declared.script.ScriptParts.{ScriptParts}
+use Rattle.ft_model.specs.Names.{IsString, is_container_name}
+use Rattle.ft_model.specs.Scripts.{IsCallOf, IsScript, IsThread}
+use Rattle.ft_script.specs.declared.draft.Draft.{Draft}
+use Rattle.ft_script.specs.declared.fault.Fault.{Fault}
+use Rattle.ft_script.specs.declared.fault.ScriptFault.{ScriptFault}
+use Rattle.ft_script.specs.Lines.{ends_thread, is_comment, lines_of, words_of}
+use Rattle.ft_script.specs.Drafts.{empty_draft, end_thread, or_fault, script_of}
+use Rattle.ft_script.specs.Reading.{open_line, read_line, words_line}
+use Rattle.ft_script.specs.Scripts.{line_after, read_lines, told_at}
+use Rattle.ft_script.proofs.Encoded.{AreEncoded, BeginsNoThread, begins_no_thread, line_good, lines_encoded}
+use Rattle.ft_script.proofs.Kept.{AreGoodWords, IsTable, bind_holds, cond_holds, or_holds, some_holds}
+use Rattle.ft_script.proofs.KeptDrafts.{IsDraft, calls_in, end_thread_keeps, no_names, none_made}
+use Rattle.ft_script.proofs.KeptStatements.{statement_keeps}
+
+-- ---- lines
+
+found_holds : {A : Type 0} (o : Option A) (P : A → Type 0) (x : A) → o ≡ Some x → IfSome o P → P x
+found_holds {A = A} o P x is h = let held : IfSome (Some x) P = subst (λ (p : Option A). IfSome p P) is h in held
+
+words_line_keeps : (d : Draft) (line : List ℕ) → IsDraft d → IsUtf8 line → (d.name ≡ None) ⊎ (ends_thread line ≡ false) → IfOk (words_line d line) IsDraft
+unfolding words_line
+words_line_keeps d line h encoded apart =
+    bind_holds (or_fault _ (words_of line)) _ (λ words. words_of line ≡ Some words) IsDraft (or_holds _ (words_of line) (λ words. words_of line ≡ Some words) (λ words is. is)) (λ words is.
+    statement_keeps d words h (found_holds (words_of line) AreGoodWords words is (line_good line encoded))
+    (elim apart [ inl none ↦ inl none | inr going ↦ inr (found_holds (words_of line) BeginsNoThread words is (begins_no_thread line going)) ]))
+
+both_hold : {A : Type 0} (r : Result A Fault) (P Q : A → Type 0) → IfOk r P → IfOk r Q → IfOk r (λ x. P x × Q x)
+both_hold (Ok x) P Q p q = (p, q)
+both_hold (Err e) P Q p q = tt
+
+end_thread_names : (d : Draft) → IfOk (end_thread d) (λ e. e.name ≡ None)
+unfolding end_thread
+end_thread_names d =
+    some_holds d.name _ _ (λ e. e.name ≡ None) (λ name named. cond_holds (eqb d.depth 0) _ _ (λ e. e.name ≡ None) (λ _. refl) (λ _. tt)) (λ none. none)
+
+open_line_keeps : (d : Draft) (line : List ℕ) → IsDraft d → IsUtf8 line → IfOk (open_line d line) IsDraft
+unfolding open_line
+open_line_keeps d line h encoded =
+    cond_holds (ends_thread line) _ _ IsDraft
+    (λ _. bind_holds (end_thread d) _ (λ e. IsDraft e × (e.name ≡ None)) IsDraft (both_hold (end_thread d) IsDraft (λ e. e.name ≡ None) (end_thread_keeps d h) (end_thread_names d)) (λ ended g. words_line_keeps ended line g.0 encoded (inl g.1)))
+    (λ going. words_line_keeps d line h encoded (inr going))
+
+read_line_keeps : (d : Draft) (line : List ℕ) → IsDraft d → IsUtf8 line → IfOk (read_line d line) IsDraft
+unfolding read_line
+read_line_keeps d line h encoded = cond_holds (is_comment line) _ _ IsDraft (λ _. h) (λ _. open_line_keeps d line h encoded)
+
+told_holds : {A : Type 0} (number : ℕ) (r : Result A Fault) (P : A → Type 0) → IfOk r P → IfOk (told_at number r) P
+told_holds number (Ok x) P h = h
+told_holds number (Err e) P h = tt
+
+then_holds : {A B E : Type 0} (r : Result A E) (f : A → Result B E) (P : A → Type 0) (Q : B → Type 0) → IfOk r P → ((x : A) → P x → IfOk (f x) Q) → IfOk (elim r [ Ok x ↦ f x | Err e ↦ Err e ]) Q
+then_holds (Ok x) f P Q h then = then x h
+then_holds (Err e) f P Q h then = tt
+
+read_lines_keep : (lines : List (List ℕ)) (number : ℕ) (d : Draft) → IsDraft d → AreEncoded lines → IfOk (read_lines number d lines) IsDraft
+unfolding read_lines
+read_lines_keep [] number d h encoded = told_holds number (end_thread d) IsDraft (end_thread_keeps d h)
+read_lines_keep (line ∷ lines) number d h encoded =
+    then_holds (told_at number (read_line d line)) (λ next. read_lines (line_after number) next lines) IsDraft IsDraft (told_holds number (read_line d line) IsDraft (read_line_keeps d line h encoded.0)) (λ next g. read_lines_keep lines (line_after number) next g encoded.1)
+
+-- ---- the first draft and the script
+
+no_strings_yet : IsTable []
+no_strings_yet = record { few = omega arith; strings = All-nil IsString; differ = λ i j d low high. absurd (omega arith) }
+
+empty_is_draft : IsDraft empty_draft
+empty_is_draft =
+    record {
+      few_containers = omega arith;
+      container_names = All-nil (λ container. is_container_name container.name ≡ true);
+      containers_differ = λ i j d low high. absurd (omega arith);
+      few_threads = omega arith;
+      threads_are = All-nil (IsThread (script_of empty_draft));
+      threads_differ = λ i j d low high. absurd (omega arith);
+      few_calls = omega arith;
+      counted = omega arith;
+      table = no_strings_yet;
+      classes = refl;
+      counts = All-replicate (λ count. IfSome count (λ n. (1 ≤ n) × (n ≤ 64))) 10 None tt;
+      places = tt;
+      few_turns = omega arith;
+      turns = All-nil (λ thread. thread < 0);
+      named = tt;
+      idle = (refl, refl);
+      cursors_are = no_names;
+      calls_are = All-nil (IsCallOf (script_of empty_draft) 0);
+      made = none_made;
+      all_made = λ n low. absurd (omega arith);
+      nested = refl;
+    }
+
+count_or_four : (count : Option ℕ) → IfSome count (λ n. (1 ≤ n) × (n ≤ 64)) → (1 ≤ unwrap_or count 4) × (unwrap_or count 4 ≤ 64)
+count_or_four None h = (omega arith, omega arith)
+count_or_four (Some n) h = h
+
+heap_or_least : (heap : Option ℕ) → IfSome heap (λ n. (64 ≤ n) × (n ≤ 4096) × (n % 64 ≡ 0)) → (64 ≤ unwrap_or heap 64) × (unwrap_or heap 64 ≤ 4096) × (unwrap_or heap 64 % 64 ≡ 0)
+heap_or_least None h = (omega arith, omega arith, refl)
+heap_or_least (Some n) h = h
+
+script_is : (d : Draft) → IsDraft d → IsScript (script_of d)
+script_is d h =
+    let heap = heap_or_least d.heap h.places in
+    let all : calls_in d.threads + length d.calls ≡ d.called = h.counted in
+    let most : d.called ≤ 500000 = h.few_calls in
+    record {
+      few_containers = h.few_containers;
+      container_names = h.container_names;
+      containers_differ = h.containers_differ;
+      few_threads = h.few_threads;
+      threads = h.threads_are;
+      threads_differ = h.threads_differ;
+      few_calls = omega arith;
+      few_strings = h.table.few;
+      strings = h.table.strings;
+      strings_differ = h.table.differ;
+      classes = length-map d.tables (λ count. unwrap_or count 4) ∙ h.classes;
+      tables = All-map (λ count. (1 ≤ count) × (count ≤ 64)) (λ count. unwrap_or count 4) d.tables (All-weaker (λ count. IfSome count (λ n. (1 ≤ n) × (n ≤ 64))) (λ count. (1 ≤ unwrap_or count 4) × (unwrap_or count 4 ≤ 64)) count_or_four d.tables h.counts);
+      least_heap = heap.0;
+      greatest_heap = heap.1;
+      heap_steps = heap.2;
+      few_turns = h.few_turns;
+      turns = h.turns;
+    }
+
+-- what the lines of a text in UTF-8 come to is a script
+pub read_is_script : (bytes : List ℕ) (draft : Draft) (parts : ScriptParts) → IsUtf8 bytes → read_lines 1 empty_draft (lines_of bytes) ≡ Ok draft → parts ≡ script_of draft → IsScript parts
+read_is_script bytes draft parts encoded read made =
+    let kept : IfOk (read_lines 1 empty_draft (lines_of bytes)) IsDraft = read_lines_keep (lines_of bytes) 1 empty_draft empty_is_draft (lines_encoded bytes encoded) in
+    let is : IsDraft draft = subst (λ (r : Result Draft ScriptFault). IfOk r IsDraft) read kept in
+    subst (λ (p : ScriptParts). IsScript p) (sym made) (script_is draft is)

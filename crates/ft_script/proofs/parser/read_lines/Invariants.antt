@@ -1,0 +1,11 @@
+use Rattle.std.proofs.Common.{◌≡◌, length}
+use Rattle.ft_script.specs.Lines.{lines_of}
+use Rattle.ft_script.specs.Drafts.{empty_draft}
+use Rattle.ft_script.specs.Scripts.{read_lines}
+use Rattle.ft_script.proofs.parser.read_lines.Given as goal
+
+abbrev pub invariant-loop-rest : goal.invariant-loop-rest
+invariant-loop-rest l = read_lines l.number l.draft (lines_of l.rest) ≡ read_lines 1 empty_draft (lines_of l.fn.text)
+
+abbrev pub decreases-loop-rest : goal.decreases-loop-rest
+decreases-loop-rest l = length l.rest

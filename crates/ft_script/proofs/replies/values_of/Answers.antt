@@ -1,0 +1,22 @@
+use Rattle.std.proofs.Common.{◌≡◌, ◌∙◌, List, Result, ap, sym}
+use Rattle.std.proofs.lemmas.Result.{err_from_is_err_and}
+use Rattle.ft_script.specs.Candidates.{each_of, known_value}
+use Rattle.ft_script.proofs.ReplyLoops.{behind, good, each_begins, each_on, each_end, each_done}
+use Rattle.ft_script.proofs.TokenLists.{shown}
+use Rattle.ft_script.proofs.replies.values_of.Goals as goal
+
+pub loop-token-init : goal.loop-token-init
+loop-token-init c = rw c.new-values.ensures.items (each_begins (known_value c.args.strings.now) (shown c.args.tokens.now))
+
+pub loop-token-preserved : goal.loop-token-preserved
+loop-token-preserved c =
+    rw c.in_ok-push.ensures.items (each_on (known_value c.args.strings.now) c.loop-token.values.items c.in_ok-known_value.field-0 c.args.tokens.now c.loop-token.token-index _ _ c.loop-token-test.true c.in_ok-known_value.ensures c.loop-token.invariant)
+
+pub returns-in_err-known_value : goal.returns-in_err-known_value
+returns-in_err-known_value c =
+    let p = err_from_is_err_and c.from_residual.result c.from_residual.ensures.1 in
+    rw (p.1, p.2) (each_end (known_value c.args.strings.now) c.in_err-known_value.field-0.0 c.loop-token.values.items c.args.tokens.now c.loop-token.token-index _ _ c.loop-token-test.true c.in_err-known_value.ensures c.loop-token.invariant)
+
+pub returns : goal.returns
+returns c =
+    each_done (known_value c.args.strings.now) c.loop-token.values.items c.args.tokens.now c.loop-token.token-index _ c.loop-token-test.false c.loop-token.invariant ∙ ap good (sym c.from_vec.ensures)

@@ -1,0 +1,35 @@
+use Rattle.std.proofs.Common.{◌≡◌, ℕ, List, Bor, Option, Some, None, ◌∙◌, sym, rules, tests}
+use Rattle.std.specs.List.{position}
+use Rattle.std.specs.Str.{bytes_eq}
+use Rattle.std.proofs.lemmas.Iterator.{YieldsList-from_slice}
+use Rattle.std.proofs.lemmas.Iterator.Search.{position_from_yields_List}
+use Rattle.ft_script.proofs.TokenLists.{before_found, behind_found, before_missing, behind_missing}
+use Rattle.ft_script.proofs.tokens.split_at_word.Goals as goal
+
+pub returns-in-Some-clause-before : goal.returns-in-Some-clause-before
+returns-in-Some-clause-before c =
+    let word = c.args.word.now in
+    let tokens = c.args.tokens.now in
+    let e : c.position.result ≡ position (λ (t : Bor (List ℕ)). bytes_eq t.now word) tokens = position_from_yields_List (λ (t : Bor (List ℕ)). bytes_eq t.now word) _ _ c.position.result c.position.ensures.ran (YieldsList-from_slice tokens cc) (λ x b q k. search (rules, tests)) in
+    before_found word tokens c.in-Some.place (sym e ∙ c.in-Some.is)
+
+pub returns-in-Some-clause-behind : goal.returns-in-Some-clause-behind
+returns-in-Some-clause-behind c =
+    let word = c.args.word.now in
+    let tokens = c.args.tokens.now in
+    let e : c.position.result ≡ position (λ (t : Bor (List ℕ)). bytes_eq t.now word) tokens = position_from_yields_List (λ (t : Bor (List ℕ)). bytes_eq t.now word) _ _ c.position.result c.position.ensures.ran (YieldsList-from_slice tokens cc) (λ x b q k. search (rules, tests)) in
+    behind_found word tokens c.in-Some.place (sym e ∙ c.in-Some.is)
+
+pub returns-in-None-clause-before : goal.returns-in-None-clause-before
+returns-in-None-clause-before c =
+    let word = c.args.word.now in
+    let tokens = c.args.tokens.now in
+    let e : c.position.result ≡ position (λ (t : Bor (List ℕ)). bytes_eq t.now word) tokens = position_from_yields_List (λ (t : Bor (List ℕ)). bytes_eq t.now word) _ _ c.position.result c.position.ensures.ran (YieldsList-from_slice tokens cc) (λ x b q k. search (rules, tests)) in
+    before_missing word tokens (sym e ∙ c.in-None.is)
+
+pub returns-in-None-clause-behind : goal.returns-in-None-clause-behind
+returns-in-None-clause-behind c =
+    let word = c.args.word.now in
+    let tokens = c.args.tokens.now in
+    let e : c.position.result ≡ position (λ (t : Bor (List ℕ)). bytes_eq t.now word) tokens = position_from_yields_List (λ (t : Bor (List ℕ)). bytes_eq t.now word) _ _ c.position.result c.position.ensures.ran (YieldsList-from_slice tokens cc) (λ x b q k. search (rules, tests)) in
+    behind_missing word tokens (sym e ∙ c.in-None.is)

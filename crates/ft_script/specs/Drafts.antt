@@ -1,0 +1,94 @@
+-- What the lines above a place say, and what names and strings stand for there. (profile)
+use Rattle.std.specs.Prelude.{◌≡◌, ℕ, ◌==◌, List, [], ◌∷◌, ◌++◌, map, replicate, position, Option, Some, None, Result, Ok, Err, if◌then◌else◌}
+use Rattle.std.specs.Option.{unwrap_or}
+use Rattle.std.specs.Str.{bytes_eq}
+use Rattle.ft_model.specs.declared.script.Declaration.{Declaration}
+use Rattle.ft_model.specs.declared.script.Thread.{Thread}
+use Rattle.ft_model.specs.declared.script.ScriptParts.{ScriptParts}
+use Rattle.ft_script.specs.declared.draft.Draft.{Draft}
+use Rattle.ft_script.specs.declared.fault.Fault.{Fault}
+use Rattle.ft_script.specs.declared.fault.Fault.TheVariants as fault
+use Rattle.ft_script.specs.declared.fault.LineError.{LineError}
+use Rattle.ft_script.specs.declared.fault.LineError.TheVariants as error
+
+-- ---- results
+
+infixl 10 ◌>>=◌
+abbrev pub ◌>>=◌ : {A B : Type 0} → Result A Fault → (A → Result B Fault) → Result B Fault
+(Ok x) >>= f = f x
+(Err e) >>= f = Err e
+
+-- a refusal for want of memory, or the fault that reading gives
+abbrev pub Fails : {Y : Type 0} → LineError → Result Y Fault → Type 0
+Fails error.Memory read = Unit {0}
+Fails (error.Fault found) read = read ≡ Err found
+
+-- what was returned, seen by view, is what reading gives
+abbrev pub Gives : {X Y : Type 0} → (X → Y) → Result X LineError → Result Y Fault → Type 0
+Gives view (Ok x) read = read ≡ Ok (view x)
+Gives view (Err e) read = Fails e read
+
+-- and the draft behind it is this
+abbrev pub Reads : {X : Type 0} → Result X LineError → Draft → Result (X × Draft) Fault → Type 0
+Reads (Ok x) new read = read ≡ Ok (x, new)
+Reads (Err e) new read = Fails e read
+
+-- the draft behind a line is this
+abbrev pub Leaves : {X : Type 0} → Result X LineError → Draft → Result Draft Fault → Type 0
+Leaves (Ok x) new read = read ≡ Ok new
+Leaves (Err e) new read = Fails e read
+
+abbrev pub or_fault : {X : Type 0} → Fault → Option X → Result X Fault
+or_fault found None = Err found
+or_fault found (Some x) = Ok x
+
+-- ---- places
+
+-- where a container stands among those declared
+abbrev pub container_place : List Declaration → List ℕ → Option ℕ
+container_place containers name = position (λ container. bytes_eq container.name name) containers
+
+abbrev pub thread_place : List Thread → List ℕ → Option ℕ
+thread_place threads name = position (λ thread. bytes_eq thread.name name) threads
+
+abbrev pub text_place : List (List ℕ) → List ℕ → Option ℕ
+text_place texts text = position (λ other. bytes_eq text other) texts
+
+-- ---- drafts
+
+-- nothing is declared
+abbrev pub empty_draft : Draft
+empty_draft = record {
+  containers = [];
+  tables = replicate 10 None;
+  heap = None;
+  threads = [];
+  name = None;
+  cursors = [];
+  calls = [];
+  depth = 0;
+  called = 0;
+  strings = [];
+  order = [];
+}
+
+-- the script of all lines: where none says otherwise there are 4 tables of each class, and 64 places in each heap
+abbrev pub script_of : Draft → ScriptParts
+script_of draft = record {
+  containers = draft.containers;
+  threads = draft.threads;
+  strings = draft.strings;
+  tables = map (λ count. unwrap_or count 4) draft.tables;
+  heap = unwrap_or draft.heap 64;
+  order = draft.order;
+}
+
+-- the calls of a thread end, if one's calls stand here: each `begin` has its `end`
+unfoldable pub end_thread : Draft → Result Draft Fault
+end_thread draft = elim draft.name [
+  | None ↦ Ok draft
+  | Some name ↦
+      if draft.depth == 0
+      then Ok (record draft { threads = draft.threads ++ record { name = name; cursors = draft.cursors; calls = draft.calls } ∷ []; name = None; cursors = []; calls = [] })
+      else Err fault.BeginWithoutEnd
+]

@@ -1,0 +1,256 @@
+-- Which script the lines of a text are, or which fault they have first. (profile)
+use Rattle.std.specs.Prelude.{ℕ, ℤ, ◌+◌, ◌-◌, ◌%◌, Bool, false, not, ◌==◌, ◌&&◌, nat_lt, pos, int_le, List, [], ◌∷◌, ◌++◌, length, slice_get, slice_set, codes, Option, Some, None, Result, Ok, Err, if◌then◌else◌}
+use Rattle.std.specs.Str.{bytes_eq}
+use Rattle.std.specs.Option.{is_some}
+use Rattle.ft_model.specs.declared.call.Call.{Call}
+use Rattle.ft_model.specs.declared.call.Call.TheVariants as call
+use Rattle.ft_model.specs.declared.call.DictCall.{DictCall}
+use Rattle.ft_model.specs.declared.call.DictCall.TheVariants as dict
+use Rattle.ft_model.specs.declared.call.ListCall.{ListCall}
+use Rattle.ft_model.specs.declared.call.ListCall.TheVariants as list
+use Rattle.ft_model.specs.declared.call.SetCall.{SetCall}
+use Rattle.ft_model.specs.declared.call.SetCall.TheVariants as set
+use Rattle.ft_model.specs.declared.script.Kind.{Kind}
+use Rattle.ft_model.specs.declared.script.Kind.TheVariants as kind
+use Rattle.ft_model.specs.Names.{is_container_name, is_thread_name}
+use Rattle.ft_script.specs.declared.call_words.CallWord.{CallWord}
+use Rattle.ft_script.specs.declared.call_words.CallWord.TheVariants.{Next, Begin, End, Quiesce, On}
+use Rattle.ft_script.specs.declared.call_words.Operation.{Operation}
+use Rattle.ft_script.specs.declared.call_words.Operation.TheVariants as of
+use Rattle.ft_script.specs.declared.draft.Draft.{Draft}
+use Rattle.ft_script.specs.declared.fault.Fault.{Fault}
+use Rattle.ft_script.specs.declared.fault.Fault.TheVariants as fault
+use Rattle.ft_script.specs.declared.fault.LineError.{LineError}
+use Rattle.ft_script.specs.declared.fault.LineError.TheVariants as error
+use Rattle.ft_script.specs.declared.fault.Which.TheVariants as which
+use Rattle.ft_script.specs.Words.{natural_of}
+use Rattle.ft_script.specs.CallWords.{call_word_of}
+use Rattle.ft_script.specs.Lines.{words_of, is_comment, ends_thread}
+use Rattle.ft_script.specs.Drafts.{◌>>=◌, or_fault, container_place, thread_place, end_thread}
+use Rattle.ft_script.specs.Arguments.{index_of, container_of, kind_at, nothing_in, key_in, key_and_value_in, value_in, index_in, some_index_in, two_indices_in, index_and_value_in, other_in, made_cursor_in, cursor_in, section_in}
+
+-- ---- calls
+
+-- the calls of a dict: the word, and what stands behind the container's name
+unfoldable pub dict_call : Draft → Operation → List (List ℕ) → Result (DictCall × Draft) Fault
+dict_call draft of.Get words = key_in draft words >>= λ read. Ok (dict.Get read.0, read.1)
+dict_call draft of.GetOr words = key_and_value_in draft words >>= λ read. Ok (dict.GetOr read.0.0 read.0.1, read.1)
+dict_call draft of.Set words = key_and_value_in draft words >>= λ read. Ok (dict.Set read.0.0 read.0.1, read.1)
+dict_call draft of.Del words = key_in draft words >>= λ read. Ok (dict.Del read.0, read.1)
+dict_call draft of.Pop words = key_in draft words >>= λ read. Ok (dict.Pop read.0, read.1)
+dict_call draft of.PopOr words = key_and_value_in draft words >>= λ read. Ok (dict.PopOr read.0.0 read.0.1, read.1)
+dict_call draft of.PopItem words = nothing_in words >>= λ _. Ok (dict.PopItem, draft)
+dict_call draft of.SetDefault words = key_and_value_in draft words >>= λ read. Ok (dict.SetDefault read.0.0 read.0.1, read.1)
+dict_call draft of.Has words = key_in draft words >>= λ read. Ok (dict.Has read.0, read.1)
+dict_call draft of.Len words = nothing_in words >>= λ _. Ok (dict.Len, draft)
+dict_call draft of.Items words = nothing_in words >>= λ _. Ok (dict.Items, draft)
+dict_call draft of.Update words = other_in draft kind.Dict words >>= λ other. Ok (dict.Update other, draft)
+dict_call draft of.Clear words = nothing_in words >>= λ _. Ok (dict.Clear, draft)
+dict_call draft of.CopyTo words = other_in draft kind.Dict words >>= λ other. Ok (dict.CopyTo other, draft)
+dict_call draft of.Eq words = other_in draft kind.Dict words >>= λ other. Ok (dict.Eq other, draft)
+dict_call draft of.Iter words = made_cursor_in draft words >>= λ read. Ok (dict.Iter read.0, read.1)
+dict_call draft other words = Err fault.WrongKind
+
+-- and of a list
+unfoldable pub list_call : Draft → Operation → List (List ℕ) → Result (ListCall × Draft) Fault
+list_call draft of.Append words = value_in draft words >>= λ read. Ok (list.Append read.0, read.1)
+list_call draft of.Insert words = index_and_value_in draft words >>= λ read. Ok (list.Insert read.0.0 read.0.1, read.1)
+list_call draft of.Get words = index_in words >>= λ index. Ok (list.Get index, draft)
+list_call draft of.Set words = index_and_value_in draft words >>= λ read. Ok (list.Set read.0.0 read.0.1, read.1)
+list_call draft of.Del words = index_in words >>= λ index. Ok (list.Del index, draft)
+list_call draft of.Pop words = some_index_in words >>= λ index. Ok (list.Pop index, draft)
+list_call draft of.Remove words = value_in draft words >>= λ read. Ok (list.Remove read.0, read.1)
+list_call draft of.Index words = value_in draft words >>= λ read. Ok (list.Index read.0, read.1)
+list_call draft of.Count words = value_in draft words >>= λ read. Ok (list.Count read.0, read.1)
+list_call draft of.Has words = value_in draft words >>= λ read. Ok (list.Has read.0, read.1)
+list_call draft of.Reverse words = nothing_in words >>= λ _. Ok (list.Reverse, draft)
+list_call draft of.Extend words = other_in draft kind.List words >>= λ other. Ok (list.Extend other, draft)
+list_call draft of.Slice words = two_indices_in words >>= λ ends. Ok (list.Slice ends.0 ends.1, draft)
+list_call draft of.Clear words = nothing_in words >>= λ _. Ok (list.Clear, draft)
+list_call draft of.Len words = nothing_in words >>= λ _. Ok (list.Len, draft)
+list_call draft of.Items words = nothing_in words >>= λ _. Ok (list.Items, draft)
+list_call draft of.Eq words = other_in draft kind.List words >>= λ other. Ok (list.Eq other, draft)
+list_call draft of.Iter words = made_cursor_in draft words >>= λ read. Ok (list.Iter read.0, read.1)
+list_call draft other words = Err fault.WrongKind
+
+-- and of a set
+unfoldable pub set_call : Draft → Operation → List (List ℕ) → Result (SetCall × Draft) Fault
+set_call draft of.Add words = key_in draft words >>= λ read. Ok (set.Add read.0, read.1)
+set_call draft of.Discard words = key_in draft words >>= λ read. Ok (set.Discard read.0, read.1)
+set_call draft of.Remove words = key_in draft words >>= λ read. Ok (set.Remove read.0, read.1)
+set_call draft of.Pop words = nothing_in words >>= λ _. Ok (set.Pop, draft)
+set_call draft of.Has words = key_in draft words >>= λ read. Ok (set.Has read.0, read.1)
+set_call draft of.Len words = nothing_in words >>= λ _. Ok (set.Len, draft)
+set_call draft of.Items words = nothing_in words >>= λ _. Ok (set.Items, draft)
+set_call draft of.Eq words = other_in draft kind.Set words >>= λ other. Ok (set.Eq other, draft)
+set_call draft of.Or words = other_in draft kind.Set words >>= λ other. Ok (set.Or other, draft)
+set_call draft of.And words = other_in draft kind.Set words >>= λ other. Ok (set.And other, draft)
+set_call draft of.Sub words = other_in draft kind.Set words >>= λ other. Ok (set.Sub other, draft)
+set_call draft of.Xor words = other_in draft kind.Set words >>= λ other. Ok (set.Xor other, draft)
+set_call draft of.Subset words = other_in draft kind.Set words >>= λ other. Ok (set.Subset other, draft)
+set_call draft of.Disjoint words = other_in draft kind.Set words >>= λ other. Ok (set.Disjoint other, draft)
+set_call draft of.Clear words = nothing_in words >>= λ _. Ok (set.Clear, draft)
+set_call draft of.Iter words = made_cursor_in draft words >>= λ read. Ok (set.Iter read.0, read.1)
+set_call draft other words = Err fault.WrongKind
+
+-- a call of the container at a place, which is of a kind
+unfoldable pub call_at : Draft → ℕ → Operation → List (List ℕ) → Option Kind → Result (Call × Draft) Fault
+call_at draft place operation words None = Err fault.Name
+call_at draft place operation words (Some kind.Dict) = dict_call draft operation words >>= λ read. Ok (call.Dict place read.0, read.1)
+call_at draft place operation words (Some kind.List) = list_call draft operation words >>= λ read. Ok (call.List place read.0, read.1)
+call_at draft place operation words (Some kind.Set) = set_call draft operation words >>= λ read. Ok (call.Set place read.0, read.1)
+
+-- a call whose first argument is a container, which says what stands behind it
+unfoldable pub container_call : Draft → Operation → List (List ℕ) → Result (Call × Draft) Fault
+container_call draft operation [] = Err fault.WordCount
+container_call draft operation (name ∷ words) = container_of draft name >>= λ place. call_at draft place operation words (kind_at draft place)
+
+-- the call that a word and those behind it are
+unfoldable pub call_of : Draft → CallWord → List (List ℕ) → Result (Call × Draft) Fault
+call_of draft Next words = cursor_in draft words >>= λ cursor. Ok (call.Next cursor, draft)
+call_of draft Begin words = section_in draft words >>= λ both. Ok (call.Begin both.0 both.1, draft)
+call_of draft End words = nothing_in words >>= λ _. Ok (call.End, draft)
+call_of draft Quiesce words = nothing_in words >>= λ _. Ok (call.Quiesce, draft)
+call_of draft (On operation) words = container_call draft operation words
+
+-- the open sections behind a call, of which there are at most 16
+unfoldable pub depth_after : ℕ → Call → Result ℕ Fault
+depth_after depth (call.Begin first second) = if nat_lt depth 16 then Ok (depth + 1) else Err fault.TooDeep
+depth_after depth call.End = if depth == 0 then Err fault.EndWithoutBegin else Ok (depth - 1)
+depth_after depth other = Ok depth
+
+-- the line of a call that isn't one too many
+unfoldable pub counted_call : Draft → CallWord → List (List ℕ) → Result Draft Fault
+counted_call draft word words = do
+  read ← call_of draft word words
+  depth ← depth_after draft.depth read.0
+  Ok (record read.1 { calls = read.1.calls ++ read.0 ∷ []; called = draft.called + 1; depth = depth })
+
+-- of a call that is one too many only a wrong count of words is told before that
+abbrev pub limit_fault : Fault → Fault
+limit_fault fault.WordCount = fault.WordCount
+limit_fault other = fault.Limit which.Calls
+
+abbrev pub past_limit : Result (Call × Draft) Fault → Result Draft Fault
+past_limit (Ok read) = Err (fault.Limit which.Calls)
+past_limit (Err found) = Err (limit_fault found)
+
+abbrev pub limit_error : Result Call LineError → LineError
+limit_error (Ok read) = error.Fault (fault.Limit which.Calls)
+limit_error (Err error.Memory) = error.Memory
+limit_error (Err (error.Fault found)) = error.Fault (limit_fault found)
+
+-- the line of a call
+unfoldable pub call_line : Draft → CallWord → List (List ℕ) → Result Draft Fault
+call_line draft word words = if nat_lt draft.called 500000 then counted_call draft word words else past_limit (call_of draft word words)
+
+-- ---- declarations
+
+-- `dict NAME`, `list NAME` and `set NAME`
+unfoldable pub container_line : Draft → Kind → List (List ℕ) → Result Draft Fault
+container_line draft kind (name ∷ []) =
+    if not (is_container_name name) then Err fault.Name else (
+    if is_some (container_place draft.containers name) then Err fault.NameTwice else (
+    if nat_lt (length draft.containers) 256 then Ok (record draft { containers = draft.containers ++ record { kind = kind; name = name } ∷ [] })
+    else Err (fault.Limit which.Containers)))
+container_line draft kind others = Err fault.WordCount
+
+-- the place of a class among those from 3 to 12
+abbrev pub class_place : ℤ → Option ℕ
+class_place n = if int_le (pos 3) n && int_le n (pos 12) then Some (natural_of n - 3) else None
+
+-- whether a line names the number of tables of the class
+abbrev pub is_told : Option (Option ℕ) → Bool
+is_told None = false
+is_told (Some count) = is_some count
+
+unfoldable pub class_of : List ℕ → Result ℕ Fault
+class_of word = index_of word >>= λ n. or_fault (fault.Limit which.Class) (class_place n)
+
+unfoldable pub tables_at : Draft → ℕ → List ℕ → Result Draft Fault
+tables_at draft place count =
+    if is_told (slice_get draft.tables place) then Err fault.NameTwice else (index_of count >>= λ n.
+    if int_le (pos 1) n && int_le n (pos 64) then Ok (record draft { tables = slice_set draft.tables place (Some (natural_of n)) }) else Err (fault.Limit which.Tables))
+
+unfoldable pub tables_of : Draft → List ℕ → List ℕ → Result Draft Fault
+tables_of draft class count = class_of class >>= λ place. tables_at draft place count
+
+-- `tables CLASS COUNT`
+unfoldable pub tables_line : Draft → List (List ℕ) → Result Draft Fault
+tables_line draft (class ∷ count ∷ []) = tables_of draft class count
+tables_line draft others = Err fault.WordCount
+
+-- `heap COUNT`
+unfoldable pub heap_line : Draft → List (List ℕ) → Result Draft Fault
+heap_line draft (count ∷ []) =
+    if is_some draft.heap then Err fault.NameTwice else (index_of count >>= λ n.
+    if int_le (pos 64) n && int_le n (pos 4096) && (natural_of n % 64 == 0) then Ok (record draft { heap = Some (natural_of n) }) else Err (fault.Limit which.Heap))
+heap_line draft others = Err fault.WordCount
+
+-- the lines above all threads
+unfoldable pub declaration : Draft → List ℕ → List (List ℕ) → Result Draft Fault
+declaration draft word words =
+    if bytes_eq word (codes "dict") then container_line draft kind.Dict words else (
+    if bytes_eq word (codes "list") then container_line draft kind.List words else (
+    if bytes_eq word (codes "set") then container_line draft kind.Set words else (
+    if bytes_eq word (codes "tables") then tables_line draft words else (
+    if bytes_eq word (codes "heap") then heap_line draft words else Err fault.UnknownWord))))
+
+-- ---- threads and their order
+
+-- `thread NAME`
+unfoldable pub thread_line : Draft → List (List ℕ) → Result Draft Fault
+thread_line draft (name ∷ []) =
+    if not (is_thread_name name) then Err fault.Name else (
+    if is_some (thread_place draft.threads name) then Err fault.NameTwice else (
+    if nat_lt (length draft.threads) 64 then Ok (record draft { name = Some name; depth = 0 })
+    else Err (fault.Limit which.Threads)))
+thread_line draft others = Err fault.WordCount
+
+-- a name of an `order` line
+unfoldable pub turn : Draft → List ℕ → Result Draft Fault
+turn draft name =
+    if not (is_thread_name name) then Err fault.Name else (or_fault fault.OrderName (thread_place draft.threads name) >>= λ thread.
+    if nat_lt (length draft.order) 1000000 then Ok (record draft { order = draft.order ++ thread ∷ [] }) else Err (fault.Limit which.Order))
+
+unfoldable pub turns : Draft → List (List ℕ) → Result Draft Fault
+turns draft [] = Ok draft
+turns draft (name ∷ names) = turn draft name >>= λ next. turns next names
+
+-- `order NAME NAME ..`
+unfoldable pub order_line : Draft → List (List ℕ) → Result Draft Fault
+order_line draft [] = Err fault.WordCount
+order_line draft (name ∷ names) = turns draft (name ∷ names)
+
+-- ---- lines
+
+-- a line of a thread
+unfoldable pub thread_statement : Draft → List ℕ → List (List ℕ) → Result Draft Fault
+thread_statement draft word words = or_fault fault.UnknownWord (call_word_of word) >>= λ found. call_line draft found words
+
+-- a line in a thread, where no declaration stands, or above all threads
+unfoldable pub plain_statement : Draft → List ℕ → List (List ℕ) → Result Draft Fault
+plain_statement draft word words = if is_some draft.name then thread_statement draft word words else declaration draft word words
+
+-- a line above all `order` lines
+unfoldable pub unordered_statement : Draft → List ℕ → List (List ℕ) → Result Draft Fault
+unordered_statement draft word words = if bytes_eq word (codes "thread") then thread_line draft words else plain_statement draft word words
+
+-- a line that isn't an `order` line, and stands behind none
+unfoldable pub other_statement : Draft → List ℕ → List (List ℕ) → Result Draft Fault
+other_statement draft word words = if length draft.order == 0 then unordered_statement draft word words else Err fault.UnknownWord
+
+-- a line by its words
+unfoldable pub statement : Draft → List (List ℕ) → Result Draft Fault
+statement draft [] = Ok draft
+statement draft (word ∷ words) = if bytes_eq word (codes "order") then order_line draft words else other_statement draft word words
+
+unfoldable pub words_line : Draft → List ℕ → Result Draft Fault
+words_line draft line = or_fault fault.String (words_of line) >>= λ words. statement draft words
+
+unfoldable pub open_line : Draft → List ℕ → Result Draft Fault
+open_line draft line = if ends_thread line then (end_thread draft >>= λ ended. words_line ended line) else words_line draft line
+
+-- a line: it ends the calls of the thread above it before anything else is told, and no word is read of one whose strings are broken
+unfoldable pub read_line : Draft → List ℕ → Result Draft Fault
+read_line draft line = if is_comment line then Ok draft else open_line draft line

@@ -1,0 +1,307 @@
+//! Reads the lines of entries and contents.
+ghost use Rattle.ft_script.specs.declared.fault.Fault.TheVariants as fault;
+ghost use Rattle.ft_script.specs.Candidates.{content_of, draft_at, entry_of, numbered_of, only_call, stamp_of, thread_call, thread_of, waited_of};
+ghost use Rattle.ft_script.specs.Drafts.{Gives, container_place, or_fault, thread_place};
+ghost use Rattle.ft_script.specs.Reading.{call_of};
+ghost use Rattle.ft_script.specs.Readers.{AddsNothing, IsReaderOf, IsUnchanged};
+ghost use Rattle.ft_script.specs.Tokens.{before_word};
+ghost use Rattle.ft_script.specs.Transcripts.{counts};
+ghost use Rattle.std.specs.List.{after_first, before_first};
+ghost use Rattle.std.specs.Prelude.{◌≡◌, ◌≢◌, ◌==◌, ◌<◌, AllPairs, IfOk, OnOk, codes, drop, length, map};
+
+use crate::arguments::number_of;
+use crate::call_words::{CallWord, call_word_of};
+use crate::draft::Draft;
+use crate::fault::{Fault, LineError};
+use crate::replies::{reply_of, u32_of, u64_of};
+use crate::strings::Strings;
+use crate::tokens::split_at_word;
+use ft_model::{
+    Call, Declaration, DictCall, Entry, ListCall, Reply, ScriptParts, Sequence, SetCall, Text,
+    Thread,
+};
+use std::alloc::{AllocError, Global};
+use std::mem;
+
+/// Whether the call's reply is a count.
+fn counts(call: &Call) -> bool
+    ensures { result ≡ counts call.now }
+{
+    matches!(
+        call,
+        Call::Dict {
+            call: DictCall::Len,
+            ..
+        } | Call::List {
+            call: ListCall::Len | ListCall::Index { .. } | ListCall::Count { .. },
+            ..
+        } | Call::Set {
+            call: SetCall::Len,
+            ..
+        }
+    )
+}
+
+/// The thread of that name.
+#[tactic(auto, unfolding(crate::specs::Candidates::thread_of))]
+fn thread_of(script: &ScriptParts, name: &[u8]) -> Result<u32, LineError>
+    ensures { Gives (λ thread. thread) result (thread_of script.now name.now) }
+{
+    let place = thread_place(script, name).ok_or(Fault::Name)?;
+    number_of(place)
+}
+
+/// Where the thread of that name stands.
+fn thread_place(script: &ScriptParts, name: &[u8]) -> Option<usize>
+    ensures { result ≡ thread_place script.now.threads name.now }
+{
+    let threads = script.threads.as_slice();
+    threads
+        .iter()
+        .position(|thread| thread.name.as_slice() == name)
+}
+
+/// The thread and the index that a dot parts.
+#[tactic(auto, unfolding(crate::specs::Candidates::numbered_of))]
+fn numbered_of(script: &ScriptParts, token: &[u8]) -> Result<(u32, u32), LineError>
+    ensures { Gives (λ numbered. numbered) result (numbered_of script.now token.now) }
+{
+    let (name, digits) = split_at_dot(token);
+    let thread = thread_of(script, name)?;
+    let index = u32_of(digits)?;
+    Ok((thread, index))
+}
+
+/// What stands before the first dot, or all, and what stands behind it.
+fn split_at_dot(token: &[u8]) -> (&[u8], &[u8])
+    ensures before { result.0.now ≡ before_first (λ b. b == 46) token.now }
+    ensures behind { result.1.now ≡ after_first (λ b. b == 46) token.now }
+{
+    match token.iter().position(|b| *b == b'.') {
+        Some(dot) => (&token[..dot], &token[dot + 1..]),
+        None => (token, &token[token.len()..]),
+    }
+}
+
+/// Whether a `w` stands there, and the number behind it.
+#[tactic(auto, unfolding(crate::specs::Candidates::stamp_of))]
+fn stamp_of(token: &[u8]) -> Result<(bool, u64), LineError>
+    ensures { Gives (λ stamped. stamped) result (stamp_of token.now) }
+{
+    let [letter, digits @ ..] = token else {
+        return Err(Fault::WordCount.into());
+    };
+    Ok((*letter == b'w', u64_of(digits)?))
+}
+
+/// The thread that the first token names, if there is one.
+#[tactic(auto, unfolding(crate::specs::Candidates::waited_of))]
+fn waited_of(script: &ScriptParts, tokens: &[&[u8]]) -> Result<Option<u32>, LineError>
+    ensures { Gives (λ waited. waited) result (waited_of script.now (map (λ token. token.now) tokens.now)) }
+{
+    match tokens {
+        [name, ..] => Ok(Some(thread_of(script, name)?)),
+        [] => Ok(None),
+    }
+}
+
+/// A copy of a list of names.
+fn copied_names(alloc: Global, names: &[Text]) -> Result<Sequence<Text>, AllocError>
+    ensures { IfOk result (λ copied. copied ≡ names.now) }
+{
+    let mut copied = Vec::new(alloc);
+    for name in names {
+        copied.push(copied_name(alloc, name)?)?;
+    }
+    Ok(Sequence::from_vec(copied))
+}
+
+fn copied_name(alloc: Global, name: &Text) -> Result<Text, AllocError>
+    ensures { IfOk result (λ copied. copied ≡ name.now) }
+{
+    Ok(Sequence::from_vec(Vec::from_slice(alloc, name.as_slice())?))
+}
+
+/// A copy of some declarations.
+fn copied_containers(
+    alloc: Global,
+    containers: &[Declaration],
+) -> Result<Sequence<Declaration>, AllocError>
+    ensures { IfOk result (λ copied. copied ≡ containers.now) }
+{
+    let mut copied = Vec::new(alloc);
+    for container in containers {
+        copied.push(copied_container(alloc, container)?)?;
+    }
+    Ok(Sequence::from_vec(copied))
+}
+
+fn copied_container(alloc: Global, container: &Declaration) -> Result<Declaration, AllocError>
+    ensures { IfOk result (λ copied. copied ≡ container.now) }
+{
+    let name = copied_name(alloc, &container.name)?;
+    Ok(Declaration {
+        kind: container.kind,
+        name,
+    })
+}
+
+/// The strings, each with its number.
+pub(crate) fn numbered_strings(alloc: Global, texts: &[Text]) -> Result<Strings, AllocError>
+    requires { AllPairs (λ a b. a ≢ b) texts.now }
+    ensures { IfOk result (λ strings. strings ≡ texts.now) }
+{
+    let mut strings = Strings::new(alloc);
+    for text in texts {
+        strings.add(text.as_slice())?;
+    }
+    Ok(strings)
+}
+
+/// What a script declares, in the form by which calls are read.
+#[derive(Drop)]
+pub(crate) struct Reader {
+    /// The containers and strings.
+    pub draft: Draft,
+    /// The cursors of each thread.
+    pub cursors: Vec<Sequence<Text>>,
+}
+
+impl Reader {
+    /// The reader of a script's transcripts.
+    pub(crate) fn new(alloc: Global, script: &ScriptParts) -> Result<Self, AllocError>
+        requires { AllPairs (λ a b. a ≢ b) script.now.strings }
+        ensures { IfOk result (λ reader. IsReaderOf script.now reader.draft reader.cursors.items) }
+    {
+        let mut draft = Draft::empty(alloc);
+        draft.containers = copied_containers(alloc, script.containers.as_slice())?;
+        draft.strings = numbered_strings(alloc, script.strings.as_slice())?;
+        let cursors = all_cursors(alloc, script.threads.as_slice())?;
+        Ok(Reader { draft, cursors })
+    }
+
+    /// The call of a thread that some words may be. An `Err` may leave other cursors or strings.
+    #[tactic(auto, unfolding(crate::specs::Candidates::thread_call, crate::specs::Candidates::call_in))]
+    fn thread_call(
+        &mut self,
+        alloc: Global,
+        script: &ScriptParts,
+        thread: u32,
+        words: &[&[u8]],
+    ) -> Result<Call, LineError>
+        requires reader { IsReaderOf script.now self.old.draft self.old.cursors.items }
+        requires declared { thread < length script.now.threads }
+        ensures read { Gives (λ call. call) result (thread_call script.now thread (map (λ word. word.now) words.now)) }
+        ensures kept { OnOk result (AddsNothing script.now thread (map (λ word. word.now) words.now) → IsReaderOf script.now self.new.draft self.new.cursors.items) }
+    {
+        let [word, words @ ..] = words else {
+            return Err(Fault::WordCount.into());
+        };
+        let word = call_word_of(word).ok_or(Fault::UnknownWord)?;
+        self.call_by(alloc, script, thread, word, words)
+    }
+
+    /// The call of a thread that a word and those behind it may be.
+    fn call_by(
+        &mut self,
+        alloc: Global,
+        script: &ScriptParts,
+        thread: u32,
+        word: CallWord,
+        words: &[&[u8]],
+    ) -> Result<Call, LineError>
+        requires reader { IsReaderOf script.now self.old.draft self.old.cursors.items }
+        requires declared { thread < length script.now.threads }
+        ensures read { Gives (λ call. call) result (only_call (call_of (draft_at script.now thread) word (map (λ word. word.now) words.now))) }
+        ensures kept { OnOk result (IsUnchanged (draft_at script.now thread) (call_of (draft_at script.now thread) word (map (λ word. word.now) words.now)) → IsReaderOf script.now self.new.draft self.new.cursors.items) }
+    {
+        let cursors = &mut self.cursors[thread as usize];
+        mem::swap(&mut self.draft.cursors, cursors);
+        let read = self.draft.call_of(alloc, word, words);
+        mem::swap(&mut self.draft.cursors, cursors);
+        read
+    }
+
+    /// The entry whose line some tokens may be. An `Err` may leave other cursors or strings.
+    #[tactic(auto, unfolding(crate::specs::Candidates::entry_of))]
+    pub(crate) fn entry_of(
+        &mut self,
+        alloc: Global,
+        script: &ScriptParts,
+        strings: &Strings,
+        tokens: &[&[u8]],
+    ) -> Result<Entry, LineError>
+        requires reader { IsReaderOf script.now self.old.draft self.old.cursors.items }
+        requires strings { strings.now ≡ script.now.strings }
+        ensures read { Gives (λ entry. entry) result (entry_of script.now (map (λ token. token.now) tokens.now)) }
+        ensures kept { IfOk result (λ entry. AddsNothing script.now entry.thread (before_word (codes "=") (drop 2 (map (λ token. token.now) tokens.now))) → IsReaderOf script.now self.new.draft self.new.cursors.items) }
+    {
+        let [place, stamp, words @ ..] = tokens else {
+            return Err(Fault::WordCount.into());
+        };
+        let (thread, index) = numbered_of(script, place)?;
+        let (wrote, stamp) = stamp_of(stamp)?;
+        let (words, behind) = split_at_word(words, b"=");
+        let (said, mark) = split_at_word(behind, b"waited");
+        let call = self.thread_call(alloc, script, thread, words)?;
+        let reply = reply_of(alloc, strings, counts(&call), said)?;
+        let waited = waited_of(script, mark)?;
+        Ok(Entry {
+            thread,
+            index,
+            stamp,
+            wrote,
+            call,
+            reply,
+            waited,
+        })
+    }
+}
+
+/// The container and the content whose line some tokens may be.
+#[tactic(auto, unfolding(crate::specs::Candidates::content_of))]
+pub(crate) fn content_of(
+    alloc: Global,
+    script: &ScriptParts,
+    strings: &Strings,
+    tokens: &[&[u8]],
+) -> Result<(u32, Reply), LineError>
+    requires { strings.now ≡ script.now.strings }
+    ensures { Gives (λ content. content) result (content_of script.now (map (λ token. token.now) tokens.now)) }
+{
+    let [name, _, tokens @ ..] = tokens else {
+        return Err(Fault::WordCount.into());
+    };
+    let container = container_of(script, name)?;
+    let content = reply_of(alloc, strings, false, tokens)?;
+    Ok((container, content))
+}
+
+/// The container of that name.
+fn container_of(script: &ScriptParts, name: &[u8]) -> Result<u32, LineError>
+    ensures { Gives (λ place. place) result (or_fault fault.Name (container_place script.now.containers name.now)) }
+{
+    let place = container_place(script, name).ok_or(Fault::Name)?;
+    number_of(place)
+}
+
+/// Where the container of that name stands.
+fn container_place(script: &ScriptParts, name: &[u8]) -> Option<usize>
+    ensures { result ≡ container_place script.now.containers name.now }
+{
+    let containers = script.containers.as_slice();
+    containers
+        .iter()
+        .position(|container| container.name.as_slice() == name)
+}
+
+/// The cursors of each thread.
+fn all_cursors(alloc: Global, threads: &[Thread]) -> Result<Vec<Sequence<Text>>, AllocError>
+    ensures { IfOk result (λ cursors. cursors.items ≡ map (λ thread. thread.cursors) threads.now) }
+{
+    let mut cursors = Vec::new(alloc);
+    for thread in threads {
+        cursors.push(copied_names(alloc, thread.cursors.as_slice())?)?;
+    }
+    Ok(cursors)
+}

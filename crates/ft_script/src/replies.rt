@@ -1,0 +1,287 @@
+//! Reads the reply that some tokens may be.
+ghost use Rattle.ft_script.specs.Candidates.{braced_of, but_last, class_error_of, counted_reply, each_of, first_reply, has_pairs, is_decimal, known_key, known_pair, known_value, memory_error_of, natural_in, pairs_of, reply_of, runtime_error_of, shown_reply, suspended_of, u32_of, u64_of, worded_reply};
+ghost use Rattle.ft_script.specs.Drafts.{Gives};
+ghost use Rattle.std.specs.Prelude.{◌≡◌, map};
+
+use crate::arguments::{index_of, number_of};
+use crate::fault::{Fault, LineError};
+use crate::reply_words::{ReplyWord, reply_word_of};
+use crate::strings::Strings;
+use crate::words::{is_string, text_of};
+use ft_model::{Key, Raise, Reply, Sequence, Sym, Value};
+use std::alloc::Global;
+
+/// Whether the token is one or more digits.
+fn is_decimal(token: &[u8]) -> bool
+    ensures { result ≡ is_decimal token.now }
+{
+    match token {
+        [] => false,
+        [_, ..] => token.iter().all(|b| b.is_ascii_digit()),
+    }
+}
+
+/// The number that digits are, where a `u64` has it.
+fn natural_in(token: &[u8]) -> Option<u64>
+    ensures { result ≡ natural_in token.now }
+{
+    if !is_decimal(token) {
+        return None;
+    }
+    str::from_utf8(token).ok()?.parse().ok()
+}
+
+/// The number below 2^64 that digits are.
+#[tactic(auto, unfolding(crate::specs::Candidates::u64_of))]
+pub(crate) fn u64_of(token: &[u8]) -> Result<u64, LineError>
+    ensures { Gives (λ n. n) result (u64_of token.now) }
+{
+    Ok(natural_in(token).ok_or(Fault::Number)?)
+}
+
+/// The number below 2^32 that digits are.
+#[tactic(auto, unfolding(crate::specs::Candidates::u32_of))]
+pub(crate) fn u32_of(token: &[u8]) -> Result<u32, LineError>
+    ensures { Gives (λ n. n) result (u32_of token.now) }
+{
+    let number = u64_of(token)?;
+    u32::try_from(number).map_err(|_| Fault::Number.into())
+}
+
+/// The key that a token is, of a string that has a number.
+#[tactic(auto, unfolding(crate::specs::Candidates::known_key))]
+fn known_key(alloc: Global, strings: &Strings, token: &[u8]) -> Result<Key, LineError>
+    ensures { Gives (λ key. key) result (known_key strings.now token.now) }
+{
+    if is_string(token) {
+        let text = text_of(alloc, token)?;
+        let place = strings.place_of(&text).ok_or(Fault::String)?;
+        Ok(Key::Text(Sym(number_of(place)?)))
+    } else {
+        Ok(Key::Int(index_of(token)?))
+    }
+}
+
+/// The value that a token is.
+#[tactic(auto, unfolding(crate::specs::Candidates::known_value))]
+fn known_value(alloc: Global, strings: &Strings, token: &[u8]) -> Result<Value, LineError>
+    ensures { Gives (λ value. value) result (known_value strings.now token.now) }
+{
+    if token == b"None".as_slice() {
+        return Ok(Value::Nothing);
+    }
+    Ok(known_key(alloc, strings, token)?.into_value())
+}
+
+/// The pair that two tokens are.
+#[tactic(auto, unfolding(crate::specs::Candidates::known_pair))]
+fn known_pair(
+    alloc: Global,
+    strings: &Strings,
+    first: &[u8],
+    second: &[u8],
+) -> Result<(Key, Value), LineError>
+    ensures { Gives (λ pair. pair) result (known_pair strings.now first.now second.now) }
+{
+    let key = known_key(alloc, strings, first)?;
+    let value = known_value(alloc, strings, second)?;
+    Ok((key, value))
+}
+
+/// The keys that the tokens are.
+fn keys_of(alloc: Global, strings: &Strings, tokens: &[&[u8]]) -> Result<Sequence<Key>, LineError>
+    ensures { Gives (λ keys. keys) result (each_of (known_key strings.now) (map (λ token. token.now) tokens.now)) }
+{
+    let mut keys = Vec::new(alloc);
+    for token in tokens {
+        keys.push(known_key(alloc, strings, token)?)?;
+    }
+    Ok(Sequence::from_vec(keys))
+}
+
+/// The values that the tokens are.
+fn values_of(
+    alloc: Global,
+    strings: &Strings,
+    tokens: &[&[u8]],
+) -> Result<Sequence<Value>, LineError>
+    ensures { Gives (λ values. values) result (each_of (known_value strings.now) (map (λ token. token.now) tokens.now)) }
+{
+    let mut values = Vec::new(alloc);
+    for token in tokens {
+        values.push(known_value(alloc, strings, token)?)?;
+    }
+    Ok(Sequence::from_vec(values))
+}
+
+/// The pairs that the tokens are, each of three, whose second is a `:`.
+fn pairs_of(
+    alloc: Global,
+    strings: &Strings,
+    tokens: &[&[u8]],
+) -> Result<Sequence<(Key, Value)>, LineError>
+    ensures { Gives (λ pairs. pairs) result (pairs_of strings.now (map (λ token. token.now) tokens.now)) }
+{
+    let mut pairs = Vec::new(alloc);
+    let mut rest = tokens;
+    while let [first, _, second, behind @ ..] = rest {
+        pairs.push(known_pair(alloc, strings, first, second)?)?;
+        rest = behind;
+    }
+    if !rest.is_empty() {
+        return Err(Fault::WordCount.into());
+    }
+    Ok(Sequence::from_vec(pairs))
+}
+
+#[tactic(auto, unfolding(crate::specs::Candidates::suspended_of))]
+fn suspended_of(tokens: &[&[u8]]) -> Result<Reply, LineError>
+    ensures { Gives (λ reply. reply) result (suspended_of (map (λ token. token.now) tokens.now)) }
+{
+    match tokens {
+        [count, ..] => Ok(Reply::Suspended(u32_of(count)?)),
+        [] => Err(Fault::WordCount.into()),
+    }
+}
+
+#[tactic(auto, unfolding(crate::specs::Candidates::runtime_error_of))]
+fn runtime_error_of(tokens: &[&[u8]]) -> Result<Raise, LineError>
+    ensures { Gives (λ raise. raise) result (runtime_error_of (map (λ token. token.now) tokens.now)) }
+{
+    match tokens {
+        [cause, ..] if *cause == b"size".as_slice() => Ok(Raise::Size),
+        [cause, ..] if *cause == b"keys".as_slice() => Ok(Raise::Keys),
+        [_, ..] => Err(Fault::UnknownWord.into()),
+        [] => Err(Fault::WordCount.into()),
+    }
+}
+
+#[tactic(auto, unfolding(crate::specs::Candidates::memory_error_of))]
+fn memory_error_of(tokens: &[&[u8]]) -> Result<Raise, LineError>
+    ensures { Gives (λ raise. raise) result (memory_error_of (map (λ token. token.now) tokens.now)) }
+{
+    match tokens {
+        [cause, ..] if *cause == b"over".as_slice() => Ok(Raise::Over),
+        [cause, ..] if *cause == b"heap".as_slice() => Ok(Raise::Heap),
+        [cause, ..] => class_error_of(cause),
+        [] => Err(Fault::WordCount.into()),
+    }
+}
+
+#[tactic(auto, unfolding(crate::specs::Candidates::class_error_of))]
+fn class_error_of(token: &[u8]) -> Result<Raise, LineError>
+    ensures { Gives (λ raise. raise) result (class_error_of token.now) }
+{
+    match u32_of(token)? {
+        class @ 3..=12 => Ok(Raise::Memory(class)),
+        _ => Err(Fault::Number.into()),
+    }
+}
+
+/// Whether the second token is a `:`, or there is none.
+fn has_pairs(tokens: &[&[u8]]) -> bool
+    ensures { result ≡ has_pairs (map (λ token. token.now) tokens.now) }
+{
+    match tokens {
+        [] => true,
+        [_, colon, ..] => *colon == b":".as_slice(),
+        [_] => false,
+    }
+}
+
+/// What stands between the braces of a dict or a set.
+#[tactic(auto, unfolding(crate::specs::Candidates::braced_of))]
+fn braced_of(alloc: Global, strings: &Strings, tokens: &[&[u8]]) -> Result<Reply, LineError>
+    ensures { Gives (λ reply. reply) result (braced_of strings.now (map (λ token. token.now) tokens.now)) }
+{
+    if has_pairs(tokens) {
+        Ok(Reply::Dict(pairs_of(alloc, strings, tokens)?))
+    } else {
+        Ok(Reply::Set(keys_of(alloc, strings, tokens)?))
+    }
+}
+
+/// All but the last token.
+fn but_last<'a, 'b>(tokens: &'a [&'b [u8]]) -> &'a [&'b [u8]]
+    ensures { map (λ token. token.now) result.now ≡ but_last (map (λ token. token.now) tokens.now) }
+{
+    &tokens[..tokens.len().saturating_sub(1)]
+}
+
+/// The reply whose first token is this word.
+#[tactic(auto, unfolding(crate::specs::Candidates::worded_reply))]
+fn worded_reply(
+    alloc: Global,
+    strings: &Strings,
+    word: ReplyWord,
+    tokens: &[&[u8]],
+) -> Result<Reply, LineError>
+    ensures { Gives (λ reply. reply) result (worded_reply strings.now word (map (λ token. token.now) tokens.now)) }
+{
+    match word {
+        ReplyWord::Done => Ok(Reply::Done),
+        ReplyWord::True => Ok(Reply::Truth(true)),
+        ReplyWord::False => Ok(Reply::Truth(false)),
+        ReplyWord::Stop => Ok(Reply::Stop),
+        ReplyWord::Entered => Ok(Reply::Entered),
+        ReplyWord::Kept => Ok(Reply::Kept),
+        ReplyWord::Suspended => suspended_of(tokens),
+        ReplyWord::KeyError => Ok(Reply::Raised(Raise::NoKey)),
+        ReplyWord::IndexError => Ok(Reply::Raised(Raise::NoIndex)),
+        ReplyWord::ValueError => Ok(Reply::Raised(Raise::NoValue)),
+        ReplyWord::RuntimeError => Ok(Reply::Raised(runtime_error_of(tokens)?)),
+        ReplyWord::MemoryError => Ok(Reply::Raised(memory_error_of(tokens)?)),
+        ReplyWord::NoElements => Ok(Reply::Set(Sequence::new(alloc))),
+        ReplyWord::Brace => braced_of(alloc, strings, but_last(tokens)),
+        ReplyWord::Bracket => Ok(Reply::List(values_of(alloc, strings, but_last(tokens))?)),
+    }
+}
+
+/// An integer that isn't negative is a count where the call counts.
+fn counted_reply(counted: bool, value: Value) -> Reply
+    ensures { result ≡ counted_reply counted value }
+{
+    match value {
+        Value::Int(number) if counted && number >= 0 => Reply::Count(number as u64),
+        _ => Reply::Value(value),
+    }
+}
+
+/// A value or a pair.
+#[tactic(auto, unfolding(crate::specs::Candidates::shown_reply))]
+fn shown_reply(
+    alloc: Global,
+    strings: &Strings,
+    counted: bool,
+    first: &[u8],
+    tokens: &[&[u8]],
+) -> Result<Reply, LineError>
+    ensures { Gives (λ reply. reply) result (shown_reply strings.now counted first.now (map (λ token. token.now) tokens.now)) }
+{
+    match tokens {
+        [_, second, ..] => {
+            let (key, value) = known_pair(alloc, strings, first, second)?;
+            Ok(Reply::Pair(key, value))
+        }
+        _ => Ok(counted_reply(counted, known_value(alloc, strings, first)?)),
+    }
+}
+
+/// The reply that some tokens may be, to a call that counts or doesn't.
+#[tactic(auto, unfolding(crate::specs::Candidates::reply_of, crate::specs::Candidates::first_reply))]
+pub(crate) fn reply_of(
+    alloc: Global,
+    strings: &Strings,
+    counted: bool,
+    tokens: &[&[u8]],
+) -> Result<Reply, LineError>
+    ensures { Gives (λ reply. reply) result (reply_of strings.now counted (map (λ token. token.now) tokens.now)) }
+{
+    let [first, tokens @ ..] = tokens else {
+        return Err(Fault::WordCount.into());
+    };
+    match reply_word_of(first) {
+        None => shown_reply(alloc, strings, counted, first, tokens),
+        Some(word) => worded_reply(alloc, strings, word, tokens),
+    }
+}

@@ -1,0 +1,314 @@
+//! Reads the lines of a script.
+ghost use Rattle.ft_script.specs.Drafts.{Gives, Leaves};
+ghost use Rattle.ft_script.specs.Reading.{class_of, class_place, container_line, declaration, heap_line, open_line, order_line, other_statement, plain_statement, read_line, statement, tables_at, tables_line, tables_of, thread_line, thread_statement, turn, turns, unordered_statement, words_line};
+ghost use Rattle.std.specs.Prelude.{◌≡◌, ◌<◌, IfOk, IfSome, map};
+
+use crate::arguments::{index_of, number_of};
+use crate::call_words::call_word_of;
+use crate::draft::Draft;
+use crate::fault::{Fault, LineError, Which};
+use crate::lines::{ends_thread, is_comment, words_of};
+use crate::words::{is_container_name, is_thread_name};
+use ft_model::{Declaration, Kind, Sequence};
+use std::alloc::Global;
+
+/// The most containers that a script may have.
+const CONTAINER_LIMIT: usize = 256;
+
+/// The most threads that a script may have.
+const THREAD_LIMIT: usize = 64;
+
+/// The most names that the `order` lines may have.
+const ORDER_LIMIT: usize = 1_000_000;
+
+/// The place of a class among those from 3 to 12.
+fn class_place(class: i64) -> Option<usize>
+    ensures place { result ≡ class_place class }
+    ensures small { IfSome result (λ place. place < 10) }
+{
+    if (3..=12).contains(&class) {
+        Some(class as usize - 3)
+    } else {
+        None
+    }
+}
+
+#[tactic(auto, unfolding(crate::specs::Reading::class_of))]
+fn class_of(word: &[u8]) -> Result<usize, LineError>
+    ensures class { Gives (λ place. place) result (class_of word.now) }
+    ensures small { IfOk result (λ place. place < 10) }
+{
+    let class = index_of(word)?;
+    Ok(class_place(class).ok_or(Fault::Limit(Which::Class))?)
+}
+
+impl Draft {
+    /// Reads the line of a container.
+    #[tactic(auto, unfolding(crate::specs::Reading::container_line))]
+    fn container_line(
+        &mut self,
+        alloc: Global,
+        kind: Kind,
+        words: &[&[u8]],
+    ) -> Result<(), LineError>
+        ensures { Leaves result self.new (container_line self.old kind (map (λ word. word.now) words.now)) }
+    {
+        let [name] = words else {
+            return Err(Fault::WordCount.into());
+        };
+        if !is_container_name(name) {
+            return Err(Fault::Name.into());
+        }
+        if self.container_place(name).is_some() {
+            return Err(Fault::NameTwice.into());
+        }
+        if self.containers.len() >= CONTAINER_LIMIT {
+            return Err(Fault::Limit(Which::Containers).into());
+        }
+        let name = Sequence::from_vec(Vec::from_slice(alloc, name)?);
+        self.containers.push(Declaration { kind, name })?;
+        Ok(())
+    }
+
+    /// Reads the line of a class's tables.
+    #[tactic(auto, unfolding(crate::specs::Reading::tables_line))]
+    fn tables_line(&mut self, words: &[&[u8]]) -> Result<(), LineError>
+        ensures { Leaves result self.new (tables_line self.old (map (λ word. word.now) words.now)) }
+    {
+        match words {
+            [class, count] => self.tables_of(class, count),
+            _ => Err(Fault::WordCount.into()),
+        }
+    }
+
+    #[tactic(auto, unfolding(crate::specs::Reading::tables_of))]
+    fn tables_of(&mut self, class: &[u8], count: &[u8]) -> Result<(), LineError>
+        ensures { Leaves result self.new (tables_of self.old class.now count.now) }
+    {
+        let place = class_of(class)?;
+        self.tables_at(place, count)
+    }
+
+    #[tactic(auto, unfolding(crate::specs::Reading::tables_at))]
+    fn tables_at(&mut self, place: usize, count: &[u8]) -> Result<(), LineError>
+        requires { place < 10 }
+        ensures { Leaves result self.new (tables_at self.old place count.now) }
+    {
+        if self.tables[place].is_some() {
+            return Err(Fault::NameTwice.into());
+        }
+        let number = index_of(count)?;
+        if !(1..=64).contains(&number) {
+            return Err(Fault::Limit(Which::Tables).into());
+        }
+        self.tables[place] = Some(number as u32);
+        Ok(())
+    }
+
+    /// Reads the line of the heap.
+    #[tactic(auto, unfolding(crate::specs::Reading::heap_line))]
+    fn heap_line(&mut self, words: &[&[u8]]) -> Result<(), LineError>
+        ensures { Leaves result self.new (heap_line self.old (map (λ word. word.now) words.now)) }
+    {
+        let [count] = words else {
+            return Err(Fault::WordCount.into());
+        };
+        if self.heap.is_some() {
+            return Err(Fault::NameTwice.into());
+        }
+        let count = index_of(count)?;
+        if !(64..=4096).contains(&count) || count % 64 != 0 {
+            return Err(Fault::Limit(Which::Heap).into());
+        }
+        self.heap = Some(count as u32);
+        Ok(())
+    }
+
+    /// Reads a line above all threads.
+    #[tactic(auto, unfolding(crate::specs::Reading::declaration))]
+    fn declaration(&mut self, alloc: Global, word: &[u8], words: &[&[u8]]) -> Result<(), LineError>
+        ensures { Leaves result self.new (declaration self.old word.now (map (λ word. word.now) words.now)) }
+    {
+        if word == b"dict".as_slice() {
+            self.container_line(alloc, Kind::Dict, words)
+        } else if word == b"list".as_slice() {
+            self.container_line(alloc, Kind::List, words)
+        } else if word == b"set".as_slice() {
+            self.container_line(alloc, Kind::Set, words)
+        } else if word == b"tables".as_slice() {
+            self.tables_line(words)
+        } else if word == b"heap".as_slice() {
+            self.heap_line(words)
+        } else {
+            Err(Fault::UnknownWord.into())
+        }
+    }
+
+    /// Reads the line of a thread.
+    #[tactic(auto, unfolding(crate::specs::Reading::thread_line))]
+    fn thread_line(&mut self, alloc: Global, words: &[&[u8]]) -> Result<(), LineError>
+        ensures { Leaves result self.new (thread_line self.old (map (λ word. word.now) words.now)) }
+    {
+        let [name] = words else {
+            return Err(Fault::WordCount.into());
+        };
+        if !is_thread_name(name) {
+            return Err(Fault::Name.into());
+        }
+        if self.thread_place(name).is_some() {
+            return Err(Fault::NameTwice.into());
+        }
+        if self.threads.len() >= THREAD_LIMIT {
+            return Err(Fault::Limit(Which::Threads).into());
+        }
+        self.name = Some(Sequence::from_vec(Vec::from_slice(alloc, name)?));
+        self.depth = 0;
+        Ok(())
+    }
+
+    /// Reads a name of an `order` line.
+    #[tactic(auto, unfolding(crate::specs::Reading::turn))]
+    fn turn(&mut self, name: &[u8]) -> Result<(), LineError>
+        ensures { Leaves result self.new (turn self.old name.now) }
+    {
+        if !is_thread_name(name) {
+            return Err(Fault::Name.into());
+        }
+        let thread = self.thread_place(name).ok_or(Fault::OrderName)?;
+        if self.order.len() >= ORDER_LIMIT {
+            return Err(Fault::Limit(Which::Order).into());
+        }
+        self.order.push(number_of(thread)?)?;
+        Ok(())
+    }
+
+    /// Reads an `order` line.
+    #[tactic(auto, unfolding(crate::specs::Reading::order_line))]
+    fn order_line(&mut self, words: &[&[u8]]) -> Result<(), LineError>
+        ensures { Leaves result self.new (order_line self.old (map (λ word. word.now) words.now)) }
+    {
+        if words.is_empty() {
+            return Err(Fault::WordCount.into());
+        }
+        self.turns(words)
+    }
+
+    fn turns(&mut self, names: &[&[u8]]) -> Result<(), LineError>
+        ensures { Leaves result self.new (turns self.old (map (λ word. word.now) names.now)) }
+    {
+        for name in names {
+            self.turn(name)?;
+        }
+        Ok(())
+    }
+
+    /// Reads a line by its words.
+    #[tactic(auto, unfolding(crate::specs::Reading::statement))]
+    fn statement(&mut self, alloc: Global, words: &[&[u8]]) -> Result<(), LineError>
+        ensures { Leaves result self.new (statement self.old (map (λ word. word.now) words.now)) }
+    {
+        let [word, words @ ..] = words else {
+            return Ok(());
+        };
+        if *word == b"order".as_slice() {
+            self.order_line(words)
+        } else {
+            self.other_statement(alloc, word, words)
+        }
+    }
+
+    /// Reads a line that isn't an `order` line.
+    #[tactic(auto, unfolding(crate::specs::Reading::other_statement))]
+    fn other_statement(
+        &mut self,
+        alloc: Global,
+        word: &[u8],
+        words: &[&[u8]],
+    ) -> Result<(), LineError>
+        ensures { Leaves result self.new (other_statement self.old word.now (map (λ word. word.now) words.now)) }
+    {
+        if self.order.len() == 0 {
+            self.unordered_statement(alloc, word, words)
+        } else {
+            Err(Fault::UnknownWord.into())
+        }
+    }
+
+    #[tactic(auto, unfolding(crate::specs::Reading::unordered_statement))]
+    fn unordered_statement(
+        &mut self,
+        alloc: Global,
+        word: &[u8],
+        words: &[&[u8]],
+    ) -> Result<(), LineError>
+        ensures { Leaves result self.new (unordered_statement self.old word.now (map (λ word. word.now) words.now)) }
+    {
+        if word == b"thread".as_slice() {
+            self.thread_line(alloc, words)
+        } else {
+            self.plain_statement(alloc, word, words)
+        }
+    }
+
+    #[tactic(auto, unfolding(crate::specs::Reading::plain_statement))]
+    fn plain_statement(
+        &mut self,
+        alloc: Global,
+        word: &[u8],
+        words: &[&[u8]],
+    ) -> Result<(), LineError>
+        ensures { Leaves result self.new (plain_statement self.old word.now (map (λ word. word.now) words.now)) }
+    {
+        if self.name.is_some() {
+            self.thread_statement(alloc, word, words)
+        } else {
+            self.declaration(alloc, word, words)
+        }
+    }
+
+    /// Reads a line of a thread.
+    #[tactic(auto, unfolding(crate::specs::Reading::thread_statement))]
+    fn thread_statement(
+        &mut self,
+        alloc: Global,
+        word: &[u8],
+        words: &[&[u8]],
+    ) -> Result<(), LineError>
+        ensures { Leaves result self.new (thread_statement self.old word.now (map (λ word. word.now) words.now)) }
+    {
+        let found = call_word_of(word).ok_or(Fault::UnknownWord)?;
+        self.call_line(alloc, found, words)
+    }
+
+    /// Reads a line.
+    #[tactic(auto, unfolding(crate::specs::Reading::read_line))]
+    pub(crate) fn read_line(&mut self, alloc: Global, line: &[u8]) -> Result<(), LineError>
+        ensures { Leaves result self.new (read_line self.old line.now) }
+    {
+        if is_comment(line) {
+            Ok(())
+        } else {
+            self.open_line(alloc, line)
+        }
+    }
+
+    #[tactic(auto, unfolding(crate::specs::Reading::open_line))]
+    fn open_line(&mut self, alloc: Global, line: &[u8]) -> Result<(), LineError>
+        ensures { Leaves result self.new (open_line self.old line.now) }
+    {
+        if ends_thread(line) {
+            self.end_thread(alloc)?;
+            self.words_line(alloc, line)
+        } else {
+            self.words_line(alloc, line)
+        }
+    }
+
+    #[tactic(auto, unfolding(crate::specs::Reading::words_line))]
+    fn words_line(&mut self, alloc: Global, line: &[u8]) -> Result<(), LineError>
+        ensures { Leaves result self.new (words_line self.old line.now) }
+    {
+        let words = words_of(alloc, line)?;
+        self.statement(alloc, &words)
+    }
+}

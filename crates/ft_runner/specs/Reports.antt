@@ -1,30 +1,27 @@
--- What the tool is asked, does and reports.
-use Rattle.std.specs.Prelude.{◌≡◌, ℕ, Bool, true, false, not, nat_lt, if◌then◌else◌, IsTrue, ◌⊎◌, ◌≤◌, ◌+◌, List, [], ◌∷◌, ◌++◌, length, Option, IfSome, Result, Ok, Err, Vec, codes}
+-- What the tool does and reports.
+use Rattle.std.specs.Prelude.{◌≡◌, ◌≢◌, ℕ, ◌==◌, Bool, true, false, nat_lt, if◌then◌else◌, IsTrue, ◌⊎◌, ◌≤◌, ◌+◌, List, [], ◌++◌, length, Option, Some, None, is_none, IfSome, Result, Ok, Err, Vec, codes}
 use Rattle.std.specs.declared.alloc.Global.{Global}
 use Rattle.ft_io.specs.declared.source.Failed.{Failed}
 use Rattle.std.specs.Fmt.{decimal}
-use Rattle.std.specs.Str.{bytes_eq}
 use Rattle.ft_io.specs.Streams.{raised, behind, added}
 use Rattle.ft_model.specs.declared.entry.Entry.{Entry}
 use Rattle.ft_model.specs.declared.entry.Storage.TheVariants as storage
 use Rattle.ft_model.specs.declared.script.ScriptParts.{ScriptParts}
 use Rattle.ft_model.specs.Histories.{IsLegal}
-use Rattle.ft_script.specs.Scripts.{IsTextOf, IsNoScript}
+use Rattle.ft_script.specs.declared.fault.ScriptFault.{ScriptFault}
+use Rattle.ft_script.specs.declared.fault.Which.{Which}
+use Rattle.ft_script.specs.Faults.{kind_text}
+use Rattle.ft_script.specs.Scripts.{read_script}
 use Rattle.ft_script.specs.Texts.{transcript}
+use Rattle.ft_turns.specs.Orders.{IsOrderRun}
+use Rattle.ft_runner.specs.declared.command.Subcommand.{Subcommand}
+use Rattle.ft_runner.specs.declared.command.Subcommand.TheVariants as subcommand
 use Rattle.ft_runner.specs.declared.report.Fault.{Fault}
 use Rattle.ft_runner.specs.declared.report.Fault.TheVariants as fault
 use Rattle.ft_runner.specs.declared.report.Report.{Report}
 use Rattle.ft_runner.specs.declared.writing.WriteFault.{WriteFault}
 use Rattle.ft_runner.specs.declared.writing.WriteFault.TheVariants as write
-
--- ---- the command line
-
--- the program's name, and then the one word `turns`
-abbrev pub is_turns : List (List ℕ) → Bool
-is_turns [] = false
-is_turns (program ∷ []) = false
-is_turns (program ∷ command ∷ []) = bytes_eq command (codes "turns")
-is_turns (program ∷ command ∷ more ∷ words) = false
+use Rattle.ft_runner.specs.Commands.{command_of}
 
 -- ---- faults
 
@@ -40,17 +37,17 @@ status_of fault.TooLong = 6
 status_of (fault.NotLegal place rule) = 7
 status_of (fault.Transcript line) = 8
 
--- what the errors get; every fault of a script is an unknown word yet
-abbrev pub error_line : Fault → List ℕ
-error_line fault.Clean = []
-error_line (fault.Script line kind) = codes "ftpy: line " ++ decimal line ++ codes ": " ++ decimal kind ++ codes " unknown word\n"
-error_line fault.Usage = codes "ftpy: usage: run | turns | check | make N [turns]\n"
-error_line fault.Read = codes "ftpy: read fault\n"
-error_line fault.Write = codes "ftpy: write fault\n"
-error_line fault.Memory = codes "ftpy: want of memory\n"
-error_line fault.TooLong = codes "ftpy: too long\n"
-error_line (fault.NotLegal place rule) = []
-error_line (fault.Transcript line) = codes "ftpy: transcript line " ++ decimal line ++ codes "\n"
+-- what the errors get, where a script passes this limit
+abbrev pub error_line : Fault → Option Which → List ℕ
+error_line fault.Clean limit = []
+error_line (fault.Script line kind) limit = codes "ftpy: line " ++ decimal line ++ codes ": " ++ decimal kind ++ codes " " ++ kind_text kind limit ++ codes "\n"
+error_line fault.Usage limit = codes "ftpy: usage: run | turns | check | make N [turns]\n"
+error_line fault.Read limit = codes "ftpy: read fault\n"
+error_line fault.Write limit = codes "ftpy: write fault\n"
+error_line fault.Memory limit = codes "ftpy: want of memory\n"
+error_line fault.TooLong limit = codes "ftpy: too long\n"
+error_line (fault.NotLegal place rule) limit = []
+error_line (fault.Transcript line) limit = codes "ftpy: transcript line " ++ decimal line ++ codes "\n"
 
 abbrev pub is_usage : Fault → Bool
 is_usage fault.Usage = true
@@ -63,6 +60,10 @@ is_read _ = false
 abbrev pub is_write : Fault → Bool
 is_write fault.Write = true
 is_write _ = false
+
+abbrev pub is_memory : Fault → Bool
+is_memory fault.Memory = true
+is_memory _ = false
 
 abbrev pub is_too_long : Fault → Bool
 is_too_long fault.TooLong = true
@@ -161,26 +162,47 @@ Told before text after = Receives before text false after ⊎ IsPart before text
 
 -- ---- the report
 
--- the history is one of the script that the bytes stand for, and this is its text
-pub record IsHistoryOf (bytes : List ℕ) (history : List Entry) (text : List ℕ) : Type 0 where
+-- the history is one of the script that the bytes are, under `turns` the one of its turns, and this is its text
+pub record IsHistoryOf (command : Option Subcommand) (bytes : List ℕ) (history : List Entry) (text : List ℕ) : Type 0 where
   pub script : ScriptParts
-  pub read : IsTextOf bytes script
+  pub read : read_script bytes ≡ Ok script
   pub legal : IsLegal storage.Plain script history
+  pub order : command ≡ Some subcommand.Turns → IsOrderRun storage.Plain script history
   pub written : text ≡ transcript script history
 
+-- these bytes are a prefix of the text of such a history
+pub record IsHistoryBegun (command : Option Subcommand) (bytes : List ℕ) (history : List Entry) (put : List ℕ) : Type 0 where
+  pub text : List ℕ
+  pub whole : IsHistoryOf command bytes history text
+  pub prefix : IsPrefix put text
+
+-- a script's first fault: its line, its kind, and the limit that is passed there; want of memory is none
+pub record IsFirstFault (bytes : List ℕ) (line kind : ℕ) (limit : Option Which) : Type 0 where
+  pub refused : read_script bytes ≡ Err (record { line = line; kind = kind; which = limit })
+  pub in_text : kind ≢ 14
+
 -- what a fault says of the bytes that came, of the history, and of the bytes that were put
-abbrev pub Means : Fault → List ℕ → List Entry → List ℕ → Type 0
-Means fault.Clean came history put = IsHistoryOf came history put
-Means fault.Write came history put = (text : List ℕ) × IsHistoryOf came history text × IsPrefix put text
-Means (fault.Script line kind) came history put = (line ≡ 1) × (kind ≡ 2) × IsNoScript came × (history ≡ []) × (put ≡ [])
-Means fault.Usage came history put = (came ≡ []) × (history ≡ []) × (put ≡ [])
-Means fault.Read came history put = (history ≡ []) × (put ≡ [])
-Means fault.TooLong came history put = (history ≡ []) × (put ≡ [])
-Means fault.Memory came history put = (history ≡ []) × ((put ≡ []) ⊎ ((unsaid : List Entry) × (text : List ℕ) × IsHistoryOf came unsaid text × IsPrefix put text))
-Means (fault.NotLegal place rule) came history put = ⊥
-Means (fault.Transcript line) came history put = ⊥
+abbrev pub Means : Option Subcommand → Fault → Option Which → List ℕ → List Entry → List ℕ → Type 0
+Means command fault.Clean limit came history put = IsHistoryOf command came history put
+Means command fault.Write limit came history put = IsHistoryBegun command came history put
+Means command (fault.Script line kind) limit came history put = IsFirstFault came line kind limit × (history ≡ []) × (put ≡ [])
+Means command fault.Usage limit came history put = (history ≡ []) × (put ≡ [])
+Means command fault.Read limit came history put = (history ≡ []) × (put ≡ [])
+Means command fault.TooLong limit came history put = (history ≡ []) × (put ≡ [])
+Means command fault.Memory limit came history put = (history ≡ []) × ((put ≡ []) ⊎ ((unsaid : List Entry) × IsHistoryBegun command came unsaid put))
+Means command (fault.NotLegal place rule) limit came history put = ⊥
+Means command (fault.Transcript line) limit came history put = ⊥
 
 -- ---- the parts of a call
+
+-- what the words ask: a command, or the fault that is told instead
+abbrev pub IsAsked : Option Subcommand → Result Subcommand Fault → Type 0
+IsAsked command (Ok asked) = command ≡ Some asked
+IsAsked command (Err told) = ((told ≡ fault.Usage) × (command ≡ None)) ⊎ (told ≡ fault.Memory)
+
+-- what is told of a text that is refused
+abbrev pub refusal_of : ScriptFault → Fault
+refusal_of refused = if refused.kind == 14 then fault.Memory else fault.Script refused.line refused.kind
 
 -- a text that was read whole has come to this, and to this history
 abbrev pub comes_of_text : Fault → Bool
@@ -190,19 +212,20 @@ comes_of_text fault.Write = true
 comes_of_text fault.Memory = true
 comes_of_text _ = false
 
-pub record IsRunOf (bytes : List ℕ) (sink sink' : Stream) (fault : Fault) (history : List Entry) : Type 0 where
+pub record IsRunOf (command : Option Subcommand) (bytes : List ℕ) (sink sink' : Stream) (fault : Fault) (limit : Option Which) (history : List Entry) : Type 0 where
   pub put : List ℕ
   pub writing : Receives sink put (is_write fault) sink'
-  pub means : Means fault bytes history put
+  pub means : Means command fault limit bytes history put
   pub cause : comes_of_text fault ≡ true
 
--- what is done for these words, and the fault and the history that it comes to
-pub record IsDone (words : List (List ℕ)) (source source' sink sink' : Stream) (fault : Fault) (history : List Entry) : Type 0 where
+-- what is done for this command, and the fault and the history that it comes to
+pub record IsDone (command : Option Subcommand) (source source' sink sink' : Stream) (fault : Fault) (limit : Option Which) (history : List Entry) : Type 0 where
   -- the bytes that came, and those that were put
   pub came : List ℕ
   pub put : List ℕ
-  -- usage exactly where the words are others
-  pub usage : is_usage fault ≡ not (is_turns words)
+  -- usage exactly where there is no command, unless memory ran out first; nothing is read then
+  pub usage : is_memory fault ≡ false → is_usage fault ≡ is_none command
+  pub unread : command ≡ None → came ≡ []
   -- a fault of reading or writing exactly where the count rose
   pub reading : Gives source came (is_read fault) source'
   pub writing : Receives sink put (is_write fault) sink'
@@ -210,11 +233,13 @@ pub record IsDone (words : List (List ℕ)) (source source' sink sink' : Stream)
   pub too_long : is_too_long fault ≡ nat_lt script_limit (length came)
   pub few : length came ≤ most_read
   pub ended : IsTrue (has_ended fault) → IfSome source'.content (λ rest. rest ≡ [])
-  pub means : Means fault came history put
+  pub means : Means command fault limit came history put
 
 -- what the tool reports for these words, from what the source, the sink and the errors tell before it to what they tell after it
 pub record IsReport (words : List (List ℕ)) (source source' sink sink' errors errors' : Stream) (report : Report) : Type 0 where
-  pub done : IsDone words source source' sink sink' report.fault report.history.items
+  -- the limit that a faulty script passes
+  pub limit : Option Which
+  pub done : IsDone (command_of words) source source' sink sink' report.fault limit report.history.items
   pub status : report.status ≡ status_of report.fault
   -- the errors get the line of the fault
-  pub told : Told errors (error_line report.fault) errors'
+  pub told : Told errors (error_line report.fault limit) errors'

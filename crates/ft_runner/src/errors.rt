@@ -1,21 +1,25 @@
+ghost use Rattle.ft_runner.specs.declared.report.Fault.TheVariants as fault;
 ghost use Rattle.std.specs.Prelude.{◌≡◌, ◌++◌, decimal};
 ghost use Rattle.ft_runner.specs.Reports.{stream, error_line, Puts};
+ghost use Rattle.ft_script.specs.Faults.{kind_text};
 
 use crate::report::Fault;
 use crate::writing::put_all;
 use ft_io::{Failed, Sink};
+use ft_script::{ScriptFault, Which};
 use itoa::Buffer;
 
 /// Puts the line of a fault, where it has one.
-pub(crate) fn tell<E: Sink>(errors: &mut E, fault: Fault) -> Result<(), Failed>
-    ensures { Puts (stream (E.taken errors.old) (E.faults errors.old)) (error_line fault) result (stream (E.taken errors.new) (E.faults errors.new)) }
+pub(crate) fn tell<E: Sink>(
+    errors: &mut E,
+    fault: Fault,
+    limit: Option<Which>,
+) -> Result<(), Failed>
+    ensures { Puts (stream (E.taken errors.old) (E.faults errors.old)) (error_line fault limit) result (stream (E.taken errors.new) (E.faults errors.new)) }
 {
     match fault {
         Fault::Clean | Fault::NotLegal(..) => put_all(errors, b""),
-        Fault::Script(line, kind) => {
-            put_number(errors, b"ftpy: line ", line, b": ")?;
-            put_number(errors, b"", u32::from(kind), b" unknown word\n")
-        }
+        Fault::Script(line, kind) => tell_script(errors, line, kind, limit),
         Fault::Usage => put_all(
             errors,
             b"ftpy: usage: run | turns | check | make N [turns]\n",
@@ -26,6 +30,33 @@ pub(crate) fn tell<E: Sink>(errors: &mut E, fault: Fault) -> Result<(), Failed>
         Fault::TooLong => put_all(errors, b"ftpy: too long\n"),
         Fault::Transcript(line) => put_number(errors, b"ftpy: transcript line ", line, b"\n"),
     }
+}
+
+/// Puts the line of a script's fault.
+fn tell_script<E: Sink>(
+    errors: &mut E,
+    line: u32,
+    kind: u8,
+    limit: Option<Which>,
+) -> Result<(), Failed>
+    ensures { Puts (stream (E.taken errors.old) (E.faults errors.old)) (error_line (fault.Script line kind) limit) result (stream (E.taken errors.new) (E.faults errors.new)) }
+{
+    put_number(errors, b"ftpy: line ", line, b": ")?;
+    put_number(errors, b"", u32::from(kind), b" ")?;
+    put_all(errors, kind_text(kind, limit).as_bytes())?;
+    put_all(errors, b"\n")
+}
+
+/// What a kind of fault of a script says.
+fn kind_text(kind: u8, limit: Option<Which>) -> &'static str
+    ensures { result.now ≡ kind_text kind limit }
+{
+    let fault = ScriptFault {
+        line: 1,
+        kind,
+        which: limit,
+    };
+    fault.text()
 }
 
 /// Puts a number with what stands before it and behind it.

@@ -1,16 +1,17 @@
 //! The tool: a script is read, run and written.
 #![tactic(auto)]
 
-mod chronicles;
+mod command;
 mod errors;
+mod laws;
 mod reading;
 mod report;
 #[cfg(test)]
 mod tests;
 mod tool;
-mod turns;
 mod writing;
 
-pub use chronicles::turns_make_a_chronicle;
+pub use command::Subcommand;
+pub use laws::scripts_are_run;
 pub use report::{Fault, Report};
 pub use tool::{Gate, NoGate, run_still, run_tool};

@@ -1,15 +1,19 @@
+ghost use Rattle.ft_runner.specs.declared.command.Subcommand.TheVariants as subcommand;
 ghost use Rattle.ft_runner.specs.declared.report.Fault.TheVariants as fault;
-ghost use Rattle.std.specs.Prelude.{◌≡◌, ℕ, true, List, ◌==◌, if◌then◌else◌, map, string_bytes, IsSomeAnd};
-ghost use Rattle.ft_runner.specs.Reports.{is_turns, stream, IsRunOf, IsDone, IsReport};
+ghost use Rattle.ft_runner.specs.declared.command.Subcommand.{Subcommand};
+ghost use Rattle.std.specs.Prelude.{◌≡◌, ℕ, List, Option, Some, map, string_bytes, IfErr, IfNone, IfSome};
+ghost use Rattle.ft_runner.specs.Commands.{command_of};
+ghost use Rattle.ft_runner.specs.Reports.{stream, error_line, status_of, IsAsked, IsRunOf, IsDone, IsReport, Told};
 
+use crate::command::{Subcommand, read_command};
 use crate::errors::tell;
 use crate::reading::read_all;
 use crate::report::{Fault, Report};
-use crate::turns::run_turns;
 use crate::writing::{WriteFault, write_all};
 use ft_io::{Sink, Source};
 use ft_model::Entry;
-use ft_script::{ScriptFault, parse};
+use ft_script::{ScriptFault, Which, parse};
+use ft_turns::run_turns;
 use std::alloc::Global;
 use std::sync::Wait;
 use std::thread::Threads;
@@ -46,10 +50,12 @@ pub fn run_tool<R: Threads + Wait + Sync, S: Source, K: Sink, E: Sink, G: Gate>(
         (stream (K.taken sink.old) (K.faults sink.old)) (stream (K.taken sink.new) (K.faults sink.new))
         (stream (E.taken errors.old) (E.faults errors.old)) (stream (E.taken errors.new) (E.faults errors.new)) result }
 {
-    run_still(alloc, words, source, sink, errors).unwrap()
+    let outcome = perform(alloc, asked(alloc, words), source, sink);
+    report(errors, outcome)
 }
 
-/// The whole work of the tool for a command that starts no thread, as every command is yet.
+/// The whole work of the tool for a command that starts no thread. None where the command is
+/// `run`, and then nothing is read or written.
 pub fn run_still<S: Source, K: Sink, E: Sink>(
     alloc: Global,
     words: &[String],
@@ -57,74 +63,135 @@ pub fn run_still<S: Source, K: Sink, E: Sink>(
     sink: &mut K,
     errors: &mut E,
 ) -> Option<Report>
-    ensures { IsSomeAnd result (λ report. IsReport (map string_bytes words.now)
+    ensures report { IfSome result (λ report. IsReport (map string_bytes words.now)
         (stream (S.left source.old) (S.faults source.old)) (stream (S.left source.new) (S.faults source.new))
         (stream (K.taken sink.old) (K.faults sink.old)) (stream (K.taken sink.new) (K.faults sink.new))
         (stream (E.taken errors.old) (E.faults errors.old)) (stream (E.taken errors.new) (E.faults errors.new)) report) }
+    ensures run { IfNone result (command_of (map string_bytes words.now) ≡ Some subcommand.Run) }
+    ensures untouched { IfNone result ((source.new ≡ source.old) × (sink.new ≡ sink.old) × (errors.new ≡ errors.old)) }
+    // `run` has a report only where memory ran out before the command was known.
+    ensures other { IfSome result (λ report. command_of (map string_bytes words.now) ≡ Some subcommand.Run → report.fault ≡ fault.Memory) }
 {
-    let outcome = perform(alloc, words, source, sink);
-    let _ = tell(errors, outcome.fault);
-    Some(Report {
+    let command = asked(alloc, words);
+    if command == Ok(Subcommand::Run) {
+        return None;
+    }
+    let outcome = perform(alloc, command, source, sink);
+    Some(report(errors, outcome))
+}
+
+/// The command that the words are, or the fault that is told instead.
+fn asked(alloc: Global, words: &[String]) -> Result<Subcommand, Fault>
+    ensures { IsAsked (command_of (map string_bytes words.now)) result }
+{
+    match read_command(alloc, words) {
+        Ok(Some(command)) => Ok(command),
+        Ok(None) => Err(Fault::Usage),
+        Err(_) => Err(Fault::Memory),
+    }
+}
+
+/// Puts the errors' line of what was done, and reports it.
+fn report<E: Sink>(errors: &mut E, outcome: Outcome) -> Report
+    ensures fault { result.fault ≡ outcome.fault }
+    ensures history { result.history.items ≡ outcome.history.items }
+    ensures status { result.status ≡ status_of outcome.fault }
+    ensures told { Told (stream (E.taken errors.old) (E.faults errors.old)) (error_line outcome.fault outcome.limit) (stream (E.taken errors.new) (E.faults errors.new)) }
+{
+    let _ = tell(errors, outcome.fault, outcome.limit);
+    Report {
         status: outcome.fault.status(),
         fault: outcome.fault,
         history: outcome.history,
-    })
+    }
 }
 
 /// What a command has come to.
 #[derive(Debug, Drop)]
 struct Outcome {
     fault: Fault,
+    /// The limit that a faulty script passes.
+    limit: Option<Which>,
     history: Vec<Entry>,
 }
 
 impl Outcome {
-    ghost use Rattle.std.specs.Prelude.{◌≡◌, []};
+    ghost use Rattle.std.specs.Prelude.{◌≡◌, [], None};
+    ghost use Rattle.ft_runner.specs.Reports.{refusal_of};
 
     /// A fault without a history.
     fn of(alloc: Global, fault: Fault) -> Outcome
         ensures fault { result.fault ≡ fault }
+        ensures limit { result.limit ≡ None }
         ensures history { result.history.items ≡ [] }
     {
         Outcome {
             fault,
+            limit: None,
             history: Vec::new(alloc),
+        }
+    }
+
+    /// What is told of a text that is refused.
+    fn refused(alloc: Global, refused: ScriptFault) -> Outcome
+        ensures fault { result.fault ≡ refusal_of refused }
+        ensures limit { result.limit ≡ refused.which }
+        ensures history { result.history.items ≡ [] }
+    {
+        let fault = if refused.is_memory() {
+            Fault::Memory
+        } else {
+            Fault::Script(refused.line, refused.kind)
+        };
+        Outcome {
+            fault,
+            limit: refused.which,
+            history: Vec::new(alloc),
+        }
+    }
+
+    /// A history that was written, whole or in part.
+    fn with(fault: Fault, history: Vec<Entry>) -> Outcome
+        ensures fault { result.fault ≡ fault }
+        ensures limit { result.limit ≡ None }
+        ensures history { result.history.items ≡ history.items }
+    {
+        Outcome {
+            fault,
+            limit: None,
+            history,
         }
     }
 }
 
-/// Does what the words ask, but for the errors' line.
+/// Does what is asked, but for the errors' line.
 fn perform<S: Source, K: Sink>(
     alloc: Global,
-    words: &[String],
+    asked: Result<Subcommand, Fault>,
     source: &mut S,
     sink: &mut K,
 ) -> Outcome
-    ensures { IsDone (map string_bytes words.now)
+    ensures done { (command : Option Subcommand) → IsAsked command asked → IsDone command
         (stream (S.left source.old) (S.faults source.old)) (stream (S.left source.new) (S.faults source.new))
-        (stream (K.taken sink.old) (K.faults sink.old)) (stream (K.taken sink.new) (K.faults sink.new)) result.fault result.history.items }
+        (stream (K.taken sink.old) (K.faults sink.old)) (stream (K.taken sink.new) (K.faults sink.new)) result.fault result.limit result.history.items }
+    ensures refused { IfErr asked (λ fault. result.fault ≡ fault) }
 {
-    if !asks_turns(words) {
-        return Outcome::of(alloc, Fault::Usage);
-    }
-    turns(alloc, source, sink)
-}
-
-/// Whether the words are the program's name and `turns`.
-fn asks_turns(words: &[String]) -> bool
-    ensures { result ≡ is_turns (map string_bytes words.now) }
-{
-    match words {
-        [_, command] => command.as_str() == "turns",
-        _ => false,
+    match asked {
+        Ok(command) => obey(alloc, command, source, sink),
+        Err(fault) => Outcome::of(alloc, fault),
     }
 }
 
-/// Reads a script, runs it and writes its history.
-fn turns<S: Source, K: Sink>(alloc: Global, source: &mut S, sink: &mut K) -> Outcome
-    ensures { (words : List (List ℕ)) → is_turns words ≡ true → IsDone words
+/// Does a command. The calls of all threads are made on this one yet.
+fn obey<S: Source, K: Sink>(
+    alloc: Global,
+    command: Subcommand,
+    source: &mut S,
+    sink: &mut K,
+) -> Outcome
+    ensures { IsDone (Some command)
         (stream (S.left source.old) (S.faults source.old)) (stream (S.left source.new) (S.faults source.new))
-        (stream (K.taken sink.old) (K.faults sink.old)) (stream (K.taken sink.new) (K.faults sink.new)) result.fault result.history.items }
+        (stream (K.taken sink.old) (K.faults sink.old)) (stream (K.taken sink.new) (K.faults sink.new)) result.fault result.limit result.history.items }
 {
     match read_all(alloc, source) {
         Ok(bytes) => run_text(alloc, &bytes, sink),
@@ -132,37 +199,20 @@ fn turns<S: Source, K: Sink>(alloc: Global, source: &mut S, sink: &mut K) -> Out
     }
 }
 
-/// Runs the script that the bytes stand for, and writes its history.
+/// Runs the script that the bytes are, and writes its history.
 fn run_text<K: Sink>(alloc: Global, bytes: &[u8], sink: &mut K) -> Outcome
-    ensures { IsRunOf bytes.now (stream (K.taken sink.old) (K.faults sink.old)) (stream (K.taken sink.new) (K.faults sink.new)) result.fault result.history.items }
+    ensures { (command : Option Subcommand) → IsRunOf command bytes.now (stream (K.taken sink.old) (K.faults sink.old)) (stream (K.taken sink.new) (K.faults sink.new)) result.fault result.limit result.history.items }
 {
     let script = match parse(alloc, bytes) {
         Ok(script) => script,
-        Err(refused) => return Outcome::of(alloc, script_fault(refused)),
+        Err(refused) => return Outcome::refused(alloc, refused),
     };
     let Ok(run) = run_turns(alloc, &script) else {
         return Outcome::of(alloc, Fault::Memory);
     };
     match write_all(alloc, sink, &script, &run.entries, &run.world) {
-        Ok(()) => Outcome {
-            fault: Fault::Clean,
-            history: run.entries,
-        },
-        Err(WriteFault::Failed) => Outcome {
-            fault: Fault::Write,
-            history: run.entries,
-        },
+        Ok(()) => Outcome::with(Fault::Clean, run.entries),
+        Err(WriteFault::Failed) => Outcome::with(Fault::Write, run.entries),
         Err(WriteFault::Memory) => Outcome::of(alloc, Fault::Memory),
-    }
-}
-
-/// The fault of a text that is refused.
-fn script_fault(refused: ScriptFault) -> Fault
-    ensures { result ≡ (if refused.kind == 14 then fault.Memory else fault.Script refused.line refused.kind) }
-{
-    if refused.is_memory() {
-        Fault::Memory
-    } else {
-        Fault::Script(refused.line, refused.kind)
     }
 }

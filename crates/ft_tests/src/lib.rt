@@ -1,0 +1,5 @@
+//! Tests that need several crates. Nothing stands on this one.
+#![tactic(auto)]
+
+#[cfg(test)]
+mod judging;

@@ -1,0 +1,341 @@
+-- What every answer says and leaves.
+use Rattle.std.proofs.Common.{map, ◌≡◌, ℕ, ◌-◌, ◌<◌, Bool, true, false, not, List, [], ◌∷◌, length, get_or, Option, None, Some, refl, sym, ap, subst, ◌∙◌, inl, inr, zero, suc}
+use Rattle.std.specs.Prelude.{◌⊎◌, if◌then◌else◌, All, slice_get, slice_set, slice_index_or, ◌&&◌, ◌==◌, IfSome}
+use Rattle.std.specs.Option.{option_map_or}
+use Rattle.std.proofs.lemmas.Bool.{true≢false, false≢true, cases_eq, cases_lt, eq-eqb, ne_eqb}
+use Rattle.std.proofs.lemmas.Option.{none-some, same_Some}
+use Rattle.std.proofs.lemmas.List.{length-set, get_or-set_same, get_or-set_other, get_or_past}
+use Rattle.std.proofs.lemmas.List.Elements.{All-nil, All-set}
+use Rattle.ft_model.specs.declared.data.Value.{Value}
+use Rattle.ft_model.specs.declared.call.Call.{Call}
+use Rattle.ft_model.specs.declared.call.Call.TheVariants as call
+use Rattle.ft_model.specs.declared.call.DictCall.{DictCall}
+use Rattle.ft_model.specs.declared.call.DictCall.TheVariants as dict
+use Rattle.ft_model.specs.declared.call.ListCall.{ListCall}
+use Rattle.ft_model.specs.declared.call.ListCall.TheVariants as list
+use Rattle.ft_model.specs.declared.call.SetCall.{SetCall}
+use Rattle.ft_model.specs.declared.call.SetCall.TheVariants as set
+use Rattle.ft_model.specs.declared.reply.Reply.{Reply}
+use Rattle.ft_model.specs.declared.reply.Reply.TheVariants as reply
+use Rattle.ft_model.specs.declared.reply.Raise.TheVariants as raise
+use Rattle.ft_model.specs.declared.content.Content.{Content}
+use Rattle.ft_model.specs.declared.content.Content.TheVariants as content
+use Rattle.ft_model.specs.declared.content.DictPair.{DictPair}
+use Rattle.ft_model.specs.declared.content.Element.{Element}
+use Rattle.ft_model.specs.declared.cursor.Cursor.{Cursor}
+use Rattle.ft_model.specs.declared.cursor.Cursor.TheVariants as cursor
+use Rattle.ft_model.specs.declared.cursor.Walk.{Walk}
+use Rattle.ft_model.specs.declared.cursor.Walk.TheVariants as walk
+use Rattle.ft_model.specs.Calls.{is_changing, one_or_two, containers_of, other_dict, other_list, other_set, cursor_of_dict, cursor_of_list, cursor_of_set}
+use Rattle.ft_model.specs.Contents.{empty_dict, empty_set}
+use Rattle.ft_model.specs.Cursors.{CursorStep, is_behind, next_pair, dict_walk, dict_next, next_element, set_walk, set_next, list_walk, list_next}
+use Rattle.ft_model.specs.declared.script.Kind.{Kind}
+use Rattle.ft_model.specs.declared.script.Kind.TheVariants as kind
+use Rattle.ft_model.specs.Worlds.{IsOfKind, kind_of, cursor_kind, dict_of, list_of, set_of, dict_at, list_at, set_at, cursor_at, container_of, no_hands}
+use Rattle.ft_model.specs.Scripts.{IsValueOf, AreStringsOf, cursor_of}
+use Rattle.ft_model.specs.Parts.{IsReplyOf, IsContentOf}
+use Rattle.ft_model.specs.Answers.{Answer, shows, moves, answer_dict, answer_list, answer_set, cursor_step, answer, is_raised, is_memory, is_write}
+use Rattle.ft_turns.proofs.ContentStrings.{IsPairOf, IsElementOf, key_value, held_at, found_in}
+use Rattle.ft_turns.proofs.AnswerForms.{Form, shown, put, made, form_dict, form_list, form_set}
+
+-- the container that the cursor goes over, where it was made
+abbrev pub walked : List (Option Cursor) → ℕ → List ℕ
+walked hands number = option_map_or (λ cursor. container_of cursor ∷ []) (cursor_at hands number) []
+
+-- the same behind a call that makes a cursor, or doesn't
+abbrev pub walked_after : List (Option Cursor) → Option ℕ → List ℕ → ℕ → List ℕ
+walked_after hands made_one named number = if option_map_or (λ one. one == number) made_one false then named else walked hands number
+
+-- each cursor goes over a container of its kind
+abbrev pub AreOver : List Content → List (Option Cursor) → Type 0
+AreOver world hands = (number : ℕ) (it : Cursor) → cursor_at hands number ≡ Some it → IsOfKind world (cursor_kind it) (container_of it)
+
+-- the containers that a call names are of its kind
+abbrev pub IsAsked : List Content → Call → Type 0
+IsAsked world (call.Dict container dict_call) = IsOfKind world kind.Dict container × IfSome (other_dict dict_call) (λ other. IsOfKind world kind.Dict other)
+IsAsked world (call.List container list_call) = IsOfKind world kind.List container × IfSome (other_list list_call) (λ other. IsOfKind world kind.List other)
+IsAsked world (call.Set container set_call) = IsOfKind world kind.Set container × IfSome (other_set set_call) (λ other. IsOfKind world kind.Set other)
+IsAsked world other = Unit {0}
+
+-- what an answer says and leaves, whatever the call
+pub record IsPlainAnswer (n : ℕ) (world : List Content) (hands : List (Option Cursor)) (called : Call) : Type 0 where
+  pub memory : is_memory (answer world hands called).reply ≡ false
+  pub alike : is_changing called ≡ true → (answer world hands called).world ≡ (answer world no_hands called).world
+  pub quiet : is_write called (answer world hands called).reply ≡ false → (answer world hands called).world ≡ world
+  pub reply : IsReplyOf n (answer world hands called).reply
+  pub contents : All (IsContentOf n) (answer world hands called).world
+  pub containers : length (answer world hands called).world ≡ length world
+  pub kinds : map kind_of (answer world hands called).world ≡ map kind_of world
+  pub room : length (answer world hands called).hands ≡ length hands
+  pub fits : AreOver world hands → AreOver world (answer world hands called).hands
+  pub walks : (number : ℕ) → walked (answer world hands called).hands number ≡ walked_after hands (cursor_of called) (containers_of called) number
+
+-- ---- what is put in place of another
+
+kinds_set : (world : List Content) (place : ℕ) (left : Content) → IsOfKind world (kind_of left) place → map kind_of (slice_set world place left) ≡ map kind_of world
+kinds_set [] place left same = refl
+kinds_set (first ∷ world) zero left same = ap (λ (k : Kind). k ∷ map kind_of world) (sym (same_Some (kind_of first) (kind_of left) same))
+kinds_set (first ∷ world) (suc place) left same = ap (λ (ks : List Kind). kind_of first ∷ ks) (kinds_set world place left same)
+
+set_cursor : (hands : List (Option Cursor)) (number other : ℕ) (it jt : Cursor) → cursor_at (slice_set hands number (Some it)) other ≡ Some jt → (cursor_at hands other ≡ Some jt) ⊎ (it ≡ jt)
+set_cursor [] number other it jt at = inl at
+set_cursor (first ∷ hands) zero zero it jt at = inr (same_Some it jt at)
+set_cursor (first ∷ hands) zero (suc other) it jt at = inl at
+set_cursor (first ∷ hands) (suc number) zero it jt at = inl at
+set_cursor (first ∷ hands) (suc number) (suc other) it jt at = set_cursor hands number other it jt at
+
+-- ---- what its form tells
+
+raised_memory : (said : Reply) → is_raised said ≡ false → is_memory said ≡ false
+raised_memory (reply.Raised one) h = absurd (true≢false h)
+raised_memory other h = refl
+
+module _ (world : List Content) (n : ℕ) (k : Kind) (container : ℕ) (changing : Bool) (makes_one : Option ℕ) where
+  form_memory : (f : List (Option Cursor) → Answer) (hands : List (Option Cursor)) → Form world n k container changing makes_one f → is_memory (f hands).reply ≡ false
+  form_memory f hands (shown none said memory strings) = memory
+  form_memory f hands (put none changes place left said done strings contents kinds there) = raised_memory said done
+  form_memory f hands (made number is still cursor over kinds here) = refl
+
+  form_alike : (f : List (Option Cursor) → Answer) (hands others : List (Option Cursor)) → Form world n k container changing makes_one f → changing ≡ true → (f hands).world ≡ (f others).world
+  form_alike f hands others (shown none said memory strings) changes = refl
+  form_alike f hands others (put none is place left said done strings contents kinds there) changes = refl
+  form_alike f hands others (made number is still cursor over kinds here) changes = refl
+
+  form_quiet : (f : List (Option Cursor) → Answer) (hands : List (Option Cursor)) → Form world n k container changing makes_one f → (changing && not (is_raised (f hands).reply)) ≡ false → (f hands).world ≡ world
+  form_quiet f hands (shown none said memory strings) reads = refl
+  form_quiet f hands (put none changes place left said done strings contents kinds there) reads = absurd (true≢false (ap (λ b. true && not b) (sym done) ∙ ap (λ b. b && not (is_raised said)) (sym changes) ∙ reads))
+  form_quiet f hands (made number is still cursor over kinds here) reads = refl
+
+  form_reply : (f : List (Option Cursor) → Answer) (hands : List (Option Cursor)) → Form world n k container changing makes_one f → IsReplyOf n (f hands).reply
+  form_reply f hands (shown none said memory strings) = strings
+  form_reply f hands (put none changes place left said done strings contents kinds there) = strings
+  form_reply f hands (made number is still cursor over kinds here) = tt
+
+  form_contents : (f : List (Option Cursor) → Answer) (hands : List (Option Cursor)) → Form world n k container changing makes_one f → All (IsContentOf n) world → All (IsContentOf n) (f hands).world
+  form_contents f hands (shown none said memory strings) old = old
+  form_contents f hands (put none changes place left said done strings contents kinds there) old = All-set (IsContentOf n) world place left contents old
+  form_contents f hands (made number is still cursor over kinds here) old = old
+
+  form_containers : (f : List (Option Cursor) → Answer) (hands : List (Option Cursor)) → Form world n k container changing makes_one f → length (f hands).world ≡ length world
+  form_containers f hands (shown none said memory strings) = refl
+  form_containers f hands (put none changes place left said done strings contents kinds there) = length-set world place left
+  form_containers f hands (made number is still cursor over kinds here) = refl
+
+  form_room : (f : List (Option Cursor) → Answer) (hands : List (Option Cursor)) → Form world n k container changing makes_one f → length (f hands).hands ≡ length hands
+  form_room f hands (shown none said memory strings) = refl
+  form_room f hands (put none changes place left said done strings contents kinds there) = refl
+  form_room f hands (made number is still cursor over kinds here) = length-set hands number (Some cursor)
+
+  form_kinds : (f : List (Option Cursor) → Answer) (hands : List (Option Cursor)) → Form world n k container changing makes_one f → map kind_of (f hands).world ≡ map kind_of world
+  form_kinds f hands (shown none said memory strings) = refl
+  form_kinds f hands (put none changes place left said done strings contents kinds there) = kinds_set world place left (subst (λ one. IsOfKind world one place) (sym kinds) there)
+  form_kinds f hands (made number is still cursor over kinds here) = refl
+
+  form_fits : (f : List (Option Cursor) → Answer) (hands : List (Option Cursor)) → Form world n k container changing makes_one f → AreOver world hands → AreOver world (f hands).hands
+  form_fits f hands (shown none said memory strings) fits = fits
+  form_fits f hands (put none changes place left said done strings contents kinds there) fits = fits
+  form_fits f hands (made one is still it over kinds here) fits = λ number jt at.
+      elim (set_cursor hands one number it jt at) [
+        | inl before ↦ fits number jt before
+        | inr now ↦ subst (λ (c : Cursor). IsOfKind world (cursor_kind c) (container_of c)) now (subst (λ kd. IsOfKind world kd (container_of it)) (sym kinds) (subst (IsOfKind world k) (sym over) here))
+      ]
+
+  no_cursor : (hands : List (Option Cursor)) (named : List ℕ) (number : ℕ) → makes_one ≡ None → walked hands number ≡ walked_after hands makes_one named number
+  no_cursor hands named number none = ap (λ o. walked_after hands o named number) (sym none)
+
+  form_walks : (f : List (Option Cursor) → Answer) (hands : List (Option Cursor)) (named : List ℕ) (number : ℕ) → Form world n k container changing makes_one f → IfSome makes_one (λ one. one < length hands) → ((one : ℕ) → makes_one ≡ Some one → named ≡ container ∷ [])
+      → walked (f hands).hands number ≡ walked_after hands makes_one named number
+  form_walks f hands named number (shown none said memory strings) room only = no_cursor hands named number none
+  form_walks f hands named number (put none changes place left said done strings contents kinds there) room only = no_cursor hands named number none
+  form_walks f hands named number (made one is still it over kinds here) room only =
+      let low : one < length hands = subst (λ o. IfSome o (λ k. k < length hands)) is room in
+      elim (cases_eq one number) [
+        | inl same ↦
+            ap (λ (o : Option Cursor). option_map_or (λ (c : Cursor). container_of c ∷ []) o []) (ap (λ k. get_or (slice_set hands one (Some it)) k None) (sym same) ∙ get_or-set_same hands one (Some it) None low)
+            ∙ ap (λ c. c ∷ []) over ∙ sym (only one is)
+            ∙ ap (λ b. if b then named else walked hands number) (sym (eq-eqb one number same))
+            ∙ ap (λ o. walked_after hands o named number) (sym is)
+        | inr differs ↦
+            ap (λ (o : Option Cursor). option_map_or (λ (c : Cursor). container_of c ∷ []) o []) (get_or-set_other hands one number (Some it) None (λ e. differs (sym e)))
+            ∙ ap (λ b. if b then named else walked hands number) (sym (ne_eqb one number differs))
+            ∙ ap (λ o. walked_after hands o named number) (sym is)
+      ]
+
+-- ---- what a world's contents are
+
+module _ (n : ℕ) (world : List Content) (contents : All (IsContentOf n) world) where
+  of_dict : (c : Content) → IsContentOf n c → All (IsPairOf n) (dict_of c).pairs
+  of_dict (content.Dict dict) h = h
+  of_dict (content.List items) h = All-nil (IsPairOf n)
+  of_dict (content.Set set) h = All-nil (IsPairOf n)
+
+  of_list : (c : Content) → IsContentOf n c → All (IsValueOf n) (list_of c)
+  of_list (content.Dict dict) h = All-nil (IsValueOf n)
+  of_list (content.List items) h = h
+  of_list (content.Set set) h = All-nil (IsValueOf n)
+
+  of_set : (c : Content) → IsContentOf n c → All (IsElementOf n) (set_of c).elements
+  of_set (content.Dict dict) h = All-nil (IsElementOf n)
+  of_set (content.List items) h = All-nil (IsElementOf n)
+  of_set (content.Set set) h = h
+
+  content_at : (place : ℕ) (empty : Content) → IsContentOf n empty → IsContentOf n (slice_index_or world place empty)
+  content_at place empty none =
+      elim (cases_lt place (length world)) [
+        | inl low ↦ contents place empty low
+        | inr high ↦ subst (IsContentOf n) (sym (get_or_past world place empty high)) none
+      ]
+
+  pub dicts_of : (place : ℕ) → All (IsPairOf n) (dict_at world place).pairs
+  dicts_of place = of_dict (slice_index_or world place (content.Dict empty_dict)) (content_at place (content.Dict empty_dict) (All-nil (IsPairOf n)))
+
+  pub lists_of : (place : ℕ) → All (IsValueOf n) (list_at world place)
+  lists_of place = of_list (slice_index_or world place (content.List [])) (content_at place (content.List []) (All-nil (IsValueOf n)))
+
+  pub sets_of : (place : ℕ) → All (IsElementOf n) (set_at world place).elements
+  sets_of place = of_set (slice_index_or world place (content.Set empty_set)) (content_at place (content.Set empty_set) (All-nil (IsElementOf n)))
+
+  -- ---- cursors
+
+  abbrev IsStep : Cursor → CursorStep → Type 0
+  IsStep before step = (is_memory step.reply ≡ false) × IsReplyOf n step.reply × (container_of step.cursor ≡ container_of before) × (cursor_kind step.cursor ≡ cursor_kind before)
+
+  dict_step : (pairs : List DictPair) (container : ℕ) (state : Walk) (size expected : ℕ) (last : Option ℕ) → All (IsPairOf n) pairs → IsStep (cursor.Dict container state size expected last) (dict_next pairs container state size expected last)
+  dict_step pairs container walk.Ended size expected last of = (refl, tt, refl, refl)
+  dict_step pairs container walk.Told size expected last of = (refl, tt, refl, refl)
+  dict_step pairs container walk.Live size expected last of =
+      elim (length pairs == size) as (λ b. IsStep (cursor.Dict container walk.Live size expected last) (if b then dict_walk (next_pair pairs last) container size expected last else record { reply = reply.Raised raise.Size; cursor = cursor.Dict container walk.Told size expected last })) [
+        | false ↦ (refl, tt, refl, refl)
+        | true ↦ elim (next_pair pairs last) as (λ o. next_pair pairs last ≡ o → IsStep (cursor.Dict container walk.Live size expected last) (dict_walk o container size expected last)) [
+          | None ↦ λ _. (refl, tt, refl, refl)
+          | Some pair ↦ λ found. elim (expected == 0) as (λ b. IsStep (cursor.Dict container walk.Live size expected last) (if b then record { reply = reply.Raised raise.Keys; cursor = cursor.Dict container walk.Ended size expected last } else record { reply = reply.Pair pair.key pair.value; cursor = cursor.Dict container walk.Live size (expected - 1) (Some pair.serial) })) [
+            | true ↦ (refl, tt, refl, refl)
+            | false ↦ (refl, found_in (IsPairOf n) (λ (p : DictPair). is_behind last p.serial) pairs pair of found, refl, refl)
+          ]
+        ] refl
+      ]
+
+  set_step : (elements : List Element) (container : ℕ) (state : Walk) (size : ℕ) (last : Option ℕ) → All (IsElementOf n) elements → IsStep (cursor.Set container state size last) (set_next elements container state size last)
+  set_step elements container walk.Ended size last of = (refl, tt, refl, refl)
+  set_step elements container walk.Told size last of = (refl, tt, refl, refl)
+  set_step elements container walk.Live size last of =
+      elim (length elements == size) as (λ b. IsStep (cursor.Set container walk.Live size last) (if b then set_walk (next_element elements last) container size last else record { reply = reply.Raised raise.Size; cursor = cursor.Set container walk.Told size last })) [
+        | false ↦ (refl, tt, refl, refl)
+        | true ↦ elim (next_element elements last) as (λ o. next_element elements last ≡ o → IsStep (cursor.Set container walk.Live size last) (set_walk o container size last)) [
+          | None ↦ λ _. (refl, tt, refl, refl)
+          | Some element ↦ λ found. (refl, key_value n element.key (found_in (IsElementOf n) (λ (e : Element). is_behind last e.serial) elements element of found), refl, refl)
+        ] refl
+      ]
+
+  list_step : (items : List Value) (container index : ℕ) (ended : Bool) → All (IsValueOf n) items → IsStep (cursor.List container index ended) (list_next items container index ended)
+  list_step items container index true of = (refl, tt, refl, refl)
+  list_step items container index false of =
+      elim (slice_get items index) as (λ o. slice_get items index ≡ o → IsStep (cursor.List container index false) (list_walk o container index)) [
+        | None ↦ λ _. (refl, tt, refl, refl)
+        | Some one ↦ λ found. (refl, held_at (IsValueOf n) items index one of found, refl, refl)
+      ] refl
+
+  steps_of : (it : Cursor) → IsStep it (cursor_step world it)
+  steps_of (cursor.Dict container state size expected last) = dict_step (dict_at world container).pairs container state size expected last (dicts_of container)
+  steps_of (cursor.List container index ended) = list_step (list_at world container) container index ended (lists_of container)
+  steps_of (cursor.Set container state size last) = set_step (set_at world container).elements container state size last (sets_of container)
+
+  next_walks : (hands : List (Option Cursor)) (number other : ℕ) → walked (answer world hands (call.Next number)).hands other ≡ walked hands other
+  next_walks hands number other =
+      elim (cursor_at hands number) as (λ o. cursor_at hands number ≡ o → walked (option_map_or (λ it. moves world hands number (cursor_step world it).cursor (cursor_step world it).reply) o (shows world hands reply.Stop)).hands other ≡ walked hands other) [
+        | None ↦ λ _. refl
+        | Some it ↦ λ is. elim (cases_eq number other) [
+          | inr differs ↦ ap (λ (o : Option Cursor). option_map_or (λ (c : Cursor). container_of c ∷ []) o []) (get_or-set_other hands number other (Some (cursor_step world it).cursor) None (λ e. differs (sym e)))
+          | inl same ↦ elim (cases_lt number (length hands)) [
+            | inl low ↦
+                ap (λ (o : Option Cursor). option_map_or (λ (c : Cursor). container_of c ∷ []) o []) (ap (λ k. get_or (slice_set hands number (Some (cursor_step world it).cursor)) k None) (sym same) ∙ get_or-set_same hands number (Some (cursor_step world it).cursor) None low)
+                ∙ ap (λ c. c ∷ []) (steps_of it).2
+                ∙ ap (λ (o : Option Cursor). option_map_or (λ (c : Cursor). container_of c ∷ []) o []) (sym is ∙ ap (cursor_at hands) same)
+            | inr high ↦ absurd (none-some it (sym (get_or_past hands number None high) ∙ is))
+          ]
+        ]
+      ] refl
+
+  -- ---- all calls
+
+  only_dict : (dict_call : DictCall) (container one : ℕ) → cursor_of_dict dict_call ≡ Some one → one_or_two container (other_dict dict_call) ≡ container ∷ []
+  only_dict (dict.Iter it) container one is = refl
+  only_dict other container one is = absurd cc
+
+  only_list : (list_call : ListCall) (container one : ℕ) → cursor_of_list list_call ≡ Some one → one_or_two container (other_list list_call) ≡ container ∷ []
+  only_list (list.Iter it) container one is = refl
+  only_list other container one is = absurd cc
+
+  only_set : (set_call : SetCall) (container one : ℕ) → cursor_of_set set_call ≡ Some one → one_or_two container (other_set set_call) ≡ container ∷ []
+  only_set (set.Iter it) container one is = refl
+  only_set other container one is = absurd cc
+
+  pub plain_answer : (hands : List (Option Cursor)) (called : Call) → AreStringsOf n called → IsAsked world called → IfSome (cursor_of called) (λ one. one < length hands) → IsPlainAnswer n world hands called
+  plain_answer hands (call.Dict container dict_call) strings asked room =
+      let f : List (Option Cursor) → Answer = λ h. answer_dict world h container (dict_at world container) dict_call in
+      let form : Form world n kind.Dict container (is_changing (call.Dict container dict_call)) (cursor_of_dict dict_call) f = form_dict world n container (dict_at world container) (dicts_of container) dicts_of asked.0 dict_call strings asked.1 in
+      record {
+        memory = form_memory world n kind.Dict container _ _ f hands form;
+        alike = form_alike world n kind.Dict container _ _ f hands no_hands form;
+        quiet = form_quiet world n kind.Dict container _ _ f hands form;
+        reply = form_reply world n kind.Dict container _ _ f hands form;
+        contents = form_contents world n kind.Dict container _ _ f hands form contents;
+        containers = form_containers world n kind.Dict container _ _ f hands form;
+        kinds = form_kinds world n kind.Dict container _ _ f hands form;
+        fits = form_fits world n kind.Dict container _ _ f hands form;
+        room = form_room world n kind.Dict container _ _ f hands form;
+        walks = λ number. form_walks world n kind.Dict container _ _ f hands (containers_of (call.Dict container dict_call)) number form room (only_dict dict_call container);
+      }
+  plain_answer hands (call.List container list_call) strings asked room =
+      let f : List (Option Cursor) → Answer = λ h. answer_list world h container (list_at world container) list_call in
+      let form : Form world n kind.List container (is_changing (call.List container list_call)) (cursor_of_list list_call) f = form_list world n container (list_at world container) (lists_of container) lists_of asked.0 list_call strings asked.1 in
+      record {
+        memory = form_memory world n kind.List container _ _ f hands form;
+        alike = form_alike world n kind.List container _ _ f hands no_hands form;
+        quiet = form_quiet world n kind.List container _ _ f hands form;
+        reply = form_reply world n kind.List container _ _ f hands form;
+        contents = form_contents world n kind.List container _ _ f hands form contents;
+        containers = form_containers world n kind.List container _ _ f hands form;
+        kinds = form_kinds world n kind.List container _ _ f hands form;
+        fits = form_fits world n kind.List container _ _ f hands form;
+        room = form_room world n kind.List container _ _ f hands form;
+        walks = λ number. form_walks world n kind.List container _ _ f hands (containers_of (call.List container list_call)) number form room (only_list list_call container);
+      }
+  plain_answer hands (call.Set container set_call) strings asked room =
+      let f : List (Option Cursor) → Answer = λ h. answer_set world h container (set_at world container) set_call in
+      let form : Form world n kind.Set container (is_changing (call.Set container set_call)) (cursor_of_set set_call) f = form_set world n container (set_at world container) (sets_of container) sets_of asked.0 set_call strings asked.1 in
+      record {
+        memory = form_memory world n kind.Set container _ _ f hands form;
+        alike = form_alike world n kind.Set container _ _ f hands no_hands form;
+        quiet = form_quiet world n kind.Set container _ _ f hands form;
+        reply = form_reply world n kind.Set container _ _ f hands form;
+        contents = form_contents world n kind.Set container _ _ f hands form contents;
+        containers = form_containers world n kind.Set container _ _ f hands form;
+        kinds = form_kinds world n kind.Set container _ _ f hands form;
+        fits = form_fits world n kind.Set container _ _ f hands form;
+        room = form_room world n kind.Set container _ _ f hands form;
+        walks = λ number. form_walks world n kind.Set container _ _ f hands (containers_of (call.Set container set_call)) number form room (only_set set_call container);
+      }
+  plain_answer hands (call.Next number) strings asked room =
+      let stepped : Option Cursor → Answer = λ o. option_map_or (λ it. moves world hands number (cursor_step world it).cursor (cursor_step world it).reply) o (shows world hands reply.Stop) in
+      record {
+        memory = elim (cursor_at hands number) as (λ o. is_memory (stepped o).reply ≡ false) [ None ↦ refl | Some it ↦ (steps_of it).0 ];
+        alike = λ changes. absurd (false≢true changes);
+        quiet = λ _. elim (cursor_at hands number) as (λ o. (stepped o).world ≡ world) [ None ↦ refl | Some it ↦ refl ];
+        reply = elim (cursor_at hands number) as (λ o. IsReplyOf n (stepped o).reply) [ None ↦ tt | Some it ↦ (steps_of it).1 ];
+        contents = elim (cursor_at hands number) as (λ o. All (IsContentOf n) (stepped o).world) [ None ↦ contents | Some it ↦ contents ];
+        containers = elim (cursor_at hands number) as (λ o. length (stepped o).world ≡ length world) [ None ↦ refl | Some it ↦ refl ];
+        room = elim (cursor_at hands number) as (λ o. length (stepped o).hands ≡ length hands) [ None ↦ refl | Some it ↦ length-set hands number (Some (cursor_step world it).cursor) ];
+        kinds = elim (cursor_at hands number) as (λ o. map kind_of (stepped o).world ≡ map kind_of world) [ None ↦ refl | Some it ↦ refl ];
+        fits = λ fits. elim (cursor_at hands number) as (λ o. cursor_at hands number ≡ o → AreOver world (stepped o).hands) [
+          | None ↦ λ _. fits
+          | Some it ↦ λ is other jt at. elim (set_cursor hands number other (cursor_step world it).cursor jt at) [
+            | inl before ↦ fits other jt before
+            | inr now ↦ subst (λ (c : Cursor). IsOfKind world (cursor_kind c) (container_of c)) now (subst (λ kd. IsOfKind world kd (container_of (cursor_step world it).cursor)) (sym (steps_of it).3) (subst (IsOfKind world (cursor_kind it)) (sym (steps_of it).2) (fits number it is)))
+          ]
+        ] refl;
+        walks = next_walks hands number;
+      }
+  plain_answer hands (call.Begin first second) strings asked room = record { memory = refl; alike = λ _. refl; quiet = λ _. refl; reply = tt; contents = contents; containers = refl; kinds = refl; fits = λ fits. fits; room = refl; walks = λ number. refl }
+  plain_answer hands call.End strings asked room = record { memory = refl; alike = λ _. refl; quiet = λ _. refl; reply = tt; contents = contents; containers = refl; kinds = refl; fits = λ fits. fits; room = refl; walks = λ number. refl }
+  plain_answer hands call.Quiesce strings asked room = record { memory = refl; alike = λ _. refl; quiet = λ _. refl; reply = tt; contents = contents; containers = refl; kinds = refl; fits = λ fits. fits; room = refl; walks = λ number. refl }

@@ -1,0 +1,58 @@
+-- The machine before the first turn.
+use Rattle.std.proofs.Common.{◌≡◌, ℕ, zero, suc, ◌<◌, ◌≤◌, List, [], ◌∷◌, length, get_or, map, replicate, Option, None, Some, refl, sym, ap, ◌∙◌, arith, ⊎_elim}
+use Rattle.std.specs.Prelude.{slice_get}
+use Rattle.std.specs.Option.{option_map_or}
+use Rattle.std.proofs.lemmas.List.{get_or-map, length-map, length-replicate}
+use Rattle.std.proofs.lemmas.Option.{slice_get_cases}
+use Rattle.ft_model.specs.declared.script.Thread.{Thread}
+use Rattle.ft_model.specs.declared.script.ScriptParts.{ScriptParts}
+use Rattle.ft_model.specs.Histories.{calls_of, cursors_of}
+use Rattle.ft_history.specs.States.{listed}
+use Rattle.ft_turns.specs.declared.machine.Standing.{Standing}
+use Rattle.ft_turns.specs.Cursors.{AreCursors, no_objects}
+use Rattle.ft_turns.specs.Orders.{fresh_thread}
+use Rattle.ft_turns.specs.Standings.{state_of, IsReady, IsReadyThread, AreFresh}
+
+-- no holders
+pub none_held : {X : Type 0} (xs : List X) → replicate (length xs) None ≡ map (λ x. let none : Option ℕ = None in none) xs
+none_held [] = refl
+none_held (x ∷ xs) = ap (λ rest. let none : Option ℕ = None in none ∷ rest) (none_held xs)
+
+fresh_at : (n number : ℕ) → get_or (replicate n no_objects) number no_objects ≡ no_objects
+fresh_at zero number = refl
+fresh_at (suc n) zero = refl
+fresh_at (suc n) (suc number) = fresh_at n number
+
+-- no cursor was made
+fresh_cursors : (n : ℕ) → AreCursors [] (replicate n no_objects)
+fresh_cursors n = λ number. ap listed (fresh_at n number)
+
+all_fresh : (threads : List Thread) (k : ℕ) → get_or (map (λ (thread : Thread). fresh_thread) threads) k fresh_thread ≡ fresh_thread
+all_fresh [] k = refl
+all_fresh (thread ∷ threads) zero = refl
+all_fresh (thread ∷ threads) (suc k) = all_fresh threads k
+
+pub fresh_ready : (script : ScriptParts) (standings : List Standing) → AreFresh script.threads standings → IsReady script standings
+fresh_ready script standings fresh =
+    let count : length standings ≡ length script.threads = sym (length-map standings state_of) ∙ (ap length fresh.states ∙ length-map script.threads (λ thread. fresh_thread)) in
+    record {
+      threads = count;
+      each = λ k default within.
+          let in_script : k < length script.threads = omega arith in
+          let standing = get_or standings k default in
+          let state : state_of standing ≡ fresh_thread =
+          sym (get_or-map state_of standings k default fresh_thread within)
+          ∙ (ap (λ states. get_or states k fresh_thread) fresh.states ∙ all_fresh script.threads k) in
+          let marks : standing.marks.items ≡ [] = ap (λ s. s.marks) state in
+          ⊎_elim
+          (λ (found : (t : Thread) × (k < length script.threads) × (slice_get script.threads k ≡ Some t) × (get_or script.threads k t ≡ t)).
+          let cursors : standing.cursors.items ≡ replicate (length found.0.cursors) no_objects = fresh.cursors k found.0 default within ∙ ap (λ (t : Thread). replicate (length t.cursors) no_objects) found.3 in
+          let room : cursors_of script k ≡ length found.0.cursors = ap (λ one. option_map_or (λ (t : Thread). length t.cursors) one 0) found.2 in
+          let ready : IsReadyThread (calls_of script k) (cursors_of script k) standing = record {
+            made = rw marks (omega arith);
+            cursors = rw (marks, cursors) (fresh_cursors (length found.0.cursors));
+            room = rw (cursors, room) (length-replicate (length found.0.cursors) no_objects);
+          } in ready)
+          (λ (past : (length script.threads ≤ k) × (slice_get script.threads k ≡ None)). absurd (omega (arith, past.0)))
+          (slice_get_cases script.threads k).1;
+    }

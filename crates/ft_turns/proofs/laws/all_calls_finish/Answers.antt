@@ -1,0 +1,5 @@
+use Rattle.ft_turns.proofs.Finishing.{each_finishes}
+use Rattle.ft_turns.proofs.laws.all_calls_finish.Goals as goal
+
+pub returns : goal.returns
+returns c = each_finishes

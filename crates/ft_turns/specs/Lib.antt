@@ -1,0 +1,10 @@
+pub mod Answering
+pub mod Chronicling
+pub mod Cursors
+pub mod Ends
+pub mod Orders
+pub mod Schedules
+pub mod Standings
+pub mod Turning
+pub mod Wants
+pub mod Runs

@@ -1,0 +1,252 @@
+-- The order in which the calls of a script are answered when its threads take turns, and which of them wait: a machine over the script alone. (C API, critical sections; which locks are let go and taken again, and when: profile)
+use Rattle.std.specs.Prelude.{◌≡◌, ℕ, Bool, true, false, ◌+◌, ◌*◌, ◌==◌, nat_lt, List, [], ◌∷◌, ◌++◌, map, fold, length, take, drop, sum, slice_get, slice_set, slice_index_or, Option, Some, None, is_some, is_none, if◌then◌else◌}
+use Rattle.std.specs.Option.{option_map_or, unwrap_or}
+use Rattle.std.specs.List.{flat_map, range_with_len}
+use Rattle.std.specs.List.Sorted.{IsPermutation}
+use Rattle.ft_model.specs.declared.call.Call.{Call}
+use Rattle.ft_model.specs.declared.call.Call.TheVariants as call
+use Rattle.ft_model.specs.declared.entry.Entry.{Entry}
+use Rattle.ft_model.specs.declared.entry.Storage.{Storage}
+use Rattle.ft_model.specs.declared.script.ScriptParts.{ScriptParts}
+use Rattle.ft_model.specs.Calls.{containers_of, locks_of}
+use Rattle.ft_model.specs.Scripts.{cursor_of}
+use Rattle.ft_model.specs.Histories.{calls_of}
+use Rattle.ft_model.specs.Chronicles.{IsChronicle}
+
+-- ---- what a call needs
+
+-- whether a call makes the cursor
+abbrev pub makes : ℕ → Call → Bool
+makes number called = option_map_or (λ made. made == number) (cursor_of called) false
+
+-- the container of a cursor after these calls of its thread: that of the call that made it last
+abbrev pub cursor_objects : List Call → ℕ → List ℕ
+cursor_objects calls number = fold (λ objects called. if makes number called then containers_of called else objects) [] calls
+
+-- the containers whose locks a call takes, behind these calls of its thread; a call that is tried without a lock takes none here
+abbrev pub locks_taken : List Call → Call → List ℕ
+locks_taken before (call.Next number) = cursor_objects before number
+locks_taken before other = if locks_of other == 0 then [] else containers_of other
+
+-- the lower number first
+abbrev pub lower_first : List ℕ → List ℕ
+lower_first (a ∷ b ∷ []) = if nat_lt b a then b ∷ a ∷ [] else a ∷ b ∷ []
+lower_first objects = objects
+
+-- ---- the machine
+
+-- a section that is open: its containers, and the locks that it took itself
+pub record OpenSection : Type 0 where
+  pub objects : List ℕ
+  pub taken : List ℕ
+
+-- a thread between two turns
+pub record ThreadState : Type 0 where
+  -- the marks of its calls that have finished, in order: the thread that each waited for first, where it waited
+  pub marks : List (Option ℕ)
+  -- whether the answer of its next call is fixed
+  pub fixed : Bool
+  -- its open sections, innermost first
+  pub sections : List OpenSection
+  -- the locks that its next call has taken itself and keeps: at most the lower of two
+  pub own : List ℕ
+  -- the thread that its next call waited for first, where it has waited
+  pub mark : Option ℕ
+
+-- the thread that has the lock of each container; the threads; and the calls whose answers are fixed, in that order, each as its thread and its place among the thread's calls
+pub record Machine : Type 0 where
+  pub holders : List (Option ℕ)
+  pub threads : List ThreadState
+  pub answered : List (ℕ × ℕ)
+
+abbrev pub fresh_thread : ThreadState
+fresh_thread = record { marks = []; fixed = false; sections = []; own = []; mark = None }
+
+abbrev pub start_machine : ScriptParts → Machine
+start_machine script = record { holders = map (λ container. None) script.containers; threads = map (λ thread. fresh_thread) script.threads; answered = [] }
+
+-- ---- locks
+
+-- what came of taking locks: who has each, those that were taken now, and the thread that had one of them, where one had
+pub record Locking : Type 0 where
+  pub holders : List (Option ℕ)
+  pub taken : List ℕ
+  pub found : Option ℕ
+
+-- whose the lock is, where somebody has it
+abbrev pub holder_of : List (Option ℕ) → ℕ → Option ℕ
+holder_of holders object = slice_index_or holders object None
+
+abbrev pub also_taken : ℕ → Locking → Locking
+also_taken object locking = record locking { taken = object ∷ locking.taken }
+
+-- the locks are taken in order, but for those that the thread has, until another thread has one
+abbrev pub take_locks : ℕ → List (Option ℕ) → List ℕ → Locking
+take_locks thread holders [] = record { holders = holders; taken = []; found = None }
+take_locks thread holders (object ∷ objects) =
+    if is_none (holder_of holders object)
+    then also_taken object (take_locks thread (slice_set holders object (Some thread)) objects)
+    else (if unwrap_or (holder_of holders object) 0 == thread
+    then take_locks thread holders objects
+    else record { holders = holders; taken = []; found = holder_of holders object })
+
+-- the locks are let go
+abbrev pub let_go : List (Option ℕ) → List ℕ → List (Option ℕ)
+let_go holders objects = fold (λ left object. slice_set left object None) holders objects
+
+-- ---- turns
+
+abbrev pub thread_at : Machine → ℕ → ThreadState
+thread_at machine thread = slice_index_or machine.threads thread fresh_thread
+
+abbrev pub next_call : ScriptParts → ℕ → ThreadState → Option Call
+next_call script thread state = slice_get (calls_of script thread) (length state.marks)
+
+-- a section that has let its locks go
+abbrev pub without_locks : OpenSection → OpenSection
+without_locks section = record section { taken = [] }
+
+-- a thread whose call has just taken these locks itself
+abbrev pub with_own : ThreadState → Locking → ThreadState
+with_own state locking = record state { own = state.own ++ locking.taken }
+
+-- the locks that the sections have taken
+abbrev pub section_locks : List OpenSection → List ℕ
+section_locks sections = flat_map (λ section. section.taken) sections
+
+-- a thread that waits: the first thread that it found is its call's mark
+abbrev pub waiting : ThreadState → ℕ → ThreadState
+waiting state found =
+    record state {
+      sections = map without_locks state.sections;
+      mark = if is_some state.mark then state.mark else Some found;
+    }
+
+-- a call that finds a lock with another thread: the locks of all sections of its thread are let go; the lock that it took itself before that one is kept
+abbrev pub waits : Machine → ℕ → ThreadState → Locking → ℕ → Machine
+waits machine thread state locking found =
+    record machine {
+      holders = let_go locking.holders (section_locks state.sections);
+      threads = slice_set machine.threads thread (waiting (with_own state locking) found);
+    }
+
+-- the sections of a thread when the answer of a call is fixed, and the locks that are let go then: a `begin` enters a section, which took what the call took; an `end` lets go what its section took; any other call lets go what it took itself
+abbrev pub sections_after : Call → List ℕ → List OpenSection → List OpenSection
+sections_after (call.Begin first second) own sections = record { objects = containers_of (call.Begin first second); taken = own } ∷ sections
+sections_after call.End own sections = drop 1 sections
+sections_after other own sections = sections
+
+abbrev pub innermost_taken : List OpenSection → List ℕ
+innermost_taken [] = []
+innermost_taken (section ∷ sections) = section.taken
+
+abbrev pub lets_go : Call → List ℕ → List OpenSection → List ℕ
+lets_go (call.Begin first second) own sections = []
+lets_go call.End own sections = innermost_taken sections
+lets_go other own sections = own
+
+-- a thread when the answer of its call is fixed
+abbrev pub answering : ThreadState → Call → ThreadState
+answering state called =
+    record state {
+      fixed = true;
+      sections = sections_after called state.own state.sections;
+      own = [];
+    }
+
+-- a call that has its locks: its answer is fixed
+abbrev pub answers : Machine → ℕ → ThreadState → Call → Locking → Machine
+answers machine thread state called locking =
+    record {
+      holders = let_go locking.holders (lets_go called (state.own ++ locking.taken) state.sections);
+      threads = slice_set machine.threads thread (answering (with_own state locking) called);
+      answered = machine.answered ++ (thread, length state.marks) ∷ [];
+    }
+
+-- the locks of the innermost section that the thread hasn't are taken
+abbrev pub innermost_objects : List OpenSection → List ℕ
+innermost_objects [] = []
+innermost_objects (section ∷ sections) = section.objects
+
+abbrev pub with_taken : List ℕ → List OpenSection → List OpenSection
+with_taken taken [] = []
+with_taken taken (section ∷ sections) = record section { taken = section.taken ++ taken } ∷ sections
+
+-- a thread when its call has finished
+abbrev pub finishing : ThreadState → ThreadState
+finishing state =
+    record {
+      marks = state.marks ++ state.mark ∷ [];
+      fixed = false;
+      sections = with_taken state.own state.sections;
+      own = [];
+      mark = None;
+    }
+
+-- a call whose thread has the locks of its innermost section: it has finished
+abbrev pub finishes : Machine → ℕ → ThreadState → Locking → Machine
+finishes machine thread state locking =
+    record machine {
+      holders = locking.holders;
+      threads = slice_set machine.threads thread (finishing (with_own state locking));
+    }
+
+-- a step of a thread whose answer is not fixed, and of one whose answer is
+abbrev pub locked : Machine → ℕ → ThreadState → Call → Locking → Machine
+locked machine thread state called locking = option_map_or (waits machine thread state locking) locking.found (answers machine thread state called locking)
+
+abbrev pub try_answer : ScriptParts → Machine → ℕ → ThreadState → Call → Machine
+try_answer script machine thread state called = locked machine thread state called (take_locks thread machine.holders (lower_first (locks_taken (take (length state.marks) (calls_of script thread)) called)))
+
+abbrev pub relocked : Machine → ℕ → ThreadState → Locking → Machine
+relocked machine thread state locking = option_map_or (waits machine thread state locking) locking.found (finishes machine thread state locking)
+
+abbrev pub try_finish : Machine → ℕ → Machine
+try_finish machine thread =
+    if (thread_at machine thread).fixed
+    then relocked machine thread (thread_at machine thread) (take_locks thread machine.holders (lower_first (innermost_objects (thread_at machine thread).sections)))
+    else machine
+
+-- one turn of a thread: one try of its next call, which fixes the answer, where it isn't fixed, and then takes up the innermost section again; a thread without calls spends its turn
+abbrev pub turn : ScriptParts → Machine → ℕ → Machine
+turn script machine thread = option_map_or (λ called. try_finish (if (thread_at machine thread).fixed then machine else try_answer script machine thread (thread_at machine thread) called) thread) (next_call script thread (thread_at machine thread)) machine
+
+-- ---- the order
+
+-- one turn for each thread, in the order of declaration
+abbrev pub round_of : ScriptParts → List ℕ
+round_of script = range_with_len 0 (length script.threads)
+
+abbrev pub count_of_calls : ScriptParts → ℕ
+count_of_calls script = sum (map (λ thread. length thread.calls) script.threads)
+
+-- the turns that the script says, and then rounds: four for each call are enough
+abbrev pub turns_of : ScriptParts → List ℕ
+turns_of script = script.order ++ flat_map (λ round. round_of script) (range_with_len 0 (4 * count_of_calls script))
+
+abbrev pub last_machine : ScriptParts → Machine
+last_machine script = fold (turn script) (start_machine script) (turns_of script)
+
+-- a call of a thread, by its index from 1, with its mark
+pub record Ordered : Type 0 where
+  pub thread : ℕ
+  pub index : ℕ
+  pub waited : Option ℕ
+
+abbrev pub ordered_in : Machine → ℕ × ℕ → Ordered
+ordered_in machine answered = record { thread = answered.0; index = answered.1 + 1; waited = slice_index_or (thread_at machine answered.0).marks answered.1 None }
+
+-- the calls in the order in which their answers are fixed, each with its mark
+abbrev pub order_of : ScriptParts → List Ordered
+order_of script = map (ordered_in (last_machine script)) (last_machine script).answered
+
+-- an entry's place in that order
+abbrev pub ordered_entry : Entry → Ordered
+ordered_entry entry = record { thread = entry.thread; index = entry.index; waited = entry.waited }
+
+-- the entries of a history are those of the turns: put in the order in which their answers were fixed, they say what they have to say at their places
+pub record IsOrderRun (storage : Storage) (script : ScriptParts) (entries : List Entry) : Type 0 where
+  pub chronicle : List Entry
+  pub same : IsPermutation chronicle entries
+  pub order : map ordered_entry chronicle ≡ order_of script
+  pub fair : IsChronicle storage script chronicle

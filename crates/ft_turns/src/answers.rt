@@ -1,0 +1,235 @@
+//! What the calls of a script's threads answer, one after the other, and what they leave.
+ghost use Rattle.std.specs.Prelude.{◌≡◌, ◌^◌, ◌-◌, ◌<◌, true, is_some, length, slice_set, IfOk, OnOk};
+ghost use Rattle.ft_model.specs.Worlds.{IsDeclared};
+ghost use Rattle.ft_model.specs.Answers.{answer};
+ghost use Rattle.ft_turns.specs.Answering.{asks_container, ended_reply, waited_inside, tally_after, start_answers, hands_in, tally_in, reply_now, with_answer, with_mark};
+ghost use Rattle.ft_turns.specs.Runs.{call_followed, IsAsked};
+
+use crate::machine::Turned;
+use ft_model::{Call, Entry, Hands, Reply, ScriptParts, World, apply, has_room};
+use std::alloc::{AllocError, Global};
+use std::collections::VecDeque;
+use std::marker::Model;
+
+/// How many of a thread's calls have waited for a lock, and how many had when each of its open
+/// sections was entered.
+#[derive(Debug, Drop)]
+pub(crate) struct Tally {
+    count: u32,
+    /// The innermost section's first.
+    noted: VecDeque<u32>,
+}
+
+impl Model for Tally {
+    ghost use Rattle.ft_turns.specs.Answering.{Tally};
+
+    ghost Value = { Tally };
+
+    ghost view = { λ t. record { count = t.count; noted = t.noted.items } };
+}
+
+impl Tally {
+    ghost use Rattle.ft_turns.specs.Answering.{no_tally};
+
+    /// No call has waited, and no section is open.
+    fn start(alloc: Global) -> Self
+        ensures { result ≡ no_tally }
+    {
+        Tally {
+            count: 0,
+            noted: VecDeque::new(alloc),
+        }
+    }
+
+    /// How many calls of the innermost open section have waited.
+    fn inside(&self) -> u32
+        ensures { result ≡ waited_inside self.now }
+    {
+        let before = match self.noted.front() {
+            Some(count) => *count,
+            None => 0,
+        };
+        self.count.saturating_sub(before)
+    }
+
+    /// A call has finished, which waited or not.
+    fn finish(&mut self, call: &Call, waited: Option<u32>) -> Result<(), AllocError>
+        requires { self.old.count < 2 ^ 32 - 1 }
+        ensures { OnOk result (self.new ≡ tally_after self.old call.now waited) }
+    {
+        if waited.is_some() {
+            self.count += 1;
+        }
+        match call {
+            Call::Begin { .. } => self.noted.push_front(self.count)?,
+            Call::End => {
+                self.noted.pop_front();
+            }
+            _ => (),
+        }
+        Ok(())
+    }
+}
+
+/// The reply to an `end` with so many calls in its section that waited (C API, critical sections;
+/// the count: profile).
+fn ended(count: u32) -> Reply
+    ensures { result ≡ ended_reply count }
+{
+    if count == 0 {
+        Reply::Kept
+    } else {
+        Reply::Suspended(count)
+    }
+}
+
+/// What the calls so far have left: what the containers have, each thread's cursors, how many of its
+/// calls waited, and the entries in the order in which the calls were answered.
+#[derive(Debug, Drop)]
+pub(crate) struct Answers {
+    world: World,
+    hands: Vec<Hands>,
+    tallies: Vec<Tally>,
+    entries: Vec<Entry>,
+    /// How many of the entries are writes.
+    written: u64,
+}
+
+impl Model for Answers {
+    ghost use Rattle.std.specs.Prelude.{◌≡◌, length};
+    ghost use Rattle.ft_model.specs.Histories.{writes};
+    ghost use Rattle.ft_turns.specs.Answering.{Answers};
+
+    ghost Value = { Answers };
+
+    ghost view = { λ a. record { world = a.world; hands = a.hands.items; tallies = a.tallies.items; entries = a.entries.items } };
+
+    ghost invariant = { λ a. a.written ≡ length (writes a.entries.items) };
+}
+
+impl Answers {
+    /// Before the first call of a script, with room for so many entries.
+    pub(crate) fn start(
+        alloc: Global,
+        script: &ScriptParts,
+        calls: usize,
+    ) -> Result<Self, AllocError>
+        ensures { IfOk result (λ answers. answers ≡ start_answers script.now) }
+    {
+        let mut hands = Vec::new(alloc);
+        let mut tallies = Vec::new(alloc);
+        for thread in script.threads.as_slice() {
+            hands.push(Hands::start(alloc, thread.cursors.len())?)?;
+            tallies.push(Tally::start(alloc))?;
+        }
+        Ok(Answers {
+            world: World::start(alloc, script.containers.as_slice())?,
+            hands,
+            tallies,
+            entries: Vec::with_capacity(alloc, calls)?,
+            written: 0,
+        })
+    }
+
+    /// Answers a call of a thread, which is the thread's call of this index, and adds its entry. Its
+    /// mark isn't known yet.
+    pub(crate) fn answer(
+        &mut self,
+        alloc: Global,
+        thread: u32,
+        index: u32,
+        call: &Call,
+    ) -> Result<(), AllocError>
+        requires hands { thread < length self.old.hands }
+        requires tally { thread < length self.old.tallies }
+        requires declared { asks_container call.now ≡ true → IsDeclared self.old.world (hands_in self.old thread) call.now }
+        ensures { OnOk result (self.new ≡ with_answer self.old thread index call.now) }
+    {
+        let reply = self.reply(alloc, thread, call)?;
+        let wrote = call.is_changing() && !reply.is_raised();
+        self.entries.push(Entry {
+            thread,
+            index,
+            stamp: self.written,
+            wrote,
+            call: *call,
+            reply,
+            waited: None,
+        })?;
+        // There are no more writes than entries, whose number fits.
+        prove!(self.entries.len() > 0);
+        self.written += u64::from(wrote);
+        Ok(())
+    }
+
+    /// The reply to a call of a thread.
+    fn reply(&mut self, alloc: Global, thread: u32, call: &Call) -> Result<Reply, AllocError>
+        requires hands { thread < length self.old.hands }
+        requires tally { thread < length self.old.tallies }
+        requires declared { asks_container call.now ≡ true → IsDeclared self.old.world (hands_in self.old thread) call.now }
+        ensures reply { IfOk result (λ reply. reply ≡ reply_now self.old thread call.now) }
+        ensures world { OnOk result (self.new.world ≡ (answer self.old.world (hands_in self.old thread) call.now).world) }
+        ensures hands { OnOk result (self.new.hands ≡ slice_set self.old.hands thread (answer self.old.world (hands_in self.old thread) call.now).hands) }
+        ensures tallies { self.new.tallies ≡ self.old.tallies }
+        ensures entries { self.new.entries ≡ self.old.entries }
+    {
+        match call {
+            Call::Begin { .. } => Ok(Reply::Entered),
+            Call::End => Ok(ended(self.tallies[thread as usize].inside())),
+            Call::Quiesce => Ok(Reply::Done),
+            // Serials run out only behind more additions than a memory has room for.
+            _ if !has_room(&self.world, call) => Err(AllocError),
+            _ => apply(
+                alloc,
+                &mut self.world,
+                &mut self.hands[thread as usize],
+                call,
+            ),
+        }
+    }
+
+    /// A call of a thread has finished, which waited for a lock or not.
+    pub(crate) fn finish(
+        &mut self,
+        thread: u32,
+        call: &Call,
+        waited: Option<u32>,
+    ) -> Result<(), AllocError>
+        requires thread { thread < length self.old.tallies }
+        requires few { (tally_in self.old thread).count < 2 ^ 32 - 1 }
+        ensures { OnOk result (self.new ≡ with_mark self.old thread call.now waited) }
+    {
+        self.tallies[thread as usize].finish(call, waited)
+    }
+
+    /// What a turn told of a call of a thread: it is answered where its answer was fixed, and its end
+    /// is noted where it finished, with the thread that it waited for first.
+    pub(crate) fn follow(
+        &mut self,
+        alloc: Global,
+        thread: u32,
+        call: &Call,
+        turned: Turned,
+        waited: Option<u32>,
+    ) -> Result<(), AllocError>
+        requires { IsAsked self.old thread call.now turned }
+        ensures { OnOk result (self.new ≡ call_followed self.old thread call.now turned waited) }
+    {
+        if turned.answered {
+            self.answer(alloc, thread, turned.place as u32 + 1, call)?;
+        }
+        if turned.finished {
+            self.finish(thread, call, waited)?;
+        }
+        Ok(())
+    }
+
+    /// The entries in the order in which the calls were answered, without their marks, and what the
+    /// containers have behind them.
+    pub(crate) fn into_parts(self) -> (Vec<Entry>, World)
+        ensures entries { result.0.items ≡ self.entries }
+        ensures world { result.1 ≡ self.world }
+    {
+        (self.entries, self.world)
+    }
+}

@@ -5,11 +5,12 @@ ghost use Rattle.ft_model.specs.declared.entry.Entry.{Entry};
 ghost use Rattle.ft_model.specs.declared.entry.Storage.{Storage};
 ghost use Rattle.ft_model.specs.declared.script.ScriptParts.{ScriptParts};
 ghost use Rattle.ft_model.specs.Calls.{containers_of};
-ghost use Rattle.ft_model.specs.Histories.{writes};
+ghost use Rattle.ft_model.specs.Histories.{writes, world_at};
 ghost use Rattle.ft_model.specs.Tables.{IsEarned};
 ghost use Rattle.ft_history.specs.Ledgers.{AreOfKind};
 ghost use Rattle.ft_history.specs.declared.progress.Progress.{Progress};
 ghost use Rattle.ft_history.specs.Verdicts.{IsVerdict};
+ghost use Rattle.ft_history.specs.declared.verdict.Verdict.TheVariants as verdict;
 ghost use Rattle.ft_history.specs.States.{AreUsers, IsAskable};
 ghost use Rattle.ft_history.specs.Steps.{IsState, IsUnbrokenBefore, FindsEarly, FindsLate, Finds, GoesBehind, HaveMadeAll};
 
@@ -24,7 +25,7 @@ use crate::rules::{
 use crate::sizes::size_of_own;
 use crate::state::{State, start};
 use crate::users::users_of;
-use crate::verdict::Verdict;
+use crate::verdict::{Judgement, Verdict};
 use crate::writers::note_write;
 use ft_model::{Entry, Rule, Script, ScriptParts, Storage, Thread};
 use std::alloc::{AllocError, Global};
@@ -38,20 +39,43 @@ pub fn judge(
     script: &Script,
     entries: &[Entry],
 ) -> Result<Verdict, AllocError>
-    ensures { IfOk result (λ verdict. IsVerdict storage script.now entries.now verdict) }
+    ensures { IfOk result (λ found. IsVerdict storage script.now entries.now found) }
+{
+    Ok(judge_with_world(alloc, storage, script, entries)?.verdict)
+}
+
+/// Judges the history of a script as `judge` does, and answers also what the containers have after
+/// all writes of a legal one.
+pub fn judge_with_world(
+    alloc: Global,
+    storage: Storage,
+    script: &Script,
+    entries: &[Entry],
+) -> Result<Judgement, AllocError>
+    ensures verdict { IfOk result (λ judged. IsVerdict storage script.now entries.now judged.verdict) }
+    ensures world { IfOk result (λ judged. judged.verdict ≡ verdict.Legal → judged.world ≡ world_at script.now entries.now (length (writes entries.now))) }
 {
     let parts = script.parts();
     let users = users_of(alloc, parts)?;
     let mut state = start(alloc, parts)?;
     for place in 0..entries.len() {
         if let Some(rule) = step(alloc, storage, parts, &users, &mut state, entries, place)? {
-            return Ok(Verdict::Not(place as u64 + 1, rule));
+            return Ok(Judgement {
+                verdict: Verdict::Not(place as u64 + 1, rule),
+                world: state.world,
+            });
         }
     }
     if is_complete(parts.threads.as_slice(), &state.threads) {
-        return Ok(Verdict::Legal);
+        return Ok(Judgement {
+            verdict: Verdict::Legal,
+            world: state.world,
+        });
     }
-    Ok(Verdict::Not(entries.len() as u64 + 1, Rule::Missing))
+    Ok(Judgement {
+        verdict: Verdict::Not(entries.len() as u64 + 1, Rule::Missing),
+        world: state.world,
+    })
 }
 
 /// Whether each thread has made all its calls.

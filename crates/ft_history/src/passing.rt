@@ -9,11 +9,13 @@ ghost use Rattle.ft_history.specs.Ledgers.{AreOfKind};
 
 use ft_model::{Call, Dict, DictCall, DictPair, Key, ListCall, Set, SetCall, World};
 
-/// How many pairs, items and elements the largest tables hold.
+/// How many pairs the largest table of a dict holds.
 const MOST_PAIRS: usize = 2730;
 
+/// How many items the largest table of a list holds.
 const MOST_ITEMS: usize = 4096;
 
+/// How many elements the largest table of a set holds.
 const MOST_ELEMENTS: usize = 2457;
 
 /// Whether the call is of a kind that can add to a container.

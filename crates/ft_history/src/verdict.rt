@@ -1,4 +1,4 @@
-use ft_model::Rule;
+use ft_model::{Rule, World};
 
 /// What `judge` finds of a history.
 #[derive(Clone, Copy, Debug, PartialEq, Eq, Hash)]
@@ -8,4 +8,12 @@ pub enum Verdict {
     /// The place of the first entry that breaks a rule, from 1, and the first rule that it breaks. A
     /// place behind the last entry is that of a call that is missing.
     Not(u64, Rule),
+}
+
+/// What `judge_with_world` finds of a history, and what the containers have behind it.
+#[derive(Debug, Drop)]
+pub struct Judgement {
+    pub verdict: Verdict,
+    /// The contents after all writes, where the history is legal.
+    pub world: World,
 }

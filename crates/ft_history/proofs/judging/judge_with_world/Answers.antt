@@ -1,20 +1,23 @@
-use Rattle.std.proofs.Common.{◌≡◌, ◌↔◌, IsTrue, ℕ, ◌+◌, ◌-◌, ◌<◌, ◌≤◌, List, length, Option, Some, None, refl, sym, ap, subst, ◌∙◌, arith}
+use Rattle.std.proofs.Common.{◌≡◌, ◌↔◌, IsTrue, ℕ, take, ◌+◌, ◌-◌, ◌<◌, ◌≤◌, List, length, Option, Some, None, refl, sym, ap, subst, ◌∙◌, arith}
 use Rattle.std.specs.Prelude.{slice_get, IfNone}
 use Rattle.ft_model.specs.declared.entry.Entry.{Entry}
 use Rattle.ft_model.specs.declared.entry.Rule.TheVariants as rule
+use Rattle.ft_model.specs.declared.script.ScriptParts.{ScriptParts}
 use Rattle.ft_model.specs.declared.script.Thread.{Thread}
-use Rattle.ft_model.specs.Histories.{IsLegal}
+use Rattle.ft_model.specs.Histories.{writes, world_at, IsLegal}
+use Rattle.std.proofs.lemmas.List.{take_all}
+use Rattle.ft_history.proofs.Places.{world_at-before}
 use Rattle.ft_model.specs.Judging.{IsFirstBroken}
 use Rattle.ft_history.specs.declared.progress.Progress.{Progress}
 use Rattle.ft_history.specs.Steps.{IsState, IsUnbrokenBefore, Finds, HaveMadeAll}
 use Rattle.ft_history.proofs.VerdictLemmas.{goes_on, first_broken, legal_at_end, missing_at_end}
-use Rattle.ft_history.proofs.judging.judge.Goals as goal
+use Rattle.ft_history.proofs.judging.judge_with_world.Goals as goal
 
 pub loop-place-init : goal.loop-place-init
 loop-place-init c = record { unbroken = λ before r low. absurd (omega arith); is_state = c.in_ok-state.ensures c.args.entries.now }
 
-pub returns-in-Some : goal.returns-in-Some
-returns-in-Some c =
+pub returns-in-Some-clause-verdict : goal.returns-in-Some-clause-verdict
+returns-in-Some-clause-verdict c =
     let parts = c.parts-parts.result.now in
     let entries = c.args.entries.now in
     let place : ℕ = c.loop-place.place in
@@ -33,8 +36,8 @@ loop-place-preserved c =
       is_state = subst (λ o. IfNone o (IsState parts entries (place + 1) c.step.new.state)) c.in_default.is c.in_ok-rule.ensures.state;
     }
 
-pub returns-then-is_complete : goal.returns-then-is_complete
-returns-then-is_complete c =
+pub returns-then-is_complete-clause-verdict : goal.returns-then-is_complete-clause-verdict
+returns-then-is_complete-clause-verdict c =
     let parts = c.parts-parts.result.now in
     let entries = c.args.entries.now in
     let end : c.loop-place.place ≡ length entries = omega (arith, c.loop-place-test.false, c.loop-place.auto.place-end) in
@@ -43,8 +46,18 @@ returns-then-is_complete c =
     subst (λ p. IsLegal c.args.storage p entries) c.parts-parts.ensures.parts
     (legal_at_end c.args.storage parts entries (subst (IsUnbrokenBefore c.args.storage parts entries) end c.loop-place.invariant.unbroken) c.loop-place.state c.is_complete.result (subst (λ n. IsState parts entries n c.loop-place.state) end c.loop-place.invariant.is_state) is c.if-is_complete.true)
 
-pub returns : goal.returns
-returns c =
+pub returns-then-is_complete-clause-world : goal.returns-then-is_complete-clause-world
+returns-then-is_complete-clause-world c legal =
+    let parts = c.parts-parts.result.now in
+    let entries = c.args.entries.now in
+    let end : c.loop-place.place ≡ length entries = omega (arith, c.loop-place-test.false, c.loop-place.auto.place-end) in
+    c.loop-place.invariant.is_state.world
+    ∙ sym (world_at-before parts entries c.loop-place.place)
+    ∙ ap (λ (es : List Entry). world_at parts entries (length (writes es))) (ap (λ k. take k entries) end ∙ take_all (length entries) entries (omega arith))
+    ∙ ap (λ (p : ScriptParts). world_at p entries (length (writes entries))) c.parts-parts.ensures.parts
+
+pub returns-clause-verdict : goal.returns-clause-verdict
+returns-clause-verdict c =
     let parts = c.parts-parts.result.now in
     let entries = c.args.entries.now in
     let end : c.loop-place.place ≡ length entries = omega (arith, c.loop-place-test.false, c.loop-place.auto.place-end) in

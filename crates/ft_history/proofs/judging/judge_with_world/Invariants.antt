@@ -1,5 +1,5 @@
 use Rattle.ft_history.specs.Steps.{IsState, IsUnbrokenBefore}
-use Rattle.ft_history.proofs.judging.judge.Given as goal
+use Rattle.ft_history.proofs.judging.judge_with_world.Given as goal
 
 abbrev pub invariant-loop-place : goal.invariant-loop-place
 invariant-loop-place l =

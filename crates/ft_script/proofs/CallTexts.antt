@@ -1,11 +1,11 @@
 -- Calls that are printed, and read back.
-use Rattle.std.proofs.Common.{◌≡◌, ◌≢◌, cond, ℕ, ℤ, zero, suc, ◌+◌, ◌<◌, ◌≤◌, Bool, true, false, not, eqb, ltb, ◌&&◌, List, [], ◌∷◌, ◌++◌, length, map, get_or, Option, Some, None, Result, Ok, Err, refl, sym, ap, ◌∙◌, subst, inl, inr, arith}
-use Rattle.std.specs.Prelude.{All, AllPairs, codes, slice_get, slice_index_or, option_map, IfSome}
-use Rattle.std.specs.List.{list_all, position, AllByRecursion}
+use Rattle.std.proofs.Common.{◌≡◌, ◌≢◌, cond, ℕ, ℤ, zero, suc, ◌<◌, ◌≤◌, Bool, true, false, not, List, [], ◌∷◌, length, map, get_or, Option, Some, None, Result, Ok, refl, sym, ap, ◌∙◌, inl, inr, arith}
+use Rattle.std.specs.Prelude.{All, AllPairs, codes, slice_index_or}
+use Rattle.std.specs.List.{AllByRecursion}
 use Rattle.std.specs.Fmt.{signed_decimal}
 use Rattle.std.specs.Option.{option_map_or}
 use Rattle.std.specs.Str.{bytes_eq}
-use Rattle.std.proofs.lemmas.Bool.{and_from, ne_eqb, le-ltb}
+use Rattle.std.proofs.lemmas.Bool.{ne_eqb, le-ltb}
 use Rattle.std.proofs.lemmas.Option.{slice_get-get_or}
 use Rattle.ft_model.specs.declared.data.Key.{Key}
 use Rattle.ft_model.specs.declared.data.Key.TheVariants as key
@@ -32,19 +32,17 @@ use Rattle.ft_script.specs.declared.call_words.Operation.{Operation}
 use Rattle.ft_script.specs.declared.call_words.Operation.TheVariants as of
 use Rattle.ft_script.specs.declared.draft.Draft.{Draft}
 use Rattle.ft_script.specs.declared.fault.Fault.{Fault}
-use Rattle.ft_script.specs.declared.fault.Fault.TheVariants as fault
 use Rattle.ft_script.specs.declared.forms.Argument.{Argument}
 use Rattle.ft_script.specs.declared.forms.Argument.TheVariants as argument
-use Rattle.ft_script.specs.Arguments.{symbol_of, index_of, key_of, as_value, value_of, container_of, same_kind, kind_at, is_of_kind, other_of, cursor_of, made_cursor_of, nothing_in, key_in, key_and_value_of, key_and_value_in, value_in, index_in, some_index_in, two_indices_of, two_indices_in, index_and_value_of, index_and_value_in, other_in, made_cursor_in, cursor_in, two_containers_of, section_in}
-use Rattle.ft_script.specs.Candidates.{draft_at, call_in}
+use Rattle.ft_script.specs.Arguments.{symbol_of, index_of, key_of, as_value, value_of, container_of, same_kind, other_of, cursor_of, made_cursor_of, nothing_in, key_in, key_and_value_of, key_and_value_in, value_in, index_in, some_index_in, two_indices_of, two_indices_in, index_and_value_of, index_and_value_in, other_in, made_cursor_in, cursor_in, two_containers_of, section_in}
 use Rattle.ft_script.specs.CallWords.{call_word_of, call_word_text, operation_text}
-use Rattle.ft_script.specs.Drafts.{◌>>=◌, or_fault, container_place, text_place}
+use Rattle.ft_script.specs.Drafts.{◌>>=◌, container_place, draft_at, text_place}
 use Rattle.ft_script.specs.Forms.{IsArgumentOf, call_form}
-use Rattle.ft_script.specs.Reading.{dict_call, list_call, set_call, call_at, container_call, call_of}
+use Rattle.ft_script.specs.Reading.{dict_call, list_call, set_call, call_at, container_call, call_of, call_in}
 use Rattle.ft_script.specs.Texts.{quoted, key_text, value_text, container_name, cursor_name, argument_text, call_words}
 use Rattle.ft_script.specs.Transcripts.{IsWideKey, IsWideValue, IsWideArgument, IsWideCall}
 use Rattle.ft_script.specs.Words.{is_wide, is_string, text_of}
-use Rattle.ft_script.proofs.PartTexts.{BeginsLow, BeginsNumber, BeginsShown, container_word, signed_word, index_signed, bytes_same, bytes_differ, position_at, text_place_at, numbers_are_no_strings, numbers_are_not_none, key_is_cut, value_is_cut, key_begins, value_begins}
+use Rattle.ft_script.proofs.PartTexts.{BeginsLow, BeginsShown, container_word, signed_word, index_signed, bytes_same, bytes_differ, position_at, text_place_at, numbers_are_no_strings, numbers_are_not_none, key_is_cut, value_is_cut, key_begins, value_begins}
 use Rattle.ft_script.proofs.TokenTexts.{IsCut, word_is_cut, text_of_quoted}
 
 -- what a script's declarations say of a thread's calls

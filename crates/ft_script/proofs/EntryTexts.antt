@@ -1,7 +1,7 @@
 -- Lines of entries and contents that are printed, and read back.
-use Rattle.std.proofs.Common.{◌≡◌, ◌≢◌, cond, ℕ, ◌+◌, ◌^◌, ◌<◌, ◌≤◌, Bool, true, false, not, eqb, List, [], ◌∷◌, ◌++◌, length, drop, get_or, Option, Some, None, Result, Ok, Err, refl, sym, ap, ◌∙◌, subst, arith}
+use Rattle.std.proofs.Common.{◌≡◌, ◌≢◌, cond, ℕ, ◌^◌, ◌<◌, Bool, true, false, not, eqb, List, [], ◌∷◌, ◌++◌, length, drop, get_or, Option, Some, None, Ok, refl, sym, ap, ◌∙◌, subst, arith}
 use Rattle.std.specs.Prelude.{All, AllPairs, codes, slice_get, slice_index_or, IfSome}
-use Rattle.std.specs.List.{list_all, flat_map, join_with_byte, AllByRecursion}
+use Rattle.std.specs.List.{list_all, join_with_byte, AllByRecursion}
 use Rattle.std.specs.Fmt.{decimal}
 use Rattle.std.specs.Option.{option_map_or}
 use Rattle.std.specs.Str.{bytes_eq}
@@ -10,33 +10,30 @@ use Rattle.std.proofs.lemmas.List.{append-nil}
 use Rattle.std.proofs.lemmas.List.Concat.{flat_map-append}
 use Rattle.std.proofs.lemmas.List.Folds.{list_all-append}
 use Rattle.std.proofs.lemmas.Option.{slice_get-get_or}
-use Rattle.ft_model.specs.declared.call.Call.{Call}
 use Rattle.ft_model.specs.declared.entry.Entry.{Entry}
 use Rattle.ft_model.specs.declared.reply.Reply.{Reply}
 use Rattle.ft_model.specs.declared.reply.Reply.TheVariants as reply
-use Rattle.ft_model.specs.declared.script.Declaration.{Declaration}
 use Rattle.ft_model.specs.declared.script.Kind.TheVariants as kind
 use Rattle.ft_model.specs.declared.script.ScriptParts.{ScriptParts}
 use Rattle.ft_model.specs.declared.script.Thread.{Thread}
-use Rattle.ft_model.specs.Histories.{cursors_of}
 use Rattle.ft_model.specs.Names.{is_container_name, is_thread_name}
-use Rattle.ft_model.specs.Parts.{IsReplyOf, IsEntryOf}
+use Rattle.ft_model.specs.Parts.{IsReplyOf}
 use Rattle.ft_model.specs.Scripts.{IsScript, IsThread}
-use Rattle.ft_script.specs.declared.fault.Fault.{Fault}
 use Rattle.ft_script.specs.declared.fault.Fault.TheVariants as fault
-use Rattle.ft_script.specs.Candidates.{u64_of, u32_of, draft_at, call_in, thread_call, thread_of, numbered_of, stamp_of, waited_of, reply_of, entry_of, content_of}
-use Rattle.ft_script.specs.Drafts.{◌>>=◌, or_fault, text_place, thread_place}
+use Rattle.ft_script.specs.Candidates.{thread_call, thread_of, numbered_of, stamp_of, waited_of, reply_of, entry_of, content_of}
+use Rattle.ft_script.specs.Drafts.{or_fault, draft_at, text_place, thread_place}
+use Rattle.ft_script.specs.Reading.{call_in}
 use Rattle.ft_script.specs.Readers.{AddsNothing}
-use Rattle.ft_script.specs.Texts.{line, container_name, thread_name, cursor_name, call_words, reply_text, place_word, stamp_word, mark_words, entry_words, entry_line}
+use Rattle.ft_script.specs.Texts.{container_name, thread_name, call_words, reply_text, place_word, stamp_word, mark_words, entry_words, entry_line}
 use Rattle.ft_script.specs.Tokens.{tokens_of, before_word, behind_word}
-use Rattle.ft_script.specs.Transcripts.{counts, content_line, IsReadable, IsWhole, IsReadableReply, IsWideReply, IsContentLine}
+use Rattle.ft_script.specs.Transcripts.{counts, content_line, IsReadable, IsWhole, IsReadableReply, IsWideReply}
 use Rattle.ft_script.proofs.CallTexts.{Declares, IsCallWord, words_are, call_back, container_name_at, container_place_at}
-use Rattle.ft_script.proofs.PartTexts.{BeginsLow, BeginsHigh, container_word, thread_word, dotless, decimal_word, decimal_parts, u64_decimal, u32_decimal, bytes_same, bytes_differ, position_at, text_place_at}
+use Rattle.ft_script.proofs.PartTexts.{BeginsLow, BeginsHigh, container_word, thread_word, dotless, decimal_parts, u64_decimal, u32_decimal, bytes_same, bytes_differ, position_at, text_place_at}
 use Rattle.ft_script.proofs.Printed.{each_after, join_with_byte-cons}
 use Rattle.ft_script.proofs.ReplyTexts.{reply_tokens, reply_is_cut, reply_back, reply_other}
 use Rattle.ft_script.proofs.TokenCuts.{no_bytes}
 use Rattle.ft_script.proofs.TokenLists.{AllFail, before_at, after_at, before_none, after_none}
-use Rattle.ft_script.proofs.TokenTexts.{is_part, is_feedless, IsWord, IsCut, IsTail, word_is_cut, words_tail, cut_tail, tail_tail, behind_space, feedless_append, from_gap}
+use Rattle.ft_script.proofs.TokenTexts.{is_part, IsWord, IsCut, IsTail, word_is_cut, words_tail, cut_tail, tail_tail, behind_space, from_gap}
 use Rattle.ft_script.specs.declared.lines.Place.TheVariants as place
 
 -- ---- what a script declares

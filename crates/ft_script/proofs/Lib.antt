@@ -28,6 +28,7 @@ pub mod SoundReading
 pub mod LineCases
 pub mod TranscriptLaws
 pub mod LineSplits
+pub mod ReadScripts
 pub mod ReaderCalls
 pub mod TranscriptReading
 pub mod EntryChecks

@@ -1,24 +1,22 @@
 -- Which lines are those of entries and contents, and what they make of the lines above.
-use Rattle.std.proofs.Common.{◌≡◌, ◌≢◌, ◌⊎◌, ℕ, ◌+◌, ◌-◌, ◌^◌, ◌<◌, ◌≤◌, min, Bool, true, false, not, eqb, ◌&&◌, List, [], ◌∷◌, ◌++◌, length, take, Option, Some, None, Result, Ok, Err, refl, sym, ap, ◌∙◌, subst, inl, inr, arith, append_assoc}
-use Rattle.std.specs.Prelude.{All, IfOk, codes}
-use Rattle.std.specs.List.{list_all, flat_map, join_with_byte}
+use Rattle.std.proofs.Common.{◌≡◌, ◌≢◌, ◌⊎◌, ℕ, ◌+◌, ◌-◌, ◌^◌, ◌<◌, ◌≤◌, min, true, not, eqb, List, [], ◌∷◌, ◌++◌, length, Result, Ok, Err, refl, sym, ap, ◌∙◌, subst, inl, inr, arith, append_assoc}
+use Rattle.std.specs.Prelude.{IfOk, codes}
+use Rattle.std.specs.List.{flat_map, join_with_byte}
 use Rattle.std.proofs.Math.Seq.{take-append_seam}
-use Rattle.std.proofs.lemmas.Bool.{and_parts, eqb-true}
+use Rattle.std.proofs.lemmas.Bool.{and_parts}
 use Rattle.std.proofs.lemmas.List.{append-nil, append_cancel_right, length-append, flat_map_more}
 use Rattle.std.proofs.lemmas.List.Elements.{All-nil, All-push}
-use Rattle.std.proofs.lemmas.List.Folds.{list_all-append}
 use Rattle.ft_model.specs.declared.entry.Entry.{Entry}
 use Rattle.ft_model.specs.declared.reply.Reply.{Reply}
 use Rattle.ft_model.specs.declared.script.ScriptParts.{ScriptParts}
 use Rattle.ft_model.specs.Histories.{cursors_of}
-use Rattle.ft_model.specs.Parts.{IsEntryOf}
 use Rattle.ft_model.specs.Scripts.{IsScript, IsCallOf}
 use Rattle.ft_script.specs.declared.fault.Fault.{Fault}
 use Rattle.ft_script.specs.Candidates.{entry_of, content_of, numbered_of}
 use Rattle.ft_script.specs.Readers.{NoEntry, NoContent, AddsEntry, AddsContent, IsLine, is_feedless, but_feed}
 use Rattle.ft_script.specs.Texts.{container_name, reply_text, entry_words, entry_line}
 use Rattle.ft_script.specs.Tokens.{tokens_of}
-use Rattle.ft_script.specs.Transcripts.{counts, fed, content_line, IsReadable, IsWhole, IsWideCall, IsContentLine, IsTranscript, IsFirstBad}
+use Rattle.ft_script.specs.Transcripts.{fed, content_line, IsReadable, IsWhole, IsWideCall, IsContentLine, IsTranscript, IsFirstBad}
 use Rattle.ft_script.proofs.EntryTexts.{words_cut, entry_read, content_cut, content_back}
 use Rattle.ft_script.proofs.SoundReading.{EntryFits, ContentFits, Numbered, numbered_sound, entry_sound, content_sound}
 

@@ -1,8 +1,8 @@
 -- Calls that are read with the draft of a script, and what that leaves of it.
-use Rattle.std.proofs.Common.{◌≡◌, ℕ, ◌<◌, List, [], length, map, get_or, set, Option, Some, None, Result, Ok, Err, refl, sym, ap, ◌∙◌, arith}
+use Rattle.std.proofs.Common.{◌≡◌, ℕ, ◌<◌, List, [], length, get_or, set, Option, Some, Result, Ok, Err, sym, ap, ◌∙◌}
 use Rattle.std.specs.Prelude.{OnOk, slice_get}
 use Rattle.std.specs.Option.{option_map_or}
-use Rattle.std.proofs.lemmas.List.{set-get_or, get_or-map, length-map}
+use Rattle.std.proofs.lemmas.List.{set-get_or, get_or-map}
 use Rattle.std.proofs.lemmas.Option.{slice_get-get_or}
 use Rattle.ft_model.specs.declared.call.Call.{Call}
 use Rattle.ft_model.specs.declared.script.ScriptParts.{ScriptParts}
@@ -11,8 +11,8 @@ use Rattle.ft_script.specs.declared.draft.Draft.{Draft}
 use Rattle.ft_script.specs.declared.fault.Fault.{Fault}
 use Rattle.ft_script.specs.declared.fault.LineError.{LineError}
 use Rattle.ft_script.specs.declared.fault.LineError.TheVariants as error
-use Rattle.ft_script.specs.Candidates.{draft_at, only_call}
-use Rattle.ft_script.specs.Drafts.{Gives, Reads, empty_draft}
+use Rattle.ft_script.specs.Candidates.{only_call}
+use Rattle.ft_script.specs.Drafts.{Gives, Reads, draft_at, empty_draft}
 use Rattle.ft_script.specs.Readers.{IsReaderOf, IsUnchanged}
 
 gives_only : (r : Result Call LineError) (new : Draft) (given : Result (Call × Draft) Fault) → Reads r new given → Gives (λ called. called) r (only_call given)

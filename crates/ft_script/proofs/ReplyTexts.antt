@@ -1,16 +1,15 @@
 -- Replies that are printed, and read back.
-use Rattle.std.proofs.Common.{◌≡◌, ◌≢◌, ◌⊎◌, cond, ℕ, ℤ, pos, negsuc, suc, ◌+◌, ◌-◌, ◌^◌, ◌<◌, ◌≤◌, Bool, true, false, not, eqb, ltb, leb, ◌&&◌, List, [], ◌∷◌, ◌++◌, length, map, take, get_or, Option, Some, None, Result, Ok, Err, refl, sym, ap, ◌∙◌, subst, inl, inr, arith, append_assoc}
+use Rattle.std.proofs.Common.{◌≡◌, ◌≢◌, cond, ℕ, pos, negsuc, ◌-◌, ◌^◌, ◌<◌, ◌≤◌, Bool, true, false, not, List, [], ◌∷◌, ◌++◌, length, map, Some, None, Result, Ok, refl, sym, ap, ◌∙◌, subst, inl, inr, arith, append_assoc}
 use Rattle.std.specs.Prelude.{All, AllPairs, codes}
 use Rattle.std.specs.List.{list_all, flat_map}
-use Rattle.std.specs.Fmt.{decimal, signed_decimal}
+use Rattle.std.specs.Fmt.{decimal}
 use Rattle.std.specs.Str.{bytes_eq}
 use Rattle.std.proofs.Math.Seq.{take-append_seam}
-use Rattle.std.proofs.lemmas.Bool.{and_from, le-leb, lt-ltb, ne_eqb}
+use Rattle.std.proofs.lemmas.Bool.{and_from, le-leb, ne_eqb}
 use Rattle.std.proofs.lemmas.List.{length-append}
 use Rattle.std.proofs.lemmas.List.Elements.{All-head, All-tail}
 use Rattle.std.proofs.lemmas.List.Folds.{list_all-append}
 use Rattle.ft_model.specs.declared.data.Key.{Key}
-use Rattle.ft_model.specs.declared.data.Key.TheVariants as key
 use Rattle.ft_model.specs.declared.data.Value.{Value}
 use Rattle.ft_model.specs.declared.data.Value.TheVariants as value
 use Rattle.ft_model.specs.declared.reply.Raise.{Raise}
@@ -20,12 +19,11 @@ use Rattle.ft_model.specs.declared.reply.Reply.TheVariants as reply
 use Rattle.ft_model.specs.Parts.{IsReplyOf}
 use Rattle.ft_model.specs.Scripts.{IsKeyOf, IsValueOf}
 use Rattle.ft_script.specs.declared.fault.Fault.{Fault}
-use Rattle.ft_script.specs.declared.fault.Fault.TheVariants as fault
 use Rattle.ft_script.specs.declared.reply_words.ReplyWord.{ReplyWord}
 use Rattle.ft_script.specs.declared.reply_words.ReplyWord.TheVariants as word
-use Rattle.ft_script.specs.Candidates.{u32_of, known_key, known_value, known_pair, each_of, pairs_of, reply_word_text, reply_word_of, suspended_of, runtime_error_of, class_error_of, memory_error_of, has_pairs, braced_of, but_last, worded_reply, counted_reply, shown_reply, first_reply, reply_of}
+use Rattle.ft_script.specs.Candidates.{known_key, known_value, known_pair, each_of, pairs_of, reply_word_text, reply_word_of, suspended_of, runtime_error_of, class_error_of, memory_error_of, has_pairs, braced_of, but_last, worded_reply, counted_reply, shown_reply, first_reply, reply_of}
 use Rattle.ft_script.specs.Drafts.{◌>>=◌}
-use Rattle.ft_script.specs.Texts.{key_text, value_text, pair_text, listed, braced_text, list_text, elements_text, raise_text, reply_text}
+use Rattle.ft_script.specs.Texts.{key_text, value_text, pair_text, listed, raise_text, reply_text}
 use Rattle.ft_script.specs.Tokens.{tokens_of}
 use Rattle.ft_script.specs.Transcripts.{IsWideKey, IsWideValue, IsWideReply, IsReadableReply}
 use Rattle.ft_script.specs.Words.{is_wide}

@@ -1,7 +1,6 @@
 -- What is read of tokens is of the script, and no number of it is too great.
-use Rattle.std.proofs.Common.{◌≡◌, cond, ℕ, ℤ, pos, negsuc, ◌+◌, ◌-◌, ◌^◌, ◌<◌, ◌≤◌, Bool, true, false, eqb, ltb, leb, ◌&&◌, List, [], ◌∷◌, length, Option, Some, None, Result, Ok, Err, refl, sym, ap, ◌∙◌, arith}
+use Rattle.std.proofs.Common.{◌≡◌, ℕ, ℤ, pos, negsuc, ◌-◌, ◌^◌, ◌<◌, ◌≤◌, Bool, true, false, ltb, leb, ◌&&◌, List, [], ◌∷◌, length, Option, Some, None, Result, Ok, Err, refl, sym, ap, ◌∙◌, arith}
 use Rattle.std.specs.Prelude.{All, IfOk, IfSome, codes}
-use Rattle.std.specs.List.{position}
 use Rattle.std.specs.Str.{bytes_eq}
 use Rattle.std.specs.Str.Parse.{digits_value, signed_digits_value}
 use Rattle.std.proofs.lemmas.Bool.{and_parts, leb-true, ltb-true}
@@ -10,7 +9,6 @@ use Rattle.ft_model.specs.declared.data.Key.{Key}
 use Rattle.ft_model.specs.declared.data.Key.TheVariants as key
 use Rattle.ft_model.specs.declared.data.Value.{Value}
 use Rattle.ft_model.specs.declared.data.Value.TheVariants as value
-use Rattle.ft_model.specs.declared.call.Call.{Call}
 use Rattle.ft_model.specs.declared.entry.Entry.{Entry}
 use Rattle.ft_model.specs.declared.reply.Raise.{Raise}
 use Rattle.ft_model.specs.declared.reply.Raise.TheVariants as raise
@@ -25,7 +23,7 @@ use Rattle.ft_script.specs.declared.reply_words.ReplyWord.{ReplyWord}
 use Rattle.ft_script.specs.declared.reply_words.ReplyWord.TheVariants as word
 use Rattle.ft_script.specs.Arguments.{index_of, as_value}
 use Rattle.ft_script.specs.Candidates.{is_decimal, natural_in, u64_of, u32_of, known_key, known_value, known_pair, each_of, pairs_of, reply_word_of, suspended_of, runtime_error_of, class_error_of, memory_error_of, has_pairs, braced_of, but_last, worded_reply, counted_reply, shown_reply, first_reply, reply_of, thread_of, numbered_of, stamp_of, waited_of, thread_call, entry_of, content_of}
-use Rattle.ft_script.specs.Drafts.{◌>>=◌, or_fault, text_place, thread_place, container_place}
+use Rattle.ft_script.specs.Drafts.{or_fault, text_place, thread_place, container_place}
 use Rattle.ft_script.specs.Transcripts.{counts, IsWideKey, IsWideValue, IsWideReply, IsReadableReply}
 use Rattle.ft_script.specs.Words.{is_integer, is_wide, integer_of, is_string, text_of}
 use Rattle.ft_script.proofs.Kept.{bind_holds, cond_holds, or_holds, anything}

@@ -1,16 +1,13 @@
 -- Which tokens a printed text is cut into.
-use Rattle.std.proofs.Common.{◌≡◌, ℕ, ◌+◌, ◌<◌, ◌≤◌, Bool, true, false, cond, not, eqb, ◌&&◌, ◌||◌, List, [], ◌∷◌, ◌++◌, length, map, Option, Some, None, refl, sym, ap, ◌∙◌, inl, inr, arith, append_assoc}
-use Rattle.std.specs.Prelude.{codes}
+use Rattle.std.proofs.Common.{◌≡◌, ℕ, Bool, true, false, not, eqb, ◌&&◌, ◌||◌, List, [], ◌∷◌, ◌++◌, refl, sym, ap, ◌∙◌, inl, inr, append_assoc}
 use Rattle.std.specs.List.{list_all, flat_map, AllByRecursion}
 use Rattle.std.proofs.lemmas.Bool.{cases_eq, and_parts, and_from, ne_eqb, eqb-true}
-use Rattle.std.proofs.lemmas.List.{append-nil}
 use Rattle.std.proofs.lemmas.List.Folds.{list_all-append}
-use Rattle.ft_script.specs.declared.lines.Place.{Place}
 use Rattle.ft_script.specs.declared.lines.Place.TheVariants as place
 use Rattle.ft_script.specs.Lines.{with_first}
 use Rattle.ft_script.specs.Texts.{escaped, quoted}
-use Rattle.ft_script.specs.Tokens.{is_gap, is_mark, place_at, place_behind, token_ends, fronted, parted, tokens_from, tokens_of}
-use Rattle.ft_script.specs.Words.{is_string, unescaped, text_from, text_of}
+use Rattle.ft_script.specs.Tokens.{is_gap, is_mark, tokens_from, tokens_of}
+use Rattle.ft_script.specs.Words.{text_from, text_of}
 use Rattle.ft_script.proofs.Printed.{each_after}
 use Rattle.ft_script.proofs.TokenCuts.{at_byte, no_bytes}
 

@@ -1,5 +1,5 @@
 -- A transcript's lines say what it is.
-use Rattle.std.proofs.Common.{◌≡◌, ◌≢◌, ℕ, ◌<◌, ◌≤◌, Bool, true, false, List, [], ◌∷◌, ◌++◌, length, Option, Some, None, Result, Ok, Err, refl, sym, ap, ◌∙◌, subst, arith, append_assoc}
+use Rattle.std.proofs.Common.{◌≡◌, ◌≢◌, ℕ, ◌≤◌, true, List, [], ◌∷◌, ◌++◌, Result, Ok, refl, sym, ap, ◌∙◌, subst, arith, append_assoc}
 use Rattle.std.specs.Prelude.{All, codes}
 use Rattle.std.specs.List.{flat_map, join_with_byte}
 use Rattle.std.proofs.lemmas.List.Elements.{All-head, All-tail}
@@ -9,11 +9,11 @@ use Rattle.ft_model.specs.Scripts.{IsScript}
 use Rattle.ft_script.specs.declared.fault.Fault.{Fault}
 use Rattle.ft_script.specs.Readers.{is_feedless}
 use Rattle.ft_script.specs.Texts.{container_name, thread_name, call_words, mark_words, place_word, stamp_word, reply_text, entry_words, entry_line}
-use Rattle.ft_script.specs.Transcripts.{fed, content_line, IsReadable, IsContentLine, IsTranscript, IsFirstBad}
+use Rattle.ft_script.specs.Transcripts.{fed, IsReadable, IsContentLine, IsTranscript, IsFirstBad}
 use Rattle.ft_script.proofs.EntryTexts.{words_cut, entry_read, thread_begins, container_begins}
 use Rattle.ft_script.proofs.LineCases.{first_line, content_feedless, read_entry_of}
 use Rattle.ft_script.proofs.PartTexts.{BeginsLow, BeginsHigh}
-use Rattle.ft_script.proofs.Printed.{each_after, join_with_byte-cons}
+use Rattle.ft_script.proofs.Printed.{join_with_byte-cons}
 
 -- ---- an entry's line is no content's
 

@@ -1,7 +1,6 @@
 -- The one entry or content whose line some tokens may be. They are its line where it is printed so: what else may stand between the tokens or behind them is passed over here. (profile)
-use Rattle.std.specs.Prelude.{ℕ, ℤ, pos, ◌-◌, ◌^◌, Bool, true, false, not, ◌==◌, ◌&&◌, nat_lt, nat_le, List, [], ◌∷◌, length, take, drop, codes, slice_get, Option, Some, None, Result, Ok, Err, if◌then◌else◌}
+use Rattle.std.specs.Prelude.{ℕ, pos, ◌-◌, ◌^◌, Bool, true, false, ◌==◌, ◌&&◌, nat_lt, nat_le, List, [], ◌∷◌, length, take, codes, Option, Some, None, Result, Ok, Err, if◌then◌else◌}
 use Rattle.std.specs.List.{list_all, before_first, after_first, find}
-use Rattle.std.specs.Option.{option_map_or}
 use Rattle.std.specs.Str.{bytes_eq}
 use Rattle.std.specs.Str.Parse.{digits_value}
 use Rattle.ft_model.specs.declared.data.Key.{Key}
@@ -22,9 +21,8 @@ use Rattle.ft_script.specs.declared.fault.Fault.TheVariants as fault
 use Rattle.ft_script.specs.declared.reply_words.ReplyWord.{ReplyWord}
 use Rattle.ft_script.specs.declared.reply_words.ReplyWord.TheVariants as word
 use Rattle.ft_script.specs.Arguments.{index_of, as_value}
-use Rattle.ft_script.specs.CallWords.{call_word_of}
-use Rattle.ft_script.specs.Drafts.{◌>>=◌, or_fault, container_place, thread_place, text_place, empty_draft}
-use Rattle.ft_script.specs.Reading.{call_of}
+use Rattle.ft_script.specs.Drafts.{◌>>=◌, or_fault, container_place, thread_place, text_place, draft_at}
+use Rattle.ft_script.specs.Reading.{call_in}
 use Rattle.ft_script.specs.Transcripts.{counts}
 use Rattle.ft_script.specs.Tokens.{before_word, behind_word}
 use Rattle.ft_script.specs.Words.{is_string, text_of}
@@ -176,15 +174,6 @@ reply_of strings counted [] = Err fault.WordCount
 reply_of strings counted (first ∷ tokens) = first_reply strings counted first tokens (reply_word_of first)
 
 -- ---- calls
-
--- what is declared above all calls of a thread that ends
-abbrev pub draft_at : ScriptParts → ℕ → Draft
-draft_at script thread = record empty_draft { containers = script.containers; strings = script.strings; cursors = option_map_or (λ found. found.cursors) (slice_get script.threads thread) [] }
-
--- a call, and the draft behind it, which is the one above it where the call is the script's
-unfoldable pub call_in : Draft → List (List ℕ) → Result (Call × Draft) Fault
-call_in draft [] = Err fault.WordCount
-call_in draft (word ∷ words) = or_fault fault.UnknownWord (call_word_of word) >>= λ found. call_of draft found words
 
 abbrev pub only_call : Result (Call × Draft) Fault → Result Call Fault
 only_call read = read >>= λ both. Ok both.0

@@ -1,6 +1,6 @@
 -- What the lines above a place say, and what names and strings stand for there. (profile)
-use Rattle.std.specs.Prelude.{◌≡◌, ℕ, ◌==◌, List, [], ◌∷◌, ◌++◌, map, replicate, position, Option, Some, None, Result, Ok, Err, if◌then◌else◌}
-use Rattle.std.specs.Option.{unwrap_or}
+use Rattle.std.specs.Prelude.{◌≡◌, ℕ, ◌==◌, List, [], ◌∷◌, ◌++◌, map, replicate, position, slice_get, Option, Some, None, Result, Ok, Err, if◌then◌else◌}
+use Rattle.std.specs.Option.{unwrap_or, option_map_or}
 use Rattle.std.specs.Str.{bytes_eq}
 use Rattle.ft_model.specs.declared.script.Declaration.{Declaration}
 use Rattle.ft_model.specs.declared.script.Thread.{Thread}
@@ -71,6 +71,10 @@ empty_draft = record {
   strings = [];
   order = [];
 }
+
+-- what stands above the calls of a script's thread, where it declares all that the script and the thread have
+abbrev pub draft_at : ScriptParts → ℕ → Draft
+draft_at script thread = record empty_draft { containers = script.containers; strings = script.strings; cursors = option_map_or (λ found. found.cursors) (slice_get script.threads thread) [] }
 
 -- the script of all lines: where none says otherwise there are 4 tables of each class, and 64 places in each heap
 abbrev pub script_of : Draft → ScriptParts

@@ -10,8 +10,8 @@ use Rattle.ft_script.specs.declared.fault.LineError.{LineError}
 use Rattle.ft_script.specs.declared.fault.LineError.TheVariants as error
 use Rattle.ft_script.specs.declared.transcript.TranscriptFault.{TranscriptFault}
 use Rattle.ft_script.specs.declared.transcript.TranscriptFault.TheVariants as found
-use Rattle.ft_script.specs.Candidates.{draft_at, call_in}
-use Rattle.ft_script.specs.Drafts.{empty_draft}
+use Rattle.ft_script.specs.Drafts.{draft_at, empty_draft}
+use Rattle.ft_script.specs.Reading.{call_in}
 use Rattle.ft_script.specs.Texts.{entry_line}
 use Rattle.ft_script.specs.Transcripts.{IsReadable, IsContentLine}
 

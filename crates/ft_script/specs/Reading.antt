@@ -113,6 +113,11 @@ call_of draft End words = nothing_in words >>= λ _. Ok (call.End, draft)
 call_of draft Quiesce words = nothing_in words >>= λ _. Ok (call.Quiesce, draft)
 call_of draft (On operation) words = container_call draft operation words
 
+-- the call that all words of a line are, and the draft behind it
+unfoldable pub call_in : Draft → List (List ℕ) → Result (Call × Draft) Fault
+call_in draft [] = Err fault.WordCount
+call_in draft (word ∷ words) = or_fault fault.UnknownWord (call_word_of word) >>= λ found. call_of draft found words
+
 -- the open sections behind a call, of which there are at most 16
 unfoldable pub depth_after : ℕ → Call → Result ℕ Fault
 depth_after depth (call.Begin first second) = if nat_lt depth 16 then Ok (depth + 1) else Err fault.TooDeep

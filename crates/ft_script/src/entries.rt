@@ -1,7 +1,7 @@
 //! Reads the lines of entries and contents.
 ghost use Rattle.ft_script.specs.declared.fault.Fault.TheVariants as fault;
-ghost use Rattle.ft_script.specs.Candidates.{content_of, draft_at, entry_of, numbered_of, only_call, stamp_of, thread_call, thread_of, waited_of};
-ghost use Rattle.ft_script.specs.Drafts.{Gives, container_place, or_fault, thread_place};
+ghost use Rattle.ft_script.specs.Candidates.{content_of, entry_of, numbered_of, only_call, stamp_of, thread_call, thread_of, waited_of};
+ghost use Rattle.ft_script.specs.Drafts.{Gives, container_place, draft_at, or_fault, thread_place};
 ghost use Rattle.ft_script.specs.Reading.{call_of};
 ghost use Rattle.ft_script.specs.Readers.{AddsNothing, IsReaderOf, IsUnchanged};
 ghost use Rattle.ft_script.specs.Tokens.{before_word};
@@ -181,7 +181,7 @@ impl Reader {
     }
 
     /// The call of a thread that some words may be. An `Err` may leave other cursors or strings.
-    #[tactic(auto, unfolding(crate::specs::Candidates::thread_call, crate::specs::Candidates::call_in))]
+    #[tactic(auto, unfolding(crate::specs::Candidates::thread_call, crate::specs::Reading::call_in))]
     fn thread_call(
         &mut self,
         alloc: Global,

@@ -1,9 +1,26 @@
-//! What holds of every transcript. The functions do nothing: their contracts are the laws.
-ghost use Rattle.std.specs.Prelude.{◌≡◌, ℕ, List};
+//! What holds of every script and transcript. The functions do nothing: their contracts are the laws.
+ghost use Rattle.std.specs.Prelude.{◌≡◌, ◌<◌, ℕ, List, Ok, length};
+ghost use Rattle.ft_model.specs.declared.call.Call.{Call};
 ghost use Rattle.ft_model.specs.declared.entry.Entry.{Entry};
 ghost use Rattle.ft_model.specs.declared.script.ScriptParts.{ScriptParts};
-ghost use Rattle.ft_model.specs.Scripts.{IsScript};
-ghost use Rattle.ft_script.specs.Transcripts.{IsFirstBad, IsTranscript};
+ghost use Rattle.ft_model.specs.Histories.{cursors_of};
+ghost use Rattle.ft_model.specs.Scripts.{IsCallOf, IsScript};
+ghost use Rattle.ft_script.specs.Drafts.{draft_at};
+ghost use Rattle.ft_script.specs.Reading.{call_in};
+ghost use Rattle.ft_script.specs.Scripts.{read_script};
+ghost use Rattle.ft_script.specs.Texts.{call_words};
+ghost use Rattle.ft_script.specs.Transcripts.{IsFirstBad, IsTranscript, IsWideCall};
+
+/// What is read of a text is a script: it keeps the rule of names, kinds, cursors, sections and limits.
+pub fn what_is_read_is_a_script()
+    ensures { (bytes : List ℕ) (script : ScriptParts) → read_script bytes ≡ Ok script → IsScript script }
+{}
+
+/// The words of a thread's call, as they are printed, are read as that call where what it names is
+/// declared above it, and they declare nothing new.
+pub fn calls_are_read_back()
+    ensures { (script : ScriptParts) (thread : ℕ) (called : Call) → IsScript script → thread < length script.threads → IsCallOf script (cursors_of script thread) called → IsWideCall called → call_in (draft_at script thread) (call_words script thread called) ≡ Ok (called, draft_at script thread) }
+{}
 
 /// Bytes are the transcript of no more than one list of entries and one list of contents: what is
 /// printed is read back as it was.

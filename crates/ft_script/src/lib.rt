@@ -23,7 +23,9 @@ mod transcript;
 mod words;
 
 pub use fault::{ScriptFault, Which};
-pub use laws::{no_transcript_is_bad, one_transcript};
+pub use laws::{
+    calls_are_read_back, no_transcript_is_bad, one_transcript, what_is_read_is_a_script,
+};
 pub use parser::parse;
-pub use print::{print_entry, print_world, push_entry, push_world};
+pub use print::{print_entry, print_world, push_entry, push_world, push_world_line};
 pub use transcript::{Transcript, TranscriptFault, read_transcript};

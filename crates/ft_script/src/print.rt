@@ -116,7 +116,9 @@ fn push_mark(out: &mut Vec<u8>, script: &ScriptParts, waited: Option<u32>) -> Re
     Ok(())
 }
 
-fn push_world_line(
+/// Adds the line of a container, with what it has, at the end of `out`. An `Err` may leave part of
+/// it there.
+pub fn push_world_line(
     out: &mut Vec<u8>,
     script: &ScriptParts,
     container: &Declaration,

@@ -1,4 +1,4 @@
-use Rattle.std.proofs.Common.{◌≡◌, ◌∙◌, List, Result, ap, sym}
+use Rattle.std.proofs.Common.{◌∙◌, ap, sym}
 use Rattle.std.proofs.lemmas.Result.{err_from_is_err_and}
 use Rattle.ft_script.proofs.ReplyLoops.{good, pairs_begin, three_on, three_end, pairs_short, pairs_done}
 use Rattle.ft_script.proofs.TokenLists.{shown}

@@ -1,4 +1,3 @@
-use Rattle.std.proofs.Common.{◌≡◌}
 use Rattle.ft_script.proofs.EntryChecks.{content_answer, content_refused}
 use Rattle.ft_script.proofs.LineCases.{content_fits}
 use Rattle.ft_script.proofs.TokenLists.{shown}

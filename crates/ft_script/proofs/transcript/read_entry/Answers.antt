@@ -1,4 +1,4 @@
-use Rattle.std.proofs.Common.{◌≡◌, ◌∙◌, sym}
+use Rattle.std.proofs.Common.{sym}
 use Rattle.std.proofs.lemmas.Result.{err_from_is_err_and}
 use Rattle.ft_script.proofs.EntryChecks.{readable_checked, no_entry_checked, no_entry_printed, no_entry_failed, kept_by, not_both}
 use Rattle.ft_script.proofs.LineCases.{entry_fits}

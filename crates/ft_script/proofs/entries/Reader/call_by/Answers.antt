@@ -1,4 +1,4 @@
-use Rattle.std.proofs.Common.{◌≡◌, ◌∙◌, List, Bor, ℕ, sym, get_or}
+use Rattle.std.proofs.Common.{◌≡◌, ◌∙◌, get_or}
 use Rattle.ft_script.specs.declared.draft.Draft.{Draft}
 use Rattle.ft_script.specs.Reading.{call_of}
 use Rattle.ft_script.proofs.ReaderCalls.{call_read, draft_kept}

@@ -1,4 +1,4 @@
-use Rattle.std.proofs.Common.{◌≡◌, ◌∙◌, List, ℕ, sym, ap, subst}
+use Rattle.std.proofs.Common.{◌∙◌, sym, ap, subst}
 use Rattle.std.specs.Prelude.{codes}
 use Rattle.ft_script.specs.Readers.{AddsNothing}
 use Rattle.ft_script.specs.Tokens.{before_word}

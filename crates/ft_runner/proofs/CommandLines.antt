@@ -1,5 +1,5 @@
 -- Which words the parser of the command line takes.
-use Rattle.std.proofs.Common.{◌≡◌, ◌≢◌, ◌+◌, ◌≤◌, ℕ, Bool, true, false, zero, suc, List, [], ◌∷◌, length, Option, Some, None, codes, refl, sym, ap, ap₂, subst, inl, inr, ◌⊎◌, ◌∙◌, arith, if◌then◌else◌, option_map}
+use Rattle.std.proofs.Common.{◌≡◌, ◌≢◌, ◌≤◌, ℕ, Bool, true, false, zero, suc, List, [], ◌∷◌, length, Option, Some, None, codes, refl, sym, ap, ap₂, inl, inr, ◌⊎◌, ◌∙◌, arith, if◌then◌else◌, option_map}
 use Rattle.std.specs.Prelude.{find, option_and_then, slice_get, is_some, fold}
 use Rattle.std.specs.Option.{option_map_or}
 use Rattle.std.specs.Str.{chars, bytes_eq}
@@ -150,7 +150,10 @@ known_or_not word =
       | true ↦ λ run. inl (record { name = codes "run"; command = subcommand.Run; is = rw run refl; names_it = refl; met = rw run refl; found = refl; no_help = refl })
       | false ↦ λ no_run. elim (bytes_eq (codes "turns") word) as (λ b. bytes_eq (codes "turns") word ≡ b → IsKnown word ⊎ IsUnknown word) [
         | true ↦ λ turns. inl (record { name = codes "turns"; command = subcommand.Turns; is = rw (no_run, turns) refl; names_it = refl; met = rw (no_run, turns) refl; found = refl; no_help = refl })
-        | false ↦ λ no_turns. inr (record { is = rw (no_run, no_turns) refl; met = rw (no_run, no_turns) refl })
+        | false ↦ λ no_turns. elim (bytes_eq (codes "check") word) as (λ b. bytes_eq (codes "check") word ≡ b → IsKnown word ⊎ IsUnknown word) [
+          | true ↦ λ check. inl (record { name = codes "check"; command = subcommand.Check; is = rw (no_run, no_turns, check) refl; names_it = refl; met = rw (no_run, no_turns, check) refl; found = refl; no_help = refl })
+          | false ↦ λ no_check. inr (record { is = rw (no_run, no_turns, no_check) refl; met = rw (no_run, no_turns, no_check) refl })
+        ] refl
       ] refl
     ] refl
 

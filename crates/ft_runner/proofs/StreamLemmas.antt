@@ -3,7 +3,7 @@ use Rattle.std.proofs.Common.{◌≡◌, ℕ, ◌+◌, ◌<◌, ◌≤◌, get_o
 use Rattle.std.proofs.lemmas.List.{append-nil, take-take, length-take}
 use Rattle.std.proofs.Math.Seq.{take-add}
 use Rattle.ft_io.specs.Streams.{raised, behind, added}
-use Rattle.ft_runner.specs.Reports.{Stream, Gives, Receives, IsPart, IsBuffered}
+use Rattle.ft_runner.specs.Streams.{Stream, Gives, Receives, IsPart, IsBuffered}
 use Rattle.std.specs.List.{flat_map}
 use Rattle.std.proofs.lemmas.List.Concat.{flat_map-append}
 use Rattle.std.proofs.lemmas.List.{take-append-drop, take_more, take_all}
@@ -27,8 +27,9 @@ added-append (Some bytes) x y = ap (λ (bs : List ℕ). Some bs) (append_assoc b
 pub Gives-none : (a : Stream) → Gives a [] false a
 Gives-none a = record { content = behind-nil a.content; faults = refl }
 
-pub Gives-then : (a b c : Stream) (x y : List ℕ) → Gives a x false b → Gives b y false c → Gives a (x ++ y) false c
-Gives-then a b c x y p q = record { content = p.content ∙ ap (behind x) q.content ∙ behind-append x y c.content; faults = q.faults ∙ p.faults }
+pub Gives-then : (a b c : Stream) (x y : List ℕ) (failed : Bool) → Gives a x false b → Gives b y failed c → Gives a (x ++ y) failed c
+Gives-then a b c x y true p q = record { content = p.content ∙ ap (behind x) q.content ∙ behind-append x y c.content; faults = q.faults ∙ ap raised p.faults }
+Gives-then a b c x y false p q = record { content = p.content ∙ ap (behind x) q.content ∙ behind-append x y c.content; faults = q.faults ∙ p.faults }
 
 -- a call that fails takes nothing
 pub Gives-fails : (a b c : Stream) (x : List ℕ) → Gives a x false b → c.content ≡ b.content → c.faults ≡ raised b.faults → Gives a x true c
@@ -53,9 +54,6 @@ Receives-piece a b c bytes done n most low p content faults =
     rw take-add (Receives-then a b c (take done bytes) (take n (drop done bytes)) false p q)
 
 -- ---- a buffer before a sink
-
-pub IsBuffered-none : (a : Stream) → IsBuffered a a [] []
-IsBuffered-none a = record { put = []; receives = Receives-none a; text_is = refl }
 
 -- what the buffer had goes on
 pub IsBuffered-then : (a b c : Stream) (buffer buffer' text : List ℕ) → IsBuffered a b buffer text → IsBuffered b c buffer' buffer → IsBuffered a c buffer' text

@@ -1,5 +1,5 @@
 -- The command line of the tool. (profile)
-use Rattle.std.specs.Prelude.{ℕ, true, List, [], ◌∷◌, Option, Some, None, codes, if◌then◌else◌}
+use Rattle.std.specs.Prelude.{ℕ, Bool, true, false, List, [], ◌∷◌, Option, Some, None, codes, if◌then◌else◌}
 use Rattle.std.specs.Str.{bytes_eq}
 use Rattle.clap.specs.Simple.{Shape, new_shape, on_top}
 use Rattle.clap.specs.Words.{App, new_app, with_subcommand}
@@ -10,7 +10,13 @@ use Rattle.ft_runner.specs.declared.command.Subcommand.TheVariants as subcommand
 abbrev pub named : List ℕ → Option Subcommand
 named word =
     if bytes_eq (codes "run") word then Some subcommand.Run else (
-    if bytes_eq (codes "turns") word then Some subcommand.Turns else None)
+    if bytes_eq (codes "turns") word then Some subcommand.Turns else (
+    if bytes_eq (codes "check") word then Some subcommand.Check else None))
+
+-- `check` reads a transcript, and the others run a script
+abbrev pub is_check : Option Subcommand → Bool
+is_check (Some subcommand.Check) = true
+is_check other = false
 
 -- the command that the words are: the program's name and a subcommand's, and nothing behind them but the mark that ends options
 abbrev pub command_of : List (List ℕ) → Option Subcommand
@@ -29,4 +35,4 @@ without_help shape =
     }
 
 abbrev pub tool : App
-tool = with_subcommand (with_subcommand (on_top without_help (new_app (codes "ftpy"))) (new_shape (codes "run"))) (new_shape (codes "turns"))
+tool = with_subcommand (with_subcommand (with_subcommand (on_top without_help (new_app (codes "ftpy"))) (new_shape (codes "run"))) (new_shape (codes "turns"))) (new_shape (codes "check"))

@@ -1,9 +1,8 @@
 -- What the tool does and reports.
-use Rattle.std.specs.Prelude.{◌≡◌, ◌≢◌, ℕ, ◌==◌, Bool, true, false, nat_lt, if◌then◌else◌, IsTrue, ◌⊎◌, ◌≤◌, ◌+◌, List, [], ◌++◌, length, Option, Some, None, is_none, IfSome, Result, Ok, Err, Vec, codes}
-use Rattle.std.specs.declared.alloc.Global.{Global}
-use Rattle.ft_io.specs.declared.source.Failed.{Failed}
+use Rattle.std.specs.Prelude.{◌≡◌, ◌≢◌, ℕ, ◌==◌, Bool, true, false, nat_lt, if◌then◌else◌, IsTrue, ◌⊎◌, ◌≤◌, List, [], ◌++◌, length, Option, Some, None, is_none, IfSome, Result, Ok, Err, codes}
 use Rattle.std.specs.Fmt.{decimal}
-use Rattle.ft_io.specs.Streams.{raised, behind, added}
+use Rattle.ft_history.specs.declared.verdict.Verdict.{Verdict}
+use Rattle.ft_history.specs.declared.verdict.Verdict.TheVariants as verdict
 use Rattle.ft_model.specs.declared.entry.Entry.{Entry}
 use Rattle.ft_model.specs.declared.entry.Storage.TheVariants as storage
 use Rattle.ft_model.specs.declared.script.ScriptParts.{ScriptParts}
@@ -19,9 +18,10 @@ use Rattle.ft_runner.specs.declared.command.Subcommand.TheVariants as subcommand
 use Rattle.ft_runner.specs.declared.report.Fault.{Fault}
 use Rattle.ft_runner.specs.declared.report.Fault.TheVariants as fault
 use Rattle.ft_runner.specs.declared.report.Report.{Report}
-use Rattle.ft_runner.specs.declared.writing.WriteFault.{WriteFault}
-use Rattle.ft_runner.specs.declared.writing.WriteFault.TheVariants as write
+use Rattle.ft_runner.specs.Checking.{most_checked, IsScriptPart, IsTooLong, IsWithin}
 use Rattle.ft_runner.specs.Commands.{command_of}
+use Rattle.ft_runner.specs.Findings.{broken_line, legal_line, IsBadAt, IsFound}
+use Rattle.ft_runner.specs.Streams.{is_read, is_too_long, most_read, script_limit, Gives, IsPart, IsPrefix, Receives, Stream, Told}
 
 -- ---- faults
 
@@ -53,10 +53,6 @@ abbrev pub is_usage : Fault → Bool
 is_usage fault.Usage = true
 is_usage _ = false
 
-abbrev pub is_read : Fault → Bool
-is_read fault.Read = true
-is_read _ = false
-
 abbrev pub is_write : Fault → Bool
 is_write fault.Write = true
 is_write _ = false
@@ -65,102 +61,16 @@ abbrev pub is_memory : Fault → Bool
 is_memory fault.Memory = true
 is_memory _ = false
 
-abbrev pub is_too_long : Fault → Bool
-is_too_long fault.TooLong = true
-is_too_long _ = false
-
 -- the input was read to its end
 abbrev pub has_ended : Fault → Bool
 has_ended fault.Clean = true
 has_ended (fault.Script line kind) = true
 has_ended fault.Write = true
+has_ended (fault.NotLegal place rule) = true
+has_ended (fault.Transcript line) = true
 has_ended _ = false
 
--- ---- streams
-
--- what a stream tells of its bytes, and how often it has failed
-pub record Stream : Type 0 where
-  pub content : Option (List ℕ)
-  pub faults : ℕ
-
-abbrev pub stream : Option (List ℕ) → ℕ → Stream
-stream content faults = record { content = content; faults = faults }
-
--- these bytes came from a source, whose last call failed or not
-pub record Gives (before : Stream) (came : List ℕ) (failed : Bool) (after : Stream) : Type 0 where
-  pub content : before.content ≡ behind came after.content
-  pub faults : after.faults ≡ (if failed then raised before.faults else before.faults)
-
--- these bytes went into a sink, whose last call failed or not
-pub record Receives (before : Stream) (put : List ℕ) (failed : Bool) (after : Stream) : Type 0 where
-  pub content : after.content ≡ added before.content put
-  pub faults : after.faults ≡ (if failed then raised before.faults else before.faults)
-
--- the first bytes of a text
-abbrev pub IsPrefix : List ℕ → List ℕ → Type 0
-IsPrefix prefix text = (rest : List ℕ) × (prefix ++ rest ≡ text)
-
--- ---- reading and writing
-
--- the most bytes that a script may have
-abbrev pub script_limit : ℕ
-script_limit = 4194304
-
--- a source is read to its end, and gives no more than a script may have
-pub record IsWholeInput (before : Stream) (bytes : List ℕ) (after : Stream) : Type 0 where
-  pub gives : Gives before bytes false after
-  pub few : length bytes ≤ script_limit
-  pub ended : IfSome after.content (λ rest. rest ≡ [])
-
--- no more bytes are read than a script may have and one piece
-abbrev pub most_read : ℕ
-most_read = script_limit + 65536
-
-abbrev pub stops_reading : Fault → Bool
-stops_reading fault.Read = true
-stops_reading fault.Memory = true
-stops_reading fault.TooLong = true
-stops_reading _ = false
-
--- reading stops at a fault, behind the bytes that came
-pub record StopsReading (fault : Fault) (before after : Stream) : Type 0 where
-  pub came : List ℕ
-  pub gives : Gives before came (is_read fault) after
-  pub too_long : is_too_long fault ≡ nat_lt script_limit (length came)
-  pub few : length came ≤ most_read
-  pub cause : stops_reading fault ≡ true
-
-abbrev pub Reads : Stream → Result (Vec ℕ Global) Fault → Stream → Type 0
-Reads before (Ok bytes) after = IsWholeInput before bytes.items after
-Reads before (Err fault) after = StopsReading fault before after
-
--- a prefix of a text goes into a sink, which fails or not
-pub record IsPart (before : Stream) (text : List ℕ) (failed : Bool) (after : Stream) : Type 0 where
-  pub prefix : List ℕ
-  pub is_prefix : IsPrefix prefix text
-  pub receives : Receives before prefix failed after
-
-abbrev pub Puts : Stream → List ℕ → Result (Unit {0}) Failed → Stream → Type 0
-Puts before text (Ok u) after = Receives before text false after
-Puts before text (Err e) after = IsPart before text true after
-
--- what was put, and then what the buffer has, are the text so far
-pub record IsBuffered (before now : Stream) (buffer text : List ℕ) : Type 0 where
-  pub put : List ℕ
-  pub receives : Receives before put false now
-  pub text_is : put ++ buffer ≡ text
-
--- want of memory stops writing behind a part of the text
-abbrev pub Writes : Stream → List ℕ → Result (Unit {0}) WriteFault → Stream → Type 0
-Writes before text (Ok u) after = Receives before text false after
-Writes before text (Err write.Failed) after = IsPart before text true after
-Writes before text (Err write.Memory) after = IsPart before text false after
-
--- a sink gets a text: whole, or a prefix where the sink failed
-abbrev pub Told : Stream → List ℕ → Stream → Type 0
-Told before text after = Receives before text false after ⊎ IsPart before text true after
-
--- ---- the report
+-- ---- what a fault says
 
 -- the history is one of the script that the bytes are, under `turns` the one of its turns, and this is its text
 pub record IsHistoryOf (command : Option Subcommand) (bytes : List ℕ) (history : List Entry) (text : List ℕ) : Type 0 where
@@ -181,17 +91,34 @@ pub record IsFirstFault (bytes : List ℕ) (line kind : ℕ) (limit : Option Whi
   pub refused : read_script bytes ≡ Err (record { line = line; kind = kind; which = limit })
   pub in_text : kind ≢ 14
 
--- what a fault says of the bytes that came, of the history, and of the bytes that were put
+-- what a fault says where a script is run: of the bytes that came, of the history, and of the bytes that were put
+abbrev pub MeansRun : Option Subcommand → Fault → Option Which → List ℕ → List Entry → List ℕ → Type 0
+MeansRun command fault.Clean limit came history put = IsHistoryOf command came history put
+MeansRun command fault.Write limit came history put = IsHistoryBegun command came history put
+MeansRun command (fault.Script line kind) limit came history put = IsFirstFault came line kind limit × (history ≡ []) × (put ≡ [])
+MeansRun command fault.Usage limit came history put = (history ≡ []) × (put ≡ [])
+MeansRun command fault.Read limit came history put = (history ≡ []) × (put ≡ [])
+MeansRun command fault.TooLong limit came history put = (history ≡ []) × (put ≡ [])
+MeansRun command fault.Memory limit came history put = (history ≡ []) × ((put ≡ []) ⊎ ((unsaid : List Entry) × IsHistoryBegun command came unsaid put))
+MeansRun command (fault.NotLegal place rule) limit came history put = ⊥
+MeansRun command (fault.Transcript line) limit came history put = ⊥
+
+-- the fault of the script that stands before the line `---`
+abbrev pub IsScriptFault : List ℕ → ℕ → ℕ → Option Which → Type 0
+IsScriptFault bytes line kind limit = (text : List ℕ) × IsScriptPart bytes text × IsFirstFault text line kind limit
+
+-- what a fault says where a transcript is checked; the line of a broken rule is said apart
+abbrev pub MeansChecked : Fault → Option Which → List ℕ → List ℕ → Type 0
+MeansChecked fault.Clean limit came put = IsFound came verdict.Legal × (put ≡ legal_line)
+MeansChecked fault.Write limit came put = IsFound came verdict.Legal × IsPrefix put legal_line
+MeansChecked (fault.NotLegal place rule) limit came put = IsFound came (verdict.Not place rule)
+MeansChecked (fault.Transcript line) limit came put = IsBadAt came line × (put ≡ [])
+MeansChecked (fault.Script line kind) limit came put = IsScriptFault came line kind limit × (put ≡ [])
+MeansChecked other limit came put = put ≡ []
+
 abbrev pub Means : Option Subcommand → Fault → Option Which → List ℕ → List Entry → List ℕ → Type 0
-Means command fault.Clean limit came history put = IsHistoryOf command came history put
-Means command fault.Write limit came history put = IsHistoryBegun command came history put
-Means command (fault.Script line kind) limit came history put = IsFirstFault came line kind limit × (history ≡ []) × (put ≡ [])
-Means command fault.Usage limit came history put = (history ≡ []) × (put ≡ [])
-Means command fault.Read limit came history put = (history ≡ []) × (put ≡ [])
-Means command fault.TooLong limit came history put = (history ≡ []) × (put ≡ [])
-Means command fault.Memory limit came history put = (history ≡ []) × ((put ≡ []) ⊎ ((unsaid : List Entry) × IsHistoryBegun command came unsaid put))
-Means command (fault.NotLegal place rule) limit came history put = ⊥
-Means command (fault.Transcript line) limit came history put = ⊥
+Means (Some subcommand.Check) fault limit came history put = (history ≡ []) × MeansChecked fault limit came put
+Means command fault limit came history put = MeansRun command fault limit came history put
 
 -- ---- the parts of a call
 
@@ -204,19 +131,56 @@ IsAsked command (Err told) = ((told ≡ fault.Usage) × (command ≡ None)) ⊎ 
 abbrev pub refusal_of : ScriptFault → Fault
 refusal_of refused = if refused.kind == 14 then fault.Memory else fault.Script refused.line refused.kind
 
--- a text that was read whole has come to this, and to this history
+-- bytes that were read whole have come to this, and to this history
 abbrev pub comes_of_text : Fault → Bool
-comes_of_text fault.Clean = true
-comes_of_text (fault.Script line kind) = true
-comes_of_text fault.Write = true
-comes_of_text fault.Memory = true
-comes_of_text _ = false
+comes_of_text fault.Usage = false
+comes_of_text fault.Read = false
+comes_of_text fault.TooLong = false
+comes_of_text _ = true
+
+-- what goes into the sink: the line of a broken rule, whole or a prefix where the sink failed; or else these bytes, and the sink failed exactly where that is the fault
+abbrev pub PutsFor : Fault → Stream → List ℕ → Stream → Type 0
+PutsFor (fault.NotLegal place rule) before put after = ((put ≡ broken_line place rule) × Receives before put false after) ⊎ (IsPrefix put (broken_line place rule) × Receives before put true after)
+PutsFor other before put after = Receives before put (is_write other) after
 
 pub record IsRunOf (command : Option Subcommand) (bytes : List ℕ) (sink sink' : Stream) (fault : Fault) (limit : Option Which) (history : List Entry) : Type 0 where
   pub put : List ℕ
-  pub writing : Receives sink put (is_write fault) sink'
+  pub writing : PutsFor fault sink put sink'
   pub means : Means command fault limit bytes history put
   pub cause : comes_of_text fault ≡ true
+
+-- why the input of `check` is refused
+abbrev pub IsRefused : List ℕ → Fault → Option Which → Type 0
+IsRefused bytes (fault.Script line kind) limit = IsScriptFault bytes line kind limit
+IsRefused bytes (fault.Transcript line) limit = IsBadAt bytes line
+IsRefused bytes fault.Memory limit = Unit {0}
+IsRefused bytes other limit = ⊥
+
+-- what is told of a verdict, and what the sink gets of it
+abbrev pub TellsVerdict : Verdict → Fault → Stream → Stream → Type 0
+TellsVerdict verdict.Legal told before after = ((told ≡ fault.Clean) × Receives before legal_line false after) ⊎ ((told ≡ fault.Write) × IsPart before legal_line true after)
+TellsVerdict (verdict.Not place rule) told before after = (told ≡ fault.NotLegal place rule) × Told before (broken_line place rule) after
+
+-- what is told of a verdict, where no stream fails and memory is had
+abbrev pub told_of : Verdict → Fault
+told_of verdict.Legal = fault.Clean
+told_of (verdict.Not place rule) = fault.NotLegal place rule
+
+-- ---- the report
+
+-- too long: more came than a script may have, which stops the reading
+abbrev pub LimitsRun : Fault → List ℕ → Type 0
+LimitsRun told came = (is_too_long told ≡ nat_lt script_limit (length came)) × (length came ≤ most_read)
+
+-- or more than a script and a transcript may have, whatever follows; what was read to its end is within
+pub record LimitsCheck (told : Fault) (source : Stream) (came : List ℕ) (source' : Stream) : Type 0 where
+  pub too_long : is_too_long told ≡ true → IsTooLong source came source'
+  pub within : has_ended told ≡ true → IsWithin came
+  pub few : length came ≤ most_checked
+
+abbrev pub Limits : Option Subcommand → Fault → Stream → List ℕ → Stream → Type 0
+Limits (Some subcommand.Check) told source came source' = LimitsCheck told source came source'
+Limits command told source came source' = LimitsRun told came
 
 -- what is done for this command, and the fault and the history that it comes to
 pub record IsDone (command : Option Subcommand) (source source' sink sink' : Stream) (fault : Fault) (limit : Option Which) (history : List Entry) : Type 0 where
@@ -228,10 +192,8 @@ pub record IsDone (command : Option Subcommand) (source source' sink sink' : Str
   pub unread : command ≡ None → came ≡ []
   -- a fault of reading or writing exactly where the count rose
   pub reading : Gives source came (is_read fault) source'
-  pub writing : Receives sink put (is_write fault) sink'
-  -- too long exactly where more came, which stops the reading
-  pub too_long : is_too_long fault ≡ nat_lt script_limit (length came)
-  pub few : length came ≤ most_read
+  pub writing : PutsFor fault sink put sink'
+  pub limits : Limits command fault source came source'
   pub ended : IsTrue (has_ended fault) → IfSome source'.content (λ rest. rest ≡ [])
   pub means : Means command fault limit came history put
 

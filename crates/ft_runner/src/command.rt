@@ -1,7 +1,8 @@
 //! Reads the command line.
-ghost use Rattle.clap.specs.Words.{app_of, subcommand_name_of};
-ghost use Rattle.std.specs.Prelude.{◌≡◌, IfOk, map, option_and_then, string_bytes};
-ghost use Rattle.ft_runner.specs.Commands.{command_of, named, tool};
+ghost use Rattle.clap.specs.Simple.{on_top};
+ghost use Rattle.clap.specs.Words.{app_of, new_app, subcommand_name_of};
+ghost use Rattle.std.specs.Prelude.{◌≡◌, codes, IfOk, map, option_and_then, string_bytes};
+ghost use Rattle.ft_runner.specs.Commands.{command_of, named, tool, without_help};
 
 use clap::error::ErrorKind;
 use clap::{ArgMatches, Command};
@@ -14,6 +15,8 @@ pub enum Subcommand {
     Run,
     /// Runs a script on one thread, in the order of turns.
     Turns,
+    /// Checks a transcript of a script.
+    Check,
 }
 
 impl Subcommand {
@@ -24,6 +27,7 @@ impl Subcommand {
         match word {
             "run" => Some(Subcommand::Run),
             "turns" => Some(Subcommand::Turns),
+            "check" => Some(Subcommand::Check),
             _ => None,
         }
     }
@@ -51,15 +55,23 @@ fn matched(matches: &ArgMatches<'_>) -> Option<Subcommand>
     Subcommand::named(matches.subcommand_name()?)
 }
 
-/// The command line: one of the subcommands, without arguments, flags or help.
+/// The command line: one of the subcommands.
 fn command<'a>(alloc: Global) -> Result<Command<'a>, AllocError>
     ensures { IfOk result (λ command. app_of command ≡ tool) }
+{
+    program(alloc)
+        .subcommand(Command::new(alloc, "run"))?
+        .subcommand(Command::new(alloc, "turns"))?
+        .subcommand(Command::new(alloc, "check"))
+}
+
+/// The program's own part of it: no arguments, no flags and no help.
+fn program<'a>(alloc: Global) -> Command<'a>
+    ensures { app_of result ≡ on_top without_help (new_app (codes "ftpy")) }
 {
     Command::new(alloc, "ftpy")
         .disable_help_flag(true)
         .disable_version_flag(true)
         .disable_help_subcommand(true)
         .subcommand_required(true)
-        .subcommand(Command::new(alloc, "run"))?
-        .subcommand(Command::new(alloc, "turns"))
 }

@@ -1,6 +1,7 @@
 ghost use Rattle.ft_runner.specs.declared.report.Fault.TheVariants as fault;
 ghost use Rattle.std.specs.Prelude.{◌≡◌, ◌++◌, decimal};
-ghost use Rattle.ft_runner.specs.Reports.{stream, error_line, Puts};
+ghost use Rattle.ft_runner.specs.Streams.{stream, Puts};
+ghost use Rattle.ft_runner.specs.Reports.{error_line};
 ghost use Rattle.ft_script.specs.Faults.{kind_text};
 
 use crate::report::Fault;
@@ -28,7 +29,9 @@ pub(crate) fn tell<E: Sink>(
         Fault::Write => put_all(errors, b"ftpy: write fault\n"),
         Fault::Memory => put_all(errors, b"ftpy: want of memory\n"),
         Fault::TooLong => put_all(errors, b"ftpy: too long\n"),
-        Fault::Transcript(line) => put_number(errors, b"ftpy: transcript line ", line, b"\n"),
+        Fault::Transcript(line) => {
+            put_number(errors, b"ftpy: transcript line ", u64::from(line), b"\n")
+        }
     }
 }
 
@@ -41,8 +44,8 @@ fn tell_script<E: Sink>(
 ) -> Result<(), Failed>
     ensures { Puts (stream (E.taken errors.old) (E.faults errors.old)) (error_line (fault.Script line kind) limit) result (stream (E.taken errors.new) (E.faults errors.new)) }
 {
-    put_number(errors, b"ftpy: line ", line, b": ")?;
-    put_number(errors, b"", u32::from(kind), b" ")?;
+    put_number(errors, b"ftpy: line ", u64::from(line), b": ")?;
+    put_number(errors, b"", u64::from(kind), b" ")?;
     put_all(errors, kind_text(kind, limit).as_bytes())?;
     put_all(errors, b"\n")
 }
@@ -60,10 +63,10 @@ fn kind_text(kind: u8, limit: Option<Which>) -> &'static str
 }
 
 /// Puts a number with what stands before it and behind it.
-fn put_number<E: Sink>(
+pub(crate) fn put_number<E: Sink>(
     errors: &mut E,
     before: &[u8],
-    number: u32,
+    number: u64,
     behind: &[u8],
 ) -> Result<(), Failed>
     ensures { Puts (stream (E.taken errors.old) (E.faults errors.old)) (before.now ++ decimal number ++ behind.now) result (stream (E.taken errors.new) (E.faults errors.new)) }

@@ -1,9 +1,12 @@
-//! The tool: a script is read, run and written.
+//! The tool: a script is read, run and written, and a transcript is checked.
 #![tactic(auto)]
 
+mod checking;
 mod command;
 mod errors;
 mod laws;
+mod marking;
+mod outcome;
 mod reading;
 mod report;
 #[cfg(test)]
@@ -12,6 +15,6 @@ mod tool;
 mod writing;
 
 pub use command::Subcommand;
-pub use laws::scripts_are_run;
+pub use laws::{scripts_are_run, transcripts_are_checked, verdicts_are_told};
 pub use report::{Fault, Report};
 pub use tool::{Gate, NoGate, run_still, run_tool};

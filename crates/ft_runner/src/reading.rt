@@ -1,12 +1,17 @@
-ghost use Rattle.std.specs.Prelude.{◌≡◌, length, IfOk};
-ghost use Rattle.ft_runner.specs.Reports.{stream, Reads};
+ghost use Rattle.std.specs.Prelude.{◌≡◌, ◌≤◌, ◌+◌, length, IfOk, MatchBool};
+ghost use Rattle.ft_runner.specs.Checking.{Fills, IsScriptFew, IsScriptLong, ReadsInput};
+ghost use Rattle.ft_runner.specs.Streams.{stream, Reads};
 
+use crate::marking::mark_of;
 use crate::report::Fault;
 use ft_io::{Failed, Source};
 use std::alloc::{AllocError, Global};
 
 /// The most bytes that a script may have.
 const SCRIPT_LIMIT: usize = 4_194_304;
+
+/// The most bytes that a script and a transcript may have together.
+const INPUT_LIMIT: usize = 67_108_864;
 
 /// How many bytes are asked for at once.
 const PIECE: usize = 65_536;
@@ -35,6 +40,71 @@ pub(crate) fn read_all<S: Source>(alloc: Global, source: &mut S) -> Result<Vec<u
         };
     }
     unreachable!()
+}
+
+/// Reads a script, a line `---` and a transcript: all there is. It stops as soon as more came than
+/// they may have, whatever follows; of the script that is told once the bytes of such a line came
+/// behind it.
+pub(crate) fn read_input<S: Source>(alloc: Global, source: &mut S) -> Result<Vec<u8>, Fault>
+    ensures { ReadsInput (stream (S.left source.old) (S.faults source.old)) result (stream (S.left source.new) (S.faults source.new)) }
+{
+    let mut bytes = Vec::new(alloc);
+    let ended = fill(alloc, source, &mut bytes, SCRIPT_LIMIT + 3)?;
+    if !is_script_few(&bytes) {
+        return Err(Fault::TooLong);
+    }
+    if ended {
+        return Ok(bytes);
+    }
+    if fill(alloc, source, &mut bytes, INPUT_LIMIT)? {
+        Ok(bytes)
+    } else {
+        Err(Fault::TooLong)
+    }
+}
+
+/// Whether the bytes before the line `---`, or all where there is none, are no more than a script
+/// may have.
+fn is_script_few(bytes: &[u8]) -> bool
+    ensures { MatchBool result (IsScriptFew bytes.now) (IsScriptLong bytes.now) }
+{
+    if bytes.len() <= SCRIPT_LIMIT {
+        return true;
+    }
+    match mark_of(bytes) {
+        Some(place) => place <= SCRIPT_LIMIT,
+        None => false,
+    }
+}
+
+/// Reads on, until the source ends or more than so many bytes are there. It answers whether it has
+/// ended.
+fn fill<S: Source>(
+    alloc: Global,
+    source: &mut S,
+    bytes: &mut Vec<u8>,
+    most: usize,
+) -> Result<bool, Fault>
+    requires few { length bytes.old.items ≤ most + 65536 }
+    requires most { most ≤ 67108864 }
+    ensures { Fills (stream (S.left source.old) (S.faults source.old)) bytes.old.items most result bytes.new.items (stream (S.left source.new) (S.faults source.new)) }
+{
+    let Ok(mut buffer) = zeros(alloc, PIECE) else {
+        return Err(Fault::Memory);
+    };
+    while bytes.len() <= most {
+        let count = match source.take(&mut buffer) {
+            Ok(count) => count,
+            Err(Failed) => return Err(Fault::Read),
+        };
+        if count == 0 {
+            return Ok(true);
+        }
+        let Ok(()) = bytes.extend_from_slice(&buffer[..count]) else {
+            return Err(Fault::Memory);
+        };
+    }
+    Ok(false)
 }
 
 fn zeros(alloc: Global, len: usize) -> Result<Vec<u8>, AllocError>

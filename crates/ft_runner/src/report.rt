@@ -15,11 +15,12 @@ pub enum Fault {
     Write,
     /// Memory ran out.
     Memory,
-    /// More came than a script may have.
+    /// More came than a script may have, or than a script and a transcript.
     TooLong,
     /// A transcript isn't legal: the place and the rule that is broken there.
     NotLegal(u64, Rule),
-    /// A line of a transcript isn't in the grammar.
+    /// The first line of a transcript that isn't in the grammar, from 1; line 1 where no line `---`
+    /// stands before it.
     Transcript(u32),
 }
 

@@ -4,7 +4,7 @@
 use crate::{Fault, NoGate, Report, run_still, run_tool};
 use ft_history::{Verdict, judge};
 use ft_io::{MemSink, MemSource};
-use ft_model::Storage;
+use ft_model::{Rule, Storage};
 use ft_script::parse;
 use std::alloc::{AllocError, Global};
 use std::process::Abort;
@@ -277,7 +277,8 @@ fn what_is_no_command_or_no_script_is_refused(rt: HostRuntime) -> Result<(), Fai
         "turns --help",
         "turns -V",
         "--version",
-        "check",
+        "check turns",
+        "checks",
         "make",
         "make 1",
         "make 1 turns",
@@ -329,6 +330,222 @@ fn what_is_no_command_or_no_script_is_refused(rt: HostRuntime) -> Result<(), Fai
     Ok(())
 }
 
+/// A script, a transcript of it, and what is found.
+#[derive(Clone, Copy)]
+struct Checked<'a> {
+    script: &'a str,
+    transcript: &'a str,
+    status: u8,
+    fault: Fault,
+    put: &'a str,
+    told: &'a str,
+}
+
+const LEGAL: Checked<'static> = Checked {
+    script: SCRIPT,
+    transcript: TEXT,
+    status: 0,
+    fault: Fault::Clean,
+    put: "legal\n",
+    told: "",
+};
+
+const NESTED: &str =
+    "list l\ndict d\nthread A\nbegin d\nbegin l\nappend l 1\nend\nend\nthread B\nbegin l\nappend l 2\nend\nthread C\nset d 1 1\norder B A A C B B\n";
+
+const CHECKS: [Checked<'static>; 13] = [
+    LEGAL,
+    Checked {
+        script: NESTED,
+        transcript: "A.1 r0 begin d = entered\nB.1 r0 begin l = entered\nC.1 w0 set d 1 1 = ok\nB.2 w1 append l 2 = ok\nA.2 r2 begin l = entered waited B\nB.3 r2 end = kept\nA.3 w2 append l 1 = ok\nA.4 r3 end = kept\nA.5 r3 end = suspended 1\nl = [2, 1]\nd = {1: 1}\n",
+        ..LEGAL
+    },
+    // A script without lines, and a transcript without lines.
+    Checked {
+        script: "",
+        transcript: "",
+        ..LEGAL
+    },
+    // Another thread wrote on the section.
+    Checked {
+        script: NESTED,
+        transcript: "A.1 r0 begin d = entered\nB.1 r0 begin l = entered\nC.1 w0 set d 1 1 = ok\nB.2 w1 append l 2 = ok\nA.2 r2 begin l = entered waited B\nB.3 r2 end = kept\nA.3 w2 append l 1 = ok\nA.4 r3 end = kept\nA.5 r3 end = kept\nl = [2, 1]\nd = {1: 1}\n",
+        status: 7,
+        fault: Fault::NotLegal(9, Rule::Kept),
+        put: "not legal at 9: kept\n",
+        told: "",
+    },
+    Checked {
+        transcript: "A.1 w0 set d \"a\" 1 = ok\n",
+        status: 7,
+        fault: Fault::NotLegal(2, Rule::Missing),
+        put: "not legal at 2: missing\n",
+        ..LEGAL
+    },
+    Checked {
+        transcript: "A.1 w1 set d \"a\" 1 = ok\nA.2 r1 get d \"a\" = 1\nd = {\"a\": 1}\n",
+        status: 7,
+        fault: Fault::NotLegal(1, Rule::Stamp),
+        put: "not legal at 1: stamp\n",
+        ..LEGAL
+    },
+    // Another content, none, and one too many.
+    Checked {
+        transcript: "A.1 w0 set d \"a\" 1 = ok\nA.2 r1 get d \"a\" = 1\nd = {\"a\": 2}\n",
+        status: 7,
+        fault: Fault::NotLegal(3, Rule::World),
+        put: "not legal at 3: world\n",
+        ..LEGAL
+    },
+    Checked {
+        transcript: "A.1 w0 set d \"a\" 1 = ok\nA.2 r1 get d \"a\" = 1\n",
+        status: 7,
+        fault: Fault::NotLegal(3, Rule::World),
+        put: "not legal at 3: world\n",
+        ..LEGAL
+    },
+    Checked {
+        transcript: "A.1 w0 set d \"a\" 1 = ok\nA.2 r1 get d \"a\" = 1\nd = {\"a\": 1}\nd = {\"a\": 1}\n",
+        status: 7,
+        fault: Fault::NotLegal(4, Rule::World),
+        put: "not legal at 4: world\n",
+        ..LEGAL
+    },
+    Checked {
+        transcript: "A.1 w0 set d \"a\" 1 ok\n",
+        status: 8,
+        fault: Fault::Transcript(1),
+        put: "",
+        told: "ftpy: transcript line 1\n",
+        ..LEGAL
+    },
+    // The line of an entry stands behind one of a content.
+    Checked {
+        transcript: "A.1 w0 set d \"a\" 1 = ok\nd = {\"a\": 1}\nA.2 r1 get d \"a\" = 1\n",
+        status: 8,
+        fault: Fault::Transcript(3),
+        put: "",
+        told: "ftpy: transcript line 3\n",
+        ..LEGAL
+    },
+    Checked {
+        script: "dict d\nthread A\nset d 1\n",
+        status: 1,
+        fault: Fault::Script(3, 3),
+        put: "",
+        told: "ftpy: line 3: 3 wrong count of words\n",
+        ..LEGAL
+    },
+    // The first of two such lines parts the input.
+    Checked {
+        script: "dict d\n---\nthread A\n",
+        transcript: "d = {}\n",
+        status: 8,
+        fault: Fault::Transcript(1),
+        put: "",
+        told: "ftpy: transcript line 1\n",
+    },
+];
+
+fn case_of<'a>(checked: &Checked<'a>, input: &'a str) -> Case<'a> {
+    Case {
+        command: "check",
+        input,
+        status: checked.status,
+        fault: checked.fault,
+        put: checked.put,
+        told: checked.told,
+        entries: 0,
+        ..EXAMPLE
+    }
+}
+
+#[test]
+fn transcripts_are_checked(rt: HostRuntime) -> Result<(), Fail> {
+    let alloc = rt.alloc();
+    for checked in &CHECKS {
+        let script = checked.script;
+        let transcript = checked.transcript;
+        let input = format!(in alloc; "{script}---\n{transcript}")?;
+        check(&rt, &case_of(checked, input.as_str()))?;
+    }
+    // What a run writes is legal.
+    for run in &RUNS {
+        let script = run.input;
+        let transcript = run.put;
+        let input = format!(in alloc; "{script}---\n{transcript}")?;
+        check(&rt, &case_of(&LEGAL, input.as_str()))?;
+    }
+    Ok(())
+}
+
+#[test]
+fn a_transcript_stands_behind_the_line(rt: HostRuntime) -> Result<(), Fail> {
+    let missing = Checked {
+        status: 8,
+        fault: Fault::Transcript(1),
+        put: "",
+        told: "ftpy: transcript line 1\n",
+        ..LEGAL
+    };
+    for input in ["", SCRIPT, "#---\n", "# ---\n#"] {
+        check(&rt, &case_of(&missing, input))?;
+    }
+    let unknown = Checked {
+        status: 1,
+        fault: Fault::Script(1, 2),
+        told: "ftpy: line 1: 2 unknown word\n",
+        ..missing
+    };
+    check(&rt, &case_of(&unknown, "----\n"))?;
+    // The last line feed may be missing.
+    check(&rt, &case_of(&LEGAL, "---"))?;
+    let empty = Checked {
+        status: 7,
+        fault: Fault::NotLegal(1, Rule::Missing),
+        put: "not legal at 1: missing\n",
+        ..LEGAL
+    };
+    check(
+        &rt,
+        &case_of(&empty, "dict d\nthread A\nset d \"a\" 1\nget d \"a\"\n---"),
+    )
+}
+
+#[test]
+fn a_check_whose_stream_fails_is_told(rt: HostRuntime) -> Result<(), Fail> {
+    let read = Case {
+        most: 3,
+        take_fails: 2,
+        status: 3,
+        fault: Fault::Read,
+        put: "",
+        told: "ftpy: read fault\n",
+        ..case_of(&LEGAL, "---\n")
+    };
+    check(&rt, &read)?;
+    let write = Case {
+        take_fails: 0,
+        put_fails: 2,
+        status: 4,
+        fault: Fault::Write,
+        put: "leg",
+        told: "ftpy: write fault\n",
+        ..read
+    };
+    check(&rt, &write)?;
+    // A broken rule stays the fault.
+    let broken = Case {
+        input: "thread A\nquiesce\n---\n",
+        status: 7,
+        fault: Fault::NotLegal(1, Rule::Missing),
+        put: "not",
+        told: "",
+        ..write
+    };
+    check(&rt, &broken)
+}
+
 #[test]
 fn a_stream_that_fails_is_told(rt: HostRuntime) -> Result<(), Fail> {
     let read = Case {
@@ -364,18 +581,28 @@ fn a_stream_that_fails_is_told(rt: HostRuntime) -> Result<(), Fail> {
 }
 
 #[test]
-fn more_than_a_script_may_have_is_too_long(rt: HostRuntime) -> Result<(), Fail> {
+fn more_than_is_taken_is_too_long(rt: HostRuntime) -> Result<(), Fail> {
     let alloc = rt.alloc();
-    let words = words_of(alloc, "turns")?;
-    let input = vec![in alloc; b'#'; 4_194_305]?;
-    let mut source = MemSource::new(input, 1_000_000, Vec::new(alloc));
-    let mut sink = MemSink::new(alloc, 100, 100, Vec::new(alloc))?;
-    let mut errors = MemSink::new(alloc, 100, 100, Vec::new(alloc))?;
-    let report: Option<Report> = run_still(alloc, &words, &mut source, &mut sink, &mut errors);
-    let report = report.ok_or("no report")?;
-    assert_eq!(rt; report.status, 6);
-    assert_eq!(rt; sink.bytes(), b"".as_slice());
-    assert_eq!(rt; errors.bytes(), b"ftpy: too long\n".as_slice());
+    for (command, count, behind, status, put, told) in [
+        ("turns", 4_194_305, "", 6, "", "ftpy: too long\n"),
+        ("check", 4_194_305, "", 6, "", "ftpy: too long\n"),
+        ("check", 4_194_304, "", 8, "", "ftpy: transcript line 1\n"),
+        // The line begins at the last place that it may, and at the next.
+        ("check", 4_194_303, "\n---\n", 0, "legal\n", ""),
+        ("check", 4_194_304, "\n---\n", 6, "", "ftpy: too long\n"),
+    ] {
+        let words = words_of(alloc, command)?;
+        let mut input = vec![in alloc; b'#'; count]?;
+        input.extend_from_slice(behind.as_bytes())?;
+        let mut source = MemSource::new(input, 1_000_000, Vec::new(alloc));
+        let mut sink = MemSink::new(alloc, 100, 100, Vec::new(alloc))?;
+        let mut errors = MemSink::new(alloc, 100, 100, Vec::new(alloc))?;
+        let report: Option<Report> = run_still(alloc, &words, &mut source, &mut sink, &mut errors);
+        let report = report.ok_or("no report")?;
+        assert_eq!(rt; report.status, status);
+        assert_eq!(rt; sink.bytes(), put.as_bytes());
+        assert_eq!(rt; errors.bytes(), told.as_bytes());
+    }
     Ok(())
 }
 

@@ -1,18 +1,20 @@
 ghost use Rattle.ft_runner.specs.declared.command.Subcommand.TheVariants as subcommand;
 ghost use Rattle.ft_runner.specs.declared.report.Fault.TheVariants as fault;
 ghost use Rattle.ft_runner.specs.declared.command.Subcommand.{Subcommand};
-ghost use Rattle.std.specs.Prelude.{◌≡◌, ℕ, List, Option, Some, map, string_bytes, IfErr, IfNone, IfSome};
-ghost use Rattle.ft_runner.specs.Commands.{command_of};
-ghost use Rattle.ft_runner.specs.Reports.{stream, error_line, status_of, IsAsked, IsRunOf, IsDone, IsReport, Told};
+ghost use Rattle.std.specs.Prelude.{◌≡◌, false, Option, Some, map, string_bytes, IfErr, IfNone, IfSome};
+ghost use Rattle.ft_runner.specs.Commands.{command_of, is_check};
+ghost use Rattle.ft_runner.specs.Streams.{stream, Told};
+ghost use Rattle.ft_runner.specs.Reports.{error_line, status_of, IsAsked, IsRunOf, IsDone, IsReport};
 
+use crate::checking::check_text;
 use crate::command::{Subcommand, read_command};
 use crate::errors::tell;
-use crate::reading::read_all;
+use crate::outcome::{Outcome, Refusal};
+use crate::reading::{read_all, read_input};
 use crate::report::{Fault, Report};
 use crate::writing::{WriteFault, write_all};
 use ft_io::{Sink, Source};
-use ft_model::Entry;
-use ft_script::{ScriptFault, Which, parse};
+use ft_script::parse;
 use ft_turns::run_turns;
 use std::alloc::Global;
 use std::sync::Wait;
@@ -106,64 +108,6 @@ fn report<E: Sink>(errors: &mut E, outcome: Outcome) -> Report
     }
 }
 
-/// What a command has come to.
-#[derive(Debug, Drop)]
-struct Outcome {
-    fault: Fault,
-    /// The limit that a faulty script passes.
-    limit: Option<Which>,
-    history: Vec<Entry>,
-}
-
-impl Outcome {
-    ghost use Rattle.std.specs.Prelude.{◌≡◌, [], None};
-    ghost use Rattle.ft_runner.specs.Reports.{refusal_of};
-
-    /// A fault without a history.
-    fn of(alloc: Global, fault: Fault) -> Outcome
-        ensures fault { result.fault ≡ fault }
-        ensures limit { result.limit ≡ None }
-        ensures history { result.history.items ≡ [] }
-    {
-        Outcome {
-            fault,
-            limit: None,
-            history: Vec::new(alloc),
-        }
-    }
-
-    /// What is told of a text that is refused.
-    fn refused(alloc: Global, refused: ScriptFault) -> Outcome
-        ensures fault { result.fault ≡ refusal_of refused }
-        ensures limit { result.limit ≡ refused.which }
-        ensures history { result.history.items ≡ [] }
-    {
-        let fault = if refused.is_memory() {
-            Fault::Memory
-        } else {
-            Fault::Script(refused.line, refused.kind)
-        };
-        Outcome {
-            fault,
-            limit: refused.which,
-            history: Vec::new(alloc),
-        }
-    }
-
-    /// A history that was written, whole or in part.
-    fn with(fault: Fault, history: Vec<Entry>) -> Outcome
-        ensures fault { result.fault ≡ fault }
-        ensures limit { result.limit ≡ None }
-        ensures history { result.history.items ≡ history.items }
-    {
-        Outcome {
-            fault,
-            limit: None,
-            history,
-        }
-    }
-}
-
 /// Does what is asked, but for the errors' line.
 fn perform<S: Source, K: Sink>(
     alloc: Global,
@@ -182,7 +126,7 @@ fn perform<S: Source, K: Sink>(
     }
 }
 
-/// Does a command. The calls of all threads are made on this one yet.
+/// Does a command.
 fn obey<S: Source, K: Sink>(
     alloc: Global,
     command: Subcommand,
@@ -190,6 +134,30 @@ fn obey<S: Source, K: Sink>(
     sink: &mut K,
 ) -> Outcome
     ensures { IsDone (Some command)
+        (stream (S.left source.old) (S.faults source.old)) (stream (S.left source.new) (S.faults source.new))
+        (stream (K.taken sink.old) (K.faults sink.old)) (stream (K.taken sink.new) (K.faults sink.new)) result.fault result.limit result.history.items }
+{
+    match command {
+        Subcommand::Check => check(alloc, source, sink),
+        Subcommand::Run | Subcommand::Turns => run(alloc, source, sink),
+    }
+}
+
+/// Reads a script, a line and a transcript, and checks it.
+fn check<S: Source, K: Sink>(alloc: Global, source: &mut S, sink: &mut K) -> Outcome
+    ensures { IsDone (Some subcommand.Check)
+        (stream (S.left source.old) (S.faults source.old)) (stream (S.left source.new) (S.faults source.new))
+        (stream (K.taken sink.old) (K.faults sink.old)) (stream (K.taken sink.new) (K.faults sink.new)) result.fault result.limit result.history.items }
+{
+    match read_input(alloc, source) {
+        Ok(bytes) => check_text(alloc, &bytes, sink),
+        Err(fault) => Outcome::of(alloc, fault),
+    }
+}
+
+/// Reads a script, and runs it. The calls of all threads are made on this one yet.
+fn run<S: Source, K: Sink>(alloc: Global, source: &mut S, sink: &mut K) -> Outcome
+    ensures { (command : Subcommand) → is_check (Some command) ≡ false → IsDone (Some command)
         (stream (S.left source.old) (S.faults source.old)) (stream (S.left source.new) (S.faults source.new))
         (stream (K.taken sink.old) (K.faults sink.old)) (stream (K.taken sink.new) (K.faults sink.new)) result.fault result.limit result.history.items }
 {
@@ -201,11 +169,11 @@ fn obey<S: Source, K: Sink>(
 
 /// Runs the script that the bytes are, and writes its history.
 fn run_text<K: Sink>(alloc: Global, bytes: &[u8], sink: &mut K) -> Outcome
-    ensures { (command : Option Subcommand) → IsRunOf command bytes.now (stream (K.taken sink.old) (K.faults sink.old)) (stream (K.taken sink.new) (K.faults sink.new)) result.fault result.limit result.history.items }
+    ensures { (command : Option Subcommand) → is_check command ≡ false → IsRunOf command bytes.now (stream (K.taken sink.old) (K.faults sink.old)) (stream (K.taken sink.new) (K.faults sink.new)) result.fault result.limit result.history.items }
 {
     let script = match parse(alloc, bytes) {
         Ok(script) => script,
-        Err(refused) => return Outcome::refused(alloc, refused),
+        Err(refused) => return Outcome::refused(alloc, Refusal::script(refused)),
     };
     let Ok(run) = run_turns(alloc, &script) else {
         return Outcome::of(alloc, Fault::Memory);

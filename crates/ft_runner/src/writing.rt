@@ -2,7 +2,7 @@ ghost use Rattle.std.specs.Prelude.{◌≡◌, true, ◌++◌, All, OnOk, OnErr}
 ghost use Rattle.ft_model.specs.Parts.{IsEntryOf, IsWorldOf};
 ghost use Rattle.ft_script.specs.Texts.{entry_line, world_text};
 ghost use Rattle.std.specs.List.{flat_map};
-ghost use Rattle.ft_runner.specs.Reports.{stream, IsPart, IsBuffered, Puts, Writes};
+ghost use Rattle.ft_runner.specs.Streams.{stream, IsPart, IsBuffered, Puts, Writes};
 
 use ft_io::{Failed, Sink};
 use ft_model::{Entry, Script, World};

@@ -1,4 +1,4 @@
-use Rattle.std.proofs.Common.{◌≡◌, true, List, [], Option, Some, None, refl, sym, ap, subst, inl, inr, ◌∙◌, map}
+use Rattle.std.proofs.Common.{◌≡◌, true, [], Option, Some, None, refl, sym, ap, subst, inl, inr, ◌∙◌, map}
 use Rattle.std.specs.Prelude.{Box, option_and_then, option_map, string_bytes}
 use Rattle.std.specs.Box.{box_value}
 use Rattle.std.proofs.lemmas.Bool.{false≢true}

@@ -10,4 +10,4 @@ pub returns-in-TooLong : goal.returns-in-TooLong
 returns-in-TooLong g c = rw c.in-TooLong.is c.put_all-in-TooLong.ensures
 
 pub returns-in-Transcript : goal.returns-in-Transcript
-returns-in-Transcript g c = rw c.in-Transcript.is c.put_number.ensures
+returns-in-Transcript g c = rw c.in-Transcript.is (rw c.from.ensures at c.put_number.ensures)

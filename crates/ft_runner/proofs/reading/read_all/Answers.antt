@@ -1,7 +1,7 @@
 use Rattle.std.proofs.Common.{◌≡◌, ℕ, List, [], ◌++◌, false, refl, sym, subst, arith, length, take, drop, ap, ◌∙◌, ◌+◌}
 use Rattle.std.proofs.lemmas.Bool.{lt-ltb, le-ltb}
 use Rattle.std.proofs.lemmas.List.{append-nil, with_items_is, length-append, length-take-le}
-use Rattle.ft_runner.specs.Reports.{stream, Gives}
+use Rattle.ft_runner.specs.Streams.{stream, Gives}
 use Rattle.ft_runner.proofs.StreamLemmas.{Gives-none, Gives-then, Gives-fails}
 use Rattle.ft_runner.proofs.reading.read_all.Goals as goal
 
@@ -34,7 +34,7 @@ returns-then-count-eq0 g c =
     let d = stream (source.left c.take.new.self) (source.faults c.take.new.self) in
     let none : Gives b [] false d = record { content = rw c.if-count-eq0.true at c.in-Ok-take.ensures.bytes; faults = c.in-Ok-take.ensures.faults } in
     record {
-      gives = subst (λ (bytes : List ℕ). Gives a bytes false d) (append-nil c.loop.bytes.items) (Gives-then a b d c.loop.bytes.items [] c.loop.invariant.gives none);
+      gives = subst (λ (bytes : List ℕ). Gives a bytes false d) (append-nil c.loop.bytes.items) (Gives-then a b d c.loop.bytes.items [] false c.loop.invariant.gives none);
       few = c.loop.invariant.few;
       ended = c.in-Ok-take.ensures.end c.if-count-eq0.true (omega (arith, c.loop.invariant.buffer));
     }
@@ -48,7 +48,7 @@ returns-then-count-len g c =
     let piece = take c.in-Ok-take.count c.take.new.buf in
     record {
       came = c.loop.bytes.items ++ piece;
-      gives = Gives-then a b d c.loop.bytes.items piece c.loop.invariant.gives (record { content = c.in-Ok-take.ensures.bytes; faults = c.in-Ok-take.ensures.faults });
+      gives = Gives-then a b d c.loop.bytes.items piece false c.loop.invariant.gives (record { content = c.in-Ok-take.ensures.bytes; faults = c.in-Ok-take.ensures.faults });
       too_long = sym (lt-ltb 4194304 (length (c.loop.bytes.items ++ piece)) (omega (arith, length-append c.loop.bytes.items piece, length-take-le c.in-Ok-take.count c.take.new.buf (omega (arith, c.take.auto.buf, c.in-Ok-take.ensures.count)))));
       few = omega (arith, length-append c.loop.bytes.items piece, length-take-le c.in-Ok-take.count c.take.new.buf (omega (arith, c.take.auto.buf, c.in-Ok-take.ensures.count)), c.in-Ok-take.ensures.count, c.take.auto.buf, c.deref_mut.ensures.len, c.loop.invariant.buffer, c.loop.buffer.ok.0, c.loop.invariant.few);
       cause = refl;
@@ -63,7 +63,7 @@ returns-in_default-extend_from_slice g c =
     let piece = take c.in-Ok-take.count c.take.new.buf in
     record {
       came = c.loop.bytes.items ++ piece;
-      gives = Gives-then a b d c.loop.bytes.items piece c.loop.invariant.gives (record { content = c.in-Ok-take.ensures.bytes; faults = c.in-Ok-take.ensures.faults });
+      gives = Gives-then a b d c.loop.bytes.items piece false c.loop.invariant.gives (record { content = c.in-Ok-take.ensures.bytes; faults = c.in-Ok-take.ensures.faults });
       too_long = sym (le-ltb 4194304 (length (c.loop.bytes.items ++ piece)) (omega (arith, length-append c.loop.bytes.items piece, length-take-le c.in-Ok-take.count c.take.new.buf (omega (arith, c.take.auto.buf, c.in-Ok-take.ensures.count)))));
       few = omega (arith, length-append c.loop.bytes.items piece, length-take-le c.in-Ok-take.count c.take.new.buf (omega (arith, c.take.auto.buf, c.in-Ok-take.ensures.count)), c.in-Ok-take.ensures.count, c.take.auto.buf, c.deref_mut.ensures.len, c.loop.invariant.buffer, c.loop.buffer.ok.0, c.loop.invariant.few);
       cause = refl;
@@ -80,12 +80,13 @@ loop-preserved g c =
     let piece = take c.in-Ok-take.count read in
     let whole : length read ≡ c.loop.buffer.len = omega (arith, c.take.auto.buf, c.deref_mut.ensures.len) in
     let same : take c.loop.buffer.len (read ++ drop (length read) c.loop.buffer.items) ≡ read = with_items_is c.loop.buffer read whole in
-    let items : c.extend_from_slice.new.self.items ≡ old ++ piece = c.in-Ok-extend_from_slice.ensures.items ∙ ap (λ (bytes : List ℕ). old ++ take c.in-Ok-take.count bytes) (c.deref.ensures.value ∙ same) in
+    let there : c.deref.result.now ≡ read = c.deref.ensures.value ∙ same in
+    let items : c.extend_from_slice.new.self.items ≡ old ++ piece = rw there at c.in-Ok-extend_from_slice.ensures.items in
     let size : length piece ≡ c.in-Ok-take.count = length-take-le c.in-Ok-take.count read (omega (arith, c.take.auto.buf, c.in-Ok-take.ensures.count)) in
     let count : length c.extend_from_slice.new.self.items ≡ length old + c.in-Ok-take.count = ap length items ∙ omega (arith, length-append old piece, size) in
     record {
-      gives = rw items (Gives-then a b d old piece c.loop.invariant.gives (record { content = c.in-Ok-take.ensures.bytes; faults = c.in-Ok-take.ensures.faults }));
+      gives = rw items (Gives-then a b d old piece false c.loop.invariant.gives (record { content = c.in-Ok-take.ensures.bytes; faults = c.in-Ok-take.ensures.faults }));
       few = omega (arith, count, c.loop.invariant.few);
       turns = omega (arith, count, c.loop.invariant.turns);
-      buffer = ap length same ∙ omega (arith, whole, c.loop.invariant.buffer, c.loop.buffer.ok.0);
+      buffer = omega (arith, ap length same, whole, c.loop.invariant.buffer, c.loop.buffer.ok.0);
     }

@@ -1,5 +1,5 @@
 use Rattle.std.proofs.Common.{◌≡◌, false, ◌≤◌, length}
-use Rattle.ft_runner.specs.Reports.{stream, Gives}
+use Rattle.ft_runner.specs.Streams.{stream, Gives}
 use Rattle.ft_runner.proofs.reading.read_all.Given as goal
 
 abbrev pub invariant-loop : goal.invariant-loop

@@ -1,5 +1,6 @@
-use Rattle.std.proofs.Common.{Err, subst}
-use Rattle.ft_runner.specs.Reports.{stream, IsAsked}
+use Rattle.std.proofs.Common.{subst}
+use Rattle.ft_runner.specs.Streams.{stream}
+use Rattle.ft_runner.specs.Reports.{IsAsked}
 use Rattle.ft_runner.proofs.ReportLemmas.{refused_done}
 use Rattle.ft_runner.proofs.tool.perform.Goals as goal
 

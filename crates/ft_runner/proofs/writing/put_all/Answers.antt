@@ -1,7 +1,7 @@
 use Rattle.std.proofs.Common.{arith, take, drop}
 use Rattle.std.proofs.lemmas.List.{take-append-drop, take_rest, length-take, length-drop}
 use Rattle.std.proofs.lemmas.Result.{err_from_is_err_and}
-use Rattle.ft_runner.specs.Reports.{stream}
+use Rattle.ft_runner.specs.Streams.{stream}
 use Rattle.ft_runner.proofs.StreamLemmas.{Receives-fails, Receives-piece}
 use Rattle.ft_runner.proofs.writing.put_all.Goals as goal
 

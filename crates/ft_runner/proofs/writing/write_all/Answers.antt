@@ -1,10 +1,10 @@
-use Rattle.std.proofs.Common.{ℕ, ◌+◌, ◌∙◌, ap, List, [], ◌++◌, subst, true, false, get_or, take, drop}
+use Rattle.std.proofs.Common.{◌≡◌, ℕ, ◌+◌, List, [], ◌++◌, subst, true, false, get_or, take, drop}
 use Rattle.std.specs.List.{flat_map}
 use Rattle.std.proofs.lemmas.List.{append-nil}
 use Rattle.std.proofs.lemmas.Result.{err_from_is_err_and}
 use Rattle.ft_model.specs.declared.entry.Entry.{Entry}
 use Rattle.ft_script.specs.Texts.{entry_line, world_text}
-use Rattle.ft_runner.specs.Reports.{stream, IsPart, IsBuffered}
+use Rattle.ft_runner.specs.Streams.{stream, IsPart, IsBuffered}
 use Rattle.ft_runner.proofs.StreamLemmas.{IsBuffered-then, IsBuffered-push, IsPart-put, IsPart-then, flat_map-split, flat_map-more, flat_map-all}
 use Rattle.ft_runner.proofs.writing.write_all.Goals as goal
 
@@ -31,7 +31,7 @@ returns-in_err-put_full g c =
     let world = world_text c.args.script.now c.args.world.now in
     let r = err_from_is_err_and c.from_residual-in_err-put_full.result c.from_residual-in_err-put_full.ensures.1 in
     let entry = c.entry-item.result in
-    let pushed = IsBuffered-push a b c.loop-entry.buffer.items c.push_entry.new.out.items (flat_map lines (take i entries)) (lines (get_or entries i entry)) c.loop-entry.invariant (c.in_ok-push_entry.ensures ∙ ap (λ (e : Entry). c.loop-entry.buffer.items ++ lines e) c.entry-item.is) in
+    let pushed = IsBuffered-push a b c.loop-entry.buffer.items c.push_entry.new.out.items (flat_map lines (take i entries)) (lines (get_or entries i entry)) c.loop-entry.invariant (subst (λ (e : Entry). c.push_entry.new.out.items ≡ c.loop-entry.buffer.items ++ lines e) c.entry-item.is c.in_ok-push_entry.ensures) in
     let more : IsBuffered a b c.push_entry.new.out.items (flat_map lines (take (i + 1) entries)) = subst (λ (text : List ℕ). IsBuffered a b c.push_entry.new.out.items text) (flat_map-more lines entries i entry c.loop-entry-test.true) pushed in
     rw (r.1, r.2) (subst (λ (text : List ℕ). IsPart a text true d) (flat_map-split lines entries (i + 1) world) (IsPart-then a b d c.push_entry.new.out.items (flat_map lines (take (i + 1) entries)) (flat_map lines (drop (i + 1) entries) ++ world) more c.in_err-put_full.ensures.err))
 
@@ -45,7 +45,7 @@ loop-entry-preserved g c =
     let entries = c.args.entries.now in
     let i = c.loop-entry.entry-index in
     let entry = c.entry-item.result in
-    let pushed = IsBuffered-push a b c.loop-entry.buffer.items c.push_entry.new.out.items (flat_map lines (take i entries)) (lines (get_or entries i entry)) c.loop-entry.invariant (c.in_ok-push_entry.ensures ∙ ap (λ (e : Entry). c.loop-entry.buffer.items ++ lines e) c.entry-item.is) in
+    let pushed = IsBuffered-push a b c.loop-entry.buffer.items c.push_entry.new.out.items (flat_map lines (take i entries)) (lines (get_or entries i entry)) c.loop-entry.invariant (subst (λ (e : Entry). c.push_entry.new.out.items ≡ c.loop-entry.buffer.items ++ lines e) c.entry-item.is c.in_ok-push_entry.ensures) in
     let more : IsBuffered a b c.push_entry.new.out.items (flat_map lines (take (i + 1) entries)) = subst (λ (text : List ℕ). IsBuffered a b c.push_entry.new.out.items text) (flat_map-more lines entries i entry c.loop-entry-test.true) pushed in
     IsBuffered-then a b d c.push_entry.new.out.items c.put_full.new.buffer.items (flat_map lines (take (i + 1) entries)) more c.in_ok-put_full.ensures.ok
 

@@ -1,0 +1,69 @@
+-- The input of `check`, read in two parts.
+use Rattle.std.proofs.Common.{◌≡◌, ◌∙◌, ℕ, Bool, true, false, List, [], ◌++◌, Ok, Err, refl, sym, subst, ap, arith, inl, inr}
+use Rattle.std.proofs.lemmas.Bool.{false≢true}
+use Rattle.std.proofs.lemmas.List.{length-append}
+use Rattle.ft_runner.specs.declared.report.Fault.{Fault}
+use Rattle.ft_runner.specs.declared.report.Fault.TheVariants as fault
+use Rattle.ft_runner.specs.Checking.{EndsFilling, Fills, IsReadToItsEnd, IsScriptFew, IsScriptLong, IsWithin, StopsInput}
+use Rattle.ft_runner.specs.Streams.{Gives, Stream}
+use Rattle.ft_runner.proofs.MarkLemmas.{IsScriptFew-stays, IsScriptLong-stays}
+use Rattle.ft_runner.proofs.StreamLemmas.{Gives-then}
+
+-- ---- what one part and the next give
+
+-- what was read from the beginning on
+pub gives_first : (a b : Stream) (old new : List ℕ) (most : ℕ) (ended : Bool) → old ≡ [] → Fills a old most (Ok ended) new b → Gives a new false b
+gives_first a b old new most ended none p = subst (λ (bytes : List ℕ). Gives a bytes false b) (sym (p.1 ∙ ap (λ (bytes : List ℕ). bytes ++ p.0) none)) p.2
+
+gives_second : (a b d : Stream) (bytes new : List ℕ) (most : ℕ) (ended : Bool) → Gives a bytes false b → Fills b bytes most (Ok ended) new d → Gives a new false d
+gives_second a b d bytes new most ended gives p = subst (λ (read : List ℕ). Gives a read false d) (sym p.1) (Gives-then a b d bytes p.0 false gives p.2)
+
+-- ---- reading stops
+
+pub stops_second : (a b d : Stream) (f : Fault) (bytes new : List ℕ) → Gives a bytes false b → Fills b bytes 67108864 (Err f) new d → StopsInput f a d
+stops_second a b d f bytes new first p =
+    record {
+      came = bytes ++ p.0;
+      gives = Gives-then a b d bytes p.0 _ first p.1;
+      too_long = λ long. absurd (false≢true (sym p.4 ∙ long));
+      few = omega (arith, p.2, length-append bytes p.0);
+      cause = p.3;
+    }
+
+-- ---- it is too long
+
+pub long_script : (a b : Stream) (bytes : List ℕ) (ended : Bool) → Gives a bytes false b → EndsFilling ended 4194307 bytes b → IsScriptLong bytes → StopsInput fault.TooLong a b
+long_script a b bytes true gives ends long =
+    record {
+      came = bytes;
+      gives = gives;
+      too_long = λ is. inr (inr long, record { gives = gives; ended = ends.1 });
+      few = omega (arith, ends.0);
+      cause = refl;
+    }
+long_script a b bytes false gives ends long =
+    record {
+      came = bytes;
+      gives = gives;
+      too_long = λ is. inl (λ more. inr (IsScriptLong-stays bytes more ends.0 long));
+      few = omega (arith, ends.1);
+      cause = refl;
+    }
+
+pub long_input : (a b d : Stream) (bytes new : List ℕ) → Gives a bytes false b → Fills b bytes 67108864 (Ok false) new d → StopsInput fault.TooLong a d
+long_input a b d bytes new gives p =
+    record {
+      came = new;
+      gives = gives_second a b d bytes new 67108864 false gives p;
+      too_long = λ is. inl (λ more. inl (omega (arith, p.3.0, length-append new more)));
+      few = p.3.1;
+      cause = refl;
+    }
+
+-- ---- it is read to its end
+
+pub whole_input : (a b d : Stream) (bytes new : List ℕ) → Gives a bytes false b → EndsFilling false 4194307 bytes b → IsScriptFew bytes → Fills b bytes 67108864 (Ok true) new d → IsReadToItsEnd a new d × IsWithin new
+whole_input a b d bytes new gives far few p = (
+  record { gives = gives_second a b d bytes new 67108864 true gives p; ended = p.3.1 },
+  record { few = p.3.0; script_few = subst IsScriptFew (sym p.1) (IsScriptFew-stays bytes p.0 far.0 few) },
+)

@@ -1,0 +1,16 @@
+use Rattle.std.proofs.Common.{◌≡◌, ◌≤◌, ◌+◌, ◌-◌, ◌++◌, ℕ, List, false, length}
+use Rattle.ft_runner.specs.Streams.{stream, Gives}
+use Rattle.ft_runner.proofs.reading.fill.Given as goal
+
+-- what came stands behind the bytes that were there
+abbrev pub invariant-loop-source : goal.invariant-loop-source
+invariant-loop-source g l =
+    let source = g.S.Source in
+    record {
+      came : (more : List ℕ) × (l.bytes.items ≡ l.fn.bytes.items ++ more) × Gives (stream (source.left l.fn.source) (source.faults l.fn.source)) more false (stream (source.left l.source) (source.faults l.source));
+      few : length l.bytes.items ≤ l.most + 65536;
+      buffer : length l.buffer.items ≡ 65536;
+    }
+
+abbrev pub decreases-loop-source : goal.decreases-loop-source
+decreases-loop-source g l = l.most + 1 - length l.bytes.items

@@ -1,0 +1,94 @@
+-- What `check` reads. (profile)
+use Rattle.std.specs.Prelude.{◌≡◌, ◌≤◌, ◌<◌, ◌⊎◌, ℕ, ◌+◌, ◌-◌, ◌==◌, ◌&&◌, ◌||◌, Bool, true, false, List, ◌++◌, [], length, take, drop, codes, slice_index_or, IfSome, Result, Ok, Err, Vec}
+use Rattle.std.specs.declared.alloc.Global.{Global}
+use Rattle.std.specs.Str.{bytes_eq}
+use Rattle.ft_runner.specs.declared.report.Fault.{Fault}
+use Rattle.ft_runner.specs.Streams.{script_limit, is_read, is_too_long, stops_reading, Gives, Stream}
+
+-- ---- the two parts of the input
+
+-- whether a line begins at the place
+abbrev pub begins_line : List ℕ → ℕ → Bool
+begins_line bytes place = place == 0 || slice_index_or bytes (place - 1) 0 == 10
+
+-- whether the bytes are `---` to the letter, with a line feed or without one
+abbrev pub is_mark : List ℕ → Bool
+is_mark bytes = bytes_eq bytes (codes "---\n") || bytes_eq bytes (codes "---")
+
+-- whether a line that is `---` begins there; its line feed may be missing at the end of the bytes
+abbrev pub is_mark_at : List ℕ → ℕ → Bool
+is_mark_at bytes place = begins_line bytes place && is_mark (take 4 (drop place bytes))
+
+-- the first line that is `---` begins at the place
+pub record IsMark (bytes : List ℕ) (place : ℕ) : Type 0 where
+  pub inside : place < length bytes
+  pub here : is_mark_at bytes place ≡ true
+  pub first : (earlier : ℕ) → earlier < place → is_mark_at bytes earlier ≡ false
+
+-- no line is `---`
+abbrev pub HasNoMark : List ℕ → Type 0
+HasNoMark bytes = (place : ℕ) → place < length bytes → is_mark_at bytes place ≡ false
+
+-- the script is what stands before the line, or all bytes where there is none
+abbrev pub IsScriptPart : List ℕ → List ℕ → Type 0
+IsScriptPart bytes text = (HasNoMark bytes × (text ≡ bytes)) ⊎ ((place : ℕ) × IsMark bytes place × (text ≡ take place bytes))
+
+-- ---- limits
+
+-- the most bytes that a script and a transcript may have together
+abbrev pub input_limit : ℕ
+input_limit = 67108864
+
+-- the script is not too long: all bytes are few enough, or those before the first line that is `---`
+abbrev pub IsScriptFew : List ℕ → Type 0
+IsScriptFew bytes = (length bytes ≤ script_limit) ⊎ ((place : ℕ) × (place ≤ script_limit) × IsMark bytes place)
+
+-- or it is
+abbrev pub IsScriptLong : List ℕ → Type 0
+IsScriptLong bytes = (script_limit < length bytes) × ((place : ℕ) → place ≤ script_limit → is_mark_at bytes place ≡ false)
+
+-- more bytes than are taken, in all or before the line
+abbrev pub IsPast : List ℕ → Type 0
+IsPast bytes = (input_limit < length bytes) ⊎ IsScriptLong bytes
+
+-- no more bytes than are taken
+pub record IsWithin (bytes : List ℕ) : Type 0 where
+  pub few : length bytes ≤ input_limit
+  pub script_few : IsScriptFew bytes
+
+-- no more bytes are read than are taken and one piece
+abbrev pub most_checked : ℕ
+most_checked = input_limit + 65536
+
+-- all that a source gives is read
+pub record IsReadToItsEnd (before : Stream) (bytes : List ℕ) (after : Stream) : Type 0 where
+  pub gives : Gives before bytes false after
+  pub ended : IfSome after.content (λ rest. rest ≡ [])
+
+-- whatever follows the bytes is too long, or they are, and are all there is
+abbrev pub IsTooLong : Stream → List ℕ → Stream → Type 0
+IsTooLong before came after = ((more : List ℕ) → IsPast (came ++ more)) ⊎ (IsPast came × IsReadToItsEnd before came after)
+
+-- reading stops at a fault, behind the bytes that came
+pub record StopsInput (fault : Fault) (before after : Stream) : Type 0 where
+  pub came : List ℕ
+  pub gives : Gives before came (is_read fault) after
+  pub too_long : is_too_long fault ≡ true → IsTooLong before came after
+  pub few : length came ≤ most_checked
+  pub cause : stops_reading fault ≡ true
+
+abbrev pub ReadsInput : Stream → Result (Vec ℕ Global) Fault → Stream → Type 0
+ReadsInput before (Ok bytes) after = IsReadToItsEnd before bytes.items after × IsWithin bytes.items
+ReadsInput before (Err fault) after = StopsInput fault before after
+
+-- ---- what is read in one part of it
+
+-- the source has ended, or more than so many bytes are there
+abbrev pub EndsFilling : Bool → ℕ → List ℕ → Stream → Type 0
+EndsFilling true most bytes after = (length bytes ≤ most) × IfSome after.content (λ rest. rest ≡ [])
+EndsFilling false most bytes after = (most < length bytes) × (length bytes ≤ most + 65536)
+
+-- a source is read on behind these bytes, until it ends or more than so many are there
+abbrev pub Fills : Stream → List ℕ → ℕ → Result Bool Fault → List ℕ → Stream → Type 0
+Fills before old most (Ok ended) new after = (came : List ℕ) × (new ≡ old ++ came) × Gives before came false after × EndsFilling ended most new after
+Fills before old most (Err fault) new after = (came : List ℕ) × Gives before came (is_read fault) after × (length old + length came ≤ most + 65536) × (stops_reading fault ≡ true) × (is_too_long fault ≡ false)

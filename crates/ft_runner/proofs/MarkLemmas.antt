@@ -1,8 +1,8 @@
 -- The line `---` in bytes that go on, and what is too long.
-use Rattle.std.proofs.Common.{◌≡◌, ◌∙◌, ℕ, ◌+◌, ◌-◌, ◌<◌, ◌≤◌, ◌==◌, ◌&&◌, ◌||◌, List, [], ◌++◌, length, take, drop, sym, ap, ap₂, subst, arith, inl, inr}
+use Rattle.std.proofs.Common.{◌≡◌, ◌∙◌, ℕ, ◌+◌, ◌-◌, ◌<◌, ◌≤◌, ◌==◌, ◌&&◌, ◌||◌, List, [], ◌++◌, Option, Some, None, length, take, drop, sym, ap, ap₂, subst, arith, inl, inr}
 use Rattle.std.proofs.lemmas.Bool.{cases_lt, true≢false}
 use Rattle.std.proofs.lemmas.List.{append-nil, drop-append-le, get_or_append_left, length-append, length-drop, take-append-le}
-use Rattle.ft_runner.specs.Checking.{begins_line, is_mark, is_mark_at, HasNoMark, IsMark, IsPast, IsScriptFew, IsScriptLong, IsScriptPart, IsTooLong, IsWithin}
+use Rattle.ft_runner.specs.Checking.{begins_line, is_mark, is_mark_at, HasNoMark, IsMark, IsMarkOf, IsPast, IsScriptFew, IsScriptLong, IsScriptPart, IsTooLong, IsWithin}
 use Rattle.ft_runner.specs.Streams.{Stream}
 
 -- ---- bytes that go on
@@ -52,6 +52,11 @@ IsScriptLong-stays bytes more far long = (omega (arith, length-append bytes more
 pub IsScriptFew-stays : (bytes more : List ℕ) → 4194307 < length bytes → IsScriptFew bytes → IsScriptFew (bytes ++ more)
 IsScriptFew-stays bytes more far (inl few) = absurd (omega arith)
 IsScriptFew-stays bytes more far (inr mark) = inr (mark.0, mark.1, IsMark-stays bytes more mark.0 (omega (arith, mark.1)) mark.2)
+
+pub IsMarkOf-stays : (bytes more : List ℕ) (mark : Option ℕ) → 4194307 < length bytes → IsScriptFew bytes → IsMarkOf bytes mark → IsMarkOf (bytes ++ more) mark
+IsMarkOf-stays bytes more mark far (inl few) is = absurd (omega arith)
+IsMarkOf-stays bytes more None far (inr at) none = absurd (no_mark bytes at.0 none at.2)
+IsMarkOf-stays bytes more (Some place) far (inr at) mark = IsMark-stays bytes more place (omega (arith, one_mark bytes place at.0 mark at.2, at.1)) mark
 
 past_within : (bytes : List ℕ) → IsPast bytes → IsWithin bytes → ⊥
 past_within bytes (inl long) within = omega (arith, within.few)

@@ -1,5 +1,5 @@
 -- From the parts of a call to its report.
-use Rattle.std.proofs.Common.{◌≡◌, ℕ, Bool, true, false, List, [], ◌++◌, length, Option, Some, None, Result, Ok, Err, refl, sym, ap, subst, ◌∙◌, ◌⊎◌, inl, inr, append_assoc, arith, if◌then◌else◌}
+use Rattle.std.proofs.Common.{◌≡◌, ℕ, true, false, List, [], ◌++◌, length, Option, Some, None, Result, Ok, Err, refl, sym, ap, subst, ◌∙◌, ◌⊎◌, inl, inr, arith, if◌then◌else◌}
 use Rattle.std.specs.Prelude.{◌==◌, is_some}
 use Rattle.std.specs.List.{flat_map}
 use Rattle.std.proofs.lemmas.Bool.{eqb-false, le-ltb, false≢true, true≢false}
@@ -26,25 +26,9 @@ use Rattle.ft_runner.specs.Commands.{is_check}
 use Rattle.ft_runner.specs.Findings.{broken_line, legal_line, IsFound}
 use Rattle.ft_runner.specs.Streams.{Stream, Gives, Receives, IsPart, Puts, Told, StopsReading, IsWholeInput, is_read, is_too_long, stops_reading}
 use Rattle.ft_runner.specs.Reports.{is_usage, has_ended, comes_of_text, refusal_of, IsAsked, IsHistoryOf, IsRunOf, IsDone, IsRefused, Limits, LimitsRun, Means, MeansChecked, MeansRun, PutsFor, TellsVerdict}
-use Rattle.ft_runner.proofs.StreamLemmas.{Gives-none, Receives-none, Receives-then}
+use Rattle.ft_runner.proofs.StreamLemmas.{Gives-none, Receives-none}
 
--- ---- pieces of a text that are put one after the other
-
-pub Puts-then : (a b c : Stream) (x y : List ℕ) (r : Result (Unit {0}) Failed) → Receives a x false b → Puts b y r c → Puts a (x ++ y) r c
-Puts-then a b c x y (Ok u) p q = Receives-then a b c x y false p q
-Puts-then a b c x y (Err e) p q = record {
-  prefix = x ++ q.prefix;
-  is_prefix = (q.is_prefix.0, append_assoc x q.prefix q.is_prefix.0 ∙ ap (λ (bytes : List ℕ). x ++ bytes) q.is_prefix.1);
-  receives = Receives-then a b c x q.prefix true p q.receives;
-}
-
--- a part of a text is one of any longer text
-pub IsPart-longer : (a b : Stream) (x y : List ℕ) (failed : Bool) → IsPart a x failed b → IsPart a (x ++ y) failed b
-IsPart-longer a b x y failed p = record {
-  prefix = p.prefix;
-  is_prefix = (p.is_prefix.0 ++ y, sym (append_assoc p.prefix p.is_prefix.0 y) ∙ ap (λ (bytes : List ℕ). bytes ++ y) p.is_prefix.1);
-  receives = p.receives;
-}
+-- ---- what was put
 
 pub told : (a b : Stream) (text : List ℕ) (r : Result (Unit {0}) Failed) → Puts a text r b → Told a text b
 told a b text (Ok u) p = inl p

@@ -1,9 +1,10 @@
 -- One call of a source or a sink after others.
-use Rattle.std.proofs.Common.{◌≡◌, ℕ, ◌+◌, ◌<◌, ◌≤◌, get_or, ◌∷◌, take, drop, arith, Bool, true, false, List, [], ◌++◌, length, Option, Some, None, refl, sym, ap, ◌∙◌, append_assoc}
+use Rattle.std.proofs.Common.{◌≡◌, ℕ, ◌+◌, ◌<◌, ◌≤◌, get_or, ◌∷◌, take, drop, arith, Bool, true, false, List, [], ◌++◌, length, Option, Some, None, Result, Ok, Err, refl, sym, ap, ◌∙◌, append_assoc}
 use Rattle.std.proofs.lemmas.List.{append-nil, take-take, length-take}
 use Rattle.std.proofs.Math.Seq.{take-add}
 use Rattle.ft_io.specs.Streams.{raised, behind, added}
-use Rattle.ft_runner.specs.Streams.{Stream, Gives, Receives, IsPart, IsBuffered}
+use Rattle.ft_io.specs.declared.source.Failed.{Failed}
+use Rattle.ft_runner.specs.Streams.{Stream, Gives, Receives, IsPart, Puts, IsBuffered}
 use Rattle.std.specs.List.{flat_map}
 use Rattle.std.proofs.lemmas.List.Concat.{flat_map-append}
 use Rattle.std.proofs.lemmas.List.{take-append-drop, take_more, take_all}
@@ -87,6 +88,26 @@ IsPart-then a b c buffer text more p q =
       is_prefix = (q.is_prefix.0 ++ more, sym (append_assoc (p.put ++ q.prefix) q.is_prefix.0 more) ∙ ap (λ (bytes : List ℕ). bytes ++ more) prefix);
       receives = Receives-then a b c p.put q.prefix true p.receives q.receives;
     }
+
+-- ---- pieces of a text that are put one after the other
+
+pub Puts-then : (a b c : Stream) (x y : List ℕ) (r : Result (Unit {0}) Failed) → Receives a x false b → Puts b y r c → Puts a (x ++ y) r c
+Puts-then a b c x y (Ok u) p q = Receives-then a b c x y false p q
+Puts-then a b c x y (Err e) p q = record {
+  prefix = x ++ q.prefix;
+  is_prefix = (q.is_prefix.0, append_assoc x q.prefix q.is_prefix.0 ∙ ap (λ (bytes : List ℕ). x ++ bytes) q.is_prefix.1);
+  receives = Receives-then a b c x q.prefix true p q.receives;
+}
+
+-- a part of a text is one of any longer text
+pub IsPart-longer : (a b : Stream) (x y : List ℕ) (failed : Bool) → IsPart a x failed b → IsPart a (x ++ y) failed b
+IsPart-longer a b x y failed p = record {
+  prefix = p.prefix;
+  is_prefix = (p.is_prefix.0 ++ y, sym (append_assoc p.prefix p.is_prefix.0 y) ∙ ap (λ (bytes : List ℕ). bytes ++ y) p.is_prefix.1);
+  receives = p.receives;
+}
+
+-- ---- the lines of entries
 
 -- the lines of the first entries, of the others, and what follows
 pub flat_map-split : {X : Type 0} (f : X → List ℕ) (xs : List X) (i : ℕ) (more : List ℕ) → flat_map f (take i xs) ++ (flat_map f (drop i xs) ++ more) ≡ flat_map f xs ++ more

@@ -1,7 +1,7 @@
 -- What `check` reads. (profile)
-use Rattle.std.specs.Prelude.{◌≡◌, ◌≤◌, ◌<◌, ◌⊎◌, ℕ, ◌+◌, ◌-◌, ◌==◌, ◌&&◌, ◌||◌, Bool, true, false, List, ◌++◌, [], length, take, drop, codes, slice_index_or, IfSome, Result, Ok, Err, Vec}
-use Rattle.std.specs.declared.alloc.Global.{Global}
+use Rattle.std.specs.Prelude.{◌≡◌, ◌≤◌, ◌<◌, ◌⊎◌, ℕ, ◌+◌, ◌-◌, ◌==◌, ◌&&◌, ◌||◌, Bool, true, false, List, ◌++◌, [], length, take, drop, codes, slice_index_or, Option, IfSome, MatchOption, Result, Ok, Err}
 use Rattle.std.specs.Str.{bytes_eq}
+use Rattle.ft_runner.specs.declared.reading.Input.{Input}
 use Rattle.ft_runner.specs.declared.report.Fault.{Fault}
 use Rattle.ft_runner.specs.Streams.{script_limit, is_read, is_too_long, stops_reading, Gives, Stream}
 
@@ -28,6 +28,10 @@ pub record IsMark (bytes : List ℕ) (place : ℕ) : Type 0 where
 -- no line is `---`
 abbrev pub HasNoMark : List ℕ → Type 0
 HasNoMark bytes = (place : ℕ) → place < length bytes → is_mark_at bytes place ≡ false
+
+-- the place of the first line that is `---`, if one is
+abbrev pub IsMarkOf : List ℕ → Option ℕ → Type 0
+IsMarkOf bytes mark = MatchOption mark (HasNoMark bytes) (IsMark bytes)
 
 -- the script is what stands before the line, or all bytes where there is none
 abbrev pub IsScriptPart : List ℕ → List ℕ → Type 0
@@ -77,8 +81,8 @@ pub record StopsInput (fault : Fault) (before after : Stream) : Type 0 where
   pub few : length came ≤ most_checked
   pub cause : stops_reading fault ≡ true
 
-abbrev pub ReadsInput : Stream → Result (Vec ℕ Global) Fault → Stream → Type 0
-ReadsInput before (Ok bytes) after = IsReadToItsEnd before bytes.items after × IsWithin bytes.items
+abbrev pub ReadsInput : Stream → Result Input Fault → Stream → Type 0
+ReadsInput before (Ok input) after = IsReadToItsEnd before input.bytes.items after × IsWithin input.bytes.items × IsMarkOf input.bytes.items input.mark
 ReadsInput before (Err fault) after = StopsInput fault before after
 
 -- ---- what is read in one part of it

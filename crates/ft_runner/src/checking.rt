@@ -2,12 +2,13 @@
 ghost use Rattle.ft_runner.specs.declared.command.Subcommand.TheVariants as subcommand;
 ghost use Rattle.std.specs.Prelude.{◌≡◌, ◌≤◌, ◌↔◌, ◌∷◌, ◌++◌, [], All, IsTrue, Some, length, map, slice_get, MatchOption, IfErr, IfOk, IfSome};
 ghost use Rattle.ft_model.specs.Parts.{IsEntryOf, IsWorldOf};
+ghost use Rattle.ft_runner.specs.Checking.{IsMarkOf};
 ghost use Rattle.ft_runner.specs.Findings.{broken_line, given_lines, rule_word, world_lines, IsFirstDifference, IsFound, IsVerdictOn};
 ghost use Rattle.ft_runner.specs.Reports.{IsRefused, IsRunOf, TellsVerdict};
 ghost use Rattle.ft_runner.specs.Streams.{stream, Puts};
 
 use crate::errors::put_number;
-use crate::marking::{before_mark, behind_mark, mark_of};
+use crate::marking::{before_mark, behind_mark};
 use crate::outcome::{Outcome, Refusal};
 use crate::report::Fault;
 use crate::writing::put_all;
@@ -17,22 +18,29 @@ use ft_model::{Entry, Rule, Script, ScriptParts, Storage, World};
 use ft_script::{TranscriptFault, parse, push_world_line, read_transcript};
 use std::alloc::{AllocError, Global};
 
-/// Checks the script and the transcript that the bytes are, and writes what is found.
-pub(crate) fn check_text<K: Sink>(alloc: Global, bytes: &[u8], sink: &mut K) -> Outcome
+/// Checks the script and the transcript that the bytes are, the line that parts them beginning at
+/// the mark, and writes what is found.
+pub(crate) fn check_text<K: Sink>(
+    alloc: Global,
+    bytes: &[u8],
+    mark: Option<usize>,
+    sink: &mut K,
+) -> Outcome
+    requires { IsMarkOf bytes.now mark }
     ensures { IsRunOf (Some subcommand.Check) bytes.now (stream (K.taken sink.old) (K.faults sink.old)) (stream (K.taken sink.new) (K.faults sink.new)) result.fault result.limit result.history.items }
 {
-    match find(alloc, bytes) {
+    match find(alloc, bytes, mark) {
         Ok(verdict) => Outcome::of(alloc, put_verdict(sink, verdict)),
         Err(refusal) => Outcome::refused(alloc, refusal),
     }
 }
 
 /// What is found of the transcript that the bytes have, or why they are refused.
-fn find(alloc: Global, bytes: &[u8]) -> Result<Verdict, Refusal>
+fn find(alloc: Global, bytes: &[u8], mark: Option<usize>) -> Result<Verdict, Refusal>
+    requires { IsMarkOf bytes.now mark }
     ensures found { IfOk result (λ found. IsFound bytes.now found) }
     ensures refused { IfErr result (λ refusal. IsRefused bytes.now refusal.fault refusal.limit) }
 {
-    let mark = mark_of(bytes);
     let script = match parse(alloc, before_mark(bytes, mark)) {
         Ok(script) => script,
         Err(refused) => return Err(Refusal::script(refused)),

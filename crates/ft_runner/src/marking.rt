@@ -1,10 +1,10 @@
 //! The line that parts a script from a transcript.
-ghost use Rattle.std.specs.Prelude.{◌≡◌, ◌+◌, ◌<◌, drop, length, MatchOption};
-ghost use Rattle.ft_runner.specs.Checking.{is_mark, is_mark_at, HasNoMark, IsMark, IsScriptPart};
+ghost use Rattle.std.specs.Prelude.{◌≡◌, ◌+◌, ◌<◌, drop, length};
+ghost use Rattle.ft_runner.specs.Checking.{is_mark, is_mark_at, IsMarkOf, IsScriptPart};
 
 /// Where the first line that is `---` begins.
 pub(crate) fn mark_of(bytes: &[u8]) -> Option<usize>
-    ensures { MatchOption result (HasNoMark bytes.now) (IsMark bytes.now) }
+    ensures { IsMarkOf bytes.now result }
 {
     for place in 0..bytes.len() {
         if is_mark_at(bytes, place) {
@@ -33,7 +33,7 @@ fn is_mark(line: &[u8]) -> bool
 
 /// What stands before the line, or all where there is none.
 pub(crate) fn before_mark(bytes: &[u8], mark: Option<usize>) -> &[u8]
-    requires { MatchOption mark (HasNoMark bytes.now) (IsMark bytes.now) }
+    requires { IsMarkOf bytes.now mark }
     ensures { IsScriptPart bytes.now result.now }
 {
     match mark {

@@ -1,5 +1,5 @@
 ghost use Rattle.std.specs.Prelude.{◌≡◌, ◌≤◌, ◌+◌, length, IfOk, MatchBool};
-ghost use Rattle.ft_runner.specs.Checking.{Fills, IsScriptFew, IsScriptLong, ReadsInput};
+ghost use Rattle.ft_runner.specs.Checking.{Fills, IsMarkOf, IsScriptFew, IsScriptLong, ReadsInput};
 ghost use Rattle.ft_runner.specs.Streams.{stream, Reads};
 
 use crate::marking::mark_of;
@@ -15,6 +15,13 @@ const INPUT_LIMIT: usize = 67_108_864;
 
 /// How many bytes are asked for at once.
 const PIECE: usize = 65_536;
+
+/// What `check` reads, and where the first line of it that is `---` begins.
+#[derive(Debug, Drop)]
+pub(crate) struct Input {
+    pub(crate) bytes: Vec<u8>,
+    pub(crate) mark: Option<usize>,
+}
 
 /// Reads all there is. It stops as soon as more came than a script may have.
 pub(crate) fn read_all<S: Source>(alloc: Global, source: &mut S) -> Result<Vec<u8>, Fault>
@@ -45,19 +52,20 @@ pub(crate) fn read_all<S: Source>(alloc: Global, source: &mut S) -> Result<Vec<u
 /// Reads a script, a line `---` and a transcript: all there is. It stops as soon as more came than
 /// they may have, whatever follows; of the script that is told once the bytes of such a line came
 /// behind it.
-pub(crate) fn read_input<S: Source>(alloc: Global, source: &mut S) -> Result<Vec<u8>, Fault>
+pub(crate) fn read_input<S: Source>(alloc: Global, source: &mut S) -> Result<Input, Fault>
     ensures { ReadsInput (stream (S.left source.old) (S.faults source.old)) result (stream (S.left source.new) (S.faults source.new)) }
 {
     let mut bytes = Vec::new(alloc);
     let ended = fill(alloc, source, &mut bytes, SCRIPT_LIMIT + 3)?;
-    if !is_script_few(&bytes) {
+    let mark = mark_of(&bytes);
+    if !is_script_few(&bytes, mark) {
         return Err(Fault::TooLong);
     }
     if ended {
-        return Ok(bytes);
+        return Ok(Input { bytes, mark });
     }
     if fill(alloc, source, &mut bytes, INPUT_LIMIT)? {
-        Ok(bytes)
+        Ok(Input { bytes, mark })
     } else {
         Err(Fault::TooLong)
     }
@@ -65,13 +73,14 @@ pub(crate) fn read_input<S: Source>(alloc: Global, source: &mut S) -> Result<Vec
 
 /// Whether the bytes before the line `---`, or all where there is none, are no more than a script
 /// may have.
-fn is_script_few(bytes: &[u8]) -> bool
+fn is_script_few(bytes: &[u8], mark: Option<usize>) -> bool
+    requires { IsMarkOf bytes.now mark }
     ensures { MatchBool result (IsScriptFew bytes.now) (IsScriptLong bytes.now) }
 {
     if bytes.len() <= SCRIPT_LIMIT {
         return true;
     }
-    match mark_of(bytes) {
+    match mark {
         Some(place) => place <= SCRIPT_LIMIT,
         None => false,
     }

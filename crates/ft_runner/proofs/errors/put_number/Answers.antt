@@ -2,8 +2,7 @@ use Rattle.std.proofs.Common.{◌++◌, Err, true, false}
 use Rattle.std.proofs.lemmas.Result.{err_from_is_err_and}
 use Rattle.std.specs.Fmt.{decimal}
 use Rattle.ft_runner.specs.Streams.{stream}
-use Rattle.ft_runner.proofs.StreamLemmas.{Receives-then}
-use Rattle.ft_runner.proofs.ReportLemmas.{Puts-then, IsPart-longer}
+use Rattle.ft_runner.proofs.StreamLemmas.{Receives-then, Puts-then, IsPart-longer}
 use Rattle.ft_runner.proofs.errors.put_number.Goals as goal
 
 pub returns-in_err-put_all-2 : goal.returns-in_err-put_all-2

@@ -4,8 +4,7 @@ use Rattle.std.specs.Prelude.{codes}
 use Rattle.std.proofs.lemmas.Result.{err_from_is_err_and}
 use Rattle.ft_script.specs.Faults.{kind_text}
 use Rattle.ft_runner.specs.Streams.{stream, IsPart, Receives}
-use Rattle.ft_runner.proofs.StreamLemmas.{Receives-then}
-use Rattle.ft_runner.proofs.ReportLemmas.{Puts-then, IsPart-longer}
+use Rattle.ft_runner.proofs.StreamLemmas.{Receives-then, Puts-then, IsPart-longer}
 use Rattle.ft_runner.proofs.errors.tell_script.Goals as goal
 
 pub returns-in_err-put_number : goal.returns-in_err-put_number

@@ -54,8 +54,12 @@ impl Source for QuietSource {
 pub struct QuietSink;
 
 impl QuietSink {
-    /// A sink that drops what is put.
-    pub fn new() -> QuietSink {
+    ghost use Rattle.ft_io.specs.declared.quiet.QuietSink.{QuietSink};
+
+    /// A sink that drops what is put. There is only one.
+    pub fn new() -> QuietSink
+        ensures { (other : QuietSink) → result ≡ other }
+    {
         QuietSink
     }
 }

@@ -7,9 +7,9 @@ use Rattle.ft_script.specs.declared.transcript.TranscriptFault.{TranscriptFault}
 use Rattle.ft_script.specs.declared.transcript.TranscriptFault.TheVariants as transcript
 use Rattle.ft_script.specs.Scripts.{read_script}
 use Rattle.ft_script.specs.Transcripts.{IsFirstBad, IsTranscript}
-use Rattle.ft_runner.specs.Checking.{HasNoMark, IsMark, IsScriptPart}
+use Rattle.ft_runner.specs.Checking.{HasNoSeparator, IsSeparator, IsScriptPart}
 use Rattle.ft_runner.specs.Findings.{IsBadAt, IsFound, IsParted, IsVerdictOn}
-use Rattle.ft_runner.proofs.MarkLemmas.{one_script}
+use Rattle.ft_runner.proofs.SeparatorLemmas.{one_script}
 
 -- the line that a fault of a transcript tells
 pub told_line : {P : ℕ → Type 0} (f : TranscriptFault) (line : ℕ) → f ≡ transcript.Line line → (f ≡ transcript.Memory) ⊎ ((number : ℕ) × (f ≡ transcript.Line number) × P number) → P line
@@ -19,21 +19,21 @@ told_line {P} f line is (inr told) = let same : told.0 ≡ line = (let lines : t
 -- ---- the input
 
 module _ (bytes text : List ℕ) (script : ScriptParts) (part : IsScriptPart bytes text) (read : read_script text ≡ Ok script) where
-  pub missing_line : HasNoMark bytes → IsBadAt bytes 1
+  pub missing_line : HasNoSeparator bytes → IsBadAt bytes 1
   missing_line none = inl (none, refl, script, ap read_script (one_script bytes bytes text (inl (none, refl)) part) ∙ read)
 
-  parted : (place : ℕ) → IsMark bytes place → IsParted bytes script (drop (place + 4) bytes)
-  parted place mark =
+  parted : (place : ℕ) → IsSeparator bytes place → IsParted bytes script (drop (place + 4) bytes)
+  parted place separator =
       record {
         place = place;
-        mark = mark;
-        script_read = ap read_script (one_script bytes (take place bytes) text (inr (place, mark, refl)) part) ∙ read;
+        separator = separator;
+        script_read = ap read_script (one_script bytes (take place bytes) text (inr (place, separator, refl)) part) ∙ read;
         behind_it = refl;
       }
 
-  module _ (place : ℕ) (mark : IsMark bytes place) (behind : List ℕ) (is : behind ≡ drop (place + 4) bytes) where
+  module _ (place : ℕ) (separator : IsSeparator bytes place) (behind : List ℕ) (is : behind ≡ drop (place + 4) bytes) where
     parted_there : IsParted bytes script behind
-    parted_there = subst (IsParted bytes script) (sym is) (parted place mark)
+    parted_there = subst (IsParted bytes script) (sym is) (parted place separator)
 
     pub bad_line : (line : ℕ) → IsFirstBad script behind line → IsBadAt bytes line
     bad_line line bad = inr (script, behind, parted_there, bad)

@@ -4,9 +4,9 @@ use Rattle.std.proofs.lemmas.Bool.{false≢true}
 use Rattle.std.proofs.lemmas.List.{length-append}
 use Rattle.ft_runner.specs.declared.report.Fault.{Fault}
 use Rattle.ft_runner.specs.declared.report.Fault.TheVariants as fault
-use Rattle.ft_runner.specs.Checking.{EndsFilling, Fills, IsMarkOf, IsReadToItsEnd, IsScriptFew, IsScriptLong, IsWithin, StopsInput}
+use Rattle.ft_runner.specs.Checking.{EndsFilling, Fills, IsSeparatorOf, IsReadToItsEnd, IsScriptFew, IsScriptLong, IsWithin, StopsInput}
 use Rattle.ft_runner.specs.Streams.{Gives, Stream}
-use Rattle.ft_runner.proofs.MarkLemmas.{IsMarkOf-stays, IsScriptFew-stays, IsScriptLong-stays}
+use Rattle.ft_runner.proofs.SeparatorLemmas.{IsSeparatorOf-stays, IsScriptFew-stays, IsScriptLong-stays}
 use Rattle.ft_runner.proofs.StreamLemmas.{Gives-then}
 
 -- ---- what one part and the next give
@@ -62,9 +62,9 @@ long_input a b d bytes new gives p =
 
 -- ---- it is read to its end
 
-pub whole_input : (a b d : Stream) (bytes new : List ℕ) (mark : Option ℕ) → Gives a bytes false b → EndsFilling false 4194307 bytes b → IsScriptFew bytes → IsMarkOf bytes mark → Fills b bytes 67108864 (Ok true) new d → IsReadToItsEnd a new d × IsWithin new × IsMarkOf new mark
-whole_input a b d bytes new mark gives far few is p = (
+pub whole_input : (a b d : Stream) (bytes new : List ℕ) (separator : Option ℕ) → Gives a bytes false b → EndsFilling false 4194307 bytes b → IsScriptFew bytes → IsSeparatorOf bytes separator → Fills b bytes 67108864 (Ok true) new d → IsReadToItsEnd a new d × IsWithin new × IsSeparatorOf new separator
+whole_input a b d bytes new separator gives far few is p = (
   record { gives = gives_second a b d bytes new 67108864 true gives p; ended = p.3.1 },
   record { few = p.3.0; script_few = subst IsScriptFew (sym p.1) (IsScriptFew-stays bytes p.0 far.0 few) },
-  subst (λ (read : List ℕ). IsMarkOf read mark) (sym p.1) (IsMarkOf-stays bytes p.0 mark far.0 few is),
+  subst (λ (read : List ℕ). IsSeparatorOf read separator) (sym p.1) (IsSeparatorOf-stays bytes p.0 separator far.0 few is),
 )

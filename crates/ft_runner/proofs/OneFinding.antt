@@ -17,7 +17,7 @@ use Rattle.ft_script.proofs.TranscriptLaws.{not_bad, one_of_two}
 use Rattle.ft_turns.proofs.Told.{slice_get-take}
 use Rattle.ft_runner.specs.Findings.{IsBadAt, IsFirstDifference, IsFound, IsInput, IsParted, IsVerdictOn}
 use Rattle.ft_runner.specs.Reports.{IsScriptFault}
-use Rattle.ft_runner.proofs.MarkLemmas.{no_mark, one_mark, one_script}
+use Rattle.ft_runner.proofs.SeparatorLemmas.{no_separator, one_separator, one_script}
 use Rattle.ft_script.proofs.ReadScripts.{script_read}
 
 -- ---- the first difference
@@ -61,7 +61,7 @@ record IsSameParts (one other : ScriptParts) (above below : List ℕ) : Type 0 w
 
 one_parting : (bytes : List ℕ) (one other : ScriptParts) (above below : List ℕ) → IsParted bytes one above → IsParted bytes other below → IsSameParts one other above below
 one_parting bytes one other above below a b =
-    let place : a.place ≡ b.place = one_mark bytes a.place b.place a.mark b.mark in
+    let place : a.place ≡ b.place = one_separator bytes a.place b.place a.separator b.separator in
     let read : ◌≡◌ {A = Result ScriptParts ScriptFault} (Ok one) (Ok other) = sym a.script_read ∙ ap (λ n. read_script (take n bytes)) place ∙ b.script_read in
     record {
       script = cc;
@@ -83,12 +83,12 @@ module _ (bytes : List ℕ) (script : ScriptParts) (entries : List Entry) (lines
       one_verdict_on script entries lines one other on (subst (λ ls. IsVerdictOn script entries ls other) (sym same.1) with_entries)
 
   pub no_bad_line : (line : ℕ) → IsBadAt bytes line → ⊥
-  no_bad_line line (inl missing) = no_mark bytes input.parted.place missing.0 input.parted.mark
+  no_bad_line line (inl missing) = no_separator bytes input.parted.place missing.0 input.parted.separator
   no_bad_line line (inr bad) =
       let parts = one_parting bytes script bad.0 input.behind bad.1 input.parted bad.2 in
       not_bad script input.behind entries lines line is input.transcript_read (subst (λ text. IsFirstBad script text line) (sym parts.behind) (subst (λ s. IsFirstBad s bad.1 line) (sym parts.script) bad.3))
 
   pub no_script_fault : (line kind : ℕ) (limit : Option Which) → IsScriptFault bytes line kind limit → ⊥
   no_script_fault line kind limit first =
-      let part = one_script bytes (take input.parted.place bytes) first.0 (inr (input.parted.place, input.parted.mark, refl)) first.1 in
+      let part = one_script bytes (take input.parted.place bytes) first.0 (inr (input.parted.place, input.parted.separator, refl)) first.1 in
       true≢false (ap (λ (r : Result ScriptParts ScriptFault). is_ok r) (sym input.parted.script_read ∙ ap read_script part ∙ first.2.refused))

@@ -12,30 +12,30 @@ abbrev pub begins_line : List ℕ → ℕ → Bool
 begins_line bytes place = place == 0 || slice_index_or bytes (place - 1) 0 == 10
 
 -- whether the bytes are `---` to the letter, with a line feed or without one
-abbrev pub is_mark : List ℕ → Bool
-is_mark bytes = bytes_eq bytes (codes "---\n") || bytes_eq bytes (codes "---")
+abbrev pub is_separator : List ℕ → Bool
+is_separator bytes = bytes_eq bytes (codes "---\n") || bytes_eq bytes (codes "---")
 
 -- whether a line that is `---` begins there; its line feed may be missing at the end of the bytes
-abbrev pub is_mark_at : List ℕ → ℕ → Bool
-is_mark_at bytes place = begins_line bytes place && is_mark (take 4 (drop place bytes))
+abbrev pub is_separator_at : List ℕ → ℕ → Bool
+is_separator_at bytes place = begins_line bytes place && is_separator (take 4 (drop place bytes))
 
 -- the first line that is `---` begins at the place
-pub record IsMark (bytes : List ℕ) (place : ℕ) : Type 0 where
+pub record IsSeparator (bytes : List ℕ) (place : ℕ) : Type 0 where
   pub inside : place < length bytes
-  pub here : is_mark_at bytes place ≡ true
-  pub first : (earlier : ℕ) → earlier < place → is_mark_at bytes earlier ≡ false
+  pub here : is_separator_at bytes place ≡ true
+  pub first : (earlier : ℕ) → earlier < place → is_separator_at bytes earlier ≡ false
 
 -- no line is `---`
-abbrev pub HasNoMark : List ℕ → Type 0
-HasNoMark bytes = (place : ℕ) → place < length bytes → is_mark_at bytes place ≡ false
+abbrev pub HasNoSeparator : List ℕ → Type 0
+HasNoSeparator bytes = (place : ℕ) → place < length bytes → is_separator_at bytes place ≡ false
 
 -- the place of the first line that is `---`, if one is
-abbrev pub IsMarkOf : List ℕ → Option ℕ → Type 0
-IsMarkOf bytes mark = MatchOption mark (HasNoMark bytes) (IsMark bytes)
+abbrev pub IsSeparatorOf : List ℕ → Option ℕ → Type 0
+IsSeparatorOf bytes separator = MatchOption separator (HasNoSeparator bytes) (IsSeparator bytes)
 
 -- the script is what stands before the line, or all bytes where there is none
 abbrev pub IsScriptPart : List ℕ → List ℕ → Type 0
-IsScriptPart bytes text = (HasNoMark bytes × (text ≡ bytes)) ⊎ ((place : ℕ) × IsMark bytes place × (text ≡ take place bytes))
+IsScriptPart bytes text = (HasNoSeparator bytes × (text ≡ bytes)) ⊎ ((place : ℕ) × IsSeparator bytes place × (text ≡ take place bytes))
 
 -- ---- limits
 
@@ -45,11 +45,11 @@ input_limit = 67108864
 
 -- the script is not too long: all bytes are few enough, or those before the first line that is `---`
 abbrev pub IsScriptFew : List ℕ → Type 0
-IsScriptFew bytes = (length bytes ≤ script_limit) ⊎ ((place : ℕ) × (place ≤ script_limit) × IsMark bytes place)
+IsScriptFew bytes = (length bytes ≤ script_limit) ⊎ ((place : ℕ) × (place ≤ script_limit) × IsSeparator bytes place)
 
 -- or it is
 abbrev pub IsScriptLong : List ℕ → Type 0
-IsScriptLong bytes = (script_limit < length bytes) × ((place : ℕ) → place ≤ script_limit → is_mark_at bytes place ≡ false)
+IsScriptLong bytes = (script_limit < length bytes) × ((place : ℕ) → place ≤ script_limit → is_separator_at bytes place ≡ false)
 
 -- more bytes than are taken, in all or before the line
 abbrev pub IsPast : List ℕ → Type 0
@@ -82,7 +82,7 @@ pub record StopsInput (fault : Fault) (before after : Stream) : Type 0 where
   pub cause : stops_reading fault ≡ true
 
 abbrev pub ReadsInput : Stream → Result Input Fault → Stream → Type 0
-ReadsInput before (Ok input) after = IsReadToItsEnd before input.bytes.items after × IsWithin input.bytes.items × IsMarkOf input.bytes.items input.mark
+ReadsInput before (Ok input) after = IsReadToItsEnd before input.bytes.items after × IsWithin input.bytes.items × IsSeparatorOf input.bytes.items input.separator
 ReadsInput before (Err fault) after = StopsInput fault before after
 
 -- ---- what is read in one part of it

@@ -15,14 +15,14 @@ use Rattle.ft_history.specs.declared.verdict.Verdict.TheVariants as verdict
 use Rattle.ft_script.specs.Scripts.{read_script}
 use Rattle.ft_script.specs.Texts.{world_line}
 use Rattle.ft_script.specs.Transcripts.{IsFirstBad, IsTranscript}
-use Rattle.ft_runner.specs.Checking.{HasNoMark, IsMark}
+use Rattle.ft_runner.specs.Checking.{HasNoSeparator, IsSeparator}
 
 -- ---- the input
 
 -- the bytes are a script, the line, and these bytes behind it
 pub record IsParted (bytes : List ℕ) (script : ScriptParts) (behind : List ℕ) : Type 0 where
   pub place : ℕ
-  pub mark : IsMark bytes place
+  pub separator : IsSeparator bytes place
   pub script_read : read_script (take place bytes) ≡ Ok script
   pub behind_it : behind ≡ drop (place + 4) bytes
 
@@ -35,7 +35,7 @@ pub record IsInput (bytes : List ℕ) (script : ScriptParts) (entries : List Ent
 -- the first line of the transcript that is none, or the first where no line is `---`
 abbrev pub IsBadAt : List ℕ → ℕ → Type 0
 IsBadAt bytes line =
-    (HasNoMark bytes × (line ≡ 1) × (script : ScriptParts) × (read_script bytes ≡ Ok script))
+    (HasNoSeparator bytes × (line ≡ 1) × (script : ScriptParts) × (read_script bytes ≡ Ok script))
     ⊎ ((script : ScriptParts) × (behind : List ℕ) × IsParted bytes script behind × IsFirstBad script behind line)
 
 -- ---- the contents

@@ -2,15 +2,15 @@
 ghost use Rattle.ft_runner.specs.declared.command.Subcommand.TheVariants as subcommand;
 ghost use Rattle.std.specs.Prelude.{◌≡◌, ◌≤◌, ◌↔◌, ◌∷◌, ◌++◌, [], All, IsTrue, Some, length, map, slice_get, MatchOption, IfErr, IfOk, IfSome};
 ghost use Rattle.ft_model.specs.Parts.{IsEntryOf, IsWorldOf};
-ghost use Rattle.ft_runner.specs.Checking.{IsMarkOf};
+ghost use Rattle.ft_runner.specs.Checking.{IsSeparatorOf};
 ghost use Rattle.ft_runner.specs.Findings.{broken_line, given_lines, rule_word, world_lines, IsFirstDifference, IsFound, IsVerdictOn};
 ghost use Rattle.ft_runner.specs.Reports.{IsRefused, IsRunOf, TellsVerdict};
 ghost use Rattle.ft_runner.specs.Streams.{stream, Puts};
 
 use crate::errors::put_number;
-use crate::marking::{before_mark, behind_mark};
 use crate::outcome::{Outcome, Refusal};
 use crate::report::Fault;
+use crate::separator::{before_separator, behind_separator};
 use crate::writing::put_all;
 use ft_history::{Verdict, judge_with_world};
 use ft_io::{Failed, Sink};
@@ -19,36 +19,36 @@ use ft_script::{TranscriptFault, parse, push_world_line, read_transcript};
 use std::alloc::{AllocError, Global};
 
 /// Checks the script and the transcript that the bytes are, the line that parts them beginning at
-/// the mark, and writes what is found.
+/// the separator, and writes what is found.
 pub(crate) fn check_text<K: Sink>(
     alloc: Global,
     bytes: &[u8],
-    mark: Option<usize>,
+    separator: Option<usize>,
     sink: &mut K,
 ) -> Outcome
-    requires { IsMarkOf bytes.now mark }
+    requires { IsSeparatorOf bytes.now separator }
     ensures { IsRunOf (Some subcommand.Check) bytes.now (stream (K.taken sink.old) (K.faults sink.old)) (stream (K.taken sink.new) (K.faults sink.new)) result.fault result.limit result.history.items }
 {
-    match find(alloc, bytes, mark) {
+    match find(alloc, bytes, separator) {
         Ok(verdict) => Outcome::of(alloc, put_verdict(sink, verdict)),
         Err(refusal) => Outcome::refused(alloc, refusal),
     }
 }
 
 /// What is found of the transcript that the bytes have, or why they are refused.
-fn find(alloc: Global, bytes: &[u8], mark: Option<usize>) -> Result<Verdict, Refusal>
-    requires { IsMarkOf bytes.now mark }
+fn find(alloc: Global, bytes: &[u8], separator: Option<usize>) -> Result<Verdict, Refusal>
+    requires { IsSeparatorOf bytes.now separator }
     ensures found { IfOk result (λ found. IsFound bytes.now found) }
     ensures refused { IfErr result (λ refusal. IsRefused bytes.now refusal.fault refusal.limit) }
 {
-    let script = match parse(alloc, before_mark(bytes, mark)) {
+    let script = match parse(alloc, before_separator(bytes, separator)) {
         Ok(script) => script,
         Err(refused) => return Err(Refusal::script(refused)),
     };
-    let Some(place) = mark else {
+    let Some(place) = separator else {
         return Err(Refusal::of(Fault::Transcript(1)));
     };
-    let transcript = match read_transcript(alloc, &script, behind_mark(bytes, place)) {
+    let transcript = match read_transcript(alloc, &script, behind_separator(bytes, place)) {
         Ok(transcript) => transcript,
         Err(TranscriptFault::Line(line)) => return Err(Refusal::of(Fault::Transcript(line))),
         Err(TranscriptFault::Memory) => return Err(Refusal::of(Fault::Memory)),

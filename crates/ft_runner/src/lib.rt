@@ -5,10 +5,10 @@ mod checking;
 mod command;
 mod errors;
 mod laws;
-mod marking;
 mod outcome;
 mod reading;
 mod report;
+mod separator;
 #[cfg(test)]
 mod tests;
 mod tool;

@@ -1,9 +1,9 @@
 ghost use Rattle.std.specs.Prelude.{◌≡◌, ◌≤◌, ◌+◌, length, IfOk, MatchBool};
-ghost use Rattle.ft_runner.specs.Checking.{Fills, IsMarkOf, IsScriptFew, IsScriptLong, ReadsInput};
+ghost use Rattle.ft_runner.specs.Checking.{Fills, IsSeparatorOf, IsScriptFew, IsScriptLong, ReadsInput};
 ghost use Rattle.ft_runner.specs.Streams.{stream, Reads};
 
-use crate::marking::mark_of;
 use crate::report::Fault;
+use crate::separator::separator_of;
 use ft_io::{Failed, Source};
 use std::alloc::{AllocError, Global};
 
@@ -20,7 +20,7 @@ const PIECE: usize = 65_536;
 #[derive(Debug, Drop)]
 pub(crate) struct Input {
     pub(crate) bytes: Vec<u8>,
-    pub(crate) mark: Option<usize>,
+    pub(crate) separator: Option<usize>,
 }
 
 /// Reads all there is. It stops as soon as more came than a script may have.
@@ -57,15 +57,15 @@ pub(crate) fn read_input<S: Source>(alloc: Global, source: &mut S) -> Result<Inp
 {
     let mut bytes = Vec::new(alloc);
     let ended = fill(alloc, source, &mut bytes, SCRIPT_LIMIT + 3)?;
-    let mark = mark_of(&bytes);
-    if !is_script_few(&bytes, mark) {
+    let separator = separator_of(&bytes);
+    if !is_script_few(&bytes, separator) {
         return Err(Fault::TooLong);
     }
     if ended {
-        return Ok(Input { bytes, mark });
+        return Ok(Input { bytes, separator });
     }
     if fill(alloc, source, &mut bytes, INPUT_LIMIT)? {
-        Ok(Input { bytes, mark })
+        Ok(Input { bytes, separator })
     } else {
         Err(Fault::TooLong)
     }
@@ -73,14 +73,14 @@ pub(crate) fn read_input<S: Source>(alloc: Global, source: &mut S) -> Result<Inp
 
 /// Whether the bytes before the line `---`, or all where there is none, are no more than a script
 /// may have.
-fn is_script_few(bytes: &[u8], mark: Option<usize>) -> bool
-    requires { IsMarkOf bytes.now mark }
+fn is_script_few(bytes: &[u8], separator: Option<usize>) -> bool
+    requires { IsSeparatorOf bytes.now separator }
     ensures { MatchBool result (IsScriptFew bytes.now) (IsScriptLong bytes.now) }
 {
     if bytes.len() <= SCRIPT_LIMIT {
         return true;
     }
-    match mark {
+    match separator {
         Some(place) => place <= SCRIPT_LIMIT,
         None => false,
     }

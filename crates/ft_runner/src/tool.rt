@@ -150,7 +150,7 @@ fn check<S: Source, K: Sink>(alloc: Global, source: &mut S, sink: &mut K) -> Out
         (stream (K.taken sink.old) (K.faults sink.old)) (stream (K.taken sink.new) (K.faults sink.new)) result.fault result.limit result.history.items }
 {
     match read_input(alloc, source) {
-        Ok(input) => check_text(alloc, &input.bytes, input.mark, sink),
+        Ok(input) => check_text(alloc, &input.bytes, input.separator, sink),
         Err(fault) => Outcome::of(alloc, fault),
     }
 }

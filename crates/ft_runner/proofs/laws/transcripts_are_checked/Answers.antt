@@ -14,7 +14,7 @@ use Rattle.ft_runner.specs.declared.report.Fault.TheVariants as fault
 use Rattle.ft_runner.specs.Checking.{IsScriptPart, IsWithin}
 use Rattle.ft_runner.specs.Reports.{status_of, IsDone, Limits, Means}
 use Rattle.ft_runner.specs.Streams.{Stream}
-use Rattle.ft_runner.proofs.MarkLemmas.{not_too_long, one_script}
+use Rattle.ft_runner.proofs.SeparatorLemmas.{not_too_long, one_script}
 use Rattle.ft_runner.proofs.laws.transcripts_are_checked.Goals as goal
 
 abbrev EndsWell : ℕ → Type 0

@@ -15,7 +15,7 @@ use Rattle.ft_runner.specs.Checking.{IsWithin}
 use Rattle.ft_runner.specs.Findings.{IsInput, IsVerdictOn}
 use Rattle.ft_runner.specs.Reports.{told_of, IsDone, Limits, Means}
 use Rattle.ft_runner.specs.Streams.{Stream}
-use Rattle.ft_runner.proofs.MarkLemmas.{not_too_long}
+use Rattle.ft_runner.proofs.SeparatorLemmas.{not_too_long}
 use Rattle.ft_runner.proofs.OneFinding.{no_bad_line, no_script_fault, one_finding}
 use Rattle.ft_runner.proofs.laws.verdicts_are_told.Goals as goal
 

@@ -1,6 +1,6 @@
 use Rattle.std.proofs.Common.{List, ℕ, false, subst, true}
 use Rattle.std.proofs.lemmas.Result.{err_from_is_err_and}
-use Rattle.ft_runner.specs.Checking.{EndsFilling, IsMarkOf, IsScriptFew, IsScriptLong}
+use Rattle.ft_runner.specs.Checking.{EndsFilling, IsSeparatorOf, IsScriptFew, IsScriptLong}
 use Rattle.ft_runner.specs.Streams.{stream}
 use Rattle.ft_runner.proofs.InputLemmas.{gives_first, long_input, long_script, stops_second, whole_input}
 use Rattle.ft_runner.proofs.reading.read_input.Goals as goal
@@ -38,7 +38,7 @@ returns-then-branch g c =
     let gives = gives_first a b c.new-bytes.result.items bytes 4194307 c.in_ok-ended.ended c.new-bytes.ensures.items first in
     let far : EndsFilling false 4194307 bytes b = rw c.if-ended.false at first.3 in
     let ends : EndsFilling true 67108864 c.fill-2.new.bytes.items d = rw c.if-branch.true at second.3 in
-    whole_input a b d bytes c.fill-2.new.bytes.items c.mark_of-mark.result gives far (subst IsScriptFew c.deref-2.ensures.value c.if-not-is_script_few.ensures) (subst (λ (read : List ℕ). IsMarkOf read c.mark_of-mark.result) c.deref.ensures.value c.mark_of-mark.ensures) (second.0, second.1, second.2, ends)
+    whole_input a b d bytes c.fill-2.new.bytes.items c.separator_of-separator.result gives far (subst IsScriptFew c.deref-2.ensures.value c.if-not-is_script_few.ensures) (subst (λ (read : List ℕ). IsSeparatorOf read c.separator_of-separator.result) c.deref.ensures.value c.separator_of-separator.ensures) (second.0, second.1, second.2, ends)
 
 pub returns-else-branch : goal.returns-else-branch
 returns-else-branch g c =

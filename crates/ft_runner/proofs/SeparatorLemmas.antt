@@ -2,33 +2,33 @@
 use Rattle.std.proofs.Common.{◌≡◌, ◌∙◌, ℕ, ◌+◌, ◌-◌, ◌<◌, ◌≤◌, ◌==◌, ◌&&◌, ◌||◌, List, [], ◌++◌, Option, Some, None, length, take, drop, sym, ap, ap₂, subst, arith, inl, inr}
 use Rattle.std.proofs.lemmas.Bool.{cases_lt, true≢false}
 use Rattle.std.proofs.lemmas.List.{append-nil, drop-append-le, get_or_append_left, length-append, length-drop, take-append-le}
-use Rattle.ft_runner.specs.Checking.{begins_line, is_mark, is_mark_at, HasNoMark, IsMark, IsMarkOf, IsPast, IsScriptFew, IsScriptLong, IsScriptPart, IsTooLong, IsWithin}
+use Rattle.ft_runner.specs.Checking.{begins_line, is_separator, is_separator_at, HasNoSeparator, IsSeparator, IsSeparatorOf, IsPast, IsScriptFew, IsScriptLong, IsScriptPart, IsTooLong, IsWithin}
 use Rattle.ft_runner.specs.Streams.{Stream}
 
 -- ---- bytes that go on
 
 -- the four bytes from the place on are there, and stay
-pub mark_stays : (bytes more : List ℕ) (place : ℕ) → place + 4 ≤ length bytes → is_mark_at (bytes ++ more) place ≡ is_mark_at bytes place
-mark_stays bytes more place low =
+pub separator_stays : (bytes more : List ℕ) (place : ℕ) → place + 4 ≤ length bytes → is_separator_at (bytes ++ more) place ≡ is_separator_at bytes place
+separator_stays bytes more place low =
     let four : take 4 (drop place (bytes ++ more)) ≡ take 4 (drop place bytes) = ap (take 4) (drop-append-le place bytes more (omega arith)) ∙ take-append-le 4 (drop place bytes) more (omega (arith, length-drop place bytes)) in
     let before : begins_line (bytes ++ more) place ≡ begins_line bytes place = ap (λ b. place == 0 || b == 10) (get_or_append_left bytes more 0 (place - 1) (omega arith)) in
-    ap₂ (λ b line. b && is_mark line) before four
+    ap₂ (λ b line. b && is_separator line) before four
 
-pub IsMark-stays : (bytes more : List ℕ) (place : ℕ) → place + 4 ≤ length bytes → IsMark bytes place → IsMark (bytes ++ more) place
-IsMark-stays bytes more place low mark =
+pub IsSeparator-stays : (bytes more : List ℕ) (place : ℕ) → place + 4 ≤ length bytes → IsSeparator bytes place → IsSeparator (bytes ++ more) place
+IsSeparator-stays bytes more place low separator =
     record {
       inside = omega (arith, length-append bytes more);
-      here = mark_stays bytes more place low ∙ mark.here;
-      first = λ earlier before. mark_stays bytes more earlier (omega arith) ∙ mark.first earlier before;
+      here = separator_stays bytes more place low ∙ separator.here;
+      first = λ earlier before. separator_stays bytes more earlier (omega arith) ∙ separator.first earlier before;
     }
 
 -- ---- there is one such line, or none
 
-pub no_mark : (bytes : List ℕ) (place : ℕ) → HasNoMark bytes → IsMark bytes place → ⊥
-no_mark bytes place none mark = true≢false (sym mark.here ∙ none place mark.inside)
+pub no_separator : (bytes : List ℕ) (place : ℕ) → HasNoSeparator bytes → IsSeparator bytes place → ⊥
+no_separator bytes place none separator = true≢false (sym separator.here ∙ none place separator.inside)
 
-pub one_mark : (bytes : List ℕ) (p q : ℕ) → IsMark bytes p → IsMark bytes q → p ≡ q
-one_mark bytes p q one other =
+pub one_separator : (bytes : List ℕ) (p q : ℕ) → IsSeparator bytes p → IsSeparator bytes q → p ≡ q
+one_separator bytes p q one other =
     elim (cases_lt p q) [
       | inl before ↦ absurd (true≢false (sym one.here ∙ other.first p before))
       | inr after ↦ elim (cases_lt q p) [
@@ -39,31 +39,31 @@ one_mark bytes p q one other =
 
 pub one_script : (bytes a b : List ℕ) → IsScriptPart bytes a → IsScriptPart bytes b → a ≡ b
 one_script bytes a b (inl one) (inl other) = one.1 ∙ sym other.1
-one_script bytes a b (inl one) (inr other) = absurd (no_mark bytes other.0 one.0 other.1)
-one_script bytes a b (inr one) (inl other) = absurd (no_mark bytes one.0 other.0 one.1)
-one_script bytes a b (inr one) (inr other) = one.2 ∙ ap (λ p. take p bytes) (one_mark bytes one.0 other.0 one.1 other.1) ∙ sym other.2
+one_script bytes a b (inl one) (inr other) = absurd (no_separator bytes other.0 one.0 other.1)
+one_script bytes a b (inr one) (inl other) = absurd (no_separator bytes one.0 other.0 one.1)
+one_script bytes a b (inr one) (inr other) = one.2 ∙ ap (λ p. take p bytes) (one_separator bytes one.0 other.0 one.1 other.1) ∙ sym other.2
 
 -- ---- limits
 
 -- what is decided of the script, where the four bytes of a line have come behind it, stays so
 pub IsScriptLong-stays : (bytes more : List ℕ) → 4194307 < length bytes → IsScriptLong bytes → IsScriptLong (bytes ++ more)
-IsScriptLong-stays bytes more far long = (omega (arith, length-append bytes more), λ place low. mark_stays bytes more place (omega arith) ∙ long.1 place low)
+IsScriptLong-stays bytes more far long = (omega (arith, length-append bytes more), λ place low. separator_stays bytes more place (omega arith) ∙ long.1 place low)
 
 pub IsScriptFew-stays : (bytes more : List ℕ) → 4194307 < length bytes → IsScriptFew bytes → IsScriptFew (bytes ++ more)
 IsScriptFew-stays bytes more far (inl few) = absurd (omega arith)
-IsScriptFew-stays bytes more far (inr mark) = inr (mark.0, mark.1, IsMark-stays bytes more mark.0 (omega (arith, mark.1)) mark.2)
+IsScriptFew-stays bytes more far (inr separator) = inr (separator.0, separator.1, IsSeparator-stays bytes more separator.0 (omega (arith, separator.1)) separator.2)
 
-pub IsMarkOf-stays : (bytes more : List ℕ) (mark : Option ℕ) → 4194307 < length bytes → IsScriptFew bytes → IsMarkOf bytes mark → IsMarkOf (bytes ++ more) mark
-IsMarkOf-stays bytes more mark far (inl few) is = absurd (omega arith)
-IsMarkOf-stays bytes more None far (inr at) none = absurd (no_mark bytes at.0 none at.2)
-IsMarkOf-stays bytes more (Some place) far (inr at) mark = IsMark-stays bytes more place (omega (arith, one_mark bytes place at.0 mark at.2, at.1)) mark
+pub IsSeparatorOf-stays : (bytes more : List ℕ) (separator : Option ℕ) → 4194307 < length bytes → IsScriptFew bytes → IsSeparatorOf bytes separator → IsSeparatorOf (bytes ++ more) separator
+IsSeparatorOf-stays bytes more separator far (inl few) is = absurd (omega arith)
+IsSeparatorOf-stays bytes more None far (inr at) none = absurd (no_separator bytes at.0 none at.2)
+IsSeparatorOf-stays bytes more (Some place) far (inr at) separator = IsSeparator-stays bytes more place (omega (arith, one_separator bytes place at.0 separator at.2, at.1)) separator
 
 past_within : (bytes : List ℕ) → IsPast bytes → IsWithin bytes → ⊥
 past_within bytes (inl long) within = omega (arith, within.few)
 past_within bytes (inr script) within =
     elim within.script_few [
       | inl few ↦ omega (arith, script.0)
-      | inr mark ↦ true≢false (sym mark.2.here ∙ script.1 mark.0 mark.1)
+      | inr separator ↦ true≢false (sym separator.2.here ∙ script.1 separator.0 separator.1)
     ]
 
 pub not_too_long : (before : Stream) (came : List ℕ) (after : Stream) → IsTooLong before came after → IsWithin came → ⊥

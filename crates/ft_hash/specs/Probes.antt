@@ -23,7 +23,7 @@ position hash mask (suc n) = (position hash mask n * 5 + perturb hash (suc n) + 
 unfoldable pub dict_walk : ℕ → ℕ → ℕ → List ℕ
 dict_walk hash mask n = map (position hash mask) (range_with_len 0 n)
 
--- a set's probe tries the nine slots behind a position too, where the table has them all
+-- a set's probe tries the nine slots after a position too, where the table has them all
 unfoldable pub run : ℕ → ℕ → List ℕ
 run mask slot = if nat_le (slot + 9) mask then range_with_len slot 10 else slot ∷ []
 

@@ -5,7 +5,7 @@ use std::marker::Model;
 
 /// The order in which the slots of a table are tried for a hash: `i*5 + perturb + 1` after `i`, where
 /// `perturb` is the hash shifted by 5 bits once more at each step (CPython's comments on dicts). A
-/// dict tries each position, a set also the nine slots behind it, where the table has them all.
+/// dict tries each position, a set also the nine slots after it, where the table has them all.
 ///
 /// Contracts see the position that comes next, what is left of the hash, and the mask.
 #[derive(Clone, Copy, Debug)]

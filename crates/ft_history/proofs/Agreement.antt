@@ -15,7 +15,7 @@ use Rattle.ft_model.specs.Answers.{answer, after_write, is_memory}
 use Rattle.ft_model.specs.Chronicles.{IsChronicle}
 use Rattle.ft_model.specs.Histories.{writes, world_at, entries_of, cursors_of, hands_at, sections_at, after_section, innermost, IsReplied, IsAnswered, IsWhole, Section, names, disturbs, is_disturbed, is_marked, marks_between, IsKeptBy, IsCountedBy, IsKept, IsCounted, IsMarked, has_call_on, needs_at}
 use Rattle.ft_model.specs.Tables.{IsEarned}
-use Rattle.ft_model.specs.Worlds.{start_world, start_hands, objects_of}
+use Rattle.ft_model.specs.Worlds.{start_world, start_hands, containers_used}
 use Rattle.ft_history.proofs.FilteredParts.{any_passed, count_passed}
 use Rattle.ft_history.proofs.Numbered.{written, IsNumbered, writes_before_entry, mine_before, written_between, mine_between}
 use Rattle.ft_history.proofs.OpenSections.{IsOpened, AreOpened, begins_of, are_opened, same_innermost_after, same_ended}
@@ -34,8 +34,8 @@ pub record Agree (script : ScriptParts) (one other : List Entry) : Type 0 where
 abbrev after_entry_by : ScriptParts → List Call → List (Option Cursor) → Entry → List (Option Cursor)
 after_entry_by script calls hands entry = if is_memory entry.reply then hands else (answer (fold after_write (start_world script.containers) (take entry.stamp calls)) hands entry.call).hands
 
-disturbs_by_writes : (thread : ℕ) (objects : List ℕ) (e : Entry) → disturbs thread objects e ≡ true → e.wrote ≡ true
-disturbs_by_writes thread objects e disturbed = (and_parts e.wrote (not (e.thread == thread)) (and_parts (e.wrote && not (e.thread == thread)) (list_any (λ object. names object e.call) objects) disturbed).0).0
+disturbs_by_writes : (thread : ℕ) (containers : List ℕ) (e : Entry) → disturbs thread containers e ≡ true → e.wrote ≡ true
+disturbs_by_writes thread containers e disturbed = (and_parts e.wrote (not (e.thread == thread)) (and_parts (e.wrote && not (e.thread == thread)) (list_any (λ container. names container e.call) containers) disturbed).0).0
 
 marks_are_mine : (thread : ℕ) (e : Entry) → is_marked thread e ≡ true → (e.thread == thread) ≡ true
 marks_are_mine thread e is = (and_parts (e.thread == thread) (is_some e.waited) is).0
@@ -89,14 +89,14 @@ module _ (script : ScriptParts) (one other : List Entry) (agree : Agree script o
   marked : IsMarked script one place entry → IsMarked script other place' entry
   marked is =
       let same_needs : needs_at script one place entry ≡ needs_at script other place' entry =
-      ap (λ hands. objects_of hands entry.call ++ innermost (after_section place entry.call (sections_at one entry.thread place))) same_hands
-      ∙ ap (λ (objects : List ℕ). objects_of (hands_at script other entry.thread place') entry.call ++ objects)
+      ap (λ hands. containers_used hands entry.call ++ innermost (after_section place entry.call (sections_at one entry.thread place))) same_hands
+      ∙ ap (λ (containers : List ℕ). containers_used (hands_at script other entry.thread place') entry.call ++ containers)
       (same_innermost_after one other entry.thread place place' entry.call (sections_at one entry.thread place) (sections_at other entry.thread place') begins opened opened') in
-      subst (λ (objects : List ℕ). IfSome entry.waited (λ thread. (thread ≢ entry.thread) × (list_any (has_call_on script thread) objects ≡ true))) same_needs is
+      subst (λ (containers : List ℕ). IfSome entry.waited (λ thread. (thread ≢ entry.thread) × (list_any (has_call_on script thread) containers ≡ true))) same_needs is
 
   module _ (section section' : Section) (begun : Entry) (is_opened : IsOpened one entry.thread place section begun) (is_opened' : IsOpened other entry.thread place' section' begun) where
-    same_objects : section.objects ≡ section'.objects
-    same_objects = is_opened.objects ∙ sym is_opened'.objects
+    same_containers : section.containers ≡ section'.containers
+    same_containers = is_opened.containers ∙ sym is_opened'.containers
 
     same_inside : written (between (section.begun + 1) place one) ≡ written (between (section'.begun + 1) place' other)
     same_inside =
@@ -112,10 +112,10 @@ module _ (script : ScriptParts) (one other : List Entry) (agree : Agree script o
 
     same_disturbed : is_disturbed one entry.thread place section ≡ is_disturbed other entry.thread place' section'
     same_disturbed =
-        any_passed (λ (e : Entry). e.wrote) (disturbs entry.thread section.objects) (disturbs_by_writes entry.thread section.objects) (between (section.begun + 1) place one)
-        ∙ ap (λ (es : List Entry). list_any (disturbs entry.thread section.objects) es) same_inside
-        ∙ ap (λ (objects : List ℕ). list_any (disturbs entry.thread objects) (written (between (section'.begun + 1) place' other))) same_objects
-        ∙ sym (any_passed (λ (e : Entry). e.wrote) (disturbs entry.thread section'.objects) (disturbs_by_writes entry.thread section'.objects) (between (section'.begun + 1) place' other))
+        any_passed (λ (e : Entry). e.wrote) (disturbs entry.thread section.containers) (disturbs_by_writes entry.thread section.containers) (between (section.begun + 1) place one)
+        ∙ ap (λ (es : List Entry). list_any (disturbs entry.thread section.containers) es) same_inside
+        ∙ ap (λ (containers : List ℕ). list_any (disturbs entry.thread containers) (written (between (section'.begun + 1) place' other))) same_containers
+        ∙ sym (any_passed (λ (e : Entry). e.wrote) (disturbs entry.thread section'.containers) (disturbs_by_writes entry.thread section'.containers) (between (section'.begun + 1) place' other))
 
     same_marks : marks_between one entry.thread place section ≡ marks_between other entry.thread place' section'
     same_marks =

@@ -11,7 +11,7 @@ use Rattle.ft_model.specs.declared.entry.Entry.{Entry}
 use Rattle.ft_model.specs.Histories.{disturbs, names}
 use Rattle.ft_history.specs.declared.writers.LastWrites.{LastWrites}
 use Rattle.ft_history.specs.declared.writers.Write.{Write}
-use Rattle.ft_history.specs.States.{other_than, behind_one, is_from, is_written_since, IsLast}
+use Rattle.ft_history.specs.States.{other_than, after_one, is_from, is_written_since, IsLast}
 use Rattle.ft_history.proofs.Places.{take_next}
 
 or_false : (b : Bool) → (b || false) ≡ b
@@ -43,7 +43,7 @@ none_since : (since place : ℕ) (at : Option ℕ) → IfSome at (λ p. p < plac
 none_since since place None within past = refl
 none_since since place (Some p) within past = lt-leb since p (omega arith)
 
-said_none : (writer place : ℕ) (other : Option ℕ) (thread since : ℕ) → other ≡ None → is_written_since (behind_one (record { last = None; other = other }) writer place) thread since ≡ (leb since place && not (eqb writer thread))
+said_none : (writer place : ℕ) (other : Option ℕ) (thread since : ℕ) → other ≡ None → is_written_since (after_one (record { last = None; other = other }) writer place) thread since ≡ (leb since place && not (eqb writer thread))
 said_none writer place other thread since first =
     elim (eqb writer thread) as (λ b. cond b (is_from since other) (leb since place) ≡ (leb since place && not b)) [
       | true ↦ ap (is_from since) first ∙ sym (and_false (leb since place))
@@ -70,33 +70,33 @@ or_absorbs : (a b : Bool) → (a ≡ true → b ≡ true) → (a || b) ≡ b
 or_absorbs true b so = sym (so refl)
 or_absorbs false b so = refl
 
--- what is told to be written from a place on is written before the place where the telling ends
-told_before : (since place : ℕ) (at : Option ℕ) → IfSome at (λ p. p < place) → is_from since at ≡ true → leb since place ≡ true
-told_before since place None within told = absurd (false≢true told)
-told_before since place (Some p) within told = le-leb since place (let low = leb-true since p told in omega arith)
+-- what is reported to be written from a place on is written before the place where the telling ends
+reported_before : (since place : ℕ) (at : Option ℕ) → IfSome at (λ p. p < place) → is_from since at ≡ true → leb since place ≡ true
+reported_before since place None within reported = absurd (false≢true reported)
+reported_before since place (Some p) within reported = le-leb since place (let low = leb-true since p reported in omega arith)
 
 said_some : (last : Write) (other : Option ℕ) (writer place thread since : ℕ) → last.place < place → IfSome other (λ p. p < place)
-    → is_written_since (behind_one (record { last = Some last; other = other }) writer place) thread since ≡ (is_written_since (record { last = Some last; other = other }) thread since || (leb since place && not (eqb writer thread)))
+    → is_written_since (after_one (record { last = Some last; other = other }) writer place) thread since ≡ (is_written_since (record { last = Some last; other = other }) thread since || (leb since place && not (eqb writer thread)))
 said_some last other writer place thread since last_before other_before =
-    let told : Bool = cond (eqb last.thread thread) (is_from since other) (leb since last.place) in
-    elim (eqb writer thread) as (λ b. eqb writer thread ≡ b → cond b (is_from since (cond (eqb last.thread writer) other (Some last.place))) (leb since place) ≡ (told || (leb since place && not b))) [
+    let reported : Bool = cond (eqb last.thread thread) (is_from since other) (leb since last.place) in
+    elim (eqb writer thread) as (λ b. eqb writer thread ≡ b → cond b (is_from since (cond (eqb last.thread writer) other (Some last.place))) (leb since place) ≡ (reported || (leb since place && not b))) [
       | true ↦ λ mine.
           let same : writer ≡ thread = eqb-true writer thread mine in
           ap (λ w. is_from since (cond (eqb last.thread w) other (Some last.place))) same
           ∙ elim (eqb last.thread thread) as (λ b. is_from since (cond b other (Some last.place)) ≡ cond b (is_from since other) (leb since last.place)) [ true ↦ refl | false ↦ refl ]
-          ∙ sym (ap (λ b. told || b) (and_false (leb since place)) ∙ or_false told)
+          ∙ sym (ap (λ b. reported || b) (and_false (leb since place)) ∙ or_false reported)
       | false ↦ λ others.
-          sym (ap (λ b. told || b) (and_true (leb since place)) ∙ or_absorbs told (leb since place) (λ yes.
+          sym (ap (λ b. reported || b) (and_true (leb since place)) ∙ or_absorbs reported (leb since place) (λ yes.
           elim (eqb last.thread thread) as (λ b. cond b (is_from since other) (leb since last.place) ≡ true → leb since place ≡ true) [
-            | true ↦ λ from. told_before since place other other_before from
+            | true ↦ λ from. reported_before since place other other_before from
             | false ↦ λ from. le-leb since place (let low = leb-true since last.place from in omega arith)
           ] yes))
     ] refl
 
 said : (writes : LastWrites) (writer place thread since : ℕ) → IfSome writes.last (λ write. write.place < place) → IfSome writes.other (λ p. p < place) → (writes.last ≡ None → writes.other ≡ None)
-    → is_written_since (behind_one writes writer place) thread since ≡ (is_written_since writes thread since || (leb since place && not (eqb writer thread)))
+    → is_written_since (after_one writes writer place) thread since ≡ (is_written_since writes thread since || (leb since place && not (eqb writer thread)))
 said writes writer place thread since last_before other_before first =
-    elim writes.last as (λ l. writes.last ≡ l → IfSome l (λ write. write.place < place) → is_written_since (behind_one (record { last = l; other = writes.other }) writer place) thread since ≡ (is_written_since (record { last = l; other = writes.other }) thread since || (leb since place && not (eqb writer thread)))) [
+    elim writes.last as (λ l. writes.last ≡ l → IfSome l (λ write. write.place < place) → is_written_since (after_one (record { last = l; other = writes.other }) writer place) thread since ≡ (is_written_since (record { last = l; other = writes.other }) thread since || (leb since place && not (eqb writer thread)))) [
       | None ↦ λ none _. said_none writer place writes.other thread since (first none)
       | Some last ↦ λ _ before. said_some last writes.other writer place thread since before other_before
     ] refl last_before
@@ -109,34 +109,34 @@ other_low thread place (Some last) other last_before other_before =
       | false ↦ omega arith
     ]
 
-module _ (entries : List Entry) (place object : ℕ) (entry : Entry) (at : slice_get entries place ≡ Some entry) (writes : LastWrites) (so_far : IsLast entries place object writes) where
+module _ (entries : List Entry) (place container : ℕ) (entry : Entry) (at : slice_get entries place ≡ Some entry) (writes : LastWrites) (so_far : IsLast entries place container writes) where
   -- one place further, where the entry doesn't write on the container
-  pub last_after_other : (entry.wrote && names object entry.call) ≡ false → IsLast entries (place + 1) object writes
+  pub last_after_other : (entry.wrote && names container entry.call) ≡ false → IsLast entries (place + 1) container writes
   last_after_other calm =
       record {
         since = λ thread since.
-            any_since entries place entry (disturbs thread (object ∷ [])) since at ∙
-            ap (λ b. list_any (disturbs thread (object ∷ [])) (drop since (take place entries)) || (leb since place && b)) (calm_for thread) ∙
-            ap (λ b. list_any (disturbs thread (object ∷ [])) (drop since (take place entries)) || b) (and_false (leb since place)) ∙ or_false _ ∙ so_far.since thread since;
+            any_since entries place entry (disturbs thread (container ∷ [])) since at ∙
+            ap (λ b. list_any (disturbs thread (container ∷ [])) (drop since (take place entries)) || (leb since place && b)) (calm_for thread) ∙
+            ap (λ b. list_any (disturbs thread (container ∷ [])) (drop since (take place entries)) || b) (and_false (leb since place)) ∙ or_false _ ∙ so_far.since thread since;
         last = IfSome_then writes.last so_far.last (λ write low. let l : write.place < place + 1 = omega arith in l);
         other = IfSome_then writes.other so_far.other (λ p low. let l : p < place + 1 = omega arith in l);
         first = so_far.first;
       }
     where
-      calm_for : (thread : ℕ) → disturbs thread (object ∷ []) entry ≡ false
+      calm_for : (thread : ℕ) → disturbs thread (container ∷ []) entry ≡ false
       calm_for thread =
-          elim entry.wrote as (λ w. (w && names object entry.call) ≡ false → ((w && not (eqb entry.thread thread)) && (names object entry.call || false)) ≡ false) [
+          elim entry.wrote as (λ w. (w && names container entry.call) ≡ false → ((w && not (eqb entry.thread thread)) && (names container entry.call || false)) ≡ false) [
             | true ↦ λ unnamed. ap (λ b. not (eqb entry.thread thread) && (b || false)) unnamed ∙ and_false _
             | false ↦ λ _. refl
           ] calm
 
   -- one place further, where it does
-  pub last_after_write : entry.wrote ≡ true → names object entry.call ≡ true → IsLast entries (place + 1) object (behind_one writes entry.thread place)
+  pub last_after_write : entry.wrote ≡ true → names container entry.call ≡ true → IsLast entries (place + 1) container (after_one writes entry.thread place)
   last_after_write wrote named =
       record {
         since = λ thread since.
-            any_since entries place entry (disturbs thread (object ∷ [])) since at ∙
-            ap (λ b. list_any (disturbs thread (object ∷ [])) (drop since (take place entries)) || (leb since place && b)) (disturbed_by thread) ∙
+            any_since entries place entry (disturbs thread (container ∷ [])) since at ∙
+            ap (λ b. list_any (disturbs thread (container ∷ [])) (drop since (take place entries)) || (leb since place && b)) (disturbed_by thread) ∙
             ap (λ b. b || (leb since place && not (eqb entry.thread thread))) (so_far.since thread since) ∙
             sym (said writes entry.thread place thread since so_far.last so_far.other so_far.first);
         last = omega arith;
@@ -144,14 +144,14 @@ module _ (entries : List Entry) (place object : ℕ) (entry : Entry) (at : slice
         first = λ none. absurd (let some : Some (let w : Write = record { thread = entry.thread; place = place } in w) ≡ None = none in cc);
       }
     where
-      disturbed_by : (thread : ℕ) → disturbs thread (object ∷ []) entry ≡ not (eqb entry.thread thread)
-      disturbed_by thread = ap (λ w. (w && not (eqb entry.thread thread)) && (names object entry.call || false)) wrote ∙ ap (λ b. not (eqb entry.thread thread) && (b || false)) named ∙ and_true _
+      disturbed_by : (thread : ℕ) → disturbs thread (container ∷ []) entry ≡ not (eqb entry.thread thread)
+      disturbed_by thread = ap (λ w. (w && not (eqb entry.thread thread)) && (names container entry.call || false)) wrote ∙ ap (λ b. not (eqb entry.thread thread) && (b || false)) named ∙ and_true _
 
 -- at the start nothing is written
-pub last_at_start : (entries : List Entry) (object : ℕ) (writes : LastWrites) → writes.last ≡ None → writes.other ≡ None → IsLast entries 0 object writes
-last_at_start entries object writes none other =
+pub last_at_start : (entries : List Entry) (container : ℕ) (writes : LastWrites) → writes.last ≡ None → writes.other ≡ None → IsLast entries 0 container writes
+last_at_start entries container writes none other =
     record {
-      since = λ thread since. ap (list_any (disturbs thread (object ∷ []))) (drop_all since [] (omega arith)) ∙ sym (rw none refl);
+      since = λ thread since. ap (list_any (disturbs thread (container ∷ []))) (drop_all since [] (omega arith)) ∙ sym (rw none refl);
       last = rw none tt;
       other = rw other tt;
       first = λ _. other;
@@ -159,11 +159,11 @@ last_at_start entries object writes none other =
 
 -- ---- the containers of a section
 
-any_exchange : (entries : List Entry) (thread : ℕ) (object : ℕ) (objects : List ℕ) → list_any (disturbs thread (object ∷ objects)) entries ≡ (list_any (disturbs thread (object ∷ [])) entries || list_any (disturbs thread objects) entries)
-any_exchange [] thread object objects = refl
-any_exchange (entry ∷ entries) thread object objects =
-    ap (λ b. disturbs thread (object ∷ objects) entry || b) (any_exchange entries thread object objects) ∙
-    mixed (entry.wrote && not (eqb entry.thread thread)) (names object entry.call) (list_any (λ o. names o entry.call) objects) (list_any (disturbs thread (object ∷ [])) entries) (list_any (disturbs thread objects) entries)
+any_exchange : (entries : List Entry) (thread : ℕ) (container : ℕ) (containers : List ℕ) → list_any (disturbs thread (container ∷ containers)) entries ≡ (list_any (disturbs thread (container ∷ [])) entries || list_any (disturbs thread containers) entries)
+any_exchange [] thread container containers = refl
+any_exchange (entry ∷ entries) thread container containers =
+    ap (λ b. disturbs thread (container ∷ containers) entry || b) (any_exchange entries thread container containers) ∙
+    mixed (entry.wrote && not (eqb entry.thread thread)) (names container entry.call) (list_any (λ o. names o entry.call) containers) (list_any (disturbs thread (container ∷ [])) entries) (list_any (disturbs thread containers) entries)
   where
     mixed : (w n r a b : Bool) → ((w && (n || r)) || (a || b)) ≡ (((w && (n || false)) || a) || ((w && r) || b))
     mixed true true true a b = refl
@@ -173,11 +173,11 @@ any_exchange (entry ∷ entries) thread object objects =
     mixed true false false a b = refl
     mixed false n r a b = refl
 
-no_objects : (entries : List Entry) (thread : ℕ) → list_any (disturbs thread []) entries ≡ false
-no_objects [] thread = refl
-no_objects (entry ∷ entries) thread = rw and_false (no_objects entries thread)
+no_containers : (entries : List Entry) (thread : ℕ) → list_any (disturbs thread []) entries ≡ false
+no_containers [] thread = refl
+no_containers (entry ∷ entries) thread = rw and_false (no_containers entries thread)
 
 -- another thread's write on one of the containers is one on the first, or on another
-pub any_of_objects : (entries : List Entry) (thread : ℕ) (objects : List ℕ) → list_any (disturbs thread objects) entries ≡ list_any (λ object. list_any (disturbs thread (object ∷ [])) entries) objects
-any_of_objects entries thread [] = no_objects entries thread
-any_of_objects entries thread (object ∷ objects) = any_exchange entries thread object objects ∙ ap (λ b. list_any (disturbs thread (object ∷ [])) entries || b) (any_of_objects entries thread objects)
+pub any_of_containers : (entries : List Entry) (thread : ℕ) (containers : List ℕ) → list_any (disturbs thread containers) entries ≡ list_any (λ container. list_any (disturbs thread (container ∷ [])) entries) containers
+any_of_containers entries thread [] = no_containers entries thread
+any_of_containers entries thread (container ∷ containers) = any_exchange entries thread container containers ∙ ap (λ b. list_any (disturbs thread (container ∷ [])) entries || b) (any_of_containers entries thread containers)

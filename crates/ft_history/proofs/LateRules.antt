@@ -17,14 +17,14 @@ use Rattle.ft_model.specs.declared.cursor.Cursor.{Cursor}
 use Rattle.ft_model.specs.declared.entry.Entry.{Entry}
 use Rattle.ft_model.specs.declared.script.ScriptParts.{ScriptParts}
 use Rattle.std.specs.Global.{Vec}
-use Rattle.ft_model.specs.Worlds.{objects_of}
+use Rattle.ft_model.specs.Worlds.{containers_used}
 use Rattle.ft_model.specs.Histories.{Section, innermost, after_section, sections_at, hands_at, has_call_on, needs_at, disturbs, is_disturbed, is_marked, marks_between, IfEnds, IsKeptBy, IsCountedBy, IsMarked, IsKept, IsCounted}
-use Rattle.ft_history.specs.declared.objects.Objects.{Objects}
+use Rattle.ft_history.specs.declared.containers.Containers.{Containers}
 use Rattle.ft_history.specs.declared.progress.Progress.{Progress}
 use Rattle.ft_history.specs.declared.writers.LastWrites.{LastWrites}
 use Rattle.ft_history.specs.States.{Begun, listed, is_used, AreUsers, all_begun, after_begun, inner_begun, section_of, IfEndsBegun, IsCountedAs, IsOpen, IsProgress, IsLast, is_written_since, is_written_on, IsKeptSince}
 use Rattle.ft_history.proofs.ProgressLemmas.{sections_alike}
-use Rattle.ft_history.proofs.LastWriteLemmas.{any_of_objects}
+use Rattle.ft_history.proofs.LastWriteLemmas.{any_of_containers}
 
 any_alike : {X : Type 0} (p q : X → Bool) (xs : List X) → ((x : X) → p x ≡ q x) → list_any p xs ≡ list_any q xs
 any_alike p q [] same = refl
@@ -40,15 +40,15 @@ inner_alike : (sections : List Begun) → innermost (map section_of sections) �
 inner_alike [] = refl
 inner_alike (section ∷ sections) = refl
 
-pub marked_iff : (script : ScriptParts) (entries : List Entry) (place : ℕ) (entry : Entry) (progress : Progress) (users : List (Vec Bool)) (own inner : Objects) (r : Bool)
-    → AreUsers script users → IsProgress script entries entry.thread place progress → listed own ≡ objects_of progress.hands entry.call
+pub marked_iff : (script : ScriptParts) (entries : List Entry) (place : ℕ) (entry : Entry) (progress : Progress) (users : List (Vec Bool)) (own inner : Containers) (r : Bool)
+    → AreUsers script users → IsProgress script entries entry.thread place progress → listed own ≡ containers_used progress.hands entry.call
     → ((at marks : ℕ) → listed inner ≡ inner_begun (after_begun at marks entry.call (all_begun progress.sections.items)))
     → IsTrue r ↔ IfSome entry.waited (λ thread. (thread ≢ entry.thread) × (list_any (is_used users thread) (listed own ++ listed inner) ≡ true)) → IsTrue r ↔ IsMarked script entries place entry
 marked_iff script entries place entry progress users own inner r are_users so_far own_is inner_is is =
     let called = entry.call in
     let begun = all_begun progress.sections.items in
     let needs : listed own ++ listed inner ≡ needs_at script entries place entry = λ i.
-    (own_is ∙ ap (λ (hs : List (Option Cursor)). objects_of hs called) so_far.hands) i
+    (own_is ∙ ap (λ (hs : List (Option Cursor)). containers_used hs called) so_far.hands) i
     ++ (inner_is place 0 ∙ sym (inner_alike (after_begun place 0 called begun)) ∙ ap innermost (sections_alike place 0 called begun) ∙ ap (λ (ss : List Section). innermost (after_section place called ss)) (sym so_far.sections)) i in
     let same : (thread : ℕ) → list_any (is_used users thread) (listed own ++ listed inner) ≡ list_any (has_call_on script thread) (needs_at script entries place entry) = λ thread.
     any_alike (is_used users thread) (has_call_on script thread) (listed own ++ listed inner) (are_users thread) ∙ ap (list_any (has_call_on script thread)) needs in
@@ -72,22 +72,22 @@ ends_iff (section ∷ sections) call.Quiesce R Q P each same = (λ _. tt, λ _. 
 
 -- ---- kept
 
-module _ (script : ScriptParts) (entries : List Entry) (place : ℕ) (thread : ℕ) (containers : List LastWrites) (long : length containers ≡ length script.containers) (lasts : (object : ℕ) (last : LastWrites) → slice_get containers object ≡ Some last → IsLast entries place object last) where
-  written_alike : (since object : ℕ) → object < length script.containers → list_any (disturbs thread (object ∷ [])) (drop since (take place entries)) ≡ is_written_on containers thread since object
-  written_alike since object low =
-      elim (slice_get_cases containers object).1 [
-        | inl found ↦ (lasts object found.0 found.2).since thread since ∙ sym (ap (λ o. option_map_or (λ (writes : LastWrites). is_written_since writes thread since) o false) found.2)
+module _ (script : ScriptParts) (entries : List Entry) (place : ℕ) (thread : ℕ) (containers : List LastWrites) (long : length containers ≡ length script.containers) (lasts : (container : ℕ) (last : LastWrites) → slice_get containers container ≡ Some last → IsLast entries place container last) where
+  written_alike : (since container : ℕ) → container < length script.containers → list_any (disturbs thread (container ∷ [])) (drop since (take place entries)) ≡ is_written_on containers thread since container
+  written_alike since container low =
+      elim (slice_get_cases containers container).1 [
+        | inl found ↦ (lasts container found.0 found.2).since thread since ∙ sym (ap (λ o. option_map_or (λ (writes : LastWrites). is_written_since writes thread since) o false) found.2)
         | inr past ↦ absurd (omega (arith, past.0))
       ]
 
-  disturbed_alike : (section : Begun) → All (λ object. object < length script.containers) section.objects → is_disturbed entries thread place (section_of section) ≡ list_any (is_written_on containers thread (section.begun + 1)) section.objects
+  disturbed_alike : (section : Begun) → All (λ container. container < length script.containers) section.containers → is_disturbed entries thread place (section_of section) ≡ list_any (is_written_on containers thread (section.begun + 1)) section.containers
   disturbed_alike section within =
-      ap (list_any (disturbs thread section.objects)) (between_is entries (section.begun + 1) place) ∙ any_of_objects (drop (section.begun + 1) (take place entries)) thread section.objects
-      ∙ any_alike_on (λ object. list_any (disturbs thread (object ∷ [])) (drop (section.begun + 1) (take place entries))) (is_written_on containers thread (section.begun + 1)) section.objects
-      (recursion_from_All (λ object. list_any (disturbs thread (object ∷ [])) (drop (section.begun + 1) (take place entries)) ≡ is_written_on containers thread (section.begun + 1) object) section.objects (λ k d low. written_alike (section.begun + 1) _ (within k d low)))
+      ap (list_any (disturbs thread section.containers)) (between_is entries (section.begun + 1) place) ∙ any_of_containers (drop (section.begun + 1) (take place entries)) thread section.containers
+      ∙ any_alike_on (λ container. list_any (disturbs thread (container ∷ [])) (drop (section.begun + 1) (take place entries))) (is_written_on containers thread (section.begun + 1)) section.containers
+      (recursion_from_All (λ container. list_any (disturbs thread (container ∷ [])) (drop (section.begun + 1) (take place entries)) ≡ is_written_on containers thread (section.begun + 1) container) section.containers (λ k d low. written_alike (section.begun + 1) _ (within k d low)))
 
   kept_alike : (said : Reply) (section : Begun) → IsOpen script entries thread place section → IsKeptSince containers thread section said ↔ IsKeptBy entries thread place (section_of section) said
-  kept_alike reply.Kept section is_open = (λ calm. disturbed_alike section is_open.objects ∙ calm, λ calm. sym (disturbed_alike section is_open.objects) ∙ calm)
+  kept_alike reply.Kept section is_open = (λ calm. disturbed_alike section is_open.containers ∙ calm, λ calm. sym (disturbed_alike section is_open.containers) ∙ calm)
   kept_alike reply.Done section is_open = (λ _. tt, λ _. tt)
   kept_alike (reply.Value value) section is_open = (λ _. tt, λ _. tt)
   kept_alike (reply.Pair key value) section is_open = (λ _. tt, λ _. tt)
@@ -102,7 +102,7 @@ module _ (script : ScriptParts) (entries : List Entry) (place : ℕ) (thread : �
   kept_alike (reply.Raised raise) section is_open = (λ _. tt, λ _. tt)
 
 pub kept_iff : (script : ScriptParts) (entries : List Entry) (place : ℕ) (entry : Entry) (progress : Progress) (containers : List LastWrites) (r : Bool)
-    → length containers ≡ length script.containers → ((object : ℕ) (last : LastWrites) → slice_get containers object ≡ Some last → IsLast entries place object last) → IsProgress script entries entry.thread place progress
+    → length containers ≡ length script.containers → ((container : ℕ) (last : LastWrites) → slice_get containers container ≡ Some last → IsLast entries place container last) → IsProgress script entries entry.thread place progress
     → IsTrue r ↔ IfEndsBegun (all_begun progress.sections.items) entry.call (λ section. IsKeptSince containers entry.thread section entry.reply) → IsTrue r ↔ IsKept entries place entry
 kept_iff script entries place entry progress containers r long lasts so_far is =
     let ends = ends_iff (all_begun progress.sections.items) entry.call (IsOpen script entries entry.thread place) (λ section. IsKeptSince containers entry.thread section entry.reply) (λ section. IsKeptBy entries entry.thread place section entry.reply) so_far.«open» (kept_alike script entries place entry.thread containers long lasts entry.reply) in

@@ -135,9 +135,9 @@ record SameWalk (before after : Cursor) : Type 0 where
 
 same_dict : (pairs : List DictPair) (container : ℕ) (w : Walk) (size expected : ℕ) (last : Option ℕ) → SameWalk (cursor.Dict container w size expected last) (dict_next pairs container w size expected last).cursor
 same_dict pairs container walk.Ended size expected last = record { kind = refl; container = refl }
-same_dict pairs container walk.Told size expected last = record { kind = refl; container = refl }
+same_dict pairs container walk.Reported size expected last = record { kind = refl; container = refl }
 same_dict pairs container walk.Live size expected last =
-    elim (length pairs == size) as (λ b. SameWalk (cursor.Dict container walk.Live size expected last) (cond {A = CursorStep} b (dict_walk (next_pair pairs last) container size expected last) (record { reply = reply.Raised raise.Size; cursor = cursor.Dict container walk.Told size expected last })).cursor) [
+    elim (length pairs == size) as (λ b. SameWalk (cursor.Dict container walk.Live size expected last) (cond {A = CursorStep} b (dict_walk (next_pair pairs last) container size expected last) (record { reply = reply.Raised raise.Size; cursor = cursor.Dict container walk.Reported size expected last })).cursor) [
       | false ↦ record { kind = refl; container = refl }
       | true ↦ elim (next_pair pairs last) as (λ o. SameWalk (cursor.Dict container walk.Live size expected last) (dict_walk o container size expected last).cursor) [
         | None ↦ record { kind = refl; container = refl }
@@ -150,9 +150,9 @@ same_dict pairs container walk.Live size expected last =
 
 same_set : (elements : List Element) (container : ℕ) (w : Walk) (size : ℕ) (last : Option ℕ) → SameWalk (cursor.Set container w size last) (set_next elements container w size last).cursor
 same_set elements container walk.Ended size last = record { kind = refl; container = refl }
-same_set elements container walk.Told size last = record { kind = refl; container = refl }
+same_set elements container walk.Reported size last = record { kind = refl; container = refl }
 same_set elements container walk.Live size last =
-    elim (length elements == size) as (λ b. SameWalk (cursor.Set container walk.Live size last) (cond {A = CursorStep} b (set_walk (next_element elements last) container size last) (record { reply = reply.Raised raise.Size; cursor = cursor.Set container walk.Told size last })).cursor) [
+    elim (length elements == size) as (λ b. SameWalk (cursor.Set container walk.Live size last) (cond {A = CursorStep} b (set_walk (next_element elements last) container size last) (record { reply = reply.Raised raise.Size; cursor = cursor.Set container walk.Reported size last })).cursor) [
       | false ↦ record { kind = refl; container = refl }
       | true ↦ elim (next_element elements last) as (λ o. SameWalk (cursor.Set container walk.Live size last) (set_walk o container size last).cursor) [
         | None ↦ record { kind = refl; container = refl }

@@ -2,7 +2,7 @@ pub mod Agreement
 pub mod Effects
 pub mod Equality
 pub mod FilteredParts
-pub mod GoesBehindLemmas
+pub mod GoesAfterLemmas
 pub mod HandLemmas
 pub mod HistoryOrder
 pub mod Judged

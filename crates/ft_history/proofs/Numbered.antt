@@ -32,7 +32,7 @@ module _ (entries : List Entry) (numbered : IsNumbered entries) (place : ℕ) (e
   pub writes_before_entry : writes (take place entries) ≡ map (λ (e : Entry). e.call) (take entry.stamp (written entries))
   writes_before_entry = ap (map (λ (e : Entry). e.call)) written_before
 
-  -- the number of the first write behind it
+  -- the number of the first write after it
   pub next_write : length (written (take (place + 1) entries)) ≡ entry.stamp + cond entry.wrote 1 0
   next_write = omega (arith, count_writes (take (place + 1) entries), count_next entries place entry at, numbered place entry at)
 

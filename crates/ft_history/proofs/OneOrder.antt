@@ -96,9 +96,9 @@ then_equal Greater p h = absurd (let e : Greater ≡ Equal = h in cc)
 
 same_place_of_thread : (a b : Entry) → history_cmp a b ≡ Equal → (a.thread ≡ b.thread) × (a.index ≡ b.index)
 same_place_of_thread a b alike =
-    let behind_stamp = (then_equal (nat_cmp a.stamp b.stamp) _ alike).1 in
-    let behind_wrote = (then_equal (bool_cmp a.wrote b.wrote) _ behind_stamp).1 in
-    let both = then_equal (nat_cmp a.thread b.thread) (nat_cmp a.index b.index) behind_wrote in
+    let after_stamp = (then_equal (nat_cmp a.stamp b.stamp) _ alike).1 in
+    let after_wrote = (then_equal (bool_cmp a.wrote b.wrote) _ after_stamp).1 in
+    let both = then_equal (nat_cmp a.thread b.thread) (nat_cmp a.index b.index) after_wrote in
     (exact_unsigned a.thread b.thread both.0, exact_unsigned a.index b.index both.1)
 
 -- no two entries of a whole history are alike in the order

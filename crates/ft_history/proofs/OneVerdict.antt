@@ -48,7 +48,7 @@ module _ (storage : Storage) (script : ScriptParts) (entries : List Entry) where
         | inl same ↦ same
         | inr apart ↦ elim apart [
           | inl before ↦ absurd (one.broken (other.before.earlier p r before))
-          | inr behind ↦ absurd (other.broken (one.before.earlier q s behind))
+          | inr after ↦ absurd (other.broken (one.before.earlier q s after))
         ]
       ]
 
@@ -58,7 +58,7 @@ module _ (storage : Storage) (script : ScriptParts) (entries : List Entry) where
         | inl same ↦ same_rule r s same
         | inr apart ↦ elim apart [
           | inl before ↦ absurd (one.broken (other.before.here r before))
-          | inr behind ↦ absurd (other.broken (one.before.here s behind))
+          | inr after ↦ absurd (other.broken (one.before.here s after))
         ]
       ]
 

@@ -1,4 +1,4 @@
--- The open sections of a thread, told by the entries that began them: where these stand, the list says.
+-- The open sections of a thread, reported by the entries that began them: where these stand, the list says.
 use Rattle.std.proofs.Common.{◌≡◌, ℕ, ◌+◌, ◌<◌, ◌≤◌, true, false, List, [], ◌∷◌, ◌++◌, length, take, drop, Some, refl, sym, ap, subst, ◌∙◌, arith, cond, ◌==◌}
 use Rattle.std.specs.List.{fold}
 use Rattle.std.specs.Prelude.{slice_get}
@@ -18,7 +18,7 @@ pub record IsOpened (entries : List Entry) (thread place : ℕ) (section : Secti
   pub before : section.begun < place
   pub at : slice_get entries section.begun ≡ Some begun
   pub mine : begun.thread ≡ thread
-  pub objects : section.objects ≡ containers_of begun.call
+  pub containers : section.containers ≡ containers_of begun.call
 
 -- each of the sections was begun by the entry at its place in the second list
 abbrev pub AreOpened : List Entry → ℕ → ℕ → List Section → List Entry → Type 0
@@ -45,7 +45,7 @@ module _ (entries : List Entry) (thread : ℕ) where
   still_opened place (section ∷ sections) [] opened = opened
   still_opened place (section ∷ sections) (begun ∷ begins) opened =
       let is_opened : IsOpened entries thread place section begun = opened.0 in
-      (record { before = omega (arith, is_opened.before); at = is_opened.at; mine = is_opened.mine; objects = is_opened.objects }, still_opened place sections begins opened.1)
+      (record { before = omega (arith, is_opened.before); at = is_opened.at; mine = is_opened.mine; containers = is_opened.containers }, still_opened place sections begins opened.1)
 
   without_innermost : (place : ℕ) (sections : List Section) (begins : List Entry) → AreOpened entries thread place sections begins → AreOpened entries thread place (drop 1 sections) (drop 1 begins)
   without_innermost place [] [] opened = tt
@@ -56,7 +56,7 @@ module _ (entries : List Entry) (thread : ℕ) where
   opened_after : (place : ℕ) (entry : Entry) (called : Call) (sections : List Section) (begins : List Entry) → slice_get entries place ≡ Some entry → entry.thread ≡ thread → entry.call ≡ called
       → AreOpened entries thread place sections begins → AreOpened entries thread (place + 1) (after_section place called sections) (after_begins entry called begins)
   opened_after place entry (call.Begin first second) sections begins at mine is opened =
-      (record { before = omega arith; at = at; mine = mine; objects = ap containers_of (sym is) }, still_opened place sections begins opened)
+      (record { before = omega arith; at = at; mine = mine; containers = ap containers_of (sym is) }, still_opened place sections begins opened)
   opened_after place entry call.End sections begins at mine is opened = still_opened place (drop 1 sections) (drop 1 begins) (without_innermost place sections begins opened)
   opened_after place entry other sections begins at mine is opened = still_opened place sections begins opened
 
@@ -95,7 +95,7 @@ module _ (one other : List Entry) (thread place place' : ℕ) where
   same_innermost (section ∷ sections) (section' ∷ sections') (begun ∷ begins) opened opened' =
       let is_opened : IsOpened one thread place section begun = opened.0 in
       let is_opened' : IsOpened other thread place' section' begun = opened'.0 in
-      is_opened.objects ∙ sym is_opened'.objects
+      is_opened.containers ∙ sym is_opened'.containers
 
   pub same_innermost_after : (called : Call) (sections sections' : List Section) (begins : List Entry) → AreOpened one thread place sections begins → AreOpened other thread place' sections' begins
       → innermost (after_section place called sections) ≡ innermost (after_section place' called sections')

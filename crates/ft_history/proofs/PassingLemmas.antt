@@ -46,7 +46,7 @@ or_same false = refl
 abbrev some_passes : List Content → List ℕ → Bool
 some_passes world places = list_any passes_cap (map (λ place. get_or world place empty) places)
 
--- ---- what passes behind a write at a place
+-- ---- what passes after a write at a place
 
 module _ (world : List Content) (place : ℕ) (x : Content) (low : place < length world) where
   written_one : some_passes (set world place x) (place ∷ []) ≡ passes_cap x
@@ -170,7 +170,7 @@ length-set_add set key =
       | false ↦ λ absent. simp absent (length_push set.elements (record { serial = set.next; key = key }))
     ] refl
 
--- elements with others that are added behind them
+-- elements with others that are added after them
 length-added : (kept added : List Element) (next : ℕ) → length (kept ++ elements_from next added) ≡ length kept + length added
 length-added kept added next = length-append kept (elements_from next added) ∙ ap (λ n. length kept + n) (length-elements_from next added)
 

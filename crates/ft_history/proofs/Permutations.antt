@@ -19,9 +19,9 @@ module _ {X : Type 0} where
       let k = j - (i + 1) in
       let within : k < length rest = omega (arith, length-drop (i + 1) xs) in
       let there : get_or rest k d ≡ get_or xs j d = get_or-drop (i + 1) xs k d ∙ ap (λ n. get_or xs n d) (omega arith) in
-      let behind : drop (k + 1) rest ≡ drop (j + 1) xs = drop-drop (k + 1) (i + 1) xs ∙ ap (λ n. drop n xs) (omega arith) in
+      let after : drop (k + 1) rest ≡ drop (j + 1) xs = drop-drop (k + 1) (i + 1) xs ∙ ap (λ n. drop n xs) (omega arith) in
       let split : rest ≡ take k rest ++ (get_or xs j d ∷ drop (j + 1) xs) =
-      sym (take-append-drop k rest) ∙ ap (λ (ys : List X). take k rest ++ ys) (drop_more rest k d within ∙ ap (λ (y : X). y ∷ drop (k + 1) rest) there ∙ ap (λ (ys : List X). get_or xs j d ∷ ys) behind) in
+      sym (take-append-drop k rest) ∙ ap (λ (ys : List X). take k rest ++ ys) (drop_more rest k d within ∙ ap (λ (y : X). y ∷ drop (k + 1) rest) there ∙ ap (λ (ys : List X). get_or xs j d ∷ ys) after) in
       sym (take-append-drop i xs) ∙ ap (λ (ys : List X). take i xs ++ ys) (drop_more xs i d (omega arith) ∙ ap (λ (ys : List X). get_or xs i d ∷ ys) split)
 
   swap_parts : (us : List X) (a : X) (vs : List X) (b : X) (ws : List X) (i j : ℕ) → length us ≡ i → i + 1 + length vs ≡ j → swap (us ++ (a ∷ (vs ++ (b ∷ ws)))) i j ≡ us ++ (b ∷ (vs ++ (a ∷ ws)))

@@ -33,18 +33,18 @@ sections_alike place marks call.Quiesce sections = refl
 module _ (script : ScriptParts) (entries : List Entry) (thread place : ℕ) where
   still_open : (sections : List Begun) → AllByRecursion (IsOpen script entries thread place) sections → AllByRecursion (IsOpen script entries thread (place + 1)) sections
   still_open [] is_open = tt
-  still_open (section ∷ sections) is_open = (record { before = omega (arith, is_open.0.before); marks = is_open.0.marks; objects = is_open.0.objects }, still_open sections is_open.1)
+  still_open (section ∷ sections) is_open = (record { before = omega (arith, is_open.0.before); marks = is_open.0.marks; containers = is_open.0.containers }, still_open sections is_open.1)
 
-  open_after : (marks : ℕ) (called : Call) (sections : List Begun) → marks ≡ count_by (is_marked thread) (take (place + 1) entries) → All (λ object. object < length script.containers) (containers_of called)
+  open_after : (marks : ℕ) (called : Call) (sections : List Begun) → marks ≡ count_by (is_marked thread) (take (place + 1) entries) → All (λ which. which < length script.containers) (containers_of called)
       → AllByRecursion (IsOpen script entries thread place) sections → AllByRecursion (IsOpen script entries thread (place + 1)) (after_begun place marks called sections)
-  open_after marks (call.Begin first second) sections count objects is_open = (record { before = omega arith; marks = count; objects = objects }, still_open sections is_open)
-  open_after marks call.End [] count objects is_open = tt
-  open_after marks call.End (section ∷ sections) count objects is_open = still_open sections is_open.1
-  open_after marks (call.Dict container dict_call) sections count objects is_open = still_open sections is_open
-  open_after marks (call.List container list_call) sections count objects is_open = still_open sections is_open
-  open_after marks (call.Set container set_call) sections count objects is_open = still_open sections is_open
-  open_after marks (call.Next cursor) sections count objects is_open = still_open sections is_open
-  open_after marks call.Quiesce sections count objects is_open = still_open sections is_open
+  open_after marks (call.Begin first second) sections count containers is_open = (record { before = omega arith; marks = count; containers = containers }, still_open sections is_open)
+  open_after marks call.End [] count containers is_open = tt
+  open_after marks call.End (section ∷ sections) count containers is_open = still_open sections is_open.1
+  open_after marks (call.Dict container dict_call) sections count containers is_open = still_open sections is_open
+  open_after marks (call.List container list_call) sections count containers is_open = still_open sections is_open
+  open_after marks (call.Set container set_call) sections count containers is_open = still_open sections is_open
+  open_after marks (call.Next cursor) sections count containers is_open = still_open sections is_open
+  open_after marks call.Quiesce sections count containers is_open = still_open sections is_open
 
 -- ---- one entry further
 
@@ -82,12 +82,12 @@ module _ (script : ScriptParts) (entries : List Entry) (place : ℕ) (entry : En
         «open» = still_open script entries thread place (all_begun progress.sections.items) so_far.«open»;
       }
 
-  pub progress_mine : (old new : Progress) → IsProgress script entries entry.thread place old → entry.stamp ≡ length (writes (take place entries)) → All (λ object. object < length script.containers) (containers_of entry.call)
+  pub progress_mine : (old new : Progress) → IsProgress script entries entry.thread place old → entry.stamp ≡ length (writes (take place entries)) → All (λ which. which < length script.containers) (containers_of entry.call)
       → new.made ≡ old.made + 1 → new.marks ≡ old.marks + cond (is_some entry.waited) 1 0
       → new.hands ≡ cond (is_memory entry.reply) old.hands (answer (world_before script entries place) old.hands entry.call).hands
       → all_begun new.sections.items ≡ after_begun place new.marks entry.call (all_begun old.sections.items)
       → IsProgress script entries entry.thread (place + 1) new
-  progress_mine old new so_far stamp objects made marks hands sections =
+  progress_mine old new so_far stamp containers made marks hands sections =
       let count : new.marks ≡ count_by (is_marked entry.thread) (take (place + 1) entries) =
       marks ∙ ap (λ n. n + cond (is_some entry.waited) 1 0) so_far.marks ∙ sym (marks_next entry.thread ∙ ap (λ b. count_by (is_marked entry.thread) (take place entries) + cond (b && is_some entry.waited) 1 0) (eq-eqb entry.thread entry.thread refl)) in
       record {
@@ -95,5 +95,5 @@ module _ (script : ScriptParts) (entries : List Entry) (place : ℕ) (entry : En
         marks = count;
         hands = hands ∙ ap (λ (hs : List (Option Cursor)). cond (is_memory entry.reply) hs (answer (world_before script entries place) hs entry.call).hands) so_far.hands ∙ sym (hands_mine stamp);
         sections = sections_mine ∙ ap (after_section place entry.call) so_far.sections ∙ sym (ap (map section_of) sections ∙ sections_alike place new.marks entry.call (all_begun old.sections.items));
-        «open» = subst (AllByRecursion (IsOpen script entries entry.thread (place + 1))) (sym sections) (open_after script entries entry.thread place new.marks entry.call (all_begun old.sections.items) count objects so_far.«open»);
+        «open» = subst (AllByRecursion (IsOpen script entries entry.thread (place + 1))) (sym sections) (open_after script entries entry.thread place new.marks entry.call (all_begun old.sections.items) count containers so_far.«open»);
       }

@@ -19,19 +19,19 @@ use Rattle.ft_model.specs.Histories.{calls_of, cursors_of}
 declared_within : (containers : List Declaration) (k : Kind) (place : ℕ) → IsDeclaredAs containers k place → place < length containers
 declared_within containers k place is = omega (arith, length-map containers (λ (c : Declaration). c.kind), slice_get_within _ place k (slice_get-map (λ (c : Declaration). c.kind) containers place ∙ is))
 
-one_or_two_within : (n first : ℕ) (second : Option ℕ) → first < n → IfSome second (λ place. place < n) → All (λ object. object < n) (one_or_two first second)
-one_or_two_within n first None low both = All-from_recursion (λ object. object < n) (first ∷ []) (low, tt)
+one_or_two_within : (n first : ℕ) (second : Option ℕ) → first < n → IfSome second (λ place. place < n) → All (λ which. which < n) (one_or_two first second)
+one_or_two_within n first None low both = All-from_recursion (λ which. which < n) (first ∷ []) (low, tt)
 one_or_two_within n first (Some second) low both =
-    elim (eqb first second) as (λ b. All (λ object. object < n) (cond b (first ∷ []) (first ∷ second ∷ []))) [
-      | true ↦ All-from_recursion (λ object. object < n) (first ∷ []) (low, tt)
-      | false ↦ All-from_recursion (λ object. object < n) (first ∷ second ∷ []) (low, (both, tt))
+    elim (eqb first second) as (λ b. All (λ which. which < n) (cond b (first ∷ []) (first ∷ second ∷ []))) [
+      | true ↦ All-from_recursion (λ which. which < n) (first ∷ []) (low, tt)
+      | false ↦ All-from_recursion (λ which. which < n) (first ∷ second ∷ []) (low, (both, tt))
     ]
 
-none_within : (n : ℕ) → All (λ object. object < n) []
-none_within n = All-from_recursion (λ object. object < n) [] tt
+none_within : (n : ℕ) → All (λ which. which < n) []
+none_within n = All-from_recursion (λ which. which < n) [] tt
 
 -- the containers that a call of a script names are declared
-pub named_within : (containers : List Declaration) (cursors : ℕ) (called : Call) → NamesOf containers cursors called → All (λ object. object < length containers) (containers_of called)
+pub named_within : (containers : List Declaration) (cursors : ℕ) (called : Call) → NamesOf containers cursors called → All (λ which. which < length containers) (containers_of called)
 named_within containers cursors (call.Dict place dict_call) names = one_or_two_within _ place _ (declared_within containers _ place names.container) (IfSome_then _ names.second (λ other is. declared_within containers _ other is))
 named_within containers cursors (call.List place list_call) names = one_or_two_within _ place _ (declared_within containers _ place names.container) (IfSome_then _ names.second (λ other is. declared_within containers _ other is))
 named_within containers cursors (call.Set place set_call) names = one_or_two_within _ place _ (declared_within containers _ place names.container) (IfSome_then _ names.second (λ other is. declared_within containers _ other is))
@@ -60,7 +60,7 @@ module _ (script : ScriptParts) (is_script : IsScript script) (thread : ℕ) (fo
       (subst (IsCallOf script (length found.cursors)) (get_or_from_slice_get found.calls place called called in_thread) (is_thread.calls place called (slice_get_within found.calls place called in_thread)))
 
   -- and names containers of the script
-  pub calls_within : All (λ called. All (λ object. object < length script.containers) (containers_of called)) found.calls
+  pub calls_within : All (λ called. All (λ which. which < length script.containers) (containers_of called)) found.calls
   calls_within k d low = named_within script.containers _ (get_or found.calls k d) (is_thread.calls k d low).names
 
 pub calls_of-at : (script : ScriptParts) (thread : ℕ) (found : Thread) → slice_get script.threads thread ≡ Some found → calls_of script thread ≡ found.calls

@@ -40,11 +40,11 @@ still_begun : (entries : List Entry) (thread place : ℕ) (sections : List Secti
 still_begun entries thread place [] begun = tt
 still_begun entries thread place (section ∷ sections) begun =
     let is_begun : IsBegun entries thread place section = begun.0 in
-    (record { before = omega (arith, is_begun.before); entry = is_begun.entry; at = is_begun.at; mine = is_begun.mine; first = is_begun.first; second = is_begun.second; call = is_begun.call; objects = is_begun.objects }, still_begun entries thread place sections begun.1)
+    (record { before = omega (arith, is_begun.before); entry = is_begun.entry; at = is_begun.at; mine = is_begun.mine; first = is_begun.first; second = is_begun.second; call = is_begun.call; containers = is_begun.containers }, still_begun entries thread place sections begun.1)
 
 begun_after : (entries : List Entry) (thread place : ℕ) (entry : Entry) (called : Call) (sections : List Section) → slice_get entries place ≡ Some entry → entry.thread ≡ thread → entry.call ≡ called → AreBegun entries thread place sections → AreBegun entries thread (place + 1) (after_section place called sections)
 begun_after entries thread place entry (call.Begin first second) sections at mine is begun =
-    (record { before = omega arith; entry = entry; at = at; mine = mine; first = first; second = second; call = is; objects = ap containers_of (sym is) }, still_begun entries thread place sections begun)
+    (record { before = omega arith; entry = entry; at = at; mine = mine; first = first; second = second; call = is; containers = ap containers_of (sym is) }, still_begun entries thread place sections begun)
 begun_after entries thread place entry call.End [] at mine is begun = tt
 begun_after entries thread place entry call.End (section ∷ sections) at mine is begun = still_begun entries thread place sections begun.1
 begun_after entries thread place entry (call.Dict container dict_call) sections at mine is begun = still_begun entries thread place sections begun
@@ -64,13 +64,13 @@ sections_begun entries thread =
 
 -- ---- untouched
 
-any_contained : (objects named : List ℕ) (object : ℕ) → Contains objects object → Contains named object → list_any (λ o. list_any (λ n. n == o) named) objects ≡ true
-any_contained objects named object held written =
-    list_any_at (λ o. list_any (λ n. n == o) named) objects held.0 object held.1
-    (ap (λ o. list_any (λ n. n == o) named) held.2 ∙ list_any_at (λ n. n == object) named written.0 object written.1 (ap (λ n. n == object) written.2 ∙ eq-eqb object object refl))
+any_contained : (containers named : List ℕ) (container : ℕ) → Contains containers container → Contains named container → list_any (λ o. list_any (λ n. n == o) named) containers ≡ true
+any_contained containers named container held written =
+    list_any_at (λ o. list_any (λ n. n == o) named) containers held.0 container held.1
+    (ap (λ o. list_any (λ n. n == o) named) held.2 ∙ list_any_at (λ n. n == container) named written.0 container written.1 (ap (λ n. n == container) written.2 ∙ eq-eqb container container refl))
 
-pub untouched : (entries : List Entry) (thread ended : ℕ) (section : Section) → is_disturbed entries thread ended section ≡ false → IsUntouched entries thread section.begun ended section.objects
-untouched entries thread ended section calm place entry object behind before at wrote other held written =
+pub untouched : (entries : List Entry) (thread ended : ℕ) (section : Section) → is_disturbed entries thread ended section ≡ false → IsUntouched entries thread section.begun ended section.containers
+untouched entries thread ended section calm place entry container after before at wrote other held written =
     let low : place < length entries = slice_get_within entries place entry at in
     let start = section.begun + 1 in
     let part = between start ended entries in
@@ -80,5 +80,5 @@ untouched entries thread ended section calm place entry object behind before at 
     ∙ ap (λ n. get_or (take ended entries) n entry) (let e : start + (place - start) ≡ place = omega arith in e)
     ∙ get_or-take ended entries place entry before ∙ get_or_from_slice_get entries place entry entry at in
     let within : place - start < length part = omega (arith, ap length is, length-drop start (take ended entries), length-take ended entries) in
-    let test : disturbs thread section.objects entry ≡ true = simp (wrote, ne_eqb entry.thread thread other, any_contained section.objects (containers_of entry.call) object held written) in
-    false≢true (sym calm ∙ list_any_at (disturbs thread section.objects) part (place - start) entry within (ap (disturbs thread section.objects) there ∙ test))
+    let test : disturbs thread section.containers entry ≡ true = simp (wrote, ne_eqb entry.thread thread other, any_contained section.containers (containers_of entry.call) container held written) in
+    false≢true (sym calm ∙ list_any_at (disturbs thread section.containers) part (place - start) entry within (ap (disturbs thread section.containers) there ∙ test))

@@ -64,7 +64,7 @@ ranks_rise entries numbered =
     let at : slice_get entries k ≡ Some a = slice_get-get_or entries k d (omega arith) in
     let at' : slice_get entries (k + 1) ≡ Some b = slice_get-get_or entries (k + 1) d within in
     let before : a.stamp ≡ length (writes (take k entries)) = numbered k a at in
-    let behind : b.stamp ≡ length (writes (take k entries)) + cond a.wrote 1 0 = numbered (k + 1) b at' ∙ count_next entries k a at in
+    let after : b.stamp ≡ length (writes (take k entries)) + cond a.wrote 1 0 = numbered (k + 1) b at' ∙ count_next entries k a at in
     let one : cond {A = ℕ} a.wrote 1 0 ≤ 1 = at_most_one a in
     let goal : rank a ≤ rank b = omega arith in goal)
 
@@ -140,8 +140,8 @@ module _ (script : ScriptParts) (chronicle history : List Entry) (whole : IsWhol
         subst (λ (x : Entry). rank x ≤ rank entry) (sym (get_or-take place history k d before))
         (subst (λ (x : Entry). rank (get_or history k d) ≤ rank x) (get_or_from_slice_get history place entry d at) (rises k place d (omega arith) low)))
 
-    no_lower_behind : All (λ x. rank entry ≤ rank x) (written (drop place history))
-    no_lower_behind =
+    no_lower_after : All (λ x. rank entry ≤ rank x) (written (drop place history))
+    no_lower_after =
         All-filter (λ (e : Entry). e.wrote) (λ x. rank entry ≤ rank x) (drop place history) (λ k d below.
         subst (λ (x : Entry). rank entry ≤ rank x) (sym (get_or-drop place history k d))
         (subst (λ (x : Entry). rank x ≤ rank (get_or history (place + k) d)) (get_or_from_slice_get history place entry d at) (rises place (place + k) d (omega arith) (omega (arith, below, length-drop place history)))))
@@ -165,9 +165,9 @@ module _ (script : ScriptParts) (chronicle history : List Entry) (whole : IsWhol
         let high : rank last ≤ rank entry = no_higher (n - 1) entry (omega arith) in
         omega arith
 
-    -- and those behind it no lower one
-    not_behind : length (written (take place history)) < entry.stamp → ⊥
-    not_behind less =
+    -- and those after it no lower one
+    not_after : length (written (take place history)) < entry.stamp → ⊥
+    not_after less =
         let n = length (written (take place history)) in
         let there = still_there place entry at in
         let stamp : entry.stamp ≡ length (written (take there.0 chronicle)) = numbered there.0 entry there.1 ∙ count_writes (take there.0 chronicle) in
@@ -177,14 +177,14 @@ module _ (script : ScriptParts) (chronicle history : List Entry) (whole : IsWhol
         let in_all : get_or (written history) (n + 0) entry ≡ next =
         ap (λ (es : List Entry). get_or es (n + 0) entry) (filter_parts (λ (e : Entry). e.wrote) history place) ∙ get_or-append-add (written (take place history)) (written (drop place history)) 0 entry in
         let number : next.stamp ≡ n + 0 = ap (λ (e : Entry). e.stamp) (sym in_all) ∙ history_stamp_at (n + 0) entry (omega (arith, count_parts history place)) in
-        let high : rank entry ≤ rank next = no_lower_behind 0 entry some in
+        let high : rank entry ≤ rank next = no_lower_after 0 entry some in
         let one : cond {A = ℕ} next.wrote 1 0 ≤ 1 = at_most_one next in
         omega arith
 
     read_stamped : entry.wrote ≡ false → entry.stamp ≡ length (written (take place history))
     read_stamped read = elim (cases_order entry.stamp (length (written (take place history)))) [
       | inl same ↦ same
-      | inr differ ↦ elim differ [ inl less ↦ absurd (read_not_before read less) | inr more ↦ absurd (not_behind more) ]
+      | inr differ ↦ elim differ [ inl less ↦ absurd (read_not_before read less) | inr more ↦ absurd (not_after more) ]
     ]
 
     pub history_numbered : entry.stamp ≡ length (writes (take place history))

@@ -19,7 +19,7 @@ use Rattle.ft_model.specs.declared.script.ScriptParts.{ScriptParts}
 use Rattle.ft_model.specs.Answers.{answer}
 use Rattle.ft_model.specs.Tables.{IsEarned}
 use Rattle.ft_model.specs.Histories.{history_cmp, writes, world_at, entries_of, calls_of, hands_at, IsReplied, IsAnswered, IsWhole, IsLegal}
-use Rattle.ft_model.specs.Judging.{IsNext, IsStamped, IsBehind, IsTold, Keeps, IsComplete, KeepsBehind, IsKeptAt, IsUnbroken}
+use Rattle.ft_model.specs.Judging.{IsNext, IsStamped, IsAfter, HasRightReply, Keeps, IsComplete, KeepsAfter, HoldsAt, IsUnbroken}
 use Rattle.ft_history.proofs.Places.{take_next, drop_here, filter_next, filter_parts, slice_get_at, count_next, by_places}
 
 -- ---- what a thread has done of its calls
@@ -67,8 +67,8 @@ module _ (storage : Storage) (script : ScriptParts) (entries : List Entry) (lega
             ∙ slice_get-map (λ (e : Entry). e.call) (entries_of entry.thread entries) (length front) ∙ ap (option_map (λ (e : Entry). e.call)) here;
       }
 
-  behind_of_legal : (place : ℕ) (entry : Entry) → slice_get entries place ≡ Some entry → IsBehind entries place entry
-  behind_of_legal place entry at last before next before_at read_before read same =
+  after_of_legal : (place : ℕ) (entry : Entry) → slice_get entries place ≡ Some entry → IsAfter entries place entry
+  after_of_legal place entry at last before next before_at read_before read same =
       let low : last + 1 < length entries = let w = slice_get_within entries place entry at in omega arith in
       let e0 : get_or entries last before ≡ before = cc (slice_get-get_or entries last before (omega arith)) in
       let e1 : get_or entries (last + 1) before ≡ entry = cc (slice_get-get_or entries (last + 1) before low) in
@@ -77,7 +77,7 @@ module _ (storage : Storage) (script : ScriptParts) (entries : List Entry) (lega
   keeps_of_legal : (place : ℕ) (entry : Entry) → slice_get entries place ≡ Some entry → (r : Rule) → Keeps storage script entries r place entry
   keeps_of_legal place entry at rule.Whole = next_of_legal place entry at
   keeps_of_legal place entry at rule.Stamp = record { stamp = (legal.answered place entry at).stamp; wrote = (legal.answered place entry at).wrote }
-  keeps_of_legal place entry at rule.Order = behind_of_legal place entry at
+  keeps_of_legal place entry at rule.Order = after_of_legal place entry at
   keeps_of_legal place entry at rule.Reply = subst (λ n. IsReplied entry.call entry.reply (answer (world_at script entries n) (hands_at script entries entry.thread place) entry.call).reply) (legal.answered place entry at).stamp (legal.answered place entry at).reply
   keeps_of_legal place entry at rule.Mark = legal.marked place entry at
   keeps_of_legal place entry at rule.Kept = legal.kept place entry at
@@ -89,20 +89,20 @@ module _ (storage : Storage) (script : ScriptParts) (entries : List Entry) (lega
   complete_of_legal : IsComplete script entries
   complete_of_legal thread = omega (arith, ap length (legal.whole.calls thread), length-map (entries_of thread entries) (λ (e : Entry). e.call))
 
-  keeps_behind_of_legal : (r : Rule) → KeepsBehind script entries r
-  keeps_behind_of_legal rule.Missing = complete_of_legal
-  keeps_behind_of_legal rule.Whole = tt
-  keeps_behind_of_legal rule.Stamp = tt
-  keeps_behind_of_legal rule.Order = tt
-  keeps_behind_of_legal rule.Reply = tt
-  keeps_behind_of_legal rule.Mark = tt
-  keeps_behind_of_legal rule.Kept = tt
-  keeps_behind_of_legal rule.Suspended = tt
-  keeps_behind_of_legal rule.Memory = tt
-  keeps_behind_of_legal rule.World = tt
+  keeps_after_of_legal : (r : Rule) → KeepsAfter script entries r
+  keeps_after_of_legal rule.Missing = complete_of_legal
+  keeps_after_of_legal rule.Whole = tt
+  keeps_after_of_legal rule.Stamp = tt
+  keeps_after_of_legal rule.Order = tt
+  keeps_after_of_legal rule.Reply = tt
+  keeps_after_of_legal rule.Mark = tt
+  keeps_after_of_legal rule.Kept = tt
+  keeps_after_of_legal rule.Suspended = tt
+  keeps_after_of_legal rule.Memory = tt
+  keeps_after_of_legal rule.World = tt
 
   pub unbroken_of_legal : IsUnbroken storage script entries
-  unbroken_of_legal place r = record { entry = λ entry at. keeps_of_legal place entry at r; behind = λ _. keeps_behind_of_legal r }
+  unbroken_of_legal place r = record { entry = λ entry at. keeps_of_legal place entry at r; after = λ _. keeps_after_of_legal r }
 
 -- ---- from one that breaks no rule
 
@@ -156,7 +156,7 @@ module _ (storage : Storage) (script : ScriptParts) (entries : List Entry) (unbr
   whole_of_unbroken =
       let front : (thread : ℕ) → IsFront (calls_of script thread) (entries_of thread entries) = λ thread. subst (λ es. IsFront (calls_of script thread) (entries_of thread es)) (take_all (length entries) entries (omega arith)) (fronts script entries (λ place entry at. (unbroken place rule.Whole).entry entry at) thread (length entries) (omega arith)) in
       record {
-        calls = λ thread. (front thread).made ∙ take_all _ _ ((unbroken (length entries) rule.Missing).behind refl thread);
+        calls = λ thread. (front thread).made ∙ take_all _ _ ((unbroken (length entries) rule.Missing).after refl thread);
         indexes = λ thread. (front thread).indexes;
       }
 

@@ -12,7 +12,7 @@ use Rattle.ft_model.specs.declared.entry.Storage.{Storage}
 use Rattle.ft_model.specs.declared.script.Thread.{Thread}
 use Rattle.ft_model.specs.declared.script.ScriptParts.{ScriptParts}
 use Rattle.ft_model.specs.Histories.{calls_of, entries_of, IsLegal}
-use Rattle.ft_model.specs.Judging.{IsKeptAt, KeepsBehind, IsComplete, IsUnbroken, IsFirstBroken, rank_of}
+use Rattle.ft_model.specs.Judging.{HoldsAt, KeepsAfter, IsComplete, IsUnbroken, IsFirstBroken, rank_of}
 use Rattle.ft_history.specs.declared.progress.Progress.{Progress}
 use Rattle.ft_history.specs.declared.state.State.{State}
 use Rattle.ft_history.specs.Steps.{IsState, IsUnbrokenBefore, BreaksFirst, Finds, HaveMadeAll}
@@ -26,14 +26,14 @@ module _ (s : Storage) (script : ScriptParts) (entries : List Entry) (place : �
         | inl earlier ↦ unbroken before r earlier
         | inr late ↦
             let here : place ≡ before = omega arith in
-            subst (λ p. IsKeptAt s script entries p r) here (record { entry = λ entry at. finds entry at r; behind = λ end. absurd (omega arith) })
+            subst (λ p. HoldsAt s script entries p r) here (record { entry = λ entry at. finds entry at r; after = λ end. absurd (omega arith) })
       ]
 
   -- what is found is the first that is broken
   pub first_broken : (r : Rule) → ((entry : Entry) → slice_get entries place ≡ Some entry → Finds s script entries place entry (Some r)) → IsFirstBroken s script entries place r
   first_broken r finds =
       record {
-        before = record { earlier = unbroken; here = λ other rank. record { entry = λ entry at. (finds entry at).before other rank; behind = λ end. absurd (omega arith) } };
+        before = record { earlier = unbroken; here = λ other rank. record { entry = λ entry at. (finds entry at).before other rank; after = λ end. absurd (omega arith) } };
         broken = λ kept. elim (slice_get_cases entries place).1 [
           | inl found ↦ (finds found.0 found.2).broken (kept.entry found.0 found.2)
           | inr past ↦ absurd (omega (arith, past.0))
@@ -62,22 +62,22 @@ complete_iff script entries state r is_state is =
     )
 
 module _ (s : Storage) (script : ScriptParts) (entries : List Entry) (unbroken : IsUnbrokenBefore s script entries (length entries)) where
-  behind_all : (place : ℕ) (r : Rule) → length entries ≤ place → (place ≡ length entries → KeepsBehind script entries r) → IsKeptAt s script entries place r
-  behind_all place r past behind = record { entry = λ entry at. absurd (let low = slice_get_within entries place entry at in omega arith); behind = behind }
+  after_all : (place : ℕ) (r : Rule) → length entries ≤ place → (place ≡ length entries → KeepsAfter script entries r) → HoldsAt s script entries place r
+  after_all place r past after = record { entry = λ entry at. absurd (let low = slice_get_within entries place entry at in omega arith); after = after }
 
-  keeps_behind : (r : Rule) → IsComplete script entries → KeepsBehind script entries r
-  keeps_behind rule.Missing complete = complete
-  keeps_behind rule.Whole complete = tt
-  keeps_behind rule.Stamp complete = tt
-  keeps_behind rule.Order complete = tt
-  keeps_behind rule.Reply complete = tt
-  keeps_behind rule.Mark complete = tt
-  keeps_behind rule.Kept complete = tt
-  keeps_behind rule.Suspended complete = tt
-  keeps_behind rule.Memory complete = tt
-  keeps_behind rule.World complete = tt
+  keeps_after : (r : Rule) → IsComplete script entries → KeepsAfter script entries r
+  keeps_after rule.Missing complete = complete
+  keeps_after rule.Whole complete = tt
+  keeps_after rule.Stamp complete = tt
+  keeps_after rule.Order complete = tt
+  keeps_after rule.Reply complete = tt
+  keeps_after rule.Mark complete = tt
+  keeps_after rule.Kept complete = tt
+  keeps_after rule.Suspended complete = tt
+  keeps_after rule.Memory complete = tt
+  keeps_after rule.World complete = tt
 
-  keeps_lower : (r : Rule) → rank_of r < 8 → KeepsBehind script entries r
+  keeps_lower : (r : Rule) → rank_of r < 8 → KeepsAfter script entries r
   keeps_lower rule.Missing low = absurd (omega arith)
   keeps_lower rule.World low = tt
   keeps_lower rule.Whole low = tt
@@ -95,12 +95,12 @@ module _ (s : Storage) (script : ScriptParts) (entries : List Entry) (unbroken :
       legal_of_unbroken s script entries (λ place q.
       elim (cases_lt place (length entries)) [
         | inl low ↦ unbroken place q low
-        | inr past ↦ behind_all place q past (λ _. keeps_behind q complete)
+        | inr past ↦ after_all place q past (λ _. keeps_after q complete)
       ])
 
   pub missing_at_end : (state : State) (r : Bool) → IsState script entries (length entries) state → IsTrue r ↔ HaveMadeAll script.threads state.threads.items → r ≡ false → IsFirstBroken s script entries (length entries) rule.Missing
   missing_at_end state r is_state is off =
       record {
-        before = record { earlier = unbroken; here = λ other low. behind_all (length entries) other (omega arith) (λ _. keeps_lower other low) };
-        broken = λ kept. false≢true (sym off ∙ (complete_iff script entries state r is_state is).1 (kept.behind refl));
+        before = record { earlier = unbroken; here = λ other low. after_all (length entries) other (omega arith) (λ _. keeps_lower other low) };
+        broken = λ kept. false≢true (sym off ∙ (complete_iff script entries state r is_state is).1 (kept.after refl));
       }

@@ -7,9 +7,9 @@ use Rattle.ft_model.specs.Histories.{Section}
 
 -- strictly between the two places no other thread's write names one of the containers (C API, critical sections)
 abbrev pub IsUntouched : List Entry → ℕ → ℕ → ℕ → List ℕ → Type 0
-IsUntouched entries thread begun ended objects =
-    (place : ℕ) (entry : Entry) (object : ℕ) → begun < place → place < ended → slice_get entries place ≡ Some entry
-    → entry.wrote ≡ true → entry.thread ≢ thread → Contains objects object → ¬ (Contains (containers_of entry.call) object)
+IsUntouched entries thread begun ended containers =
+    (place : ℕ) (entry : Entry) (container : ℕ) → begun < place → place < ended → slice_get entries place ≡ Some entry
+    → entry.wrote ≡ true → entry.thread ≢ thread → Contains containers container → ¬ (Contains (containers_of entry.call) container)
 
 -- the section was begun by a `begin` of the thread on its containers, before the place (profile)
 pub record IsBegun (entries : List Entry) (thread place : ℕ) (section : Section) : Type 0 where
@@ -20,4 +20,4 @@ pub record IsBegun (entries : List Entry) (thread place : ℕ) (section : Sectio
   pub first : ℕ
   pub second : Option ℕ
   pub call : entry.call ≡ call.Begin first second
-  pub objects : section.objects ≡ containers_of entry.call
+  pub containers : section.containers ≡ containers_of entry.call

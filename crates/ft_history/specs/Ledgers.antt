@@ -41,7 +41,7 @@ pub record CountsTaking (taking : Option ℕ) (old new : List ℕ) : Type 0 wher
   pub classes : length new ≡ length old
   pub takings : (class : ℕ) → IsClass class → taken_of new class ≡ taken_of old class + (if is_class class taking then 1 else 0)
 
--- what is kept goes on behind a call that led from one world to another
+-- what is kept goes on after a call that led from one world to another
 pub record GoesOn (old new : List Content) (called : Call) (before after : Ledger) : Type 0 where
   pub tables : tables_of after.tables.items ≡ leaves_tables old new (tables_of before.tables.items) called (takes_class old new (tables_of before.tables.items) called)
   pub takings : CountsTaking (takes_class old new (tables_of before.tables.items) called) before.takings.items after.takings.items

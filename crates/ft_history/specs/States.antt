@@ -18,15 +18,15 @@ use Rattle.ft_model.specs.declared.content.Content.TheVariants as content
 use Rattle.ft_model.specs.Worlds.{start_world, start_hands, IsDeclared, cursor_at, cursor_kind, container_of}
 use Rattle.ft_model.specs.Answers.{after_write}
 use Rattle.ft_model.specs.Histories.{Section, entries_of, calls_of, cursors_of, hands_at, writes, sections_at, is_marked, disturbs, has_call_on}
-use Rattle.ft_history.specs.declared.objects.Objects.{Objects}
+use Rattle.ft_history.specs.declared.containers.Containers.{Containers}
 use Rattle.ft_history.specs.declared.progress.OpenSection.{OpenSection}
 use Rattle.ft_history.specs.declared.progress.Progress.{Progress}
 use Rattle.ft_history.specs.declared.writers.LastWrites.{LastWrites}
 use Rattle.ft_history.specs.declared.writers.Write.{Write}
 
 -- the containers, in order
-abbrev pub listed : Objects → List ℕ
-listed objects = option_to_list objects.first ++ option_to_list objects.second
+abbrev pub listed : Containers → List ℕ
+listed containers = option_to_list containers.first ++ option_to_list containers.second
 
 -- ---- contents
 
@@ -49,42 +49,42 @@ IsAskable world hands called = IsDeclared world hands called
 
 -- whether a table says that the thread has a call on the container
 abbrev pub is_used : List (Vec Bool) → ℕ → ℕ → Bool
-is_used users thread object = option_map_or (λ (used : Vec Bool). slice_index_or used.items object false) (slice_get users thread) false
+is_used users thread container = option_map_or (λ (used : Vec Bool). slice_index_or used.items container false) (slice_get users thread) false
 
 -- the table is right
 abbrev pub AreUsers : ScriptParts → List (Vec Bool) → Type 0
-AreUsers script users = (thread object : ℕ) → is_used users thread object ≡ has_call_on script thread object
+AreUsers script users = (thread container : ℕ) → is_used users thread container ≡ has_call_on script thread container
 
 -- ---- open sections
 
 -- an open section: its containers, the place of its `begin`, and how many calls of its thread had waited then
 pub record Begun : Type 0 where
-  pub objects : List ℕ
+  pub containers : List ℕ
   pub begun : ℕ
   pub marks : ℕ
 
 abbrev pub begun_of : OpenSection → Begun
-begun_of section = record { objects = listed section.objects; begun = section.begun; marks = section.marks }
+begun_of section = record { containers = listed section.containers; begun = section.begun; marks = section.marks }
 
 -- innermost first
 abbrev pub all_begun : List OpenSection → List Begun
 all_begun sections = reverse (map begun_of sections)
 
--- the open sections of a thread after a call of it at a place, by when so many of its calls have waited
+-- the open sections of a thread after a call of it at a place, by when that many of its calls have waited
 abbrev pub after_begun : ℕ → ℕ → Call → List Begun → List Begun
-after_begun place marks (call.Begin first second) sections = record { objects = one_or_two first second; begun = place; marks = marks } ∷ sections
+after_begun place marks (call.Begin first second) sections = record { containers = one_or_two first second; begun = place; marks = marks } ∷ sections
 after_begun place marks call.End sections = drop 1 sections
 after_begun place marks other sections = sections
 
 -- the section without its count
 abbrev pub section_of : Begun → Section
-section_of begun = record { objects = begun.objects; begun = begun.begun }
+section_of begun = record { containers = begun.containers; begun = begun.begun }
 
 -- what is kept of an open section of a thread at a place: how many calls of the thread had waited when it was begun
 pub record IsOpen (script : ScriptParts) (entries : List Entry) (thread place : ℕ) (section : Begun) : Type 0 where
   pub before : section.begun < place
   pub marks : section.marks ≡ count_by (is_marked thread) (take (section.begun + 1) entries)
-  pub objects : All (λ object. object < length script.containers) section.objects
+  pub containers : All (λ container. container < length script.containers) section.containers
 
 -- of an `end`, this holds for what is kept of the section that it ends
 abbrev pub IfEndsBegun : List Begun → Call → (Begun → Type 0) → Type 0
@@ -94,9 +94,9 @@ IfEndsBegun sections other P = Unit {0}
 -- the containers of the innermost open section, where there is one
 abbrev pub inner_begun : List Begun → List ℕ
 inner_begun [] = []
-inner_begun (section ∷ sections) = section.objects
+inner_begun (section ∷ sections) = section.containers
 
--- an `end` says that so many calls in its section waited
+-- an `end` says that that many calls in its section waited
 abbrev pub IsCountedAs : ℕ → Reply → Type 0
 IsCountedAs marks reply.Kept = marks ≡ 0
 IsCountedAs marks (reply.Suspended count) = (1 ≤ count) × (marks ≡ count)
@@ -119,7 +119,7 @@ pub record IsFresh (thread : Thread) (progress : Progress) : Type 0 where
   pub hands : progress.hands ≡ start_hands (length thread.cursors)
   pub sections : progress.sections.items ≡ []
 
--- hands of a thread that has made so many of its calls: each cursor that these make is there, over a container of its kind
+-- hands of a thread that has made that many of its calls: each cursor that these make is there, over a container of its kind
 pub record AreHandsOf (script : ScriptParts) (thread made : ℕ) (hands : List (Option Cursor)) : Type 0 where
   pub room : length hands ≡ cursors_of script thread
   pub kinds : (number : ℕ) → IfSome (cursor_at hands number) (λ cursor. IsDeclaredAs script.containers (cursor_kind cursor) (container_of cursor))
@@ -132,9 +132,9 @@ abbrev pub other_than : ℕ → Option Write → Option ℕ → Option ℕ
 other_than thread None other = other
 other_than thread (Some last) other = if last.thread == thread then other else Some last.place
 
--- the last writes behind one more
-abbrev pub behind_one : LastWrites → ℕ → ℕ → LastWrites
-behind_one writes thread place = record { last = Some (record { thread = thread; place = place }); other = other_than thread writes.last writes.other }
+-- the last writes after one more
+abbrev pub after_one : LastWrites → ℕ → ℕ → LastWrites
+after_one writes thread place = record { last = Some (record { thread = thread; place = place }); other = other_than thread writes.last writes.other }
 
 -- whether a place is there, from this one on
 abbrev pub is_from : ℕ → Option ℕ → Bool
@@ -146,18 +146,18 @@ abbrev pub is_written_since : LastWrites → ℕ → ℕ → Bool
 is_written_since writes thread since = option_map_or (λ last. if last.thread == thread then is_from since writes.other else nat_le since last.place) writes.last false
 
 -- what is kept of the writes on a container before a place
-pub record IsLast (entries : List Entry) (place object : ℕ) (writes : LastWrites) : Type 0 where
+pub record IsLast (entries : List Entry) (place container : ℕ) (writes : LastWrites) : Type 0 where
   -- it tells whether another thread wrote on the container, from any place on
-  pub since : (thread since : ℕ) → list_any (disturbs thread (object ∷ [])) (drop since (take place entries)) ≡ is_written_since writes thread since
+  pub since : (thread since : ℕ) → list_any (disturbs thread (container ∷ [])) (drop since (take place entries)) ≡ is_written_since writes thread since
   pub last : IfSome writes.last (λ write. write.place < place)
   pub other : IfSome writes.other (λ at. at < place)
   pub first : writes.last ≡ None → writes.other ≡ None
 
 -- whether the kept writes say that another thread wrote on the container, from a place on
 abbrev pub is_written_on : List LastWrites → ℕ → ℕ → ℕ → Bool
-is_written_on containers thread since object = option_map_or (λ (writes : LastWrites). is_written_since writes thread since) (slice_get containers object) false
+is_written_on containers thread since container = option_map_or (λ (writes : LastWrites). is_written_since writes thread since) (slice_get containers container) false
 
--- an `end` says kept only where no other thread wrote on the section's containers behind its `begin`
+-- an `end` says kept only where no other thread wrote on the section's containers after its `begin`
 abbrev pub IsKeptSince : List LastWrites → ℕ → Begun → Reply → Type 0
-IsKeptSince containers thread section reply.Kept = list_any (is_written_on containers thread (section.begun + 1)) section.objects ≡ false
+IsKeptSince containers thread section reply.Kept = list_any (is_written_on containers thread (section.begun + 1)) section.containers ≡ false
 IsKeptSince containers thread section said = Unit {0}

@@ -9,12 +9,12 @@ use Rattle.ft_model.specs.declared.script.ScriptParts.{ScriptParts}
 use Rattle.ft_model.specs.Worlds.{kind_of}
 use Rattle.ft_model.specs.Answers.{answer, is_memory}
 use Rattle.ft_model.specs.Histories.{writes, names, IsReplied}
-use Rattle.ft_model.specs.Judging.{Keeps, IsKeptAt, rank_of}
+use Rattle.ft_model.specs.Judging.{Keeps, HoldsAt, rank_of}
 use Rattle.ft_history.specs.declared.progress.Progress.{Progress}
 use Rattle.ft_history.specs.declared.writers.LastWrites.{LastWrites}
 use Rattle.ft_history.specs.declared.state.State.{State}
 use Rattle.ft_history.specs.Ledgers.{IsLedger, GoesOn}
-use Rattle.ft_history.specs.States.{world_before, all_begun, after_begun, behind_one, IsProgress, AreHandsOf, IsLast}
+use Rattle.ft_history.specs.States.{world_before, all_begun, after_begun, after_one, IsProgress, AreHandsOf, IsLast}
 
 -- the state says what the entries before a place come to
 pub record IsState (script : ScriptParts) (entries : List Entry) (place : ℕ) (state : State) : Type 0 where
@@ -25,14 +25,14 @@ pub record IsState (script : ScriptParts) (entries : List Entry) (place : ℕ) (
   pub progress : (thread : ℕ) (progress : Progress) → slice_get state.threads.items thread ≡ Some progress → IsProgress script entries thread place progress
   pub hands : (thread : ℕ) (progress : Progress) → slice_get state.threads.items thread ≡ Some progress → AreHandsOf script thread progress.made progress.hands
   pub containers : length state.containers.items ≡ length script.containers
-  pub lasts : (object : ℕ) (last : LastWrites) → slice_get state.containers.items object ≡ Some last → IsLast entries place object last
+  pub lasts : (container : ℕ) (last : LastWrites) → slice_get state.containers.items container ≡ Some last → IsLast entries place container last
   pub ledger : IsLedger script (writes (take place entries)) state.ledger
 
--- the state goes on behind an entry of the thread that went on from one progress to another
-pub record GoesBehind (place : ℕ) (entry : Entry) (said : Bool) (before after : Progress) (old new : State) : Type 0 where
+-- the state goes on after an entry of the thread that went on from one progress to another
+pub record GoesAfter (place : ℕ) (entry : Entry) (said : Bool) (before after : Progress) (old new : State) : Type 0 where
   pub at : slice_get old.threads.items entry.thread ≡ Some before
   pub threads : new.threads.items ≡ slice_set old.threads.items entry.thread after
-  pub told : IsTrue said ↔ IsReplied entry.call entry.reply (answer old.world before.hands entry.call).reply
+  pub reported : IsTrue said ↔ IsReplied entry.call entry.reply (answer old.world before.hands entry.call).reply
   pub world : new.world ≡ (if is_memory entry.reply then old.world else (answer old.world before.hands entry.call).world)
   pub hands : after.hands ≡ (if is_memory entry.reply then before.hands else (answer old.world before.hands entry.call).hands)
   pub made : after.made ≡ before.made + 1
@@ -40,16 +40,16 @@ pub record GoesBehind (place : ℕ) (entry : Entry) (said : Bool) (before after 
   pub sections : all_begun after.sections.items ≡ after_begun place after.marks entry.call (all_begun before.sections.items)
   pub writes : new.writes ≡ old.writes + (if entry.wrote then 1 else 0)
   pub containers : length new.containers.items ≡ length old.containers.items
-  pub lasts : (object : ℕ) (other : LastWrites) → slice_index_or new.containers.items object other
-      ≡ (if entry.wrote && names object entry.call then behind_one (slice_index_or old.containers.items object other) entry.thread place else slice_index_or old.containers.items object other)
+  pub lasts : (container : ℕ) (other : LastWrites) → slice_index_or new.containers.items container other
+      ≡ (if entry.wrote && names container entry.call then after_one (slice_index_or old.containers.items container other) entry.thread place else slice_index_or old.containers.items container other)
   pub taking : entry.wrote ≡ true → GoesOn old.world new.world entry.call old.ledger new.ledger
   pub same : entry.wrote ≡ false → new.ledger ≡ old.ledger
 
 -- every rule holds at every place before this one
 abbrev pub IsUnbrokenBefore : Storage → ScriptParts → List Entry → ℕ → Type 0
-IsUnbrokenBefore storage script entries place = (before : ℕ) (rule : Rule) → before < place → IsKeptAt storage script entries before rule
+IsUnbrokenBefore storage script entries place = (before : ℕ) (rule : Rule) → before < place → HoldsAt storage script entries before rule
 
--- the first so many rules hold of the entry
+-- a number of first rules hold of the entry
 abbrev pub KeepsFirst : Storage → ScriptParts → List Entry → ℕ → Entry → ℕ → Type 0
 KeepsFirst storage script entries place entry count = (other : Rule) → rank_of other < count → Keeps storage script entries other place entry
 
@@ -63,7 +63,7 @@ abbrev pub FindsEarly : Storage → ScriptParts → List Entry → ℕ → Entry
 FindsEarly storage script entries place entry None = KeepsFirst storage script entries place entry 3
 FindsEarly storage script entries place entry (Some rule) = BreaksFirst storage script entries place entry rule
 
--- of those behind the fourth, the first that the entry breaks
+-- of those after the fourth, the first that the entry breaks
 pub record KeepsLate (storage : Storage) (script : ScriptParts) (entries : List Entry) (place : ℕ) (entry : Entry) : Type 0 where
   pub mark : Keeps storage script entries rule.Mark place entry
   pub kept : Keeps storage script entries rule.Kept place entry

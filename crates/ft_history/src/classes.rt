@@ -12,7 +12,7 @@ pub fn slots(class: u32) -> u64
     1 << class
 }
 
-/// The smallest class of at least so many slots, and 12 where that would be greater.
+/// The smallest class of at least that many slots, and 12 where that would be greater.
 pub fn class_for(slots: u64) -> u32
     ensures class { result ≡ class_for slots }
     ensures range { IsClass result }
@@ -31,7 +31,7 @@ pub fn class_for(slots: u64) -> u32
     }
 }
 
-/// The class of a new table for so many pairs.
+/// The class of a new table for that many pairs.
 pub fn dict_class(count: u64) -> u32
     ensures class { result ≡ dict_class count }
     ensures range { IsClass result }
@@ -39,7 +39,7 @@ pub fn dict_class(count: u64) -> u32
     class_for(count.saturating_sub(1).saturating_mul(3))
 }
 
-/// The class of a new table for so many elements.
+/// The class of a new table for that many elements.
 pub fn set_class(count: u64) -> u32
     ensures class { result ≡ set_class count }
     ensures range { IsClass result }
@@ -47,7 +47,7 @@ pub fn set_class(count: u64) -> u32
     class_for(count.saturating_sub(1).saturating_mul(4).saturating_add(1))
 }
 
-/// The class that a dict takes that has so many new pairs, and so many in all.
+/// The class that a dict takes that has that many new pairs, and that many in all.
 pub fn taken_by_dict(table: KeptTable, added: u64, count: u64) -> Option<u32>
     ensures class { result ≡ (if outgrows_dict (table_of table) added then Some (dict_class count) else None) }
     ensures range { IfSome result (λ class. IsClass class) }
@@ -60,7 +60,7 @@ pub fn taken_by_dict(table: KeptTable, added: u64, count: u64) -> Option<u32>
     if grows { Some(dict_class(count)) } else { None }
 }
 
-/// The class that a set takes that has so many new elements, and so many in all.
+/// The class that a set takes that has that many new elements, and that many in all.
 pub fn taken_by_set(table: KeptTable, added: u64, count: u64) -> Option<u32>
     ensures class { result ≡ (if outgrows_set (table_of table) added then Some (set_class count) else None) }
     ensures range { IfSome result (λ class. IsClass class) }
@@ -73,7 +73,7 @@ pub fn taken_by_set(table: KeptTable, added: u64, count: u64) -> Option<u32>
     if grows { Some(set_class(count)) } else { None }
 }
 
-/// The class that a list takes that has so many items.
+/// The class that a list takes that has that many items.
 pub fn taken_by_list(table: KeptTable, count: u64) -> Option<u32>
     ensures class { result ≡ (if outgrows_list (table_of table) count then Some (list_class count) else None) }
     ensures range { IfSome result (λ class. IsClass class) }
@@ -86,7 +86,7 @@ pub fn taken_by_list(table: KeptTable, count: u64) -> Option<u32>
     if grows { Some(class_for(count)) } else { None }
 }
 
-/// The class that a dict takes that gets a copy of so many pairs.
+/// The class that a dict takes that gets a copy of that many pairs.
 pub fn taken_by_copy(count: u64) -> Option<u32>
     ensures class { result ≡ copy_takes count }
     ensures range { IfSome result (λ class. IsClass class) }

@@ -12,14 +12,14 @@ ghost use Rattle.ft_history.specs.declared.progress.Progress.{Progress};
 ghost use Rattle.ft_history.specs.Verdicts.{IsVerdict};
 ghost use Rattle.ft_history.specs.declared.verdict.Verdict.TheVariants as verdict;
 ghost use Rattle.ft_history.specs.States.{AreUsers, IsAskable};
-ghost use Rattle.ft_history.specs.Steps.{IsState, IsUnbrokenBefore, FindsEarly, FindsLate, Finds, GoesBehind, HaveMadeAll};
+ghost use Rattle.ft_history.specs.Steps.{IsState, IsUnbrokenBefore, FindsEarly, FindsLate, Finds, GoesAfter, HaveMadeAll};
 
 use crate::ledger::note_taking;
 use crate::memory::is_earned;
-use crate::objects::{containers_named, objects_needed};
+use crate::containers::{containers_named, containers_needed};
 use crate::progress::{Progress, go_through};
 use crate::rules::{
-    inner_objects, is_behind, is_counted_right, is_kept_right, is_marked_right, is_memory_error,
+    inner_containers, is_after, is_counted_right, is_kept_right, is_marked_right, is_memory_error,
     is_next, is_stamped,
 };
 use crate::sizes::size_of_own;
@@ -32,7 +32,7 @@ use std::alloc::{AllocError, Global};
 
 /// Judges the history of a script whose containers are stored so: that it is legal, or the first
 /// place at which a rule is broken and the first rule that is broken there. It goes through the
-/// entries once. A content that would grow past what memory holds is want of memory.
+/// entries once. A content that would grow past what memory holds is out of memory.
 pub fn judge(
     alloc: Global,
     storage: Storage,
@@ -123,7 +123,7 @@ fn early_rule(
     if !is_stamped(state.writes, entry) {
         return Some(Rule::Stamp);
     }
-    if !is_behind(entries, place, entry) {
+    if !is_after(entries, place, entry) {
         return Some(Rule::Order);
     }
     None
@@ -142,12 +142,12 @@ fn late_rule(
     ensures { (entries : List Entry) (place : ℕ) → slice_get entries place ≡ Some entry.now → AreUsers parts.now users.now → IsState parts.now entries place state.now → FindsLate storage parts.now entries place entry.now result }
 {
     let progress = &state.threads[entry.thread as usize];
-    let own = objects_needed(&progress.hands, &entry.call);
+    let own = containers_needed(&progress.hands, &entry.call);
     if !is_marked_right(
         users,
         entry,
         own,
-        inner_objects(&progress.sections, &entry.call),
+        inner_containers(&progress.sections, &entry.call),
     ) {
         return Some(Rule::Mark);
     }
@@ -174,8 +174,8 @@ fn has_cause(storage: Storage, parts: &ScriptParts, state: &State, entry: &Entry
     }
 }
 
-/// Whether the reply is right, and goes on behind the entry.
-fn go_behind(
+/// Whether the reply is right, and goes on after the entry.
+fn go_after(
     alloc: Global,
     state: &mut State,
     place: u64,
@@ -185,13 +185,13 @@ fn go_behind(
     requires askable { (progress : Progress) → slice_get state.old.threads.items entry.now.thread ≡ Some progress → IsAskable state.old.world progress.hands entry.now.call }
     requires few { (progress : Progress) → slice_get state.old.threads.items entry.now.thread ≡ Some progress → (progress.made < 2 ^ 63) × (progress.marks < 2 ^ 63) }
     requires writes { state.old.writes < 2 ^ 63 }
-    requires containers { All (λ object. object < vec_len state.old.containers) (containers_of entry.now.call) }
+    requires containers { All (λ container. container < vec_len state.old.containers) (containers_of entry.now.call) }
     requires ledger { vec_len state.old.ledger.takings ≡ 10 }
-    ensures { IfOk result (λ told. (before : Progress) × (after : Progress) × GoesBehind place entry.now told before after state.old state.new) }
+    ensures { IfOk result (λ reported. (before : Progress) × (after : Progress) × GoesAfter place entry.now reported before after state.old state.new) }
 {
     let size = size_of_own(&state.world, &entry.call);
     let progress = &mut state.threads[entry.thread as usize];
-    let told = go_through(alloc, &mut state.world, progress, place, entry)?;
+    let reported = go_through(alloc, &mut state.world, progress, place, entry)?;
     if entry.wrote {
         state.writes += 1;
         note_write(
@@ -202,10 +202,10 @@ fn go_behind(
         );
         note_taking(&mut state.ledger, &state.world, &entry.call, size)?;
     }
-    Ok(told)
+    Ok(reported)
 }
 
-/// The first rule that the entry breaks, or none, and then the state is the one behind it.
+/// The first rule that the entry breaks, or none, and then the state is the one after it.
 fn step(
     alloc: Global,
     storage: Storage,
@@ -228,6 +228,6 @@ fn step(
         return Ok(Some(rule));
     }
     let late = late_rule(storage, parts, users, state, entry);
-    let told = go_behind(alloc, state, place as u64, entry)?;
-    Ok(if told { late } else { Some(Rule::Reply) })
+    let reported = go_after(alloc, state, place as u64, entry)?;
+    Ok(if reported { late } else { Some(Rule::Reply) })
 }

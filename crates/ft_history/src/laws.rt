@@ -37,7 +37,7 @@ pub fn writes_are_numbered()
 /// section's containers.
 pub fn kept_sections_are_untouched()
     ensures begun { (entries : List Entry) (place : ℕ) (entry : Entry) (section : Section) (outer : List Section) → slice_get entries place ≡ Some entry → sections_at entries entry.thread place ≡ section ∷ outer → IsBegun entries entry.thread place section }
-    ensures untouched { (storage : Storage) (script : ScriptParts) (entries : List Entry) (place : ℕ) (entry : Entry) (section : Section) (outer : List Section) → IsLegal storage script entries → slice_get entries place ≡ Some entry → entry.call ≡ End → entry.reply ≡ Kept → sections_at entries entry.thread place ≡ section ∷ outer → IsUntouched entries entry.thread section.begun place section.objects }
+    ensures untouched { (storage : Storage) (script : ScriptParts) (entries : List Entry) (place : ℕ) (entry : Entry) (section : Section) (outer : List Section) → IsLegal storage script entries → slice_get entries place ≡ Some entry → entry.call ≡ End → entry.reply ≡ Kept → sections_at entries entry.thread place ≡ section ∷ outer → IsUntouched entries entry.thread section.begun place section.containers }
 {}
 
 /// Of one set of entries, no two of which are alike in the order, there is one list in the order of a

@@ -43,7 +43,7 @@ fn no_tables(alloc: Global, count: usize) -> Result<Vec<KeptTable>, AllocError>
     Ok(all)
 }
 
-/// Goes on behind a call, before which its container was of a size. A count past 2^64 is want of
+/// Goes on after a call, before which its container was of a size. A count past 2^64 is want of
 /// memory.
 pub fn note_taking(
     ledger: &mut Ledger,
@@ -142,7 +142,7 @@ fn none_kept() -> KeptTable
     }
 }
 
-/// The table that is taken for so many, or none.
+/// The table that is taken for that many, or none.
 fn new_table(taking: Option<u32>, count: u64) -> KeptTable
     requires { IfSome taking (λ class. IsClass class) }
     ensures { table_of result ≡ option_map_or (λ class. taken class count) taking no_table }
@@ -156,7 +156,7 @@ fn new_table(taking: Option<u32>, count: u64) -> KeptTable
     }
 }
 
-/// The table that is taken for so many, or the old one with so many entries more in use.
+/// The table that is taken for that many, or the old one with that many entries more in use.
 fn left_table(
     table: KeptTable,
     taking: Option<u32>,

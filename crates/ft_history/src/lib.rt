@@ -10,7 +10,7 @@ mod laws;
 mod ledger;
 mod memory;
 mod merging;
-mod objects;
+mod containers;
 mod passing;
 mod progress;
 mod replies;
@@ -31,5 +31,5 @@ pub use laws::{
     threads_keep_their_order, writes_are_numbered,
 };
 pub use merging::{history_order, merge};
-pub use objects::{Objects, containers_named};
+pub use containers::{Containers, containers_named};
 pub use verdict::{Judgement, Verdict};

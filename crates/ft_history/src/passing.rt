@@ -109,24 +109,24 @@ fn set_would_pass(world: &World, place: u32, call: &SetCall) -> bool
         SetCall::Or { other } => {
             let others = world.set(other);
             let count = others.len();
-            let behind = set.len() + new_elements(set, others);
-            one_passes(MOST_ELEMENTS, behind, count, place, other)
+            let after = set.len() + new_elements(set, others);
+            one_passes(MOST_ELEMENTS, after, count, place, other)
         }
         SetCall::Xor { other } => {
             let others = world.set(other);
             let count = others.len();
-            let behind = new_elements(others, set) + new_elements(set, others);
-            one_passes(MOST_ELEMENTS, behind, count, place, other)
+            let after = new_elements(others, set) + new_elements(set, others);
+            one_passes(MOST_ELEMENTS, after, count, place, other)
         }
         _ => false,
     }
 }
 
-/// Whether a container has more than most behind a call, or the other one does, where it is another.
-fn one_passes(most: usize, behind: usize, others: usize, place: u32, other: u32) -> bool
-    ensures { result ≡ (nat_lt most behind || (not (place == other) && nat_lt most others)) }
+/// Whether a container has more than most after a call, or the other one does, where it is another.
+fn one_passes(most: usize, after: usize, others: usize, place: u32, other: u32) -> bool
+    ensures { result ≡ (nat_lt most after || (not (place == other) && nat_lt most others)) }
 {
-    behind > most || (place != other && others > most)
+    after > most || (place != other && others > most)
 }
 
 /// How many pairs a dict has that has the key too.

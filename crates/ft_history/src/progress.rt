@@ -3,7 +3,7 @@ ghost use Rattle.ft_model.specs.Answers.{answer, is_memory};
 ghost use Rattle.ft_model.specs.Histories.{IsReplied};
 ghost use Rattle.ft_history.specs.States.{IsAskable, all_begun, after_begun};
 
-use crate::objects::{Objects, containers_named};
+use crate::containers::{Containers, containers_named};
 use crate::replies::is_replied;
 use ft_model::{Call, Entry, Hands, World};
 use std::alloc::{AllocError, Global};
@@ -12,7 +12,7 @@ use std::alloc::{AllocError, Global};
 #[derive(Clone, Copy, Debug)]
 pub struct OpenSection {
     /// Its containers.
-    pub objects: Objects,
+    pub containers: Containers,
     /// The place of its `begin`.
     pub begun: u64,
     /// How many calls of the thread had waited by then, the `begin` among them.
@@ -32,7 +32,7 @@ pub struct Progress {
     pub sections: Vec<OpenSection>,
 }
 
-/// Whether the entry's reply is right, and goes on behind it: in the world, and in the thread.
+/// Whether the entry's reply is right, and goes on after it: in the world, and in the thread.
 pub fn go_through(
     alloc: Global,
     world: &mut World,
@@ -43,19 +43,19 @@ pub fn go_through(
     requires askable { IsAskable world.old progress.old.hands entry.now.call }
     requires made { progress.old.made < 2 ^ 63 }
     requires marks { progress.old.marks < 2 ^ 63 }
-    ensures told { IfOk result (λ told. IsTrue told ↔ IsReplied entry.now.call entry.now.reply (answer world.old progress.old.hands entry.now.call).reply) }
+    ensures reported { IfOk result (λ reported. IsTrue reported ↔ IsReplied entry.now.call entry.now.reply (answer world.old progress.old.hands entry.now.call).reply) }
     ensures world { OnOk result (world.new ≡ (if is_memory entry.now.reply then world.old else (answer world.old progress.old.hands entry.now.call).world)) }
     ensures hands { OnOk result (progress.new.hands ≡ (if is_memory entry.now.reply then progress.old.hands else (answer world.old progress.old.hands entry.now.call).hands)) }
     ensures made { OnOk result (progress.new.made ≡ progress.old.made + 1) }
     ensures marks { OnOk result (progress.new.marks ≡ progress.old.marks + (if is_some entry.now.waited then 1 else 0)) }
     ensures sections { OnOk result (all_begun progress.new.sections.items ≡ after_begun place progress.new.marks entry.now.call (all_begun progress.old.sections.items)) }
 {
-    let told = is_replied(alloc, world, &mut progress.hands, entry)?;
+    let reported = is_replied(alloc, world, &mut progress.hands, entry)?;
     go_on(progress, place, entry)?;
-    Ok(told)
+    Ok(reported)
 }
 
-/// Goes on behind an entry of the thread, but for what its call does to the cursors.
+/// Goes on after an entry of the thread, but for what its call does to the cursors.
 fn go_on(progress: &mut Progress, place: u64, entry: &Entry) -> Result<(), AllocError>
     requires made { progress.old.made < 2 ^ 63 }
     requires marks { progress.old.marks < 2 ^ 63 }
@@ -71,7 +71,7 @@ fn go_on(progress: &mut Progress, place: u64, entry: &Entry) -> Result<(), Alloc
     match entry.call {
         Call::Begin { .. } => {
             progress.sections.push(OpenSection {
-                objects: containers_named(&entry.call),
+                containers: containers_named(&entry.call),
                 begun: place,
                 marks: progress.marks,
             })?;

@@ -10,7 +10,7 @@ use ft_model::{Call, Entry, Hands, Reply, World, apply, has_room};
 use std::alloc::{AllocError, Global};
 
 /// Whether the reply is the plain containers', or a MemoryError, or of its section's form. The world
-/// and the hands are then those behind the call.
+/// and the hands are then those after the call.
 pub fn is_replied(
     alloc: Global,
     world: &mut World,
@@ -18,7 +18,7 @@ pub fn is_replied(
     entry: &Entry,
 ) -> Result<bool, AllocError>
     requires { IsAskable world.old hands.old entry.now.call }
-    ensures told { IfOk result (λ told. IsTrue told ↔ IsReplied entry.now.call entry.now.reply (answer world.old hands.old entry.now.call).reply) }
+    ensures reported { IfOk result (λ reported. IsTrue reported ↔ IsReplied entry.now.call entry.now.reply (answer world.old hands.old entry.now.call).reply) }
     ensures world { OnOk result (world.new ≡ (if is_memory entry.now.reply then world.old else (answer world.old hands.old entry.now.call).world)) }
     ensures hands { OnOk result (hands.new ≡ (if is_memory entry.now.reply then hands.old else (answer world.old hands.old entry.now.call).hands)) }
 {
@@ -31,7 +31,7 @@ pub fn is_replied(
 }
 
 /// Whether the containers reply so, or the reply is a MemoryError. A content that would grow past what
-/// memory holds is want of memory.
+/// memory holds is out of memory.
 fn is_answered(
     alloc: Global,
     world: &mut World,
@@ -39,7 +39,7 @@ fn is_answered(
     entry: &Entry,
 ) -> Result<bool, AllocError>
     requires { IsDeclared world.old hands.old entry.now.call }
-    ensures told { IfOk result (λ told. IsTrue told ↔ ((is_memory entry.now.reply ≡ true) ⊎ (entry.now.reply ≡ (answer world.old hands.old entry.now.call).reply))) }
+    ensures reported { IfOk result (λ reported. IsTrue reported ↔ ((is_memory entry.now.reply ≡ true) ⊎ (entry.now.reply ≡ (answer world.old hands.old entry.now.call).reply))) }
     ensures world { OnOk result (world.new ≡ (if is_memory entry.now.reply then world.old else (answer world.old hands.old entry.now.call).world)) }
     ensures hands { OnOk result (hands.new ≡ (if is_memory entry.now.reply then hands.old else (answer world.old hands.old entry.now.call).hands)) }
 {

@@ -4,17 +4,17 @@ ghost use Rattle.std.specs.Option.{option_to_list};
 ghost use Rattle.ft_model.specs.Answers.{is_write, is_memory};
 ghost use Rattle.std.specs.Ordering.{is_lt};
 ghost use Rattle.ft_model.specs.Histories.{history_cmp};
-ghost use Rattle.ft_model.specs.Judging.{IsBehind};
+ghost use Rattle.ft_model.specs.Judging.{IsAfter};
 ghost use Rattle.ft_history.specs.States.{listed, is_used, all_begun, after_begun, inner_begun, IfEndsBegun, IsCountedAs, is_written_on, IsKeptSince};
 
 use crate::equal::same_call;
 use crate::merging::history_order;
-use crate::objects::{Objects, containers_named};
+use crate::containers::{Containers, containers_named};
 use crate::progress::OpenSection;
-use crate::writers::{LastWrites, wrote_behind};
+use crate::writers::{LastWrites, wrote_after};
 use ft_model::{Call, Entry, Raise, Reply};
 
-/// Whether the entry is the call behind those that its thread has made.
+/// Whether the entry is the call after those that its thread has made.
 pub fn is_next(calls: &[Call], made: u64, entry: &Entry) -> bool
     ensures { IsTrue result ↔ ((entry.now.index ≡ made + 1) × (slice_get calls.now made ≡ Some entry.now.call)) }
 {
@@ -34,10 +34,10 @@ pub fn is_stamped(writes: u64, entry: &Entry) -> bool
     entry.stamp == writes && entry.wrote == (entry.call.is_changing() && !entry.reply.is_raised())
 }
 
-/// Whether a read does not stand behind a read of its stamp that belongs behind it.
-pub fn is_behind(entries: &[Entry], place: usize, entry: &Entry) -> bool
+/// Whether a read does not stand after a read of its stamp that belongs after it.
+pub fn is_after(entries: &[Entry], place: usize, entry: &Entry) -> bool
     requires { place < length entries.now }
-    ensures { IsTrue result ↔ IsBehind entries.now place entry.now }
+    ensures { IsTrue result ↔ IsAfter entries.now place entry.now }
 {
     if place == 0 {
         return true;
@@ -66,7 +66,7 @@ pub fn is_memory_error(reply: &Reply) -> bool
 }
 
 /// Whether the mark names another thread, which has a call on one of the containers.
-pub fn is_marked_right(users: &[Vec<bool>], entry: &Entry, own: Objects, inner: Objects) -> bool
+pub fn is_marked_right(users: &[Vec<bool>], entry: &Entry, own: Containers, inner: Containers) -> bool
     ensures { IsTrue result ↔ IfSome entry.now.waited (λ thread. (thread ≢ entry.now.thread) × (list_any (is_used users.now thread) (listed own ++ listed inner) ≡ true)) }
 {
     match entry.waited {
@@ -79,24 +79,24 @@ pub fn is_marked_right(users: &[Vec<bool>], entry: &Entry, own: Objects, inner: 
 }
 
 /// Whether the thread has a call on one of the containers.
-fn uses_one(users: &[Vec<bool>], thread: u32, objects: Objects) -> bool
-    ensures { result ≡ list_any (is_used users.now thread) (listed objects) }
+fn uses_one(users: &[Vec<bool>], thread: u32, containers: Containers) -> bool
+    ensures { result ≡ list_any (is_used users.now thread) (listed containers) }
 {
-    uses(users, thread, objects.first) || uses(users, thread, objects.second)
+    uses(users, thread, containers.first) || uses(users, thread, containers.second)
 }
 
 /// Whether the thread has a call on the container, if there is one.
-fn uses(users: &[Vec<bool>], thread: u32, object: Option<u32>) -> bool
-    ensures { result ≡ list_any (is_used users.now thread) (option_to_list object) }
+fn uses(users: &[Vec<bool>], thread: u32, container: Option<u32>) -> bool
+    ensures { result ≡ list_any (is_used users.now thread) (option_to_list container) }
 {
-    match (object, users.get(thread as usize)) {
-        (Some(object), Some(used)) => used.get(object as usize).copied().unwrap_or(false),
+    match (container, users.get(thread as usize)) {
+        (Some(container), Some(used)) => used.get(container as usize).copied().unwrap_or(false),
         _ => false,
     }
 }
 
-/// The containers of the section that is innermost behind the call.
-pub fn inner_objects(sections: &[OpenSection], call: &Call) -> Objects
+/// The containers of the section that is innermost after the call.
+pub fn inner_containers(sections: &[OpenSection], call: &Call) -> Containers
     ensures { (place marks : ℕ) → listed result ≡ inner_begun (after_begun place marks call.now (all_begun sections.now)) }
 {
     match call {
@@ -106,8 +106,8 @@ pub fn inner_objects(sections: &[OpenSection], call: &Call) -> Objects
     }
 }
 
-/// The containers of the section that is innermost behind the end of one.
-fn innermost_but_one(sections: &[OpenSection]) -> Objects
+/// The containers of the section that is innermost after the end of one.
+fn innermost_but_one(sections: &[OpenSection]) -> Containers
     ensures { listed result ≡ inner_begun (drop 1 (all_begun sections.now)) }
 {
     match sections {
@@ -117,12 +117,12 @@ fn innermost_but_one(sections: &[OpenSection]) -> Objects
 }
 
 /// The containers of the innermost section.
-fn innermost(sections: &[OpenSection]) -> Objects
+fn innermost(sections: &[OpenSection]) -> Containers
     ensures { listed result ≡ inner_begun (all_begun sections.now) }
 {
     match sections {
-        [.., section] => section.objects,
-        [] => Objects {
+        [.., section] => section.containers,
+        [] => Containers {
             first: None,
             second: None,
         },
@@ -136,27 +136,27 @@ pub fn is_kept_right(containers: &[LastWrites], sections: &[OpenSection], entry:
     match (&entry.call, sections, &entry.reply) {
         (Call::End, [.., section], Reply::Kept) => {
             let begun = section.begun;
-            !(is_disturbed(containers, entry.thread, begun, section.objects.first)
-                || is_disturbed(containers, entry.thread, begun, section.objects.second))
+            !(is_disturbed(containers, entry.thread, begun, section.containers.first)
+                || is_disturbed(containers, entry.thread, begun, section.containers.second))
         }
         _ => true,
     }
 }
 
-/// Whether another thread wrote on the container behind a place.
-fn is_disturbed(containers: &[LastWrites], thread: u32, begun: u64, object: Option<u32>) -> bool
-    ensures { result ≡ list_any (is_written_on containers.now thread (begun + 1)) (option_to_list object) }
+/// Whether another thread wrote on the container after a place.
+fn is_disturbed(containers: &[LastWrites], thread: u32, begun: u64, container: Option<u32>) -> bool
+    ensures { result ≡ list_any (is_written_on containers.now thread (begun + 1)) (option_to_list container) }
 {
-    match object {
-        Some(object) => match containers.get(object as usize) {
-            Some(writes) => wrote_behind(*writes, thread, begun),
+    match container {
+        Some(container) => match containers.get(container as usize) {
+            Some(writes) => wrote_after(*writes, thread, begun),
             None => false,
         },
         None => false,
     }
 }
 
-/// Whether an `end` says how many calls in its section waited, of so many in all.
+/// Whether an `end` says how many calls in its section waited, of that many in all.
 pub fn is_counted_right(marks: u64, sections: &[OpenSection], entry: &Entry) -> bool
     ensures { IsTrue result ↔ IfEndsBegun (all_begun sections.now) entry.now.call (λ section. IsCountedAs (marks - section.marks) entry.now.reply) }
 {

@@ -6,7 +6,7 @@ ghost use Rattle.ft_model.specs.Histories.{names};
 ghost use Rattle.ft_model.specs.Scripts.{IsScript};
 ghost use Rattle.ft_history.specs.States.{listed, AreUsers};
 
-use crate::objects::{Objects, containers_named};
+use crate::containers::{Containers, containers_named};
 use ft_model::{Call, ScriptParts};
 use std::alloc::{AllocError, Global};
 
@@ -23,10 +23,10 @@ pub fn users_of(alloc: Global, parts: &ScriptParts) -> Result<Vec<Vec<bool>>, Al
     Ok(users)
 }
 
-/// Which of so many containers the calls name.
+/// Which of that many containers the calls name.
 fn used_by(alloc: Global, containers: usize, calls: &[Call]) -> Result<Vec<bool>, AllocError>
-    requires { All (λ call. All (λ object. object < containers) (containers_of call)) calls.now }
-    ensures { IfOk result (λ used. (object : ℕ) → slice_index_or used.items object false ≡ list_any (names object) calls.now) }
+    requires { All (λ call. All (λ container. container < containers) (containers_of call)) calls.now }
+    ensures { IfOk result (λ used. (container : ℕ) → slice_index_or used.items container false ≡ list_any (names container) calls.now) }
 {
     let mut used = vec![in alloc; false; containers]?;
     for call in calls {
@@ -36,22 +36,22 @@ fn used_by(alloc: Global, containers: usize, calls: &[Call]) -> Result<Vec<bool>
 }
 
 /// Marks containers as used.
-fn mark_both(used: &mut Vec<bool>, named: Objects)
-    requires { All (λ object. object < vec_len used.old) (listed named) }
+fn mark_both(used: &mut Vec<bool>, named: Containers)
+    requires { All (λ container. container < vec_len used.old) (listed named) }
     ensures length { vec_len used.new ≡ vec_len used.old }
-    ensures marked { (other : ℕ) → slice_index_or used.new.items other false ≡ (slice_index_or used.old.items other false || list_any (λ object. object == other) (listed named)) }
+    ensures marked { (other : ℕ) → slice_index_or used.new.items other false ≡ (slice_index_or used.old.items other false || list_any (λ container. container == other) (listed named)) }
 {
     mark(used, named.first);
     mark(used, named.second);
 }
 
 /// Marks a container as used, if there is one.
-fn mark(used: &mut Vec<bool>, object: Option<u32>)
-    requires { IfSome object (λ object. object < vec_len used.old) }
+fn mark(used: &mut Vec<bool>, container: Option<u32>)
+    requires { IfSome container (λ container. container < vec_len used.old) }
     ensures length { vec_len used.new ≡ vec_len used.old }
-    ensures marked { (other : ℕ) → slice_index_or used.new.items other false ≡ (slice_index_or used.old.items other false || list_any (λ object. object == other) (option_to_list object)) }
+    ensures marked { (other : ℕ) → slice_index_or used.new.items other false ≡ (slice_index_or used.old.items other false || list_any (λ container. container == other) (option_to_list container)) }
 {
-    if let Some(object) = object {
-        used[object as usize] = true;
+    if let Some(container) = container {
+        used[container as usize] = true;
     }
 }

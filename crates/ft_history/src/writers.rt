@@ -2,9 +2,9 @@ ghost use Rattle.std.specs.Prelude.{◌≡◌, ◌+◌, ◌<◌, ◌==◌, ℕ, 
 ghost use Rattle.std.specs.List.{list_any};
 ghost use Rattle.std.specs.Option.{option_to_list};
 ghost use Rattle.ft_history.specs.declared.writers.LastWrites.{LastWrites};
-ghost use Rattle.ft_history.specs.States.{listed, behind_one, is_written_since};
+ghost use Rattle.ft_history.specs.States.{listed, after_one, is_written_since};
 
-use crate::objects::Objects;
+use crate::containers::Containers;
 
 /// A write on a container.
 #[derive(Clone, Copy, Debug)]
@@ -25,32 +25,32 @@ pub struct LastWrites {
 }
 
 /// Notes a write on containers.
-pub fn note_write(containers: &mut Vec<LastWrites>, named: Objects, thread: u32, place: u64)
-    requires { All (λ object. object < vec_len containers.old) (listed named) }
+pub fn note_write(containers: &mut Vec<LastWrites>, named: Containers, thread: u32, place: u64)
+    requires { All (λ container. container < vec_len containers.old) (listed named) }
     ensures length { vec_len containers.new ≡ vec_len containers.old }
-    ensures noted { (object : ℕ) (other : LastWrites) → slice_index_or containers.new.items object other
-        ≡ (if list_any (λ name. name == object) (listed named) then behind_one (slice_index_or containers.old.items object other) thread place else slice_index_or containers.old.items object other) }
+    ensures noted { (container : ℕ) (other : LastWrites) → slice_index_or containers.new.items container other
+        ≡ (if list_any (λ name. name == container) (listed named) then after_one (slice_index_or containers.old.items container other) thread place else slice_index_or containers.old.items container other) }
 {
     note_one(containers, named.first, thread, place);
     note_one(containers, named.second, thread, place);
 }
 
 /// Notes a write on a container, if there is one.
-fn note_one(containers: &mut Vec<LastWrites>, object: Option<u32>, thread: u32, place: u64)
-    requires { IfSome object (λ object. object < vec_len containers.old) }
+fn note_one(containers: &mut Vec<LastWrites>, container: Option<u32>, thread: u32, place: u64)
+    requires { IfSome container (λ container. container < vec_len containers.old) }
     ensures length { vec_len containers.new ≡ vec_len containers.old }
-    ensures noted { (object' : ℕ) (other : LastWrites) → slice_index_or containers.new.items object' other
-        ≡ (if list_any (λ name. name == object') (option_to_list object) then behind_one (slice_index_or containers.old.items object' other) thread place else slice_index_or containers.old.items object' other) }
+    ensures noted { (container' : ℕ) (other : LastWrites) → slice_index_or containers.new.items container' other
+        ≡ (if list_any (λ name. name == container') (option_to_list container) then after_one (slice_index_or containers.old.items container' other) thread place else slice_index_or containers.old.items container' other) }
 {
-    if let Some(object) = object {
-        let writes = containers[object as usize];
-        containers[object as usize] = behind_write(writes, thread, place);
+    if let Some(container) = container {
+        let writes = containers[container as usize];
+        containers[container as usize] = after_write(writes, thread, place);
     }
 }
 
-/// The last writes, behind one more.
-fn behind_write(writes: LastWrites, thread: u32, place: u64) -> LastWrites
-    ensures { result ≡ behind_one writes thread place }
+/// The last writes, after one more.
+fn after_write(writes: LastWrites, thread: u32, place: u64) -> LastWrites
+    ensures { result ≡ after_one writes thread place }
 {
     LastWrites {
         last: Some(Write { thread, place }),
@@ -61,8 +61,8 @@ fn behind_write(writes: LastWrites, thread: u32, place: u64) -> LastWrites
     }
 }
 
-/// Whether another thread than this one wrote behind the place.
-pub fn wrote_behind(writes: LastWrites, thread: u32, place: u64) -> bool
+/// Whether another thread than this one wrote after the place.
+pub fn wrote_after(writes: LastWrites, thread: u32, place: u64) -> bool
     ensures { result ≡ is_written_since writes thread (place + 1) }
 {
     match writes.last {

@@ -6,8 +6,8 @@ abbrev pub raised : ℕ → ℕ
 raised count = min (count + 1) (2 ^ 64 - 1)
 
 -- What was left before these bytes came, where this is left now.
-abbrev pub behind : List ℕ → Option (List ℕ) → Option (List ℕ)
-behind bytes left = option_map (λ rest. bytes ++ rest) left
+abbrev pub prepended : List ℕ → Option (List ℕ) → Option (List ℕ)
+prepended bytes left = option_map (λ rest. bytes ++ rest) left
 
 -- What a sink has taken in, after these bytes more.
 abbrev pub added : Option (List ℕ) → List ℕ → Option (List ℕ)

@@ -6,7 +6,7 @@ use crate::{Failed, Sink, Source};
 use std::alloc::{AllocError, Global};
 use std::marker::Model;
 
-/// A source over bytes in memory, which can be told to give short pieces and to fail.
+/// A source over bytes in memory, which can be reported to give short pieces and to fail.
 #[derive(Debug, Drop)]
 pub struct MemSource {
     bytes: Vec<u8>,
@@ -101,7 +101,7 @@ impl Source for MemSource {
     }
 }
 
-/// A sink that keeps in memory what is put, and that can be told to take short pieces and to fail.
+/// A sink that keeps in memory what is put, and that can be reported to take short pieces and to fail.
 /// It allocates only when it is made.
 #[derive(Debug, Drop)]
 pub struct MemSink {
@@ -183,7 +183,7 @@ impl Sink for MemSink {
     ghost faults = { λ s. s.faults };
 
     /// Puts as many bytes as the greatest size, `piece` and the room that is left allow. A call
-    /// fails where it is told to, and where `piece` has bytes and there is no room. It then leaves
+    /// fails where it is reported to, and where `piece` has bytes and there is no room. It then leaves
     /// all but the counts as it was. Past 2^64 - 1 calls each has that number.
     fn put(&mut self, piece: &[u8]) -> Result<usize, Failed>
         ensures progress { IfOk result (λ n. 0 < length piece.now → 0 < n) }

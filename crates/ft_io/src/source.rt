@@ -1,5 +1,5 @@
 ghost use Rattle.std.specs.Prelude.{◌≡◌, ℕ, ◌<◌, ◌≤◌, List, [], length, take, Option, IfOk, IfSome, OnErr, MatchResult};
-ghost use Rattle.ft_io.specs.Streams.{raised, behind};
+ghost use Rattle.ft_io.specs.Streams.{raised, prepended};
 
 /// A call of a source or a sink failed. Its count of faults tells how often.
 #[derive(Clone, Copy, Debug, PartialEq, Eq, Hash)]
@@ -17,7 +17,7 @@ pub trait Source {
     /// that isn't empty is the end of the input.
     fn take(&mut self, buf: &mut [u8]) -> Result<usize, Failed>
         ensures count { IfOk result (λ n. n ≤ length buf.old) }
-        ensures bytes { IfOk result (λ n. left self.old ≡ behind (take n buf.new) (left self.new)) }
+        ensures bytes { IfOk result (λ n. left self.old ≡ prepended (take n buf.new) (left self.new)) }
         ensures end { IfOk result (λ n. n ≡ 0 → 0 < length buf.old → IfSome (left self.new) (λ rest. rest ≡ [])) }
         ensures failed { OnErr result (left self.new ≡ left self.old) }
         ensures faults { MatchResult result (λ _. faults self.new ≡ faults self.old) (λ _. faults self.new ≡ raised (faults self.old)) };

@@ -54,7 +54,7 @@ fn a_source_over_memory_fills_the_buffer(rt: HostRuntime) -> Result<(), Fail> {
 }
 
 #[test]
-fn a_sink_over_memory_fails_when_told_and_when_full(rt: HostRuntime) -> Result<(), Fail> {
+fn a_sink_over_memory_fails_when_reported_and_when_full(rt: HostRuntime) -> Result<(), Fail> {
     let fails = vec![in rt.alloc(); 2]?;
     let mut sink = MemSink::new(rt.alloc(), 5, 3, fails)?;
     let wanted: [(&[u8], Option<usize>); 7] = [

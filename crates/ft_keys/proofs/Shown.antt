@@ -1,4 +1,4 @@
--- Calls that show facts of words, one behind the other.
+-- Calls that show facts of words, one after the other.
 use Rattle.std.proofs.Common.{◌≡◌, ◌≢◌, ℕ, zero, suc, ◌+◌, List, [], ◌∷◌, ◌++◌, refl, sym, ap, ◌∙◌, subst, arith}
 use Rattle.ft_layout.specs.Tables.{index_word, entry_word}
 use Rattle.ft_keys.specs.declared.words.Access.{Access}
@@ -59,11 +59,11 @@ module _ {S : Type 0} (gave : S → Access → S → Type 0) (mask : ℕ) where
   shows-none left state steps P given = record { calls = []; runs = refl; loads = tt; follows = refl; steps = omega arith; shown = λ words _. given words }
 
   -- what follows is shown too
-  pub shows-more : (first left : List ℕ) (start end : S) (before behind : ℕ) (P Q : List ℕ → Type 0) → ((words : List ℕ) → P words → Q words) → Shows gave mask first left start end before behind P → Shows gave mask first left start end before behind Q
-  shows-more first left start end before behind P Q implies shows =
+  pub shows-more : (first left : List ℕ) (start end : S) (before after : ℕ) (P Q : List ℕ → Type 0) → ((words : List ℕ) → P words → Q words) → Shows gave mask first left start end before after P → Shows gave mask first left start end before after Q
+  shows-more first left start end before after P Q implies shows =
       record { calls = shows.calls; runs = shows.runs; loads = shows.loads; follows = shows.follows; steps = shows.steps; shown = λ words fits. implies words (shows.shown words fits) }
 
-  -- calls behind calls show both facts
+  -- calls after calls show both facts
   pub shows-both : (first middle left : List ℕ) (start between end : S) (a b c : ℕ) (P Q : List ℕ → Type 0) → Shows gave mask first middle start between a b P → Shows gave mask middle left between end b c Q → Shows gave mask first left start end a c (λ words. P words × Q words)
   shows-both first middle left start between end a b c P Q one two = record {
     calls = two.calls ++ one.calls;
@@ -81,11 +81,11 @@ module _ {S : Type 0} (gave : S → Access → S → Type 0) (mask : ℕ) where
   shows-entry left start end steps place word value gives = record { calls = Entry place word value ∷ []; runs = (start, refl, gives); loads = (tt, tt); follows = refl; steps = omega arith; shown = λ words fits. fits.1 }
 
   -- one load of the first slot's index word, which was never used
-  pub shows-free : (left rest : List ℕ) (start end : S) (before behind slot value : ℕ) → left ≡ slot ∷ rest → value ≡ 0 → behind ≡ before + 1 → gave start (Index slot value) end → Shows gave mask left left start end before behind (λ words. index_word words slot ≡ 0)
-  shows-free left rest start end before behind slot zero front none counted gives = record { calls = Index slot 0 ∷ []; runs = (start, refl, gives); loads = (tt, tt); follows = (rest, refl, front); steps = omega arith; shown = λ words fits. sym fits.1 }
-  shows-free left rest start end before behind slot (suc value) front none counted gives = absurd (omega arith)
+  pub shows-free : (left rest : List ℕ) (start end : S) (before after slot value : ℕ) → left ≡ slot ∷ rest → value ≡ 0 → after ≡ before + 1 → gave start (Index slot value) end → Shows gave mask left left start end before after (λ words. index_word words slot ≡ 0)
+  shows-free left rest start end before after slot zero front none counted gives = record { calls = Index slot 0 ∷ []; runs = (start, refl, gives); loads = (tt, tt); follows = (rest, refl, front); steps = omega arith; shown = λ words fits. sym fits.1 }
+  shows-free left rest start end before after slot (suc value) front none counted gives = absurd (omega arith)
 
-  -- or which was used, and is left behind
-  pub shows-used : (first left : List ℕ) (start end : S) (before behind slot value : ℕ) → first ≡ slot ∷ left → value ≢ 0 → behind ≡ before + 1 → gave start (Index slot value) end → Shows gave mask first left start end before behind (λ words. value ≡ index_word words slot)
-  shows-used first left start end before behind slot zero front used counted gives = absurd (used refl)
-  shows-used first left start end before behind slot (suc value) front used counted gives = record { calls = Index slot (suc value) ∷ []; runs = (start, refl, gives); loads = (tt, tt); follows = front; steps = omega arith; shown = λ words fits. fits.1 }
+  -- or which was used, and is left after
+  pub shows-used : (first left : List ℕ) (start end : S) (before after slot value : ℕ) → first ≡ slot ∷ left → value ≢ 0 → after ≡ before + 1 → gave start (Index slot value) end → Shows gave mask first left start end before after (λ words. value ≡ index_word words slot)
+  shows-used first left start end before after slot zero front used counted gives = absurd (used refl)
+  shows-used first left start end before after slot (suc value) front used counted gives = record { calls = Index slot (suc value) ∷ []; runs = (start, refl, gives); loads = (tt, tt); follows = front; steps = omega arith; shown = λ words fits. fits.1 }

@@ -31,16 +31,16 @@ module _ (mask : ℕ) (words : List ℕ) (key : Key) where
   passed-one first slot word front used is names =
       (slot, front-of first slot front, record { was_used = λ none. used (is ∙ none); other = λ n. names (subst (λ (w : ℕ). NamesKey mask words w key) (sym is) n) })
 
-  -- what ended behind slots that were passed ended behind all of them
-  pub ended-behind : (first middle left passed : List ℕ) (found : Found) → first ≡ passed ++ middle → All (Passes mask words key) passed → EndsAt mask words key middle left found → EndsAt mask words key first left found
-  ended-behind first middle left passed (At slot place) front passes ends =
+  -- what ended after slots that were passed ended after all of them
+  pub ended-after : (first middle left passed : List ℕ) (found : Found) → first ≡ passed ++ middle → All (Passes mask words key) passed → EndsAt mask words key middle left found → EndsAt mask words key first left found
+  ended-after first middle left passed (At slot place) front passes ends =
       (passed ++ ends.0, front ∙ ap (λ m. passed ++ m) ends.1 ∙ sym (append_assoc passed ends.0 (slot ∷ left)), All-append (Passes mask words key) passed ends.0 passes ends.2, ends.3, ends.4)
-  ended-behind first middle left passed (Free slot) front passes ends =
+  ended-after first middle left passed (Free slot) front passes ends =
       (passed ++ ends.0, ends.1, front ∙ ap (λ m. passed ++ m) ends.2 ∙ sym (append_assoc passed ends.0 left), ends.3, All-append (Passes mask words key) passed ends.0 passes ends.4, ends.5)
-  ended-behind first middle left passed Spent front passes ends =
+  ended-after first middle left passed Spent front passes ends =
       (ends.0, subst (All (Passes mask words key)) (sym front) (All-append (Passes mask words key) passed middle passes ends.1))
 
-  -- a slot that is passed is behind those that were
+  -- a slot that is passed is after those that were
   pub passed-more : (first middle left : List ℕ) → Passed mask words key first middle → Tries mask words key middle left None → Passed mask words key first left
   passed-more first middle left passed tries =
       (passed.0 ++ tries.0 ∷ [], passed.1 ∙ ap (λ m. passed.0 ++ m) tries.1 ∙ sym (append_assoc passed.0 (tries.0 ∷ []) left), All-push (Passes mask words key) passed.0 tries.0 passed.2 tries.2)
@@ -61,12 +61,12 @@ module _ {S : Type 0} (gave : S → Access → S → Type 0) (mask : ℕ) where
       record { calls = shows.calls; runs = shows.runs; loads = shows.loads; follows = no-slot-left left shows.calls none; steps = omega arith; shown = shows.shown }
 
   -- a slot that was used, and then what its index word names
-  pub shows-slot : (first left : List ℕ) (start between end : S) (before behind slot word : ℕ) (P : List ℕ → Type 0) → Some slot ≡ slice_get first 0 → left ≡ drop 1 first → word ≢ 0 → behind ≡ before + 1 →
-      gave start (Index slot word) between → Shows gave mask [] [] between end 0 0 P → Shows gave mask first left start end before behind (λ words. (word ≡ index_word words slot) × P words)
-  shows-slot first left start between end before behind slot word P front rest used counted gives more =
-      shows-both gave mask first left left start between end before behind behind (λ words. word ≡ index_word words slot) P
-      (shows-used gave mask first left start between before behind slot word (front-of first slot front ∙ ap (λ l. slot ∷ l) (sym rest)) used counted gives)
-      (shows-beside left between end behind P more)
+  pub shows-slot : (first left : List ℕ) (start between end : S) (before after slot word : ℕ) (P : List ℕ → Type 0) → Some slot ≡ slice_get first 0 → left ≡ drop 1 first → word ≢ 0 → after ≡ before + 1 →
+      gave start (Index slot word) between → Shows gave mask [] [] between end 0 0 P → Shows gave mask first left start end before after (λ words. (word ≡ index_word words slot) × P words)
+  shows-slot first left start between end before after slot word P front rest used counted gives more =
+      shows-both gave mask first left left start between end before after after (λ words. word ≡ index_word words slot) P
+      (shows-used gave mask first left start between before after slot word (front-of first slot front ∙ ap (λ l. slot ∷ l) (sym rest)) used counted gives)
+      (shows-beside left between end after P more)
 
 -- an empty list has nothing first in it
 pub none-left : (left : List ℕ) → None ≡ slice_get left 0 → left ≡ []

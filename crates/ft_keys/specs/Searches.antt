@@ -56,10 +56,10 @@ Tries mask words key first left (Some found) = EndsAt mask words key first left 
 Tries mask words key first left None = (slot : ℕ) × (first ≡ slot ∷ left) × Passes mask words key slot
 
 -- Calls led from one state of the words to the other, and none of them put a word. They loaded the index words of the first slots in order, have left these, and are counted. Each list of words that answers so is one of which the fact is true.
-pub record Shows {S : Type 0} (gave : S → Access → S → Type 0) (mask : ℕ) (first left : List ℕ) (start end : S) (before behind : ℕ) (fact : List ℕ → Type 0) : Type 0 where
+pub record Shows {S : Type 0} (gave : S → Access → S → Type 0) (mask : ℕ) (first left : List ℕ) (start end : S) (before after : ℕ) (fact : List ℕ → Type 0) : Type 0 where
   pub calls : List Access
   pub runs : Runs gave start calls end
   pub loads : AreLoads calls
   pub follows : Follows first calls left
-  pub steps : behind ≡ before + index_loads calls
+  pub steps : after ≡ before + index_loads calls
   pub shown : (words : List ℕ) → Fits mask calls words → fact words

@@ -25,7 +25,7 @@ pub enum Found {
     Spent,
 }
 
-/// Whether the index word names the entry that is there with the key, in a table with so many entries.
+/// Whether the index word names the entry that is there with the key, in a table with that many entries.
 fn names_key<W: Words>(words: &mut W, word: u64, room: u64, key: Key) -> bool
     requires can { W.can words.old }
     requires word { word ≢ 0 }
@@ -44,7 +44,7 @@ fn names_key<W: Words>(words: &mut W, word: u64, room: u64, key: Key) -> bool
     words.entry(word - 1, 3) == payload_of(key)
 }
 
-/// Tries the next slot of the walk. `None` says that the search goes on behind it.
+/// Tries the next slot of the walk. `None` says that the search goes on after it.
 fn try_slot<W: Words, L: Ledger>(
     words: &mut W,
     walk: &mut Walk,

@@ -172,7 +172,7 @@ fn minus_one_and_minus_two_have_one_hash(rt: HostRuntime) -> Result<(), Fail> {
 }
 
 #[test]
-fn keys_of_one_hash_are_told_apart(rt: HostRuntime) -> Result<(), Fail> {
+fn keys_of_one_hash_are_reported_apart(rt: HostRuntime) -> Result<(), Fail> {
     let mask = mask_of(3);
     let mut words = empty_table(rt.alloc(), mask)?;
     let keys = [(text(0), 5), (text(1), 5), (text(2), 5)];
@@ -212,7 +212,7 @@ fn deleted_entries_are_passed(rt: HostRuntime) -> Result<(), Fail> {
 }
 
 #[test]
-fn a_set_tries_nine_slots_behind_a_position(rt: HostRuntime) -> Result<(), Fail> {
+fn a_set_tries_nine_slots_after_a_position(rt: HostRuntime) -> Result<(), Fail> {
     let mask = mask_of(4);
     let mut words = empty_table(rt.alloc(), mask)?;
     let keys = [
@@ -237,7 +237,7 @@ fn a_set_tries_nine_slots_behind_a_position(rt: HostRuntime) -> Result<(), Fail>
 }
 
 #[test]
-fn behind_a_full_run_a_set_goes_on(rt: HostRuntime) -> Result<(), Fail> {
+fn after_a_full_run_a_set_goes_on(rt: HostRuntime) -> Result<(), Fail> {
     let mask = mask_of(5);
     let mut words = empty_table(rt.alloc(), mask)?;
     let keys = [

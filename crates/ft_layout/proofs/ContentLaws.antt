@@ -70,7 +70,7 @@ element_back a b e =
     let of : ℕ → Key → Element = λ n x. record { serial = n; key = x } in
     ap (λ (n : ℕ). of n a.key) s ∙ ap (λ (x : Key). of b.serial x) k
 
--- a list is told by what a function gives that tells its arguments apart
+-- a list is reported by what a function gives that tells its arguments apart
 map_back : {X Y : Type 0} (f : X → Y) → ((a b : X) → f a ≡ f b → a ≡ b) → (xs ys : List X) → map f xs ≡ map f ys → xs ≡ ys
 map_back f back [] [] e = refl
 map_back {X} {Y} f back (x ∷ xs) (y ∷ ys) e =

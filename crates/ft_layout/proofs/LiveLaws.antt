@@ -48,7 +48,7 @@ module _ {X : Type 0} (p : X → Bool) where
         | false ↦ λ no. rw no rest
       ] refl
 
-  -- a kept element has a lower rank than those behind it
+  -- a kept element has a lower rank than those after it
   rank_rises : (xs : List X) (i j : ℕ) (d : X) → i < j → j < length xs → p (get_or xs i d) ≡ true → rank xs i < rank xs j
   rank_rises xs i j d less low kept =
       let same : get_or (take j xs) i d ≡ get_or xs i d = get_or-take j xs i d less in

@@ -9,7 +9,7 @@ use Rattle.ft_layout.specs.Starts.{count_of, block_start, heap_size, heap_start,
 use Rattle.ft_layout.specs.Starts.Part.{Counter, WriteNumber, Announced, FreeTables, Block, FreePlaces, Box, Table}
 use Rattle.ft_layout.proofs.Powers.{words_below-none, words_below-more}
 
--- ---- stretches of one length, one behind the other
+-- ---- stretches of one length, one after the other
 
 next_stretch : (p q size : ℕ) → p < q → p * size + size ≤ q * size
 next_stretch p q size less = let h : (p + 1) * size ≤ q * size = mul-le-mul_right size (omega arith) in omega (arith, h)
@@ -130,7 +130,7 @@ module _ (bank : BankSizes) (word : ℕ) where
       let e = g.from in
       omega arith
 
-  -- the words of a table's class, behind the heaps
+  -- the words of a table's class, after the heaps
   in_tables : (class number : ℕ) → HasWord bank (Table class number) word → (heap_start bank.containers bank.heap bank.passes + words_below bank.tables class ≤ word) × (word < heap_start bank.containers bank.heap bank.passes + words_below bank.tables class + count_of bank.tables class * table_size class)
   in_tables class number is =
       let a = is.from in

@@ -19,11 +19,11 @@ count_of tables class = slice_index tables (class - 3)
 
 -- ---- starts
 
--- the announced number of a pass, behind the counter and the write number
+-- the announced number of a pass, after the counter and the write number
 abbrev pub announced_word : ℕ → ℕ
 announced_word pass = 2 + pass
 
--- which tables of a class are free, behind the announced numbers of 64 passes
+-- which tables of a class are free, after the announced numbers of 64 passes
 abbrev pub free_word : ℕ → ℕ
 free_word class = 66 + (class - 3)
 
@@ -35,7 +35,7 @@ block_start container = 76 + 8 * container
 abbrev pub heap_size : ℕ → ℕ
 heap_size heap = heap / 64 + 3 * heap
 
--- heaps lie behind the blocks
+-- heaps lie after the blocks
 abbrev pub heap_start : ℕ → ℕ → ℕ → ℕ
 heap_start containers heap pass = block_start containers + pass * heap_size heap
 
@@ -46,7 +46,7 @@ box_start containers heap pass place = heap_start containers heap pass + heap / 
 unfoldable pub words_below : List ℕ → ℕ → ℕ
 words_below tables class = sum (map (λ below. count_of tables below * table_size below) (range_with_len 3 (class - 3)))
 
--- tables lie behind the heaps
+-- tables lie after the heaps
 abbrev pub table_start : ℕ → ℕ → ℕ → List ℕ → ℕ → ℕ → ℕ
 table_start containers heap passes tables class number = heap_start containers heap passes + words_below tables class + number * table_size class
 

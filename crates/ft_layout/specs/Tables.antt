@@ -14,15 +14,15 @@ use Rattle.ft_layout.specs.Words.{IsEntry, IsItem}
 
 -- ---- where the words of a table lie, and how many there are; a table has as many index slots as its mask says and one more
 
--- index slot by slot, behind two words of the header
+-- index slot by slot, after two words of the header
 abbrev pub index_at : ℕ → ℕ
 index_at slot = slot + 2
 
--- the words of an entry, behind the index
+-- the words of an entry, after the index
 abbrev pub entry_at : ℕ → ℕ → ℕ → ℕ
 entry_at mask place word = 8 * place + word + mask + 3
 
--- the words of an item, behind the header
+-- the words of an item, after the header
 abbrev pub item_at : ℕ → ℕ → ℕ
 item_at place word = 4 * place + word + 2
 
@@ -103,7 +103,7 @@ IsSetTable texts mask used words = IsTable (λ hash. set_walk hash mask (mask + 
 
 -- ---- tables of lists
 
--- as many items as there are slots; those behind the list's end store nothing
+-- as many items as there are slots; those after the list's end store nothing
 pub record IsListTable (mask : ℕ) (values : List Value) (words : List ℕ) : Type 0 where
   pub size : length words ≡ table_length mask
   pub head : slice_index words 0 ≡ 0

@@ -1,4 +1,4 @@
--- The words in which keys, stored values, entries and items are told. (profile, all of it)
+-- The words in which keys, stored values, entries and items are reported. (profile, all of it)
 use Rattle.std.specs.Prelude.{◌≡◌, ℕ, ◌+◌, ◌*◌, ◌^◌, ◌<◌, ◌≤◌, Option, Some, None, List, [], ◌∷◌, FitsSigned}
 use Rattle.std.specs.Int.{w64, cast_unsigned}
 use Rattle.ft_model.specs.declared.data.Sym.{Sym}

@@ -46,7 +46,7 @@ pub fn list_words_are_of_one_list()
     ensures empty { (block words : List ℕ) → IsBlank block → IsListWords block words None [] }
 {}
 
-/// The parts of a bank lie one behind the other: each word belongs to exactly one, and none has words
+/// The parts of a bank lie one after the other: each word belongs to exactly one, and none has words
 /// outside the bank.
 pub fn bank_words_are_of_one_part()
     ensures one { (bank : BankSizes) (part other : Part) (word : ℕ) →
@@ -55,7 +55,7 @@ pub fn bank_words_are_of_one_part()
     ensures within { (bank : BankSizes) (part : Part) (word : ℕ) → HasWord bank part word → word < bank_size bank }
 {}
 
-/// The fields of a table lie one behind the other: as a dict's, each word is of exactly one; as a
+/// The fields of a table lie one after the other: as a dict's, each word is of exactly one; as a
 /// set's or a list's, of at most one.
 pub fn table_words_are_of_one_field()
     ensures one { (mask : ℕ) (field other : Field) →

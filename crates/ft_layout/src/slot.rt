@@ -12,7 +12,7 @@ pub struct Ref {
 /// What an entry or an item stores.
 #[derive(Clone, Copy, Debug, PartialEq, Eq, Hash)]
 pub enum Stored {
-    /// Nothing: in each entry of a set, and in an item behind a list's end.
+    /// Nothing: in each entry of a set, and in an item after a list's end.
     Empty,
     /// The value itself.
     Plain(Value),

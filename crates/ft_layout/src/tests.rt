@@ -38,9 +38,9 @@ fn tables_have_their_entries_items_and_words(rt: HostRuntime) -> Result<(), Fail
     Ok(())
 }
 
-// A table of class 3 has 8 slots behind its header, and then 5 entries; as a list's, 8 items.
+// A table of class 3 has 8 slots after its header, and then 5 entries; as a list's, 8 items.
 #[test]
-fn fields_lie_behind_each_other(rt: HostRuntime) -> Result<(), Fail> {
+fn fields_lie_after_each_other(rt: HostRuntime) -> Result<(), Fail> {
     assert_eq!(rt; index_at(0), 2);
     assert_eq!(rt; index_at(7), 9);
     assert_eq!(rt; entry_at(7, 0, 0), 10);

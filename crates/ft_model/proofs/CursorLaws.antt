@@ -11,7 +11,7 @@ use Rattle.ft_model.specs.declared.cursor.Cursor.{Cursor}
 use Rattle.ft_model.specs.declared.cursor.Cursor.TheVariants as cursor
 use Rattle.ft_model.specs.declared.cursor.Walk.{Walk}
 use Rattle.ft_model.specs.declared.cursor.Walk.TheVariants as walk
-use Rattle.ft_model.specs.Cursors.{is_behind, next_pair, next_element, dict_walk, dict_next, set_walk, set_next, list_walk, is_given, has_size, is_ended, GoesOn}
+use Rattle.ft_model.specs.Cursors.{is_after, next_pair, next_element, dict_walk, dict_next, set_walk, set_next, list_walk, is_given, has_size, is_ended, GoesOn}
 use Rattle.ft_model.specs.Worlds.{WorldContent, dict_at, list_at, set_at}
 use Rattle.ft_model.specs.Answers.{cursor_step, walked_length}
 
@@ -25,33 +25,33 @@ find_passes p (y ∷ xs) x is =
 
 -- ---- rising
 
-dict_walk-rising : (found : Option DictPair) (container size expected : ℕ) (last : Option ℕ) → ((pair : DictPair) → found ≡ Some pair → is_behind last pair.serial ≡ true) → is_given (dict_walk found container size expected last).reply ≡ true → GoesOn (cursor.Dict container walk.Live size expected last) (dict_walk found container size expected last).cursor
-dict_walk-rising None container size expected last behind given = absurd (false≢true given)
-dict_walk-rising (Some pair) container size expected last behind given =
+dict_walk-rising : (found : Option DictPair) (container size expected : ℕ) (last : Option ℕ) → ((pair : DictPair) → found ≡ Some pair → is_after last pair.serial ≡ true) → is_given (dict_walk found container size expected last).reply ≡ true → GoesOn (cursor.Dict container walk.Live size expected last) (dict_walk found container size expected last).cursor
+dict_walk-rising None container size expected last after given = absurd (false≢true given)
+dict_walk-rising (Some pair) container size expected last after given =
     elim (expected == 0) as (λ b. (expected == 0) ≡ b → GoesOn (cursor.Dict container walk.Live size expected last) (dict_walk (Some pair) container size expected last).cursor) [
       | true ↦ λ none. absurd (false≢true (simp none at given))
-      | false ↦ λ more. simp more (behind pair refl)
+      | false ↦ λ more. simp more (after pair refl)
     ] refl
 
 dict_next-rising : (pairs : List DictPair) (container : ℕ) (state : Walk) (size expected : ℕ) (last : Option ℕ) → is_given (dict_next pairs container state size expected last).reply ≡ true → GoesOn (cursor.Dict container state size expected last) (dict_next pairs container state size expected last).cursor
 dict_next-rising pairs container walk.Ended size expected last given = absurd (false≢true given)
-dict_next-rising pairs container walk.Told size expected last given = absurd (false≢true given)
+dict_next-rising pairs container walk.Reported size expected last given = absurd (false≢true given)
 dict_next-rising pairs container walk.Live size expected last given =
     elim (length pairs == size) as (λ b. (length pairs == size) ≡ b → GoesOn (cursor.Dict container walk.Live size expected last) (dict_next pairs container walk.Live size expected last).cursor) [
-      | true ↦ λ same. simp same (dict_walk-rising (next_pair pairs last) container size expected last (λ pair is. find_passes (λ (p : DictPair). is_behind last p.serial) pairs pair is) (simp same at given))
+      | true ↦ λ same. simp same (dict_walk-rising (next_pair pairs last) container size expected last (λ pair is. find_passes (λ (p : DictPair). is_after last p.serial) pairs pair is) (simp same at given))
       | false ↦ λ differs. absurd (false≢true (simp differs at given))
     ] refl
 
-set_walk-rising : (found : Option Element) (container size : ℕ) (last : Option ℕ) → ((element : Element) → found ≡ Some element → is_behind last element.serial ≡ true) → is_given (set_walk found container size last).reply ≡ true → GoesOn (cursor.Set container walk.Live size last) (set_walk found container size last).cursor
-set_walk-rising None container size last behind given = absurd (false≢true given)
-set_walk-rising (Some element) container size last behind given = behind element refl
+set_walk-rising : (found : Option Element) (container size : ℕ) (last : Option ℕ) → ((element : Element) → found ≡ Some element → is_after last element.serial ≡ true) → is_given (set_walk found container size last).reply ≡ true → GoesOn (cursor.Set container walk.Live size last) (set_walk found container size last).cursor
+set_walk-rising None container size last after given = absurd (false≢true given)
+set_walk-rising (Some element) container size last after given = after element refl
 
 set_next-rising : (elements : List Element) (container : ℕ) (state : Walk) (size : ℕ) (last : Option ℕ) → is_given (set_next elements container state size last).reply ≡ true → GoesOn (cursor.Set container state size last) (set_next elements container state size last).cursor
 set_next-rising elements container walk.Ended size last given = absurd (false≢true given)
-set_next-rising elements container walk.Told size last given = absurd (false≢true given)
+set_next-rising elements container walk.Reported size last given = absurd (false≢true given)
 set_next-rising elements container walk.Live size last given =
     elim (length elements == size) as (λ b. (length elements == size) ≡ b → GoesOn (cursor.Set container walk.Live size last) (set_next elements container walk.Live size last).cursor) [
-      | true ↦ λ same. simp same (set_walk-rising (next_element elements last) container size last (λ element is. find_passes (λ (e : Element). is_behind last e.serial) elements element is) (simp same at given))
+      | true ↦ λ same. simp same (set_walk-rising (next_element elements last) container size last (λ element is. find_passes (λ (e : Element). is_after last e.serial) elements element is) (simp same at given))
       | false ↦ λ differs. absurd (false≢true (simp differs at given))
     ] refl
 
@@ -69,7 +69,7 @@ step_rising world (cursor.Set container state size last) given = set_next-rising
 
 dict_next-sized : (pairs : List DictPair) (container : ℕ) (state : Walk) (size expected : ℕ) (last : Option ℕ) → is_given (dict_next pairs container state size expected last).reply ≡ true → (length pairs == size) ≡ true
 dict_next-sized pairs container walk.Ended size expected last given = absurd (false≢true given)
-dict_next-sized pairs container walk.Told size expected last given = absurd (false≢true given)
+dict_next-sized pairs container walk.Reported size expected last given = absurd (false≢true given)
 dict_next-sized pairs container walk.Live size expected last given =
     elim (length pairs == size) as (λ b. (length pairs == size) ≡ b → b ≡ true) [
       | true ↦ λ same. refl
@@ -78,7 +78,7 @@ dict_next-sized pairs container walk.Live size expected last given =
 
 set_next-sized : (elements : List Element) (container : ℕ) (state : Walk) (size : ℕ) (last : Option ℕ) → is_given (set_next elements container state size last).reply ≡ true → (length elements == size) ≡ true
 set_next-sized elements container walk.Ended size last given = absurd (false≢true given)
-set_next-sized elements container walk.Told size last given = absurd (false≢true given)
+set_next-sized elements container walk.Reported size last given = absurd (false≢true given)
 set_next-sized elements container walk.Live size last given =
     elim (length elements == size) as (λ b. (length elements == size) ≡ b → b ≡ true) [
       | true ↦ λ same. refl
@@ -95,9 +95,9 @@ step_sized world (cursor.Set container state size last) given = set_next-sized (
 pub step_ended : (world : WorldContent) (c : Cursor) → is_ended c ≡ true → ((cursor_step world c).reply ≡ reply.Stop) × ((cursor_step world c).cursor ≡ c)
 step_ended world (cursor.Dict container walk.Ended size expected last) ended = (refl, refl)
 step_ended world (cursor.Dict container walk.Live size expected last) ended = absurd (false≢true ended)
-step_ended world (cursor.Dict container walk.Told size expected last) ended = absurd (false≢true ended)
+step_ended world (cursor.Dict container walk.Reported size expected last) ended = absurd (false≢true ended)
 step_ended world (cursor.List container index true) ended = (refl, refl)
 step_ended world (cursor.List container index false) ended = absurd (false≢true ended)
 step_ended world (cursor.Set container walk.Ended size last) ended = (refl, refl)
 step_ended world (cursor.Set container walk.Live size last) ended = absurd (false≢true ended)
-step_ended world (cursor.Set container walk.Told size last) ended = absurd (false≢true ended)
+step_ended world (cursor.Set container walk.Reported size last) ended = absurd (false≢true ended)

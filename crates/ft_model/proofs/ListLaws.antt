@@ -45,11 +45,11 @@ get-insert-there items zero value within = refl
 get-insert-there [] (suc place) value within = absurd (omega arith)
 get-insert-there (item ∷ items) (suc place) value within = get-insert-there items place value (omega arith)
 
-get-insert-behind : (items : List Value) (place : ℕ) (value : Value) (k : ℕ) → place ≤ length items → place ≤ k → slice_get (insert items place value) (suc k) ≡ slice_get items k
-get-insert-behind items zero value k within low = refl
-get-insert-behind [] (suc place) value k within low = absurd (omega arith)
-get-insert-behind (item ∷ items) (suc place) value zero within low = absurd (omega arith)
-get-insert-behind (item ∷ items) (suc place) value (suc k) within low = get-insert-behind items place value k (omega arith) (omega arith)
+get-insert-after : (items : List Value) (place : ℕ) (value : Value) (k : ℕ) → place ≤ length items → place ≤ k → slice_get (insert items place value) (suc k) ≡ slice_get items k
+get-insert-after items zero value k within low = refl
+get-insert-after [] (suc place) value k within low = absurd (omega arith)
+get-insert-after (item ∷ items) (suc place) value zero within low = absurd (omega arith)
+get-insert-after (item ∷ items) (suc place) value (suc k) within low = get-insert-after items place value k (omega arith) (omega arith)
 
 pub insert_before : (items : List Value) (index : ℤ) (value : Value) (k : ℕ) → k < clamped_in (length items) index → slice_get (list_insert items index value) k ≡ slice_get items k
 insert_before items index value k low = get-insert-before items (clamped_in (length items) index) value k (clamped-within (length items) index) low
@@ -57,5 +57,5 @@ insert_before items index value k low = get-insert-before items (clamped_in (len
 pub insert_there : (items : List Value) (index : ℤ) (value : Value) → slice_get (list_insert items index value) (clamped_in (length items) index) ≡ Some value
 insert_there items index value = get-insert-there items (clamped_in (length items) index) value (clamped-within (length items) index)
 
-pub insert_behind : (items : List Value) (index : ℤ) (value : Value) (k : ℕ) → clamped_in (length items) index ≤ k → slice_get (list_insert items index value) (suc k) ≡ slice_get items k
-insert_behind items index value k low = get-insert-behind items (clamped_in (length items) index) value k (clamped-within (length items) index) low
+pub insert_after : (items : List Value) (index : ℤ) (value : Value) (k : ℕ) → clamped_in (length items) index ≤ k → slice_get (list_insert items index value) (suc k) ≡ slice_get items k
+insert_after items index value k low = get-insert-after items (clamped_in (length items) index) value k (clamped-within (length items) index) low

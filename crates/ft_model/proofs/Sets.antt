@@ -36,14 +36,14 @@ not_true false h = refl
 are_new : (elements others : List Element) → All (λ element. has_element elements element.key ≡ false) (those_not_in elements others)
 are_new elements others k d low = not_true _ (filter_passes (λ (element : Element). not (has_element elements element.key)) others k d low)
 
--- some of a set's elements and behind them others, with new serials, of which it had none
+-- some of a set's elements and after them others, with new serials, of which it had none
 IsSet-join : (next other : ℕ) (elements kept added : List Element) → IsSet next kept → IsSet other added → All (λ element. has_element elements element.key ≡ true) kept → All (λ element. has_element elements element.key ≡ false) added → IsSet (next + length added) (kept ++ elements_from next added)
 IsSet-join next other elements kept added is_kept is_added present absent =
-    let behind : List Element = elements_from next added in
-    let long : length behind ≡ length added = length-elements_from next added in
-    let both : length (kept ++ behind) ≡ length kept + length behind = length-append kept behind in
-    let left : (k : ℕ) (d : Element) → k < length kept → get_or (kept ++ behind) k d ≡ get_or kept k d = λ k d low. get_or_append_left kept behind d k low in
-    let right : (k : ℕ) (d : Element) → length kept ≤ k → k < length (kept ++ behind) → get_or (kept ++ behind) k d ≡ record { serial = next + (k - length kept); key = (get_or added (k - length kept) d).key } = λ k d high within. get_or-append_right kept behind (length kept) k d refl high ∙ get-elements_from next added (k - length kept) d (omega arith) in
+    let after : List Element = elements_from next added in
+    let long : length after ≡ length added = length-elements_from next added in
+    let both : length (kept ++ after) ≡ length kept + length after = length-append kept after in
+    let left : (k : ℕ) (d : Element) → k < length kept → get_or (kept ++ after) k d ≡ get_or kept k d = λ k d low. get_or_append_left kept after d k low in
+    let right : (k : ℕ) (d : Element) → length kept ≤ k → k < length (kept ++ after) → get_or (kept ++ after) k d ≡ record { serial = next + (k - length kept); key = (get_or added (k - length kept) d).key } = λ k d high within. get_or-append_right kept after (length kept) k d refl high ∙ get-elements_from next added (k - length kept) d (omega arith) in
     record {
       distinct = λ i j d lt within same.
           elim (cases_lt j (length kept)) [

@@ -19,19 +19,19 @@ pub record CursorStep : Type 0 where
   pub cursor : Cursor
 
 -- whether the serial is greater than the last one given; at first every serial is
-abbrev pub is_behind : Option ℕ → ℕ → Bool
-is_behind None serial = true
-is_behind (Some last) serial = nat_lt last serial
+abbrev pub is_after : Option ℕ → ℕ → Bool
+is_after None serial = true
+is_after (Some last) serial = nat_lt last serial
 
 -- ---- dicts
 
--- `iter(d.items())`: all pairs are expected (Python manual, Dictionary view objects)
+-- `iter(d.items())`: all pairs are expected (Python manual, Dictionary view containers)
 abbrev pub dict_iter : ℕ → List DictPair → Cursor
 dict_iter container pairs = cursor.Dict container walk.Live (length pairs) (length pairs) None
 
 -- the pair with the least serial that is greater than the last one given; serials rise in the order of pairs
 abbrev pub next_pair : List DictPair → Option ℕ → Option DictPair
-next_pair pairs last = find (λ pair. is_behind last pair.serial) pairs
+next_pair pairs last = find (λ pair. is_after last pair.serial) pairs
 
 -- a live walk whose dict has the size that it had: it has come to the end, or the keys changed, or it gives a pair
 abbrev pub dict_walk : Option DictPair → ℕ → ℕ → ℕ → Option ℕ → CursorStep
@@ -41,14 +41,14 @@ dict_walk (Some pair) container size expected last =
     then record { reply = reply.Raised raise.Keys; cursor = cursor.Dict container walk.Ended size expected last }
     else record { reply = reply.Pair pair.key pair.value; cursor = cursor.Dict container walk.Live size (expected - 1) (Some pair.serial) }
 
--- the first that holds: it has ended; it was told of a changed size; the size has changed; it goes on (profile)
+-- the first that holds: it has ended; it was reported of a changed size; the size has changed; it goes on (profile)
 abbrev pub dict_next : List DictPair → ℕ → Walk → ℕ → ℕ → Option ℕ → CursorStep
 dict_next pairs container walk.Ended size expected last = record { reply = reply.Stop; cursor = cursor.Dict container walk.Ended size expected last }
-dict_next pairs container walk.Told size expected last = record { reply = reply.Raised raise.Size; cursor = cursor.Dict container walk.Told size expected last }
+dict_next pairs container walk.Reported size expected last = record { reply = reply.Raised raise.Size; cursor = cursor.Dict container walk.Reported size expected last }
 dict_next pairs container walk.Live size expected last =
     if length pairs == size
     then dict_walk (next_pair pairs last) container size expected last
-    else record { reply = reply.Raised raise.Size; cursor = cursor.Dict container walk.Told size expected last }
+    else record { reply = reply.Raised raise.Size; cursor = cursor.Dict container walk.Reported size expected last }
 
 -- ---- sets
 
@@ -58,7 +58,7 @@ set_iter container elements = cursor.Set container walk.Live (length elements) N
 
 -- the element with the least serial that is greater than the last one given
 abbrev pub next_element : List Element → Option ℕ → Option Element
-next_element elements last = find (λ element. is_behind last element.serial) elements
+next_element elements last = find (λ element. is_after last element.serial) elements
 
 -- a live walk whose set has the size that it had: it has come to the end, or it gives an element
 abbrev pub set_walk : Option Element → ℕ → ℕ → Option ℕ → CursorStep
@@ -68,11 +68,11 @@ set_walk (Some element) container size last = record { reply = reply.Value (as_v
 -- as for a dict, without a count of what is expected (profile)
 abbrev pub set_next : List Element → ℕ → Walk → ℕ → Option ℕ → CursorStep
 set_next elements container walk.Ended size last = record { reply = reply.Stop; cursor = cursor.Set container walk.Ended size last }
-set_next elements container walk.Told size last = record { reply = reply.Raised raise.Size; cursor = cursor.Set container walk.Told size last }
+set_next elements container walk.Reported size last = record { reply = reply.Raised raise.Size; cursor = cursor.Set container walk.Reported size last }
 set_next elements container walk.Live size last =
     if length elements == size
     then set_walk (next_element elements last) container size last
-    else record { reply = reply.Raised raise.Size; cursor = cursor.Set container walk.Told size last }
+    else record { reply = reply.Raised raise.Size; cursor = cursor.Set container walk.Reported size last }
 
 -- ---- lists
 
@@ -112,7 +112,7 @@ is_ended _ = false
 
 -- the second cursor gave one more than the first: a serial greater than all that the first gave, or the next index (profile)
 abbrev pub GoesOn : Cursor → Cursor → Type 0
-GoesOn (cursor.Dict container walk size expected last) (cursor.Dict _ _ _ _ new) = IsSomeAnd new (λ serial. is_behind last serial ≡ true)
+GoesOn (cursor.Dict container walk size expected last) (cursor.Dict _ _ _ _ new) = IsSomeAnd new (λ serial. is_after last serial ≡ true)
 GoesOn (cursor.List container index ended) (cursor.List _ new _) = new ≡ index + 1
-GoesOn (cursor.Set container walk size last) (cursor.Set _ _ _ new) = IsSomeAnd new (λ serial. is_behind last serial ≡ true)
+GoesOn (cursor.Set container walk size last) (cursor.Set _ _ _ new) = IsSomeAnd new (λ serial. is_after last serial ≡ true)
 GoesOn _ _ = ⊥

@@ -15,7 +15,7 @@ use Rattle.ft_model.specs.declared.entry.Entry.{Entry}
 use Rattle.ft_model.specs.declared.entry.Storage.{Storage}
 use Rattle.ft_model.specs.declared.script.ScriptParts.{ScriptParts}
 use Rattle.ft_model.specs.Calls.{containers_of}
-use Rattle.ft_model.specs.Worlds.{start_world, start_hands, objects_of}
+use Rattle.ft_model.specs.Worlds.{start_world, start_hands, containers_used}
 use Rattle.ft_model.specs.Answers.{answer, after_write, is_memory, is_write}
 use Rattle.ft_model.specs.Tables.{IsEarned}
 
@@ -82,12 +82,12 @@ pub record IsWhole (script : ScriptParts) (entries : List Entry) : Type 0 where
 
 -- an open section: its containers, and the place of its `begin` in the history (C API, critical sections)
 pub record Section : Type 0 where
-  pub objects : List ℕ
+  pub containers : List ℕ
   pub begun : ℕ
 
 -- the open sections of a thread after a call of it, innermost first
 abbrev pub after_section : ℕ → Call → List Section → List Section
-after_section place (call.Begin first second) sections = record { objects = containers_of (call.Begin first second); begun = place } ∷ sections
+after_section place (call.Begin first second) sections = record { containers = containers_of (call.Begin first second); begun = place } ∷ sections
 after_section place call.End sections = drop 1 sections
 after_section place other sections = sections
 
@@ -102,7 +102,7 @@ sections_at entries thread place = fold (after_numbered thread) [] (enumerate_fr
 -- the containers of the innermost open section, where there is one
 abbrev pub innermost : List Section → List ℕ
 innermost [] = []
-innermost (section ∷ sections) = section.objects
+innermost (section ∷ sections) = section.containers
 
 -- of an `end`, this holds for the section that it ends: the innermost open one
 abbrev pub IfEnds : List Section → Call → (Section → Type 0) → Type 0
@@ -111,15 +111,15 @@ IfEnds sections other P = Unit {0}
 
 -- whether a call names the container
 abbrev pub names : ℕ → Call → Bool
-names object called = list_any (λ named. named == object) (containers_of called)
+names container called = list_any (λ named. named == container) (containers_of called)
 
 -- whether an entry is another thread's write on one of the containers
 abbrev pub disturbs : ℕ → List ℕ → Entry → Bool
-disturbs thread objects entry = (entry.wrote && not (entry.thread == thread)) && list_any (λ object. names object entry.call) objects
+disturbs thread containers entry = (entry.wrote && not (entry.thread == thread)) && list_any (λ container. names container entry.call) containers
 
 -- whether another thread's write on the section's containers stands between its `begin` and a place
 abbrev pub is_disturbed : List Entry → ℕ → ℕ → Section → Bool
-is_disturbed entries thread place section = list_any (disturbs thread section.objects) (between (section.begun + 1) place entries)
+is_disturbed entries thread place section = list_any (disturbs thread section.containers) (between (section.begun + 1) place entries)
 
 -- whether an entry is a call of the thread that waited for a lock
 abbrev pub is_marked : ℕ → Entry → Bool
@@ -152,12 +152,12 @@ IsCounted entries place entry = IfEnds (sections_at entries entry.thread place) 
 
 -- whether the thread has a call in the script that names the container
 abbrev pub has_call_on : ScriptParts → ℕ → ℕ → Bool
-has_call_on script thread object = list_any (names object) (calls_of script thread)
+has_call_on script thread container = list_any (names container) (calls_of script thread)
 
--- the containers whose locks a call needs: its own, and those of the section that is innermost behind it, which it enters or takes up again (C API, critical sections)
+-- the containers whose locks a call needs: its own, and those of the section that is innermost after it, which it enters or takes up again (C API, critical sections)
 abbrev pub needs_at : ScriptParts → List Entry → ℕ → Entry → List ℕ
 needs_at script entries place entry =
-    objects_of (hands_at script entries entry.thread place) entry.call
+    containers_used (hands_at script entries entry.thread place) entry.call
     ++ innermost (after_section place entry.call (sections_at entries entry.thread place))
 
 -- a mark names another thread that has a call on a container that the marked call needs (profile)

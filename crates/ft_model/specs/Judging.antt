@@ -23,21 +23,21 @@ pub record IsStamped (entries : List Entry) (place : ℕ) (entry : Entry) : Type
   pub wrote : entry.wrote ≡ is_write entry.call entry.reply
 
 -- of two reads of one stamp that follow each other the second has no smaller thread, nor the same thread and a smaller index
-abbrev pub IsBehind : List Entry → ℕ → Entry → Type 0
-IsBehind entries place entry =
+abbrev pub IsAfter : List Entry → ℕ → Entry → Type 0
+IsAfter entries place entry =
     (last : ℕ) (before : Entry) → last + 1 ≡ place → slice_get entries last ≡ Some before
     → before.wrote ≡ false → entry.wrote ≡ false → before.stamp ≡ entry.stamp → is_lt (history_cmp entry before) ≡ false
 
 -- its reply is the plain container's in the world that the writes before it left, a MemoryError aside, or of its section's form
-abbrev pub IsTold : ScriptParts → List Entry → ℕ → Entry → Type 0
-IsTold script entries place entry = IsReplied entry.call entry.reply (answer (world_at script entries (length (writes (take place entries)))) (hands_at script entries entry.thread place) entry.call).reply
+abbrev pub HasRightReply : ScriptParts → List Entry → ℕ → Entry → Type 0
+HasRightReply script entries place entry = IsReplied entry.call entry.reply (answer (world_at script entries (length (writes (take place entries)))) (hands_at script entries entry.thread place) entry.call).reply
 
 -- the rule holds of the entry at its place
 abbrev pub Keeps : Storage → ScriptParts → List Entry → Rule → ℕ → Entry → Type 0
 Keeps storage script entries rule.Whole place entry = IsNext script entries place entry
 Keeps storage script entries rule.Stamp place entry = IsStamped entries place entry
-Keeps storage script entries rule.Order place entry = IsBehind entries place entry
-Keeps storage script entries rule.Reply place entry = IsTold script entries place entry
+Keeps storage script entries rule.Order place entry = IsAfter entries place entry
+Keeps storage script entries rule.Reply place entry = HasRightReply script entries place entry
 Keeps storage script entries rule.Mark place entry = IsMarked script entries place entry
 Keeps storage script entries rule.Kept place entry = IsKept entries place entry
 Keeps storage script entries rule.Suspended place entry = IsCounted entries place entry
@@ -49,17 +49,17 @@ Keeps storage script entries rule.World place entry = Unit {0}
 abbrev pub IsComplete : ScriptParts → List Entry → Type 0
 IsComplete script entries = (thread : ℕ) → length (calls_of script thread) ≤ length (entries_of thread entries)
 
--- the rule holds behind the last entry, where `Missing` alone asks something
-abbrev pub KeepsBehind : ScriptParts → List Entry → Rule → Type 0
-KeepsBehind script entries rule.Missing = IsComplete script entries
-KeepsBehind script entries _ = Unit {0}
+-- the rule holds after the last entry, where `Missing` alone asks something
+abbrev pub KeepsAfter : ScriptParts → List Entry → Rule → Type 0
+KeepsAfter script entries rule.Missing = IsComplete script entries
+KeepsAfter script entries _ = Unit {0}
 
--- the rule holds at a place, which is an entry's or the one behind the last entry
-pub record IsKeptAt (storage : Storage) (script : ScriptParts) (entries : List Entry) (place : ℕ) (rule : Rule) : Type 0 where
+-- the rule holds at a place, which is an entry's or the one after the last entry
+pub record HoldsAt (storage : Storage) (script : ScriptParts) (entries : List Entry) (place : ℕ) (rule : Rule) : Type 0 where
   pub entry : (entry : Entry) → slice_get entries place ≡ Some entry → Keeps storage script entries rule place entry
-  pub behind : place ≡ length entries → KeepsBehind script entries rule
+  pub after : place ≡ length entries → KeepsAfter script entries rule
 
--- the order in which the rules are told, where several are broken at one place
+-- the order in which the rules are reported, where several are broken at one place
 abbrev pub rank_of : Rule → ℕ
 rank_of rule.Whole = 0
 rank_of rule.Stamp = 1
@@ -74,16 +74,16 @@ rank_of rule.World = 9
 
 -- ---- the first broken rule
 
--- every rule holds at every earlier place, and here every rule that is told before this one
+-- every rule holds at every earlier place, and here every rule that is reported before this one
 pub record HoldsBefore (storage : Storage) (script : ScriptParts) (entries : List Entry) (place : ℕ) (rule : Rule) : Type 0 where
-  pub earlier : (before : ℕ) (other : Rule) → before < place → IsKeptAt storage script entries before other
-  pub here : (other : Rule) → rank_of other < rank_of rule → IsKeptAt storage script entries place other
+  pub earlier : (before : ℕ) (other : Rule) → before < place → HoldsAt storage script entries before other
+  pub here : (other : Rule) → rank_of other < rank_of rule → HoldsAt storage script entries place other
 
 -- the rule is the first that is broken, at the first place where one is
 pub record IsFirstBroken (storage : Storage) (script : ScriptParts) (entries : List Entry) (place : ℕ) (rule : Rule) : Type 0 where
   pub before : HoldsBefore storage script entries place rule
-  pub broken : ¬ (IsKeptAt storage script entries place rule)
+  pub broken : ¬ (HoldsAt storage script entries place rule)
 
 -- no rule is broken anywhere
 abbrev pub IsUnbroken : Storage → ScriptParts → List Entry → Type 0
-IsUnbroken storage script entries = (place : ℕ) (rule : Rule) → IsKeptAt storage script entries place rule
+IsUnbroken storage script entries = (place : ℕ) (rule : Rule) → HoldsAt storage script entries place rule

@@ -12,11 +12,11 @@ is_upper b = nat_le 65 b && nat_le b 90
 abbrev pub is_digit : ℕ → Bool
 is_digit b = nat_le 48 b && nat_le b 57
 
--- a byte of a container's or a cursor's name behind the first
+-- a byte of a container's or a cursor's name after the first
 abbrev pub is_container_byte : ℕ → Bool
 is_container_byte b = is_lower b || is_digit b || b == 95
 
--- a byte of a thread's name behind the first
+-- a byte of a thread's name after the first
 abbrev pub is_thread_byte : ℕ → Bool
 is_thread_byte b = is_lower b || is_upper b || is_digit b || b == 95
 

@@ -9,7 +9,7 @@ use Rattle.ft_model.specs.declared.script.ScriptParts.{ScriptParts}
 use Rattle.ft_model.specs.Histories.{cursors_of}
 use Rattle.ft_model.specs.Scripts.{IsKeyOf, IsValueOf, IsCallOf}
 
--- each string that a reply names is declared, of so many (profile)
+-- each string that a reply names is declared, of that many (profile)
 abbrev pub IsReplyOf : ℕ → Reply → Type 0
 IsReplyOf strings (reply.Value value) = IsValueOf strings value
 IsReplyOf strings (reply.Pair key value) = IsKeyOf strings key × IsValueOf strings value

@@ -22,7 +22,7 @@ use Rattle.ft_model.specs.Names.{is_container_name, is_thread_name, IsString}
 
 -- ---- strings
 
--- a key names a string that is declared, of so many
+-- a key names a string that is declared, of that many
 abbrev pub IsKeyOf : ℕ → Key → Type 0
 IsKeyOf strings (key.Int n) = Unit {0}
 IsKeyOf strings (key.Text symbol) = symbol.0 < strings
@@ -74,7 +74,7 @@ AreStringsOf strings _ = Unit {0}
 abbrev pub IsDeclaredAs : List Declaration → Kind → ℕ → Type 0
 IsDeclaredAs containers kind place = option_map (λ container. container.kind) (slice_get containers place) ≡ Some kind
 
--- the containers are declared, and of that kind, and there is such a cursor, of so many
+-- the containers are declared, and of that kind, and there is such a cursor, of that many
 pub record AreNamesOf (containers : List Declaration) (cursors : ℕ) (kind : Kind) (one : ℕ) (other cursor : Option ℕ) : Type 0 where
   pub container : IsDeclaredAs containers kind one
   pub second : IfSome other (λ place. IsDeclaredAs containers kind place)
@@ -108,7 +108,7 @@ AreMade calls = (place number : ℕ) → slice_get calls place ≡ Some (call.Ne
 
 -- ---- sections
 
--- from so many open sections on each `end` has its `begin`, no more than 16 are open at once, and all are ended (C API, critical sections; the limit: profile)
+-- from that many open sections on each `end` has its `begin`, no more than 16 are open at once, and all are ended (C API, critical sections; the limit: profile)
 abbrev pub AreNested : ℕ → List Call → Type 0
 AreNested depth [] = depth ≡ 0
 AreNested depth (call.Begin first second ∷ calls) = (depth < 16) × AreNested (depth + 1) calls

@@ -40,7 +40,7 @@ list_items class = 2 ^ class
 abbrev pub class_for : ℕ → ℕ
 class_for slots = unwrap_or (find (λ class. nat_le slots (2 ^ class)) (range_with_len 3 9)) 12
 
--- the classes of new tables for so many pairs, elements or items
+-- the classes of new tables for that many pairs, elements or items
 abbrev pub dict_class : ℕ → ℕ
 dict_class count = class_for (3 * (count - 1))
 
@@ -60,7 +60,7 @@ pub record Table : Type 0 where
 abbrev pub no_table : Table
 no_table = record { class = None; fill = 0 }
 
--- whether so many new entries find no room in the table, and whether so many items do
+-- whether that many new entries find no room in the table, and whether that many items do
 abbrev pub outgrows_dict : Table → ℕ → Bool
 outgrows_dict table added = nat_lt 0 added && option_map_or (λ class. nat_lt (dict_entries class) (table.fill + added)) table.class true
 
@@ -81,7 +81,7 @@ set_takes table old new = if outgrows_set table (new.next - old.next) then Some 
 abbrev pub copy_takes : ℕ → Option ℕ
 copy_takes count = if nat_lt 0 count then Some (dict_class count) else None
 
--- the table with so many entries more, and the one that is taken for so many
+-- the table with that many entries more, and the one that is taken for that many
 abbrev pub used : Table → ℕ → Table
 used table added = record { class = table.class; fill = table.fill + added }
 
@@ -93,7 +93,7 @@ taken class count = record { class = Some class; fill = count }
 abbrev pub table_at : List Table → ℕ → Table
 table_at tables place = slice_index_or tables place no_table
 
--- the class that a call of a dict takes, between the world before it and the world behind it
+-- the class that a call of a dict takes, between the world before it and the world after it
 abbrev pub dict_call_takes : List Content → List Content → List Table → ℕ → DictCall → Option ℕ
 dict_call_takes old new tables place (dict.CopyTo other) = copy_takes (length (dict_at old place).pairs)
 dict_call_takes old new tables place _ = dict_takes (table_at tables place) (dict_at old place) (dict_at new place)

@@ -83,7 +83,7 @@ serial_of (content.Set set) = set.next
 abbrev pub HandsContent : Type 0
 HandsContent = List (Option Cursor)
 
--- the cursors of a thread that has room for so many, by number; none is made at the start (profile)
+-- the cursors of a thread that has room for that many, by number; none is made at the start (profile)
 abbrev pub start_hands : ℕ → List (Option Cursor)
 start_hands count = replicate count None
 
@@ -108,9 +108,9 @@ cursor_kind (cursor.List container index ended) = kind.List
 cursor_kind (cursor.Set container walk size last) = kind.Set
 
 -- the containers that a call is about: those that it names, or that of its cursor
-abbrev pub objects_of : List (Option Cursor) → Call → List ℕ
-objects_of hands (call.Next number) = option_map_or (λ cursor. container_of cursor ∷ []) (cursor_at hands number) []
-objects_of hands named = containers_of named
+abbrev pub containers_used : List (Option Cursor) → Call → List ℕ
+containers_used hands (call.Next number) = option_map_or (λ cursor. container_of cursor ∷ []) (cursor_at hands number) []
+containers_used hands named = containers_of named
 
 -- ---- what a call asks of the world and the hands
 
@@ -138,7 +138,7 @@ IsDeclared world hands call.Quiesce = ⊥
 abbrev pub named_in : List Content → Call → List Content
 named_in world named = map (λ place. slice_index_or world place (content.List [])) (containers_of named)
 
--- a container has serials left for so many more; a list draws none
+-- a container has serials left for that many more; a list draws none
 abbrev pub HasSerials : ℕ → Content → Type 0
 HasSerials added (content.Dict dict) = dict.next + added < 2 ^ 63
 HasSerials added (content.List items) = Unit {0}

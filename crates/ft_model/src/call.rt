@@ -196,7 +196,7 @@ pub enum ListCall {
     Slice {
         /// The first index.
         start: i64,
-        /// The index behind the last.
+        /// The index after the last.
         end: i64,
     },
     /// `l.clear()`.

@@ -5,8 +5,8 @@ use crate::script::Kind;
 pub enum Walk {
     /// There may be more.
     Live,
-    /// It was told that the container's size changed.
-    Told,
+    /// It was reported that the container's size changed.
+    Reported,
     /// It has ended for good.
     Ended,
 }
@@ -15,7 +15,7 @@ pub enum Walk {
 /// thread that made it.
 #[derive(Clone, Copy, Debug, PartialEq, Eq, Hash)]
 pub enum Cursor {
-    /// A cursor over the pairs of a dict (Python manual, Dictionary view objects).
+    /// A cursor over the pairs of a dict (Python manual, Dictionary view containers).
     Dict {
         /// The dict.
         container: u32,

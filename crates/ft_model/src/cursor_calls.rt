@@ -1,6 +1,6 @@
 ghost use Rattle.std.specs.Prelude.{◌≡◌, true};
 ghost use Rattle.ft_model.specs.declared.reply.Reply.TheVariants.{Stop};
-ghost use Rattle.ft_model.specs.Cursors.{is_behind, next_pair, next_element, dict_walk, dict_next, set_walk, set_next, list_next};
+ghost use Rattle.ft_model.specs.Cursors.{is_after, next_pair, next_element, dict_walk, dict_next, set_walk, set_next, list_next};
 ghost use Rattle.ft_model.specs.Cursors.{is_given, has_size, is_ended, GoesOn};
 ghost use Rattle.ft_model.specs.Worlds.{IsOfKind, cursor_kind, container_of};
 ghost use Rattle.ft_model.specs.Answers.{cursor_step, walked_length};
@@ -16,7 +16,7 @@ use crate::world::World;
 pub struct Step {
     /// What `next` answers.
     pub reply: Reply,
-    /// The cursor behind it.
+    /// The cursor after it.
     pub cursor: Cursor,
 }
 
@@ -95,11 +95,11 @@ fn step_dict(
         Walk::Live if pairs.len() as u64 == size => {
             walk_dict(following_pair(pairs, last), container, size, expected, last)
         }
-        Walk::Live | Walk::Told => Step {
+        Walk::Live | Walk::Reported => Step {
             reply: Reply::Raised(Raise::Size),
             cursor: Cursor::Dict {
                 container,
-                walk: Walk::Told,
+                walk: Walk::Reported,
                 size,
                 expected,
                 last,
@@ -153,19 +153,19 @@ fn walk_dict(
     }
 }
 
-/// The pair with the least serial behind the last one given.
+/// The pair with the least serial after the last one given.
 fn following_pair(pairs: &[DictPair], last: Option<u64>) -> Option<DictPair>
     ensures { result ≡ next_pair pairs.now last }
 {
     pairs
         .iter()
         .copied()
-        .find(|pair| is_behind(last, pair.serial))
+        .find(|pair| is_after(last, pair.serial))
 }
 
-/// Whether the serial is behind the last one given.
-fn is_behind(last: Option<u64>, serial: u64) -> bool
-    ensures { result ≡ is_behind last serial }
+/// Whether the serial is after the last one given.
+fn is_after(last: Option<u64>, serial: u64) -> bool
+    ensures { result ≡ is_after last serial }
 {
     match last {
         Some(last) => last < serial,
@@ -216,11 +216,11 @@ fn step_set(elements: &[Element], container: u32, walk: Walk, size: u64, last: O
         Walk::Live if elements.len() as u64 == size => {
             walk_set(following_element(elements, last), container, size, last)
         }
-        Walk::Live | Walk::Told => Step {
+        Walk::Live | Walk::Reported => Step {
             reply: Reply::Raised(Raise::Size),
             cursor: Cursor::Set {
                 container,
-                walk: Walk::Told,
+                walk: Walk::Reported,
                 size,
                 last,
             },
@@ -255,12 +255,12 @@ fn walk_set(element: Option<Element>, container: u32, size: u64, last: Option<u6
     }
 }
 
-/// The element with the least serial behind the last one given.
+/// The element with the least serial after the last one given.
 fn following_element(elements: &[Element], last: Option<u64>) -> Option<Element>
     ensures { result ≡ next_element elements.now last }
 {
     elements
         .iter()
         .copied()
-        .find(|element| is_behind(last, element.serial))
+        .find(|element| is_after(last, element.serial))
 }

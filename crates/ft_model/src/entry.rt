@@ -25,7 +25,7 @@ pub struct Entry {
 pub enum Storage {
     /// Plain memory: no call raises a MemoryError.
     Plain,
-    /// Tables of classes, of which a script has so many each.
+    /// Tables of classes, of which a script has that many each.
     Tables,
 }
 
@@ -42,7 +42,7 @@ pub enum Rule {
     Reply,
     /// A mark names no thread that could have held the lock.
     Mark,
-    /// A section is reported kept round another thread's write on its objects.
+    /// A section is reported kept round another thread's write on its containers.
     Kept,
     /// A section's count of marks is wrong.
     Suspended,

@@ -127,14 +127,14 @@ impl List {
 
     /// `l.insert(i, v)`: the value goes before item i, which is clamped to the list. A negative
     /// index counts from the end (Python manual, Sequence Types). An `Err` changes nothing.
-    #[tactic(auto, using(crate::proofs::ListLaws::insert_before, crate::proofs::ListLaws::insert_there, crate::proofs::ListLaws::insert_behind))]
+    #[tactic(auto, using(crate::proofs::ListLaws::insert_before, crate::proofs::ListLaws::insert_there, crate::proofs::ListLaws::insert_after))]
     pub fn insert(&mut self, index: i64, value: Value) -> Result<(), AllocError>
         ensures ok { OnOk result (self.new ≡ list_insert self.old index value) }
         ensures err { OnErr result (self.new ≡ self.old) }
         ensures before { OnOk result ((k : ℕ) → k < clamped_in (length self.old) index →
             slice_get self.new k ≡ slice_get self.old k) }
         ensures there { OnOk result (slice_get self.new (clamped_in (length self.old) index) ≡ Some value) }
-        ensures behind { OnOk result ((k : ℕ) → clamped_in (length self.old) index ≤ k →
+        ensures after { OnOk result ((k : ℕ) → clamped_in (length self.old) index ≤ k →
             slice_get self.new (suc k) ≡ slice_get self.old k) }
     {
         let place = clamp(self.items.len(), index);
@@ -218,7 +218,7 @@ fn part(alloc: Global, items: &[Value], start: i64, end: i64) -> Result<Vec<Valu
     items.iter().copied().take(end).skip(start).collect(alloc)
 }
 
-/// The place that an index names among so many items: a negative one counts from the end, and one
+/// The place that an index names among that many items: a negative one counts from the end, and one
 /// that is then outside names none (Python manual, Sequence Types).
 fn place_in(len: usize, index: i64) -> Option<usize>
     ensures answer { result ≡ index_in len index }
@@ -231,7 +231,7 @@ fn place_in(len: usize, index: i64) -> Option<usize>
     }
 }
 
-/// The place that an end of a slice names among so many items: a negative one counts from the end,
+/// The place that an end of a slice names among that many items: a negative one counts from the end,
 /// and one that is then outside is clamped (Python manual, Sequence Types).
 fn clamp(len: usize, index: i64) -> usize
     ensures { result ≡ clamped_in len index }

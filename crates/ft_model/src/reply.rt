@@ -10,7 +10,7 @@ pub type Values = Sequence<Value>;
 /// The elements of a set, in the order of its walk.
 pub type Keys = Sequence<Key>;
 
-/// An exception, by its class and what more is told of it.
+/// An exception, by its class and what more is reported of it.
 #[derive(Clone, Copy, Debug, PartialEq, Eq, Hash)]
 pub enum Raise {
     /// KeyError: a mapping or a set has no such key, or nothing to pop (Python manual, Built-in
@@ -59,7 +59,7 @@ pub enum Reply {
     Entered,
     /// The section that ends held its locks all the while.
     Kept,
-    /// The section that ends let its locks go while so many of its calls waited (C API, critical
+    /// The section that ends let its locks go while that many of its calls waited (C API, critical
     /// sections: a thread that would block may let them go).
     Suspended(u32),
     /// The exception that the call raised.

@@ -102,7 +102,7 @@ impl Model for Hands {
 impl Hands {
     ghost use Rattle.ft_model.specs.Worlds.{start_hands};
 
-    /// Hands with room for so many cursors, of which none is made.
+    /// Hands with room for that many cursors, of which none is made.
     pub fn start(alloc: Global, room: usize) -> Result<Self, AllocError>
         ensures { IfOk result (λ hands. hands ≡ start_hands room) }
     {

@@ -77,14 +77,14 @@ module _ (shape : Shape) (names : Names) where
       let turn : turn_fault bare names (walk_from nothing_held) word ≢ [] = rw (met, other) (long_refused word (long_of word)) in
       turn (neither (turn_fault bare names (walk_from nothing_held) word) _ none).0
 
-  -- a word behind the mark that ends options
+  -- a word after the mark that ends options
   marked_refused : (mark word : Text) (others : List Text) → subcommand_met names idle mark ≡ None → bytes_eq mark dashes ≡ true → walk_fault bare names (walk_from nothing_held) (mark ∷ word ∷ others) ≢ []
   unfolding walk_fault walked
   marked_refused mark word others met is = rw (met, is) (λ none. stray bare (neither (stray_fault bare) _ none).0)
 
 -- ---- a subcommand
 
--- nothing stands behind a subcommand but the mark that ends options
+-- nothing stands after a subcommand but the mark that ends options
 abbrev is_end : List Text → Bool
 is_end [] = true
 is_end (mark ∷ []) = bytes_eq mark dashes

@@ -79,7 +79,7 @@ wanted_count script world = length-map (zip script.containers world) (λ (shown 
 given_count : (lines : List (Vec ℕ Global)) → length (given_lines (map bytes_of lines)) ≡ length lines
 given_count lines = length-map (map bytes_of lines) fed ∙ length-map lines bytes_of
 
--- ---- both, alike up to a place, which so many turns of a loop have come to
+-- ---- both, alike up to a place, which that many turns of a loop have come to
 
 module _ (script : ScriptParts) (world : List Content) (lines : List (Vec ℕ Global)) (place turns : ℕ) (counted : place ≡ turns) (same : take place (given_lines (map bytes_of lines)) ≡ take place (world_lines script world)) where
   abbrev given : List (List ℕ)

@@ -12,9 +12,9 @@ use Rattle.ft_runner.specs.Findings.{IsBadAt, IsFound, IsParted, IsVerdictOn}
 use Rattle.ft_runner.proofs.SeparatorLemmas.{one_script}
 
 -- the line that a fault of a transcript tells
-pub told_line : {P : ℕ → Type 0} (f : TranscriptFault) (line : ℕ) → f ≡ transcript.Line line → (f ≡ transcript.Memory) ⊎ ((number : ℕ) × (f ≡ transcript.Line number) × P number) → P line
-told_line {P} f line is (inl memory) = absurd (let other : transcript.Line line ≡ transcript.Memory = sym is ∙ memory in cc)
-told_line {P} f line is (inr told) = let same : told.0 ≡ line = (let lines : transcript.Line told.0 ≡ transcript.Line line = sym told.1 ∙ is in cc) in subst P same told.2
+pub reported_line : {P : ℕ → Type 0} (f : TranscriptFault) (line : ℕ) → f ≡ transcript.Line line → (f ≡ transcript.Memory) ⊎ ((number : ℕ) × (f ≡ transcript.Line number) × P number) → P line
+reported_line {P} f line is (inl memory) = absurd (let other : transcript.Line line ≡ transcript.Memory = sym is ∙ memory in cc)
+reported_line {P} f line is (inr reported) = let same : reported.0 ≡ line = (let lines : transcript.Line reported.0 ≡ transcript.Line line = sym reported.1 ∙ is in cc) in subst P same reported.2
 
 -- ---- the input
 
@@ -28,22 +28,22 @@ module _ (bytes text : List ℕ) (script : ScriptParts) (part : IsScriptPart byt
         place = place;
         separator = separator;
         script_read = ap read_script (one_script bytes (take place bytes) text (inr (place, separator, refl)) part) ∙ read;
-        behind_it = refl;
+        after_it = refl;
       }
 
-  module _ (place : ℕ) (separator : IsSeparator bytes place) (behind : List ℕ) (is : behind ≡ drop (place + 4) bytes) where
-    parted_there : IsParted bytes script behind
+  module _ (place : ℕ) (separator : IsSeparator bytes place) (after : List ℕ) (is : after ≡ drop (place + 4) bytes) where
+    parted_there : IsParted bytes script after
     parted_there = subst (IsParted bytes script) (sym is) (parted place separator)
 
-    pub bad_line : (line : ℕ) → IsFirstBad script behind line → IsBadAt bytes line
-    bad_line line bad = inr (script, behind, parted_there, bad)
+    pub bad_line : (line : ℕ) → IsFirstBad script after line → IsBadAt bytes line
+    bad_line line bad = inr (script, after, parted_there, bad)
 
-    pub found_there : (entries : List Entry) (lines : List (List ℕ)) (found : Verdict) → IsTranscript script behind entries lines → IsVerdictOn script entries lines found → IsFound bytes found
+    pub found_there : (entries : List Entry) (lines : List (List ℕ)) (found : Verdict) → IsTranscript script after entries lines → IsVerdictOn script entries lines found → IsFound bytes found
     found_there entries lines found reads verdict_on =
         record {
           script = script;
           entries = entries;
           lines = lines;
-          input = record { behind = behind; parted = parted_there; transcript_read = reads };
+          input = record { after = after; parted = parted_there; transcript_read = reads };
           verdict_on = verdict_on;
         }

@@ -14,7 +14,7 @@ use Rattle.ft_script.specs.declared.fault.Which.{Which}
 use Rattle.ft_script.specs.Scripts.{read_script}
 use Rattle.ft_script.specs.Transcripts.{IsFirstBad, IsTranscript}
 use Rattle.ft_script.proofs.TranscriptLaws.{not_bad, one_of_two}
-use Rattle.ft_turns.proofs.Told.{slice_get-take}
+use Rattle.ft_turns.proofs.Reported.{slice_get-take}
 use Rattle.ft_runner.specs.Findings.{IsBadAt, IsFirstDifference, IsFound, IsInput, IsParted, IsVerdictOn}
 use Rattle.ft_runner.specs.Reports.{IsScriptFault}
 use Rattle.ft_runner.proofs.SeparatorLemmas.{no_separator, one_separator, one_script}
@@ -31,7 +31,7 @@ one_place given wanted p q one other =
       | inl same ↦ same
       | inr apart ↦ elim apart [
         | inl before ↦ absurd (one.differs (alike_before given wanted p q before other))
-        | inr behind ↦ absurd (other.differs (alike_before given wanted q p behind one))
+        | inr after ↦ absurd (other.differs (alike_before given wanted q p after one))
       ]
     ]
 
@@ -57,7 +57,7 @@ module _ (script : ScriptParts) (entries : List Entry) (lines : List (List ℕ))
 
 record IsSameParts (one other : ScriptParts) (above below : List ℕ) : Type 0 where
   script : one ≡ other
-  behind : above ≡ below
+  after : above ≡ below
 
 one_parting : (bytes : List ℕ) (one other : ScriptParts) (above below : List ℕ) → IsParted bytes one above → IsParted bytes other below → IsSameParts one other above below
 one_parting bytes one other above below a b =
@@ -65,7 +65,7 @@ one_parting bytes one other above below a b =
     let read : ◌≡◌ {A = Result ScriptParts ScriptFault} (Ok one) (Ok other) = sym a.script_read ∙ ap (λ n. read_script (take n bytes)) place ∙ b.script_read in
     record {
       script = cc;
-      behind = a.behind_it ∙ ap (λ n. drop (n + 4) bytes) place ∙ sym b.behind_it;
+      after = a.after_it ∙ ap (λ n. drop (n + 4) bytes) place ∙ sym b.after_it;
     }
 
 module _ (bytes : List ℕ) (script : ScriptParts) (entries : List Entry) (lines : List (List ℕ)) (input : IsInput bytes script entries lines) where
@@ -75,9 +75,9 @@ module _ (bytes : List ℕ) (script : ScriptParts) (entries : List Entry) (lines
   pub one_finding : (one other : Verdict) → IsVerdictOn script entries lines one → IsFound bytes other → one ≡ other
   one_finding one other on found =
       let there = found.input in
-      let parts = one_parting bytes script found.script input.behind there.behind input.parted there.parted in
-      let reads = subst (λ text. IsTranscript script text found.entries found.lines) (sym parts.behind) (subst (λ s. IsTranscript s there.behind found.entries found.lines) (sym parts.script) there.transcript_read) in
-      let same = one_of_two script input.behind entries found.entries lines found.lines is input.transcript_read reads in
+      let parts = one_parting bytes script found.script input.after there.after input.parted there.parted in
+      let reads = subst (λ text. IsTranscript script text found.entries found.lines) (sym parts.after) (subst (λ s. IsTranscript s there.after found.entries found.lines) (sym parts.script) there.transcript_read) in
+      let same = one_of_two script input.after entries found.entries lines found.lines is input.transcript_read reads in
       let with_script = subst (λ s. IsVerdictOn s found.entries found.lines other) (sym parts.script) found.verdict_on in
       let with_entries = subst (λ es. IsVerdictOn script es found.lines other) (sym same.0) with_script in
       one_verdict_on script entries lines one other on (subst (λ ls. IsVerdictOn script entries ls other) (sym same.1) with_entries)
@@ -85,8 +85,8 @@ module _ (bytes : List ℕ) (script : ScriptParts) (entries : List Entry) (lines
   pub no_bad_line : (line : ℕ) → IsBadAt bytes line → ⊥
   no_bad_line line (inl missing) = no_separator bytes input.parted.place missing.0 input.parted.separator
   no_bad_line line (inr bad) =
-      let parts = one_parting bytes script bad.0 input.behind bad.1 input.parted bad.2 in
-      not_bad script input.behind entries lines line is input.transcript_read (subst (λ text. IsFirstBad script text line) (sym parts.behind) (subst (λ s. IsFirstBad s bad.1 line) (sym parts.script) bad.3))
+      let parts = one_parting bytes script bad.0 input.after bad.1 input.parted bad.2 in
+      not_bad script input.after entries lines line is input.transcript_read (subst (λ text. IsFirstBad script text line) (sym parts.after) (subst (λ s. IsFirstBad s bad.1 line) (sym parts.script) bad.3))
 
   pub no_script_fault : (line kind : ℕ) (limit : Option Which) → IsScriptFault bytes line kind limit → ⊥
   no_script_fault line kind limit first =

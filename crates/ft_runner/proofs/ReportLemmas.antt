@@ -24,15 +24,15 @@ use Rattle.ft_runner.specs.declared.report.Fault.TheVariants as fault
 use Rattle.ft_runner.specs.Checking.{IsReadToItsEnd, IsScriptPart, IsWithin, StopsInput}
 use Rattle.ft_runner.specs.Commands.{is_check}
 use Rattle.ft_runner.specs.Findings.{broken_line, legal_line, IsFound}
-use Rattle.ft_runner.specs.Streams.{Stream, Gives, Receives, IsPart, Puts, Told, StopsReading, IsWholeInput, is_read, is_too_long, stops_reading}
+use Rattle.ft_runner.specs.Streams.{Stream, Gives, Receives, IsPart, Puts, Reported, StopsReading, IsWholeInput, is_read, is_too_long, stops_reading}
 use Rattle.ft_runner.specs.Reports.{is_usage, has_ended, comes_of_text, refusal_of, IsAsked, IsHistoryOf, IsRunOf, IsDone, IsRefused, Limits, LimitsRun, Means, MeansChecked, MeansRun, PutsFor, TellsVerdict}
 use Rattle.ft_runner.proofs.StreamLemmas.{Gives-none, Receives-none}
 
 -- ---- what was put
 
-pub told : (a b : Stream) (text : List ℕ) (r : Result (Unit {0}) Failed) → Puts a text r b → Told a text b
-told a b text (Ok u) p = inl p
-told a b text (Err e) p = inr p
+pub reported : (a b : Stream) (text : List ℕ) (r : Result (Unit {0}) Failed) → Puts a text r b → Reported a text b
+reported a b text (Ok u) p = inl p
+reported a b text (Err e) p = inr p
 
 -- ---- the command
 
@@ -161,7 +161,7 @@ module _ (source source' sink sink' : Stream) (bytes : List ℕ) (f : Fault) (li
         means = q.means;
       }
 
--- ---- words that are no command, or want of memory before they are known
+-- ---- words that are no command, or out of memory before they are known
 
 unlimited : (command : Option Subcommand) (source : Stream) → Limits command fault.Memory source [] source
 unlimited None source = (refl, omega arith)

@@ -45,7 +45,7 @@ one_script bytes a b (inr one) (inr other) = one.2 ∙ ap (λ p. take p bytes) (
 
 -- ---- limits
 
--- what is decided of the script, where the four bytes of a line have come behind it, stays so
+-- what is decided of the script, where the four bytes of a line have come after it, stays so
 pub IsScriptLong-stays : (bytes more : List ℕ) → 4194307 < length bytes → IsScriptLong bytes → IsScriptLong (bytes ++ more)
 IsScriptLong-stays bytes more far long = (omega (arith, length-append bytes more), λ place low. separator_stays bytes more place (omega arith) ∙ long.1 place low)
 

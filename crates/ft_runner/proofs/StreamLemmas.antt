@@ -2,20 +2,20 @@
 use Rattle.std.proofs.Common.{◌≡◌, ℕ, ◌+◌, ◌<◌, ◌≤◌, get_or, ◌∷◌, take, drop, arith, Bool, true, false, List, [], ◌++◌, length, Option, Some, None, Result, Ok, Err, refl, sym, ap, ◌∙◌, append_assoc}
 use Rattle.std.proofs.lemmas.List.{append-nil, take-take, length-take}
 use Rattle.std.proofs.Math.Seq.{take-add}
-use Rattle.ft_io.specs.Streams.{raised, behind, added}
+use Rattle.ft_io.specs.Streams.{raised, prepended, added}
 use Rattle.ft_io.specs.declared.source.Failed.{Failed}
 use Rattle.ft_runner.specs.Streams.{Stream, Gives, Receives, IsPart, Puts, IsBuffered}
 use Rattle.std.specs.List.{flat_map}
 use Rattle.std.proofs.lemmas.List.Concat.{flat_map-append}
 use Rattle.std.proofs.lemmas.List.{take-append-drop, take_more, take_all}
 
-behind-nil : (left : Option (List ℕ)) → left ≡ behind [] left
-behind-nil None = refl
-behind-nil (Some bytes) = refl
+prepended-nil : (left : Option (List ℕ)) → left ≡ prepended [] left
+prepended-nil None = refl
+prepended-nil (Some bytes) = refl
 
-behind-append : (x y : List ℕ) (left : Option (List ℕ)) → behind x (behind y left) ≡ behind (x ++ y) left
-behind-append x y None = refl
-behind-append x y (Some bytes) = ap (λ (bs : List ℕ). Some bs) (sym (append_assoc x y bytes))
+prepended-append : (x y : List ℕ) (left : Option (List ℕ)) → prepended x (prepended y left) ≡ prepended (x ++ y) left
+prepended-append x y None = refl
+prepended-append x y (Some bytes) = ap (λ (bs : List ℕ). Some bs) (sym (append_assoc x y bytes))
 
 added-nil : (taken : Option (List ℕ)) → taken ≡ added taken []
 added-nil None = refl
@@ -26,15 +26,15 @@ added-append None x y = refl
 added-append (Some bytes) x y = ap (λ (bs : List ℕ). Some bs) (append_assoc bytes x y)
 
 pub Gives-none : (a : Stream) → Gives a [] false a
-Gives-none a = record { content = behind-nil a.content; faults = refl }
+Gives-none a = record { content = prepended-nil a.content; faults = refl }
 
 pub Gives-then : (a b c : Stream) (x y : List ℕ) (failed : Bool) → Gives a x false b → Gives b y failed c → Gives a (x ++ y) failed c
-Gives-then a b c x y true p q = record { content = p.content ∙ ap (behind x) q.content ∙ behind-append x y c.content; faults = q.faults ∙ ap raised p.faults }
-Gives-then a b c x y false p q = record { content = p.content ∙ ap (behind x) q.content ∙ behind-append x y c.content; faults = q.faults ∙ p.faults }
+Gives-then a b c x y true p q = record { content = p.content ∙ ap (prepended x) q.content ∙ prepended-append x y c.content; faults = q.faults ∙ ap raised p.faults }
+Gives-then a b c x y false p q = record { content = p.content ∙ ap (prepended x) q.content ∙ prepended-append x y c.content; faults = q.faults ∙ p.faults }
 
 -- a call that fails takes nothing
 pub Gives-fails : (a b c : Stream) (x : List ℕ) → Gives a x false b → c.content ≡ b.content → c.faults ≡ raised b.faults → Gives a x true c
-Gives-fails a b c x p same fault = record { content = p.content ∙ ap (behind x) (sym same); faults = fault ∙ ap raised p.faults }
+Gives-fails a b c x p same fault = record { content = p.content ∙ ap (prepended x) (sym same); faults = fault ∙ ap raised p.faults }
 
 pub Receives-none : (a : Stream) → Receives a [] false a
 Receives-none a = record { content = added-nil a.content; faults = refl }

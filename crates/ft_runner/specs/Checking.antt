@@ -73,7 +73,7 @@ pub record IsReadToItsEnd (before : Stream) (bytes : List ℕ) (after : Stream) 
 abbrev pub IsTooLong : Stream → List ℕ → Stream → Type 0
 IsTooLong before came after = ((more : List ℕ) → IsPast (came ++ more)) ⊎ (IsPast came × IsReadToItsEnd before came after)
 
--- reading stops at a fault, behind the bytes that came
+-- reading stops at a fault, after the bytes that came
 pub record StopsInput (fault : Fault) (before after : Stream) : Type 0 where
   pub came : List ℕ
   pub gives : Gives before came (is_read fault) after
@@ -87,12 +87,12 @@ ReadsInput before (Err fault) after = StopsInput fault before after
 
 -- ---- what is read in one part of it
 
--- the source has ended, or more than so many bytes are there
+-- the source has ended, or more than that many bytes are there
 abbrev pub EndsFilling : Bool → ℕ → List ℕ → Stream → Type 0
 EndsFilling true most bytes after = (length bytes ≤ most) × IfSome after.content (λ rest. rest ≡ [])
 EndsFilling false most bytes after = (most < length bytes) × (length bytes ≤ most + 65536)
 
--- a source is read on behind these bytes, until it ends or more than so many are there
+-- a source is read on after these bytes, until it ends or more than that many are there
 abbrev pub Fills : Stream → List ℕ → ℕ → Result Bool Fault → List ℕ → Stream → Type 0
 Fills before old most (Ok ended) new after = (came : List ℕ) × (new ≡ old ++ came) × Gives before came false after × EndsFilling ended most new after
 Fills before old most (Err fault) new after = (came : List ℕ) × Gives before came (is_read fault) after × (length old + length came ≤ most + 65536) × (stops_reading fault ≡ true) × (is_too_long fault ≡ false)

@@ -18,13 +18,13 @@ abbrev pub is_check : Option Subcommand → Bool
 is_check (Some subcommand.Check) = true
 is_check other = false
 
--- the command that the words are: the program's name and a subcommand's, and nothing behind them but the mark that ends options
+-- the command that the words are: the program's name and a subcommand's, and nothing after them but the mark that ends options
 abbrev pub command_of : List (List ℕ) → Option Subcommand
 command_of (program ∷ word ∷ []) = named word
 command_of (program ∷ word ∷ mark ∷ []) = if bytes_eq mark (codes "--") then named word else None
 command_of others = None
 
--- the same as a parser of command lines is told it: one of the subcommands is required, and there is no help and no version
+-- the same as a parser of command lines is reported it: one of the subcommands is required, and there is no help and no version
 abbrev pub without_help : Shape → Shape
 without_help shape =
     record shape {

@@ -19,24 +19,24 @@ use Rattle.ft_runner.specs.Checking.{HasNoSeparator, IsSeparator}
 
 -- ---- the input
 
--- the bytes are a script, the line, and these bytes behind it
-pub record IsParted (bytes : List ℕ) (script : ScriptParts) (behind : List ℕ) : Type 0 where
+-- the bytes are a script, the line, and these bytes after it
+pub record IsParted (bytes : List ℕ) (script : ScriptParts) (after : List ℕ) : Type 0 where
   pub place : ℕ
   pub separator : IsSeparator bytes place
   pub script_read : read_script (take place bytes) ≡ Ok script
-  pub behind_it : behind ≡ drop (place + 4) bytes
+  pub after_it : after ≡ drop (place + 4) bytes
 
 -- the bytes are a script, the line, and a transcript of the script: these entries, and these lines of contents
 pub record IsInput (bytes : List ℕ) (script : ScriptParts) (entries : List Entry) (lines : List (List ℕ)) : Type 0 where
-  pub behind : List ℕ
-  pub parted : IsParted bytes script behind
-  pub transcript_read : IsTranscript script behind entries lines
+  pub after : List ℕ
+  pub parted : IsParted bytes script after
+  pub transcript_read : IsTranscript script after entries lines
 
 -- the first line of the transcript that is none, or the first where no line is `---`
 abbrev pub IsBadAt : List ℕ → ℕ → Type 0
 IsBadAt bytes line =
     (HasNoSeparator bytes × (line ≡ 1) × (script : ScriptParts) × (read_script bytes ≡ Ok script))
-    ⊎ ((script : ScriptParts) × (behind : List ℕ) × IsParted bytes script behind × IsFirstBad script behind line)
+    ⊎ ((script : ScriptParts) × (after : List ℕ) × IsParted bytes script after × IsFirstBad script after line)
 
 -- ---- the contents
 
@@ -59,7 +59,7 @@ pub record IsFirstDifference (given wanted : List (List ℕ)) (place : ℕ) : Ty
 
 -- ---- the verdict
 
--- the first rule that is broken, and where: one of the entries, or behind them that of a line of contents
+-- the first rule that is broken, and where: one of the entries, or after them that of a line of contents
 abbrev pub IsBrokenBy : ScriptParts → List Entry → List (List ℕ) → ℕ → Rule → Type 0
 IsBrokenBy script entries lines place broken =
     IsVerdict storage.Plain script entries (verdict.Not place broken)

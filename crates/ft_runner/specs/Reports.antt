@@ -21,7 +21,7 @@ use Rattle.ft_runner.specs.declared.report.Report.{Report}
 use Rattle.ft_runner.specs.Checking.{most_checked, IsScriptPart, IsTooLong, IsWithin}
 use Rattle.ft_runner.specs.Commands.{command_of}
 use Rattle.ft_runner.specs.Findings.{broken_line, legal_line, IsBadAt, IsFound}
-use Rattle.ft_runner.specs.Streams.{is_read, is_too_long, most_read, script_limit, Gives, IsPart, IsPrefix, Receives, Stream, Told}
+use Rattle.ft_runner.specs.Streams.{is_read, is_too_long, most_read, script_limit, Gives, IsPart, IsPrefix, Receives, Stream, Reported}
 
 -- ---- faults
 
@@ -86,7 +86,7 @@ pub record IsHistoryBegun (command : Option Subcommand) (bytes : List ℕ) (hist
   pub whole : IsHistoryOf command bytes history text
   pub prefix : IsPrefix put text
 
--- a script's first fault: its line, its kind, and the limit that is passed there; want of memory is none
+-- a script's first fault: its line, its kind, and the limit that is passed there; out of memory is none
 pub record IsFirstFault (bytes : List ℕ) (line kind : ℕ) (limit : Option Which) : Type 0 where
   pub refused : read_script bytes ≡ Err (record { line = line; kind = kind; which = limit })
   pub in_text : kind ≢ 14
@@ -122,12 +122,12 @@ Means command fault limit came history put = MeansRun command fault limit came h
 
 -- ---- the parts of a call
 
--- what the words ask: a command, or the fault that is told instead
+-- what the words ask: a command, or the fault that is reported instead
 abbrev pub IsAsked : Option Subcommand → Result Subcommand Fault → Type 0
 IsAsked command (Ok asked) = command ≡ Some asked
-IsAsked command (Err told) = ((told ≡ fault.Usage) × (command ≡ None)) ⊎ (told ≡ fault.Memory)
+IsAsked command (Err reported) = ((reported ≡ fault.Usage) × (command ≡ None)) ⊎ (reported ≡ fault.Memory)
 
--- what is told of a text that is refused
+-- what is reported of a text that is refused
 abbrev pub refusal_of : ScriptFault → Fault
 refusal_of refused = if refused.kind == 14 then fault.Memory else fault.Script refused.line refused.kind
 
@@ -156,31 +156,31 @@ IsRefused bytes (fault.Transcript line) limit = IsBadAt bytes line
 IsRefused bytes fault.Memory limit = Unit {0}
 IsRefused bytes other limit = ⊥
 
--- what is told of a verdict, and what the sink gets of it
+-- what is reported of a verdict, and what the sink gets of it
 abbrev pub TellsVerdict : Verdict → Fault → Stream → Stream → Type 0
-TellsVerdict verdict.Legal told before after = ((told ≡ fault.Clean) × Receives before legal_line false after) ⊎ ((told ≡ fault.Write) × IsPart before legal_line true after)
-TellsVerdict (verdict.Not place rule) told before after = (told ≡ fault.NotLegal place rule) × Told before (broken_line place rule) after
+TellsVerdict verdict.Legal reported before after = ((reported ≡ fault.Clean) × Receives before legal_line false after) ⊎ ((reported ≡ fault.Write) × IsPart before legal_line true after)
+TellsVerdict (verdict.Not place rule) reported before after = (reported ≡ fault.NotLegal place rule) × Reported before (broken_line place rule) after
 
--- what is told of a verdict, where no stream fails and memory is had
-abbrev pub told_of : Verdict → Fault
-told_of verdict.Legal = fault.Clean
-told_of (verdict.Not place rule) = fault.NotLegal place rule
+-- what is reported of a verdict, where no stream fails and memory is had
+abbrev pub reported_of : Verdict → Fault
+reported_of verdict.Legal = fault.Clean
+reported_of (verdict.Not place rule) = fault.NotLegal place rule
 
 -- ---- the report
 
 -- too long: more came than a script may have, which stops the reading
 abbrev pub LimitsRun : Fault → List ℕ → Type 0
-LimitsRun told came = (is_too_long told ≡ nat_lt script_limit (length came)) × (length came ≤ most_read)
+LimitsRun reported came = (is_too_long reported ≡ nat_lt script_limit (length came)) × (length came ≤ most_read)
 
 -- or more than a script and a transcript may have, whatever follows; what was read to its end is within
-pub record LimitsCheck (told : Fault) (source : Stream) (came : List ℕ) (source' : Stream) : Type 0 where
-  pub too_long : is_too_long told ≡ true → IsTooLong source came source'
-  pub within : has_ended told ≡ true → IsWithin came
+pub record LimitsCheck (reported : Fault) (source : Stream) (came : List ℕ) (source' : Stream) : Type 0 where
+  pub too_long : is_too_long reported ≡ true → IsTooLong source came source'
+  pub within : has_ended reported ≡ true → IsWithin came
   pub few : length came ≤ most_checked
 
 abbrev pub Limits : Option Subcommand → Fault → Stream → List ℕ → Stream → Type 0
-Limits (Some subcommand.Check) told source came source' = LimitsCheck told source came source'
-Limits command told source came source' = LimitsRun told came
+Limits (Some subcommand.Check) reported source came source' = LimitsCheck reported source came source'
+Limits command reported source came source' = LimitsRun reported came
 
 -- what is done for this command, and the fault and the history that it comes to
 pub record IsDone (command : Option Subcommand) (source source' sink sink' : Stream) (fault : Fault) (limit : Option Which) (history : List Entry) : Type 0 where
@@ -204,4 +204,4 @@ pub record IsReport (words : List (List ℕ)) (source source' sink sink' errors 
   pub done : IsDone (command_of words) source source' sink sink' report.fault limit report.history.items
   pub status : report.status ≡ status_of report.fault
   -- the errors get the line of the fault
-  pub told : Told errors (error_line report.fault limit) errors'
+  pub reported : Reported errors (error_line report.fault limit) errors'

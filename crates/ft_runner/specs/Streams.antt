@@ -2,7 +2,7 @@
 use Rattle.std.specs.Prelude.{◌≡◌, ℕ, Bool, true, false, nat_lt, if◌then◌else◌, ◌⊎◌, ◌≤◌, ◌+◌, List, [], ◌++◌, length, Option, IfSome, Result, Ok, Err, Vec}
 use Rattle.std.specs.declared.alloc.Global.{Global}
 use Rattle.ft_io.specs.declared.source.Failed.{Failed}
-use Rattle.ft_io.specs.Streams.{raised, behind, added}
+use Rattle.ft_io.specs.Streams.{raised, prepended, added}
 use Rattle.ft_runner.specs.declared.report.Fault.{Fault}
 use Rattle.ft_runner.specs.declared.report.Fault.TheVariants as fault
 use Rattle.ft_runner.specs.declared.writing.WriteFault.{WriteFault}
@@ -20,7 +20,7 @@ stream content faults = record { content = content; faults = faults }
 
 -- these bytes came from a source, whose last call failed or not
 pub record Gives (before : Stream) (came : List ℕ) (failed : Bool) (after : Stream) : Type 0 where
-  pub content : before.content ≡ behind came after.content
+  pub content : before.content ≡ prepended came after.content
   pub faults : after.faults ≡ (if failed then raised before.faults else before.faults)
 
 -- these bytes went into a sink, whose last call failed or not
@@ -62,7 +62,7 @@ stops_reading fault.Memory = true
 stops_reading fault.TooLong = true
 stops_reading _ = false
 
--- reading stops at a fault, behind the bytes that came
+-- reading stops at a fault, after the bytes that came
 pub record StopsReading (fault : Fault) (before after : Stream) : Type 0 where
   pub came : List ℕ
   pub gives : Gives before came (is_read fault) after
@@ -90,12 +90,12 @@ pub record IsBuffered (before now : Stream) (buffer text : List ℕ) : Type 0 wh
   pub receives : Receives before put false now
   pub text_is : put ++ buffer ≡ text
 
--- want of memory stops writing behind a part of the text
+-- out of memory stops writing after a part of the text
 abbrev pub Writes : Stream → List ℕ → Result (Unit {0}) WriteFault → Stream → Type 0
 Writes before text (Ok u) after = Receives before text false after
 Writes before text (Err write.Failed) after = IsPart before text true after
 Writes before text (Err write.Memory) after = IsPart before text false after
 
 -- a sink gets a text: whole, or a prefix where the sink failed
-abbrev pub Told : Stream → List ℕ → Stream → Type 0
-Told before text after = Receives before text false after ⊎ IsPart before text true after
+abbrev pub Reported : Stream → List ℕ → Stream → Type 0
+Reported before text after = Receives before text false after ⊎ IsPart before text true after

@@ -10,7 +10,7 @@ ghost use Rattle.ft_runner.specs.Streams.{stream, Puts};
 use crate::errors::put_number;
 use crate::outcome::{Outcome, Refusal};
 use crate::report::Fault;
-use crate::separator::{before_separator, behind_separator};
+use crate::separator::{before_separator, after_separator};
 use crate::writing::put_all;
 use ft_history::{Verdict, judge_with_world};
 use ft_io::{Failed, Sink};
@@ -48,7 +48,7 @@ fn find(alloc: Global, bytes: &[u8], separator: Option<usize>) -> Result<Verdict
     let Some(place) = separator else {
         return Err(Refusal::of(Fault::Transcript(1)));
     };
-    let transcript = match read_transcript(alloc, &script, behind_separator(bytes, place)) {
+    let transcript = match read_transcript(alloc, &script, after_separator(bytes, place)) {
         Ok(transcript) => transcript,
         Err(TranscriptFault::Line(line)) => return Err(Refusal::of(Fault::Transcript(line))),
         Err(TranscriptFault::Memory) => return Err(Refusal::of(Fault::Memory)),
@@ -130,8 +130,8 @@ fn is_fed(text: &[u8], line: &[u8]) -> bool
     }
 }
 
-/// Puts the line of a verdict, and answers the fault that is told of it. A sink that fails changes
-/// nothing of what is told where a rule is broken.
+/// Puts the line of a verdict, and answers the fault that is reported of it. A sink that fails changes
+/// nothing of what is reported where a rule is broken.
 fn put_verdict<K: Sink>(sink: &mut K, verdict: Verdict) -> Fault
     ensures { TellsVerdict verdict result (stream (K.taken sink.old) (K.faults sink.old)) (stream (K.taken sink.new) (K.faults sink.new)) }
 {

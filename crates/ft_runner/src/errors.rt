@@ -62,17 +62,17 @@ fn kind_text(kind: u8, limit: Option<Which>) -> &'static str
     fault.text()
 }
 
-/// Puts a number with what stands before it and behind it.
+/// Puts a number with what stands before it and after it.
 pub(crate) fn put_number<E: Sink>(
     errors: &mut E,
     before: &[u8],
     number: u64,
-    behind: &[u8],
+    after: &[u8],
 ) -> Result<(), Failed>
-    ensures { Puts (stream (E.taken errors.old) (E.faults errors.old)) (before.now ++ decimal number ++ behind.now) result (stream (E.taken errors.new) (E.faults errors.new)) }
+    ensures { Puts (stream (E.taken errors.old) (E.faults errors.old)) (before.now ++ decimal number ++ after.now) result (stream (E.taken errors.new) (E.faults errors.new)) }
 {
     put_all(errors, before)?;
     let mut buffer = Buffer::new();
     put_all(errors, buffer.format(number).as_bytes())?;
-    put_all(errors, behind)
+    put_all(errors, after)
 }

@@ -11,7 +11,7 @@ ghost use Rattle.ft_runner.specs.Checking.{IsScriptPart, IsWithin};
 ghost use Rattle.ft_runner.specs.Commands.{command_of, is_check};
 ghost use Rattle.ft_runner.specs.Findings.{IsInput, IsVerdictOn};
 ghost use Rattle.ft_runner.specs.Streams.{script_limit, Stream};
-ghost use Rattle.ft_runner.specs.Reports.{told_of, IsReport};
+ghost use Rattle.ft_runner.specs.Reports.{reported_of, IsReport};
 ghost use Rattle.ft_script.specs.Scripts.{read_script};
 ghost use Rattle.std.specs.Prelude.{◌≡◌, ◌≢◌, ◌≤◌, ◌⊎◌, ℕ, List, Ok, Some, false, length};
 
@@ -39,11 +39,11 @@ pub fn transcripts_are_checked()
 
 /// Where the word is `check`, no count of the source or the sink rose, and the bytes that came are few
 /// enough, and are a script, the line `---` and a transcript of the script, the verdict on it is
-/// told, or memory ran out: legal ones are told legal, and no others.
-pub fn verdicts_are_told()
+/// reported, or memory ran out: legal ones are reported legal, and no others.
+pub fn verdicts_are_reported()
     ensures { (words : List (List ℕ)) (source source' sink sink' errors errors' : Stream) (report : Report) (script : ScriptParts) (entries : List Entry) (lines : List (List ℕ)) (found : Verdict)
         → (is : IsReport words source source' sink sink' errors errors' report) → command_of words ≡ Some subcommand.Check
         → source'.faults ≢ raised source.faults → sink'.faults ≢ raised sink.faults
         → IsWithin is.done.came → IsInput is.done.came script entries lines → IsVerdictOn script entries lines found
-        → (report.fault ≡ told_of found) ⊎ (report.fault ≡ fault.Memory) }
+        → (report.fault ≡ reported_of found) ⊎ (report.fault ≡ fault.Memory) }
 {}

@@ -15,6 +15,6 @@ mod tool;
 mod writing;
 
 pub use command::Subcommand;
-pub use laws::{scripts_are_run, transcripts_are_checked, verdicts_are_told};
+pub use laws::{scripts_are_run, transcripts_are_checked, verdicts_are_reported};
 pub use report::{Fault, Report};
 pub use tool::{Gate, NoGate, run_still, run_tool};

@@ -15,7 +15,7 @@ pub(crate) struct Refusal {
 }
 
 impl Refusal {
-    /// A fault that is told without a limit.
+    /// A fault that is reported without a limit.
     pub(crate) fn of(fault: Fault) -> Refusal
         ensures fault { result.fault ≡ fault }
         ensures limit { result.limit ≡ None }
@@ -23,7 +23,7 @@ impl Refusal {
         Refusal { fault, limit: None }
     }
 
-    /// What is told of a text that is no script.
+    /// What is reported of a text that is no script.
     pub(crate) fn script(refused: ScriptFault) -> Refusal
         ensures fault { result.fault ≡ refusal_of refused }
         ensures limit { result.limit ≡ refused.which }
@@ -59,7 +59,7 @@ impl Outcome {
         Outcome::refused(alloc, Refusal::of(fault))
     }
 
-    /// What is told of bytes that are refused.
+    /// What is reported of bytes that are refused.
     pub(crate) fn refused(alloc: Global, refusal: Refusal) -> Outcome
         ensures fault { result.fault ≡ refusal.fault }
         ensures limit { result.limit ≡ refusal.limit }

@@ -50,8 +50,8 @@ pub(crate) fn read_all<S: Source>(alloc: Global, source: &mut S) -> Result<Vec<u
 }
 
 /// Reads a script, a line `---` and a transcript: all there is. It stops as soon as more came than
-/// they may have, whatever follows; of the script that is told once the bytes of such a line came
-/// behind it.
+/// they may have, whatever follows; of the script that is reported once the bytes of such a line came
+/// after it.
 pub(crate) fn read_input<S: Source>(alloc: Global, source: &mut S) -> Result<Input, Fault>
     ensures { ReadsInput (stream (S.left source.old) (S.faults source.old)) result (stream (S.left source.new) (S.faults source.new)) }
 {
@@ -86,7 +86,7 @@ fn is_script_few(bytes: &[u8], separator: Option<usize>) -> bool
     }
 }
 
-/// Reads on, until the source ends or more than so many bytes are there. It answers whether it has
+/// Reads on, until the source ends or more than that many bytes are there. It answers whether it has
 /// ended.
 fn fill<S: Source>(
     alloc: Global,

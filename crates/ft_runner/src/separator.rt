@@ -42,8 +42,8 @@ pub(crate) fn before_separator(bytes: &[u8], separator: Option<usize>) -> &[u8]
     }
 }
 
-/// What stands behind the line that begins at a place.
-pub(crate) fn behind_separator(bytes: &[u8], place: usize) -> &[u8]
+/// What stands after the line that begins at a place.
+pub(crate) fn after_separator(bytes: &[u8], place: usize) -> &[u8]
     requires { place < length bytes.now }
     ensures { result.now ≡ drop (place + 4) bytes.now }
 {

@@ -21,7 +21,7 @@ const USAGE: &str = "ftpy: usage: run | turns | check | make N [turns]\n";
 /// A call of the tool, and what it has to come to.
 #[derive(Clone, Copy)]
 struct Case<'a> {
-    /// The words behind the program's name, parted by spaces.
+    /// The words after the program's name, parted by spaces.
     command: &'a str,
     input: &'a str,
     /// How many bytes a stream moves in one call, at most.
@@ -34,7 +34,7 @@ struct Case<'a> {
     status: u8,
     fault: Fault,
     put: &'a str,
-    told: &'a str,
+    reported: &'a str,
     entries: usize,
 }
 
@@ -49,7 +49,7 @@ const EXAMPLE: Case<'static> = Case {
     status: 0,
     fault: Fault::Clean,
     put: TEXT,
-    told: "",
+    reported: "",
     entries: 2,
 };
 
@@ -226,7 +226,7 @@ fn check<R: Threads + Wait + Sync + Abort + AllocGlobal>(rt: &R, case: &Case) ->
     assert_eq!(rt; report.fault, case.fault, "at {:?}", case.input);
     assert_eq!(rt; report.history.len(), case.entries, "at {:?}", case.input);
     assert_eq!(rt; sink.bytes(), case.put.as_bytes(), "at {:?}", case.input);
-    assert_eq!(rt; errors.bytes(), case.told.as_bytes(), "at {:?}", case.input);
+    assert_eq!(rt; errors.bytes(), case.reported.as_bytes(), "at {:?}", case.input);
     Ok(())
 }
 
@@ -288,13 +288,13 @@ fn what_is_no_command_or_no_script_is_refused(rt: HostRuntime) -> Result<(), Fai
             status: 2,
             fault: Fault::Usage,
             put: "",
-            told: USAGE,
+            reported: USAGE,
             entries: 0,
             ..EXAMPLE
         };
         check(&rt, &usage)?;
     }
-    for (input, fault, told) in [
+    for (input, fault, reported) in [
         (
             "dict d\nthread A\nset d 9223372036854775808 1\n",
             Fault::Script(3, 4),
@@ -321,7 +321,7 @@ fn what_is_no_command_or_no_script_is_refused(rt: HostRuntime) -> Result<(), Fai
             status: 1,
             fault,
             put: "",
-            told,
+            reported,
             entries: 0,
             ..EXAMPLE
         };
@@ -338,7 +338,7 @@ struct Checked<'a> {
     status: u8,
     fault: Fault,
     put: &'a str,
-    told: &'a str,
+    reported: &'a str,
 }
 
 const LEGAL: Checked<'static> = Checked {
@@ -347,7 +347,7 @@ const LEGAL: Checked<'static> = Checked {
     status: 0,
     fault: Fault::Clean,
     put: "legal\n",
-    told: "",
+    reported: "",
 };
 
 const NESTED: &str =
@@ -373,7 +373,7 @@ const CHECKS: [Checked<'static>; 13] = [
         status: 7,
         fault: Fault::NotLegal(9, Rule::Kept),
         put: "not legal at 9: kept\n",
-        told: "",
+        reported: "",
     },
     Checked {
         transcript: "A.1 w0 set d \"a\" 1 = ok\n",
@@ -416,16 +416,16 @@ const CHECKS: [Checked<'static>; 13] = [
         status: 8,
         fault: Fault::Transcript(1),
         put: "",
-        told: "ftpy: transcript line 1\n",
+        reported: "ftpy: transcript line 1\n",
         ..LEGAL
     },
-    // The line of an entry stands behind one of a content.
+    // The line of an entry stands after one of a content.
     Checked {
         transcript: "A.1 w0 set d \"a\" 1 = ok\nd = {\"a\": 1}\nA.2 r1 get d \"a\" = 1\n",
         status: 8,
         fault: Fault::Transcript(3),
         put: "",
-        told: "ftpy: transcript line 3\n",
+        reported: "ftpy: transcript line 3\n",
         ..LEGAL
     },
     Checked {
@@ -433,7 +433,7 @@ const CHECKS: [Checked<'static>; 13] = [
         status: 1,
         fault: Fault::Script(3, 3),
         put: "",
-        told: "ftpy: line 3: 3 wrong count of words\n",
+        reported: "ftpy: line 3: 3 wrong count of words\n",
         ..LEGAL
     },
     // The first of two such lines parts the input.
@@ -443,7 +443,7 @@ const CHECKS: [Checked<'static>; 13] = [
         status: 8,
         fault: Fault::Transcript(1),
         put: "",
-        told: "ftpy: transcript line 1\n",
+        reported: "ftpy: transcript line 1\n",
     },
 ];
 
@@ -454,7 +454,7 @@ fn case_of<'a>(checked: &Checked<'a>, input: &'a str) -> Case<'a> {
         status: checked.status,
         fault: checked.fault,
         put: checked.put,
-        told: checked.told,
+        reported: checked.reported,
         entries: 0,
         ..EXAMPLE
     }
@@ -480,12 +480,12 @@ fn transcripts_are_checked(rt: HostRuntime) -> Result<(), Fail> {
 }
 
 #[test]
-fn a_transcript_stands_behind_the_line(rt: HostRuntime) -> Result<(), Fail> {
+fn a_transcript_stands_after_the_line(rt: HostRuntime) -> Result<(), Fail> {
     let missing = Checked {
         status: 8,
         fault: Fault::Transcript(1),
         put: "",
-        told: "ftpy: transcript line 1\n",
+        reported: "ftpy: transcript line 1\n",
         ..LEGAL
     };
     for input in ["", SCRIPT, "#---\n", "# ---\n#"] {
@@ -494,7 +494,7 @@ fn a_transcript_stands_behind_the_line(rt: HostRuntime) -> Result<(), Fail> {
     let unknown = Checked {
         status: 1,
         fault: Fault::Script(1, 2),
-        told: "ftpy: line 1: 2 unknown word\n",
+        reported: "ftpy: line 1: 2 unknown word\n",
         ..missing
     };
     check(&rt, &case_of(&unknown, "----\n"))?;
@@ -513,14 +513,14 @@ fn a_transcript_stands_behind_the_line(rt: HostRuntime) -> Result<(), Fail> {
 }
 
 #[test]
-fn a_check_whose_stream_fails_is_told(rt: HostRuntime) -> Result<(), Fail> {
+fn a_check_whose_stream_fails_is_reported(rt: HostRuntime) -> Result<(), Fail> {
     let read = Case {
         most: 3,
         take_fails: 2,
         status: 3,
         fault: Fault::Read,
         put: "",
-        told: "ftpy: read fault\n",
+        reported: "ftpy: read fault\n",
         ..case_of(&LEGAL, "---\n")
     };
     check(&rt, &read)?;
@@ -530,7 +530,7 @@ fn a_check_whose_stream_fails_is_told(rt: HostRuntime) -> Result<(), Fail> {
         status: 4,
         fault: Fault::Write,
         put: "leg",
-        told: "ftpy: write fault\n",
+        reported: "ftpy: write fault\n",
         ..read
     };
     check(&rt, &write)?;
@@ -540,21 +540,21 @@ fn a_check_whose_stream_fails_is_told(rt: HostRuntime) -> Result<(), Fail> {
         status: 7,
         fault: Fault::NotLegal(1, Rule::Missing),
         put: "not",
-        told: "",
+        reported: "",
         ..write
     };
     check(&rt, &broken)
 }
 
 #[test]
-fn a_stream_that_fails_is_told(rt: HostRuntime) -> Result<(), Fail> {
+fn a_stream_that_fails_is_reported(rt: HostRuntime) -> Result<(), Fail> {
     let read = Case {
         most: 10,
         take_fails: 2,
         status: 3,
         fault: Fault::Read,
         put: "",
-        told: "ftpy: read fault\n",
+        reported: "ftpy: read fault\n",
         entries: 0,
         ..EXAMPLE
     };
@@ -565,7 +565,7 @@ fn a_stream_that_fails_is_told(rt: HostRuntime) -> Result<(), Fail> {
         status: 4,
         fault: Fault::Write,
         put: "A.1 w0 set",
-        told: "ftpy: write fault\n",
+        reported: "ftpy: write fault\n",
         ..EXAMPLE
     };
     check(&rt, &write)?;
@@ -583,7 +583,7 @@ fn a_stream_that_fails_is_told(rt: HostRuntime) -> Result<(), Fail> {
 #[test]
 fn more_than_is_taken_is_too_long(rt: HostRuntime) -> Result<(), Fail> {
     let alloc = rt.alloc();
-    for (command, count, behind, status, put, told) in [
+    for (command, count, after, status, put, reported) in [
         ("turns", 4_194_305, "", 6, "", "ftpy: too long\n"),
         ("check", 4_194_305, "", 6, "", "ftpy: too long\n"),
         ("check", 4_194_304, "", 8, "", "ftpy: transcript line 1\n"),
@@ -593,7 +593,7 @@ fn more_than_is_taken_is_too_long(rt: HostRuntime) -> Result<(), Fail> {
     ] {
         let words = words_of(alloc, command)?;
         let mut input = vec![in alloc; b'#'; count]?;
-        input.extend_from_slice(behind.as_bytes())?;
+        input.extend_from_slice(after.as_bytes())?;
         let mut source = MemSource::new(input, 1_000_000, Vec::new(alloc));
         let mut sink = MemSink::new(alloc, 100, 100, Vec::new(alloc))?;
         let mut errors = MemSink::new(alloc, 100, 100, Vec::new(alloc))?;
@@ -601,7 +601,7 @@ fn more_than_is_taken_is_too_long(rt: HostRuntime) -> Result<(), Fail> {
         let report = report.ok_or("no report")?;
         assert_eq!(rt; report.status, status);
         assert_eq!(rt; sink.bytes(), put.as_bytes());
-        assert_eq!(rt; errors.bytes(), told.as_bytes());
+        assert_eq!(rt; errors.bytes(), reported.as_bytes());
     }
     Ok(())
 }

@@ -3,7 +3,7 @@ ghost use Rattle.ft_runner.specs.declared.report.Fault.TheVariants as fault;
 ghost use Rattle.ft_runner.specs.declared.command.Subcommand.{Subcommand};
 ghost use Rattle.std.specs.Prelude.{◌≡◌, false, Option, Some, map, string_bytes, IfErr, IfNone, IfSome};
 ghost use Rattle.ft_runner.specs.Commands.{command_of, is_check};
-ghost use Rattle.ft_runner.specs.Streams.{stream, Told};
+ghost use Rattle.ft_runner.specs.Streams.{stream, Reported};
 ghost use Rattle.ft_runner.specs.Reports.{error_line, status_of, IsAsked, IsRunOf, IsDone, IsReport};
 
 use crate::checking::check_text;
@@ -20,7 +20,7 @@ use std::alloc::Global;
 use std::sync::Wait;
 use std::thread::Threads;
 
-/// What is told of each call that a thread makes, before it and after it. No command calls it yet.
+/// What is reported of each call that a thread makes, before it and after it. No command calls it yet.
 pub trait Gate: Sync {
     fn before(&self, thread: u32, index: u32);
 
@@ -82,7 +82,7 @@ pub fn run_still<S: Source, K: Sink, E: Sink>(
     Some(report(errors, outcome))
 }
 
-/// The command that the words are, or the fault that is told instead.
+/// The command that the words are, or the fault that is reported instead.
 fn asked(alloc: Global, words: &[String]) -> Result<Subcommand, Fault>
     ensures { IsAsked (command_of (map string_bytes words.now)) result }
 {
@@ -98,7 +98,7 @@ fn report<E: Sink>(errors: &mut E, outcome: Outcome) -> Report
     ensures fault { result.fault ≡ outcome.fault }
     ensures history { result.history.items ≡ outcome.history.items }
     ensures status { result.status ≡ status_of outcome.fault }
-    ensures told { Told (stream (E.taken errors.old) (E.faults errors.old)) (error_line outcome.fault outcome.limit) (stream (E.taken errors.new) (E.faults errors.new)) }
+    ensures reported { Reported (stream (E.taken errors.old) (E.faults errors.old)) (error_line outcome.fault outcome.limit) (stream (E.taken errors.new) (E.faults errors.new)) }
 {
     let _ = tell(errors, outcome.fault, outcome.limit);
     Report {

@@ -1,4 +1,4 @@
--- What is told of a call that is one too many.
+-- What is reported of a call that is one too many.
 use Rattle.std.proofs.Common.{Result, Ok, Err, ap}
 use Rattle.ft_model.specs.declared.call.Call.{Call}
 use Rattle.ft_script.specs.declared.draft.Draft.{Draft}
@@ -8,7 +8,7 @@ use Rattle.ft_script.specs.declared.fault.LineError.TheVariants as error
 use Rattle.ft_script.specs.Drafts.{Fails, Reads}
 use Rattle.ft_script.specs.Reading.{limit_error, past_limit}
 
-pub limit_told : (read : Result Call LineError) (new : Draft) (given : Result (Call × Draft) Fault) → Reads read new given → Fails (limit_error read) (past_limit given)
-limit_told (Ok called) new given same = ap past_limit same
-limit_told (Err error.Memory) new given same = tt
-limit_told (Err (error.Fault found)) new given same = ap past_limit same
+pub limit_reported : (read : Result Call LineError) (new : Draft) (given : Result (Call × Draft) Fault) → Reads read new given → Fails (limit_error read) (past_limit given)
+limit_reported (Ok called) new given same = ap past_limit same
+limit_reported (Err error.Memory) new given same = tt
+limit_reported (Err (error.Fault found)) new given same = ap past_limit same

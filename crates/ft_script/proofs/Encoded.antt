@@ -16,7 +16,7 @@ use Rattle.ft_script.proofs.Kept.{AreGoodWords}
 
 -- ---- cuts at a byte of ASCII
 
--- what stands before and behind such a byte is UTF-8
+-- what stands before and after such a byte is UTF-8
 seam : (front : List ℕ) (b : ℕ) (rest : List ℕ) → b < 128 → IsUtf8 (front ++ b ∷ rest) → IsUtf8 front × IsUtf8 rest
 seam front b rest low is =
     let whole : List ℕ = front ++ b ∷ rest in
@@ -25,9 +25,9 @@ seam front b rest low is =
     let within : length front < length whole = omega arith in
     let ascii : get_or whole (length front) 0 < 128 = omega arith in
     let last : length (front ++ b ∷ []) ≡ length front + 1 = length-append front (b ∷ []) in
-    let behind : drop (length front + 1) whole ≡ rest = ap (drop (length front + 1)) (sym (append_assoc front (b ∷ []) rest)) ∙ drop_at (front ++ b ∷ []) rest (length front + 1) last in (
+    let after : drop (length front + 1) whole ≡ rest = ap (drop (length front + 1)) (sym (append_assoc front (b ∷ []) rest)) ∙ drop_at (front ++ b ∷ []) rest (length front + 1) last in (
       subst (λ (l : List ℕ). IsUtf8 l) (take_at front (b ∷ rest) (length front) refl) (IsUtf8-take whole (length front) is (IsCharBoundary-before_ascii whole (length front) within ascii)),
-      subst (λ (l : List ℕ). IsUtf8 l) behind (IsUtf8-drop whole (length front + 1) is (IsCharBoundary-after_ascii whole (length front) is within ascii)),
+      subst (λ (l : List ℕ). IsUtf8 l) after (IsUtf8-drop whole (length front + 1) is (IsCharBoundary-after_ascii whole (length front) is within ascii)),
     )
 
 moved : (front : List ℕ) (b : ℕ) (rest : List ℕ) → IsUtf8 (front ++ b ∷ rest) → IsUtf8 ((front ++ b ∷ []) ++ rest)
@@ -74,7 +74,7 @@ weaker (Some a) P Q h then = then a h
 abbrev pub AreEncoded : List (List ℕ) → Type 0
 AreEncoded lines = AllByRecursion IsUtf8 lines
 
--- lines of which the first goes on behind a front
+-- lines of which the first goes on after a front
 abbrev FrontedLines : List ℕ → List (List ℕ) → Type 0
 FrontedLines front [] = IsUtf8 front
 FrontedLines front (line ∷ lines) = IsUtf8 (front ++ line) × AreEncoded lines
@@ -104,24 +104,24 @@ lines_encoded bytes is = without_front (lines_of bytes) (lines_from bytes [] is)
 -- ---- the words of a line
 
 -- a text whose front was read
-record IsTextBehind (front text : List ℕ) : Type 0 where
+record IsTextAfter (front text : List ℕ) : Type 0 where
   encoded : IsUtf8 (front ++ text)
   bytes : list_all is_text_byte text ≡ true
 
--- the words from a place on, of which the first goes on behind a front
+-- the words from a place on, of which the first goes on after a front
 abbrev Good : Place → List ℕ → List (List ℕ) → Type 0
 Good place.Between front words = AreGoodWords words
 Good place.Plain front [] = Unit {0}
 Good place.Plain front (word ∷ words) = AreGoodWords words
 Good place.String front [] = ⊥
-Good place.String front (word ∷ words) = IsTextBehind front (text_from false word) × AreGoodWords words
+Good place.String front (word ∷ words) = IsTextAfter front (text_from false word) × AreGoodWords words
 Good place.Escape front [] = ⊥
-Good place.Escape front (word ∷ words) = IsTextBehind front (text_from true word) × AreGoodWords words
+Good place.Escape front (word ∷ words) = IsTextAfter front (text_from true word) × AreGoodWords words
 Good place.Ended front [] = Unit {0}
 Good place.Ended front (word ∷ words) = AreGoodWords words
 
-abbrev behind : Place → ℕ → List ℕ → Option Place → Option (List (List ℕ))
-behind at b bytes to = elim to [ None ↦ None | Some next ↦ option_map (joined at b next) (words_from next bytes) ]
+abbrev after : Place → ℕ → List ℕ → Option Place → Option (List (List ℕ))
+after at b bytes to = elim to [ None ↦ None | Some next ↦ option_map (joined at b next) (words_from next bytes) ]
 
 string_begins : (b : ℕ) (words : List (List ℕ)) → Good place.String [] words → AreGoodWords (with_first b words)
 unfolding text_of
@@ -146,23 +146,23 @@ text_goes_on : (b : ℕ) (word : List ℕ) → eqb b 34 ≡ false → eqb b 92 �
 text_goes_on b word no_mark no_escape = rw (no_escape, no_mark) refl
 
 string_ends : (front : List ℕ) (b : ℕ) (words : List (List ℕ)) → b ≡ 34 → IsUtf8 front → Good place.Ended [] words → Good place.String front (with_first b words)
-string_ends front b [] mark is h = (subst (λ (t : List ℕ). IsTextBehind front t) (sym (text_ends b [] mark)) (record { encoded = subst (λ (l : List ℕ). IsUtf8 l) (sym (append-nil front)) is; bytes = refl }), tt)
-string_ends front b (word ∷ words) mark is h = (subst (λ (t : List ℕ). IsTextBehind front t) (sym (text_ends b word mark)) (record { encoded = subst (λ (l : List ℕ). IsUtf8 l) (sym (append-nil front)) is; bytes = refl }), h)
+string_ends front b [] mark is h = (subst (λ (t : List ℕ). IsTextAfter front t) (sym (text_ends b [] mark)) (record { encoded = subst (λ (l : List ℕ). IsUtf8 l) (sym (append-nil front)) is; bytes = refl }), tt)
+string_ends front b (word ∷ words) mark is h = (subst (λ (t : List ℕ). IsTextAfter front t) (sym (text_ends b word mark)) (record { encoded = subst (λ (l : List ℕ). IsUtf8 l) (sym (append-nil front)) is; bytes = refl }), h)
 
 string_escapes : (front : List ℕ) (b : ℕ) (words : List (List ℕ)) → b ≡ 92 → Good place.Escape front words → Good place.String front (with_first b words)
 string_escapes front b [] mark h = absurd h
-string_escapes front b (word ∷ words) mark h = (subst (λ (t : List ℕ). IsTextBehind front t) (sym (text_escapes b word mark)) h.0, h.1)
+string_escapes front b (word ∷ words) mark h = (subst (λ (t : List ℕ). IsTextAfter front t) (sym (text_escapes b word mark)) h.0, h.1)
 
 -- a byte that is allowed stands before such a text
-text_behind : (front : List ℕ) (b : ℕ) (text : List ℕ) → is_text_byte b ≡ true → IsTextBehind (front ++ b ∷ []) text → IsTextBehind front (b ∷ text)
-text_behind front b text allowed h = record { encoded = moved_back front b text h.encoded; bytes = and_from (is_text_byte b) (list_all is_text_byte text) allowed h.bytes }
+text_after : (front : List ℕ) (b : ℕ) (text : List ℕ) → is_text_byte b ≡ true → IsTextAfter (front ++ b ∷ []) text → IsTextAfter front (b ∷ text)
+text_after front b text allowed h = record { encoded = moved_back front b text h.encoded; bytes = and_from (is_text_byte b) (list_all is_text_byte text) allowed h.bytes }
 
 text_byte : (b : ℕ) → is_plain b ≡ true → is_text_byte b ≡ true
 text_byte b plain = grind arith
 
 string_goes_on : (front : List ℕ) (b : ℕ) (words : List (List ℕ)) → eqb b 34 ≡ false → eqb b 92 ≡ false → is_plain b ≡ true → Good place.String (front ++ b ∷ []) words → Good place.String front (with_first b words)
 string_goes_on front b [] no_mark no_escape plain h = absurd h
-string_goes_on front b (word ∷ words) no_mark no_escape plain h = (subst (λ (t : List ℕ). IsTextBehind front t) (sym (text_goes_on b word no_mark no_escape)) (text_behind front b (text_from false word) (text_byte b plain) h.0), h.1)
+string_goes_on front b (word ∷ words) no_mark no_escape plain h = (subst (λ (t : List ℕ). IsTextAfter front t) (sym (text_goes_on b word no_mark no_escape)) (text_after front b (text_from false word) (text_byte b plain) h.0), h.1)
 
 escape_byte : (b : ℕ) → is_escape b ≡ true → (b < 128) × (unescaped b < 128) × (is_text_byte (unescaped b) ≡ true)
 escape_byte b is =
@@ -180,7 +180,7 @@ escape_byte b is =
 
 escape_goes_on : (front : List ℕ) (b : ℕ) (words : List (List ℕ)) → is_text_byte (unescaped b) ≡ true → Good place.String (front ++ unescaped b ∷ []) words → Good place.Escape front (with_first b words)
 escape_goes_on front b [] allowed h = absurd h
-escape_goes_on front b (word ∷ words) allowed h = (text_behind front (unescaped b) (text_from false word) allowed h.0, h.1)
+escape_goes_on front b (word ∷ words) allowed h = (text_after front (unescaped b) (text_from false word) allowed h.0, h.1)
 
 unescaped_encoded : (front : List ℕ) (b : ℕ) (bytes : List ℕ) → is_escape b ≡ true → IsUtf8 (front ++ b ∷ bytes) → IsUtf8 ((front ++ unescaped b ∷ []) ++ bytes)
 unescaped_encoded front b bytes escape is =
@@ -199,19 +199,19 @@ words_good place.String [] front is = tt
 words_good place.Escape [] front is = tt
 words_good place.Ended [] front is = tt
 words_good place.Between (b ∷ bytes) front is =
-    let P : Option Place → Type 0 = λ to. IfSome (behind place.Between b bytes to) (Good place.Between front) in
+    let P : Option Place → Type 0 = λ to. IfSome (after place.Between b bytes to) (Good place.Between front) in
     cond_is (eqb b 32) (Some place.Between) (cond (eqb b 34) (Some place.String) (Some place.Plain)) P
     (λ space. map_holds (words_from place.Between bytes) _ (Good place.Between []) (Good place.Between front) (words_good place.Between bytes [] (seam front b bytes (below_ascii b 32 space (omega arith)) is).1) (λ words h. h))
     (λ _. cond_is (eqb b 34) (Some place.String) (Some place.Plain) P
     (λ mark. map_holds (words_from place.String bytes) _ (Good place.String []) (Good place.Between front) (words_good place.String bytes [] (seam front b bytes (below_ascii b 34 mark (omega arith)) is).1) (λ words h. string_begins b words h))
     (λ plain. map_holds (words_from place.Plain bytes) _ (Good place.Plain (front ++ b ∷ [])) (Good place.Between front) (words_good place.Plain bytes (front ++ b ∷ []) (moved front b bytes is)) (λ words h. plain_begins (front ++ b ∷ []) b words plain h)))
 words_good place.Plain (b ∷ bytes) front is =
-    let P : Option Place → Type 0 = λ to. IfSome (behind place.Plain b bytes to) (Good place.Plain front) in
+    let P : Option Place → Type 0 = λ to. IfSome (after place.Plain b bytes to) (Good place.Plain front) in
     cond_is (eqb b 32) (Some place.Between) (Some place.Plain) P
     (λ space. map_holds (words_from place.Between bytes) _ (Good place.Between []) (Good place.Plain front) (words_good place.Between bytes [] (seam front b bytes (below_ascii b 32 space (omega arith)) is).1) (λ words h. h))
     (λ _. map_holds (words_from place.Plain bytes) _ (Good place.Plain (front ++ b ∷ [])) (Good place.Plain front) (words_good place.Plain bytes (front ++ b ∷ []) (moved front b bytes is)) (λ words h. plain_goes_on front (front ++ b ∷ []) b words h))
 words_good place.String (b ∷ bytes) front is =
-    let P : Option Place → Type 0 = λ to. IfSome (behind place.String b bytes to) (Good place.String front) in
+    let P : Option Place → Type 0 = λ to. IfSome (after place.String b bytes to) (Good place.String front) in
     cond_is (eqb b 34) (Some place.Ended) (cond (eqb b 92) (Some place.Escape) (cond (is_plain b) (Some place.String) None)) P
     (λ mark. let parts = seam front b bytes (below_ascii b 34 mark (omega arith)) is in map_holds (words_from place.Ended bytes) _ (Good place.Ended []) (Good place.String front) (words_good place.Ended bytes [] parts.1) (λ words h. string_ends front b words (eqb-true b 34 mark) parts.0 h))
     (λ no_mark. cond_is (eqb b 92) (Some place.Escape) (cond (is_plain b) (Some place.String) None) P
@@ -220,12 +220,12 @@ words_good place.String (b ∷ bytes) front is =
     (λ plain. map_holds (words_from place.String bytes) _ (Good place.String (front ++ b ∷ [])) (Good place.String front) (words_good place.String bytes (front ++ b ∷ []) (moved front b bytes is)) (λ words h. string_goes_on front b words no_mark no_escape plain h))
     (λ _. tt)))
 words_good place.Escape (b ∷ bytes) front is =
-    let P : Option Place → Type 0 = λ to. IfSome (behind place.Escape b bytes to) (Good place.Escape front) in
+    let P : Option Place → Type 0 = λ to. IfSome (after place.Escape b bytes to) (Good place.Escape front) in
     cond_is (is_escape b) (Some place.String) None P
     (λ escape. map_holds (words_from place.String bytes) _ (Good place.String (front ++ unescaped b ∷ [])) (Good place.Escape front) (words_good place.String bytes (front ++ unescaped b ∷ []) (unescaped_encoded front b bytes escape is)) (λ words h. escape_goes_on front b words (escape_byte b escape).2 h))
     (λ _. tt)
 words_good place.Ended (b ∷ bytes) front is =
-    let P : Option Place → Type 0 = λ to. IfSome (behind place.Ended b bytes to) (Good place.Ended front) in
+    let P : Option Place → Type 0 = λ to. IfSome (after place.Ended b bytes to) (Good place.Ended front) in
     cond_is (eqb b 32) (Some place.Between) None P
     (λ space. map_holds (words_from place.Between bytes) _ (Good place.Between []) (Good place.Ended front) (words_good place.Between bytes [] (seam front b bytes (below_ascii b 32 space (omega arith)) is).1) (λ words h. h))
     (λ _. tt)
@@ -258,7 +258,7 @@ plain_first : (bytes : List ℕ) → IfSome (words_from place.Plain bytes) (λ w
 unfolding words_from
 plain_first [] = refl
 plain_first (b ∷ bytes) =
-    cond_both (eqb b 32) (Some place.Between) (Some place.Plain) ([] ∷ slice_split is_space bytes) (onto_first b (slice_split is_space bytes)) (λ to parts. IfSome (behind place.Plain b bytes to) (λ words. HaveSameFirst words parts))
+    cond_both (eqb b 32) (Some place.Between) (Some place.Plain) ([] ∷ slice_split is_space bytes) (onto_first b (slice_split is_space bytes)) (λ to parts. IfSome (after place.Plain b bytes to) (λ words. HaveSameFirst words parts))
     (λ _. map_holds (words_from place.Between bytes) _ (λ _. Unit {0}) (λ words. HaveSameFirst words ([] ∷ slice_split is_space bytes)) (anything (words_from place.Between bytes)) (λ words _. refl))
     (λ _. map_holds (words_from place.Plain bytes) _ (λ words. HaveSameFirst words (slice_split is_space bytes)) (λ words. HaveSameFirst words (onto_first b (slice_split is_space bytes))) (plain_first bytes) (λ words h. first_goes_on b words (slice_split is_space bytes) h))
 
@@ -283,11 +283,11 @@ line_first : (line : List ℕ) → IfSome (words_from place.Between line) (IsFir
 unfolding words_from
 line_first [] = tt
 line_first (b ∷ bytes) =
-    cond_both (eqb b 32) (Some place.Between) (cond (eqb b 34) (Some place.String) (Some place.Plain)) ([] ∷ slice_split is_space bytes) (onto_first b (slice_split is_space bytes)) (λ to parts. IfSome (behind place.Between b bytes to) (IsFirst (find has_bytes parts)))
+    cond_both (eqb b 32) (Some place.Between) (cond (eqb b 34) (Some place.String) (Some place.Plain)) ([] ∷ slice_split is_space bytes) (onto_first b (slice_split is_space bytes)) (λ to parts. IfSome (after place.Between b bytes to) (IsFirst (find has_bytes parts)))
     (λ _. map_holds (words_from place.Between bytes) _ (IsFirst (find has_bytes (slice_split is_space bytes))) (IsFirst (find has_bytes ([] ∷ slice_split is_space bytes))) (line_first bytes) (λ words h. h))
     (λ _.
     let found : Option (List ℕ) = find has_bytes (onto_first b (slice_split is_space bytes)) in
-    cond_is (eqb b 34) (Some place.String) (Some place.Plain) (λ to. IfSome (behind place.Between b bytes to) (IsFirst found))
+    cond_is (eqb b 34) (Some place.String) (Some place.Plain) (λ to. IfSome (after place.Between b bytes to) (IsFirst found))
     (λ mark. map_holds (words_from place.String bytes) _ (λ _. Unit {0}) (IsFirst found) (anything (words_from place.String bytes)) (λ words _. string_first b words found mark))
     (λ _. map_holds (words_from place.Plain bytes) _ (λ words. HaveSameFirst words (slice_split is_space bytes)) (IsFirst found) (plain_first bytes) (λ words h. word_first b words (slice_split is_space bytes) h)))
 
@@ -302,8 +302,8 @@ not_thread found (word ∷ words) ends first =
     cases_of (bytes_eq word (codes "thread")) (λ same.
     let is : word ≡ codes "thread" = (bytes_decides word (codes "thread")).0 same in
     let plain : is_string word ≡ false = subst (λ (w : List ℕ). is_string w ≡ false) (sym is) refl in
-    let told : is_word (codes "thread") found ≡ true = ap (is_word (codes "thread")) (first plain) ∙ same in
-    absurd (false≢true (sym ends ∙ ap (λ (t : Bool). t || is_word (codes "order") found) told)))
+    let reported : is_word (codes "thread") found ≡ true = ap (is_word (codes "thread")) (first plain) ∙ same in
+    absurd (false≢true (sym ends ∙ ap (λ (t : Bool). t || is_word (codes "order") found) reported)))
 
 pub begins_no_thread : (line : List ℕ) → ends_thread line ≡ false → IfSome (words_of line) BeginsNoThread
 begins_no_thread line ends = weaker (words_of line) (IsFirst (first_word line)) BeginsNoThread (line_first line) (λ words h. not_thread (first_word line) words ends h)

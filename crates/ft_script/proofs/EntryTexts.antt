@@ -25,7 +25,7 @@ use Rattle.ft_script.specs.Drafts.{or_fault, draft_at, text_place, thread_place}
 use Rattle.ft_script.specs.Reading.{call_in}
 use Rattle.ft_script.specs.Readers.{AddsNothing}
 use Rattle.ft_script.specs.Texts.{container_name, thread_name, call_words, reply_text, place_word, stamp_word, mark_words, entry_words, entry_line}
-use Rattle.ft_script.specs.Tokens.{tokens_of, before_word, behind_word}
+use Rattle.ft_script.specs.Tokens.{tokens_of, before_word, after_word}
 use Rattle.ft_script.specs.Transcripts.{counts, content_line, IsReadable, IsWhole, IsReadableReply, IsWideReply}
 use Rattle.ft_script.proofs.CallTexts.{Declares, IsCallWord, words_are, call_back, container_name_at, container_place_at}
 use Rattle.ft_script.proofs.PartTexts.{BeginsLow, BeginsHigh, container_word, thread_word, dotless, decimal_parts, u64_decimal, u32_decimal, bytes_same, bytes_differ, position_at, text_place_at}
@@ -33,7 +33,7 @@ use Rattle.ft_script.proofs.Printed.{each_after, join_with_byte-cons}
 use Rattle.ft_script.proofs.ReplyTexts.{reply_tokens, reply_is_cut, reply_back, reply_other}
 use Rattle.ft_script.proofs.TokenCuts.{no_bytes}
 use Rattle.ft_script.proofs.TokenLists.{AllFail, before_at, after_at, before_none, after_none}
-use Rattle.ft_script.proofs.TokenTexts.{is_part, IsWord, IsCut, IsTail, word_is_cut, words_tail, cut_tail, tail_tail, behind_space, from_gap}
+use Rattle.ft_script.proofs.TokenTexts.{is_part, IsWord, IsCut, IsTail, word_is_cut, words_tail, cut_tail, tail_tail, after_space, from_gap}
 use Rattle.ft_script.specs.declared.lines.Place.TheVariants as place
 
 -- ---- what a script declares
@@ -144,17 +144,17 @@ somebody_waited : (script : ScriptParts) (thread : ℕ) → IsScript script → 
 unfolding waited_of
 somebody_waited script thread rule low = rw (thread_back script thread rule low) refl
 
-mark_back : (script : ScriptParts) (waited : Option ℕ) (said : List (List ℕ)) → IsScript script → AllFail is_waited said → IfSome waited (λ thread. thread < length script.threads) → waited_of script (behind_word (codes "waited") (said ++ mark_words script waited)) ≡ Ok waited
-mark_back script None said rule none h = ap (λ (l : List (List ℕ)). waited_of script (behind_word (codes "waited") l)) (append-nil said) ∙ ap (waited_of script) (after_none is_waited said none) ∙ nobody_waited script
+mark_back : (script : ScriptParts) (waited : Option ℕ) (said : List (List ℕ)) → IsScript script → AllFail is_waited said → IfSome waited (λ thread. thread < length script.threads) → waited_of script (after_word (codes "waited") (said ++ mark_words script waited)) ≡ Ok waited
+mark_back script None said rule none h = ap (λ (l : List (List ℕ)). waited_of script (after_word (codes "waited") l)) (append-nil said) ∙ ap (waited_of script) (after_none is_waited said none) ∙ nobody_waited script
 mark_back script (Some thread) said rule none h = ap (waited_of script) (after_at is_waited said (codes "waited") (thread_name script thread ∷ []) none refl) ∙ somebody_waited script thread rule h
 
 -- ---- entries
 
-abbrev pub behind_call : ScriptParts → Entry → List (List ℕ)
-behind_call script entry = reply_tokens script.strings entry.reply ++ mark_words script entry.waited
+abbrev pub after_call : ScriptParts → Entry → List (List ℕ)
+after_call script entry = reply_tokens script.strings entry.reply ++ mark_words script entry.waited
 
 abbrev pub entry_tokens : ScriptParts → Entry → List (List ℕ)
-entry_tokens script entry = place_word script entry ∷ stamp_word entry ∷ (call_words script entry.thread entry.call ++ (codes "=" ∷ behind_call script entry))
+entry_tokens script entry = place_word script entry ∷ stamp_word entry ∷ (call_words script entry.thread entry.call ++ (codes "=" ∷ after_call script entry))
 
 cuts : (words : List (List ℕ)) → AllByRecursion IsCallWord words → AllByRecursion (λ word. IsCut word (word ∷ [])) words
 cuts [] h = tt
@@ -185,22 +185,22 @@ module _ (script : ScriptParts) (entry : Entry) (rule : IsScript script) (h : Is
       let call : List (List ℕ) = call_words script entry.thread entry.call in
       let place : List ℕ = place_word script entry in
       let stamp : List ℕ = stamp_word entry in
-      let behind : List ℕ = (32 ∷ codes "=") ++ ((32 ∷ said) ++ each_after 32 marks) in
+      let after : List ℕ = (32 ∷ codes "=") ++ ((32 ∷ said) ++ each_after 32 marks) in
       let reply_cut : IsCut said tokens = reply_is_cut script.strings (counts entry.call) entry.reply h.said h.reply in
-      let said_tail : IsTail ((32 ∷ said) ++ each_after 32 marks) (tokens ++ marks) = tail_tail (32 ∷ said) (each_after 32 marks) tokens marks (behind_space said tokens reply_cut) (marks_are script entry.waited rule h.of_script.mark) in
-      let equals_tail : IsTail behind (codes "=" ∷ (tokens ++ marks)) = tail_tail (32 ∷ codes "=") ((32 ∷ said) ++ each_after 32 marks) (codes "=" ∷ []) (tokens ++ marks) (behind_space (codes "=") (codes "=" ∷ []) (word_is_cut (codes "=") (refl, refl))) said_tail in
-      let call_tail : IsTail (each_after 32 call ++ behind) (call ++ (codes "=" ∷ (tokens ++ marks))) = tail_tail (each_after 32 call) behind call (codes "=" ∷ (tokens ++ marks)) (words_tail call (cuts call call_are)) equals_tail in
-      let stamp_tail : IsTail ((32 ∷ stamp) ++ (each_after 32 call ++ behind)) (stamp ∷ (call ++ (codes "=" ∷ (tokens ++ marks)))) = tail_tail (32 ∷ stamp) (each_after 32 call ++ behind) (stamp ∷ []) (call ++ (codes "=" ∷ (tokens ++ marks))) (behind_space stamp (stamp ∷ []) stamp_is_cut) call_tail in
-      let whole : IsCut (place ++ ((32 ∷ stamp) ++ (each_after 32 call ++ behind))) (entry_tokens script entry) = cut_tail place ((32 ∷ stamp) ++ (each_after 32 call ++ behind)) (place ∷ []) (stamp ∷ (call ++ (codes "=" ∷ (tokens ++ marks)))) (place_is_cut script entry rule h.of_script.thread h.last_index) stamp_tail in
-      let text : join_with_byte 32 (entry_words script entry) ≡ place ++ ((32 ∷ stamp) ++ (each_after 32 call ++ behind)) =
+      let said_tail : IsTail ((32 ∷ said) ++ each_after 32 marks) (tokens ++ marks) = tail_tail (32 ∷ said) (each_after 32 marks) tokens marks (after_space said tokens reply_cut) (marks_are script entry.waited rule h.of_script.mark) in
+      let equals_tail : IsTail after (codes "=" ∷ (tokens ++ marks)) = tail_tail (32 ∷ codes "=") ((32 ∷ said) ++ each_after 32 marks) (codes "=" ∷ []) (tokens ++ marks) (after_space (codes "=") (codes "=" ∷ []) (word_is_cut (codes "=") (refl, refl))) said_tail in
+      let call_tail : IsTail (each_after 32 call ++ after) (call ++ (codes "=" ∷ (tokens ++ marks))) = tail_tail (each_after 32 call) after call (codes "=" ∷ (tokens ++ marks)) (words_tail call (cuts call call_are)) equals_tail in
+      let stamp_tail : IsTail ((32 ∷ stamp) ++ (each_after 32 call ++ after)) (stamp ∷ (call ++ (codes "=" ∷ (tokens ++ marks)))) = tail_tail (32 ∷ stamp) (each_after 32 call ++ after) (stamp ∷ []) (call ++ (codes "=" ∷ (tokens ++ marks))) (after_space stamp (stamp ∷ []) stamp_is_cut) call_tail in
+      let whole : IsCut (place ++ ((32 ∷ stamp) ++ (each_after 32 call ++ after))) (entry_tokens script entry) = cut_tail place ((32 ∷ stamp) ++ (each_after 32 call ++ after)) (place ∷ []) (stamp ∷ (call ++ (codes "=" ∷ (tokens ++ marks)))) (place_is_cut script entry rule h.of_script.thread h.last_index) stamp_tail in
+      let text : join_with_byte 32 (entry_words script entry) ≡ place ++ ((32 ∷ stamp) ++ (each_after 32 call ++ after)) =
       join_with_byte-cons 32 place (stamp ∷ (call ++ (codes "=" ∷ said ∷ marks))) ∙ ap (λ (t : List ℕ). place ++ ((32 ∷ stamp) ++ t)) (flat_map-append (λ (word : List ℕ). 32 ∷ word) call (codes "=" ∷ said ∷ marks)) in
       subst (λ (t : List ℕ). IsCut t (entry_tokens script entry)) (sym text) whole
 
   pub call_words_at : before_word (codes "=") (drop 2 (entry_tokens script entry)) ≡ call_words script entry.thread entry.call
-  call_words_at = before_at is_equals (call_words script entry.thread entry.call) (codes "=") (behind_call script entry) (no_equals (call_words script entry.thread entry.call) call_are) refl
+  call_words_at = before_at is_equals (call_words script entry.thread entry.call) (codes "=") (after_call script entry) (no_equals (call_words script entry.thread entry.call) call_are) refl
 
-  behind_at : behind_word (codes "=") (drop 2 (entry_tokens script entry)) ≡ behind_call script entry
-  behind_at = after_at is_equals (call_words script entry.thread entry.call) (codes "=") (behind_call script entry) (no_equals (call_words script entry.thread entry.call) call_are) refl
+  after_equals : after_word (codes "=") (drop 2 (entry_tokens script entry)) ≡ after_call script entry
+  after_equals = after_at is_equals (call_words script entry.thread entry.call) (codes "=") (after_call script entry) (no_equals (call_words script entry.thread entry.call) call_are) refl
 
   none_waited : AllFail is_waited (reply_tokens script.strings entry.reply)
   none_waited = reply_other script.strings (counts entry.call) entry.reply h.said h.reply
@@ -212,22 +212,22 @@ module _ (script : ScriptParts) (entry : Entry) (rule : IsScript script) (h : Is
   unfolding thread_call
   thread_call_back = rw call_words_at (rw (call_back script entry.thread facts entry.call h.of_script.call h.call) refl)
 
-  said_back : reply_of script.strings (counts entry.call) (before_word (codes "waited") (behind_word (codes "=") (drop 2 (entry_tokens script entry)))) ≡ Ok entry.reply
+  said_back : reply_of script.strings (counts entry.call) (before_word (codes "waited") (after_word (codes "=") (drop 2 (entry_tokens script entry)))) ≡ Ok entry.reply
   said_back =
-      ap (λ (l : List (List ℕ)). reply_of script.strings (counts entry.call) (before_word (codes "waited") l)) behind_at
+      ap (λ (l : List (List ℕ)). reply_of script.strings (counts entry.call) (before_word (codes "waited") l)) after_equals
       ∙ ap (reply_of script.strings (counts entry.call)) (before_mark script entry.waited (reply_tokens script.strings entry.reply) none_waited)
       ∙ reply_back script.strings (counts entry.call) entry.reply rule.strings_differ h.of_script.reply h.said h.reply
 
-  waited_back : waited_of script (behind_word (codes "waited") (behind_word (codes "=") (drop 2 (entry_tokens script entry)))) ≡ Ok entry.waited
+  waited_back : waited_of script (after_word (codes "waited") (after_word (codes "=") (drop 2 (entry_tokens script entry)))) ≡ Ok entry.waited
   waited_back =
-      ap (λ (l : List (List ℕ)). waited_of script (behind_word (codes "waited") l)) behind_at
+      ap (λ (l : List (List ℕ)). waited_of script (after_word (codes "waited") l)) after_equals
       ∙ mark_back script entry.waited (reply_tokens script.strings entry.reply) rule none_waited h.of_script.mark
 
   pub entry_back : entry_of script (entry_tokens script entry) ≡ Ok entry
   unfolding entry_of
   entry_back = rw (place_back script entry rule h.of_script.thread h.last_index, letter_back entry.wrote entry.stamp h.stamp, thread_call_back, said_back, waited_back) refl
 
--- a text that is cut, with a line feed behind it
+-- a text that is cut, with a line feed after it
 pub line_cut : (text : List ℕ) (tokens : List (List ℕ)) → IsCut text tokens → tokens_of (text ++ 10 ∷ []) ≡ tokens
 line_cut text tokens h = h.cut (10 ∷ []) refl ∙ ap (λ (l : List (List ℕ)). tokens ++ l) (from_gap 10 [] refl ∙ no_bytes place.Between) ∙ append-nil tokens
 
@@ -270,8 +270,8 @@ module _ (script : ScriptParts) (container : ℕ) (content : Reply) (rule : IsSc
       let said : List ℕ = reply_text script.strings content in
       let tokens : List (List ℕ) = reply_tokens script.strings content in
       let reply_cut : IsCut said tokens = reply_is_cut script.strings false content wide (whole_readable content whole) in
-      let equals : IsCut (codes "=" ++ (32 ∷ said)) (codes "=" ∷ tokens) = cut_tail (codes "=") (32 ∷ said) (codes "=" ∷ []) tokens (word_is_cut (codes "=") (refl, refl)) (behind_space said tokens reply_cut) in
-      cut_tail name (32 ∷ (codes "=" ++ (32 ∷ said))) (name ∷ []) (codes "=" ∷ tokens) (word_is_cut name (container_word name (container_form script container rule low)).0) (behind_space (codes "=" ++ (32 ∷ said)) (codes "=" ∷ tokens) equals)
+      let equals : IsCut (codes "=" ++ (32 ∷ said)) (codes "=" ∷ tokens) = cut_tail (codes "=") (32 ∷ said) (codes "=" ∷ []) tokens (word_is_cut (codes "=") (refl, refl)) (after_space said tokens reply_cut) in
+      cut_tail name (32 ∷ (codes "=" ++ (32 ∷ said))) (name ∷ []) (codes "=" ∷ tokens) (word_is_cut name (container_word name (container_form script container rule low)).0) (after_space (codes "=" ++ (32 ∷ said)) (codes "=" ∷ tokens) equals)
 
   pub content_back : content_of script (tokens_of (content_line script container content)) ≡ Ok (container, content)
   unfolding content_of

@@ -98,7 +98,7 @@ strings_grow a b call.Quiesce more h = tt
 
 -- ---- containers and cursors
 
--- further containers stand behind those that are declared
+-- further containers stand after those that are declared
 get_grows : (containers more : List Declaration) (place : ℕ) (container : Declaration) → slice_get containers place ≡ Some container → slice_get (containers ++ more) place ≡ Some container
 get_grows [] more place container h = absurd cc
 get_grows (c ∷ containers) more zero container h = h

@@ -189,7 +189,7 @@ made_cursor_keeps d name are =
     (λ _. tt)))
     (λ _. tt)
 
--- ---- all words behind the container's name
+-- ---- all words after the container's name
 
 abbrev pub AreGoodWords : List (List ℕ) → Type 0
 AreGoodWords words = AllByRecursion IsGoodWord words
@@ -203,21 +203,21 @@ key_in_keeps d (word ∷ other ∷ words) table good = tt
 abbrev pub KeyedAndValued : Draft → (Key × Value) × Draft → Type 0
 KeyedAndValued d p = (read : StringsRead d p.1) × IsKeyOf (length read.to) p.0.0 × IsValueOf (length read.to) p.0.1
 
--- strings that are read behind strings
+-- strings that are read after strings
 strings_then : (d e f : Draft) (first : StringsRead d e) (second : StringsRead e f) → (both : StringsRead d f) × (both.to ≡ second.to)
 strings_then d e f first second =
     let is : f ≡ record d { strings = second.to } = second.is ∙ ap (λ (x : Draft). record x { strings = second.to }) first.is in
     let between : length e.strings ≡ length first.to = ap (λ (x : Draft). length x.strings) first.is in
     (record { to = second.to; is = is; table = second.table; more = omega (arith, first.more, second.more) }, refl)
 
-table_behind : (d e : Draft) → StringsRead d e → IsTable e.strings
-table_behind d e read = subst (λ (x : Draft). IsTable x.strings) (sym read.is) read.table
+table_after : (d e : Draft) → StringsRead d e → IsTable e.strings
+table_after d e read = subst (λ (x : Draft). IsTable x.strings) (sym read.is) read.table
 
 key_and_value_keeps : (d : Draft) (first second : List ℕ) → IsTable d.strings → IsGoodWord first → IsGoodWord second → IfOk (key_and_value_of d first second) (KeyedAndValued d)
 unfolding key_and_value_of
 key_and_value_keeps d first second table good_first good_second =
     bind_holds (key_of d first) _ (Keyed d) (KeyedAndValued d) (key_keeps d first table good_first) (λ found h.
-    bind_holds (value_of found.1 second) _ (Valued found.1) (KeyedAndValued d) (value_keeps found.1 second (table_behind d found.1 h.0) good_second) (λ stored g.
+    bind_holds (value_of found.1 second) _ (Valued found.1) (KeyedAndValued d) (value_keeps found.1 second (table_after d found.1 h.0) good_second) (λ stored g.
     let both = strings_then d found.1 stored.1 h.0 g.0 in
     let between : length found.1.strings ≡ length h.0.to = ap (λ (x : Draft). length x.strings) h.0.is in
     (both.0, key_grows (length h.0.to) (length both.0.to) found.0 (let same : length both.0.to ≡ length g.0.to = ap length both.1 in omega (arith, g.0.more)) h.1, subst (λ (l : List (List ℕ)). IsValueOf (length l) stored.0) (sym both.1) g.1)))

@@ -21,7 +21,7 @@ use Rattle.ft_script.specs.Arguments.{kind_at, container_of, nothing_in, key_in,
 use Rattle.ft_script.specs.Reading.{dict_call, list_call, set_call, call_at, container_call, call_of}
 use Rattle.ft_script.proofs.Kept.{bind_holds, anything, IsTable, StringsRead, no_strings, Keyed, Valued, KeyedAndValued, Indexed, InSection, IsCursors, CursorRead, Made, AreGoodWords, container_keeps, key_in_keeps, key_and_value_in_keeps, value_in_keeps, index_and_value_in_keeps, other_in_keeps, made_cursor_in_keeps, cursor_in_keeps, section_in_keeps}
 
--- a call was read, and the draft behind it may have further strings and a cursor that the call makes
+-- a call was read, and the draft after it may have further strings and a cursor that the call makes
 pub record CallRead (d e : Draft) (called : Call) : Type 0 where
   pub strings : List (List ℕ)
   pub cursors : List (List ℕ)

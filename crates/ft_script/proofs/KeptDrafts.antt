@@ -19,7 +19,7 @@ use Rattle.ft_script.proofs.Growing.{call_grows}
 use Rattle.ft_script.proofs.Tables.{absent, differ_push}
 use Rattle.std.specs.Option.{is_some}
 use Rattle.ft_script.proofs.Kept.{IsTable, IsCursors, cond_holds, some_holds}
-use Rattle.ft_script.proofs.KeptLines.{depth_behind, nested_from}
+use Rattle.ft_script.proofs.KeptLines.{depth_after_all, nested_from}
 
 -- a name that a further thread may have
 pub record IsNew (threads : List Thread) (name : List ℕ) : Type 0 where
@@ -55,7 +55,7 @@ pub record IsDraft (d : Draft) : Type 0 where
   pub calls_are : All (IsCallOf (script_of d) (length d.cursors)) d.calls
   pub made : AreMade d.calls
   pub all_made : AllMade d.cursors d.calls
-  pub nested : depth_behind 0 d.calls ≡ Ok d.depth
+  pub nested : depth_after_all 0 d.calls ≡ Ok d.depth
 
 -- a thread stays one where the script has more
 pub thread_grows : (script larger : ScriptParts) (more : List Declaration) → larger.containers ≡ script.containers ++ more → length script.strings ≤ length larger.strings → (thread : Thread) → IsThread script thread → IsThread larger thread
@@ -107,7 +107,7 @@ ended d name h named closed =
     let new : IsNew d.threads name = subst (λ (o : Option (List ℕ)). IfSome o (IsNew d.threads)) named h.named in
     let longer : length (d.threads ++ thread ∷ []) ≡ length d.threads + 1 = length-append d.threads (thread ∷ []) in
     let grown = λ (t : Thread) (g : IsThread (script_of d) t). thread_grows (script_of d) (script_of next) [] (same_containers (script_of d)) (omega arith) t g in
-    let nested : depth_behind 0 d.calls ≡ Ok 0 = h.nested ∙ ap (λ (n : ℕ). open_at n) closed in
+    let nested : depth_after_all 0 d.calls ≡ Ok 0 = h.nested ∙ ap (λ (n : ℕ). open_at n) closed in
     let own : IsThread (script_of d) thread = record {
       name = new.form;
       few_cursors = h.cursors_are.few;
@@ -176,7 +176,7 @@ begun d name h none new =
       calls_are = subst (λ (l : List Call). All (IsCallOf (script_of next) (length d.cursors)) l) (sym idle.1) (All-nil (IsCallOf (script_of next) (length d.cursors)));
       made = h.made;
       all_made = h.all_made;
-      nested = subst (λ (l : List Call). depth_behind 0 l ≡ Ok 0) (sym idle.1) refl;
+      nested = subst (λ (l : List Call). depth_after_all 0 l ≡ Ok 0) (sym idle.1) refl;
     }
 
 pub thread_line_keeps : (d : Draft) (words : List (List ℕ)) → IsDraft d → d.name ≡ None → IfOk (thread_line d words) IsDraft

@@ -22,21 +22,21 @@ passed_right : {A : Type 0} (b : Bool) (x y : A) (e : Fault) → cond b (Err e) 
 passed_right true x y e h = absurd cc
 passed_right false x y e h = (refl, cc)
 
--- the sections that are open behind some calls
-abbrev pub depth_behind : ℕ → List Call → Result ℕ Fault
-depth_behind depth [] = Ok depth
-depth_behind depth (first ∷ calls) = depth_after depth first >>= λ next. depth_behind next calls
+-- the sections that are open after some calls
+abbrev pub depth_after_all : ℕ → List Call → Result ℕ Fault
+depth_after_all depth [] = Ok depth
+depth_after_all depth (first ∷ calls) = depth_after depth first >>= λ next. depth_after_all next calls
 
 abbrev then_done : Call → ℕ → Result ℕ Fault
 then_done last depth = depth_after depth last >>= λ next. Ok next
 
-pub behind_push : (depth : ℕ) (calls : List Call) (last : Call) (mid end : ℕ) → depth_behind depth calls ≡ Ok mid → depth_after mid last ≡ Ok end → depth_behind depth (calls ++ last ∷ []) ≡ Ok end
-behind_push depth [] last mid end is next =
+pub after_push : (depth : ℕ) (calls : List Call) (last : Call) (mid end : ℕ) → depth_after_all depth calls ≡ Ok mid → depth_after mid last ≡ Ok end → depth_after_all depth (calls ++ last ∷ []) ≡ Ok end
+after_push depth [] last mid end is next =
     let same : depth ≡ mid = cc in
     ap (then_done last) same ∙ rw next refl
-behind_push depth (first ∷ calls) last mid end is next =
-    let b = bind_ok (depth_after depth first) (λ next. depth_behind next calls) mid is in
-    let rest : depth_behind b.0 (calls ++ last ∷ []) ≡ Ok end = behind_push b.0 calls last mid end b.2 next in
+after_push depth (first ∷ calls) last mid end is next =
+    let b = bind_ok (depth_after depth first) (λ next. depth_after_all next calls) mid is in
+    let rest : depth_after_all b.0 (calls ++ last ∷ []) ≡ Ok end = after_push b.0 calls last mid end b.2 next in
     rw b.1 rest
 
 begin_depth : (depth first : ℕ) (second : Option ℕ) (next : ℕ) → depth_after depth (call.Begin first second) ≡ Ok next → (depth < 16) × (depth + 1 ≡ next)
@@ -47,15 +47,15 @@ end_depth : (depth next : ℕ) → depth_after depth call.End ≡ Ok next → (0
 unfolding depth_after
 end_depth depth next h = let p = passed_right (eqb depth 0) (depth - 1) next _ h in let some : depth ≢ 0 = eqb-false depth 0 p.0 in (omega arith, p.1)
 
-pub nested_from : (depth : ℕ) (calls : List Call) → depth_behind depth calls ≡ Ok 0 → AreNested depth calls
+pub nested_from : (depth : ℕ) (calls : List Call) → depth_after_all depth calls ≡ Ok 0 → AreNested depth calls
 unfolding depth_after
 nested_from depth [] is = cc
 nested_from depth (call.Begin first second ∷ calls) is =
-    let b = bind_ok (depth_after depth (call.Begin first second)) (λ next. depth_behind next calls) 0 is in
+    let b = bind_ok (depth_after depth (call.Begin first second)) (λ next. depth_after_all next calls) 0 is in
     let p = begin_depth depth first second b.0 b.1 in
     (p.0, subst (λ (n : ℕ). AreNested n calls) (sym p.1) (nested_from b.0 calls b.2))
 nested_from depth (call.End ∷ calls) is =
-    let b = bind_ok (depth_after depth call.End) (λ next. depth_behind next calls) 0 is in
+    let b = bind_ok (depth_after depth call.End) (λ next. depth_after_all next calls) 0 is in
     let p = end_depth depth b.0 b.1 in
     (p.0, subst (λ (n : ℕ). AreNested n calls) (sym p.1) (nested_from b.0 calls b.2))
 nested_from depth (call.Dict place inner ∷ calls) is = nested_from depth calls is

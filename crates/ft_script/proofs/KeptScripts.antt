@@ -14,7 +14,7 @@ use Rattle.ft_script.specs.declared.fault.ScriptFault.{ScriptFault}
 use Rattle.ft_script.specs.Lines.{ends_thread, is_comment, lines_of, words_of}
 use Rattle.ft_script.specs.Drafts.{empty_draft, end_thread, or_fault, script_of}
 use Rattle.ft_script.specs.Reading.{open_line, read_line, words_line}
-use Rattle.ft_script.specs.Scripts.{line_after, read_lines, told_at}
+use Rattle.ft_script.specs.Scripts.{line_after, read_lines, reported_at}
 use Rattle.ft_script.proofs.Encoded.{AreEncoded, BeginsNoThread, begins_no_thread, line_good, lines_encoded}
 use Rattle.ft_script.proofs.Kept.{AreGoodWords, IsTable, bind_holds, cond_holds, or_holds, some_holds}
 use Rattle.ft_script.proofs.KeptDrafts.{IsDraft, calls_in, end_thread_keeps, no_names, none_made}
@@ -52,9 +52,9 @@ read_line_keeps : (d : Draft) (line : List ℕ) → IsDraft d → IsUtf8 line �
 unfolding read_line
 read_line_keeps d line h encoded = cond_holds (is_comment line) _ _ IsDraft (λ _. h) (λ _. open_line_keeps d line h encoded)
 
-told_holds : {A : Type 0} (number : ℕ) (r : Result A Fault) (P : A → Type 0) → IfOk r P → IfOk (told_at number r) P
-told_holds number (Ok x) P h = h
-told_holds number (Err e) P h = tt
+reported_holds : {A : Type 0} (number : ℕ) (r : Result A Fault) (P : A → Type 0) → IfOk r P → IfOk (reported_at number r) P
+reported_holds number (Ok x) P h = h
+reported_holds number (Err e) P h = tt
 
 then_holds : {A B E : Type 0} (r : Result A E) (f : A → Result B E) (P : A → Type 0) (Q : B → Type 0) → IfOk r P → ((x : A) → P x → IfOk (f x) Q) → IfOk (elim r [ Ok x ↦ f x | Err e ↦ Err e ]) Q
 then_holds (Ok x) f P Q h then = then x h
@@ -62,9 +62,9 @@ then_holds (Err e) f P Q h then = tt
 
 read_lines_keep : (lines : List (List ℕ)) (number : ℕ) (d : Draft) → IsDraft d → AreEncoded lines → IfOk (read_lines number d lines) IsDraft
 unfolding read_lines
-read_lines_keep [] number d h encoded = told_holds number (end_thread d) IsDraft (end_thread_keeps d h)
+read_lines_keep [] number d h encoded = reported_holds number (end_thread d) IsDraft (end_thread_keeps d h)
 read_lines_keep (line ∷ lines) number d h encoded =
-    then_holds (told_at number (read_line d line)) (λ next. read_lines (line_after number) next lines) IsDraft IsDraft (told_holds number (read_line d line) IsDraft (read_line_keeps d line h encoded.0)) (λ next g. read_lines_keep lines (line_after number) next g encoded.1)
+    then_holds (reported_at number (read_line d line)) (λ next. read_lines (line_after number) next lines) IsDraft IsDraft (reported_holds number (read_line d line) IsDraft (read_line_keeps d line h encoded.0)) (λ next g. read_lines_keep lines (line_after number) next g encoded.1)
 
 -- ---- the first draft and the script
 

@@ -22,13 +22,13 @@ use Rattle.ft_script.specs.CallWords.{call_word_of}
 use Rattle.ft_script.specs.Words.{natural_of}
 use Rattle.ft_script.specs.Drafts.{or_fault, container_place, script_of, thread_place}
 use Rattle.ft_script.specs.Arguments.{index_of}
-use Rattle.ft_script.specs.Reading.{call_line, call_of, class_of, container_line, counted_call, declaration, depth_after, heap_line, is_told, order_line, other_statement, past_limit, plain_statement, statement, tables_at, tables_line, tables_of, thread_statement, turn, turns, unordered_statement}
+use Rattle.ft_script.specs.Reading.{call_line, call_of, class_of, container_line, counted_call, declaration, depth_after, heap_line, is_reported, order_line, other_statement, past_limit, plain_statement, statement, tables_at, tables_line, tables_of, thread_statement, turn, turns, unordered_statement}
 use Rattle.ft_script.proofs.Encoded.{BeginsNoThread}
 use Rattle.ft_script.proofs.Growing.{call_grows}
 use Rattle.ft_script.proofs.Kept.{AreGoodWords, anything, bind_holds, cond_holds, or_holds}
 use Rattle.ft_script.proofs.KeptCalls.{CallRead, Called, call_keeps}
 use Rattle.ft_script.proofs.KeptDrafts.{IsDraft, calls_in, no_place, passed, same_containers, thread_grows, thread_line_keeps}
-use Rattle.ft_script.proofs.KeptLines.{behind_push}
+use Rattle.ft_script.proofs.KeptLines.{after_push}
 use Rattle.ft_script.proofs.Tables.{absent, differ_push, place_within}
 
 -- ---- a draft that has more
@@ -88,8 +88,8 @@ between low high (negsuc n) h = absurd cc
 abbrev IsCount : Option ℕ → Type 0
 IsCount count = IfSome count (λ n. (1 ≤ n) × (n ≤ 64))
 
-tables_told : (d : Draft) (place count : ℕ) → IsDraft d → 1 ≤ count → count ≤ 64 → IsDraft (record d { tables = set d.tables place (Some count) })
-tables_told d place count h least greatest =
+tables_reported : (d : Draft) (place count : ℕ) → IsDraft d → 1 ≤ count → count ≤ 64 → IsDraft (record d { tables = set d.tables place (Some count) })
+tables_reported d place count h least greatest =
     let next : Draft = record d { tables = set d.tables place (Some count) } in
     record {
       few_containers = h.few_containers;
@@ -118,9 +118,9 @@ tables_told d place count h least greatest =
 tables_at_keeps : (d : Draft) (place : ℕ) (count : List ℕ) → IsDraft d → IfOk (tables_at d place count) IsDraft
 unfolding tables_at
 tables_at_keeps d place count h =
-    cond_holds (is_told (slice_get d.tables place)) _ _ IsDraft (λ _. tt) (λ _.
+    cond_holds (is_reported (slice_get d.tables place)) _ _ IsDraft (λ _. tt) (λ _.
     bind_holds (index_of count) _ (λ _. Unit {0}) IsDraft (anything (index_of count)) (λ n _.
-    cond_holds (int_le (pos 1) n && int_le n (pos 64)) _ _ IsDraft (λ is. let limits = between 1 64 n is in tables_told d place (natural_of n) h limits.0 limits.1) (λ _. tt)))
+    cond_holds (int_le (pos 1) n && int_le n (pos 64)) _ _ IsDraft (λ is. let limits = between 1 64 n is in tables_reported d place (natural_of n) h limits.0 limits.1) (λ _. tt)))
 
 tables_of_keeps : (d : Draft) (class count : List ℕ) → IsDraft d → IfOk (tables_of d class count) IsDraft
 unfolding tables_of
@@ -133,8 +133,8 @@ tables_line_keeps d (class ∷ []) h = tt
 tables_line_keeps d (class ∷ count ∷ []) h = tables_of_keeps d class count h
 tables_line_keeps d (class ∷ count ∷ other ∷ words) h = tt
 
-heap_told : (d : Draft) (count : ℕ) → IsDraft d → 64 ≤ count → count ≤ 4096 → count % 64 ≡ 0 → IsDraft (record d { heap = Some count })
-heap_told d count h least greatest steps =
+heap_reported : (d : Draft) (count : ℕ) → IsDraft d → 64 ≤ count → count ≤ 4096 → count % 64 ≡ 0 → IsDraft (record d { heap = Some count })
+heap_reported d count h least greatest steps =
     let next : Draft = record d { heap = Some count } in
     record {
       few_containers = h.few_containers;
@@ -170,7 +170,7 @@ heap_line_keeps d (count ∷ []) h =
     (λ is.
     let parts = and_parts (int_le (pos 64) n && int_le n (pos 4096)) (eqb (natural_of n % 64) 0) is in
     let limits = between 64 4096 n parts.0 in
-    heap_told d (natural_of n) h limits.0 limits.1 (eqb-true (natural_of n % 64) 0 parts.1))
+    heap_reported d (natural_of n) h limits.0 limits.1 (eqb-true (natural_of n % 64) 0 parts.1))
     (λ _. tt)))
 heap_line_keeps d (count ∷ other ∷ words) h = tt
 
@@ -303,7 +303,7 @@ call_added d e called depth h room named read deeper =
       calls_are = All-push (IsCallOf (script_of next) n) d.calls called (calls_grow d next [] (length d.cursors) n (same_containers (script_of d)) read.more read.further h.calls_are) (record { names = read.names; strings = read.said });
       made = made_push d.calls called h.made moved;
       all_made = λ k low. elim (read.fresh k low) [ inl old ↦ any_before (λ c. cursor_of c ≡ Some k) d.calls called (h.all_made k old) | inr made ↦ Any-push (λ c. cursor_of c ≡ Some k) d.calls called made ];
-      nested = behind_push 0 d.calls called d.depth depth h.nested deeper;
+      nested = after_push 0 d.calls called d.depth depth h.nested deeper;
     } in
     subst (λ (x : Draft). IsDraft (record x { calls = x.calls ++ called ∷ []; called = d.called + 1; depth = depth })) (sym read.is) is
 

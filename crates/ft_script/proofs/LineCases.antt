@@ -130,7 +130,7 @@ pub nothing_read : (script : ScriptParts) → IsTranscript script [] [] []
 nothing_read script = record { entries_read = All-nil (IsReadable script); world_read = All-nil (IsContentLine script); written = refl }
 
 abbrev pub Adds : ScriptParts → List ℕ → List Entry → List (List ℕ) → List Entry → List (List ℕ) → Type 0
-Adds script line entries world entries_behind world_behind = AddsEntry script line entries world entries_behind world_behind ⊎ AddsContent script line entries world entries_behind world_behind
+Adds script line entries world entries_after world_after = AddsEntry script line entries world entries_after world_after ⊎ AddsContent script line entries world entries_after world_after
 
 entry_added : (script : ScriptParts) (front line : List ℕ) (entries : List Entry) (world : List (List ℕ)) (entry : Entry) → IsTranscript script front entries world → IsReadable script entry → line ≡ entry_line script entry → world ≡ [] → IsTranscript script (front ++ line) (entries ++ entry ∷ []) world
 entry_added script front line entries world entry h readable same none = record {
@@ -153,19 +153,19 @@ content_added script front line entries world text h readable same = record {
       ∙ flat_map_more (λ (t : List ℕ). t ++ 10 ∷ []) (flat_map (entry_line script) entries) world text;
 }
 
-pub line_added : (script : ScriptParts) (front line : List ℕ) (entries behind : List Entry) (world world_behind : List (List ℕ)) → IsTranscript script front entries world → Adds script line entries world behind world_behind → IsTranscript script (front ++ line) behind world_behind
-line_added script front line entries behind world world_behind h (inl a) =
+pub line_added : (script : ScriptParts) (front line : List ℕ) (entries after : List Entry) (world world_after : List (List ℕ)) → IsTranscript script front entries world → Adds script line entries world after world_after → IsTranscript script (front ++ line) after world_after
+line_added script front line entries after world world_after h (inl a) =
     rw (a.entries_are, a.world_is) (entry_added script front line entries world a.entry h a.readable a.printed a.first)
-line_added script front line entries behind world world_behind h (inr a) =
+line_added script front line entries after world world_after h (inr a) =
     rw (a.entries_are, a.world_is) (content_added script front line entries world a.content h a.readable a.printed)
 
-pub line_counted : (script : ScriptParts) (line : List ℕ) (entries behind : List Entry) (world world_behind : List (List ℕ)) → Adds script line entries world behind world_behind → length behind + length world_behind ≡ length entries + length world + 1
-line_counted script line entries behind world world_behind (inl a) = rw (a.entries_are, a.world_is) (omega (arith, length-append entries (a.entry ∷ [])))
-line_counted script line entries behind world world_behind (inr a) = rw (a.entries_are, a.world_is) (omega (arith, length-append world (a.content ∷ [])))
+pub line_counted : (script : ScriptParts) (line : List ℕ) (entries after : List Entry) (world world_after : List (List ℕ)) → Adds script line entries world after world_after → length after + length world_after ≡ length entries + length world + 1
+line_counted script line entries after world world_after (inl a) = rw (a.entries_are, a.world_is) (omega (arith, length-append entries (a.entry ∷ [])))
+line_counted script line entries after world world_after (inr a) = rw (a.entries_are, a.world_is) (omega (arith, length-append world (a.content ∷ [])))
 
 -- ---- the first bad line
 
--- a line with a text behind it is the first line of that
+-- a line with a text after it is the first line of that
 same_line : (line text below more : List ℕ) → IsLine line → is_feedless text ≡ true → line ++ below ≡ (text ++ 10 ∷ []) ++ more → line ≡ text ++ 10 ∷ []
 same_line line text below more is feedless same =
     let e : is.0 ++ 10 ∷ below ≡ text ++ 10 ∷ more =

@@ -6,20 +6,20 @@ use Rattle.ft_script.specs.declared.fault.Fault.{Fault}
 use Rattle.ft_script.specs.declared.fault.LineError.{LineError}
 use Rattle.ft_script.specs.declared.fault.LineError.TheVariants as error
 use Rattle.ft_script.specs.declared.fault.ScriptFault.{ScriptFault}
-use Rattle.ft_script.specs.Faults.{no_memory, fault_at, told}
+use Rattle.ft_script.specs.Faults.{no_memory, fault_at, reported}
 use Rattle.ft_script.specs.Drafts.{◌>>=◌, Fails, Leaves, end_thread}
 use Rattle.ft_script.specs.Reading.{turn, turns, read_line}
-use Rattle.ft_script.specs.Scripts.{line_after, told_at, read_lines}
+use Rattle.ft_script.specs.Scripts.{line_after, reported_at, read_lines}
 
 -- ---- names of an `order` line
 
 abbrev shown : List (Bor (List ℕ)) → List (List ℕ)
 shown names = map (λ (word : Bor (List ℕ)). word.now) names
 
-abbrev behind_name : List (List ℕ) → Result Draft Fault → Result Draft Fault
-behind_name names next = elim next [ Ok d ↦ turns d names | Err e ↦ Err e ]
+abbrev after_name : List (List ℕ) → Result Draft Fault → Result Draft Fault
+after_name names next = elim next [ Ok d ↦ turns d names | Err e ↦ Err e ]
 
-at_name : (draft : Draft) (name : List ℕ) (names : List (List ℕ)) (next : Result Draft Fault) → turn draft name ≡ next → (turn draft name >>= λ d. turns d names) ≡ behind_name names next
+at_name : (draft : Draft) (name : List ℕ) (names : List (List ℕ)) (next : Result Draft Fault) → turn draft name ≡ next → (turn draft name >>= λ d. turns d names) ≡ after_name names next
 at_name draft name names (Ok d) is = rw is refl
 at_name draft name names (Err e) is = rw is refl
 
@@ -27,7 +27,7 @@ turns_first : (draft : Draft) (name : List ℕ) (names : List (List ℕ)) → tu
 unfolding turns
 turns_first draft name names = refl
 
-turns_cons : (draft : Draft) (name : List ℕ) (names : List (List ℕ)) (next : Result Draft Fault) → turn draft name ≡ next → turns draft (name ∷ names) ≡ behind_name names next
+turns_cons : (draft : Draft) (name : List ℕ) (names : List (List ℕ)) (next : Result Draft Fault) → turn draft name ≡ next → turns draft (name ∷ names) ≡ after_name names next
 turns_cons draft name names next is = turns_first draft name names ∙ at_name draft name names next is
 
 no_turns : (draft : Draft) → turns draft [] ≡ Ok draft
@@ -54,29 +54,29 @@ turns_done draft names i whole past so_far =
 
 -- ---- lines
 
-abbrev behind_line : ℕ → List (List ℕ) → Result Draft Fault → Result Draft ScriptFault
-behind_line number lines read = elim (told_at number read) [ Ok d ↦ read_lines (line_after number) d lines | Err found ↦ Err found ]
+abbrev after_line : ℕ → List (List ℕ) → Result Draft Fault → Result Draft ScriptFault
+after_line number lines read = elim (reported_at number read) [ Ok d ↦ read_lines (line_after number) d lines | Err found ↦ Err found ]
 
-lines_first : (number : ℕ) (draft : Draft) (line : List ℕ) (lines : List (List ℕ)) → read_lines number draft (line ∷ lines) ≡ behind_line number lines (read_line draft line)
+lines_first : (number : ℕ) (draft : Draft) (line : List ℕ) (lines : List (List ℕ)) → read_lines number draft (line ∷ lines) ≡ after_line number lines (read_line draft line)
 unfolding read_lines
 lines_first number draft line lines = refl
 
-lines_cons : (number : ℕ) (draft : Draft) (line : List ℕ) (lines : List (List ℕ)) (next : Result Draft Fault) → read_line draft line ≡ next → read_lines number draft (line ∷ lines) ≡ behind_line number lines next
-lines_cons number draft line lines next is = lines_first number draft line lines ∙ ap (behind_line number lines) is
+lines_cons : (number : ℕ) (draft : Draft) (line : List ℕ) (lines : List (List ℕ)) (next : Result Draft Fault) → read_line draft line ≡ next → read_lines number draft (line ∷ lines) ≡ after_line number lines next
+lines_cons number draft line lines next is = lines_first number draft line lines ∙ ap (after_line number lines) is
 
-lines_none : (number : ℕ) (draft : Draft) → read_lines number draft [] ≡ told_at number (end_thread draft)
+lines_none : (number : ℕ) (draft : Draft) → read_lines number draft [] ≡ reported_at number (end_thread draft)
 unfolding read_lines
 lines_none number draft = refl
 
-lines_nil : (number : ℕ) (draft : Draft) (ended : Result Draft Fault) → end_thread draft ≡ ended → read_lines number draft [] ≡ told_at number ended
-lines_nil number draft ended is = lines_none number draft ∙ ap (told_at number) is
+lines_nil : (number : ℕ) (draft : Draft) (ended : Result Draft Fault) → end_thread draft ≡ ended → read_lines number draft [] ≡ reported_at number ended
+lines_nil number draft ended is = lines_none number draft ∙ ap (reported_at number) is
 
 abbrev refused : ScriptFault → Result Draft ScriptFault
 refused found = Err found
 
 -- a line was read
 pub lines_on : (read : Result (Unit {0}) LineError) (number : ℕ) (draft next : Draft) (line : List ℕ) (rest lines : List (List ℕ)) (whole : Result Draft ScriptFault) →
-    told read number ≡ Ok tt → Leaves read next (read_line draft line) → rest ≡ line ∷ lines → read_lines number draft rest ≡ whole → read_lines (line_after number) next lines ≡ whole
+    reported read number ≡ Ok tt → Leaves read next (read_line draft line) → rest ≡ line ∷ lines → read_lines number draft rest ≡ whole → read_lines (line_after number) next lines ≡ whole
 lines_on (Ok x) number draft next line rest lines whole is read cut so_far =
     sym (ap (read_lines number draft) cut ∙ lines_cons number draft line lines (Ok next) read) ∙ so_far
 lines_on (Err error.Memory) number draft next line rest lines whole is read cut so_far = absurd cc
@@ -84,7 +84,7 @@ lines_on (Err (error.Fault found)) number draft next line rest lines whole is re
 
 -- a line wasn't
 pub lines_end : (read : Result (Unit {0}) LineError) (number : ℕ) (draft next : Draft) (line : List ℕ) (rest lines : List (List ℕ)) (whole : Result Draft ScriptFault) (answer : ScriptFault) →
-    told read number ≡ Err answer → Leaves read next (read_line draft line) → rest ≡ line ∷ lines → read_lines number draft rest ≡ whole → (answer ≡ no_memory) ⊎ (whole ≡ Err answer)
+    reported read number ≡ Err answer → Leaves read next (read_line draft line) → rest ≡ line ∷ lines → read_lines number draft rest ≡ whole → (answer ≡ no_memory) ⊎ (whole ≡ Err answer)
 lines_end (Ok x) number draft next line rest lines whole answer is read cut so_far = absurd cc
 lines_end (Err error.Memory) number draft next line rest lines whole answer is read cut so_far = inl cc
 lines_end (Err (error.Fault found)) number draft next line rest lines whole answer is read cut so_far =
@@ -93,7 +93,7 @@ lines_end (Err (error.Fault found)) number draft next line rest lines whole answ
 
 -- the end of the text
 pub text_end : (read : Result (Unit {0}) LineError) (number : ℕ) (draft next : Draft) (rest : List (List ℕ)) (whole : Result Draft ScriptFault) (answer : ScriptFault) →
-    told read number ≡ Err answer → Leaves read next (end_thread draft) → rest ≡ [] → read_lines number draft rest ≡ whole → (answer ≡ no_memory) ⊎ (whole ≡ Err answer)
+    reported read number ≡ Err answer → Leaves read next (end_thread draft) → rest ≡ [] → read_lines number draft rest ≡ whole → (answer ≡ no_memory) ⊎ (whole ≡ Err answer)
 text_end (Ok x) number draft next rest whole answer is read cut so_far = absurd cc
 text_end (Err error.Memory) number draft next rest whole answer is read cut so_far = inl cc
 text_end (Err (error.Fault found)) number draft next rest whole answer is read cut so_far =
@@ -101,7 +101,7 @@ text_end (Err (error.Fault found)) number draft next rest whole answer is read c
     inr (sym so_far ∙ ap (read_lines number draft) cut ∙ lines_nil number draft (Err found) read ∙ ap refused same)
 
 pub text_done : (read : Result (Unit {0}) LineError) (number : ℕ) (draft next : Draft) (rest : List (List ℕ)) (whole : Result Draft ScriptFault) →
-    told read number ≡ Ok tt → Leaves read next (end_thread draft) → rest ≡ [] → read_lines number draft rest ≡ whole → whole ≡ Ok next
+    reported read number ≡ Ok tt → Leaves read next (end_thread draft) → rest ≡ [] → read_lines number draft rest ≡ whole → whole ≡ Ok next
 text_done (Ok x) number draft next rest whole is read cut so_far =
     sym so_far ∙ ap (read_lines number draft) cut ∙ lines_nil number draft (Ok next) read
 text_done (Err error.Memory) number draft next rest whole is read cut so_far = absurd cc

@@ -30,7 +30,7 @@ use Rattle.ft_script.specs.Words.{is_wide}
 use Rattle.ft_script.proofs.PartTexts.{BeginsNumber, BeginsShown, number_shown, decimal_word, u32_decimal, key_back, value_back, pair_back, key_is_cut, value_is_cut, key_begins, value_begins}
 use Rattle.ft_script.proofs.Printed.{each_listed, listed-cons}
 use Rattle.ft_script.proofs.ReplyLoops.{fronted, each_first, each_nothing, pairs_first}
-use Rattle.ft_script.proofs.TokenTexts.{Ends, is_feedless, IsCut, IsTail, cut_tail, tail_tail, nothing, behind_space, behind_comma, behind_colon, between_marks, word_is_cut}
+use Rattle.ft_script.proofs.TokenTexts.{Ends, is_feedless, IsCut, IsTail, cut_tail, tail_tail, nothing, after_space, after_comma, after_colon, between_marks, word_is_cut}
 
 -- ---- the tokens of a reply
 
@@ -74,7 +74,7 @@ record AreCut (text : List ℕ) (tokens : List (List ℕ)) : Type 0 where
 module _ {X : Type 0} (text : X → List ℕ) (tokens : X → List (List ℕ)) (P : X → Type 0) (each : (x : X) → P x → IsCut (text x) (tokens x)) where
   listed_tail : (xs : List X) → All P xs → IsTail (each_listed text xs) (flat_map tokens xs)
   listed_tail [] all = nothing
-  listed_tail (x ∷ xs) all = tail_tail (44 ∷ 32 ∷ text x) (each_listed text xs) (tokens x) (flat_map tokens xs) (behind_comma (text x) (tokens x) (each x (All-head P x xs all))) (listed_tail xs (All-tail P x xs all))
+  listed_tail (x ∷ xs) all = tail_tail (44 ∷ 32 ∷ text x) (each_listed text xs) (tokens x) (flat_map tokens xs) (after_comma (text x) (tokens x) (each x (All-head P x xs all))) (listed_tail xs (All-tail P x xs all))
 
   listed_cut : (xs : List X) → All P xs → AreCut (listed (map text xs)) (flat_map tokens xs)
   listed_cut [] all = record { cut = λ rest ends. refl; feedless = refl }
@@ -94,11 +94,11 @@ pair_is_cut : (strings : List (List ℕ)) (pair : Key × Value) → IsWideKey pa
 pair_is_cut strings pair wide =
     let k : List ℕ = key_text strings pair.0 in
     let v : List ℕ = value_text strings pair.1 in
-    let h : IsCut (k ++ (58 ∷ 32 ∷ v)) (pair_tokens strings pair) = cut_tail k (58 ∷ 32 ∷ v) (k ∷ []) (codes ":" ∷ v ∷ []) (key_is_cut strings pair.0 wide.0) (behind_colon v (v ∷ []) (value_is_cut strings pair.1 wide.1)) in
+    let h : IsCut (k ++ (58 ∷ 32 ∷ v)) (pair_tokens strings pair) = cut_tail k (58 ∷ 32 ∷ v) (k ∷ []) (codes ":" ∷ v ∷ []) (key_is_cut strings pair.0 wide.0) (after_colon v (v ∷ []) (value_is_cut strings pair.1 wide.1)) in
     subst (λ (t : List ℕ). IsCut t (pair_tokens strings pair)) (sym (append_assoc k (codes ": ") v)) h
 
 two_words : (first second : List ℕ) → IsCut first (first ∷ []) → IsCut second (second ∷ []) → IsCut (first ++ 32 ∷ second) (first ∷ second ∷ [])
-two_words first second hf hs = cut_tail first (32 ∷ second) (first ∷ []) (second ∷ []) hf (behind_space second (second ∷ []) hs)
+two_words first second hf hs = cut_tail first (32 ∷ second) (first ∷ []) (second ∷ []) hf (after_space second (second ∷ []) hs)
 
 decimal_is_cut : (n : ℕ) → n < 2 ^ 64 → IsCut (decimal n) (decimal n ∷ [])
 decimal_is_cut n low = word_is_cut (decimal n) (decimal_word n low).0

@@ -1,4 +1,4 @@
--- Lists of tokens, and what stands before and behind a word in them.
+-- Lists of tokens, and what stands before and after a word in them.
 use Rattle.std.proofs.Common.{◌≡◌, ℕ, ◌+◌, ◌-◌, ◌≤◌, Bool, true, cond, not, List, [], ◌∷◌, ◌++◌, length, take, drop, map, Some, None, Bor, refl, sym, ap, ◌∙◌, inl, inr, arith}
 use Rattle.std.specs.List.{position, position_or_len, list_all, before_first, after_first}
 use Rattle.std.specs.Str.{bytes_eq}
@@ -6,7 +6,7 @@ use Rattle.std.proofs.Math.ListN.{drop_of_length-le}
 use Rattle.std.proofs.Math.Seq.{take-append_seam, drop-append-add, take-length}
 use Rattle.std.proofs.lemmas.Bool.{cases_lt, lt-ltb, le-ltb, and_parts}
 use Rattle.std.proofs.lemmas.List.{length-map, length-drop, take_all, take-map, drop-map}
-use Rattle.ft_script.specs.Tokens.{before_word, behind_word}
+use Rattle.ft_script.specs.Tokens.{before_word, after_word}
 
 abbrev pub shown : List (Bor (List ℕ)) → List (List ℕ)
 shown tokens = map (λ (token : Bor (List ℕ)). token.now) tokens
@@ -39,8 +39,8 @@ module _ (word : List ℕ) where
   pub before_found : (tokens : List (Bor (List ℕ))) (place : ℕ) → position is_it tokens ≡ Some place → shown (take place tokens) ≡ before_word word (shown tokens)
   before_found tokens place found = sym (take-map (λ (t : Bor (List ℕ)). t.now) place tokens) ∙ ap (λ (n : ℕ). take n (shown tokens)) (sym (place_is tokens place found))
 
-  pub behind_found : (tokens : List (Bor (List ℕ))) (place : ℕ) → position is_it tokens ≡ Some place → shown (take (length tokens - (place + 1)) (drop (place + 1) tokens)) ≡ behind_word word (shown tokens)
-  behind_found tokens place found =
+  pub after_found : (tokens : List (Bor (List ℕ))) (place : ℕ) → position is_it tokens ≡ Some place → shown (take (length tokens - (place + 1)) (drop (place + 1) tokens)) ≡ after_word word (shown tokens)
+  after_found tokens place found =
       ap shown (take_all (length tokens - (place + 1)) (drop (place + 1) tokens) (omega (arith, length-drop (place + 1) tokens)))
       ∙ sym (drop-map (λ (t : Bor (List ℕ)). t.now) (place + 1) tokens) ∙ ap (λ (n : ℕ). drop (n + 1) (shown tokens)) (sym (place_is tokens place found))
 
@@ -49,8 +49,8 @@ module _ (word : List ℕ) where
       let long = no_place tokens missing in
       sym (take_all _ (shown tokens) (omega (arith, length-map tokens (λ (t : Bor (List ℕ)). t.now))))
 
-  pub behind_missing : (tokens : List (Bor (List ℕ))) → position is_it tokens ≡ None → shown (take (length tokens - length tokens) (drop (length tokens) tokens)) ≡ behind_word word (shown tokens)
-  behind_missing tokens missing =
+  pub after_missing : (tokens : List (Bor (List ℕ))) → position is_it tokens ≡ None → shown (take (length tokens - length tokens) (drop (length tokens) tokens)) ≡ after_word word (shown tokens)
+  after_missing tokens missing =
       let long = no_place tokens missing in
       let nothing : take (length tokens - length tokens) (drop (length tokens) tokens) ≡ [] = ap (take (length tokens - length tokens)) (drop_of_length-le tokens (omega arith)) ∙ take_all _ [] (omega arith) in
       ap shown nothing ∙ sym (drop_of_length-le (shown tokens) (omega (arith, length-map tokens (λ (t : Bor (List ℕ)). t.now))))
@@ -113,6 +113,6 @@ module _ {X : Type 0} (p : X → Bool) where
       let long : length xs ≤ position_or_len p xs = no_first xs missing in
       take_all (length xs - length xs) (drop (length xs) xs) (omega (arith, length-drop (length xs) xs)) ∙ drop_of_length-le xs (omega arith) ∙ sym (drop_of_length-le xs (omega arith))
 
--- what stands behind the first two of some tokens
-pub behind_two : (tokens : List (Bor (List ℕ))) → drop 2 (shown tokens) ≡ shown (take (length tokens - 2) (drop 2 tokens))
-behind_two tokens = drop-map (λ (t : Bor (List ℕ)). t.now) 2 tokens ∙ ap shown (sym (take_all (length tokens - 2) (drop 2 tokens) (omega (arith, length-drop 2 tokens))))
+-- what stands after the first two of some tokens
+pub after_two : (tokens : List (Bor (List ℕ))) → drop 2 (shown tokens) ≡ shown (take (length tokens - 2) (drop 2 tokens))
+after_two tokens = drop-map (λ (t : Bor (List ℕ)). t.now) 2 tokens ∙ ap shown (sym (take_all (length tokens - 2) (drop 2 tokens) (omega (arith, length-drop 2 tokens))))

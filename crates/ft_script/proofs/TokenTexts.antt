@@ -55,7 +55,7 @@ Ends (b ∷ rest) = (is_gap b || is_mark b) ≡ true
 abbrev pub is_feedless : List ℕ → Bool
 is_feedless text = list_all (λ b. not (eqb b 10)) text
 
--- a text is cut into these tokens, whatever stands behind it, and has no line feed
+-- a text is cut into these tokens, whatever stands after it, and has no line feed
 pub record IsCut (text : List ℕ) (tokens : List (List ℕ)) : Type 0 where
   pub cut : (rest : List ℕ) → Ends rest → tokens_of (text ++ rest) ≡ tokens ++ tokens_of rest
   pub feedless : is_feedless text ≡ true
@@ -94,14 +94,14 @@ pub nothing : IsTail [] []
 nothing = record { cut = λ rest ends. refl; feedless = refl; ends = λ rest ends. ends }
 
 -- a space in front
-pub behind_space : (text : List ℕ) (tokens : List (List ℕ)) → IsCut text tokens → IsTail (32 ∷ text) tokens
-behind_space text tokens h = record { cut = λ rest ends. from_gap 32 (text ++ rest) refl ∙ h.cut rest ends; feedless = h.feedless; ends = λ rest ends. refl }
+pub after_space : (text : List ℕ) (tokens : List (List ℕ)) → IsCut text tokens → IsTail (32 ∷ text) tokens
+after_space text tokens h = record { cut = λ rest ends. from_gap 32 (text ++ rest) refl ∙ h.cut rest ends; feedless = h.feedless; ends = λ rest ends. refl }
 
-pub behind_comma : (text : List ℕ) (tokens : List (List ℕ)) → IsCut text tokens → IsTail (44 ∷ 32 ∷ text) tokens
-behind_comma text tokens h = record { cut = λ rest ends. from_gap 44 (32 ∷ (text ++ rest)) refl ∙ (from_gap 32 (text ++ rest) refl ∙ h.cut rest ends); feedless = h.feedless; ends = λ rest ends. refl }
+pub after_comma : (text : List ℕ) (tokens : List (List ℕ)) → IsCut text tokens → IsTail (44 ∷ 32 ∷ text) tokens
+after_comma text tokens h = record { cut = λ rest ends. from_gap 44 (32 ∷ (text ++ rest)) refl ∙ (from_gap 32 (text ++ rest) refl ∙ h.cut rest ends); feedless = h.feedless; ends = λ rest ends. refl }
 
-pub behind_colon : (text : List ℕ) (tokens : List (List ℕ)) → IsCut text tokens → IsTail (58 ∷ 32 ∷ text) ((58 ∷ []) ∷ tokens)
-behind_colon text tokens h = record {
+pub after_colon : (text : List ℕ) (tokens : List (List ℕ)) → IsCut text tokens → IsTail (58 ∷ 32 ∷ text) ((58 ∷ []) ∷ tokens)
+after_colon text tokens h = record {
   cut = λ rest ends. from_mark 58 (32 ∷ (text ++ rest)) refl refl ∙ ap (λ (l : List (List ℕ)). (58 ∷ []) ∷ l) (from_gap 32 (text ++ rest) refl ∙ h.cut rest ends);
   feedless = h.feedless;
   ends = λ rest ends. refl;
@@ -176,10 +176,10 @@ word_is_cut (b ∷ bytes) h =
       feedless = parts_feedless (b ∷ bytes) h.1;
     }
 
--- words, each behind a space
+-- words, each after a space
 pub words_tail : (words : List (List ℕ)) → AllByRecursion (λ word. IsCut word (word ∷ [])) words → IsTail (each_after 32 words) words
 words_tail [] h = nothing
-words_tail (word ∷ words) h = tail_tail (32 ∷ word) (each_after 32 words) (word ∷ []) words (behind_space word (word ∷ []) h.0) (words_tail words h.1)
+words_tail (word ∷ words) h = tail_tail (32 ∷ word) (each_after 32 words) (word ∷ []) words (after_space word (word ∷ []) h.0) (words_tail words h.1)
 
 -- ---- strings
 

@@ -51,12 +51,12 @@ IsWorld script world = All (IsContentLine script) world
 abbrev lines_text : ScriptParts → List Entry → List ℕ
 lines_text script entries = flat_map (entry_line script) entries
 
--- behind an entry's line
-behind_entry : (script : ScriptParts) (entry : Entry) (more : List ℕ) → entry_line script entry ++ more ≡ words_text script entry ++ 10 ∷ more
-behind_entry script entry more = append_assoc (words_text script entry) (10 ∷ []) more
+-- after an entry's line
+after_entry : (script : ScriptParts) (entry : Entry) (more : List ℕ) → entry_line script entry ++ more ≡ words_text script entry ++ 10 ∷ more
+after_entry script entry more = append_assoc (words_text script entry) (10 ∷ []) more
 
-behind_content : (text more : List ℕ) → (text ++ 10 ∷ []) ++ more ≡ text ++ 10 ∷ more
-behind_content text more = append_assoc text (10 ∷ []) more
+after_content : (text more : List ℕ) → (text ++ 10 ∷ []) ++ more ≡ text ++ 10 ∷ more
+after_content text more = append_assoc text (10 ∷ []) more
 
 entry_feedless : (script : ScriptParts) (entry : Entry) → IsScript script → IsReadable script entry → is_feedless (words_text script entry) ≡ true
 entry_feedless script entry rule h = (words_cut script entry rule h).feedless
@@ -64,18 +64,18 @@ entry_feedless script entry rule h = (words_cut script entry rule h).feedless
 -- two entries' lines in front
 two_entries : (script : ScriptParts) (one other : Entry) (x y : List ℕ) → IsScript script → IsReadable script one → IsReadable script other → entry_line script one ++ x ≡ entry_line script other ++ y → (one ≡ other) × (x ≡ y)
 two_entries script one other x y rule h k same =
-    let both = first_line (words_text script one) (words_text script other) x y (entry_feedless script one rule h) (entry_feedless script other rule k) (sym (behind_entry script one x) ∙ same ∙ behind_entry script other y) in
+    let both = first_line (words_text script one) (words_text script other) x y (entry_feedless script one rule h) (entry_feedless script other rule k) (sym (after_entry script one x) ∙ same ∙ after_entry script other y) in
     let line : entry_line script one ≡ entry_line script other = ap (λ (t : List ℕ). t ++ 10 ∷ []) both.0 in
     let good : Entry → Result Entry Fault = λ e. Ok e in
     let read : good one ≡ good other = sym (entry_read script one rule h) ∙ ap (read_entry_of script) line ∙ entry_read script other rule k in
     ((let e : one ≡ other = cc in e), both.1)
 
 two_contents : (script : ScriptParts) (one other x y : List ℕ) → IsScript script → IsContentLine script one → IsContentLine script other → (one ++ 10 ∷ []) ++ x ≡ (other ++ 10 ∷ []) ++ y → (one ≡ other) × (x ≡ y)
-two_contents script one other x y rule h k same = first_line one other x y (content_feedless script one rule h) (content_feedless script other rule k) (sym (behind_content one x) ∙ same ∙ behind_content other y)
+two_contents script one other x y rule h k same = first_line one other x y (content_feedless script one rule h) (content_feedless script other rule k) (sym (after_content one x) ∙ same ∙ after_content other y)
 
 entry_and_content : (script : ScriptParts) (entry : Entry) (text x y : List ℕ) → IsScript script → IsReadable script entry → IsContentLine script text → entry_line script entry ++ x ≡ (text ++ 10 ∷ []) ++ y → ⊥
 entry_and_content script entry text x y rule h k same =
-    let both = first_line (words_text script entry) text x y (entry_feedless script entry rule h) (content_feedless script text rule k) (sym (behind_entry script entry x) ∙ same ∙ behind_content text y) in
+    let both = first_line (words_text script entry) text x y (entry_feedless script entry rule h) (content_feedless script text rule k) (sym (after_entry script entry x) ∙ same ∙ after_content text y) in
     high_is_not_low (text ++ 10 ∷ []) (high_front text (10 ∷ []) (subst BeginsHigh both.0 (entry_high script entry rule h))) (content_low script text rule k)
 
 some_line : (front rest more : List ℕ) → (front ++ 10 ∷ rest) ++ more ≡ [] → ⊥
@@ -127,7 +127,7 @@ NoContentIn script rest = (text more : List ℕ) → IsContentLine script text �
 
 worlds_differ : (script : ScriptParts) (front world : List (List ℕ)) (rest : List ℕ) → IsScript script → IsWorld script front → IsWorld script world → rest ≢ [] → NoContentIn script rest → fed front ++ rest ≡ fed world → ⊥
 worlds_differ script [] [] rest rule f w some none same = some same
-worlds_differ script [] (text ∷ world) rest rule f w some none same = none text (fed world) (All-head (IsContentLine script) text world w) (same ∙ behind_content text (fed world))
+worlds_differ script [] (text ∷ world) rest rule f w some none same = none text (fed world) (All-head (IsContentLine script) text world w) (same ∙ after_content text (fed world))
 worlds_differ script (text ∷ front) [] rest rule f w some none same = some_line text [] (fed front ++ rest) (sym (append_assoc (text ++ 10 ∷ []) (fed front) rest) ∙ same)
 worlds_differ script (text ∷ front) (line ∷ world) rest rule f w some none same =
     let P : List ℕ → Type 0 = IsContentLine script in

@@ -35,12 +35,12 @@ script_read bytes read parts is lines made = is_read bytes (whole_utf8 bytes is)
 pub script_refused : (bytes : List ℕ) (found : ScriptFault) → IsUtf8 bytes → read_lines 1 empty_draft (lines_of bytes) ≡ Err found → read_script bytes ≡ Err found
 script_refused bytes found is lines = is_read bytes (whole_utf8 bytes is) ∙ ap parts_of lines
 
-abbrev told : ℕ → Result ScriptParts ScriptFault
-told line = Err (fault_at line fault.Encoding)
+abbrev reported : ℕ → Result ScriptParts ScriptFault
+reported line = Err (fault_at line fault.Encoding)
 
 pub script_bad : (bytes : List ℕ) (n line : ℕ) → (IsUtf8 bytes → ⊥) → IsValidUpTo bytes n → n ≡ utf8_valid_len bytes → line ≡ bad_line bytes → read_script bytes ≡ Err (fault_at line fault.Encoding)
 script_bad bytes n line not valid is where_ =
     elim (cases_lt (utf8_valid_len bytes) (length bytes)) [
-      | inl lt ↦ is_bad bytes (lt-ltb (utf8_valid_len bytes) (length bytes) lt) ∙ ap told (sym where_)
+      | inl lt ↦ is_bad bytes (lt-ltb (utf8_valid_len bytes) (length bytes) lt) ∙ ap reported (sym where_)
       | inr le ↦ absurd (not (subst (λ (l : List ℕ). IsUtf8 l) (take_all n bytes (let low : n < length bytes = valid.short in omega arith)) valid.front))
     ]

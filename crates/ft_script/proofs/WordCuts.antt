@@ -36,7 +36,7 @@ onto_more part b (word ∷ words) = ap (λ (w : List ℕ). w ∷ words) (sym (ap
 pub ended : (cut : List (List ℕ)) (part : List ℕ) (words : List (List ℕ)) → cut ++ onto part ([] ∷ words) ≡ (cut ++ part ∷ []) ++ words
 ended cut part words = ap (λ (w : List ℕ). cut ++ (w ∷ words)) (append-nil part) ∙ sym (append_assoc cut (part ∷ []) words)
 
--- the part behind a further byte
+-- the part after a further byte
 abbrev part_after : Place → List ℕ → ℕ → List ℕ
 part_after place.Between part b = b ∷ []
 part_after other part b = part ++ b ∷ []
@@ -74,11 +74,11 @@ one_byte_of : (at next : Place) (cut : List (List ℕ)) (part : List ℕ) (b : �
 one_byte_of at next cut part b None = refl
 one_byte_of at next cut part b (Some words) = ap (λ (l : List (List ℕ)). Some l) (one_byte at next cut part b words)
 
-abbrev behind_byte : Place → ℕ → List ℕ → Option Place → Option (List (List ℕ))
-behind_byte at b bytes next = elim next [ None ↦ None | Some p ↦ option_map (joined at b p) (words_from p bytes) ]
+abbrev after_byte : Place → ℕ → List ℕ → Option Place → Option (List (List ℕ))
+after_byte at b bytes next = elim next [ None ↦ None | Some p ↦ option_map (joined at b p) (words_from p bytes) ]
 
 -- the definition, at a byte
-at_byte : (at : Place) (b : ℕ) (bytes : List ℕ) → words_from at (b ∷ bytes) ≡ behind_byte at b bytes (place_after at b)
+at_byte : (at : Place) (b : ℕ) (bytes : List ℕ) → words_from at (b ∷ bytes) ≡ after_byte at b bytes (place_after at b)
 unfolding words_from
 at_byte place.Between b bytes = refl
 at_byte place.Plain b bytes = refl
@@ -86,8 +86,8 @@ at_byte place.String b bytes = refl
 at_byte place.Escape b bytes = refl
 at_byte place.Ended b bytes = refl
 
-from_byte : (at : Place) (b : ℕ) (bytes : List ℕ) (next : Option Place) → place_after at b ≡ next → words_from at (b ∷ bytes) ≡ behind_byte at b bytes next
-from_byte at b bytes next is = at_byte at b bytes ∙ ap (behind_byte at b bytes) is
+from_byte : (at : Place) (b : ℕ) (bytes : List ℕ) (next : Option Place) → place_after at b ≡ next → words_from at (b ∷ bytes) ≡ after_byte at b bytes next
+from_byte at b bytes next is = at_byte at b bytes ∙ ap (after_byte at b bytes) is
 
 abbrev pub part : List ℕ → ℕ → ℕ → List ℕ
 part line start end = take (end - start) (drop start line)

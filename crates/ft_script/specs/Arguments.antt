@@ -1,4 +1,4 @@
--- The words behind the word of a call, read from left to right. (profile)
+-- The words after the word of a call, read from left to right. (profile)
 use Rattle.std.specs.Prelude.{ℕ, ℤ, Bool, true, false, nat_lt, List, [], ◌∷◌, ◌++◌, length, slice_get, codes, Option, option_map, Some, None, Result, Ok, Err, if◌then◌else◌}
 use Rattle.std.specs.Str.{bytes_eq}
 use Rattle.ft_model.specs.declared.data.Key.{Key}
@@ -86,7 +86,7 @@ made_cursor_of draft name =
     ])
     else Err fault.Name
 
--- ---- all words behind the container's name
+-- ---- all words after the container's name
 
 unfoldable pub nothing_in : List (List ℕ) → Result (Unit {0}) Fault
 nothing_in [] = Ok tt

@@ -1,4 +1,4 @@
--- The one entry or content whose line some tokens may be. They are its line where it is printed so: what else may stand between the tokens or behind them is passed over here. (profile)
+-- The one entry or content whose line some tokens may be. They are its line where it is printed so: what else may stand between the tokens or after them is passed over here. (profile)
 use Rattle.std.specs.Prelude.{ℕ, pos, ◌-◌, ◌^◌, Bool, true, false, ◌==◌, ◌&&◌, nat_lt, nat_le, List, [], ◌∷◌, length, take, codes, Option, Some, None, Result, Ok, Err, if◌then◌else◌}
 use Rattle.std.specs.List.{list_all, before_first, after_first, find}
 use Rattle.std.specs.Str.{bytes_eq}
@@ -24,7 +24,7 @@ use Rattle.ft_script.specs.Arguments.{index_of, as_value}
 use Rattle.ft_script.specs.Drafts.{◌>>=◌, or_fault, container_place, thread_place, text_place, draft_at}
 use Rattle.ft_script.specs.Reading.{call_in}
 use Rattle.ft_script.specs.Transcripts.{counts}
-use Rattle.ft_script.specs.Tokens.{before_word, behind_word}
+use Rattle.ft_script.specs.Tokens.{before_word, after_word}
 use Rattle.ft_script.specs.Words.{is_string, text_of}
 
 -- ---- numbers
@@ -193,7 +193,7 @@ numbered_of script token = do
   index ← u32_of (after_first (λ b. b == 46) token)
   Ok (thread, index)
 
--- whether a `w` stands there, and the number behind it
+-- whether a `w` stands there, and the number after it
 unfoldable pub stamp_of : List ℕ → Result (Bool × ℕ) Fault
 stamp_of [] = Err fault.WordCount
 stamp_of (letter ∷ digits) = u64_of digits >>= λ stamp. Ok (letter == 119, stamp)
@@ -208,8 +208,8 @@ entry_of script (place ∷ stamp ∷ words) = do
   numbered ← numbered_of script place
   stamped ← stamp_of stamp
   called ← thread_call script numbered.0 (before_word (codes "=") words)
-  said ← reply_of script.strings (counts called) (before_word (codes "waited") (behind_word (codes "=") words))
-  waited ← waited_of script (behind_word (codes "waited") (behind_word (codes "=") words))
+  said ← reply_of script.strings (counts called) (before_word (codes "waited") (after_word (codes "=") words))
+  waited ← waited_of script (after_word (codes "waited") (after_word (codes "=") words))
   Ok (record { thread = numbered.0; index = numbered.1; stamp = stamped.1; wrote = stamped.0; call = called; reply = said; waited = waited })
 entry_of script others = Err fault.WordCount
 

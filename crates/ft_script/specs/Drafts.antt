@@ -18,7 +18,7 @@ abbrev pub ◌>>=◌ : {A B : Type 0} → Result A Fault → (A → Result B Fau
 (Ok x) >>= f = f x
 (Err e) >>= f = Err e
 
--- a refusal for want of memory, or the fault that reading gives
+-- a refusal for out of memory, or the fault that reading gives
 abbrev pub Fails : {Y : Type 0} → LineError → Result Y Fault → Type 0
 Fails error.Memory read = Unit {0}
 Fails (error.Fault found) read = read ≡ Err found
@@ -28,12 +28,12 @@ abbrev pub Gives : {X Y : Type 0} → (X → Y) → Result X LineError → Resul
 Gives view (Ok x) read = read ≡ Ok (view x)
 Gives view (Err e) read = Fails e read
 
--- and the draft behind it is this
+-- and the draft after it is this
 abbrev pub Reads : {X : Type 0} → Result X LineError → Draft → Result (X × Draft) Fault → Type 0
 Reads (Ok x) new read = read ≡ Ok (x, new)
 Reads (Err e) new read = Fails e read
 
--- the draft behind a line is this
+-- the draft after a line is this
 abbrev pub Leaves : {X : Type 0} → Result X LineError → Draft → Result Draft Fault → Type 0
 Leaves (Ok x) new read = read ≡ Ok new
 Leaves (Err e) new read = Fails e read

@@ -1,4 +1,4 @@
--- The faults of a script's text, and how they are told. (profile)
+-- The faults of a script's text, and how they are reported. (profile)
 use Rattle.std.specs.Prelude.{ℕ, ◌==◌, List, [], Option, Some, None, Result, Ok, Err, codes, if◌then◌else◌}
 use Rattle.ft_script.specs.declared.fault.Fault.{Fault}
 use Rattle.ft_script.specs.declared.fault.Fault.TheVariants as fault
@@ -12,7 +12,7 @@ use Rattle.ft_script.specs.declared.fault.Which.TheVariants as which
 abbrev pub no_memory : ScriptFault
 no_memory = record { line = 1; kind = 14; which = None }
 
--- the number that a fault is told by
+-- the number that a fault is reported by
 abbrev pub kind_of : Fault → ℕ
 kind_of fault.Encoding = 1
 kind_of fault.UnknownWord = 2
@@ -37,10 +37,10 @@ abbrev pub fault_at : ℕ → Fault → ScriptFault
 fault_at line found = record { line = line; kind = kind_of found; which = which_of found }
 
 -- a line's answer, with the line's number
-abbrev pub told : {X : Type 0} → Result X LineError → ℕ → Result X ScriptFault
-told (Ok x) line = Ok x
-told (Err error.Memory) line = Err no_memory
-told (Err (error.Fault found)) line = Err (fault_at line found)
+abbrev pub reported : {X : Type 0} → Result X LineError → ℕ → Result X ScriptFault
+reported (Ok x) line = Ok x
+reported (Err error.Memory) line = Err no_memory
+reported (Err (error.Fault found)) line = Err (fault_at line found)
 
 abbrev pub limit_text : Which → List ℕ
 limit_text which.Threads = codes "limit threads"

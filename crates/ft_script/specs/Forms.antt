@@ -1,4 +1,4 @@
--- The form of each call as text: its word, and what stands behind it.
+-- The form of each call as text: its word, and what stands after it.
 use Rattle.std.specs.Prelude.{ℕ, ◌<◌, List, [], ◌∷◌, length, Option, Some, None, codes, ℤ}
 use Rattle.ft_model.specs.declared.call.Call.{Call}
 use Rattle.ft_model.specs.declared.call.Call.TheVariants as call
@@ -14,7 +14,7 @@ use Rattle.ft_model.specs.Scripts.{IsKeyOf, IsValueOf}
 use Rattle.ft_script.specs.declared.forms.Argument.{Argument}
 use Rattle.ft_script.specs.declared.forms.Argument.TheVariants as argument
 
--- a call's word, and what stands behind it
+-- a call's word, and what stands after it
 pub record Form : Type 0 where
   pub word : List ℕ
   pub arguments : List Argument
@@ -96,7 +96,7 @@ call_form (call.Begin first second) = form (codes "begin") (begin_arguments firs
 call_form call.End = form (codes "end") []
 call_form call.Quiesce = form (codes "quiesce") []
 
--- what stands behind a thread's call is the script's
+-- what stands after a thread's call is the script's
 abbrev pub IsArgumentOf : ScriptParts → ℕ → Argument → Type 0
 IsArgumentOf script thread (argument.Container place) = place < length script.containers
 IsArgumentOf script thread (argument.Cursor number) = number < cursors_of script thread

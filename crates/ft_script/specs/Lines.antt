@@ -23,11 +23,11 @@ lines_of (b ∷ bytes) = if b == 10 then [] ∷ lines_of bytes else with_first b
 abbrev pub is_plain : ℕ → Bool
 is_plain b = not (nat_lt b 32) && not (b == 127)
 
--- what stands behind a backslash: `"`, `\`, `n` or `t`
+-- what stands after a backslash: `"`, `\`, `n` or `t`
 abbrev pub is_escape : ℕ → Bool
 is_escape b = b == 34 || b == 92 || b == 110 || b == 116
 
--- where a byte leads: between words, in a plain word, in a string, behind a backslash in it, or behind its end; a string ends its word
+-- where a byte leads: between words, in a plain word, in a string, after a backslash in it, or after its end; a string ends its word
 abbrev pub place_after : Place → ℕ → Option Place
 place_after place.Between b = if b == 32 then Some place.Between else (if b == 34 then Some place.String else Some place.Plain)
 place_after place.Plain b = if b == 32 then Some place.Between else Some place.Plain
@@ -35,7 +35,7 @@ place_after place.String b = if b == 34 then Some place.Ended else (if b == 92 t
 place_after place.Escape b = if is_escape b then Some place.String else None
 place_after place.Ended b = if b == 32 then Some place.Between else None
 
--- what a byte between two places adds to the words behind it, of which the first goes on with the byte but for between words
+-- what a byte between two places adds to the words after it, of which the first goes on with the byte but for between words
 abbrev pub joined : Place → ℕ → Place → List (List ℕ) → List (List ℕ)
 joined place.Between b place.Between words = words
 joined other b place.Between words = [] ∷ words

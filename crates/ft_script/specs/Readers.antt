@@ -42,28 +42,28 @@ IfFault error.Memory P = Unit {0}
 IfFault (error.Fault fault) P = P
 
 -- an entry is read of its line where no content stands above it
-pub record AddsEntry (script : ScriptParts) (text : List ℕ) (entries : List Entry) (world : List (List ℕ)) (entries_behind : List Entry) (world_behind : List (List ℕ)) : Type 0 where
+pub record AddsEntry (script : ScriptParts) (text : List ℕ) (entries : List Entry) (world : List (List ℕ)) (entries_after : List Entry) (world_after : List (List ℕ)) : Type 0 where
   pub entry : Entry
   pub readable : IsReadable script entry
   pub printed : text ≡ entry_line script entry
   pub first : world ≡ []
-  pub entries_are : entries_behind ≡ entries ++ entry ∷ []
-  pub world_is : world_behind ≡ world
+  pub entries_are : entries_after ≡ entries ++ entry ∷ []
+  pub world_is : world_after ≡ world
 
 -- the line of a content is kept
-pub record AddsContent (script : ScriptParts) (text : List ℕ) (entries : List Entry) (world : List (List ℕ)) (entries_behind : List Entry) (world_behind : List (List ℕ)) : Type 0 where
+pub record AddsContent (script : ScriptParts) (text : List ℕ) (entries : List Entry) (world : List (List ℕ)) (entries_after : List Entry) (world_after : List (List ℕ)) : Type 0 where
   pub content : List ℕ
   pub readable : IsContentLine script content
   pub printed : text ≡ content ++ 10 ∷ []
-  pub entries_are : entries_behind ≡ entries
-  pub world_is : world_behind ≡ world ++ content ∷ []
+  pub entries_are : entries_after ≡ entries
+  pub world_is : world_after ≡ world ++ content ∷ []
 
 -- ---- lines
 
 abbrev pub is_feedless : List ℕ → Bool
 is_feedless text = list_all (λ b. not (b == 10)) text
 
--- a text without line feeds, and a line feed behind it
+-- a text without line feeds, and a line feed after it
 abbrev pub IsLine : List ℕ → Type 0
 IsLine line = (text : List ℕ) × (line ≡ text ++ 10 ∷ []) × (is_feedless text ≡ true)
 
@@ -72,10 +72,10 @@ abbrev pub but_feed : List ℕ → List ℕ
 but_feed line = take (length line - 1) line
 
 -- a line's answer, with the line's number
-abbrev pub told_line : Result (Unit {0}) LineError → ℕ → Result (Unit {0}) TranscriptFault
-told_line (Ok x) number = Ok x
-told_line (Err error.Memory) number = Err found.Memory
-told_line (Err (error.Fault fault)) number = Err (found.Line number)
+abbrev pub reported_line : Result (Unit {0}) LineError → ℕ → Result (Unit {0}) TranscriptFault
+reported_line (Ok x) number = Ok x
+reported_line (Err error.Memory) number = Err found.Memory
+reported_line (Err (error.Fault fault)) number = Err (found.Line number)
 
 -- no content was read, unless memory ran out
 abbrev pub refused : LineError → Result Bool LineError

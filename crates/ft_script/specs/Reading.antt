@@ -31,7 +31,7 @@ use Rattle.ft_script.specs.Arguments.{index_of, container_of, kind_at, nothing_i
 
 -- ---- calls
 
--- the calls of a dict: the word, and what stands behind the container's name
+-- the calls of a dict: the word, and what stands after the container's name
 unfoldable pub dict_call : Draft → Operation → List (List ℕ) → Result (DictCall × Draft) Fault
 dict_call draft of.Get words = key_in draft words >>= λ read. Ok (dict.Get read.0, read.1)
 dict_call draft of.GetOr words = key_and_value_in draft words >>= λ read. Ok (dict.GetOr read.0.0 read.0.1, read.1)
@@ -100,12 +100,12 @@ call_at draft place operation words (Some kind.Dict) = dict_call draft operation
 call_at draft place operation words (Some kind.List) = list_call draft operation words >>= λ read. Ok (call.List place read.0, read.1)
 call_at draft place operation words (Some kind.Set) = set_call draft operation words >>= λ read. Ok (call.Set place read.0, read.1)
 
--- a call whose first argument is a container, which says what stands behind it
+-- a call whose first argument is a container, which says what stands after it
 unfoldable pub container_call : Draft → Operation → List (List ℕ) → Result (Call × Draft) Fault
 container_call draft operation [] = Err fault.WordCount
 container_call draft operation (name ∷ words) = container_of draft name >>= λ place. call_at draft place operation words (kind_at draft place)
 
--- the call that a word and those behind it are
+-- the call that a word and those after it are
 unfoldable pub call_of : Draft → CallWord → List (List ℕ) → Result (Call × Draft) Fault
 call_of draft Next words = cursor_in draft words >>= λ cursor. Ok (call.Next cursor, draft)
 call_of draft Begin words = section_in draft words >>= λ both. Ok (call.Begin both.0 both.1, draft)
@@ -113,12 +113,12 @@ call_of draft End words = nothing_in words >>= λ _. Ok (call.End, draft)
 call_of draft Quiesce words = nothing_in words >>= λ _. Ok (call.Quiesce, draft)
 call_of draft (On operation) words = container_call draft operation words
 
--- the call that all words of a line are, and the draft behind it
+-- the call that all words of a line are, and the draft after it
 unfoldable pub call_in : Draft → List (List ℕ) → Result (Call × Draft) Fault
 call_in draft [] = Err fault.WordCount
 call_in draft (word ∷ words) = or_fault fault.UnknownWord (call_word_of word) >>= λ found. call_of draft found words
 
--- the open sections behind a call, of which there are at most 16
+-- the open sections after a call, of which there are at most 16
 unfoldable pub depth_after : ℕ → Call → Result ℕ Fault
 depth_after depth (call.Begin first second) = if nat_lt depth 16 then Ok (depth + 1) else Err fault.TooDeep
 depth_after depth call.End = if depth == 0 then Err fault.EndWithoutBegin else Ok (depth - 1)
@@ -131,7 +131,7 @@ counted_call draft word words = do
   depth ← depth_after draft.depth read.0
   Ok (record read.1 { calls = read.1.calls ++ read.0 ∷ []; called = draft.called + 1; depth = depth })
 
--- of a call that is one too many only a wrong count of words is told before that
+-- of a call that is one too many only a wrong count of words is reported before that
 abbrev pub limit_fault : Fault → Fault
 limit_fault fault.WordCount = fault.WordCount
 limit_fault other = fault.Limit which.Calls
@@ -165,16 +165,16 @@ abbrev pub class_place : ℤ → Option ℕ
 class_place n = if int_le (pos 3) n && int_le n (pos 12) then Some (natural_of n - 3) else None
 
 -- whether a line names the number of tables of the class
-abbrev pub is_told : Option (Option ℕ) → Bool
-is_told None = false
-is_told (Some count) = is_some count
+abbrev pub is_reported : Option (Option ℕ) → Bool
+is_reported None = false
+is_reported (Some count) = is_some count
 
 unfoldable pub class_of : List ℕ → Result ℕ Fault
 class_of word = index_of word >>= λ n. or_fault (fault.Limit which.Class) (class_place n)
 
 unfoldable pub tables_at : Draft → ℕ → List ℕ → Result Draft Fault
 tables_at draft place count =
-    if is_told (slice_get draft.tables place) then Err fault.NameTwice else (index_of count >>= λ n.
+    if is_reported (slice_get draft.tables place) then Err fault.NameTwice else (index_of count >>= λ n.
     if int_le (pos 1) n && int_le n (pos 64) then Ok (record draft { tables = slice_set draft.tables place (Some (natural_of n)) }) else Err (fault.Limit which.Tables))
 
 unfoldable pub tables_of : Draft → List ℕ → List ℕ → Result Draft Fault
@@ -241,7 +241,7 @@ plain_statement draft word words = if is_some draft.name then thread_statement d
 unfoldable pub unordered_statement : Draft → List ℕ → List (List ℕ) → Result Draft Fault
 unordered_statement draft word words = if bytes_eq word (codes "thread") then thread_line draft words else plain_statement draft word words
 
--- a line that isn't an `order` line, and stands behind none
+-- a line that isn't an `order` line, and stands after none
 unfoldable pub other_statement : Draft → List ℕ → List (List ℕ) → Result Draft Fault
 other_statement draft word words = if length draft.order == 0 then unordered_statement draft word words else Err fault.UnknownWord
 
@@ -256,6 +256,6 @@ words_line draft line = or_fault fault.String (words_of line) >>= λ words. stat
 unfoldable pub open_line : Draft → List ℕ → Result Draft Fault
 open_line draft line = if ends_thread line then (end_thread draft >>= λ ended. words_line ended line) else words_line draft line
 
--- a line: it ends the calls of the thread above it before anything else is told, and no word is read of one whose strings are broken
+-- a line: it ends the calls of the thread above it before anything else is reported, and no word is read of one whose strings are broken
 unfoldable pub read_line : Draft → List ℕ → Result Draft Fault
 read_line draft line = if is_comment line then Ok draft else open_line draft line

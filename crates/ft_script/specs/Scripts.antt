@@ -15,21 +15,21 @@ use Rattle.ft_script.specs.Reading.{read_line}
 abbrev pub line_after : ℕ → ℕ
 line_after number = min (number + 1) (2 ^ 32 - 1)
 
--- what is told of a line
-abbrev pub told_at : {X : Type 0} → ℕ → Result X Fault → Result X ScriptFault
-told_at number (Ok x) = Ok x
-told_at number (Err found) = Err (fault_at number found)
+-- what is reported of a line
+abbrev pub reported_at : {X : Type 0} → ℕ → Result X Fault → Result X ScriptFault
+reported_at number (Ok x) = Ok x
+reported_at number (Err found) = Err (fault_at number found)
 
--- the draft behind the lines, of which the first has this number, or the first fault; a thread's calls that don't end are told one past the last line
+-- the draft after the lines, of which the first has this number, or the first fault; a thread's calls that don't end are reported one past the last line
 unfoldable pub read_lines : ℕ → Draft → List (List ℕ) → Result Draft ScriptFault
-read_lines number draft [] = told_at number (end_thread draft)
-read_lines number draft (line ∷ lines) = elim (told_at number (read_line draft line)) [ Ok next ↦ read_lines (line_after number) next lines | Err found ↦ Err found ]
+read_lines number draft [] = reported_at number (end_thread draft)
+read_lines number draft (line ∷ lines) = elim (reported_at number (read_line draft line)) [ Ok next ↦ read_lines (line_after number) next lines | Err found ↦ Err found ]
 
 -- the line of the first byte that isn't UTF-8
 abbrev pub bad_line : List ℕ → ℕ
 bad_line bytes = line_after (count_by (λ b. b == 10) (take (utf8_valid_len bytes) bytes))
 
--- the script that a text is, or its first fault; bytes that aren't UTF-8 are told before all others
+-- the script that a text is, or its first fault; bytes that aren't UTF-8 are reported before all others
 unfoldable pub read_script : List ℕ → Result ScriptParts ScriptFault
 read_script bytes =
     if nat_lt (utf8_valid_len bytes) (length bytes) then Err (fault_at (bad_line bytes) fault.Encoding)

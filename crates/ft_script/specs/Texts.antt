@@ -30,7 +30,7 @@ line words = join_with_byte 32 words ++ 10 ∷ []
 
 -- ---- keys and values
 
--- a byte of a string: a quotation mark, a backslash, a line feed and a tab stand behind a backslash, and all others as they are
+-- a byte of a string: a quotation mark, a backslash, a line feed and a tab stand after a backslash, and all others as they are
 abbrev pub escaped : ℕ → List ℕ
 escaped b =
     if b == 34 then 92 ∷ 34 ∷ [] else (if b == 92 then 92 ∷ 92 ∷ [] else (if b == 10 then codes "\\n" else (if b == 9 then codes "\\t" else b ∷ [])))
@@ -60,7 +60,7 @@ thread_name script thread = option_map_or (λ found. found.name) (slice_get scri
 abbrev pub cursor_name : ScriptParts → ℕ → ℕ → List ℕ
 cursor_name script thread cursor = option_map_or (λ found. slice_index_or found.cursors cursor []) (slice_get script.threads thread) []
 
--- a word behind the word of a call
+-- a word after the word of a call
 abbrev pub argument_text : ScriptParts → ℕ → Argument → List ℕ
 argument_text script thread (argument.Container place) = container_name script place
 argument_text script thread (argument.Cursor number) = cursor_name script thread number

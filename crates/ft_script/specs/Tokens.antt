@@ -19,12 +19,12 @@ abbrev pub place_at : ℕ → Place
 place_at b = if is_gap b then place.Between else (if is_mark b then place.Ended else (if b == 34 then place.String else place.Plain))
 
 -- where a byte leads
-abbrev pub place_behind : Place → ℕ → Place
-place_behind place.Between b = place_at b
-place_behind place.Ended b = place_at b
-place_behind place.Plain b = if is_gap b then place.Between else (if is_mark b then place.Ended else place.Plain)
-place_behind place.String b = if b == 34 then place.Ended else (if b == 92 then place.Escape else place.String)
-place_behind place.Escape b = place.String
+abbrev pub place_after : Place → ℕ → Place
+place_after place.Between b = place_at b
+place_after place.Ended b = place_at b
+place_after place.Plain b = if is_gap b then place.Between else (if is_mark b then place.Ended else place.Plain)
+place_after place.String b = if b == 34 then place.Ended else (if b == 92 then place.Escape else place.String)
+place_after place.Escape b = place.String
 
 -- whether a token ends between two places
 abbrev pub token_ends : Place → Place → Bool
@@ -39,7 +39,7 @@ abbrev pub token_start : Place → Bool → ℕ → ℕ → ℕ
 token_start place.Between ends start here = here
 token_start other ends start here = if ends then here else start
 
--- a byte in front of the tokens behind it, the first of which goes on with it but for between tokens
+-- a byte in front of the tokens after it, the first of which goes on with it but for between tokens
 abbrev pub fronted : ℕ → Place → List (List ℕ) → List (List ℕ)
 fronted b place.Between tokens = tokens
 fronted b other tokens = with_first b tokens
@@ -52,14 +52,14 @@ parted ends tokens = if ends then [] ∷ tokens else tokens
 unfoldable pub tokens_from : Place → List ℕ → List (List ℕ)
 tokens_from place.Between [] = []
 tokens_from other [] = [] ∷ []
-tokens_from at (b ∷ bytes) = parted (token_ends at (place_behind at b)) (fronted b (place_behind at b) (tokens_from (place_behind at b) bytes))
+tokens_from at (b ∷ bytes) = parted (token_ends at (place_after at b)) (fronted b (place_after at b) (tokens_from (place_after at b) bytes))
 
 abbrev pub tokens_of : List ℕ → List (List ℕ)
 tokens_of line = tokens_from place.Between line
 
--- the tokens before the first that is this word, or all, and those behind it
+-- the tokens before the first that is this word, or all, and those after it
 abbrev pub before_word : List ℕ → List (List ℕ) → List (List ℕ)
 before_word word tokens = before_first (λ token. bytes_eq token word) tokens
 
-abbrev pub behind_word : List ℕ → List (List ℕ) → List (List ℕ)
-behind_word word tokens = after_first (λ token. bytes_eq token word) tokens
+abbrev pub after_word : List ℕ → List (List ℕ) → List (List ℕ)
+after_word word tokens = after_first (λ token. bytes_eq token word) tokens

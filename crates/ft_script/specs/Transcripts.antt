@@ -61,7 +61,7 @@ IsWideArgument (argument.Index n) = is_wide n ≡ true
 abbrev pub IsWideCall : Call → Type 0
 IsWideCall called = AllByRecursion IsWideArgument (call_form called).arguments
 
--- each integer of a reply is of 64 bits, and the number behind `suspended` below 2^32
+-- each integer of a reply is of 64 bits, and the number after `suspended` below 2^32
 abbrev pub IsWideReply : Reply → Type 0
 IsWideReply (reply.Value found) = IsWideValue found
 IsWideReply (reply.Pair first second) = IsWideKey first × IsWideValue second

@@ -11,7 +11,7 @@ abbrev pub is_positive : List ℕ → Bool
 is_positive [] = false
 is_positive (b ∷ bytes) = nat_le 49 b && nat_le b 57 && list_all is_digit bytes
 
--- an integer in decimal, however large: `0`, or digits that don't begin with `0`, maybe behind `-` (profile)
+-- an integer in decimal, however large: `0`, or digits that don't begin with `0`, maybe after `-` (profile)
 abbrev pub is_integer : List ℕ → Bool
 is_integer [] = false
 is_integer (b ∷ bytes) = if b == 48 then length bytes == 0 else (if b == 45 then is_positive bytes else is_positive (b ∷ bytes))
@@ -36,13 +36,13 @@ abbrev pub is_string : List ℕ → Bool
 is_string [] = false
 is_string (b ∷ bytes) = b == 34
 
--- the byte that stands behind a backslash as this
+-- the byte that stands after a backslash as this
 abbrev pub unescaped : ℕ → ℕ
 unescaped b = if b == 110 then 10 else (if b == 116 then 9 else b)
 
--- the bytes up to the next mark, or from behind a backslash on
+-- the bytes up to the next mark, or from after a backslash on
 abbrev pub text_from : Bool → List ℕ → List ℕ
-text_from behind [] = []
+text_from after [] = []
 text_from true (b ∷ bytes) = unescaped b ∷ text_from false bytes
 text_from false (b ∷ bytes) = if b == 92 then text_from true bytes else (if b == 34 then [] else b ∷ text_from false bytes)
 

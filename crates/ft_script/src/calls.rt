@@ -318,7 +318,7 @@ impl Draft {
         }
     }
 
-    /// The call that a word and those behind it are.
+    /// The call that a word and those after it are.
     #[tactic(auto, unfolding(crate::specs::Reading::call_of))]
     pub(crate) fn call_of(
         &mut self,
@@ -349,7 +349,7 @@ impl Draft {
     }
 
     /// Reads the line of a call.
-    #[tactic(auto, using(crate::proofs::CallLemmas::limit_told), unfolding(crate::specs::Reading::call_line))]
+    #[tactic(auto, using(crate::proofs::CallLemmas::limit_reported), unfolding(crate::specs::Reading::call_line))]
     pub(crate) fn call_line(
         &mut self,
         alloc: Global,
@@ -384,7 +384,7 @@ impl Draft {
     }
 }
 
-/// What is told of a call that is one too many.
+/// What is reported of a call that is one too many.
 fn limit_error(read: Result<Call, LineError>) -> LineError
     ensures { result ≡ limit_error read }
 {
@@ -415,7 +415,7 @@ fn limit_fault(fault: Fault) -> Fault
     }
 }
 
-/// How many sections are open behind a call.
+/// How many sections are open after a call.
 #[tactic(auto, unfolding(crate::specs::Reading::depth_after))]
 fn depth_after(depth: u32, call: &Call) -> Result<u32, Fault>
     ensures { result ≡ depth_after depth call.now }

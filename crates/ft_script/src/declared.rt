@@ -68,7 +68,7 @@ fn is_declared_as(script: &ScriptParts, kind: Kind, place: u32) -> bool
     }
 }
 
-/// Whether the containers are declared, and of that kind, and there is such a cursor, of so many.
+/// Whether the containers are declared, and of that kind, and there is such a cursor, of that many.
 fn are_names_of(
     script: &ScriptParts,
     cursors: usize,
@@ -84,7 +84,7 @@ fn are_names_of(
         && cursor.is_none_or(|number| (number as usize) < cursors)
 }
 
-/// Whether a key is an integer, or a string of so many.
+/// Whether a key is an integer, or a string of that many.
 fn is_key_of(strings: usize, key: Key) -> bool
     ensures declared { IsTrue result ↔ IsKeyOf strings key }
     ensures wide { IsWideKey key }

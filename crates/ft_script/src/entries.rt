@@ -72,10 +72,10 @@ fn numbered_of(script: &ScriptParts, token: &[u8]) -> Result<(u32, u32), LineErr
     Ok((thread, index))
 }
 
-/// What stands before the first dot, or all, and what stands behind it.
+/// What stands before the first dot, or all, and what stands after it.
 fn split_at_dot(token: &[u8]) -> (&[u8], &[u8])
     ensures before { result.0.now ≡ before_first (λ b. b == 46) token.now }
-    ensures behind { result.1.now ≡ after_first (λ b. b == 46) token.now }
+    ensures after { result.1.now ≡ after_first (λ b. b == 46) token.now }
 {
     match token.iter().position(|b| *b == b'.') {
         Some(dot) => (&token[..dot], &token[dot + 1..]),
@@ -83,7 +83,7 @@ fn split_at_dot(token: &[u8]) -> (&[u8], &[u8])
     }
 }
 
-/// Whether a `w` stands there, and the number behind it.
+/// Whether a `w` stands there, and the number after it.
 #[tactic(auto, unfolding(crate::specs::Candidates::stamp_of))]
 fn stamp_of(token: &[u8]) -> Result<(bool, u64), LineError>
     ensures { Gives (λ stamped. stamped) result (stamp_of token.now) }
@@ -201,7 +201,7 @@ impl Reader {
         self.call_by(alloc, script, thread, word, words)
     }
 
-    /// The call of a thread that a word and those behind it may be.
+    /// The call of a thread that a word and those after it may be.
     fn call_by(
         &mut self,
         alloc: Global,
@@ -241,8 +241,8 @@ impl Reader {
         };
         let (thread, index) = numbered_of(script, place)?;
         let (wrote, stamp) = stamp_of(stamp)?;
-        let (words, behind) = split_at_word(words, b"=");
-        let (said, mark) = split_at_word(behind, b"waited");
+        let (words, after) = split_at_word(words, b"=");
+        let (said, mark) = split_at_word(after, b"waited");
         let call = self.thread_call(alloc, script, thread, words)?;
         let reply = reply_of(alloc, strings, counts(&call), said)?;
         let waited = waited_of(script, mark)?;

@@ -77,14 +77,14 @@ pub(crate) enum LineError {
 pub struct ScriptFault {
     /// The line, from 1. It stands still at the greatest `u32`.
     pub line: u32,
-    /// From 1 to 13 what is wrong with the text, in the order of `text`; 14 for want of memory.
+    /// From 1 to 13 what is wrong with the text, in the order of `text`; 14 for out of memory.
     pub kind: u8,
     /// The limit that is passed, with kind 12.
     pub which: Option<Which>,
 }
 
 impl Fault {
-    /// The number that a fault is told by.
+    /// The number that a fault is reported by.
     fn kind(self) -> u8
         ensures { result ≡ kind_of self }
     {
@@ -105,7 +105,7 @@ impl Fault {
         }
     }
 
-    /// The fault, told at a line.
+    /// The fault, reported at a line.
     pub(crate) fn at(self, line: u32) -> ScriptFault
         ensures { result ≡ fault_at line self }
     {
@@ -228,7 +228,7 @@ mod tests {
     use super::*;
 
     #[test]
-    fn want_of_memory_is_told_apart(rt: HostRuntime) {
+    fn want_of_memory_is_reported_apart(rt: HostRuntime) {
         assert!(rt; ScriptFault::NO_MEMORY.is_memory());
         assert!(rt; !Fault::Name.at(1).is_memory());
     }

@@ -13,7 +13,7 @@ use crate::shown::{Shown, push_integer};
 use ft_model::{Call, DictCall, Key, ListCall, ScriptParts, SetCall, Value};
 use std::alloc::AllocError;
 
-/// What stands behind the word of a call.
+/// What stands after the word of a call.
 #[derive(Clone, Copy, Debug)]
 pub(crate) enum Argument {
     /// The name of a container, by its place.

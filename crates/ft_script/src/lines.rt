@@ -16,9 +16,9 @@ pub(crate) enum Place {
     Plain,
     /// In a string.
     String,
-    /// In a string, behind a backslash.
+    /// In a string, after a backslash.
     Escape,
-    /// Behind a string's end.
+    /// After a string's end.
     Ended,
 }
 
@@ -57,7 +57,7 @@ fn first_word(line: &[u8]) -> Option<&[u8]>
     line.split(|b| *b == b' ').find(|word| !word.is_empty())
 }
 
-/// The place behind a byte, where no string is broken.
+/// The place after a byte, where no string is broken.
 fn place_after(place: Place, byte: u8) -> Option<Place>
     ensures { result ≡ place_after place byte }
 {

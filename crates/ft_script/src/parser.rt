@@ -1,6 +1,6 @@
 //! Reads scripts.
 ghost use Rattle.ft_script.specs.Drafts.{empty_draft};
-ghost use Rattle.ft_script.specs.Faults.{no_memory, told};
+ghost use Rattle.ft_script.specs.Faults.{no_memory, reported};
 ghost use Rattle.ft_script.specs.Lines.{lines_of};
 ghost use Rattle.ft_script.specs.Scripts.{line_after, read_lines, read_script};
 ghost use Rattle.std.specs.Prelude.{◌≡◌, ◌==◌, ◌⊎◌, IfErr, IfOk, IsUtf8, OnOk, Ok, Err, count_by};
@@ -37,7 +37,7 @@ fn check_encoding(bytes: &[u8]) -> Result<(), ScriptFault>
     }
 }
 
-/// The line behind some bytes.
+/// The line after some bytes.
 fn bad_line(front: &[u8]) -> u32
     ensures { result ≡ line_after (count_by (λ b. b == 10) front.now) }
 {
@@ -45,7 +45,7 @@ fn bad_line(front: &[u8]) -> u32
     u32::try_from(feeds).unwrap_or(u32::MAX).saturating_add(1)
 }
 
-/// The draft behind all lines.
+/// The draft after all lines.
 fn read_lines(alloc: Global, text: &[u8]) -> Result<Draft, ScriptFault>
     ensures read { IfOk result (λ draft. read_lines 1 empty_draft (lines_of text.now) ≡ Ok draft) }
     ensures fault { IfErr result (λ fault. (fault ≡ no_memory) ⊎ (read_lines 1 empty_draft (lines_of text.now) ≡ Err fault)) }
@@ -55,17 +55,17 @@ fn read_lines(alloc: Global, text: &[u8]) -> Result<Draft, ScriptFault>
     let mut rest = text;
     while !rest.is_empty() {
         let (line, below) = next_line(rest);
-        told(draft.read_line(alloc, line), number)?;
+        reported(draft.read_line(alloc, line), number)?;
         number = number.saturating_add(1);
         rest = below;
     }
-    told(draft.end_thread(alloc), number)?;
+    reported(draft.end_thread(alloc), number)?;
     Ok(draft)
 }
 
 /// A line's answer, with the line's number.
-fn told(read: Result<(), LineError>, line: u32) -> Result<(), ScriptFault>
-    ensures { result ≡ told read line }
+fn reported(read: Result<(), LineError>, line: u32) -> Result<(), ScriptFault>
+    ensures { result ≡ reported read line }
 {
     match read {
         Ok(()) => Ok(()),

@@ -124,9 +124,9 @@ fn pairs_of(
 {
     let mut pairs = Vec::new(alloc);
     let mut rest = tokens;
-    while let [first, _, second, behind @ ..] = rest {
+    while let [first, _, second, after @ ..] = rest {
         pairs.push(known_pair(alloc, strings, first, second)?)?;
-        rest = behind;
+        rest = after;
     }
     if !rest.is_empty() {
         return Err(Fault::WordCount.into());

@@ -19,9 +19,9 @@ pub(crate) enum ReplyWord {
     MemoryError,
     /// An empty set.
     NoElements,
-    /// What a dict's pairs or a set's elements stand behind.
+    /// What a dict's pairs or a set's elements stand after.
     Brace,
-    /// What a list's items stand behind.
+    /// What a list's items stand after.
     Bracket,
 }
 

@@ -1,5 +1,5 @@
 //! The tokens of the lines of transcripts.
-ghost use Rattle.ft_script.specs.Tokens.{before_word, behind_word, is_gap, is_mark, place_at, place_behind, token_ends, token_start, tokens_of};
+ghost use Rattle.ft_script.specs.Tokens.{before_word, after_word, is_gap, is_mark, place_at, place_after, token_ends, token_start, tokens_of};
 ghost use Rattle.ft_script.specs.declared.lines.Place.TheVariants as at;
 ghost use Rattle.std.specs.Prelude.{◌≡◌, IfOk, map};
 
@@ -36,8 +36,8 @@ fn place_at(byte: u8) -> Place
 }
 
 /// Where a byte leads.
-fn place_behind(place: Place, byte: u8) -> Place
-    ensures { result ≡ place_behind place byte }
+fn place_after(place: Place, byte: u8) -> Place
+    ensures { result ≡ place_after place byte }
 {
     match place {
         Place::Between | Place::Ended => place_at(byte),
@@ -81,7 +81,7 @@ pub(crate) fn tokens_of(alloc: Global, line: &[u8]) -> Result<Vec<&[u8]>, AllocE
     let mut place = Place::Between;
     let mut start = 0;
     for (i, byte) in line.iter().enumerate() {
-        let next = place_behind(place, *byte);
+        let next = place_after(place, *byte);
         let ends = token_ends(place, next);
         add_word(&mut tokens, &line[start..i], ends)?;
         start = token_start(place, ends, start, i);
@@ -98,13 +98,13 @@ fn is_open(place: Place) -> bool
     !matches!(place, Place::Between)
 }
 
-/// The tokens before the first that is this word, or all, and those behind it.
+/// The tokens before the first that is this word, or all, and those after it.
 pub(crate) fn split_at_word<'a, 'b>(
     tokens: &'a [&'b [u8]],
     word: &[u8],
 ) -> (&'a [&'b [u8]], &'a [&'b [u8]])
     ensures before { map (λ token. token.now) result.0.now ≡ before_word word.now (map (λ token. token.now) tokens.now) }
-    ensures behind { map (λ token. token.now) result.1.now ≡ behind_word word.now (map (λ token. token.now) tokens.now) }
+    ensures after { map (λ token. token.now) result.1.now ≡ after_word word.now (map (λ token. token.now) tokens.now) }
 {
     match tokens.iter().position(|token| *token == word) {
         Some(place) => (&tokens[..place], &tokens[place + 1..]),

@@ -2,7 +2,7 @@
 ghost use Rattle.ft_model.specs.Histories.{cursors_of};
 ghost use Rattle.ft_model.specs.Parts.{IsEntryOf, IsReplyOf};
 ghost use Rattle.ft_model.specs.Scripts.{IsCallOf, IsScript};
-ghost use Rattle.ft_script.specs.Readers.{AddsContent, AddsEntry, IfFault, IsLine, IsReaderOf, NoContent, NoEntry, but_feed, is_feedless, refused, told_line};
+ghost use Rattle.ft_script.specs.Readers.{AddsContent, AddsEntry, IfFault, IsLine, IsReaderOf, NoContent, NoEntry, but_feed, is_feedless, refused, reported_line};
 ghost use Rattle.ft_script.specs.Texts.{entry_line};
 ghost use Rattle.ft_script.specs.Tokens.{tokens_of};
 ghost use Rattle.ft_script.specs.Transcripts.{IsContentLine, IsFirstBad, IsReadable, IsTranscript, IsWhole, IsWideCall, content_line};
@@ -94,7 +94,7 @@ fn read_lines(
             &mut printed,
             &mut transcript,
         );
-        told(read, number)?;
+        reported(read, number)?;
         number = number.saturating_add(1);
         rest = parts.1;
     }
@@ -125,8 +125,8 @@ fn split_line(text: &[u8]) -> Option<(&[u8], &[u8])>
 }
 
 /// A line's answer, with the line's number.
-fn told(read: Result<(), LineError>, number: u32) -> Result<(), TranscriptFault>
-    ensures { result ≡ told_line read number }
+fn reported(read: Result<(), LineError>, number: u32) -> Result<(), TranscriptFault>
+    ensures { result ≡ reported_line read number }
 {
     match read {
         Ok(()) => Ok(()),
@@ -150,7 +150,7 @@ fn read_line(
     requires reader { IsReaderOf script.now reader.old.draft reader.old.cursors.items }
     requires line { IsLine line.now }
     ensures kept { OnOk result (IsReaderOf script.now reader.new.draft reader.new.cursors.items) }
-    ensures read { OnOk result (let world = map (λ text. text.items) transcript.old.world.items in let behind = map (λ text. text.items) transcript.new.world.items in AddsEntry script.now line.now transcript.old.entries.items world transcript.new.entries.items behind ⊎ AddsContent script.now line.now transcript.old.entries.items world transcript.new.entries.items behind) }
+    ensures read { OnOk result (let world = map (λ text. text.items) transcript.old.world.items in let after = map (λ text. text.items) transcript.new.world.items in AddsEntry script.now line.now transcript.old.entries.items world transcript.new.entries.items after ⊎ AddsContent script.now line.now transcript.old.entries.items world transcript.new.entries.items after) }
     ensures entries { OnErr result (transcript.new.entries.items ≡ transcript.old.entries.items) }
     ensures world { OnErr result (transcript.new.world.items ≡ transcript.old.world.items) }
     ensures fault { IfErr result (λ e. IfFault e (NoContent script.now line.now × (transcript.old.world.items ≡ [] → NoEntry script.now line.now))) }

@@ -15,7 +15,7 @@ pub(crate) fn is_container_name(word: &[u8]) -> bool
     }
 }
 
-/// Whether the byte may stand in a container's name behind the first.
+/// Whether the byte may stand in a container's name after the first.
 fn is_container_byte(byte: u8) -> bool
     ensures { result ≡ is_container_byte byte }
 {
@@ -32,7 +32,7 @@ pub(crate) fn is_thread_name(word: &[u8]) -> bool
     }
 }
 
-/// Whether the byte may stand in a thread's name behind the first.
+/// Whether the byte may stand in a thread's name after the first.
 fn is_thread_byte(byte: u8) -> bool
     ensures { result ≡ is_thread_byte byte }
 {
@@ -84,23 +84,23 @@ pub(crate) fn text_of(alloc: Global, word: &[u8]) -> Result<Vec<u8>, AllocError>
     ensures { IfOk result (λ text. text.items ≡ text_of word.now) }
 {
     let mut text = Vec::new(alloc);
-    let mut behind = false;
+    let mut after = false;
     let letters = &word[1..];
     for byte in letters {
-        match (behind, *byte) {
-            (false, b'\\') => behind = true,
+        match (after, *byte) {
+            (false, b'\\') => after = true,
             (false, b'"') => return Ok(text),
             (false, byte) => text.push(byte)?,
             (true, byte) => {
                 text.push(unescaped(byte))?;
-                behind = false;
+                after = false;
             }
         }
     }
     Ok(text)
 }
 
-/// The byte that stands behind a backslash as this one.
+/// The byte that stands after a backslash as this one.
 fn unescaped(byte: u8) -> u8
     ensures { result ≡ unescaped byte }
 {

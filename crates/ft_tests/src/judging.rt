@@ -18,7 +18,7 @@ struct Case<'a> {
 }
 
 const CASES: [Case<'static>; 41] = [
-    // A section that was let go, told as suspended.
+    // A section that was let go, reported as suspended.
     Case {
         script: "list l\ndict d\nthread A\nbegin d\nbegin l\nappend l 1\nend\nend\nthread B\nbegin l\nappend l 2\nend\norder B A A B B\n",
         transcript: "A.1 r0 begin d = entered\nB.1 r0 begin l = entered\nB.2 w0 append l 2 = ok\nA.2 r1 begin l = entered waited B\nB.3 r1 end = kept\nA.3 w1 append l 1 = ok\nA.4 r2 end = kept\nA.5 r2 end = suspended 1\n",
@@ -179,7 +179,7 @@ const CASES: [Case<'static>; 41] = [
         storage: Storage::Plain,
         verdict: Verdict::Not(3, Rule::Mark),
     },
-    // A write in a section that is told as kept.
+    // A write in a section that is reported as kept.
     Case {
         script: "dict d\nlist l\nthread A\nbegin d\nend\nthread B\nset d 1 1\nthread C\nquiesce\n",
         transcript: "A.1 r0 begin d = entered\nB.1 w0 set d 1 1 = ok\nA.2 r1 end = kept\n",
@@ -319,7 +319,7 @@ fn judged(alloc: Global, case: Case<'_>) -> Result<Verdict, Fail> {
 }
 
 #[test]
-fn the_first_broken_rule_is_told(rt: HostRuntime) -> Result<(), Fail> {
+fn the_first_broken_rule_is_reported(rt: HostRuntime) -> Result<(), Fail> {
     for case in CASES {
         assert_eq!(rt; judged(rt.alloc(), case)?, case.verdict);
     }

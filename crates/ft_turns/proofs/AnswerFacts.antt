@@ -28,7 +28,7 @@ use Rattle.ft_model.specs.declared.cursor.Walk.{Walk}
 use Rattle.ft_model.specs.declared.cursor.Walk.TheVariants as walk
 use Rattle.ft_model.specs.Calls.{is_changing, one_or_two, containers_of, other_dict, other_list, other_set, cursor_of_dict, cursor_of_list, cursor_of_set}
 use Rattle.ft_model.specs.Contents.{empty_dict, empty_set}
-use Rattle.ft_model.specs.Cursors.{CursorStep, is_behind, next_pair, dict_walk, dict_next, next_element, set_walk, set_next, list_walk, list_next}
+use Rattle.ft_model.specs.Cursors.{CursorStep, is_after, next_pair, dict_walk, dict_next, next_element, set_walk, set_next, list_walk, list_next}
 use Rattle.ft_model.specs.declared.script.Kind.{Kind}
 use Rattle.ft_model.specs.declared.script.Kind.TheVariants as kind
 use Rattle.ft_model.specs.Worlds.{IsOfKind, kind_of, cursor_kind, dict_of, list_of, set_of, dict_at, list_at, set_at, cursor_at, container_of, no_hands}
@@ -42,7 +42,7 @@ use Rattle.ft_turns.proofs.AnswerForms.{Form, shown, put, made, form_dict, form_
 abbrev pub walked : List (Option Cursor) → ℕ → List ℕ
 walked hands number = option_map_or (λ cursor. container_of cursor ∷ []) (cursor_at hands number) []
 
--- the same behind a call that makes a cursor, or doesn't
+-- the same after a call that makes a cursor, or doesn't
 abbrev pub walked_after : List (Option Cursor) → Option ℕ → List ℕ → ℕ → List ℕ
 walked_after hands made_one named number = if option_map_or (λ one. one == number) made_one false then named else walked hands number
 
@@ -202,28 +202,28 @@ module _ (n : ℕ) (world : List Content) (contents : All (IsContentOf n) world)
 
   dict_step : (pairs : List DictPair) (container : ℕ) (state : Walk) (size expected : ℕ) (last : Option ℕ) → All (IsPairOf n) pairs → IsStep (cursor.Dict container state size expected last) (dict_next pairs container state size expected last)
   dict_step pairs container walk.Ended size expected last of = (refl, tt, refl, refl)
-  dict_step pairs container walk.Told size expected last of = (refl, tt, refl, refl)
+  dict_step pairs container walk.EntriesHaveRightReplies size expected last of = (refl, tt, refl, refl)
   dict_step pairs container walk.Live size expected last of =
-      elim (length pairs == size) as (λ b. IsStep (cursor.Dict container walk.Live size expected last) (if b then dict_walk (next_pair pairs last) container size expected last else record { reply = reply.Raised raise.Size; cursor = cursor.Dict container walk.Told size expected last })) [
+      elim (length pairs == size) as (λ b. IsStep (cursor.Dict container walk.Live size expected last) (if b then dict_walk (next_pair pairs last) container size expected last else record { reply = reply.Raised raise.Size; cursor = cursor.Dict container walk.EntriesHaveRightReplies size expected last })) [
         | false ↦ (refl, tt, refl, refl)
         | true ↦ elim (next_pair pairs last) as (λ o. next_pair pairs last ≡ o → IsStep (cursor.Dict container walk.Live size expected last) (dict_walk o container size expected last)) [
           | None ↦ λ _. (refl, tt, refl, refl)
           | Some pair ↦ λ found. elim (expected == 0) as (λ b. IsStep (cursor.Dict container walk.Live size expected last) (if b then record { reply = reply.Raised raise.Keys; cursor = cursor.Dict container walk.Ended size expected last } else record { reply = reply.Pair pair.key pair.value; cursor = cursor.Dict container walk.Live size (expected - 1) (Some pair.serial) })) [
             | true ↦ (refl, tt, refl, refl)
-            | false ↦ (refl, found_in (IsPairOf n) (λ (p : DictPair). is_behind last p.serial) pairs pair of found, refl, refl)
+            | false ↦ (refl, found_in (IsPairOf n) (λ (p : DictPair). is_after last p.serial) pairs pair of found, refl, refl)
           ]
         ] refl
       ]
 
   set_step : (elements : List Element) (container : ℕ) (state : Walk) (size : ℕ) (last : Option ℕ) → All (IsElementOf n) elements → IsStep (cursor.Set container state size last) (set_next elements container state size last)
   set_step elements container walk.Ended size last of = (refl, tt, refl, refl)
-  set_step elements container walk.Told size last of = (refl, tt, refl, refl)
+  set_step elements container walk.EntriesHaveRightReplies size last of = (refl, tt, refl, refl)
   set_step elements container walk.Live size last of =
-      elim (length elements == size) as (λ b. IsStep (cursor.Set container walk.Live size last) (if b then set_walk (next_element elements last) container size last else record { reply = reply.Raised raise.Size; cursor = cursor.Set container walk.Told size last })) [
+      elim (length elements == size) as (λ b. IsStep (cursor.Set container walk.Live size last) (if b then set_walk (next_element elements last) container size last else record { reply = reply.Raised raise.Size; cursor = cursor.Set container walk.EntriesHaveRightReplies size last })) [
         | false ↦ (refl, tt, refl, refl)
         | true ↦ elim (next_element elements last) as (λ o. next_element elements last ≡ o → IsStep (cursor.Set container walk.Live size last) (set_walk o container size last)) [
           | None ↦ λ _. (refl, tt, refl, refl)
-          | Some element ↦ λ found. (refl, key_value n element.key (found_in (IsElementOf n) (λ (e : Element). is_behind last e.serial) elements element of found), refl, refl)
+          | Some element ↦ λ found. (refl, key_value n element.key (found_in (IsElementOf n) (λ (e : Element). is_after last e.serial) elements element of found), refl, refl)
         ] refl
       ]
 

@@ -34,7 +34,7 @@ use Rattle.ft_model.specs.Parts.{IsReplyOf, IsContentOf}
 use Rattle.ft_model.specs.Answers.{Answer, shows, puts, moves, items_of, without_last, without_first, answer_dict, answer_list, answer_set, is_raised, is_memory}
 use Rattle.ft_turns.proofs.ContentStrings.{IsPairOf, IsElementOf, key_value, held_at, got_value, set_pairs, update_pairs, copied_pairs, item_value, removed_items, inserted_items, sliced_items, reversed_items, added_elements, renumbered}
 
--- how an answer depends on the hands: it shows a reply, puts a content, or makes a cursor over the container. Its strings are among so many
+-- how an answer depends on the hands: it shows a reply, puts a content, or makes a cursor over the container. Its strings are among that many
 pub data Form (world : List Content) (n : ℕ) (k : Kind) (container : ℕ) (changing : Bool) (makes : Option ℕ) : (List (Option Cursor) → Answer) → Type 0 where
   shown : makes ≡ None → (said : Reply) → is_memory said ≡ false → IsReplyOf n said → Form world n k container changing makes (λ hands. shows world hands said)
   put : makes ≡ None → changing ≡ true → (place : ℕ) (left : Content) (said : Reply) → is_raised said ≡ false → IsReplyOf n said → IsContentOf n left → kind_of left ≡ k → IsOfKind world k place → Form world n k container changing makes (λ hands. puts world hands place left said)

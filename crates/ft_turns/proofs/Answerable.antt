@@ -43,28 +43,28 @@ counted_steps : (script : ScriptParts) → CallsOf script → IsKeptByAnswers sc
 counted_steps script calls_ok =
     record {
       threads = λ progress both. both.0.owned.threads;
-      waits = λ progress thread called fixed objects found try finds both.
+      waits = λ progress thread called fixed containers found try finds both.
           (let state = thread_at progress.machine thread in
-          let locking = take_locks thread progress.machine.holders objects in
+          let locking = take_locks thread progress.machine.holders containers in
           let after : ThreadState = record state { sections = map without_locks state.sections; own = state.own ++ locking.taken; mark = if is_some state.mark then state.mark else Some found } in (
-            going_waits script calls_ok progress thread called fixed objects found try finds both.0,
+            going_waits script calls_ok progress thread called fixed containers found try finds both.0,
             by_thread (λ u s. (tally_of progress u).count ≤ length s.marks) progress.machine.threads thread after (omega (arith, there script thread state called try.next, both.0.owned.threads)) (both.1 thread) (λ u differs. both.1 u),
           ));
-      answers = λ progress thread called objects try finds both.
+      answers = λ progress thread called containers try finds both.
           (let state = thread_at progress.machine thread in
-          let locking = take_locks thread progress.machine.holders objects in
+          let locking = take_locks thread progress.machine.holders containers in
           let after : ThreadState = record state { fixed = true; sections = sections_after called (state.own ++ locking.taken) state.sections; own = [] } in (
-            going_answers script calls_ok progress thread called objects try finds both.0,
+            going_answers script calls_ok progress thread called containers try finds both.0,
             by_thread (λ u s. (tally_of progress u).count ≤ length s.marks) progress.machine.threads thread after (omega (arith, there script thread state called try.next, both.0.owned.threads)) (both.1 thread) (λ u differs. both.1 u),
           ));
-      finishes = λ progress thread called objects try finds both.
+      finishes = λ progress thread called containers try finds both.
           (let state = thread_at progress.machine thread in
-          let locking = take_locks thread progress.machine.holders objects in
+          let locking = take_locks thread progress.machine.holders containers in
           let after : ThreadState = record { marks = state.marks ++ state.mark ∷ []; fixed = false; sections = with_taken (state.own ++ locking.taken) state.sections; own = []; mark = None } in
           let tally = tally_of progress thread in
           let new : Tally = tally_after tally called state.mark in
           let before : tally.count ≤ length state.marks = both.1 thread in (
-            going_finishes script calls_ok progress thread called objects try finds both.0,
+            going_finishes script calls_ok progress thread called containers try finds both.0,
             by_thread (λ u s. (slice_index_or (slice_set progress.tallies thread new) u no_tally).count ≤ length s.marks) progress.machine.threads thread after (omega (arith, there script thread state called try.next, both.0.owned.threads))
                 (subst (λ (t : Tally). t.count ≤ length (state.marks ++ state.mark ∷ [])) (sym (get_or-set_same progress.tallies thread new no_tally (omega (arith, there script thread state called try.next, both.0.tallies))))
                 (omega (arith, noted_count called tally.noted (tally.count + (if is_some state.mark then 1 else 0)), mark_counts state.mark, length_push state.marks state.mark)))

@@ -12,7 +12,7 @@ use Rattle.ft_model.specs.declared.script.Thread.{Thread}
 use Rattle.ft_model.specs.declared.script.ScriptParts.{ScriptParts}
 use Rattle.ft_model.specs.Histories.{calls_of}
 use Rattle.ft_history.proofs.Unbroken.{range_push}
-use Rattle.ft_turns.specs.Orders.{ThreadState, Machine, Locking, fresh_thread, start_machine, lower_first, locks_taken, take_locks, thread_at, innermost_objects, turn}
+use Rattle.ft_turns.specs.Orders.{ThreadState, Machine, Locking, fresh_thread, start_machine, lower_first, locks_taken, take_locks, thread_at, innermost_containers, turn}
 use Rattle.ft_turns.specs.Standings.{Tried, not_tried, answer_tried, finish_tried, answer_part, finish_part, newly_answered, placed}
 use Rattle.ft_turns.specs.Wants.{so_far}
 use Rattle.ft_turns.specs.Ends.{AreTurns, places_of}
@@ -83,7 +83,7 @@ placed_turn script machine thread within are =
     let called = found.0 in
     let taking = take_locks thread machine.holders (lower_first (locks_taken (take n calls) called)) in
     let first = answer_part thread (take n calls) called machine.holders state in
-    let again = take_locks thread first.holders (lower_first (innermost_objects first.state.sections)) in
+    let again = take_locks thread first.holders (lower_first (innermost_containers first.state.sections)) in
     let second = finish_part thread first in
     let counts : so_far second.state ≡ so_far state + (if first.done then 1 else 0) = finish_counts first.state.fixed again.found first again refl ∙ answer_counts state.fixed taking.found machine.holders state called taking refl in
     let new : first.done ≡ true → so_far state ≡ n = answer_new state.fixed taking.found machine.holders state called taking refl in

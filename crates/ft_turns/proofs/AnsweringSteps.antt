@@ -15,15 +15,15 @@ use Rattle.ft_turns.proofs.MachineSteps.{wanted, wanted_again, IsTry, there, sam
 -- what the three steps keep, where a call is answered
 pub record IsKeptByAnswers (script : ScriptParts) (Q : Progress → Type 0) : Type 0 where
   pub threads : (progress : Progress) → Q progress → length progress.machine.threads ≡ length script.threads
-  pub waits : (progress : Progress) (thread : ℕ) (called : Call) (fixed : Bool) (objects : List ℕ) (found : ℕ)
-      → IsTry script progress.machine thread called fixed objects → (take_locks thread progress.machine.holders objects).found ≡ Some found
-      → Q progress → Q (record progress { machine = waits progress.machine thread (thread_at progress.machine thread) (take_locks thread progress.machine.holders objects) found })
-  pub answers : (progress : Progress) (thread : ℕ) (called : Call) (objects : List ℕ)
-      → IsTry script progress.machine thread called false objects → (take_locks thread progress.machine.holders objects).found ≡ None
-      → Q progress → Q (record (with_answer progress thread called) { machine = answers progress.machine thread (thread_at progress.machine thread) called (take_locks thread progress.machine.holders objects) })
-  pub finishes : (progress : Progress) (thread : ℕ) (called : Call) (objects : List ℕ)
-      → IsTry script progress.machine thread called true objects → (take_locks thread progress.machine.holders objects).found ≡ None
-      → Q progress → Q (record (with_mark progress thread called (thread_at progress.machine thread).mark) { machine = finishes progress.machine thread (thread_at progress.machine thread) (take_locks thread progress.machine.holders objects) })
+  pub waits : (progress : Progress) (thread : ℕ) (called : Call) (fixed : Bool) (containers : List ℕ) (found : ℕ)
+      → IsTry script progress.machine thread called fixed containers → (take_locks thread progress.machine.holders containers).found ≡ Some found
+      → Q progress → Q (record progress { machine = waits progress.machine thread (thread_at progress.machine thread) (take_locks thread progress.machine.holders containers) found })
+  pub answers : (progress : Progress) (thread : ℕ) (called : Call) (containers : List ℕ)
+      → IsTry script progress.machine thread called false containers → (take_locks thread progress.machine.holders containers).found ≡ None
+      → Q progress → Q (record (with_answer progress thread called) { machine = answers progress.machine thread (thread_at progress.machine thread) called (take_locks thread progress.machine.holders containers) })
+  pub finishes : (progress : Progress) (thread : ℕ) (called : Call) (containers : List ℕ)
+      → IsTry script progress.machine thread called true containers → (take_locks thread progress.machine.holders containers).found ≡ None
+      → Q progress → Q (record (with_mark progress thread called (thread_at progress.machine thread).mark) { machine = finishes progress.machine thread (thread_at progress.machine thread) (take_locks thread progress.machine.holders containers) })
 
 same_length : {X : Type 0} (xs ys : List X) → xs ≡ ys → nat_lt (length ys) (length xs) ≡ false
 same_length xs ys same = le-ltb (length ys) (length xs) (let e : length xs ≡ length ys = ap length same in omega arith)
@@ -44,15 +44,15 @@ module _ (script : ScriptParts) (Q : Progress → Type 0) (keeps : IsKeptByAnswe
   low : thread < length progress.machine.threads
   low = omega (arith, there script thread (thread_at progress.machine thread) called next, keeps.threads progress holds)
 
-  -- it waits, before its answer is fixed or behind it
-  shown_waits : (fixed : Bool) (objects : List ℕ) (found : ℕ) → IsTry script progress.machine thread called fixed objects → (take_locks thread progress.machine.holders objects).found ≡ Some found → Shown (waits progress.machine thread (thread_at progress.machine thread) (take_locks thread progress.machine.holders objects) found)
-  shown_waits fixed objects found try finds =
+  -- it waits, before its answer is fixed or after it
+  shown_waits : (fixed : Bool) (containers : List ℕ) (found : ℕ) → IsTry script progress.machine thread called fixed containers → (take_locks thread progress.machine.holders containers).found ≡ Some found → Shown (waits progress.machine thread (thread_at progress.machine thread) (take_locks thread progress.machine.holders containers) found)
+  shown_waits fixed containers found try finds =
       let state = thread_at progress.machine thread in
-      let locking = take_locks thread progress.machine.holders objects in
+      let locking = take_locks thread progress.machine.holders containers in
       let after : Machine = waits progress.machine thread state locking found in
       let marks : (thread_at after thread).marks ≡ state.marks = same_marks progress.machine.threads thread (record state { sections = map without_locks state.sections; own = state.own ++ locking.taken; mark = if is_some state.mark then state.mark else Some found }) refl in
       shown false false (mark_given progress.machine after thread) after (same_length progress.machine.answered progress.machine.answered refl) (same_length (thread_at after thread).marks state.marks marks) refl
-      (keeps.waits progress thread called fixed objects found try finds holds)
+      (keeps.waits progress thread called fixed containers found try finds holds)
 
   -- its answer was fixed, and it finishes
   shown_finishes : (thread_at progress.machine thread).fixed ≡ true → (take_locks thread progress.machine.holders (wanted_again progress.machine thread)).found ≡ None → Shown (finishes progress.machine thread (thread_at progress.machine thread) (take_locks thread progress.machine.holders (wanted_again progress.machine thread)))

@@ -14,7 +14,7 @@ use Rattle.ft_model.specs.Calls.{one_or_two, containers_of, other_dict, other_li
 use Rattle.ft_model.specs.Worlds.{IsOfKind, cursor_kind, container_of, cursor_at, IsDeclared}
 use Rattle.ft_model.specs.Scripts.{cursor_of, IsCallOf, IsThread, IsScript}
 use Rattle.ft_model.specs.Histories.{calls_of, cursors_of}
-use Rattle.ft_turns.specs.Orders.{makes, cursor_objects, thread_at, next_call}
+use Rattle.ft_turns.specs.Orders.{makes, cursor_containers, thread_at, next_call}
 use Rattle.ft_turns.specs.Answering.{asks_container, Progress, start_progress, answered_turn}
 use Rattle.ft_turns.proofs.ProgressWords.{hands_of}
 use Rattle.ft_turns.proofs.AnswerFacts.{AreOver, IsAsked, walked}
@@ -42,23 +42,23 @@ made_by None number h = absurd (false≢true h)
 made_by (Some one) number h = ap Some (eqb-true one number h)
 
 -- once a cursor has a container it keeps one
-still_named : (number : ℕ) (objects : List ℕ) (calls : List Call) → 1 ≤ length objects → 1 ≤ length (fold (λ so_far called. if makes number called then containers_of called else so_far) objects calls)
-still_named number objects [] some = some
-still_named number objects (called ∷ calls) some =
-    still_named number (if makes number called then containers_of called else objects) calls
-    (elim (makes number called) as (λ b. makes number called ≡ b → 1 ≤ length (if b then containers_of called else objects)) [
+still_named : (number : ℕ) (containers : List ℕ) (calls : List Call) → 1 ≤ length containers → 1 ≤ length (fold (λ so_far called. if makes number called then containers_of called else so_far) containers calls)
+still_named number containers [] some = some
+still_named number containers (called ∷ calls) some =
+    still_named number (if makes number called then containers_of called else containers) calls
+    (elim (makes number called) as (λ b. makes number called ≡ b → 1 ≤ length (if b then containers_of called else containers)) [
       | true ↦ λ is. maker_names called number (made_by (cursor_of called) number is)
       | false ↦ λ _. some
     ] refl)
 
-made_named : (number : ℕ) (calls : List Call) (objects : List ℕ) (place : ℕ) (maker : Call) → slice_get calls place ≡ Some maker → cursor_of maker ≡ Some number → 1 ≤ length (fold (λ so_far called. if makes number called then containers_of called else so_far) objects calls)
-made_named number [] objects place maker at is = absurd (none-some maker at)
-made_named number (called ∷ calls) objects zero maker at is =
+made_named : (number : ℕ) (calls : List Call) (containers : List ℕ) (place : ℕ) (maker : Call) → slice_get calls place ≡ Some maker → cursor_of maker ≡ Some number → 1 ≤ length (fold (λ so_far called. if makes number called then containers_of called else so_far) containers calls)
+made_named number [] containers place maker at is = absurd (none-some maker at)
+made_named number (called ∷ calls) containers zero maker at is =
     let same : called ≡ maker = same_Some called maker at in
     let makes_it : makes number called ≡ true = ap (makes number) same ∙ ap (λ o. option_map_or (λ made. made == number) o false) is ∙ eq-eqb number number refl in
-    still_named number (if makes number called then containers_of called else objects) calls
-    (subst (λ b. 1 ≤ length (if b then containers_of called else objects)) (sym makes_it) (maker_names called number (ap cursor_of same ∙ is)))
-made_named number (called ∷ calls) objects (suc place) maker at is = made_named number calls (if makes number called then containers_of called else objects) place maker at is
+    still_named number (if makes number called then containers_of called else containers) calls
+    (subst (λ b. 1 ≤ length (if b then containers_of called else containers)) (sym makes_it) (maker_names called number (ap cursor_of same ∙ is)))
+made_named number (called ∷ calls) containers (suc place) maker at is = made_named number calls (if makes number called then containers_of called else containers) place maker at is
 
 -- each cursor is made before it is moved
 abbrev pub CursorsMade : ScriptParts → Type 0
@@ -96,9 +96,9 @@ module _ (script : ScriptParts) (calls_ok : CallsOf script) (made : CursorsMade 
       let calls = calls_of script thread in
       let before : Any (λ earlier. cursor_of earlier ≡ Some number) (take marks calls) = made thread marks number (next ∙ ap Some is) in
       let maker_at : slice_get (take marks calls) before.0 ≡ Some before.1 = slice_get-get_or (take marks calls) before.0 before.1 before.2 ∙ ap Some before.3 in
-      let walks : walked (hands_of progress thread) number ≡ cursor_objects (take marks calls) number =
-      inv.walks thread number (thread_low script calls_ok progress thread called next inv) ∙ ap (λ b. cursor_objects (take (marks + (if b then 1 else 0)) calls) number) unfixed ∙ ap (λ k. cursor_objects (take k calls) number) (let e : marks + 0 ≡ marks = omega arith in e) in
-      over_made progress.world (hands_of progress thread) number (inv.fits thread) (subst (λ objects. 1 ≤ length objects) (sym walks) (made_named number (take marks calls) [] before.0 before.1 maker_at before.4))
+      let walks : walked (hands_of progress thread) number ≡ cursor_containers (take marks calls) number =
+      inv.walks thread number (thread_low script calls_ok progress thread called next inv) ∙ ap (λ b. cursor_containers (take (marks + (if b then 1 else 0)) calls) number) unfixed ∙ ap (λ k. cursor_containers (take k calls) number) (let e : marks + 0 ≡ marks = omega arith in e) in
+      over_made progress.world (hands_of progress thread) number (inv.fits thread) (subst (λ containers. 1 ≤ length containers) (sym walks) (made_named number (take marks calls) [] before.0 before.1 maker_at before.4))
   declared_by (call.Begin first second) is asked room asks = absurd (false≢true asks)
   declared_by call.End is asked room asks = absurd (false≢true asks)
   declared_by call.Quiesce is asked room asks = absurd (false≢true asks)
@@ -108,7 +108,7 @@ module _ (script : ScriptParts) (calls_ok : CallsOf script) (made : CursorsMade 
       let of : IsCallOf script (cursors_of script thread) called = calls_ok thread (length (thread_at progress.machine thread).marks) called next in
       declared_by called refl (asked_of script.containers progress.world inv.kinds (cursors_of script thread) called of.names) (room_of of) asks
 
--- ---- behind any turns
+-- ---- after any turns
 
 pub going_at : (script : ScriptParts) → CallsOf script → (turns : List ℕ) → IsGoing script (fold (answered_turn script) (start_progress script) turns)
 going_at script calls_ok turns = (answered_turns_keep script (λ progress. IsGoing script progress × IsIndexed script progress) (indexed_steps script calls_ok) (start_progress script) turns (going_start script, indexed_start script calls_ok)).0

@@ -14,10 +14,10 @@ IsOwn own locks wanted = (own ≡ []) ⊎ ((low : ℕ) × (high : ℕ) × (own �
 
 -- a thread waits for a lock that another has, and keeps at most a lower one
 pub record Blocks (thread : ℕ) (locking : Locking) (before wanted : List ℕ) (other : ℕ) : Type 0 where
-  pub object : ℕ
-  pub holder : holder_of locking.holders object ≡ Some other
+  pub container : ℕ
+  pub holder : holder_of locking.holders container ≡ Some other
   pub differ : other ≢ thread
-  pub above : (one : ℕ) → 1 ≤ times one (before ++ locking.taken) → one < object
+  pub above : (one : ℕ) → 1 ≤ times one (before ++ locking.taken) → one < container
   pub own : IsOwn (before ++ locking.taken) [] wanted
 
 -- one lock, of this holder, is found with another thread
@@ -45,8 +45,8 @@ found_last thread holders x other found =
     let step = take_step thread holders x [] (holder_of holders x) refl in
     subst (λ (l : Locking). Found thread holders x l other) step (found_at thread holders x (holder_of holders x) other refl (ap (λ (l : Locking). l.found) step ∙ found))
 
-none_above : (object one : ℕ) → 1 ≤ times one [] → one < object
-none_above object one some = absurd (omega (arith, some))
+none_above : (container one : ℕ) → 1 ≤ times one [] → one < container
+none_above container one some = absurd (omega (arith, some))
 
 one_above : (x y one : ℕ) → x < y → 1 ≤ times one (x ∷ []) → one < y
 one_above x y one less some = let e : x ≡ one = is_same x one (omega (arith, some)) in omega (arith, e, less)
@@ -58,7 +58,7 @@ blocked_one thread holders own locks x other is found =
     let empty : own ≡ [] = ⊎_elim (λ (e : own ≡ []). e) (λ (low : (low : ℕ) × (high : ℕ) × (own ≡ low ∷ []) × (locks ≡ []) × (x ∷ [] ≡ low ∷ high ∷ [])). absurd (let e = low.4 in cc)) is in
     let none : own ++ (take_locks thread holders (x ∷ [])).taken ≡ [] = rw (empty, f.taken) refl in
     record {
-      object = x;
+      container = x;
       holder = rw f.holders_are f.holder;
       differ = f.differ;
       above = λ one some. none_above x one (rw none at some);
@@ -70,7 +70,7 @@ blocked_second : (thread : ℕ) (holders : List (Option ℕ)) (own : List ℕ) (
 blocked_second thread holders own x y other locking less f before cases none same_own =
     let whole : own ++ locking.taken ≡ before = none ∙ same_own in
     record {
-      object = y;
+      container = y;
       holder = rw f.holders_are f.holder;
       differ = f.differ;
       above = λ one some.
@@ -118,7 +118,7 @@ blocked_two_by false thread holders own locks x y q other is at less own_is held
     let empty : own ≡ [] = none_own thread own locks x y own_is zero_times in
     let none : own ++ [] ≡ [] = rw empty refl in
     record {
-      object = x;
+      container = x;
       holder = at ∙ ap (λ p. let o : Option ℕ = Some p in o) this;
       differ = λ e. differ (this ∙ e);
       above = λ one some. none_above x one (rw none at some);
@@ -135,7 +135,7 @@ blocked_two_at thread holders own locks x y None other at less own_is held found
     let empty : own ≡ [] = none_own thread own locks x y own_is zero_times in
     let whole : own ++ (x ∷ rest.taken) ≡ x ∷ [] = rw (empty, f.taken) refl in
     record {
-      object = y;
+      container = y;
       holder = rw f.holders_are f.holder;
       differ = f.differ;
       above = λ one some. one_above x y one less (rw whole at some);

@@ -28,13 +28,13 @@ use Rattle.ft_turns.specs.Chronicling.{AllFinish, IsChronicleOfTurns}
 use Rattle.ft_turns.proofs.LockLemmas.{occ, occ-nil, occ-cons}
 use Rattle.ft_turns.proofs.MachineSteps.{turns_keep}
 use Rattle.ft_turns.proofs.Owned.{IsOwned, owned_start}
-use Rattle.ft_turns.proofs.Marks.{mark_at, count_fixed, own_objects, first_of_stack, IsBacked, backed_steps, backed_start}
+use Rattle.ft_turns.proofs.Marks.{mark_at, count_fixed, own_containers, first_of_stack, IsBacked, backed_steps, backed_start}
 use Rattle.ft_turns.proofs.Following.{IsFollowed}
 use Rattle.ft_turns.proofs.KeptLocks.{AreEntriesFor, CalmAtEnd, IsSecured, BeginsLow, secured_steps, secured_start}
 use Rattle.ft_turns.proofs.AnsweringSteps.{IsKeptByAnswers, answered_turns_keep}
 use Rattle.ft_turns.proofs.Going.{IsBare, IsGoing, CallsOf, going_start}
-use Rattle.ft_turns.proofs.Told.{marked_by, IsPart, IsDone, IsTold}
-use Rattle.ft_turns.proofs.ToldSteps.{told_steps, told_start}
+use Rattle.ft_turns.proofs.EntriesHaveRightReplies.{marked_by, IsPart, IsDone, HasRightReply}
+use Rattle.ft_turns.proofs.RightReplySteps.{reported_steps, reported_start}
 use Rattle.ft_turns.proofs.Indexed.{IsIndexed, indexed_steps, indexed_start}
 
 -- ---- the script's calls
@@ -58,28 +58,28 @@ calls_of_script script rule thread index called at =
           subst (λ k. IsCallOf script k called) (ap (λ (o : Option Thread). option_map_or (λ (t : Thread). length t.cursors) o 0) (sym found.2)) of
     ]
 
-only : (limit first object : ℕ) → first < limit → 1 ≤ occ object (first ∷ []) → object < limit
-only limit first object low there =
-    elim (cases_eq first object) [
+only : (limit first container : ℕ) → first < limit → 1 ≤ occ container (first ∷ []) → container < limit
+only limit first container low there =
+    elim (cases_eq first container) [
       | inl same ↦ subst (λ k. k < limit) same low
-      | inr differs ↦ absurd (let e : occ object (first ∷ []) ≡ 0 + occ object [] = rw (occ-cons object first [], ne_eqb first object differs) refl in omega (arith, occ-nil object))
+      | inr differs ↦ absurd (let e : occ container (first ∷ []) ≡ 0 + occ container [] = rw (occ-cons container first [], ne_eqb first container differs) refl in omega (arith, occ-nil container))
     ]
 
-one_or_two_low : (limit first : ℕ) (second : Option ℕ) (object : ℕ) → first < limit → IfSome second (λ place. place < limit) → 1 ≤ occ object (one_or_two first second) → object < limit
-one_or_two_low limit first None object low both there = only limit first object low there
-one_or_two_low limit first (Some second) object low both there =
-    elim (first == second) as (λ b. 1 ≤ occ object (if b then first ∷ [] else first ∷ second ∷ []) → object < limit) [
-      | true ↦ λ one. only limit first object low one
-      | false ↦ λ two. elim (cases_eq first object) [
+one_or_two_low : (limit first : ℕ) (second : Option ℕ) (container : ℕ) → first < limit → IfSome second (λ place. place < limit) → 1 ≤ occ container (one_or_two first second) → container < limit
+one_or_two_low limit first None container low both there = only limit first container low there
+one_or_two_low limit first (Some second) container low both there =
+    elim (first == second) as (λ b. 1 ≤ occ container (if b then first ∷ [] else first ∷ second ∷ []) → container < limit) [
+      | true ↦ λ one. only limit first container low one
+      | false ↦ λ two. elim (cases_eq first container) [
         | inl same ↦ subst (λ k. k < limit) same low
-        | inr differs ↦ only limit second object both (let e : occ object (first ∷ second ∷ []) ≡ 0 + occ object (second ∷ []) = rw (occ-cons object first (second ∷ []), ne_eqb first object differs) refl in omega arith)
+        | inr differs ↦ only limit second container both (let e : occ container (first ∷ second ∷ []) ≡ 0 + occ container (second ∷ []) = rw (occ-cons container first (second ∷ []), ne_eqb first container differs) refl in omega arith)
       ]
     ] there
 
 pub begins_of_script : (script : ScriptParts) → CallsOf script → BeginsLow script
-begins_of_script script calls_ok thread index first second at object there =
+begins_of_script script calls_ok thread index first second at container there =
     let of : IsCallOf script (cursors_of script thread) (call.Begin first second) = calls_ok thread index (call.Begin first second) at in
-    one_or_two_low (length script.containers) first second object of.names.0 of.names.1 there
+    one_or_two_low (length script.containers) first second container of.names.0 of.names.1 there
 
 -- ---- lists
 
@@ -105,9 +105,9 @@ entries_of-marked mark_of thread (entry ∷ entries) =
       | false ↦ entries_of-marked mark_of thread entries
     ]
 
-innermost_objects_of : (sections : List Section) → innermost sections ≡ first_of_stack (map (λ section. section.objects) sections)
-innermost_objects_of [] = refl
-innermost_objects_of (section ∷ sections) = refl
+innermost_containers_of : (sections : List Section) → innermost sections ≡ first_of_stack (map (λ section. section.containers) sections)
+innermost_containers_of [] = refl
+innermost_containers_of (section ∷ sections) = refl
 
 -- an `end` that says kept counted no mark, so nobody wrote
 kept_by_count : (entries : List Entry) (thread place : ℕ) (sections : List Section) (called : Call) (said : Reply) → IfEnds sections called (λ section. IsCountedBy entries thread place section said) → IfEnds sections called (CalmAtEnd entries thread place) → IfEnds sections called (λ section. IsKeptBy entries thread place section said)
@@ -125,13 +125,13 @@ writes_changing : (entry : Entry) → is_write entry.call entry.reply ≡ true �
 writes_changing entry wrote = (and_parts (is_changing entry.call) _ wrote).0
 
 -- a thread that has a call on one of these containers is one of the script's
-caller_within : (script : ScriptParts) (thread : ℕ) (objects : List ℕ) → list_any (has_call_on script thread) objects ≡ true → thread < length script.threads
-caller_within script thread objects has =
+caller_within : (script : ScriptParts) (thread : ℕ) (containers : List ℕ) → list_any (has_call_on script thread) containers ≡ true → thread < length script.threads
+caller_within script thread containers has =
     elim (cases_lt thread (length script.threads)) [
       | inl low ↦ low
       | inr high ↦
-          let none : (object : ℕ) → has_call_on script thread object ≡ false = λ object. ap (λ (o : Option Thread). list_any (names object) (option_map_or (λ (found : Thread). found.calls) o [])) (slice_get_past script.threads thread high) in
-          absurd (false≢true (sym (list_any_none (has_call_on script thread) objects (λ k d low. none (get_or objects k d))) ∙ has))
+          let none : (container : ℕ) → has_call_on script thread container ≡ false = λ container. ap (λ (o : Option Thread). list_any (names container) (option_map_or (λ (found : Thread). found.calls) o [])) (slice_get_past script.threads thread high) in
+          absurd (false≢true (sym (list_any_none (has_call_on script thread) containers (λ k d low. none (get_or containers k d))) ∙ has))
     ]
 
 map-map : {X Y Z : Type 0} (g : Y → Z) (f : X → Y) (xs : List X) → map g (map f xs) ≡ map (λ x. g (f x)) xs
@@ -161,9 +161,9 @@ both_keep : (script : ScriptParts) (P Q : Progress → Type 0) → IsKeptByAnswe
 both_keep script P Q one other =
     record {
       threads = λ progress both. one.threads progress both.0;
-      waits = λ progress thread called fixed objects found try finds both. (one.waits progress thread called fixed objects found try finds both.0, other.waits progress thread called fixed objects found try finds both.1);
-      answers = λ progress thread called objects try finds both. (one.answers progress thread called objects try finds both.0, other.answers progress thread called objects try finds both.1);
-      finishes = λ progress thread called objects try finds both. (one.finishes progress thread called objects try finds both.0, other.finishes progress thread called objects try finds both.1);
+      waits = λ progress thread called fixed containers found try finds both. (one.waits progress thread called fixed containers found try finds both.0, other.waits progress thread called fixed containers found try finds both.1);
+      answers = λ progress thread called containers try finds both. (one.answers progress thread called containers try finds both.0, other.answers progress thread called containers try finds both.1);
+      finishes = λ progress thread called containers try finds both. (one.finishes progress thread called containers try finds both.0, other.finishes progress thread called containers try finds both.1);
     }
 
 module _ (script : ScriptParts) (rule : IsScript script) (all_finish : AllFinish script) where
@@ -208,17 +208,17 @@ module _ (script : ScriptParts) (rule : IsScript script) (all_finish : AllFinish
     front = take_all (length (last_progress script).entries) (answered_turns script) (omega (arith, counted)) ∙ entries_are;
   }
 
-  told : IsTold script last_mark (answered_turns script) (last_progress script)
-  told = (answered_turns_keep script (λ progress. IsGoing script progress × (IsPart (last_progress script).machine.answered last_mark (answered_turns script) progress → IsTold script last_mark (answered_turns script) progress))
-      (told_steps script calls_ok (last_progress script).machine.answered last_mark (answered_turns script)) (start_progress script) (turns_of script)
-      (going_start script, λ _. told_start script calls_ok (last_progress script).machine.answered last_mark (answered_turns script))).1 part
+  reported : HasRightReply script last_mark (answered_turns script) (last_progress script)
+  reported = (answered_turns_keep script (λ progress. IsGoing script progress × (IsPart (last_progress script).machine.answered last_mark (answered_turns script) progress → HasRightReply script last_mark (answered_turns script) progress))
+      (reported_steps script calls_ok (last_progress script).machine.answered last_mark (answered_turns script)) (start_progress script) (turns_of script)
+      (going_start script, λ _. reported_start script calls_ok (last_progress script).machine.answered last_mark (answered_turns script))).1 part
 
   -- an entry, without its mark and with it
   bare_at : (place : ℕ) (entry : Entry) → slice_get (answered_turns script) place ≡ Some entry → (bare : Entry) × (slice_get (last_progress script).entries place ≡ Some bare) × (entry ≡ marked_by last_mark bare)
   bare_at place entry at = map_at (marked_by last_mark) (last_progress script).entries place entry (ap (λ es. slice_get es place) (sym entries_are) ∙ at)
 
   done_at : (place : ℕ) (entry : Entry) → slice_get (answered_turns script) place ≡ Some entry → IsDone script (answered_turns script) place entry
-  done_at place entry at = told.done place entry (let w = slice_get_within (answered_turns script) place entry at in omega (arith, counted)) at
+  done_at place entry at = reported.done place entry (let w = slice_get_within (answered_turns script) place entry at in omega (arith, counted)) at
 
   next_at : (place : ℕ) (entry : Entry) → slice_get (answered_turns script) place ≡ Some entry → IsNext script (answered_turns script) place entry
   next_at place entry at =
@@ -293,8 +293,8 @@ module _ (script : ScriptParts) (rule : IsScript script) (all_finish : AllFinish
       let own = backed.marks entry.thread (entry.index - 1) who entry.call mark called in
       let calls = calls_of script entry.thread in (
         own.0,
-        ap (λ objects. list_any (has_call_on script who) (objects ++ innermost (after_section place entry.call (sections_at (answered_turns script) entry.thread place)))) done.about
-            ∙ ap (λ objects. list_any (has_call_on script who) (own_objects (take (entry.index - 1) calls) entry.call ++ objects)) (innermost_objects_of (after_section place entry.call (sections_at (answered_turns script) entry.thread place)) ∙ ap first_of_stack done.stack)
+        ap (λ containers. list_any (has_call_on script who) (containers ++ innermost (after_section place entry.call (sections_at (answered_turns script) entry.thread place)))) done.about
+            ∙ ap (λ containers. list_any (has_call_on script who) (own_containers (take (entry.index - 1) calls) entry.call ++ containers)) (innermost_containers_of (after_section place entry.call (sections_at (answered_turns script) entry.thread place)) ∙ ap first_of_stack done.stack)
             ∙ own.1,
       )
 
@@ -352,7 +352,7 @@ module _ (script : ScriptParts) (rule : IsScript script) (all_finish : AllFinish
         order = ordered;
         entries_of = λ place d low. entry_of place (get_or (answered_turns script) place d) (slice_get-get_or (answered_turns script) place d low);
         world_is =
-            told.world ∙ ap (λ es. fold after_write (start_world script.containers) (writes es)) (take_all (length (last_progress script).entries) (answered_turns script) (omega (arith, counted)))
+            reported.world ∙ ap (λ es. fold after_write (start_world script.containers) (writes es)) (take_all (length (last_progress script).entries) (answered_turns script) (omega (arith, counted)))
             ∙ ap (fold after_write (start_world script.containers)) (sym (take_all (length (writes (answered_turns script))) (writes (answered_turns script)) (omega arith)));
         world_of = going.world;
       }

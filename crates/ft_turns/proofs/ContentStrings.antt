@@ -1,4 +1,4 @@
--- The strings that a content has, behind each change of it: those from before and the call's.
+-- The strings that a content has, after each change of it: those from before and the call's.
 use Rattle.std.proofs.Common.{◌≡◌, ℕ, suc, ◌+◌, ◌-◌, ◌<◌, Bool, true, false, List, [], ◌∷◌, ◌++◌, length, get_or, take, drop, reverse, None, Some, refl, sym, subst, arith, cond, inl, inr, ℤ}
 use Rattle.std.specs.Prelude.{if◌then◌else◌, All, slice_get, slice_index_or}
 use Rattle.std.specs.List.{find, remove}

@@ -35,7 +35,7 @@ double_at [] i within = absurd (omega (arith, within))
 double_at (t ∷ threads) zero within = refl
 double_at (t ∷ threads) (suc i) within = double_at threads i (omega (arith, within))
 
--- no more steps than two for each call, and where there are so many every call has finished
+-- no more steps than two for each call, and where there are that many every call has finished
 pub full_steps : (script : ScriptParts) (machine : Machine) → IsSoundMachine script machine → count_of_calls script + count_of_calls script ≤ steps_made machine → AreFinished script machine
 full_steps script machine sound many thread within =
     let f : ThreadState → ℕ = λ state. so_far state + length state.marks in

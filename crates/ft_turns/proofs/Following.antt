@@ -29,16 +29,16 @@ back Q threads thread state low mine all other =
 below_push : (marks : List (Option ℕ)) (mark other : Option ℕ) (index : ℕ) → index < length marks → slice_index_or (marks ++ mark ∷ []) index None ≡ slice_index_or (marks ++ other ∷ []) index None
 below_push marks mark other index low = get_or_append_left marks (mark ∷ []) None index low ∙ sym (get_or_append_left marks (other ∷ []) None index low)
 
-module _ (script : ScriptParts) (events : List (ℕ × ℕ)) (mark_of : ℕ → ℕ → Option ℕ) (machine : Machine) (thread : ℕ) (called : Call) (fixed : Bool) (objects : List ℕ) (try : IsTry script machine thread called fixed objects) (inv : IsOwned script machine) where
+module _ (script : ScriptParts) (events : List (ℕ × ℕ)) (mark_of : ℕ → ℕ → Option ℕ) (machine : Machine) (thread : ℕ) (called : Call) (fixed : Bool) (containers : List ℕ) (try : IsTry script machine thread called fixed containers) (inv : IsOwned script machine) where
   abbrev state : ThreadState
   state = thread_at machine thread
 
   low : thread < length machine.threads
   low = omega (arith, there script thread (thread_at machine thread) called try.next, inv.threads)
 
-  pub followed_waits : (found : ℕ) → IsFollowed events mark_of (waits machine thread (thread_at machine thread) (take_locks thread machine.holders objects) found) → IsFollowed events mark_of machine
+  pub followed_waits : (found : ℕ) → IsFollowed events mark_of (waits machine thread (thread_at machine thread) (take_locks thread machine.holders containers) found) → IsFollowed events mark_of machine
   followed_waits found follows =
-      let locking = take_locks thread machine.holders objects in
+      let locking = take_locks thread machine.holders containers in
       let now = thread_at machine thread in
       let mark : Option ℕ = if is_some now.mark then now.mark else Some found in
       let after : ThreadState = record now { sections = map without_locks now.sections; own = now.own ++ locking.taken; mark = if is_some now.mark then now.mark else Some found } in
@@ -57,9 +57,9 @@ module _ (script : ScriptParts) (events : List (ℕ × ℕ)) (mark_of : ℕ → 
             (λ all index below. below_push now.marks now.mark mark index below ∙ all index below) follows.finished;
       }
 
-  pub followed_answers : IsFollowed events mark_of (answers machine thread (thread_at machine thread) called (take_locks thread machine.holders objects)) → IsFollowed events mark_of machine
+  pub followed_answers : IsFollowed events mark_of (answers machine thread (thread_at machine thread) called (take_locks thread machine.holders containers)) → IsFollowed events mark_of machine
   followed_answers follows =
-      let locking = take_locks thread machine.holders objects in
+      let locking = take_locks thread machine.holders containers in
       let now = thread_at machine thread in
       let after : ThreadState = record now { fixed = true; sections = sections_after called (now.own ++ locking.taken) now.sections; own = [] } in
       record {
@@ -68,9 +68,9 @@ module _ (script : ScriptParts) (events : List (ℕ × ℕ)) (mark_of : ℕ → 
         finished = back (λ u s. (index : ℕ) → index < length s.marks → mark_at s index ≡ mark_of u index) machine.threads thread after low (λ all. all) follows.finished;
       }
 
-  pub followed_finishes : IsFollowed events mark_of (finishes machine thread (thread_at machine thread) (take_locks thread machine.holders objects)) → IsFollowed events mark_of machine
+  pub followed_finishes : IsFollowed events mark_of (finishes machine thread (thread_at machine thread) (take_locks thread machine.holders containers)) → IsFollowed events mark_of machine
   followed_finishes follows =
-      let locking = take_locks thread machine.holders objects in
+      let locking = take_locks thread machine.holders containers in
       let now = thread_at machine thread in
       let after : ThreadState = record { marks = now.marks ++ now.mark ∷ []; fixed = false; sections = with_taken (now.own ++ locking.taken) now.sections; own = []; mark = None } in
       record {
@@ -82,9 +82,9 @@ module _ (script : ScriptParts) (events : List (ℕ × ℕ)) (mark_of : ℕ → 
       }
 
   -- and of the call that finishes its mark is the one that it has now
-  pub followed_mark : IsFollowed events mark_of (finishes machine thread (thread_at machine thread) (take_locks thread machine.holders objects)) → mark_of thread (length (thread_at machine thread).marks) ≡ (thread_at machine thread).mark
+  pub followed_mark : IsFollowed events mark_of (finishes machine thread (thread_at machine thread) (take_locks thread machine.holders containers)) → mark_of thread (length (thread_at machine thread).marks) ≡ (thread_at machine thread).mark
   followed_mark follows =
-      let locking = take_locks thread machine.holders objects in
+      let locking = take_locks thread machine.holders containers in
       let now = thread_at machine thread in
       let after : ThreadState = record { marks = now.marks ++ now.mark ∷ []; fixed = false; sections = with_taken (now.own ++ locking.taken) now.sections; own = []; mark = None } in
       let is : slice_index_or (slice_set machine.threads thread after) thread fresh_thread ≡ after = get_or-set_same machine.threads thread after fresh_thread low in

@@ -1,4 +1,4 @@
--- What is known of the turns so far, whatever comes behind them: worlds, hands and entries are of the script.
+-- What is known of the turns so far, whatever comes after them: worlds, hands and entries are of the script.
 use Rattle.std.proofs.Common.{◌≡◌, ℕ, zero, suc, ◌+◌, ◌-◌, ◌<◌, ◌≤◌, Bool, true, false, List, [], ◌∷◌, ◌++◌, length, take, map, get_or, Option, None, Some, refl, sym, ap, subst, ◌∙◌, arith, inl, inr}
 use Rattle.std.specs.Prelude.{slice_get, slice_set, slice_index_or, ◌⊎◌, is_some, ◌==◌, if◌then◌else◌, IfSome}
 use Rattle.std.specs.Option.{option_map_or}
@@ -27,7 +27,7 @@ use Rattle.ft_model.specs.Worlds.{start_world, start_hands, no_hands, empty_cont
 use Rattle.ft_model.specs.Answers.{answer, is_write, is_memory}
 use Rattle.ft_model.specs.Histories.{calls_of, cursors_of}
 use Rattle.ft_history.proofs.Places.{take_next, slice_get_left, slice_get_at}
-use Rattle.ft_turns.specs.Orders.{makes, cursor_objects, ThreadState, take_locks, thread_at, next_call, without_locks, waits, sections_after, answers, with_taken, finishes}
+use Rattle.ft_turns.specs.Orders.{makes, cursor_containers, ThreadState, take_locks, thread_at, next_call, without_locks, waits, sections_after, answers, with_taken, finishes}
 use Rattle.ft_turns.specs.Answering.{Tally, no_tally, ended_reply, waited_inside, reply_in, Progress, start_progress}
 use Rattle.ft_turns.proofs.ProgressWords.{hands_of, tally_of, next_entry, with_answer, with_mark}
 use Rattle.ft_turns.proofs.MachineSteps.{IsTry, there}
@@ -91,7 +91,7 @@ pub record IsGoing (script : ScriptParts) (progress : Progress) : Type 0 where
   pub fits : (thread : ℕ) → AreOver progress.world (hands_of progress thread)
   pub hands : length progress.hands ≡ length script.threads
   pub room : (thread : ℕ) → thread < length script.threads → length (hands_of progress thread) ≡ cursors_of script thread
-  pub walks : (thread number : ℕ) → thread < length script.threads → walked (hands_of progress thread) number ≡ cursor_objects (take (count_fixed (thread_at progress.machine thread)) (calls_of script thread)) number
+  pub walks : (thread number : ℕ) → thread < length script.threads → walked (hands_of progress thread) number ≡ cursor_containers (take (count_fixed (thread_at progress.machine thread)) (calls_of script thread)) number
   pub tallies : length progress.tallies ≡ length script.threads
 
 -- each call of the script names what is the script's
@@ -118,8 +118,8 @@ slice_get_push (z ∷ xs) x y (suc place) h =
       | inr last ↦ inr (ap suc last.0, last.1)
     ]
 
-pub cursor_push : (calls : List Call) (index : ℕ) (called : Call) (number : ℕ) → slice_get calls index ≡ Some called → cursor_objects (take (index + 1) calls) number ≡ (if makes number called then containers_of called else cursor_objects (take index calls) number)
-cursor_push calls index called number at = ap (λ cs. cursor_objects cs number) (take_next calls index called at) ∙ fold_push (λ objects c. if makes number c then containers_of c else objects) [] (take index calls) called
+pub cursor_push : (calls : List Call) (index : ℕ) (called : Call) (number : ℕ) → slice_get calls index ≡ Some called → cursor_containers (take (index + 1) calls) number ≡ (if makes number called then containers_of called else cursor_containers (take index calls) number)
+cursor_push calls index called number at = ap (λ cs. cursor_containers cs number) (take_next calls index called at) ∙ fold_push (λ asked_containers c. if makes number c then containers_of c else asked_containers) [] (take index calls) called
 
 -- ---- at the start
 
@@ -205,21 +205,21 @@ going_start script =
       room = λ thread within. ap length (hands_at_start script thread) ∙ length-replicate {A = Option Cursor} (cursors_of script thread) None;
       walks = λ thread number within.
           ap (λ h. walked h number) (hands_at_start script thread) ∙ none_walked (cursors_of script thread) number
-          ∙ ap (λ (s : ThreadState). cursor_objects (take (count_fixed s) (calls_of script thread)) number) (sym (start_thread script thread));
+          ∙ ap (λ (s : ThreadState). cursor_containers (take (count_fixed s) (calls_of script thread)) number) (sym (start_thread script thread));
       tallies = length-map script.threads (λ (t : Thread). no_tally);
     }
 
 module _ (script : ScriptParts) (calls_ok : CallsOf script) where
-  pub going_waits : (progress : Progress) (thread : ℕ) (called : Call) (fixed : Bool) (objects : List ℕ) (found : ℕ) → IsTry script progress.machine thread called fixed objects → (take_locks thread progress.machine.holders objects).found ≡ Some found
-      → IsGoing script progress → IsGoing script (record progress { machine = waits progress.machine thread (thread_at progress.machine thread) (take_locks thread progress.machine.holders objects) found })
-  going_waits progress thread called fixed objects found try finds inv =
+  pub going_waits : (progress : Progress) (thread : ℕ) (called : Call) (fixed : Bool) (asked_containers : List ℕ) (found : ℕ) → IsTry script progress.machine thread called fixed asked_containers → (take_locks thread progress.machine.holders asked_containers).found ≡ Some found
+      → IsGoing script progress → IsGoing script (record progress { machine = waits progress.machine thread (thread_at progress.machine thread) (take_locks thread progress.machine.holders asked_containers) found })
+  going_waits progress thread called fixed asked_containers found try finds inv =
       let machine = progress.machine in
       let state = thread_at machine thread in
-      let locking = take_locks thread machine.holders objects in
+      let locking = take_locks thread machine.holders asked_containers in
       let after : ThreadState = record state { sections = map without_locks state.sections; own = state.own ++ locking.taken; mark = if is_some state.mark then state.mark else Some found } in
       let low : thread < length machine.threads = omega (arith, there script thread state called try.next, inv.owned.threads) in
       record {
-        owned = (owned_steps script).waits machine thread called fixed objects found try finds inv.owned;
+        owned = (owned_steps script).waits machine thread called fixed asked_containers found try finds inv.owned;
         counts = inv.counts;
         bare = inv.bare;
         world = inv.world;
@@ -227,21 +227,21 @@ module _ (script : ScriptParts) (calls_ok : CallsOf script) where
         fits = inv.fits;
         hands = inv.hands;
         room = inv.room;
-        walks = λ other number. by_thread (λ u s. u < length script.threads → walked (hands_of progress u) number ≡ cursor_objects (take (count_fixed s) (calls_of script u)) number) machine.threads thread after low (inv.walks thread number) (λ u differs. inv.walks u number) other;
+        walks = λ other number. by_thread (λ u s. u < length script.threads → walked (hands_of progress u) number ≡ cursor_containers (take (count_fixed s) (calls_of script u)) number) machine.threads thread after low (inv.walks thread number) (λ u differs. inv.walks u number) other;
         tallies = inv.tallies;
       }
 
-  pub going_finishes : (progress : Progress) (thread : ℕ) (called : Call) (objects : List ℕ) → IsTry script progress.machine thread called true objects → (take_locks thread progress.machine.holders objects).found ≡ None
-      → IsGoing script progress → IsGoing script (record (with_mark progress thread called (thread_at progress.machine thread).mark) { machine = finishes progress.machine thread (thread_at progress.machine thread) (take_locks thread progress.machine.holders objects) })
-  going_finishes progress thread called objects try finds inv =
+  pub going_finishes : (progress : Progress) (thread : ℕ) (called : Call) (asked_containers : List ℕ) → IsTry script progress.machine thread called true asked_containers → (take_locks thread progress.machine.holders asked_containers).found ≡ None
+      → IsGoing script progress → IsGoing script (record (with_mark progress thread called (thread_at progress.machine thread).mark) { machine = finishes progress.machine thread (thread_at progress.machine thread) (take_locks thread progress.machine.holders asked_containers) })
+  going_finishes progress thread called asked_containers try finds inv =
       let machine = progress.machine in
       let state = thread_at machine thread in
-      let locking = take_locks thread machine.holders objects in
+      let locking = take_locks thread machine.holders asked_containers in
       let after : ThreadState = record { marks = state.marks ++ state.mark ∷ []; fixed = false; sections = with_taken (state.own ++ locking.taken) state.sections; own = []; mark = None } in
       let low : thread < length machine.threads = omega (arith, there script thread state called try.next, inv.owned.threads) in
       let counted : length state.marks + 1 ≡ length (state.marks ++ state.mark ∷ []) + 0 = omega (arith, length_push state.marks state.mark) in
       record {
-        owned = (owned_steps script).finishes machine thread called objects try finds inv.owned;
+        owned = (owned_steps script).finishes machine thread called asked_containers try finds inv.owned;
         counts = inv.counts;
         bare = inv.bare;
         world = inv.world;
@@ -249,8 +249,8 @@ module _ (script : ScriptParts) (calls_ok : CallsOf script) where
         fits = inv.fits;
         hands = inv.hands;
         room = inv.room;
-        walks = λ other number. by_thread (λ u s. u < length script.threads → walked (hands_of progress u) number ≡ cursor_objects (take (count_fixed s) (calls_of script u)) number) machine.threads thread after low
-            (λ within. inv.walks thread number within ∙ ap (λ b. cursor_objects (take (length state.marks + (if b then 1 else 0)) (calls_of script thread)) number) try.state ∙ ap (λ k. cursor_objects (take k (calls_of script thread)) number) counted) (λ u differs. inv.walks u number) other;
+        walks = λ other number. by_thread (λ u s. u < length script.threads → walked (hands_of progress u) number ≡ cursor_containers (take (count_fixed s) (calls_of script u)) number) machine.threads thread after low
+            (λ within. inv.walks thread number within ∙ ap (λ b. cursor_containers (take (length state.marks + (if b then 1 else 0)) (calls_of script thread)) number) try.state ∙ ap (λ k. cursor_containers (take k (calls_of script thread)) number) counted) (λ u differs. inv.walks u number) other;
         tallies = length-set progress.tallies thread _ ∙ inv.tallies;
       }
 
@@ -265,12 +265,12 @@ module _ (script : ScriptParts) (calls_ok : CallsOf script) where
         plain_answer (length script.strings) progress.world inv.world.strings (hands_of progress thread) called of.strings (asked_of script.containers progress.world inv.kinds (cursors_of script thread) called of.names)
         (subst (λ k. IfSome (cursor_of called) (λ one. one < k)) (sym (inv.room thread thread_low)) (cursor_room script.containers (cursors_of script thread) called of.names))
 
-  pub going_answers : (progress : Progress) (thread : ℕ) (called : Call) (objects : List ℕ) → IsTry script progress.machine thread called false objects → (take_locks thread progress.machine.holders objects).found ≡ None
-      → IsGoing script progress → IsGoing script (record (with_answer progress thread called) { machine = answers progress.machine thread (thread_at progress.machine thread) called (take_locks thread progress.machine.holders objects) })
-  going_answers progress thread called objects try finds inv =
+  pub going_answers : (progress : Progress) (thread : ℕ) (called : Call) (asked_containers : List ℕ) → IsTry script progress.machine thread called false asked_containers → (take_locks thread progress.machine.holders asked_containers).found ≡ None
+      → IsGoing script progress → IsGoing script (record (with_answer progress thread called) { machine = answers progress.machine thread (thread_at progress.machine thread) called (take_locks thread progress.machine.holders asked_containers) })
+  going_answers progress thread called asked_containers try finds inv =
       let machine = progress.machine in
       let state = thread_at machine thread in
-      let locking = take_locks thread machine.holders objects in
+      let locking = take_locks thread machine.holders asked_containers in
       let after : ThreadState = record state { fixed = true; sections = sections_after called (state.own ++ locking.taken) state.sections; own = [] } in
       let low : thread < length machine.threads = omega (arith, there script thread state called try.next, inv.owned.threads) in
       let entry = next_entry progress thread called in
@@ -281,7 +281,7 @@ module _ (script : ScriptParts) (calls_ok : CallsOf script) where
       let event : ℕ × ℕ = (thread, length state.marks) in
       let event_is : ◌≡◌ {A = Option (ℕ × ℕ)} (Some (thread, length state.marks)) (Some (entry.thread, entry.index - 1)) = ap (λ k. let e : Option (ℕ × ℕ) = Some (thread, k) in e) (sym before) in
       record {
-        owned = (owned_steps script).answers machine thread called objects try finds inv.owned;
+        owned = (owned_steps script).answers machine thread called asked_containers try finds inv.owned;
         counts = length_push progress.entries entry ∙ ap (λ k. k + 1) inv.counts ∙ sym (length_push machine.answered event);
         bare = λ place e at. elim (slice_get_push progress.entries entry e place at) [
           | inl earlier ↦
@@ -321,11 +321,11 @@ module _ (script : ScriptParts) (calls_ok : CallsOf script) where
           | inl same ↦ ap length (ap (λ u. get_or (slice_set progress.hands thread (answer progress.world hands called).hands) u no_hands) same ∙ get_or-set_same progress.hands thread (answer progress.world hands called).hands no_hands low_hands) ∙ plain.room ∙ inv.room thread (thread_low progress thread called try.next inv) ∙ ap (cursors_of script) (sym same)
           | inr differs ↦ ap length (get_or-set_other progress.hands thread other (answer progress.world hands called).hands no_hands differs) ∙ inv.room other within
         ];
-        walks = λ other number. by_thread (λ u s. u < length script.threads → walked (slice_index_or (slice_set progress.hands thread (answer progress.world hands called).hands) u no_hands) number ≡ cursor_objects (take (count_fixed s) (calls_of script u)) number) machine.threads thread after low
+        walks = λ other number. by_thread (λ u s. u < length script.threads → walked (slice_index_or (slice_set progress.hands thread (answer progress.world hands called).hands) u no_hands) number ≡ cursor_containers (take (count_fixed s) (calls_of script u)) number) machine.threads thread after low
             (λ within.
             ap (λ h. walked h number) (get_or-set_same progress.hands thread (answer progress.world hands called).hands no_hands low_hands)
             ∙ plain.walks number
-            ∙ ap (λ w. if makes number called then containers_of called else w) (inv.walks thread number within ∙ ap (λ b. cursor_objects (take (length state.marks + (if b then 1 else 0)) (calls_of script thread)) number) try.state ∙ ap (λ k. cursor_objects (take k (calls_of script thread)) number) (let e : length state.marks + 0 ≡ length state.marks = omega arith in e))
+            ∙ ap (λ w. if makes number called then containers_of called else w) (inv.walks thread number within ∙ ap (λ b. cursor_containers (take (length state.marks + (if b then 1 else 0)) (calls_of script thread)) number) try.state ∙ ap (λ k. cursor_containers (take k (calls_of script thread)) number) (let e : length state.marks + 0 ≡ length state.marks = omega arith in e))
             ∙ sym (cursor_push (calls_of script thread) (length state.marks) called number try.next))
             (λ u differs within. ap (λ h. walked h number) (get_or-set_other progress.hands thread u (answer progress.world hands called).hands no_hands differs) ∙ inv.walks u number within) other;
         tallies = inv.tallies;

@@ -30,12 +30,12 @@ own_more thread entries entry =
     ∙ ap (λ k. length (entries_of thread entries) + k) (elim (entry.thread == thread) as (λ b. length (cond b (entry ∷ []) []) ≡ (if b then 1 else 0)) [ true ↦ refl | false ↦ refl ])
 
 module _ (script : ScriptParts) (calls_ok : CallsOf script) where
-  indexed_waits : (progress : Progress) (thread : ℕ) (called : Call) (fixed : Bool) (objects : List ℕ) (found : ℕ) → IsTry script progress.machine thread called fixed objects → IsGoing script progress → IsIndexed script progress
-      → IsIndexed script (record progress { machine = waits progress.machine thread (thread_at progress.machine thread) (take_locks thread progress.machine.holders objects) found })
-  indexed_waits progress thread called fixed objects found try going inv =
+  indexed_waits : (progress : Progress) (thread : ℕ) (called : Call) (fixed : Bool) (containers : List ℕ) (found : ℕ) → IsTry script progress.machine thread called fixed containers → IsGoing script progress → IsIndexed script progress
+      → IsIndexed script (record progress { machine = waits progress.machine thread (thread_at progress.machine thread) (take_locks thread progress.machine.holders containers) found })
+  indexed_waits progress thread called fixed containers found try going inv =
       let machine = progress.machine in
       let state = thread_at machine thread in
-      let locking = take_locks thread machine.holders objects in
+      let locking = take_locks thread machine.holders containers in
       let after : ThreadState = record state { sections = map without_locks state.sections; own = state.own ++ locking.taken; mark = if is_some state.mark then state.mark else Some found } in
       let low : thread < length machine.threads = omega (arith, there script thread state called try.next, going.owned.threads) in
       record {
@@ -44,12 +44,12 @@ module _ (script : ScriptParts) (calls_ok : CallsOf script) where
         index = inv.index;
       }
 
-  indexed_finishes : (progress : Progress) (thread : ℕ) (called : Call) (objects : List ℕ) → IsTry script progress.machine thread called true objects → IsGoing script progress → IsIndexed script progress
-      → IsIndexed script (record (with_mark progress thread called (thread_at progress.machine thread).mark) { machine = finishes progress.machine thread (thread_at progress.machine thread) (take_locks thread progress.machine.holders objects) })
-  indexed_finishes progress thread called objects try going inv =
+  indexed_finishes : (progress : Progress) (thread : ℕ) (called : Call) (containers : List ℕ) → IsTry script progress.machine thread called true containers → IsGoing script progress → IsIndexed script progress
+      → IsIndexed script (record (with_mark progress thread called (thread_at progress.machine thread).mark) { machine = finishes progress.machine thread (thread_at progress.machine thread) (take_locks thread progress.machine.holders containers) })
+  indexed_finishes progress thread called containers try going inv =
       let machine = progress.machine in
       let state = thread_at machine thread in
-      let locking = take_locks thread machine.holders objects in
+      let locking = take_locks thread machine.holders containers in
       let after : ThreadState = record { marks = state.marks ++ state.mark ∷ []; fixed = false; sections = with_taken (state.own ++ locking.taken) state.sections; own = []; mark = None } in
       let low : thread < length machine.threads = omega (arith, there script thread state called try.next, going.owned.threads) in
       let same : count_fixed state ≡ length (state.marks ++ state.mark ∷ []) + 0 = ap (λ b. length state.marks + (if b then 1 else 0)) try.state ∙ (let e : length state.marks + 1 ≡ length (state.marks ++ state.mark ∷ []) + 0 = omega (arith, length_push state.marks state.mark) in e) in
@@ -59,12 +59,12 @@ module _ (script : ScriptParts) (calls_ok : CallsOf script) where
         index = inv.index;
       }
 
-  indexed_answers : (progress : Progress) (thread : ℕ) (called : Call) (objects : List ℕ) → IsTry script progress.machine thread called false objects → IsGoing script progress → IsIndexed script progress
-      → IsIndexed script (record (with_answer progress thread called) { machine = answers progress.machine thread (thread_at progress.machine thread) called (take_locks thread progress.machine.holders objects) })
-  indexed_answers progress thread called objects try going inv =
+  indexed_answers : (progress : Progress) (thread : ℕ) (called : Call) (containers : List ℕ) → IsTry script progress.machine thread called false containers → IsGoing script progress → IsIndexed script progress
+      → IsIndexed script (record (with_answer progress thread called) { machine = answers progress.machine thread (thread_at progress.machine thread) called (take_locks thread progress.machine.holders containers) })
+  indexed_answers progress thread called containers try going inv =
       let machine = progress.machine in
       let state = thread_at machine thread in
-      let locking = take_locks thread machine.holders objects in
+      let locking = take_locks thread machine.holders containers in
       let entry = next_entry progress thread called in
       let after : ThreadState = record state { fixed = true; sections = sections_after called (state.own ++ locking.taken) state.sections; own = [] } in
       let low : thread < length machine.threads = omega (arith, there script thread state called try.next, going.owned.threads) in
@@ -89,9 +89,9 @@ module _ (script : ScriptParts) (calls_ok : CallsOf script) where
   indexed_steps =
       record {
         threads = λ progress both. both.0.owned.threads;
-        waits = λ progress thread called fixed objects found try finds both. (going_waits script calls_ok progress thread called fixed objects found try finds both.0, indexed_waits progress thread called fixed objects found try both.0 both.1);
-        answers = λ progress thread called objects try finds both. (going_answers script calls_ok progress thread called objects try finds both.0, indexed_answers progress thread called objects try both.0 both.1);
-        finishes = λ progress thread called objects try finds both. (going_finishes script calls_ok progress thread called objects try finds both.0, indexed_finishes progress thread called objects try both.0 both.1);
+        waits = λ progress thread called fixed containers found try finds both. (going_waits script calls_ok progress thread called fixed containers found try finds both.0, indexed_waits progress thread called fixed containers found try both.0 both.1);
+        answers = λ progress thread called containers try finds both. (going_answers script calls_ok progress thread called containers try finds both.0, indexed_answers progress thread called containers try both.0 both.1);
+        finishes = λ progress thread called containers try finds both. (going_finishes script calls_ok progress thread called containers try finds both.0, indexed_finishes progress thread called containers try both.0 both.1);
       }
 
   pub indexed_start : IsIndexed script (start_progress script)

@@ -18,7 +18,7 @@ use Rattle.ft_model.specs.declared.script.ScriptParts.{ScriptParts}
 use Rattle.ft_model.specs.Calls.{is_changing, is_changing_dict, is_changing_list, is_changing_set, is_locked_dict, is_locked_list, is_locked_set, one_or_two, containers_of, other_dict, other_list, other_set}
 use Rattle.ft_model.specs.Histories.{calls_of, Section, after_section, sections_at, IfEnds, names, is_disturbed, marks_between}
 use Rattle.ft_history.proofs.Places.{slice_get_at}
-use Rattle.ft_turns.specs.Orders.{locks_taken, lower_first, OpenSection, ThreadState, Machine, fresh_thread, start_machine, take_locks, holder_of, thread_at, without_locks, waits, sections_after, answers, innermost_objects, with_taken, finishes}
+use Rattle.ft_turns.specs.Orders.{locks_taken, lower_first, OpenSection, ThreadState, Machine, fresh_thread, start_machine, take_locks, holder_of, thread_at, without_locks, waits, sections_after, answers, innermost_containers, with_taken, finishes}
 use Rattle.ft_turns.proofs.LockLemmas.{occ, occ-append, named_occ, occ-lower_first, held, bit_of, bit_same, bit_is, take_all, take_own}
 use Rattle.ft_turns.proofs.MachineSteps.{wanted, wanted_again, IsTry, IsKeptBySteps, there}
 use Rattle.ft_turns.proofs.Owned.{by_thread, flat, taken_mine, taken_others, IsOwned, owned_steps, start_thread}
@@ -122,7 +122,7 @@ no_zero entries thread place quiet (section ∷ sections) marked = (λ none is_q
 
 -- a call that takes its section up again and waits: each section has a mark
 waits_again : (entries : List Entry) (thread place limit : ℕ) (quiet quiet_after : Type 0) (sections : List Section) (open_sections : List OpenSection) → quiet
-    → (AreHeld limit (innermost_objects open_sections) (flat open_sections) → ⊥)
+    → (AreHeld limit (innermost_containers open_sections) (flat open_sections) → ⊥)
     → AllByRecursion (λ section. 1 ≤ marks_between entries thread place section) (drop 1 sections)
     → Secured entries thread place limit quiet sections open_sections → AllByRecursion (λ section. marks_between entries thread place section ≡ 0 → quiet_after → ⊥) sections
 waits_again entries thread place limit quiet quiet_after [] open_sections is_quiet unheld marked secured = tt
@@ -143,25 +143,25 @@ calm_at_end entries thread place limit quiet (section ∷ sections) (open_sectio
 
 -- each event so far has its entry
 places_within : (script : ScriptParts) (mark_of : ℕ → ℕ → Option ℕ) (events : List (ℕ × ℕ)) (entries : List Entry) → AreEntriesFor script mark_of events entries → (machine : Machine) → IsFollowed events mark_of machine → length machine.answered ≤ length entries
-places_within script mark_of events entries told machine follows =
+places_within script mark_of events entries reported machine follows =
     elim (slice_get_cases machine.answered (length machine.answered - 1)).1 [
-      | inl found ↦ (let e = told (length machine.answered - 1) found.0.0 found.0.1 (follows.answered (length machine.answered - 1) found.0 found.2) in let low : length machine.answered - 1 < length entries = slice_get_within entries (length machine.answered - 1) e.entry e.at in omega arith)
+      | inl found ↦ (let e = reported (length machine.answered - 1) found.0.0 found.0.1 (follows.answered (length machine.answered - 1) found.0 found.2) in let low : length machine.answered - 1 < length entries = slice_get_within entries (length machine.answered - 1) e.entry e.at in omega arith)
       | inr past ↦ (let none : length machine.answered ≡ 0 = omega (arith, past.0) in omega arith)
     ]
 
 -- the containers of a `begin` are the script's
 abbrev pub BeginsLow : ScriptParts → Type 0
-BeginsLow script = (thread index first : ℕ) (second : Option ℕ) → slice_get (calls_of script thread) index ≡ Some (call.Begin first second) → (object : ℕ) → 1 ≤ occ object (containers_of (call.Begin first second)) → object < length script.containers
+BeginsLow script = (thread index first : ℕ) (second : Option ℕ) → slice_get (calls_of script thread) index ≡ Some (call.Begin first second) → (container : ℕ) → 1 ≤ occ container (containers_of (call.Begin first second)) → container < length script.containers
 
-module _ (script : ScriptParts) (begins_low : BeginsLow script) (mark_of : ℕ → ℕ → Option ℕ) (events : List (ℕ × ℕ)) (entries : List Entry) (told : AreEntriesFor script mark_of events entries) where
-  secured_waits : (machine : Machine) (thread : ℕ) (called : Call) (fixed : Bool) (objects : List ℕ) (found : ℕ) → IsTry script machine thread called fixed objects → (take_locks thread machine.holders objects).found ≡ Some found → IsOwned script machine → IsSecured script entries mark_of machine
-      → IsFollowed events mark_of (waits machine thread (thread_at machine thread) (take_locks thread machine.holders objects) found)
-      → IsSecured script entries mark_of (waits machine thread (thread_at machine thread) (take_locks thread machine.holders objects) found)
-  secured_waits machine thread called fixed objects found try finds owns inv follows =
+module _ (script : ScriptParts) (begins_low : BeginsLow script) (mark_of : ℕ → ℕ → Option ℕ) (events : List (ℕ × ℕ)) (entries : List Entry) (reported : AreEntriesFor script mark_of events entries) where
+  secured_waits : (machine : Machine) (thread : ℕ) (called : Call) (fixed : Bool) (containers : List ℕ) (found : ℕ) → IsTry script machine thread called fixed containers → (take_locks thread machine.holders containers).found ≡ Some found → IsOwned script machine → IsSecured script entries mark_of machine
+      → IsFollowed events mark_of (waits machine thread (thread_at machine thread) (take_locks thread machine.holders containers) found)
+      → IsSecured script entries mark_of (waits machine thread (thread_at machine thread) (take_locks thread machine.holders containers) found)
+  secured_waits machine thread called fixed containers found try finds owns inv follows =
       let state = thread_at machine thread in
       let n = length machine.answered in
       let limit = length script.containers in
-      let locking = take_locks thread machine.holders objects in
+      let locking = take_locks thread machine.holders containers in
       let after : ThreadState = record state { sections = map without_locks state.sections; own = state.own ++ locking.taken; mark = if is_some state.mark then state.mark else Some found } in
       let low : thread < length machine.threads = omega (arith, there script thread state called try.next, owns.threads) in
       let marked : is_some (mark_of thread (length state.marks)) ≡ true =
@@ -174,10 +174,10 @@ module _ (script : ScriptParts) (begins_low : BeginsLow script) (mark_of : ℕ �
         | true ↦ λ is_fixed.
             waits_again entries thread n limit (Quiet state) (Quiet after) (sections_at entries thread n) state.sections
             (λ unfixed. absurd (true≢false (sym (try.state ∙ is_fixed) ∙ unfixed)))
-            (λ all_held. none-some found (sym (take_own thread machine.holders objects (λ object asked.
-            (let asks : objects ≡ lower_first (innermost_objects state.sections) = try.asks ∙ ap (λ b. if b then wanted_again machine thread else wanted script machine thread called) is_fixed in
-            let h = all_held object (omega (arith, ap (occ object) asks, occ-lower_first object (innermost_objects state.sections))) in
-            bit_is thread (holder_of machine.holders object) (omega (arith, h.1, owns.owned object thread h.0, occ-append object state.own (flat state.sections)))))) ∙ finds))
+            (λ all_held. none-some found (sym (take_own thread machine.holders containers (λ container asked.
+            (let asks : containers ≡ lower_first (innermost_containers state.sections) = try.asks ∙ ap (λ b. if b then wanted_again machine thread else wanted script machine thread called) is_fixed in
+            let h = all_held container (omega (arith, ap (occ container) asks, occ-lower_first container (innermost_containers state.sections))) in
+            bit_is thread (holder_of machine.holders container) (omega (arith, h.1, owns.owned container thread h.0, occ-append container state.own (flat state.sections)))))) ∙ finds))
             (inv.inside thread (try.state ∙ is_fixed) marked)
             (inv.secured thread)
       ] refl in
@@ -189,13 +189,13 @@ module _ (script : ScriptParts) (begins_low : BeginsLow script) (mark_of : ℕ �
         kept = inv.kept;
       }
 
-  secured_finishes : (machine : Machine) (thread : ℕ) (called : Call) (objects : List ℕ) → IsTry script machine thread called true objects → IsOwned script machine → IsSecured script entries mark_of machine
-      → IsSecured script entries mark_of (finishes machine thread (thread_at machine thread) (take_locks thread machine.holders objects))
-  secured_finishes machine thread called objects try owns inv =
+  secured_finishes : (machine : Machine) (thread : ℕ) (called : Call) (containers : List ℕ) → IsTry script machine thread called true containers → IsOwned script machine → IsSecured script entries mark_of machine
+      → IsSecured script entries mark_of (finishes machine thread (thread_at machine thread) (take_locks thread machine.holders containers))
+  secured_finishes machine thread called containers try owns inv =
       let state = thread_at machine thread in
       let n = length machine.answered in
       let limit = length script.containers in
-      let locking = take_locks thread machine.holders objects in
+      let locking = take_locks thread machine.holders containers in
       let own = state.own ++ locking.taken in
       let after : ThreadState = record { marks = state.marks ++ state.mark ∷ []; fixed = false; sections = with_taken own state.sections; own = []; mark = None } in
       let low : thread < length machine.threads = omega (arith, there script thread state called try.next, owns.threads) in
@@ -207,7 +207,7 @@ module _ (script : ScriptParts) (begins_low : BeginsLow script) (mark_of : ℕ �
         kept = inv.kept;
       }
 
-  module _ (machine : Machine) (thread : ℕ) (called : Call) (objects : List ℕ) (try : IsTry script machine thread called false objects) (finds : (take_locks thread machine.holders objects).found ≡ None) (owns : IsOwned script machine) (inv : IsSecured script entries mark_of machine) (before : IsFollowed events mark_of machine) (here : IsEntryFor script mark_of entries (length machine.answered) thread (length (thread_at machine thread).marks)) where
+  module _ (machine : Machine) (thread : ℕ) (called : Call) (containers : List ℕ) (try : IsTry script machine thread called false containers) (finds : (take_locks thread machine.holders containers).found ≡ None) (owns : IsOwned script machine) (inv : IsSecured script entries mark_of machine) (before : IsFollowed events mark_of machine) (here : IsEntryFor script mark_of entries (length machine.answered) thread (length (thread_at machine thread).marks)) where
     abbrev place : ℕ
     place = length machine.answered
 
@@ -218,32 +218,32 @@ module _ (script : ScriptParts) (begins_low : BeginsLow script) (mark_of : ℕ �
     call_is = same_Some here.entry.call called (sym here.called ∙ try.next)
 
     -- the thread has the locks that the call takes
-    has_taken : (object : ℕ) → object < length script.containers → 1 ≤ occ object (locks_taken (take (length (thread_at machine thread).marks) (calls_of script thread)) called) → holder_of (take_locks thread machine.holders objects).holders object ≡ Some thread
-    has_taken object low there = take_all thread machine.holders objects object (omega (arith, owns.holders)) finds (omega (arith, ap (occ object) try.asks, occ-lower_first object (locks_taken (take (length (thread_at machine thread).marks) (calls_of script thread)) called)))
+    has_taken : (container : ℕ) → container < length script.containers → 1 ≤ occ container (locks_taken (take (length (thread_at machine thread).marks) (calls_of script thread)) called) → holder_of (take_locks thread machine.holders containers).holders container ≡ Some thread
+    has_taken container low there = take_all thread machine.holders containers container (omega (arith, owns.holders)) finds (omega (arith, ap (occ container) try.asks, occ-lower_first container (locks_taken (take (length (thread_at machine thread).marks) (calls_of script thread)) called)))
 
     -- so another thread has none of those that it writes on
-    spares : (other : ℕ) → other ≢ thread → (object : ℕ) → object < length script.containers → 1 ≤ occ object (flat (thread_at machine other).sections) → here.entry.wrote ≡ true → names object here.entry.call ≡ false
-    spares other differs object low there wrote =
-        elim (cases_Bool (names object here.entry.call)) [
+    spares : (other : ℕ) → other ≢ thread → (container : ℕ) → container < length script.containers → 1 ≤ occ container (flat (thread_at machine other).sections) → here.entry.wrote ≡ true → names container here.entry.call ≡ false
+    spares other differs container low there wrote =
+        elim (cases_Bool (names container here.entry.call)) [
           | inl named ↦
               let takes : locks_taken (take (length (thread_at machine thread).marks) (calls_of script thread)) called ≡ containers_of here.entry.call = changing_takes (take (length (thread_at machine thread).marks) (calls_of script thread)) called (ap is_changing (sym call_is) ∙ here.changing wrote) ∙ ap containers_of (sym call_is) in
-              let mine : holder_of (take_locks thread machine.holders objects).holders object ≡ Some thread = has_taken object low (omega (arith, named_occ object (containers_of here.entry.call) named, ap (occ object) takes)) in
-              let has : 1 ≤ held machine.holders other object = omega (arith, owns.owned object other low, occ-append object (thread_at machine other).own (flat (thread_at machine other).sections)) in
-              let theirs : holder_of (take_locks thread machine.holders objects).holders object ≡ Some other = bit_is other (holder_of (take_locks thread machine.holders objects).holders object) (omega (arith, taken_others thread machine.holders objects object (omega (arith, owns.holders)) other differs)) in
+              let mine : holder_of (take_locks thread machine.holders containers).holders container ≡ Some thread = has_taken container low (omega (arith, named_occ container (containers_of here.entry.call) named, ap (occ container) takes)) in
+              let has : 1 ≤ held machine.holders other container = omega (arith, owns.owned container other low, occ-append container (thread_at machine other).own (flat (thread_at machine other).sections)) in
+              let theirs : holder_of (take_locks thread machine.holders containers).holders container ≡ Some other = bit_is other (holder_of (take_locks thread machine.holders containers).holders container) (omega (arith, taken_others thread machine.holders containers container (omega (arith, owns.holders)) other differs)) in
               absurd (differs (same_Some other thread (sym theirs ∙ mine)))
           | inr unnamed ↦ unnamed
         ]
 
     -- the thread has the locks of a section that it enters
-    enters : (first : ℕ) (second : Option ℕ) → here.entry.call ≡ call.Begin first second → AreHeld (length script.containers) (containers_of here.entry.call) (((thread_at machine thread).own ++ (take_locks thread machine.holders objects).taken) ++ flat (thread_at machine thread).sections)
-    enters first second begins object there =
+    enters : (first : ℕ) (second : Option ℕ) → here.entry.call ≡ call.Begin first second → AreHeld (length script.containers) (containers_of here.entry.call) (((thread_at machine thread).own ++ (take_locks thread machine.holders containers).taken) ++ flat (thread_at machine thread).sections)
+    enters first second begins container there =
         let state = thread_at machine thread in
-        let locking = take_locks thread machine.holders objects in
-        let named : 1 ≤ occ object (containers_of (call.Begin first second)) = subst (λ c. 1 ≤ occ object (containers_of c)) begins there in
-        let low : object < length script.containers = begins_low thread (length state.marks) first second (here.called ∙ ap Some begins) object named in
+        let locking = take_locks thread machine.holders containers in
+        let named : 1 ≤ occ container (containers_of (call.Begin first second)) = subst (λ c. 1 ≤ occ container (containers_of c)) begins there in
+        let low : container < length script.containers = begins_low thread (length state.marks) first second (here.called ∙ ap Some begins) container named in
         let takes : locks_taken (take (length state.marks) (calls_of script thread)) called ≡ containers_of (call.Begin first second) = ap (locks_taken (take (length state.marks) (calls_of script thread))) (sym call_is ∙ begins) ∙ begin_takes (take (length state.marks) (calls_of script thread)) first second in
-        let mine : held locking.holders thread object ≡ 1 = ap (bit_of thread) (has_taken object low (omega (arith, ap (occ object) takes))) ∙ bit_same thread in
-        (low, omega (arith, mine, taken_mine thread machine.holders objects object (omega (arith, owns.holders)), owns.owned object thread low, occ-append object state.own (flat state.sections), occ-append object (state.own ++ locking.taken) (flat state.sections), occ-append object state.own locking.taken))
+        let mine : held locking.holders thread container ≡ 1 = ap (bit_of thread) (has_taken container low (omega (arith, ap (occ container) takes))) ∙ bit_same thread in
+        (low, omega (arith, mine, taken_mine thread machine.holders containers container (omega (arith, owns.holders)), owns.owned container thread low, occ-append container state.own (flat state.sections), occ-append container (state.own ++ locking.taken) (flat state.sections), occ-append container state.own locking.taken))
 
     unmarked_is_quiet : here.entry.waited ≡ None → Quiet (thread_at machine thread)
     unmarked_is_quiet unmarked _ =
@@ -254,12 +254,12 @@ module _ (script : ScriptParts) (begins_low : BeginsLow script) (mark_of : ℕ �
         ] refl
 
     below : (other : ℕ) → AllBelow (length machine.answered) (sections_at entries other (length machine.answered))
-    below other = sections_below entries other (length machine.answered) (places_within script mark_of events entries told machine before)
+    below other = sections_below entries other (length machine.answered) (places_within script mark_of events entries reported machine before)
 
-    after_mine : Secured entries thread (length machine.answered + 1) (length script.containers) (Unit {0}) (sections_at entries thread (length machine.answered + 1)) (sections_after called ((thread_at machine thread).own ++ (take_locks thread machine.holders objects).taken) (thread_at machine thread).sections)
+    after_mine : Secured entries thread (length machine.answered + 1) (length script.containers) (Unit {0}) (sections_at entries thread (length machine.answered + 1)) (sections_after called ((thread_at machine thread).own ++ (take_locks thread machine.holders containers).taken) (thread_at machine thread).sections)
     after_mine =
         let state = thread_at machine thread in
-        let own = state.own ++ (take_locks thread machine.holders objects).taken in
+        let own = state.own ++ (take_locks thread machine.holders containers).taken in
         let sections = sections_at entries thread (length machine.answered) in
         let limit = length script.containers in
         let next = own_next entries (length machine.answered) here.entry here.at thread limit (Quiet state) (Unit {0}) sections state.sections here.mine unmarked_is_quiet (below thread) (inv.secured thread) in
@@ -289,10 +289,10 @@ module _ (script : ScriptParts) (begins_low : BeginsLow script) (mark_of : ℕ �
         (calm_at_end entries thread (length machine.answered) (length script.containers) (Quiet (thread_at machine thread)) (sections_at entries thread (length machine.answered)) (thread_at machine thread).sections here.entry.call
         (λ ends unfixed. (owns.ended thread unfixed (try.next ∙ ap Some (sym call_is ∙ ends))).1) (inv.secured thread))
 
-    secured_answers : IsSecured script entries mark_of (answers machine thread (thread_at machine thread) called (take_locks thread machine.holders objects))
+    secured_answers : IsSecured script entries mark_of (answers machine thread (thread_at machine thread) called (take_locks thread machine.holders containers))
     secured_answers =
         let state = thread_at machine thread in
-        let locking = take_locks thread machine.holders objects in
+        let locking = take_locks thread machine.holders containers in
         let own = state.own ++ locking.taken in
         let limit = length script.containers in
         let after : ThreadState = record state { fixed = true; sections = sections_after called own state.sections; own = [] } in
@@ -324,19 +324,19 @@ module _ (script : ScriptParts) (begins_low : BeginsLow script) (mark_of : ℕ �
   pub secured_steps : IsKeptBySteps script (λ machine. IsOwned script machine × (IsFollowed events mark_of machine → IsSecured script entries mark_of machine))
   secured_steps =
       record {
-        waits = λ machine thread called fixed objects found try finds both. (
-          (owned_steps script).waits machine thread called fixed objects found try finds both.0,
-          λ follows. secured_waits machine thread called fixed objects found try finds both.0 (both.1 (followed_waits script events mark_of machine thread called fixed objects try both.0 found follows)) follows,
+        waits = λ machine thread called fixed containers found try finds both. (
+          (owned_steps script).waits machine thread called fixed containers found try finds both.0,
+          λ follows. secured_waits machine thread called fixed containers found try finds both.0 (both.1 (followed_waits script events mark_of machine thread called fixed containers try both.0 found follows)) follows,
         );
-        answers = λ machine thread called objects try finds both. (
-          (owned_steps script).answers machine thread called objects try finds both.0,
-          λ follows. (let before = followed_answers script events mark_of machine thread called false objects try both.0 follows in
+        answers = λ machine thread called containers try finds both. (
+          (owned_steps script).answers machine thread called containers try finds both.0,
+          λ follows. (let before = followed_answers script events mark_of machine thread called false containers try both.0 follows in
               let event : ℕ × ℕ = (thread, length (thread_at machine thread).marks) in
-              secured_answers machine thread called objects try finds both.0 (both.1 before) before (told (length machine.answered) thread (length (thread_at machine thread).marks) (follows.answered (length machine.answered) event (slice_get_at machine.answered [] event)))),
+              secured_answers machine thread called containers try finds both.0 (both.1 before) before (reported (length machine.answered) thread (length (thread_at machine thread).marks) (follows.answered (length machine.answered) event (slice_get_at machine.answered [] event)))),
         );
-        finishes = λ machine thread called objects try finds both. (
-          (owned_steps script).finishes machine thread called objects try finds both.0,
-          λ follows. secured_finishes machine thread called objects try both.0 (both.1 (followed_finishes script events mark_of machine thread called true objects try both.0 follows)),
+        finishes = λ machine thread called containers try finds both. (
+          (owned_steps script).finishes machine thread called containers try finds both.0,
+          λ follows. secured_finishes machine thread called containers try both.0 (both.1 (followed_finishes script events mark_of machine thread called true containers try both.0 follows)),
         );
       }
 

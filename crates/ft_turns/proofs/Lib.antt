@@ -27,8 +27,8 @@ pub mod Secured
 pub mod Soundness
 pub mod Starts
 pub mod Suspension
-pub mod Told
-pub mod ToldSteps
+pub mod EntriesHaveRightReplies
+pub mod RightReplySteps
 pub mod TurnParts
 pub mod TurnSoundness
 pub mod TurnSteps

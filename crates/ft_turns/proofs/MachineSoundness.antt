@@ -12,7 +12,7 @@ use Rattle.ft_model.specs.declared.script.Thread.{Thread}
 use Rattle.ft_model.specs.declared.script.ScriptParts.{ScriptParts}
 use Rattle.ft_model.specs.Histories.{calls_of, cursors_of}
 use Rattle.ft_model.specs.Scripts.{IsScript, IsThread, IsCallOf, AreNested}
-use Rattle.ft_turns.specs.Orders.{ThreadState, Machine, Locking, fresh_thread, start_machine, lower_first, locks_taken, take_locks, holder_of, thread_at, next_call, section_locks, innermost_objects, turn}
+use Rattle.ft_turns.specs.Orders.{ThreadState, Machine, Locking, fresh_thread, start_machine, lower_first, locks_taken, take_locks, holder_of, thread_at, next_call, section_locks, innermost_containers, turn}
 use Rattle.ft_turns.specs.Standings.{Tried, not_tried, answer_tried, finish_tried, answer_part, finish_part, newly_answered, placed}
 use Rattle.ft_turns.specs.Wants.{so_far}
 use Rattle.ft_turns.specs.Ends.{steps_made}
@@ -27,7 +27,7 @@ use Rattle.ft_turns.proofs.TurnSoundness.{IsTurned, turned_sound}
 pub record IsSoundMachine (script : ScriptParts) (machine : Machine) : Type 0 where
   pub count : length machine.threads ≡ length script.threads
   pub each : (thread : ℕ) → thread < length script.threads → IsSound script thread machine.holders (thread_at machine thread)
-  pub no_other : (thread object : ℕ) → length script.threads ≤ thread → by (holder_of machine.holders object) thread ≡ 0
+  pub no_other : (thread container : ℕ) → length script.threads ≤ thread → by (holder_of machine.holders container) thread ≡ 0
 
 -- ---- the script
 
@@ -67,7 +67,7 @@ turn_steps : (thread : ℕ) (before : List Call) (called : Call) (holders : List
 turn_steps thread before called holders state =
     let taking = take_locks thread holders (lower_first (locks_taken before called)) in
     let first = answer_part thread before called holders state in
-    let again = take_locks thread first.holders (lower_first (innermost_objects first.state.sections)) in
+    let again = take_locks thread first.holders (lower_first (innermost_containers first.state.sections)) in
     let one : steps_of first.state ≡ steps_of state + (if first.done then 1 else 0) = answer_steps state.fixed taking.found holders state called taking refl in
     let two : steps_of (finish_part thread first).state ≡ steps_of first.state + (if (finish_part thread first).done then 1 else 0) = finish_steps first.state.fixed again.found first again refl in
     two ∙ ap (λ k. k + (if (finish_part thread first).done then 1 else 0)) one
@@ -107,7 +107,7 @@ rests script machine thread sound next =
     let nested : AreNested (length state.sections) [] = rw none_left at sound.nested in
     let closed : state.sections ≡ [] = nil_from_length state.sections nested in
     let wants : wanted script thread state ≡ [] =
-    ap (λ b. if b then lower_first (innermost_objects state.sections) else option_map_or (λ called. lower_first (locks_taken (take (length state.marks) (calls_of script thread)) called)) (next_call script thread state) []) unfixed
+    ap (λ b. if b then lower_first (innermost_containers state.sections) else option_map_or (λ called. lower_first (locks_taken (take (length state.marks) (calls_of script thread)) called)) (next_call script thread state) []) unfixed
     ∙ ap (λ o. option_map_or (λ called. lower_first (locks_taken (take (length state.marks) (calls_of script thread)) called)) o []) next in
     record {
       next = next;
@@ -151,7 +151,7 @@ turned_placed script machine thread answered tried more within sound turned step
             let was = sound.each other in_script in
             let now : IsSound script other tried.holders (thread_at machine other) = record {
               size = turned.apart.size ∙ was.size;
-              held = λ object. was.held object ∙ sym (turned.apart.others object other (λ e. n (sym e)));
+              held = λ container. was.held container ∙ sym (turned.apart.others container other (λ e. n (sym e)));
               own_is = was.own_is;
               sections_are = was.sections_are;
               nested = was.nested;
@@ -159,7 +159,7 @@ turned_placed script machine thread answered tried more within sound turned step
             } in
             rw same now)
             (cases_eq other thread);
-        no_other = λ other object past. turned.apart.others object other (λ e. absurd (let o : thread ≡ other = e in omega (arith, o, past, within))) ∙ sound.no_other other object past;
+        no_other = λ other container past. turned.apart.others container other (λ e. absurd (let o : thread ≡ other = e in omega (arith, o, past, within))) ∙ sound.no_other other container past;
       };
       others = λ other n. get_or-set_other machine.threads thread other tried.state fresh_thread n;
       steps = omega (arith, sums, here);
@@ -194,10 +194,10 @@ turned script rule machine thread within sound =
 
 -- ---- the start
 
-none_has : {X : Type 0} (xs : List X) (object thread : ℕ) → by (holder_of (map (λ x. let none : Option ℕ = None in none) xs) object) thread ≡ 0
-none_has [] object thread = refl
+none_has : {X : Type 0} (xs : List X) (container thread : ℕ) → by (holder_of (map (λ x. let none : Option ℕ = None in none) xs) container) thread ≡ 0
+none_has [] container thread = refl
 none_has (x ∷ xs) zero thread = refl
-none_has (x ∷ xs) (suc object) thread = none_has xs object thread
+none_has (x ∷ xs) (suc container) thread = none_has xs container thread
 
 pub fresh_at : (threads : List Thread) (k : ℕ) → get_or (map (λ (thread : Thread). fresh_thread) threads) k fresh_thread ≡ fresh_thread
 fresh_at [] k = refl
@@ -213,12 +213,12 @@ start_sound script rule =
           let kept = thread_calls script rule thread within in
           let fresh : IsSound script thread machine.holders fresh_thread = record {
             size = length-map script.containers _;
-            held = λ object. sym (none_has script.containers object thread);
+            held = λ container. sym (none_has script.containers container thread);
             own_is = inl refl;
             sections_are = tt;
             nested = kept.nested;
             made = omega arith;
           } in
           rw (fresh_at script.threads thread) fresh;
-      no_other = λ thread object past. none_has script.containers object thread;
+      no_other = λ thread container past. none_has script.containers container thread;
     }

@@ -9,32 +9,32 @@ use Rattle.ft_model.specs.declared.script.Thread.{Thread}
 use Rattle.ft_model.specs.declared.call.Call.{Call}
 use Rattle.ft_model.specs.declared.script.ScriptParts.{ScriptParts}
 use Rattle.ft_model.specs.Histories.{calls_of}
-use Rattle.ft_turns.specs.Orders.{locks_taken, sections_after, without_locks, lower_first, ThreadState, Machine, fresh_thread, take_locks, thread_at, next_call, waits, answers, innermost_objects, finishes, try_answer, relocked, try_finish, turn}
+use Rattle.ft_turns.specs.Orders.{locks_taken, sections_after, without_locks, lower_first, ThreadState, Machine, fresh_thread, take_locks, thread_at, next_call, waits, answers, innermost_containers, finishes, try_answer, relocked, try_finish, turn}
 
 -- the containers whose locks the next call of a thread takes, and those that it takes up again
 abbrev pub wanted : ScriptParts → Machine → ℕ → Call → List ℕ
 wanted script machine thread called = lower_first (locks_taken (take (length (thread_at machine thread).marks) (calls_of script thread)) called)
 
 abbrev pub wanted_again : Machine → ℕ → List ℕ
-wanted_again machine thread = lower_first (innermost_objects (thread_at machine thread).sections)
+wanted_again machine thread = lower_first (innermost_containers (thread_at machine thread).sections)
 
--- the next call of the thread tries for these locks, before its answer is fixed or behind it
-pub record IsTry (script : ScriptParts) (machine : Machine) (thread : ℕ) (called : Call) (fixed : Bool) (objects : List ℕ) : Type 0 where
+-- the next call of the thread tries for these locks, before its answer is fixed or after it
+pub record IsTry (script : ScriptParts) (machine : Machine) (thread : ℕ) (called : Call) (fixed : Bool) (containers : List ℕ) : Type 0 where
   pub next : next_call script thread (thread_at machine thread) ≡ Some called
   pub state : (thread_at machine thread).fixed ≡ fixed
-  pub asks : objects ≡ (if fixed then wanted_again machine thread else wanted script machine thread called)
+  pub asks : containers ≡ (if fixed then wanted_again machine thread else wanted script machine thread called)
 
 -- what the three steps keep
 pub record IsKeptBySteps (script : ScriptParts) (P : Machine → Type 0) : Type 0 where
-  pub waits : (machine : Machine) (thread : ℕ) (called : Call) (fixed : Bool) (objects : List ℕ) (found : ℕ)
-      → IsTry script machine thread called fixed objects → (take_locks thread machine.holders objects).found ≡ Some found
-      → P machine → P (waits machine thread (thread_at machine thread) (take_locks thread machine.holders objects) found)
-  pub answers : (machine : Machine) (thread : ℕ) (called : Call) (objects : List ℕ)
-      → IsTry script machine thread called false objects → (take_locks thread machine.holders objects).found ≡ None
-      → P machine → P (answers machine thread (thread_at machine thread) called (take_locks thread machine.holders objects))
-  pub finishes : (machine : Machine) (thread : ℕ) (called : Call) (objects : List ℕ)
-      → IsTry script machine thread called true objects → (take_locks thread machine.holders objects).found ≡ None
-      → P machine → P (finishes machine thread (thread_at machine thread) (take_locks thread machine.holders objects))
+  pub waits : (machine : Machine) (thread : ℕ) (called : Call) (fixed : Bool) (containers : List ℕ) (found : ℕ)
+      → IsTry script machine thread called fixed containers → (take_locks thread machine.holders containers).found ≡ Some found
+      → P machine → P (waits machine thread (thread_at machine thread) (take_locks thread machine.holders containers) found)
+  pub answers : (machine : Machine) (thread : ℕ) (called : Call) (containers : List ℕ)
+      → IsTry script machine thread called false containers → (take_locks thread machine.holders containers).found ≡ None
+      → P machine → P (answers machine thread (thread_at machine thread) called (take_locks thread machine.holders containers))
+  pub finishes : (machine : Machine) (thread : ℕ) (called : Call) (containers : List ℕ)
+      → IsTry script machine thread called true containers → (take_locks thread machine.holders containers).found ≡ None
+      → P machine → P (finishes machine thread (thread_at machine thread) (take_locks thread machine.holders containers))
 
 module _ (script : ScriptParts) (P : Machine → Type 0) (keeps : IsKeptBySteps script P) where
   tries : (machine : Machine) (thread : ℕ) (called : Call) → next_call script thread (thread_at machine thread) ≡ Some called → (thread_at machine thread).fixed ≡ false → P machine → P (try_answer script machine thread (thread_at machine thread) called)

@@ -43,20 +43,20 @@ module _ (entries : List Entry) (place : ℕ) (entry : Entry) (at : slice_get en
       ap (count_by (is_marked thread)) (between_next section.begun before)
       ∙ fold_push (λ count (e : Entry). count + cond (is_marked thread e) 1 0) 0 (between (section.begun + 1) place entries) entry
 
-  pub disturbed_next : (thread : ℕ) (section : Section) → section.begun < place → is_disturbed entries thread (place + 1) section ≡ (is_disturbed entries thread place section || disturbs thread section.objects entry)
+  pub disturbed_next : (thread : ℕ) (section : Section) → section.begun < place → is_disturbed entries thread (place + 1) section ≡ (is_disturbed entries thread place section || disturbs thread section.containers entry)
   disturbed_next thread section before =
-      ap (list_any (disturbs thread section.objects)) (between_next section.begun before)
-      ∙ list_any-append (disturbs thread section.objects) (between (section.begun + 1) place entries) (entry ∷ [])
-      ∙ ap (λ b. is_disturbed entries thread place section || b) (or_false (disturbs thread section.objects entry))
+      ap (list_any (disturbs thread section.containers)) (between_next section.begun before)
+      ∙ list_any-append (disturbs thread section.containers) (between (section.begun + 1) place entries) (entry ∷ [])
+      ∙ ap (λ b. is_disturbed entries thread place section || b) (or_false (disturbs thread section.containers entry))
 
   between_none : between (place + 1) (place + 1) entries ≡ []
   between_none = between_is entries (place + 1) (place + 1) ∙ drop_all (place + 1) (take (place + 1) entries) (omega (arith, length-take (place + 1) entries))
 
-  pub marks_none : (thread : ℕ) (objects : List ℕ) → marks_between entries thread (place + 1) (record { objects = objects; begun = place }) ≡ 0
-  marks_none thread objects = ap (count_by (is_marked thread)) between_none
+  pub marks_none : (thread : ℕ) (containers : List ℕ) → marks_between entries thread (place + 1) (record { containers = containers; begun = place }) ≡ 0
+  marks_none thread containers = ap (count_by (is_marked thread)) between_none
 
-  pub disturbed_none : (thread : ℕ) (objects : List ℕ) → is_disturbed entries thread (place + 1) (record { objects = objects; begun = place }) ≡ false
-  disturbed_none thread objects = ap (list_any (disturbs thread objects)) between_none
+  pub disturbed_none : (thread : ℕ) (containers : List ℕ) → is_disturbed entries thread (place + 1) (record { containers = containers; begun = place }) ≡ false
+  disturbed_none thread containers = ap (list_any (disturbs thread containers)) between_none
 
   -- of another thread's entry nothing is marked, and an own entry disturbs nothing
   pub other_unmarked : (thread : ℕ) → entry.thread ≢ thread → is_marked thread entry ≡ false
@@ -65,8 +65,8 @@ module _ (entries : List Entry) (place : ℕ) (entry : Entry) (at : slice_get en
   pub own_marked : (thread : ℕ) → entry.thread ≡ thread → is_marked thread entry ≡ is_some entry.waited
   own_marked thread mine = ap (λ b. b && is_some entry.waited) (eq-eqb entry.thread thread mine)
 
-  pub own_undisturbed : (thread : ℕ) (objects : List ℕ) → entry.thread ≡ thread → disturbs thread objects entry ≡ false
-  own_undisturbed thread objects mine =
+  pub own_undisturbed : (thread : ℕ) (containers : List ℕ) → entry.thread ≡ thread → disturbs thread containers entry ≡ false
+  own_undisturbed thread containers mine =
       let not_other : not (entry.thread == thread) ≡ false = ap not (eq-eqb entry.thread thread mine) in
       and_left (entry.wrote && not (entry.thread == thread)) _ (and_right entry.wrote (not (entry.thread == thread)) not_other)
 

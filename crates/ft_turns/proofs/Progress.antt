@@ -42,9 +42,9 @@ IsSettled machine thread = section_locks (thread_at machine thread).sections ≡
 
 -- the thread rests, or waits for a lock that somebody has and that stands above its own
 pub record Blocked (machine : Machine) (thread : ℕ) : Type 0 where
-  pub object : ℕ
-  pub is_held : is_some (holder_of machine.holders object) ≡ true
-  pub above : (one : ℕ) → 1 ≤ times one (thread_at machine thread).own → one < object
+  pub container : ℕ
+  pub is_held : is_some (holder_of machine.holders container) ≡ true
+  pub above : (one : ℕ) → 1 ≤ times one (thread_at machine thread).own → one < container
 
 abbrev pub IsStuck : ScriptParts → Machine → ℕ → Type 0
 IsStuck script machine thread = Rests script machine thread ⊎ Blocked machine thread
@@ -77,11 +77,11 @@ marks_turn script before after thread other done le =
     (λ (n : other ≢ thread). ap (λ (s : ThreadState). length s.marks) (done.others other n))
     (cases_eq other thread)
 
-grows_turn : (script : ScriptParts) (before after : Machine) (thread object : ℕ) → Turned script before after thread → steps_made after ≤ steps_made before → IsSettled before thread → is_some (holder_of before.holders object) ≡ true → is_some (holder_of after.holders object) ≡ true
-grows_turn script before after thread object done le settled held =
+grows_turn : (script : ScriptParts) (before after : Machine) (thread container : ℕ) → Turned script before after thread → steps_made after ≤ steps_made before → IsSettled before thread → is_some (holder_of before.holders container) ≡ true → is_some (holder_of after.holders container) ≡ true
+grows_turn script before after thread container done le settled held =
     ⊎_elim
     (λ (r : Rests script before thread × (after ≡ before)). rw r.1 held)
-    (λ (w : Waits before.holders after.holders (thread_at before thread) (thread_at after thread) × (length (thread_at after thread).marks ≡ length (thread_at before thread).marks)). w.0.grows settled object held)
+    (λ (w : Waits before.holders after.holders (thread_at before thread) (thread_at after thread) × (length (thread_at after thread).marks ≡ length (thread_at before thread).marks)). w.0.grows settled container held)
     (done.quiet le)
 
 stuck_turn : (script : ScriptParts) (before after : Machine) (thread other : ℕ) → Turned script before after thread → steps_made after ≤ steps_made before → IsSettled before thread → (IsStuck script before other ⊎ (other ≡ thread)) → IsStuck script after other
@@ -91,7 +91,7 @@ stuck_turn script before after thread other done le settled cases =
     rw e (⊎_elim
     (λ (r : Rests script before thread × (after ≡ before)). rw r.1 (inl r.0))
     (λ (w : Waits before.holders after.holders (thread_at before thread) (thread_at after thread) × (length (thread_at after thread).marks ≡ length (thread_at before thread).marks)).
-    let blocked : Blocked after thread = record { object = w.0.object; is_held = w.0.is_held; above = w.0.above } in inr blocked)
+    let blocked : Blocked after thread = record { container = w.0.container; is_held = w.0.is_held; above = w.0.above } in inr blocked)
     (done.quiet le)))
     (λ (n : other ≢ thread).
     let same = done.others other n in
@@ -99,7 +99,7 @@ stuck_turn script before after thread other done le settled cases =
     (λ (was : IsStuck script before other).
     ⊎_elim
     (λ (r : Rests script before other). let still : Rests script after other = record { next = rw same r.next; own = rw same r.own; settled = rw same r.settled } in inl still)
-    (λ (b : Blocked before other). let still : Blocked after other = record { object = b.object; is_held = grows_turn script before after thread b.object done le settled b.is_held; above = rw same b.above } in inr still)
+    (λ (b : Blocked before other). let still : Blocked after other = record { container = b.container; is_held = grows_turn script before after thread b.container done le settled b.is_held; above = rw same b.above } in inr still)
     was)
     (λ (e : other ≡ thread). absurd (n e))
     cases)
@@ -163,27 +163,27 @@ some_holder None held = absurd (let e : false ≡ true = held in cc)
 some_holder (Some thread) held = (thread, omega (arith, same_self thread))
 
 -- the holder of a lock is stuck with it
-holder_is : (script : ScriptParts) (machine : Machine) (object : ℕ) → IsSoundMachine script machine → ((k : ℕ) → k < length script.threads → IsSettled machine k) → is_some (holder_of machine.holders object) ≡ true → (thread : ℕ) × (thread < length script.threads) × (1 ≤ times object (thread_at machine thread).own)
-holder_is script machine object sound settled held =
-    let one = some_holder (holder_of machine.holders object) held in
+holder_is : (script : ScriptParts) (machine : Machine) (container : ℕ) → IsSoundMachine script machine → ((k : ℕ) → k < length script.threads → IsSettled machine k) → is_some (holder_of machine.holders container) ≡ true → (thread : ℕ) × (thread < length script.threads) × (1 ≤ times container (thread_at machine thread).own)
+holder_is script machine container sound settled held =
+    let one = some_holder (holder_of machine.holders container) held in
     let thread = one.0 in
     let within : thread < length script.threads =
     ⊎_elim
     (λ (i : thread < length script.threads). i)
-    (λ (past : length script.threads ≤ thread). absurd (omega (arith, one.1, sound.no_other thread object past)))
+    (λ (past : length script.threads ≤ thread). absurd (omega (arith, one.1, sound.no_other thread container past)))
     (cases_lt thread (length script.threads)) in
     let had : locks_had (thread_at machine thread) ≡ (thread_at machine thread).own = rw (settled thread within) (append-nil (thread_at machine thread).own) in
-    let its : 1 ≤ times object (thread_at machine thread).own = let t = (sound.each thread within).held object in let u = ap (times object) had in omega (arith, one.1, t, u) in
+    let its : 1 ≤ times container (thread_at machine thread).own = let t = (sound.each thread within).held container in let u = ap (times container) had in omega (arith, one.1, t, u) in
     (thread, within, its)
 
 -- no lock is held: its holder would wait for a higher one that is held
-no_lock : (script : ScriptParts) (machine : Machine) (left object : ℕ) → IsSoundMachine script machine → ((k : ℕ) → k < length script.threads → IsSettled machine k) → ((k : ℕ) → k < length script.threads → IsStuck script machine k) → length machine.holders ≤ object + left → is_some (holder_of machine.holders object) ≡ true → ⊥
-no_lock script machine zero object sound settled stuck fuel held = let inside : object < length machine.holders = held_within machine.holders object held in absurd (omega (arith, fuel, inside))
-no_lock script machine (suc left) object sound settled stuck fuel held =
-    let holder = holder_is script machine object sound settled held in
+no_lock : (script : ScriptParts) (machine : Machine) (left container : ℕ) → IsSoundMachine script machine → ((k : ℕ) → k < length script.threads → IsSettled machine k) → ((k : ℕ) → k < length script.threads → IsStuck script machine k) → length machine.holders ≤ container + left → is_some (holder_of machine.holders container) ≡ true → ⊥
+no_lock script machine zero container sound settled stuck fuel held = let inside : container < length machine.holders = held_within machine.holders container held in absurd (omega (arith, fuel, inside))
+no_lock script machine (suc left) container sound settled stuck fuel held =
+    let holder = holder_is script machine container sound settled held in
     ⊎_elim
-    (λ (r : Rests script machine holder.0). let none : times object (thread_at machine holder.0).own ≡ 0 = rw r.own refl in absurd (omega (arith, none, holder.2)))
-    (λ (b : Blocked machine holder.0). no_lock script machine left b.object sound settled stuck (omega (arith, fuel, b.above object holder.2)) b.is_held)
+    (λ (r : Rests script machine holder.0). let none : times container (thread_at machine holder.0).own ≡ 0 = rw r.own refl in absurd (omega (arith, none, holder.2)))
+    (λ (b : Blocked machine holder.0). no_lock script machine left b.container sound settled stuck (omega (arith, fuel, b.above container holder.2)) b.is_held)
     (stuck holder.0 holder.1)
 
 -- so every thread rests
@@ -191,7 +191,7 @@ all_rest : (script : ScriptParts) (machine : Machine) (thread : ℕ) → thread 
 all_rest script machine thread within sound settled stuck =
     ⊎_elim
     (λ (r : Rests script machine thread). r)
-    (λ (b : Blocked machine thread). absurd (no_lock script machine (length machine.holders) b.object sound settled stuck (omega arith) b.is_held))
+    (λ (b : Blocked machine thread). absurd (no_lock script machine (length machine.holders) b.container sound settled stuck (omega arith) b.is_held))
     (stuck thread within)
 
 -- ---- rounds

@@ -45,12 +45,12 @@ run_starts script turns answers turning machine left start = record { made = [];
 abbrev turned_with : ThreadState → Bool → Bool → Turned
 turned_with state answered finished = record { place = length state.marks; answered = answered; finished = finished }
 
-abbrev told_of : ScriptParts → ThreadState → ℕ → Bool → Bool → Option Turned
-told_of script state thread answered finished = option_map (λ (called : Call). turned_with state answered finished) (next_call script thread state)
+abbrev reported_of : ScriptParts → ThreadState → ℕ → Bool → Bool → Option Turned
+reported_of script state thread answered finished = option_map (λ (called : Call). turned_with state answered finished) (next_call script thread state)
 
 -- of a turn from this machine
-abbrev told_from : ScriptParts → Machine → ℕ → Option Turned
-told_from script machine thread = told_of script (thread_at machine thread) thread (has_answered machine (turn script machine thread)) (has_finished machine (turn script machine thread) thread)
+abbrev reported_from : ScriptParts → Machine → ℕ → Option Turned
+reported_from script machine thread = reported_of script (thread_at machine thread) thread (has_answered machine (turn script machine thread)) (has_finished machine (turn script machine thread) thread)
 
 counts_more : (n k : ℕ) → nat_lt n (n + k) ≡ nat_lt 0 k
 counts_more n zero = le-ltb n (n + 0) (omega arith) ∙ sym (le-ltb 0 0 (omega arith))
@@ -61,8 +61,8 @@ module _ (script : ScriptParts) (turns after : Turns) (one : Turn) (is : IsTurn 
   fixed_now = fixed_by one.thread one.turned
 
   -- whatever was answered before
-  told_is : (answered : List (ℕ × ℕ)) → one.turned ≡ told_from script (machine_of turns.machine answered) one.thread
-  told_is answered =
+  reported_is : (answered : List (ℕ × ℕ)) → one.turned ≡ reported_from script (machine_of turns.machine answered) one.thread
+  reported_is answered =
       let thread = one.thread in
       let none = machine_of turns.machine [] in
       let some = machine_of turns.machine answered in
@@ -75,11 +75,11 @@ module _ (script : ScriptParts) (turns after : Turns) (one : Turn) (is : IsTurn 
       let finishes_both : has_finished none (turn script none thread) thread ≡ has_finished some (turn script some thread) thread =
       ap (λ (m : Machine). nat_lt (length state.marks) (length (thread_at m thread).marks)) from_none ∙ sym (ap (λ (m : Machine). nat_lt (length state.marks) (length (thread_at m thread).marks)) from_some) in
       is.turned
-      ∙ ap (λ b. told_of script state thread b (has_finished none (turn script none thread) thread)) (answers_none ∙ sym answers_some)
-      ∙ ap (told_of script state thread (has_answered some (turn script some thread))) finishes_both
+      ∙ ap (λ b. reported_of script state thread b (has_finished none (turn script none thread) thread)) (answers_none ∙ sym answers_some)
+      ∙ ap (reported_of script state thread (has_answered some (turn script some thread))) finishes_both
 
 -- what follows a turn is what comes of it
-followed_is : (script : ScriptParts) (progress : Progress) (thread : ℕ) → followed script (thread_at (turn script progress.machine thread) thread).marks progress.answers thread (told_from script progress.machine thread) ≡ (answered_turn script progress thread).answers
+followed_is : (script : ScriptParts) (progress : Progress) (thread : ℕ) → followed script (thread_at (turn script progress.machine thread) thread).marks progress.answers thread (reported_from script progress.machine thread) ≡ (answered_turn script progress thread).answers
 followed_is script progress thread =
     let machine = progress.machine in
     let state = thread_at machine thread in
@@ -93,8 +93,8 @@ followed_is script progress thread =
 -- ---- one turn more
 
 module _ (script : ScriptParts) (turns after : Turns) (answers : Answers) (one : Turn) (running : IsRunning script turns answers) (is : IsTurn script turns after one) where
-  told_now : one.turned ≡ told_from script (progress_after script running.made).machine one.thread
-  told_now = subst (λ (m : Machine). one.turned ≡ told_from script m one.thread) running.machine (told_is script turns after one is (progress_after script running.made).machine.answered)
+  reported_now : one.turned ≡ reported_from script (progress_after script running.made).machine one.thread
+  reported_now = subst (λ (m : Machine). one.turned ≡ reported_from script m one.thread) running.machine (reported_is script turns after one is (progress_after script running.made).machine.answered)
 
   machine_now : machine_of after.machine ((progress_after script running.made).machine.answered ++ fixed_by one.thread one.turned) ≡ turn script (progress_after script running.made).machine one.thread
   machine_now = is.machine (progress_after script running.made).machine.answered ∙ ap (λ (m : Machine). turn script m one.thread) running.machine
@@ -102,8 +102,8 @@ module _ (script : ScriptParts) (turns after : Turns) (answers : Answers) (one :
   one_more : progress_after script (running.made ++ one.thread ∷ []) ≡ answered_turn script (progress_after script running.made) one.thread
   one_more = fold-append (answered_turn script) (start_progress script) running.made (one.thread ∷ [])
 
-  pub run_goes_on : (behind : Answers) → IsTurning script after → behind ≡ followed script (thread_at (machine_of after.machine []) one.thread).marks answers one.thread one.turned → IsRunning script after behind
-  run_goes_on behind turning follows =
+  pub run_goes_on : (later : Answers) → IsTurning script after → later ≡ followed script (thread_at (machine_of after.machine []) one.thread).marks answers one.thread one.turned → IsRunning script after later
+  run_goes_on later turning follows =
       let thread = one.thread in
       let progress = progress_after script running.made in
       let new = progress_after script (running.made ++ thread ∷ []) in
@@ -117,7 +117,7 @@ module _ (script : ScriptParts) (turns after : Turns) (answers : Answers) (one :
             follows
             ∙ ap (λ (a : Answers). followed script (thread_at (machine_of after.machine []) thread).marks a thread one.turned) running.so_far
             ∙ ap (λ (ms : List (Option ℕ)). followed script ms progress.answers thread one.turned) marks
-            ∙ ap (followed script (thread_at (turn script progress.machine thread) thread).marks progress.answers thread) told_now
+            ∙ ap (followed script (thread_at (turn script progress.machine thread) thread).marks progress.answers thread) reported_now
             ∙ followed_is script progress thread
             ∙ sym (ap (λ (p : Progress). p.answers) one_more);
         left = append_assoc running.made (thread ∷ []) (turns_left script after) ∙ ap (λ (l : List ℕ). running.made ++ l) (sym is.left) ∙ running.left;
@@ -148,7 +148,7 @@ run_asks script rule turns after answers one running is =
     let state = thread_at machine thread in
     let moved = turn script machine thread in
     let low : thread < length machine.threads = let count = ap (λ (m : Machine). length m.threads) running.machine in omega (arith, is.thread, running.turning.ready.threads, count, length-map turns.machine.threads.items state_of) in
-    subst (λ (o : Option Turned). IfSome o (IsAskedTurn script answers thread)) (sym (told_now script turns after answers one running is))
+    subst (λ (o : Option Turned). IfSome o (IsAskedTurn script answers thread)) (sym (reported_now script turns after answers one running is))
     (elim (next_call script thread state) as (λ o. next_call script thread state ≡ o → IfSome (option_map (λ (called : Call). turned_with state (has_answered machine moved) (has_finished machine moved thread)) o) (IsAskedTurn script answers thread)) [
       | None ↦ λ none. tt
       | Some called ↦ λ next.

@@ -13,13 +13,13 @@ use Rattle.ft_turns.proofs.LockLemmas.{occ, occ-append, occ_any}
 use Rattle.ft_turns.proofs.Owned.{flat, occ-flat}
 use Rattle.ft_turns.proofs.PlaceSteps.{AllBelow, marks_next, disturbed_next, disturbed_none, other_unmarked, own_marked, own_undisturbed}
 
--- each container is one of so many, and its lock is among these
+-- each container is one of that many, and its lock is among these
 abbrev pub AreHeld : ℕ → List ℕ → List ℕ → Type 0
-AreHeld limit objects locks = (object : ℕ) → 1 ≤ occ object objects → (object < limit) × (1 ≤ occ object locks)
+AreHeld limit containers locks = (container : ℕ) → 1 ≤ occ container containers → (container < limit) × (1 ≤ occ container locks)
 
 -- what is known of a section of which no call has waited; `quiet` says that the call in flight has not
-pub record IsUnsuspended (entries : List Entry) (thread place limit : ℕ) (section : Section) (objects locks : List ℕ) : Type 0 where
-  pub held : AreHeld limit objects locks
+pub record IsUnsuspended (entries : List Entry) (thread place limit : ℕ) (section : Section) (containers locks : List ℕ) : Type 0 where
+  pub held : AreHeld limit containers locks
   pub calm : is_disturbed entries thread place section ≡ false
 
 -- the open sections of a thread at a place, beside those of the machine
@@ -28,8 +28,8 @@ Secured entries thread place limit quiet [] [] = Unit {0}
 Secured entries thread place limit quiet [] (open_section ∷ open_sections) = ⊥
 Secured entries thread place limit quiet (section ∷ sections) [] = ⊥
 Secured entries thread place limit quiet (section ∷ sections) (open_section ∷ open_sections) =
-    (section.objects ≡ open_section.objects)
-    × (marks_between entries thread place section ≡ 0 → quiet → IsUnsuspended entries thread place limit section open_section.objects (flat (open_section ∷ open_sections)))
+    (section.containers ≡ open_section.containers)
+    × (marks_between entries thread place section ≡ 0 → quiet → IsUnsuspended entries thread place limit section open_section.containers (flat (open_section ∷ open_sections)))
     × Secured entries thread place limit quiet sections open_sections
 
 -- ---- a call waits
@@ -45,10 +45,10 @@ blocked entries thread place limit quiet quiet_after (section ∷ sections) (ope
 
 -- ---- a call finishes
 
-more_held : (limit : ℕ) (objects taken rest own : List ℕ) → AreHeld limit objects (taken ++ rest) → AreHeld limit objects ((taken ++ own) ++ rest)
-more_held limit objects taken rest own held object there =
-    let before = held object there in
-    (before.0, omega (arith, before.1, occ-append object taken rest, occ-append object (taken ++ own) rest, occ-append object taken own))
+more_held : (limit : ℕ) (containers taken rest own : List ℕ) → AreHeld limit containers (taken ++ rest) → AreHeld limit containers ((taken ++ own) ++ rest)
+more_held limit containers taken rest own held container there =
+    let before = held container there in
+    (before.0, omega (arith, before.1, occ-append container taken rest, occ-append container (taken ++ own) rest, occ-append container taken own))
 
 pub quieter : (entries : List Entry) (thread place limit : ℕ) (quiet quiet_after : Type 0) (sections : List Section) (open_sections : List OpenSection) → (quiet_after → quiet)
     → Secured entries thread place limit quiet sections open_sections → Secured entries thread place limit quiet_after sections open_sections
@@ -65,8 +65,8 @@ finished entries thread place limit quiet quiet_after own [] (open_section ∷ o
 finished entries thread place limit quiet quiet_after own (section ∷ sections) [] less secured = secured
 finished entries thread place limit quiet quiet_after own (section ∷ sections) (open_section ∷ open_sections) less secured = (
   secured.0,
-  λ unmarked is_quiet. (let is : IsUnsuspended entries thread place limit section open_section.objects (open_section.taken ++ flat open_sections) = secured.1 unmarked (less is_quiet) in
-      record { held = more_held limit open_section.objects open_section.taken (flat open_sections) own is.held; calm = is.calm }),
+  λ unmarked is_quiet. (let is : IsUnsuspended entries thread place limit section open_section.containers (open_section.taken ++ flat open_sections) = secured.1 unmarked (less is_quiet) in
+      record { held = more_held limit open_section.containers open_section.taken (flat open_sections) own is.held; calm = is.calm }),
   quieter entries thread place limit quiet quiet_after sections open_sections less secured.2,
 )
 
@@ -86,17 +86,17 @@ module _ (entries : List Entry) (place : ℕ) (entry : Entry) (at : slice_get en
   own_next quiet quiet_after (section ∷ sections) (open_section ∷ open_sections) mine less below secured = (
     secured.0,
     λ unmarked _. (let parts : (marks_between entries thread place section ≡ 0) × (entry.waited ≡ None) = unmarked_before (marks_between entries thread place section) entry.waited (is_marked thread entry) (own_marked entries place entry at thread mine) (sym (marks_next entries place entry at thread section below.0) ∙ unmarked) in
-        let is : IsUnsuspended entries thread place limit section open_section.objects (flat (open_section ∷ open_sections)) = secured.1 parts.0 (less parts.1) in
+        let is : IsUnsuspended entries thread place limit section open_section.containers (flat (open_section ∷ open_sections)) = secured.1 parts.0 (less parts.1) in
         record {
           held = is.held;
-          calm = disturbed_next entries place entry at thread section below.0 ∙ or_from (is_disturbed entries thread place section) (disturbs thread section.objects entry) is.calm (own_undisturbed entries place entry at thread section.objects mine);
+          calm = disturbed_next entries place entry at thread section below.0 ∙ or_from (is_disturbed entries thread place section) (disturbs thread section.containers entry) is.calm (own_undisturbed entries place entry at thread section.containers mine);
         }),
     own_next quiet quiet_after sections open_sections mine less below.1 secured.2,
   )
 
   -- of another thread, which wrote on no container whose lock the thread has
   pub other_next : (quiet : Type 0) (sections : List Section) (open_sections : List OpenSection) → entry.thread ≢ thread
-      → ((object : ℕ) → object < limit → 1 ≤ occ object (flat open_sections) → entry.wrote ≡ true → names object entry.call ≡ false) → AllBelow place sections
+      → ((container : ℕ) → container < limit → 1 ≤ occ container (flat open_sections) → entry.wrote ≡ true → names container entry.call ≡ false) → AllBelow place sections
       → Secured entries thread place limit quiet sections open_sections → Secured entries thread (place + 1) limit quiet sections open_sections
   other_next quiet [] [] other spares below secured = tt
   other_next quiet [] (open_section ∷ open_sections) other spares below secured = secured
@@ -105,17 +105,17 @@ module _ (entries : List Entry) (place : ℕ) (entry : Entry) (at : slice_get en
     secured.0,
     λ unmarked is_quiet. (let same : marks_between entries thread place section ≡ 0 =
         (let e : marks_between entries thread place section + 0 ≡ 0 = ap (λ b. marks_between entries thread place section + cond b 1 0) (sym (other_unmarked entries place entry at thread other)) ∙ sym (marks_next entries place entry at thread section below.0) ∙ unmarked in omega arith) in
-        let is : IsUnsuspended entries thread place limit section open_section.objects (flat (open_section ∷ open_sections)) = secured.1 same is_quiet in
-        let spared : disturbs thread section.objects entry ≡ false = elim (cases_Bool entry.wrote) [
-          | inl wrote ↦ and_right _ (list_any (λ object. names object entry.call) section.objects) (occ_any (λ object. names object entry.call) section.objects (λ object there.
-              (let held = is.held object (subst (λ objects. 1 ≤ occ object objects) secured.0 there) in spares object held.0 held.1 wrote)))
+        let is : IsUnsuspended entries thread place limit section open_section.containers (flat (open_section ∷ open_sections)) = secured.1 same is_quiet in
+        let spared : disturbs thread section.containers entry ≡ false = elim (cases_Bool entry.wrote) [
+          | inl wrote ↦ and_right _ (list_any (λ container. names container entry.call) section.containers) (occ_any (λ container. names container entry.call) section.containers (λ container there.
+              (let held = is.held container (subst (λ containers. 1 ≤ occ container containers) secured.0 there) in spares container held.0 held.1 wrote)))
           | inr read ↦ and_left _ _ (and_left entry.wrote _ read)
         ] in
         record {
           held = is.held;
-          calm = disturbed_next entries place entry at thread section below.0 ∙ or_from (is_disturbed entries thread place section) (disturbs thread section.objects entry) is.calm spared;
+          calm = disturbed_next entries place entry at thread section below.0 ∙ or_from (is_disturbed entries thread place section) (disturbs thread section.containers entry) is.calm spared;
         }),
-    other_next quiet sections open_sections other (λ object low there wrote. spares object low (omega (arith, there, occ-flat object open_section open_sections)) wrote) below.1 secured.2,
+    other_next quiet sections open_sections other (λ container low there wrote. spares container low (omega (arith, there, occ-flat container open_section open_sections)) wrote) below.1 secured.2,
   )
 
   -- the section that is entered or ended

@@ -10,7 +10,7 @@ use Rattle.ft_model.specs.declared.script.ScriptParts.{ScriptParts}
 use Rattle.ft_model.specs.Histories.{calls_of}
 use Rattle.ft_model.specs.Scripts.{AreNested}
 use Rattle.ft_model.specs.Calls.{containers_of}
-use Rattle.ft_turns.specs.Orders.{OpenSection, ThreadState, Locking, lower_first, locks_taken, take_locks, let_go, holder_of, next_call, without_locks, section_locks, with_own, waiting, answering, finishing, sections_after, lets_go, innermost_objects, with_taken}
+use Rattle.ft_turns.specs.Orders.{OpenSection, ThreadState, Locking, lower_first, locks_taken, take_locks, let_go, holder_of, next_call, without_locks, section_locks, with_own, waiting, answering, finishing, sections_after, lets_go, innermost_containers, with_taken}
 use Rattle.ft_turns.specs.Wants.{so_far}
 use Rattle.ft_turns.proofs.Holding.{times, times-append, by, by_some, same_self, Takes, takes_all, lets_all_go}
 use Rattle.ft_turns.proofs.Wanting.{AreTwo, AreRising}
@@ -20,12 +20,12 @@ use Rattle.ft_turns.proofs.Blocking.{IsOwn, blocked, rising_below}
 abbrev pub wanted : ScriptParts → ℕ → ThreadState → List ℕ
 wanted script thread state =
     if state.fixed
-    then lower_first (innermost_objects state.sections)
+    then lower_first (innermost_containers state.sections)
     else option_map_or (λ called. lower_first (locks_taken (take (length state.marks) (calls_of script thread)) called)) (next_call script thread state) []
 
 abbrev pub AreSections : ℕ → List OpenSection → Type 0
 AreSections n [] = Unit {0}
-AreSections n (section ∷ sections) = AreTwo n section.objects × AreSections n sections
+AreSections n (section ∷ sections) = AreTwo n section.containers × AreSections n sections
 
 abbrev pub locks_had : ThreadState → List ℕ
 locks_had state = state.own ++ section_locks state.sections
@@ -33,7 +33,7 @@ locks_had state = state.own ++ section_locks state.sections
 -- a thread between two tries: it has the locks that it notes, each once
 pub record IsSound (script : ScriptParts) (thread : ℕ) (holders : List (Option ℕ)) (state : ThreadState) : Type 0 where
   pub size : length holders ≡ length script.containers
-  pub held : (object : ℕ) → times object (locks_had state) ≡ by (holder_of holders object) thread
+  pub held : (container : ℕ) → times container (locks_had state) ≡ by (holder_of holders container) thread
   pub own_is : IsOwn state.own (section_locks state.sections) (wanted script thread state)
   pub sections_are : AreSections (length script.containers) state.sections
   pub nested : AreNested (length state.sections) (drop (so_far state) (calls_of script thread))
@@ -42,19 +42,19 @@ pub record IsSound (script : ScriptParts) (thread : ℕ) (holders : List (Option
 -- other threads have what they had
 pub record IsApart (thread : ℕ) (before after : List (Option ℕ)) : Type 0 where
   pub size : length after ≡ length before
-  pub others : (object other : ℕ) → thread ≢ other → by (holder_of after object) other ≡ by (holder_of before object) other
+  pub others : (container other : ℕ) → thread ≢ other → by (holder_of after container) other ≡ by (holder_of before container) other
 
 -- what waiting comes to
 pub record Waits (before after : List (Option ℕ)) (state_before state_after : ThreadState) : Type 0 where
   pub settled : section_locks state_after.sections ≡ []
-  pub grows : section_locks state_before.sections ≡ [] → (object : ℕ) → is_some (holder_of before object) ≡ true → is_some (holder_of after object) ≡ true
-  pub object : ℕ
-  pub is_held : is_some (holder_of after object) ≡ true
-  pub above : (one : ℕ) → 1 ≤ times one state_after.own → one < object
+  pub grows : section_locks state_before.sections ≡ [] → (container : ℕ) → is_some (holder_of before container) ≡ true → is_some (holder_of after container) ≡ true
+  pub container : ℕ
+  pub is_held : is_some (holder_of after container) ≡ true
+  pub above : (one : ℕ) → 1 ≤ times one state_after.own → one < container
 
 -- ---- sections without locks
 
-innermost_without : (sections : List OpenSection) → innermost_objects (map without_locks sections) ≡ innermost_objects sections
+innermost_without : (sections : List OpenSection) → innermost_containers (map without_locks sections) ≡ innermost_containers sections
 innermost_without [] = refl
 innermost_without (section ∷ sections) = refl
 
@@ -66,21 +66,21 @@ sections_without : (n : ℕ) (sections : List OpenSection) → AreSections n sec
 sections_without n [] are = tt
 sections_without n (section ∷ sections) are = (are.0, sections_without n sections are.1)
 
--- ---- locks that are let go behind a taking
+-- ---- locks that are let go after a taking
 
 -- what is let go and what is kept are what the thread has
 keeps : (script : ScriptParts) (thread : ℕ) (holders : List (Option ℕ)) (had : List ℕ) (locking : Locking) (gone kept : List ℕ)
-    → ((object : ℕ) → times object had ≡ by (holder_of holders object) thread)
+    → ((container : ℕ) → times container had ≡ by (holder_of holders container) thread)
     → Takes thread holders locking
-    → ((object : ℕ) → times object gone + times object kept ≡ times object had + times object locking.taken)
-    → ((object : ℕ) → times object kept ≡ by (holder_of (let_go locking.holders gone) object) thread) × IsApart thread holders (let_go locking.holders gone)
+    → ((container : ℕ) → times container gone + times container kept ≡ times container had + times container locking.taken)
+    → ((container : ℕ) → times container kept ≡ by (holder_of (let_go locking.holders gone) container) thread) × IsApart thread holders (let_go locking.holders gone)
 keeps script thread holders had locking gone kept held takes split =
-    let gone_held : (object : ℕ) → times object gone ≤ by (holder_of locking.holders object) thread = λ object. omega (arith, held object, takes.mine object, split object) in
+    let gone_held : (container : ℕ) → times container gone ≤ by (holder_of locking.holders container) thread = λ container. omega (arith, held container, takes.mine container, split container) in
     let lets = lets_all_go thread gone locking.holders gone_held in (
-      (λ object. omega (arith, lets.mine object, held object, takes.mine object, split object)),
+      (λ container. omega (arith, lets.mine container, held container, takes.mine container, split container)),
       record {
         size = lets.size ∙ takes.size;
-        others = λ object other differ. lets.others object other differ ∙ takes.others object other differ;
+        others = λ container other differ. lets.others container other differ ∙ takes.others container other differ;
       },
     )
 
@@ -100,12 +100,12 @@ wait_sound script thread holders state other in_order sound found =
     let takes = takes_all thread (wanted script thread state) holders (rw sound.size (rising_below (length script.containers) (wanted script thread state) in_order)) in
     let blocks = blocked (length script.containers) thread holders state.own (section_locks state.sections) (wanted script thread state) other in_order sound.own_is sound.held found in
     let had_after : locks_had after ≡ state.own ++ locking.taken = rw (locks_without state.sections, append-nil (state.own ++ locking.taken)) refl in
-    let split : (object : ℕ) → times object (section_locks state.sections) + times object (locks_had after) ≡ times object (locks_had state) + times object locking.taken = λ object.
-    rw had_after (omega (arith, times-append object state.own locking.taken, times-append object state.own (section_locks state.sections))) in
+    let split : (container : ℕ) → times container (section_locks state.sections) + times container (locks_had after) ≡ times container (locks_had state) + times container locking.taken = λ container.
+    rw had_after (omega (arith, times-append container state.own locking.taken, times-append container state.own (section_locks state.sections))) in
     let kept = keeps script thread holders (locks_had state) locking (section_locks state.sections) (locks_had after) sound.held takes split in
-    let wanted_same : wanted script thread after ≡ wanted script thread state = ap (λ objects. if state.fixed then lower_first objects else option_map_or (λ called. lower_first (locks_taken (take (length state.marks) (calls_of script thread)) called)) (next_call script thread state) []) (innermost_without state.sections) in
-    let its : by (holder_of left blocks.object) other ≡ by (holder_of locking.holders blocks.object) other = kept.1.others blocks.object other (λ e. blocks.differ (sym e)) ∙ sym (takes.others blocks.object other (λ e. blocks.differ (sym e))) in
-    let one : by (holder_of locking.holders blocks.object) other ≡ 1 = rw blocks.holder (same_self other) in (
+    let wanted_same : wanted script thread after ≡ wanted script thread state = ap (λ containers. if state.fixed then lower_first containers else option_map_or (λ called. lower_first (locks_taken (take (length state.marks) (calls_of script thread)) called)) (next_call script thread state) []) (innermost_without state.sections) in
+    let its : by (holder_of left blocks.container) other ≡ by (holder_of locking.holders blocks.container) other = kept.1.others blocks.container other (λ e. blocks.differ (sym e)) ∙ sym (takes.others blocks.container other (λ e. blocks.differ (sym e))) in
+    let one : by (holder_of locking.holders blocks.container) other ≡ 1 = rw blocks.holder (same_self other) in (
       record {
         size = kept.1.size ∙ sound.size;
         held = kept.0;
@@ -117,9 +117,9 @@ wait_sound script thread holders state other in_order sound found =
       kept.1,
       record {
         settled = locks_without state.sections;
-        grows = λ none object held. rw none (takes.grows object held);
-        object = blocks.object;
-        is_held = by_some (holder_of left blocks.object) other (omega (arith, its, one));
+        grows = λ none container held. rw none (takes.grows container held);
+        container = blocks.container;
+        is_held = by_some (holder_of left blocks.container) other (omega (arith, its, one));
         above = blocks.above;
       },
     )
@@ -127,15 +127,15 @@ wait_sound script thread holders state other in_order sound found =
 -- ---- an answer that is fixed
 
 -- what is let go and what is kept when an answer is fixed
-answer_split : (called : Call) (own taken : List ℕ) (sections : List OpenSection) → (called ≡ call.End → (own ≡ []) × (taken ≡ [])) → (object : ℕ) → times object (lets_go called (own ++ taken) sections) + times object (section_locks (sections_after called (own ++ taken) sections)) ≡ times object (own ++ section_locks sections) + times object taken
-answer_split (call.Begin first second) own taken sections ended object = omega (arith, times-append object own taken, times-append object (own ++ taken) (section_locks sections), times-append object own (section_locks sections))
-answer_split call.End own taken [] ended object = let none = ended refl in rw (none.0, none.1) refl
-answer_split call.End own taken (section ∷ sections) ended object = let none = ended refl in rw (none.0, none.1) (omega (arith, times-append object section.taken (section_locks sections)))
-answer_split (call.Dict place dict_call) own taken sections ended object = omega (arith, times-append object own taken, times-append object own (section_locks sections))
-answer_split (call.List place list_call) own taken sections ended object = omega (arith, times-append object own taken, times-append object own (section_locks sections))
-answer_split (call.Set place set_call) own taken sections ended object = omega (arith, times-append object own taken, times-append object own (section_locks sections))
-answer_split (call.Next number) own taken sections ended object = omega (arith, times-append object own taken, times-append object own (section_locks sections))
-answer_split call.Quiesce own taken sections ended object = omega (arith, times-append object own taken, times-append object own (section_locks sections))
+answer_split : (called : Call) (own taken : List ℕ) (sections : List OpenSection) → (called ≡ call.End → (own ≡ []) × (taken ≡ [])) → (container : ℕ) → times container (lets_go called (own ++ taken) sections) + times container (section_locks (sections_after called (own ++ taken) sections)) ≡ times container (own ++ section_locks sections) + times container taken
+answer_split (call.Begin first second) own taken sections ended container = omega (arith, times-append container own taken, times-append container (own ++ taken) (section_locks sections), times-append container own (section_locks sections))
+answer_split call.End own taken [] ended container = let none = ended refl in rw (none.0, none.1) refl
+answer_split call.End own taken (section ∷ sections) ended container = let none = ended refl in rw (none.0, none.1) (omega (arith, times-append container section.taken (section_locks sections)))
+answer_split (call.Dict place dict_call) own taken sections ended container = omega (arith, times-append container own taken, times-append container own (section_locks sections))
+answer_split (call.List place list_call) own taken sections ended container = omega (arith, times-append container own taken, times-append container own (section_locks sections))
+answer_split (call.Set place set_call) own taken sections ended container = omega (arith, times-append container own taken, times-append container own (section_locks sections))
+answer_split (call.Next number) own taken sections ended container = omega (arith, times-append container own taken, times-append container own (section_locks sections))
+answer_split call.Quiesce own taken sections ended container = omega (arith, times-append container own taken, times-append container own (section_locks sections))
 
 answer_nested : (called : Call) (own : List ℕ) (sections : List OpenSection) (calls : List Call) → AreNested (length sections) (called ∷ calls) → AreNested (length (sections_after called own sections)) calls
 answer_nested (call.Begin first second) own sections calls nested = rw (← add-one (length sections)) nested.1
@@ -200,9 +200,9 @@ answer_sound script thread holders state called unfixed next two in_order sound 
 
 -- ---- a call that finishes
 
-finish_split : (own taken : List ℕ) (sections : List OpenSection) → (sections ≡ [] → (own ≡ []) × (taken ≡ [])) → (object : ℕ) → times object (section_locks (with_taken (own ++ taken) sections)) ≡ times object (own ++ section_locks sections) + times object taken
-finish_split own taken [] ended object = let none = ended refl in rw (none.0, none.1) refl
-finish_split own taken (section ∷ sections) ended object = omega (arith, times-append object (section.taken ++ (own ++ taken)) (section_locks sections), times-append object section.taken (own ++ taken), times-append object own taken, times-append object own (section.taken ++ section_locks sections), times-append object section.taken (section_locks sections))
+finish_split : (own taken : List ℕ) (sections : List OpenSection) → (sections ≡ [] → (own ≡ []) × (taken ≡ [])) → (container : ℕ) → times container (section_locks (with_taken (own ++ taken) sections)) ≡ times container (own ++ section_locks sections) + times container taken
+finish_split own taken [] ended container = let none = ended refl in rw (none.0, none.1) refl
+finish_split own taken (section ∷ sections) ended container = omega (arith, times-append container (section.taken ++ (own ++ taken)) (section_locks sections), times-append container section.taken (own ++ taken), times-append container own taken, times-append container own (section.taken ++ section_locks sections), times-append container section.taken (section_locks sections))
 
 finish_count : (own : List ℕ) (sections : List OpenSection) → length (with_taken own sections) ≡ length sections
 finish_count own [] = refl
@@ -224,11 +224,11 @@ finish_sound script thread holders state fixed in_order sound =
     let locking = take_locks thread holders (wanted script thread state) in
     let after = finishing (with_own state locking) in
     let takes = takes_all thread (wanted script thread state) holders (rw sound.size (rising_below (length script.containers) (wanted script thread state) in_order)) in
-    let wants : wanted script thread state ≡ lower_first (innermost_objects state.sections) = rw fixed refl in
+    let wants : wanted script thread state ≡ lower_first (innermost_containers state.sections) = rw fixed refl in
     let ended : state.sections ≡ [] → (state.own ≡ []) × (locking.taken ≡ []) = λ is.
-    let none : wanted script thread state ≡ [] = wants ∙ ap (λ ss. lower_first (innermost_objects ss)) is in
+    let none : wanted script thread state ≡ [] = wants ∙ ap (λ ss. lower_first (innermost_containers ss)) is in
     (own_none state.own (section_locks state.sections) (wanted script thread state) none sound.own_is, ap (λ w. (take_locks thread holders w).taken) none) in
-    let split : (object : ℕ) → times object [] + times object (locks_had after) ≡ times object (locks_had state) + times object locking.taken = λ object. omega (arith, finish_split state.own locking.taken state.sections ended object) in
+    let split : (container : ℕ) → times container [] + times container (locks_had after) ≡ times container (locks_had state) + times container locking.taken = λ container. omega (arith, finish_split state.own locking.taken state.sections ended container) in
     let kept = keeps script thread holders (locks_had state) locking [] (locks_had after) sound.held takes split in
     let was : so_far state ≡ n + 1 = ap (λ b. n + (if b then 1 else 0)) fixed in
     let now : so_far after ≡ so_far state = omega (arith, length-append state.marks (state.mark ∷ []), was) in (

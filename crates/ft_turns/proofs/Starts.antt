@@ -9,7 +9,7 @@ use Rattle.ft_model.specs.declared.script.ScriptParts.{ScriptParts}
 use Rattle.ft_model.specs.Histories.{calls_of, cursors_of}
 use Rattle.ft_history.specs.States.{listed}
 use Rattle.ft_turns.specs.declared.machine.Standing.{Standing}
-use Rattle.ft_turns.specs.Cursors.{AreCursors, no_objects}
+use Rattle.ft_turns.specs.Cursors.{AreCursors, no_containers}
 use Rattle.ft_turns.specs.Orders.{fresh_thread}
 use Rattle.ft_turns.specs.Standings.{state_of, IsReady, IsReadyThread, AreFresh}
 
@@ -18,13 +18,13 @@ pub none_held : {X : Type 0} (xs : List X) → replicate (length xs) None ≡ ma
 none_held [] = refl
 none_held (x ∷ xs) = ap (λ rest. let none : Option ℕ = None in none ∷ rest) (none_held xs)
 
-fresh_at : (n number : ℕ) → get_or (replicate n no_objects) number no_objects ≡ no_objects
+fresh_at : (n number : ℕ) → get_or (replicate n no_containers) number no_containers ≡ no_containers
 fresh_at zero number = refl
 fresh_at (suc n) zero = refl
 fresh_at (suc n) (suc number) = fresh_at n number
 
 -- no cursor was made
-fresh_cursors : (n : ℕ) → AreCursors [] (replicate n no_objects)
+fresh_cursors : (n : ℕ) → AreCursors [] (replicate n no_containers)
 fresh_cursors n = λ number. ap listed (fresh_at n number)
 
 all_fresh : (threads : List Thread) (k : ℕ) → get_or (map (λ (thread : Thread). fresh_thread) threads) k fresh_thread ≡ fresh_thread
@@ -46,12 +46,12 @@ fresh_ready script standings fresh =
           let marks : standing.marks.items ≡ [] = ap (λ s. s.marks) state in
           ⊎_elim
           (λ (found : (t : Thread) × (k < length script.threads) × (slice_get script.threads k ≡ Some t) × (get_or script.threads k t ≡ t)).
-          let cursors : standing.cursors.items ≡ replicate (length found.0.cursors) no_objects = fresh.cursors k found.0 default within ∙ ap (λ (t : Thread). replicate (length t.cursors) no_objects) found.3 in
+          let cursors : standing.cursors.items ≡ replicate (length found.0.cursors) no_containers = fresh.cursors k found.0 default within ∙ ap (λ (t : Thread). replicate (length t.cursors) no_containers) found.3 in
           let room : cursors_of script k ≡ length found.0.cursors = ap (λ one. option_map_or (λ (t : Thread). length t.cursors) one 0) found.2 in
           let ready : IsReadyThread (calls_of script k) (cursors_of script k) standing = record {
             made = rw marks (omega arith);
             cursors = rw (marks, cursors) (fresh_cursors (length found.0.cursors));
-            room = rw (cursors, room) (length-replicate (length found.0.cursors) no_objects);
+            room = rw (cursors, room) (length-replicate (length found.0.cursors) no_containers);
           } in ready)
           (λ (past : (length script.threads ≤ k) × (slice_get script.threads k ≡ None)). absurd (omega (arith, past.0)))
           (slice_get_cases script.threads k).1;

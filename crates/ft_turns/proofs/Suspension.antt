@@ -8,7 +8,7 @@ use Rattle.ft_turns.specs.Orders.{without_locks, section_locks, let_go}
 use Rattle.ft_turns.specs.Standings.{section_of}
 
 pub let_go-append : (holders : List (Option ℕ)) (a b : List ℕ) → let_go holders (a ++ b) ≡ let_go (let_go holders a) b
-let_go-append holders a b = fold-append (λ left object. slice_set left object None) holders a b
+let_go-append holders a b = fold-append (λ left container. slice_set left container None) holders a b
 
 -- lists that are the same from a place on are the same at that place
 pub same_at : {X : Type 0} (xs ys : List X) (i : ℕ) (d : X) → drop i xs ≡ drop i ys → get_or xs i d ≡ get_or ys i d
@@ -17,9 +17,9 @@ same_at xs ys i d same =
     let b : get_or (drop i ys) 0 d ≡ get_or ys i d = rw add-zero at (get_or-drop i ys 0 d) in
     sym a ∙ (ap (λ zs. get_or zs 0 d) same ∙ b)
 
--- and behind it
-pub same_behind : {X : Type 0} (xs ys : List X) (i : ℕ) (y : X) → drop i xs ≡ drop i ys → drop (i + 1) (set xs i y) ≡ drop (i + 1) ys
-same_behind xs ys i y same = drop-set-lt (i + 1) xs i y (omega arith) ∙ (sym (drop-drop 1 i xs) ∙ (ap (drop 1) same ∙ drop-drop 1 i ys))
+-- and after it
+pub same_after : {X : Type 0} (xs ys : List X) (i : ℕ) (y : X) → drop i xs ≡ drop i ys → drop (i + 1) (set xs i y) ≡ drop (i + 1) ys
+same_after xs ys i y same = drop-set-lt (i + 1) xs i y (omega arith) ∙ (sym (drop-drop 1 i xs) ∙ (ap (drop 1) same ∙ drop-drop 1 i ys))
 
 pub locks_more : (holders : List (Option ℕ)) (sections : List Section) (i : ℕ) (section : Section) → i < length sections → section ≡ get_or sections i section → let_go (let_go holders section.taken.items) (section_locks (map section_of (drop (i + 1) sections))) ≡ let_go holders (section_locks (map section_of (drop i sections)))
 locks_more holders sections i section within read =

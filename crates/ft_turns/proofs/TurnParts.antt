@@ -6,7 +6,7 @@ use Rattle.std.proofs.lemmas.List.{append-nil, set-get_or, set-set, get_or-set_s
 use Rattle.ft_model.specs.declared.call.Call.{Call}
 use Rattle.ft_model.specs.declared.script.ScriptParts.{ScriptParts}
 use Rattle.ft_model.specs.Histories.{calls_of}
-use Rattle.ft_turns.specs.Orders.{ThreadState, Machine, Locking, fresh_thread, lower_first, locks_taken, take_locks, thread_at, next_call, waits, answers, finishes, locked, relocked, try_answer, try_finish, innermost_objects, turn}
+use Rattle.ft_turns.specs.Orders.{ThreadState, Machine, Locking, fresh_thread, lower_first, locks_taken, take_locks, thread_at, next_call, waits, answers, finishes, locked, relocked, try_answer, try_finish, innermost_containers, turn}
 use Rattle.ft_turns.specs.Standings.{Tried, not_tried, tried_in_vain, answer_tried, finish_tried, answer_part, finish_part, newly_answered, placed}
 
 same_answered : (machine : Machine) (thread : ℕ) (tried : Tried) → record machine { holders = tried.holders; threads = set machine.threads thread tried.state } ≡ placed machine thread tried []
@@ -51,13 +51,13 @@ second_at false machine thread tried more locking = refl
 
 -- a step of a thread that is this one
 finish_of : Machine → ℕ → ThreadState → Machine
-finish_of machine thread state = if state.fixed then relocked machine thread state (take_locks thread machine.holders (lower_first (innermost_objects state.sections))) else machine
+finish_of machine thread state = if state.fixed then relocked machine thread state (take_locks thread machine.holders (lower_first (innermost_containers state.sections))) else machine
 
 second_part : (machine : Machine) (thread : ℕ) (tried : Tried) (more : List (ℕ × ℕ)) → thread < length machine.threads → try_finish (placed machine thread tried more) thread ≡ placed machine thread (finish_part thread tried) more
 unfolding finish_of
 second_part machine thread tried more within =
     ap (finish_of (placed machine thread tried more) thread) (get_or-set_same machine.threads thread tried.state fresh_thread within)
-    ∙ second_at tried.state.fixed machine thread tried more (take_locks thread tried.holders (lower_first (innermost_objects tried.state.sections)))
+    ∙ second_at tried.state.fixed machine thread tried more (take_locks thread tried.holders (lower_first (innermost_containers tried.state.sections)))
 
 -- a turn of a thread that is this one, and whose next call is this
 turn_of : ScriptParts → Machine → ℕ → ThreadState → Option Call → Machine

@@ -6,7 +6,7 @@ use Rattle.ft_model.specs.declared.call.Call.{Call}
 use Rattle.ft_model.specs.declared.script.ScriptParts.{ScriptParts}
 use Rattle.ft_model.specs.Histories.{calls_of}
 use Rattle.ft_model.specs.Calls.{containers_of}
-use Rattle.ft_turns.specs.Orders.{OpenSection, ThreadState, lower_first, locks_taken, take_locks, let_go, next_call, with_own, answering, finishing, lets_go, innermost_objects}
+use Rattle.ft_turns.specs.Orders.{OpenSection, ThreadState, lower_first, locks_taken, take_locks, let_go, next_call, with_own, answering, finishing, lets_go, innermost_containers}
 use Rattle.ft_turns.specs.Standings.{Tried, not_tried, tried_in_vain, answer_tried, finish_tried, answer_part, finish_part}
 use Rattle.ft_turns.proofs.Wanting.{AreTwo, AreRising, rising}
 use Rattle.ft_turns.proofs.Soundness.{wanted, AreSections, IsSound, IsApart, Waits, wait_sound, answer_sound, finish_sound}
@@ -18,12 +18,12 @@ pub record IsTurned (script : ScriptParts) (thread : ℕ) (holders : List (Optio
   pub quiet : answered ≡ false → tried.done ≡ false → Waits holders tried.holders state tried.state
 
 apart_self : (thread : ℕ) (holders : List (Option ℕ)) → IsApart thread holders holders
-apart_self thread holders = record { size = refl; others = λ object other differ. refl }
+apart_self thread holders = record { size = refl; others = λ container other differ. refl }
 
 apart_twice : (thread : ℕ) (a b c : List (Option ℕ)) → IsApart thread a b → IsApart thread b c → IsApart thread a c
-apart_twice thread a b c one two = record { size = two.size ∙ one.size; others = λ object other differ. two.others object other differ ∙ one.others object other differ }
+apart_twice thread a b c one two = record { size = two.size ∙ one.size; others = λ container other differ. two.others container other differ ∙ one.others container other differ }
 
-innermost_two : (n : ℕ) (sections : List OpenSection) → AreSections n sections → AreTwo n (innermost_objects sections)
+innermost_two : (n : ℕ) (sections : List OpenSection) → AreSections n sections → AreTwo n (innermost_containers sections)
 innermost_two n [] are = tt
 innermost_two n (section ∷ sections) are = are.0
 
@@ -45,10 +45,10 @@ finish_at script thread holders state (Some other) fixed in_order sound is =
 finish_stage : (script : ScriptParts) (thread : ℕ) (holders : List (Option ℕ)) (state : ThreadState)
     → state.fixed ≡ true
     → IsSound script thread holders state
-    → IsTurned script thread holders state false (finish_tried state (take_locks thread holders (lower_first (innermost_objects state.sections))))
+    → IsTurned script thread holders state false (finish_tried state (take_locks thread holders (lower_first (innermost_containers state.sections))))
 finish_stage script thread holders state fixed sound =
-    let wants : wanted script thread state ≡ lower_first (innermost_objects state.sections) = ap (λ b. if b then lower_first (innermost_objects state.sections) else option_map_or (λ called. lower_first (locks_taken (take (length state.marks) (calls_of script thread)) called)) (next_call script thread state) []) fixed in
-    let in_order : AreRising (length script.containers) (wanted script thread state) = rw wants (rising (length script.containers) (innermost_objects state.sections) (innermost_two (length script.containers) state.sections sound.sections_are)) in
+    let wants : wanted script thread state ≡ lower_first (innermost_containers state.sections) = ap (λ b. if b then lower_first (innermost_containers state.sections) else option_map_or (λ called. lower_first (locks_taken (take (length state.marks) (calls_of script thread)) called)) (next_call script thread state) []) fixed in
+    let in_order : AreRising (length script.containers) (wanted script thread state) = rw wants (rising (length script.containers) (innermost_containers state.sections) (innermost_two (length script.containers) state.sections sound.sections_are)) in
     subst (λ w. IsTurned script thread holders state false (finish_tried state (take_locks thread holders w))) wants
     (finish_at script thread holders state (take_locks thread holders (wanted script thread state)).found fixed in_order sound refl)
 
@@ -70,14 +70,14 @@ answer_at script thread holders state called None unfixed next two in_order soun
     let left = let_go locking.holders (lets_go called (state.own ++ locking.taken) state.sections) in
     let done = answer_sound script thread holders state called unfixed next two in_order sound in
     let last = finish_stage script thread left after refl done.0 in
-    let both : IsTurned script thread holders state true (finish_tried after (take_locks thread left (lower_first (innermost_objects after.sections)))) =
+    let both : IsTurned script thread holders state true (finish_tried after (take_locks thread left (lower_first (innermost_containers after.sections)))) =
     record { sound = last.sound; apart = apart_twice thread holders left _ done.1 last.apart; quiet = λ a b. absurd (let e : true ≡ false = a in cc) } in
     rw first_is both
 answer_at script thread holders state called (Some other) unfixed next two in_order sound is first first_is =
     let locking = take_locks thread holders (wanted script thread state) in
     let waits = wait_sound script thread holders state other in_order sound is in
     let vain = tried_in_vain state locking other in
-    let kept : finish_part thread vain ≡ not_tried vain.holders vain.state = ap (λ b. if b then finish_tried vain.state (take_locks thread vain.holders (lower_first (innermost_objects vain.state.sections))) else not_tried vain.holders vain.state) unfixed in
+    let kept : finish_part thread vain ≡ not_tried vain.holders vain.state = ap (λ b. if b then finish_tried vain.state (take_locks thread vain.holders (lower_first (innermost_containers vain.state.sections))) else not_tried vain.holders vain.state) unfixed in
     let both : IsTurned script thread holders state false (not_tried vain.holders vain.state) = record { sound = waits.0; apart = waits.1; quiet = λ a b. waits.2 } in
     rw (first_is, kept) both
 
@@ -93,12 +93,12 @@ turned_at : (fixed : Bool) (script : ScriptParts) (thread : ℕ) (holders : List
     → IsTurned script thread holders state first.done (finish_part thread first)
 turned_at true script thread holders state called fixed next two taken_two sound first first_is =
     let last = finish_stage script thread holders state fixed sound in
-    let kept : finish_part thread (not_tried holders state) ≡ finish_tried state (take_locks thread holders (lower_first (innermost_objects state.sections))) = ap (λ b. if b then finish_tried state (take_locks thread holders (lower_first (innermost_objects state.sections))) else not_tried holders state) fixed in
+    let kept : finish_part thread (not_tried holders state) ≡ finish_tried state (take_locks thread holders (lower_first (innermost_containers state.sections))) = ap (λ b. if b then finish_tried state (take_locks thread holders (lower_first (innermost_containers state.sections))) else not_tried holders state) fixed in
     rw (first_is, kept) last
 turned_at false script thread holders state called unfixed next two taken_two sound first first_is =
     let takes = lower_first (locks_taken (take (length state.marks) (calls_of script thread)) called) in
     let wants : wanted script thread state ≡ takes =
-    ap (λ b. if b then lower_first (innermost_objects state.sections) else option_map_or (λ called. lower_first (locks_taken (take (length state.marks) (calls_of script thread)) called)) (next_call script thread state) []) unfixed
+    ap (λ b. if b then lower_first (innermost_containers state.sections) else option_map_or (λ called. lower_first (locks_taken (take (length state.marks) (calls_of script thread)) called)) (next_call script thread state) []) unfixed
     ∙ ap (λ o. option_map_or (λ called. lower_first (locks_taken (take (length state.marks) (calls_of script thread)) called)) o []) next in
     let in_order : AreRising (length script.containers) (wanted script thread state) = rw wants (rising (length script.containers) (locks_taken (take (length state.marks) (calls_of script thread)) called) taken_two) in
     answer_at script thread holders state called (take_locks thread holders (wanted script thread state)).found unfixed next two in_order sound refl first (first_is ∙ ap (λ w. answer_tried state called (take_locks thread holders w)) (sym wants))

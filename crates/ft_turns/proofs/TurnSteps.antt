@@ -14,7 +14,7 @@ use Rattle.ft_model.specs.Histories.{calls_of, cursors_of}
 use Rattle.ft_turns.specs.declared.machine.Standing.{Standing}
 use Rattle.ft_turns.specs.declared.machine.Turned.{Turned}
 use Rattle.ft_turns.specs.Cursors.{AreCursors}
-use Rattle.ft_turns.specs.Orders.{ThreadState, Machine, Locking, fresh_thread, thread_at, next_call, take_locks, lower_first, locks_taken, innermost_objects, turn}
+use Rattle.ft_turns.specs.Orders.{ThreadState, Machine, Locking, fresh_thread, thread_at, next_call, take_locks, lower_first, locks_taken, innermost_containers, turn}
 use Rattle.ft_turns.specs.Standings.{state_of, machine_with, Tried, not_tried, answer_tried, finish_tried, answer_part, finish_part, newly_answered, placed, turned_of, marks_made, IsTried, IsReady, IsReadyThread}
 use Rattle.ft_turns.proofs.TurnParts.{turn_is, idle_turn}
 
@@ -34,9 +34,9 @@ finish_marks true None tried locking = length-append tried.state.marks (tried.st
 finish_marks true (Some other) tried locking = omega arith
 
 pub finish_adds_mark : (thread : ℕ) (tried : Tried) → length (finish_part thread tried).state.marks ≡ length tried.state.marks + (if (finish_part thread tried).done then 1 else 0)
-finish_adds_mark thread tried = let locking = take_locks thread tried.holders (lower_first (innermost_objects tried.state.sections)) in finish_marks tried.state.fixed locking.found tried locking
+finish_adds_mark thread tried = let locking = take_locks thread tried.holders (lower_first (innermost_containers tried.state.sections)) in finish_marks tried.state.fixed locking.found tried locking
 
--- ---- what is told
+-- ---- what is reported
 
 pub more_if : (done : Bool) (n m : ℕ) → m ≡ n + (if done then 1 else 0) → nat_lt n m ≡ done
 more_if true n m is = grind (arith, nat_tests, is)
@@ -79,14 +79,14 @@ step_turned_at script machine thread called turned state none within is next pla
     let after = turn_is script machine thread state called is within next in
     let marks : length second.state.marks ≡ length state.marks + (if second.done then 1 else 0) = finish_adds_mark thread first ∙ ap (λ ms. length ms + (if second.done then 1 else 0)) (answer_keeps_marks thread (take (length state.marks) (calls_of script thread)) called machine.holders state) in
     let reads : get_or (set machine.threads thread second.state) thread fresh_thread ≡ second.state = get_or-set_same machine.threads thread second.state fresh_thread within in
-    let told : nat_lt (length machine.answered) (length (machine.answered ++ newly_answered thread (length state.marks) first.done)) ≡ first.done = rw none (one_if first.done thread (length state.marks)) in
+    let reported : nat_lt (length machine.answered) (length (machine.answered ++ newly_answered thread (length state.marks) first.done)) ≡ first.done = rw none (one_if first.done thread (length state.marks)) in
     let ended : nat_lt (length state.marks) (length (get_or (set machine.threads thread second.state) thread fresh_thread).marks) ≡ second.done = rw reads (more_if second.done (length state.marks) (length second.state.marks) marks) in
     let one : ℕ → Bool → Bool → Option Turned = λ p a f. Some (record { place = p; answered = a; finished = f }) in
     let tells : Machine → ThreadState → Option Call → Option Turned = λ m s found. option_map (λ one. record { place = length s.marks; answered = nat_lt (length machine.answered) (length m.answered); finished = nat_lt (length s.marks) (length (thread_at m thread).marks) }) found in
     let of_state : turned_of script machine thread ≡ tells (turn script machine thread) state (next_call script thread state) = ap (λ s. tells (turn script machine thread) s (next_call script thread s)) (sym is) in
     let of_call : tells (turn script machine thread) state (next_call script thread state) ≡ tells (turn script machine thread) state (Some called) = ap (tells (turn script machine thread) state) next in
     let of_turn : tells (turn script machine thread) state (Some called) ≡ tells (placed machine thread second (newly_answered thread (length state.marks) first.done)) state (Some called) = ap (λ m. tells m state (Some called)) after in
-    let whole = ap (λ a. one (length state.marks) a (nat_lt (length state.marks) (length (get_or (set machine.threads thread second.state) thread fresh_thread).marks))) (told ∙ sym answered)
+    let whole = ap (λ a. one (length state.marks) a (nat_lt (length state.marks) (length (get_or (set machine.threads thread second.state) thread fresh_thread).marks))) (reported ∙ sym answered)
     ∙ (ap (one (length state.marks) turned.answered) (ended ∙ sym finished) ∙ ap (λ p. one p turned.answered turned.finished) (sym place)) in
     sym (of_state ∙ (of_call ∙ (of_turn ∙ whole)))
 
@@ -102,9 +102,9 @@ step_turned script holders holders_after threads thread d after called turned wi
 
 -- ---- what the machine rests on
 
-behind : (finished : Bool) (calls : List Call) (n m : ℕ) (called : Call) → n < length calls → get_or calls n called ≡ called → m ≡ n + (if finished then 1 else 0) → (if finished then take n calls ++ called ∷ [] else take n calls) ≡ take m calls
-behind true calls n m called within read is = rw (is, take_more calls n called within, read) refl
-behind false calls n m called within read is = let same : m ≡ n = omega arith in rw same refl
+further : (finished : Bool) (calls : List Call) (n m : ℕ) (called : Call) → n < length calls → get_or calls n called ≡ called → m ≡ n + (if finished then 1 else 0) → (if finished then take n calls ++ called ∷ [] else take n calls) ≡ take m calls
+further true calls n m called within read is = rw (is, take_more calls n called within, read) refl
+further false calls n m called within read is = let same : m ≡ n = omega arith in rw same refl
 
 at_most_one : (b : Bool) → (if b then 1 else 0) ≤ 1
 at_most_one true = omega arith
@@ -129,7 +129,7 @@ step_ready script threads thread d after called turned holders holders_after rea
     let one : (if turned.finished then 1 else 0) ≤ 1 = at_most_one turned.finished in
     let this : IsReadyThread calls (cursors_of script thread) after = record {
       made = omega (arith, one, marks, slice_get_within calls n called next);
-      cursors = rw (behind turned.finished calls n (length after.marks.items) called (slice_get_within calls n called next) (get_or_from_slice_get calls n called called next) marks) at cursors;
+      cursors = rw (further turned.finished calls n (length after.marks.items) called (slice_get_within calls n called next) (get_or_from_slice_get calls n called called next) marks) at cursors;
       room = room ∙ (ready.each thread d within).room;
     } in
     record {

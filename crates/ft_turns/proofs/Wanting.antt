@@ -33,7 +33,7 @@ rising_two : (b : Bool) (n x y : ℕ) → nat_lt y x ≡ b → AreTwo n (x ∷ y
 rising_two true n x y is two = (grind (arith, nat_tests, is), two.0)
 rising_two false n x y is two = (grind (arith, nat_tests, is, two.2), two.1)
 
-pub rising : (n : ℕ) (objects : List ℕ) → AreTwo n objects → AreRising n (lower_first objects)
+pub rising : (n : ℕ) (containers : List ℕ) → AreTwo n containers → AreRising n (lower_first containers)
 rising n [] two = tt
 rising n (x ∷ []) two = two
 rising n (x ∷ y ∷ []) two = rising_two (nat_lt y x) n x y refl two
@@ -67,20 +67,20 @@ named_are_two containers cursors (call.Begin first second) named = one_or_two_ar
 named_are_two containers cursors call.End named = tt
 named_are_two containers cursors call.Quiesce named = tt
 
-cursor_at : (made : Bool) (n : ℕ) (objects others : List ℕ) → AreTwo n objects → AreTwo n others → AreTwo n (if made then others else objects)
-cursor_at true n objects others one two = two
-cursor_at false n objects others one two = one
+cursor_at : (made : Bool) (n : ℕ) (containers others : List ℕ) → AreTwo n containers → AreTwo n others → AreTwo n (if made then others else containers)
+cursor_at true n containers others one two = two
+cursor_at false n containers others one two = one
 
-cursors_are_two : (script : ScriptParts) (cursors number : ℕ) (objects : List ℕ) (calls : List Call) → AreTwo (length script.containers) objects → All (IsCallOf script cursors) calls → AreTwo (length script.containers) (fold (λ objects called. if makes number called then containers_of called else objects) objects calls)
-cursors_are_two script cursors number objects [] two all = two
-cursors_are_two script cursors number objects (called ∷ calls) two all =
-    cursors_are_two script cursors number (if makes number called then containers_of called else objects) calls
-    (cursor_at (makes number called) (length script.containers) objects (containers_of called) two (named_are_two script.containers cursors called (All-head (IsCallOf script cursors) called calls all).names))
+cursors_are_two : (script : ScriptParts) (cursors number : ℕ) (containers : List ℕ) (calls : List Call) → AreTwo (length script.containers) containers → All (IsCallOf script cursors) calls → AreTwo (length script.containers) (fold (λ containers called. if makes number called then containers_of called else containers) containers calls)
+cursors_are_two script cursors number containers [] two all = two
+cursors_are_two script cursors number containers (called ∷ calls) two all =
+    cursors_are_two script cursors number (if makes number called then containers_of called else containers) calls
+    (cursor_at (makes number called) (length script.containers) containers (containers_of called) two (named_are_two script.containers cursors called (All-head (IsCallOf script cursors) called calls all).names))
     (All-tail (IsCallOf script cursors) called calls all)
 
-taken_at : (none : Bool) (n : ℕ) (objects : List ℕ) → AreTwo n objects → AreTwo n (if none then [] else objects)
-taken_at true n objects two = tt
-taken_at false n objects two = two
+taken_at : (none : Bool) (n : ℕ) (containers : List ℕ) → AreTwo n containers → AreTwo n (if none then [] else containers)
+taken_at true n containers two = tt
+taken_at false n containers two = two
 
 -- the locks that a call takes are of at most two containers
 pub taken_are_two : (script : ScriptParts) (cursors : ℕ) (before : List Call) (called : Call) → All (IsCallOf script cursors) before → IsCallOf script cursors called → AreTwo (length script.containers) (locks_taken before called)

@@ -24,7 +24,7 @@ pub record Tally : Type 0 where
 abbrev pub no_tally : Tally
 no_tally = record { count = 0; noted = [] }
 
--- behind a call that leaves so many that waited, its own mark counted
+-- after a call that leaves that many that waited, its own mark counted
 abbrev pub noted_after : Call → List ℕ → ℕ → Tally
 noted_after (call.Begin first second) noted count = record { count = count; noted = count ∷ noted }
 noted_after call.End noted count = record { count = count; noted = drop 1 noted }
@@ -97,7 +97,7 @@ entry_now answers thread index called =
       waited = None;
     }
 
--- behind the answer to a call of a thread
+-- after the answer to a call of a thread
 abbrev pub with_answer : Answers → ℕ → ℕ → Call → Answers
 with_answer answers thread index called =
     record answers {
@@ -106,7 +106,7 @@ with_answer answers thread index called =
       entries = answers.entries ++ entry_now answers thread index called ∷ [];
     }
 
--- behind the end of a call of a thread, with this mark
+-- after the end of a call of a thread, with this mark
 abbrev pub with_mark : Answers → ℕ → Call → Option ℕ → Answers
 with_mark answers thread called waited = record answers { tallies = slice_set answers.tallies thread (tally_after (tally_in answers thread) called waited) }
 
@@ -141,7 +141,7 @@ answers_after answers thread index called answered = if answered then with_answe
 abbrev pub marks_after : Answers → ℕ → Call → Bool → Option ℕ → Answers
 marks_after answers thread called finished waited = if finished then with_mark answers thread called waited else answers
 
--- behind a turn of a thread with a call left, which left this machine
+-- after a turn of a thread with a call left, which left this machine
 abbrev pub with_turn : Progress → ℕ → Call → Bool → Bool → Option ℕ → Machine → Progress
 with_turn progress thread called answered finished waited after =
     record {

@@ -20,24 +20,24 @@ abbrev pub makes : ℕ → Call → Bool
 makes number called = option_map_or (λ made. made == number) (cursor_of called) false
 
 -- the container of a cursor after these calls of its thread: that of the call that made it last
-abbrev pub cursor_objects : List Call → ℕ → List ℕ
-cursor_objects calls number = fold (λ objects called. if makes number called then containers_of called else objects) [] calls
+abbrev pub cursor_containers : List Call → ℕ → List ℕ
+cursor_containers calls number = fold (λ containers called. if makes number called then containers_of called else containers) [] calls
 
--- the containers whose locks a call takes, behind these calls of its thread; a call that is tried without a lock takes none here
+-- the containers whose locks a call takes, after these calls of its thread; a call that is tried without a lock takes none here
 abbrev pub locks_taken : List Call → Call → List ℕ
-locks_taken before (call.Next number) = cursor_objects before number
+locks_taken before (call.Next number) = cursor_containers before number
 locks_taken before other = if locks_of other == 0 then [] else containers_of other
 
 -- the lower number first
 abbrev pub lower_first : List ℕ → List ℕ
 lower_first (a ∷ b ∷ []) = if nat_lt b a then b ∷ a ∷ [] else a ∷ b ∷ []
-lower_first objects = objects
+lower_first containers = containers
 
 -- ---- the machine
 
 -- a section that is open: its containers, and the locks that it took itself
 pub record OpenSection : Type 0 where
-  pub objects : List ℕ
+  pub containers : List ℕ
   pub taken : List ℕ
 
 -- a thread between two turns
@@ -75,24 +75,24 @@ pub record Locking : Type 0 where
 
 -- whose the lock is, where somebody has it
 abbrev pub holder_of : List (Option ℕ) → ℕ → Option ℕ
-holder_of holders object = slice_index_or holders object None
+holder_of holders container = slice_index_or holders container None
 
 abbrev pub also_taken : ℕ → Locking → Locking
-also_taken object locking = record locking { taken = object ∷ locking.taken }
+also_taken container locking = record locking { taken = container ∷ locking.taken }
 
 -- the locks are taken in order, but for those that the thread has, until another thread has one
 abbrev pub take_locks : ℕ → List (Option ℕ) → List ℕ → Locking
 take_locks thread holders [] = record { holders = holders; taken = []; found = None }
-take_locks thread holders (object ∷ objects) =
-    if is_none (holder_of holders object)
-    then also_taken object (take_locks thread (slice_set holders object (Some thread)) objects)
-    else (if unwrap_or (holder_of holders object) 0 == thread
-    then take_locks thread holders objects
-    else record { holders = holders; taken = []; found = holder_of holders object })
+take_locks thread holders (container ∷ containers) =
+    if is_none (holder_of holders container)
+    then also_taken container (take_locks thread (slice_set holders container (Some thread)) containers)
+    else (if unwrap_or (holder_of holders container) 0 == thread
+    then take_locks thread holders containers
+    else record { holders = holders; taken = []; found = holder_of holders container })
 
 -- the locks are let go
 abbrev pub let_go : List (Option ℕ) → List ℕ → List (Option ℕ)
-let_go holders objects = fold (λ left object. slice_set left object None) holders objects
+let_go holders containers = fold (λ left container. slice_set left container None) holders containers
 
 -- ---- turns
 
@@ -132,7 +132,7 @@ waits machine thread state locking found =
 
 -- the sections of a thread when the answer of a call is fixed, and the locks that are let go then: a `begin` enters a section, which took what the call took; an `end` lets go what its section took; any other call lets go what it took itself
 abbrev pub sections_after : Call → List ℕ → List OpenSection → List OpenSection
-sections_after (call.Begin first second) own sections = record { objects = containers_of (call.Begin first second); taken = own } ∷ sections
+sections_after (call.Begin first second) own sections = record { containers = containers_of (call.Begin first second); taken = own } ∷ sections
 sections_after call.End own sections = drop 1 sections
 sections_after other own sections = sections
 
@@ -164,9 +164,9 @@ answers machine thread state called locking =
     }
 
 -- the locks of the innermost section that the thread hasn't are taken
-abbrev pub innermost_objects : List OpenSection → List ℕ
-innermost_objects [] = []
-innermost_objects (section ∷ sections) = section.objects
+abbrev pub innermost_containers : List OpenSection → List ℕ
+innermost_containers [] = []
+innermost_containers (section ∷ sections) = section.containers
 
 abbrev pub with_taken : List ℕ → List OpenSection → List OpenSection
 with_taken taken [] = []
@@ -204,7 +204,7 @@ relocked machine thread state locking = option_map_or (waits machine thread stat
 abbrev pub try_finish : Machine → ℕ → Machine
 try_finish machine thread =
     if (thread_at machine thread).fixed
-    then relocked machine thread (thread_at machine thread) (take_locks thread machine.holders (lower_first (innermost_objects (thread_at machine thread).sections)))
+    then relocked machine thread (thread_at machine thread) (take_locks thread machine.holders (lower_first (innermost_containers (thread_at machine thread).sections)))
     else machine
 
 -- one turn of a thread: one try of its next call, which fixes the answer, where it isn't fixed, and then takes up the innermost section again; a thread without calls spends its turn

@@ -8,11 +8,11 @@ use Rattle.ft_model.specs.Worlds.{IsDeclared}
 use Rattle.ft_turns.specs.declared.machine.Turned.{Turned}
 use Rattle.ft_turns.specs.Answering.{Answers, asks_container, hands_in, tally_in, answers_after, marks_after}
 
--- behind a turn that told this of a call of a thread, with this mark where the call has finished
+-- after a turn that reported this of a call of a thread, with this mark where the call has finished
 abbrev pub call_followed : Answers → ℕ → Call → Turned → Option ℕ → Answers
 call_followed answers thread called turned waited = marks_after (answers_after answers thread (turned.place + 1) called turned.answered) thread called turned.finished waited
 
--- behind a turn of a thread with these marks
+-- after a turn of a thread with these marks
 abbrev pub followed : ScriptParts → List (Option ℕ) → Answers → ℕ → Option Turned → Answers
 followed script marks answers thread None = answers
 followed script marks answers thread (Some turned) = option_map_or (λ called. call_followed answers thread called turned (slice_index_or marks turned.place None)) (slice_get (calls_of script thread) turned.place) answers

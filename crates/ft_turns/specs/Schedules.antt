@@ -3,7 +3,7 @@ use Rattle.std.specs.Prelude.{ℕ, List, ◌++◌, drop}
 use Rattle.std.specs.List.{flat_map, range_with_len}
 use Rattle.ft_turns.specs.declared.schedule.Schedule.{Schedule}
 
--- so many rounds, each of so many threads
+-- that many rounds, each of that many threads
 abbrev pub rounds_of : ℕ → ℕ → List ℕ
 rounds_of threads rounds = flat_map (λ round. range_with_len 0 threads) (range_with_len 0 rounds)
 

@@ -11,13 +11,13 @@ use Rattle.ft_turns.specs.declared.machine.Section.{Section}
 use Rattle.ft_turns.specs.declared.machine.Standing.{Standing}
 use Rattle.ft_turns.specs.declared.machine.Turned.{Turned}
 use Rattle.ft_model.specs.declared.script.Thread.{Thread}
-use Rattle.ft_turns.specs.Cursors.{AreCursors, no_objects}
-use Rattle.ft_turns.specs.Orders.{OpenSection, ThreadState, Machine, Locking, fresh_thread, lower_first, locks_taken, take_locks, let_go, with_own, section_locks, waiting, answering, finishing, lets_go, innermost_objects, thread_at, next_call, turn}
+use Rattle.ft_turns.specs.Cursors.{AreCursors, no_containers}
+use Rattle.ft_turns.specs.Orders.{OpenSection, ThreadState, Machine, Locking, fresh_thread, lower_first, locks_taken, take_locks, let_go, with_own, section_locks, waiting, answering, finishing, lets_go, innermost_containers, thread_at, next_call, turn}
 
 -- ---- what is kept in memory
 
 abbrev pub section_of : Section → OpenSection
-section_of section = record { objects = listed section.objects; taken = section.taken.items }
+section_of section = record { containers = listed section.containers; taken = section.taken.items }
 
 abbrev pub state_of : Standing → ThreadState
 state_of standing =
@@ -72,7 +72,7 @@ finish_tried state locking =
     option_map_or (tried_in_vain state locking) locking.found
     (record { holders = locking.holders; state = finishing (with_own state locking); done = true })
 
--- the first part of a turn, behind these calls of the thread
+-- the first part of a turn, after these calls of the thread
 abbrev pub answer_part : ℕ → List Call → Call → List (Option ℕ) → ThreadState → Tried
 answer_part thread before called holders state =
     if state.fixed
@@ -83,7 +83,7 @@ answer_part thread before called holders state =
 abbrev pub finish_part : ℕ → Tried → Tried
 finish_part thread answer =
     if answer.state.fixed
-    then finish_tried answer.state (take_locks thread answer.holders (lower_first (innermost_objects answer.state.sections)))
+    then finish_tried answer.state (take_locks thread answer.holders (lower_first (innermost_containers answer.state.sections)))
     else not_tried answer.holders answer.state
 
 -- the calls whose answers became fixed in a turn: the one at this place among the calls of the thread, if any
@@ -132,7 +132,7 @@ finishes_of turned = option_map_or (λ one. if one.finished then 1 else 0) turne
 abbrev pub marks_made : List Standing → ℕ
 marks_made standings = sum_by (λ standing. length standing.marks.items) standings
 
--- what a try of a call comes to, behind these calls of its thread
+-- what a try of a call comes to, after these calls of its thread
 pub record IsTried (thread : ℕ) (before : List Call) (called : Call) (holders_before : List (Option ℕ)) (state_before : ThreadState) (turned : Turned) (holders_after : List (Option ℕ)) (state_after : ThreadState) : Type 0 where
   pub place : turned.place ≡ length state_before.marks
   pub answered : turned.answered ≡ (answer_part thread before called holders_before state_before).done
@@ -143,4 +143,4 @@ pub record IsTried (thread : ℕ) (before : List Call) (called : Call) (holders_
 -- threads before their first turns
 pub record AreFresh (threads : List Thread) (standings : List Standing) : Type 0 where
   pub states : map state_of standings ≡ map (λ thread. fresh_thread) threads
-  pub cursors : (place : ℕ) (thread : Thread) (standing : Standing) → place < length standings → (slice_index_or standings place standing).cursors.items ≡ replicate (length (slice_index_or threads place thread).cursors) no_objects
+  pub cursors : (place : ℕ) (thread : Thread) (standing : Standing) → place < length standings → (slice_index_or standings place standing).cursors.items ≡ replicate (length (slice_index_or threads place thread).cursors) no_containers

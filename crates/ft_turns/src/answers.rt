@@ -71,7 +71,7 @@ impl Tally {
     }
 }
 
-/// The reply to an `end` with so many calls in its section that waited (C API, critical sections;
+/// The reply to an `end` with that many calls in its section that waited (C API, critical sections;
 /// the count: profile).
 fn ended(count: u32) -> Reply
     ensures { result ≡ ended_reply count }
@@ -108,7 +108,7 @@ impl Model for Answers {
 }
 
 impl Answers {
-    /// Before the first call of a script, with room for so many entries.
+    /// Before the first call of a script, with room for that many entries.
     pub(crate) fn start(
         alloc: Global,
         script: &ScriptParts,
@@ -177,7 +177,7 @@ impl Answers {
             Call::Begin { .. } => Ok(Reply::Entered),
             Call::End => Ok(ended(self.tallies[thread as usize].inside())),
             Call::Quiesce => Ok(Reply::Done),
-            // Serials run out only behind more additions than a memory has room for.
+            // Serials run out only after more additions than a memory has room for.
             _ if !has_room(&self.world, call) => Err(AllocError),
             _ => apply(
                 alloc,
@@ -202,7 +202,7 @@ impl Answers {
         self.tallies[thread as usize].finish(call, waited)
     }
 
-    /// What a turn told of a call of a thread: it is answered where its answer was fixed, and its end
+    /// What a turn reported of a call of a thread: it is answered where its answer was fixed, and its end
     /// is noted where it finished, with the thread that it waited for first.
     pub(crate) fn follow(
         &mut self,
@@ -225,7 +225,7 @@ impl Answers {
     }
 
     /// The entries in the order in which the calls were answered, without their marks, and what the
-    /// containers have behind them.
+    /// containers have after them.
     pub(crate) fn into_parts(self) -> (Vec<Entry>, World)
         ensures entries { result.0.items ≡ self.entries }
         ensures world { result.1 ≡ self.world }

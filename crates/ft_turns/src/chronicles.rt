@@ -13,7 +13,7 @@ pub fn turns_make_a_chronicle()
     ensures { (script : ScriptParts) → IsScript script → IsChronicleOfTurns script (answered_turns script) (last_progress script).world }
 {}
 
-/// Behind any turns the next call of a thread can be answered: what it names is declared and of its
+/// After any turns the next call of a thread can be answered: what it names is declared and of its
 /// kind, and the cursor that it moves was made.
 pub fn next_calls_are_answerable()
     ensures { (script : ScriptParts) → IsScript script → (turns : List ℕ) (thread : ℕ) (called : Call) → next_call script thread (thread_at (fold (answered_turn script) (start_progress script) turns).machine thread) ≡ Some called → IsAnswerable (fold (answered_turn script) (start_progress script) turns) thread called }

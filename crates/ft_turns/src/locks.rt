@@ -9,19 +9,19 @@ ghost use Rattle.ft_history.specs.States.{listed};
 ghost use Rattle.ft_turns.specs.Orders.{lower_first, locks_taken, holder_of, take_locks, let_go};
 ghost use Rattle.ft_turns.specs.Cursors.{AreCursors};
 
-use ft_history::{Objects, containers_named};
+use ft_history::{Containers, containers_named};
 use ft_model::{Call, DictCall, ListCall, SetCall};
 use std::alloc::AllocError;
 
 /// No container.
-pub(crate) const NO_OBJECTS: Objects = Objects {
+pub(crate) const NO_OBJECTS: Containers = Containers {
     first: None,
     second: None,
 };
 
 /// The containers whose locks a call takes, the lower one first. The cursors of its thread are given
 /// by the containers that they go over.
-pub(crate) fn locks_needed(cursors: &[Objects], call: &Call) -> Objects
+pub(crate) fn locks_needed(cursors: &[Containers], call: &Call) -> Containers
     ensures { (before : List Call) → AreCursors before cursors.now → listed result ≡ lower_first (locks_taken before call.now) }
 {
     match call {
@@ -32,11 +32,11 @@ pub(crate) fn locks_needed(cursors: &[Objects], call: &Call) -> Objects
 }
 
 /// The container that a cursor goes over, where the cursor was made.
-fn walked(cursors: &[Objects], number: u32) -> Objects
+fn walked(cursors: &[Containers], number: u32) -> Containers
     ensures { (before : List Call) → AreCursors before cursors.now → listed result ≡ locks_taken before (call.Next number) }
 {
     match cursors.get(number as usize) {
-        Some(objects) => *objects,
+        Some(containers) => *containers,
         None => NO_OBJECTS,
     }
 }
@@ -113,33 +113,33 @@ pub(crate) fn cursor_made(call: &Call) -> Option<u32>
 }
 
 /// The same containers, the lower one first.
-pub(crate) fn in_order(objects: Objects) -> Objects
-    ensures { listed result ≡ lower_first (listed objects) }
+pub(crate) fn in_order(containers: Containers) -> Containers
+    ensures { listed result ≡ lower_first (listed containers) }
 {
-    match (objects.first, objects.second) {
-        (Some(first), Some(second)) if second < first => Objects {
+    match (containers.first, containers.second) {
+        (Some(first), Some(second)) if second < first => Containers {
             first: Some(second),
             second: Some(first),
         },
-        _ => objects,
+        _ => containers,
     }
 }
 
 /// The thread that has a lock, where one has it.
-fn holder(holders: &[Option<u32>], object: u32) -> Option<u32>
-    ensures { result ≡ holder_of holders.now object }
+fn holder(holders: &[Option<u32>], container: u32) -> Option<u32>
+    ensures { result ≡ holder_of holders.now container }
 {
-    match holders.get(object as usize) {
+    match holders.get(container as usize) {
         Some(holder) => *holder,
         None => None,
     }
 }
 
 /// Says whose a lock is.
-fn set_holder(holders: &mut [Option<u32>], object: u32, holder: Option<u32>)
-    ensures { holders.new ≡ slice_set holders.old object holder }
+fn set_holder(holders: &mut [Option<u32>], container: u32, holder: Option<u32>)
+    ensures { holders.new ≡ slice_set holders.old container holder }
 {
-    let place = object as usize;
+    let place = container as usize;
     if place < holders.len() {
         holders[place] = holder;
     }
@@ -151,16 +151,16 @@ fn take_lock(
     holders: &mut [Option<u32>],
     own: &mut Vec<u32>,
     thread: u32,
-    object: u32,
+    container: u32,
 ) -> Result<Option<u32>, AllocError>
-    ensures holders { OnOk result (holders.new ≡ (take_locks thread holders.old (object ∷ [])).holders) }
-    ensures own { OnOk result (own.new.items ≡ own.old.items ++ (take_locks thread holders.old (object ∷ [])).taken) }
-    ensures found { IfOk result (λ found. found ≡ (take_locks thread holders.old (object ∷ [])).found) }
+    ensures holders { OnOk result (holders.new ≡ (take_locks thread holders.old (container ∷ [])).holders) }
+    ensures own { OnOk result (own.new.items ≡ own.old.items ++ (take_locks thread holders.old (container ∷ [])).taken) }
+    ensures found { IfOk result (λ found. found ≡ (take_locks thread holders.old (container ∷ [])).found) }
 {
-    match holder(holders, object) {
+    match holder(holders, container) {
         None => {
-            own.push(object)?;
-            set_holder(holders, object, Some(thread));
+            own.push(container)?;
+            set_holder(holders, container, Some(thread));
             Ok(None)
         }
         Some(other) if other == thread => Ok(None),
@@ -174,27 +174,27 @@ pub(crate) fn take_all(
     holders: &mut [Option<u32>],
     own: &mut Vec<u32>,
     thread: u32,
-    objects: Objects,
+    containers: Containers,
 ) -> Result<Option<u32>, AllocError>
-    ensures holders { OnOk result (holders.new ≡ (take_locks thread holders.old (listed objects)).holders) }
-    ensures own { OnOk result (own.new.items ≡ own.old.items ++ (take_locks thread holders.old (listed objects)).taken) }
-    ensures found { IfOk result (λ found. found ≡ (take_locks thread holders.old (listed objects)).found) }
+    ensures holders { OnOk result (holders.new ≡ (take_locks thread holders.old (listed containers)).holders) }
+    ensures own { OnOk result (own.new.items ≡ own.old.items ++ (take_locks thread holders.old (listed containers)).taken) }
+    ensures found { IfOk result (λ found. found ≡ (take_locks thread holders.old (listed containers)).found) }
 {
     let mut found = None;
-    if let Some(first) = objects.first {
+    if let Some(first) = containers.first {
         found = take_lock(holders, own, thread, first)?;
     }
-    match objects.second {
+    match containers.second {
         Some(second) if found.is_none() => take_lock(holders, own, thread, second),
         _ => Ok(found),
     }
 }
 
 /// Lets locks go.
-pub(crate) fn let_all_go(holders: &mut [Option<u32>], objects: &[u32])
-    ensures { holders.new ≡ let_go holders.old objects.now }
+pub(crate) fn let_all_go(holders: &mut [Option<u32>], containers: &[u32])
+    ensures { holders.new ≡ let_go holders.old containers.now }
 {
-    for object in objects {
-        set_holder(holders, *object, None);
+    for container in containers {
+        set_holder(holders, *container, None);
     }
 }

@@ -3,12 +3,12 @@
 ghost use Rattle.std.specs.Prelude.{◌≡◌, ℕ, ◌+◌, ◌<◌, slice_index_or, List, [], ◌∷◌, ◌++◌, map, take, length, IfOk, OnOk, IfSome, if◌then◌else◌};
 ghost use Rattle.ft_model.specs.declared.call.Call.{Call};
 ghost use Rattle.ft_model.specs.Scripts.{cursor_of, IsScript};
-ghost use Rattle.ft_turns.specs.Orders.{without_locks, section_locks, let_go, lets_go, waiting, answering, finishing, take_locks, lower_first, locks_taken, innermost_objects, turn};
+ghost use Rattle.ft_turns.specs.Orders.{without_locks, section_locks, let_go, lets_go, waiting, answering, finishing, take_locks, lower_first, locks_taken, innermost_containers, turn};
 ghost use Rattle.ft_turns.specs.Cursors.{AreCursors};
 ghost use Rattle.ft_turns.specs.Standings.{section_of, state_of, answer_tried, finish_tried, machine_with, machine_of, turned_of, fixed_by, IsTried, IsReady, AreFresh, marks_made, finishes_of};
 
 use crate::locks::{NO_OBJECTS, cursor_made, in_order, let_all_go, locks_needed, take_all};
-use ft_history::{Objects, containers_named};
+use ft_history::{Containers, containers_named};
 use ft_model::{Call, ScriptParts, Thread};
 use std::alloc::{AllocError, Global};
 use std::collections::VecDeque;
@@ -17,7 +17,7 @@ use std::collections::VecDeque;
 #[derive(Debug, Drop)]
 pub(crate) struct Section {
     /// Its containers.
-    pub(crate) objects: Objects,
+    pub(crate) containers: Containers,
     /// The locks that it took itself and has not let go.
     pub(crate) taken: Vec<u32>,
 }
@@ -37,7 +37,7 @@ pub(crate) struct Standing {
     /// The thread that its next call waited for first, where it has waited.
     pub(crate) mark: Option<u32>,
     /// The containers of its cursors, by number.
-    pub(crate) cursors: Vec<Objects>,
+    pub(crate) cursors: Vec<Containers>,
 }
 
 /// Which thread has the lock of each container, and how far each thread has come.
@@ -100,7 +100,7 @@ fn answer(
         Call::Begin { .. } => {
             let taken = std::mem::replace(&mut standing.own, Vec::new(alloc));
             standing.sections.push_front(Section {
-                objects: containers_named(call),
+                containers: containers_named(call),
                 taken,
             })?;
         }
@@ -149,8 +149,8 @@ fn try_answer(
         ≡ answer_tried (state_of standing.old) call.now (take_locks thread holders.old (lower_first (locks_taken before call.now)))) }
     ensures cursors { OnOk result (standing.new.cursors ≡ standing.old.cursors) }
 {
-    let objects = locks_needed(&standing.cursors, call);
-    match take_all(holders, &mut standing.own, thread, objects)? {
+    let containers = locks_needed(&standing.cursors, call);
+    match take_all(holders, &mut standing.own, thread, containers)? {
         Some(found) => {
             wait(holders, standing, found);
             Ok(false)
@@ -172,15 +172,15 @@ fn try_finish(
 ) -> Result<bool, AllocError>
     requires { IfSome (cursor_of call.now) (λ number. number < length standing.old.cursors.items) }
     ensures tried { IfOk result (λ done. record { holders = holders.new; state = state_of standing.new; done = done }
-        ≡ finish_tried (state_of standing.old) (take_locks thread holders.old (lower_first (innermost_objects (state_of standing.old).sections)))) }
+        ≡ finish_tried (state_of standing.old) (take_locks thread holders.old (lower_first (innermost_containers (state_of standing.old).sections)))) }
     ensures cursors { IfOk result (λ done. (before : List Call) → AreCursors before standing.old.cursors.items → AreCursors (if done then before ++ call.now ∷ [] else before) standing.new.cursors.items) }
     ensures room { length standing.new.cursors.items ≡ length standing.old.cursors.items }
 {
-    let objects = match standing.sections.front() {
-        Some(section) => in_order(section.objects),
+    let containers = match standing.sections.front() {
+        Some(section) => in_order(section.containers),
         None => NO_OBJECTS,
     };
-    match take_all(holders, &mut standing.own, thread, objects)? {
+    match take_all(holders, &mut standing.own, thread, containers)? {
         Some(found) => {
             wait(holders, standing, found);
             Ok(false)
@@ -246,12 +246,12 @@ fn turn(
 impl Standing {
     ghost use Rattle.std.specs.Prelude.{replicate};
     ghost use Rattle.ft_turns.specs.Orders.{fresh_thread};
-    ghost use Rattle.ft_turns.specs.Cursors.{no_objects};
+    ghost use Rattle.ft_turns.specs.Cursors.{no_containers};
 
-    /// A thread before its first turn, with room for so many cursors.
+    /// A thread before its first turn, with room for that many cursors.
     pub(crate) fn start(alloc: Global, cursors: usize) -> Result<Standing, AllocError>
         ensures state { IfOk result (λ standing. state_of standing ≡ fresh_thread) }
-        ensures cursors { IfOk result (λ standing. standing.cursors.items ≡ replicate cursors no_objects) }
+        ensures cursors { IfOk result (λ standing. standing.cursors.items ≡ replicate cursors no_containers) }
     {
         Ok(Standing {
             marks: Vec::new(alloc),

@@ -66,7 +66,7 @@ fn threads_of(alloc: Global, text: &str) -> Result<Vec<Vec<Call>>, Fail> {
     Ok(threads)
 }
 
-/// Whether a thread with so many cursors has the one that a call makes.
+/// Whether a thread with that many cursors has the one that a call makes.
 fn has_cursor(cursors: usize, call: &Call) -> bool
     ensures { result ≡ true → IfSome (cursor_of call.now) (λ number. number < cursors) }
 {

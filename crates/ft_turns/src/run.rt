@@ -25,7 +25,7 @@ pub struct Run {
 }
 
 /// Runs a script on this thread, in the order of its turns. The entries are those of the turns, with
-/// their marks, in the order of a history, and the world is the one behind all writes. It takes one
+/// their marks, in the order of a history, and the world is the one after all writes. It takes one
 /// step for each turn, besides the calls themselves, and n log n comparisons for n calls. Memory may be
 /// refused; there is no other error.
 pub fn run_turns(alloc: Global, script: &Script) -> Result<Run, AllocError>

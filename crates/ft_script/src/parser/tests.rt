@@ -413,8 +413,8 @@ fn repeated(alloc: Global, head: &str, part: &str, count: u32) -> Result<String,
     Ok(text)
 }
 
-/// Whether the text with each of these lines behind it has the line's fault there.
-fn have_faults_behind(
+/// Whether the text with each of these lines after it has the line's fault there.
+fn have_faults_after(
     alloc: Global,
     text: &str,
     line: u32,
@@ -434,7 +434,7 @@ fn containers_at_a_limit_and_past_it(rt: HostRuntime) -> Result<(), Fail> {
     let text = numbered(alloc, "", "dict d", "", 256)?;
     assert!(rt; is_script(alloc, &text));
     let rows = [("dict", 3), ("dict D", 6), ("dict d0", 7), ("list e", 12)];
-    assert!(rt; have_faults_behind(alloc, &text, 257, &rows)?);
+    assert!(rt; have_faults_after(alloc, &text, 257, &rows)?);
     let text = numbered(alloc, "", "set s", "", 300)?;
     assert!(rt; passes(alloc, &text, 257, Which::Containers));
     Ok(())
@@ -446,7 +446,7 @@ fn threads_at_a_limit_and_past_it(rt: HostRuntime) -> Result<(), Fail> {
     let mut text = numbered(alloc, "", "thread A", "", 64)?;
     assert!(rt; is_script(alloc, &text));
     let rows = [("thread", 3), ("thread a", 6), ("thread A63", 7)];
-    assert!(rt; have_faults_behind(alloc, &text, 65, &rows)?);
+    assert!(rt; have_faults_after(alloc, &text, 65, &rows)?);
     text.push_str("thread B")?;
     assert!(rt; passes(alloc, &text, 65, Which::Threads));
     Ok(())
@@ -458,7 +458,7 @@ fn cursors_at_a_limit_and_past_it(rt: HostRuntime) -> Result<(), Fail> {
     let mut text = numbered(alloc, "dict d\nthread A\n", "iter d c", "", 256)?;
     text.push_str("iter d c0\n")?;
     assert!(rt; is_script(alloc, &text));
-    assert!(rt; have_faults_behind(alloc, &text, 260, &[("iter d C", 6), ("next d", 6)])?);
+    assert!(rt; have_faults_after(alloc, &text, 260, &[("iter d C", 6), ("next d", 6)])?);
     text.push_str("iter d d")?;
     assert!(rt; passes(alloc, &text, 260, Which::Cursors));
     Ok(())
@@ -470,14 +470,14 @@ fn strings_at_a_limit_and_past_it(rt: HostRuntime) -> Result<(), Fail> {
     let mut text = numbered(alloc, "dict d\nthread A\n", "get d \"", "\"", 65_536)?;
     text.push_str("get d \"0\"\n")?;
     assert!(rt; is_script(alloc, &text));
-    assert!(rt; have_faults_behind(alloc, &text, 65_540, &[("set d x \"a\"", 4)])?);
+    assert!(rt; have_faults_after(alloc, &text, 65_540, &[("set d x \"a\"", 4)])?);
     text.push_str("set d \"a\" x")?;
     assert!(rt; passes(alloc, &text, 65_540, Which::Strings));
     Ok(())
 }
 
 #[test]
-fn a_long_string_is_told_before_one_too_many(rt: HostRuntime) -> Result<(), Fail> {
+fn a_long_string_is_reported_before_one_too_many(rt: HostRuntime) -> Result<(), Fail> {
     let alloc = rt.alloc();
     let text = numbered(alloc, "dict d\nthread A\n", "get d \"", "\"", 65_536)?;
     let mut text = repeated(alloc, &text, "get d \"a", 1)?;
@@ -503,7 +503,7 @@ fn calls_at_a_limit_and_past_it(rt: HostRuntime) -> Result<(), Fail> {
         ("stop", 2),
         ("end \"", 5),
     ];
-    assert!(rt; have_faults_behind(alloc, &text, 500_004, &rows)?);
+    assert!(rt; have_faults_after(alloc, &text, 500_004, &rows)?);
     text.push_str("quiesce")?;
     assert!(rt; passes(alloc, &text, 500_004, Which::Calls));
     Ok(())
@@ -516,7 +516,7 @@ fn turns_at_a_limit_and_past_it(rt: HostRuntime) -> Result<(), Fail> {
     text.push_str("\n")?;
     assert!(rt; is_script(alloc, &text));
     let rows = [("order", 3), ("order a", 6), ("order B", 13)];
-    assert!(rt; have_faults_behind(alloc, &text, 3, &rows)?);
+    assert!(rt; have_faults_after(alloc, &text, 3, &rows)?);
     text.push_str("order A")?;
     assert!(rt; passes(alloc, &text, 3, Which::Order));
     Ok(())
@@ -534,7 +534,7 @@ fn sections_at_a_limit_and_past_it(rt: HostRuntime) -> Result<(), Fail> {
         ("begin d", 11),
         ("begin d d", 11),
     ];
-    assert!(rt; have_faults_behind(alloc, &text, 19, &rows)?);
+    assert!(rt; have_faults_after(alloc, &text, 19, &rows)?);
     Ok(())
 }
 

@@ -17,7 +17,7 @@ fn text(alloc: Global, bytes: &[u8]) -> Result<Text, AllocError>
 }
 
 // A dict `d`, a list `l`, a set `s`, a thread `A` with a cursor `c`, and a string of all that stands
-// behind a backslash.
+// after a backslash.
 fn sample_parts(alloc: Global) -> Result<ScriptParts, AllocError>
     ensures containers { IfOk result (λ parts. parts.containers ≡ record { kind = kind.Dict; name = codes "d" } ∷ record { kind = kind.List; name = codes "l" } ∷ record { kind = kind.Set; name = codes "s" } ∷ []) }
     ensures threads { IfOk result (λ parts. parts.threads ≡ record { name = codes "A"; cursors = codes "c" ∷ []; calls = [] } ∷ []) }

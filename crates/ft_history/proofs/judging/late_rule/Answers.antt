@@ -41,8 +41,8 @@ returns-then-not-is_marked_right c = λ entries place at users is_state first.
     let parts = c.args.parts.now in
     let progress : Progress = c.index-progress.result.now in
     let so_far = there parts entries place c.args.entry.now.thread c.args.state.now progress is_state (omega (arith, c.requires.thread, c.args.state.now.threads.ok.0)) c.index-progress.ensures in
-    let inner = λ (at marks : ℕ). c.inner_objects.ensures at marks ∙ ap (λ ss. inner_begun (after_begun at marks c.args.entry.now.call (all_begun ss))) c.deref.ensures.value in
-    record { before = first; broken = refuted c.is_marked_right.result c.if-not-is_marked_right.true (marked_iff parts entries place c.args.entry.now progress c.args.users.now _ _ c.is_marked_right.result users so_far c.objects_needed-own.ensures inner c.is_marked_right.ensures) }
+    let inner = λ (at marks : ℕ). c.inner_containers.ensures at marks ∙ ap (λ ss. inner_begun (after_begun at marks c.args.entry.now.call (all_begun ss))) c.deref.ensures.value in
+    record { before = first; broken = refuted c.is_marked_right.result c.if-not-is_marked_right.true (marked_iff parts entries place c.args.entry.now progress c.args.users.now _ _ c.is_marked_right.result users so_far c.containers_needed-own.ensures inner c.is_marked_right.ensures) }
 
 pub returns-then-not-is_kept_right : goal.returns-then-not-is_kept_right
 returns-then-not-is_kept_right c = λ entries place at users is_state first.
@@ -50,8 +50,8 @@ returns-then-not-is_kept_right c = λ entries place at users is_state first.
     let progress : Progress = c.index-progress.result.now in
     let entry = c.args.entry.now in
     let so_far = there parts entries place entry.thread c.args.state.now progress is_state (omega (arith, c.requires.thread, c.args.state.now.threads.ok.0)) c.index-progress.ensures in
-    let inner = λ (at marks : ℕ). c.inner_objects.ensures at marks ∙ ap (λ ss. inner_begun (after_begun at marks entry.call (all_begun ss))) c.deref.ensures.value in
-    let marked = (marked_iff parts entries place entry progress c.args.users.now _ _ c.is_marked_right.result users so_far c.objects_needed-own.ensures inner c.is_marked_right.ensures).0 c.if-not-is_marked_right.false in
+    let inner = λ (at marks : ℕ). c.inner_containers.ensures at marks ∙ ap (λ ss. inner_begun (after_begun at marks entry.call (all_begun ss))) c.deref.ensures.value in
+    let marked = (marked_iff parts entries place entry progress c.args.users.now _ _ c.is_marked_right.result users so_far c.containers_needed-own.ensures inner c.is_marked_right.ensures).0 c.if-not-is_marked_right.false in
     record {
       before = keeps_more c.args.storage parts entries place entry 4 rule.Mark refl first marked;
       broken = refuted c.is_kept_right.result c.if-not-is_kept_right.true (kept parts entries place entry c.args.state.now progress c.is_kept_right.result _ _ c.deref-2.ensures.value c.deref-3.ensures.value is_state so_far c.is_kept_right.ensures);
@@ -63,8 +63,8 @@ returns-then-not-is_counted_right c = λ entries place at users is_state first.
     let progress : Progress = c.index-progress.result.now in
     let entry = c.args.entry.now in
     let so_far = there parts entries place entry.thread c.args.state.now progress is_state (omega (arith, c.requires.thread, c.args.state.now.threads.ok.0)) c.index-progress.ensures in
-    let inner = λ (at marks : ℕ). c.inner_objects.ensures at marks ∙ ap (λ ss. inner_begun (after_begun at marks entry.call (all_begun ss))) c.deref.ensures.value in
-    let marked = (marked_iff parts entries place entry progress c.args.users.now _ _ c.is_marked_right.result users so_far c.objects_needed-own.ensures inner c.is_marked_right.ensures).0 c.if-not-is_marked_right.false in
+    let inner = λ (at marks : ℕ). c.inner_containers.ensures at marks ∙ ap (λ ss. inner_begun (after_begun at marks entry.call (all_begun ss))) c.deref.ensures.value in
+    let marked = (marked_iff parts entries place entry progress c.args.users.now _ _ c.is_marked_right.result users so_far c.containers_needed-own.ensures inner c.is_marked_right.ensures).0 c.if-not-is_marked_right.false in
     let is_kept = (kept parts entries place entry c.args.state.now progress c.is_kept_right.result _ _ c.deref-2.ensures.value c.deref-3.ensures.value is_state so_far c.is_kept_right.ensures).0 c.if-not-is_kept_right.false in
     record {
       before = keeps_more c.args.storage parts entries place entry 5 rule.Kept refl (keeps_more c.args.storage parts entries place entry 4 rule.Mark refl first marked) is_kept;
@@ -77,8 +77,8 @@ returns-then-not-has_cause c = λ entries place at users is_state first.
     let progress : Progress = c.index-progress.result.now in
     let entry = c.args.entry.now in
     let so_far = there parts entries place entry.thread c.args.state.now progress is_state (omega (arith, c.requires.thread, c.args.state.now.threads.ok.0)) c.index-progress.ensures in
-    let inner = λ (at marks : ℕ). c.inner_objects.ensures at marks ∙ ap (λ ss. inner_begun (after_begun at marks entry.call (all_begun ss))) c.deref.ensures.value in
-    let marked = (marked_iff parts entries place entry progress c.args.users.now _ _ c.is_marked_right.result users so_far c.objects_needed-own.ensures inner c.is_marked_right.ensures).0 c.if-not-is_marked_right.false in
+    let inner = λ (at marks : ℕ). c.inner_containers.ensures at marks ∙ ap (λ ss. inner_begun (after_begun at marks entry.call (all_begun ss))) c.deref.ensures.value in
+    let marked = (marked_iff parts entries place entry progress c.args.users.now _ _ c.is_marked_right.result users so_far c.containers_needed-own.ensures inner c.is_marked_right.ensures).0 c.if-not-is_marked_right.false in
     let is_kept = (kept parts entries place entry c.args.state.now progress c.is_kept_right.result _ _ c.deref-2.ensures.value c.deref-3.ensures.value is_state so_far c.is_kept_right.ensures).0 c.if-not-is_kept_right.false in
     let is_counted = (counted parts entries place entry progress c.is_counted_right.result _ c.deref-4.ensures.value so_far c.is_counted_right.ensures).0 c.if-not-is_counted_right.false in
     record {
@@ -92,9 +92,9 @@ returns c = λ entries place at users is_state.
     let progress : Progress = c.index-progress.result.now in
     let entry = c.args.entry.now in
     let so_far = there parts entries place entry.thread c.args.state.now progress is_state (omega (arith, c.requires.thread, c.args.state.now.threads.ok.0)) c.index-progress.ensures in
-    let inner = λ (at marks : ℕ). c.inner_objects.ensures at marks ∙ ap (λ ss. inner_begun (after_begun at marks entry.call (all_begun ss))) c.deref.ensures.value in
+    let inner = λ (at marks : ℕ). c.inner_containers.ensures at marks ∙ ap (λ ss. inner_begun (after_begun at marks entry.call (all_begun ss))) c.deref.ensures.value in
     record {
-      mark = (marked_iff parts entries place entry progress c.args.users.now _ _ c.is_marked_right.result users so_far c.objects_needed-own.ensures inner c.is_marked_right.ensures).0 c.if-not-is_marked_right.false;
+      mark = (marked_iff parts entries place entry progress c.args.users.now _ _ c.is_marked_right.result users so_far c.containers_needed-own.ensures inner c.is_marked_right.ensures).0 c.if-not-is_marked_right.false;
       kept = (kept parts entries place entry c.args.state.now progress c.is_kept_right.result _ _ c.deref-2.ensures.value c.deref-3.ensures.value is_state so_far c.is_kept_right.ensures).0 c.if-not-is_kept_right.false;
       suspended = (counted parts entries place entry progress c.is_counted_right.result _ c.deref-4.ensures.value so_far c.is_counted_right.ensures).0 c.if-not-is_counted_right.false;
       memory = (c.has_cause.ensures entries place is_state).0 c.if-not-has_cause.false;

@@ -9,7 +9,7 @@ use Rattle.ft_history.specs.Steps.{IsState, BreaksFirst, Finds}
 use Rattle.ft_model.specs.Histories.{writes}
 use Rattle.ft_history.proofs.Judged.{few_made}
 use Rattle.ft_history.proofs.LedgerLemmas.{earned_no_cursor}
-use Rattle.ft_history.proofs.GoesBehindLemmas.{state_behind, askable_at, of_kind_at, within_containers, thread_within, few_writes, few_marks, breaks_reply, keeps_four, finds_all, where_none}
+use Rattle.ft_history.proofs.GoesAfterLemmas.{state_after, askable_at, of_kind_at, within_containers, thread_within, few_writes, few_marks, breaks_reply, keeps_four, finds_all, where_none}
 use Rattle.ft_history.proofs.judging.step.Goals as goal
 
 -- the entry that stands at the place
@@ -33,58 +33,58 @@ late_rule-late-requires-clause-kinds c =
     let next = c.in_default.ensures c.args.storage rule.Whole (omega arith) in
     of_kind_at c.args.parts.now c.requires.script c.args.entries.now c.args.place c.index-entries-place.result at next c.args.state.now c.requires.state
 
-pub go_behind-requires-clause-ledger : goal.go_behind-requires-clause-ledger
-go_behind-requires-clause-ledger c = omega (arith, c.args.state.now.ledger.takings.ok.0, c.requires.state.ledger.classes)
+pub go_after-requires-clause-ledger : goal.go_after-requires-clause-ledger
+go_after-requires-clause-ledger c = omega (arith, c.args.state.now.ledger.takings.ok.0, c.requires.state.ledger.classes)
 
-pub go_behind-requires-clause-thread : goal.go_behind-requires-clause-thread
-go_behind-requires-clause-thread c =
+pub go_after-requires-clause-thread : goal.go_after-requires-clause-thread
+go_after-requires-clause-thread c =
     let at = here c.args.entries.now c.args.place c.index-entries-place.result c.requires.place c.index-entries-place.is in
     let next = c.in_default.ensures c.args.storage rule.Whole (omega arith) in
     omega (arith, c.args.state.now.threads.ok.0, thread_within c.args.parts.now c.requires.script c.args.entries.now c.args.place c.index-entries-place.result at next c.args.state.now c.requires.state)
 
-pub go_behind-requires-clause-askable : goal.go_behind-requires-clause-askable
-go_behind-requires-clause-askable c = λ progress made.
+pub go_after-requires-clause-askable : goal.go_after-requires-clause-askable
+go_after-requires-clause-askable c = λ progress made.
     let at = here c.args.entries.now c.args.place c.index-entries-place.result c.requires.place c.index-entries-place.is in
     let next = c.in_default.ensures c.args.storage rule.Whole (omega arith) in
     askable_at c.args.parts.now c.requires.script c.args.entries.now c.args.place c.index-entries-place.result at next c.args.state.now progress c.requires.state made
 
-pub go_behind-requires-clause-few : goal.go_behind-requires-clause-few
-go_behind-requires-clause-few c = λ progress made.
+pub go_after-requires-clause-few : goal.go_after-requires-clause-few
+go_after-requires-clause-few c = λ progress made.
     let so_far = c.requires.state.progress c.index-entries-place.result.thread progress made in
     let within : c.args.place ≤ length c.args.entries.now = omega (arith, c.requires.place) in (
       omega (arith, so_far.made, few_made c.args.entries.now c.args.place c.index-entries-place.result.thread within, c.requires.few, c.requires.place),
       omega (arith, so_far.marks, few_marks c.args.entries.now c.args.place c.index-entries-place.result.thread within, c.requires.few, c.requires.place),
     )
 
-pub go_behind-requires-clause-writes : goal.go_behind-requires-clause-writes
-go_behind-requires-clause-writes c = omega (arith, c.requires.state.count, few_writes c.args.entries.now c.args.place (omega (arith, c.requires.place)), c.requires.few, c.requires.place)
+pub go_after-requires-clause-writes : goal.go_after-requires-clause-writes
+go_after-requires-clause-writes c = omega (arith, c.requires.state.count, few_writes c.args.entries.now c.args.place (omega (arith, c.requires.place)), c.requires.few, c.requires.place)
 
-pub go_behind-requires-clause-containers : goal.go_behind-requires-clause-containers
-go_behind-requires-clause-containers c =
+pub go_after-requires-clause-containers : goal.go_after-requires-clause-containers
+go_after-requires-clause-containers c =
     let at = here c.args.entries.now c.args.place c.index-entries-place.result c.requires.place c.index-entries-place.is in
     let next = c.in_default.ensures c.args.storage rule.Whole (omega arith) in
-    subst (λ n. All (λ object. object < n) (containers_of c.index-entries-place.result.call)) (sym c.args.state.now.containers.ok.0)
+    subst (λ n. All (λ container. container < n) (containers_of c.index-entries-place.result.call)) (sym c.args.state.now.containers.ok.0)
     (within_containers c.args.parts.now c.requires.script c.args.entries.now c.args.place c.index-entries-place.result at next c.args.state.now c.requires.state)
 
-pub returns-then-told-clause-found : goal.returns-then-told-clause-found
-returns-then-told-clause-found c = λ entry at'.
+pub returns-then-reported-clause-found : goal.returns-then-reported-clause-found
+returns-then-reported-clause-found c = λ entry at'.
     let at = here c.args.entries.now c.args.place c.index-entries-place.result c.requires.place c.index-entries-place.is in
-    let goes = c.in_ok-told.ensures in
-    let first = keeps_four c.args.storage c.args.parts.now c.args.entries.now c.args.place c.index-entries-place.result c.in_ok-told.told goes.0 goes.1 c.args.state.now c.go_behind.new.state c.requires.state goes.2 (c.in_default.ensures c.args.storage) c.if-told.true in
+    let goes = c.in_ok-reported.ensures in
+    let first = keeps_four c.args.storage c.args.parts.now c.args.entries.now c.args.place c.index-entries-place.result c.in_ok-reported.reported goes.0 goes.1 c.args.state.now c.go_after.new.state c.requires.state goes.2 (c.in_default.ensures c.args.storage) c.if-reported.true in
     subst (λ e. Finds c.args.storage c.args.parts.now c.args.entries.now c.args.place e c.late_rule-late.result) (same_Some _ _ (sym at ∙ at'))
     (finds_all c.args.storage c.args.parts.now c.args.entries.now c.args.place c.index-entries-place.result c.late_rule-late.result first (c.late_rule-late.ensures c.args.entries.now c.args.place at c.requires.users c.requires.state))
 
-pub returns-then-told-clause-state : goal.returns-then-told-clause-state
-returns-then-told-clause-state c =
+pub returns-then-reported-clause-state : goal.returns-then-reported-clause-state
+returns-then-reported-clause-state c =
     let at = here c.args.entries.now c.args.place c.index-entries-place.result c.requires.place c.index-entries-place.is in
-    let goes = c.in_ok-told.ensures in
+    let goes = c.in_ok-reported.ensures in
     let first = c.in_default.ensures c.args.storage in
     where_none c.args.storage c.args.parts.now c.args.entries.now c.args.place c.index-entries-place.result _ c.late_rule-late.result (c.late_rule-late.ensures c.args.entries.now c.args.place at c.requires.users c.requires.state)
-    (λ late. state_behind c.args.parts.now c.requires.script c.args.entries.now c.args.place c.index-entries-place.result at (first rule.Whole (omega arith)) (first rule.Stamp (omega arith)) (earned_no_cursor c.args.storage c.args.parts.now (writes (take c.args.place c.args.entries.now)) c.index-entries-place.result late.memory) c.in_ok-told.told goes.0 goes.1 c.args.state.now c.go_behind.new.state c.requires.state goes.2 c.if-told.true)
+    (λ late. state_after c.args.parts.now c.requires.script c.args.entries.now c.args.place c.index-entries-place.result at (first rule.Whole (omega arith)) (first rule.Stamp (omega arith)) (earned_no_cursor c.args.storage c.args.parts.now (writes (take c.args.place c.args.entries.now)) c.index-entries-place.result late.memory) c.in_ok-reported.reported goes.0 goes.1 c.args.state.now c.go_after.new.state c.requires.state goes.2 c.if-reported.true)
 
-pub returns-else-told-clause-found : goal.returns-else-told-clause-found
-returns-else-told-clause-found c = λ entry at'.
+pub returns-else-reported-clause-found : goal.returns-else-reported-clause-found
+returns-else-reported-clause-found c = λ entry at'.
     let at = here c.args.entries.now c.args.place c.index-entries-place.result c.requires.place c.index-entries-place.is in
-    let goes = c.in_ok-told.ensures in
+    let goes = c.in_ok-reported.ensures in
     subst (λ e. BreaksFirst c.args.storage c.args.parts.now c.args.entries.now c.args.place e rule.Reply) (same_Some _ _ (sym at ∙ at'))
-    (breaks_reply c.args.storage c.args.parts.now c.args.entries.now c.args.place c.index-entries-place.result c.in_ok-told.told goes.0 goes.1 c.args.state.now c.go_behind.new.state c.requires.state goes.2 (c.in_default.ensures c.args.storage) c.if-told.false)
+    (breaks_reply c.args.storage c.args.parts.now c.args.entries.now c.args.place c.index-entries-place.result c.in_ok-reported.reported goes.0 goes.1 c.args.state.now c.go_after.new.state c.requires.state goes.2 (c.in_default.ensures c.args.storage) c.if-reported.false)

@@ -10,14 +10,14 @@ use Rattle.ft_history.proofs.replies.is_replied.Goals as goal
 
 -- a call that is none of a section's is replied to as the containers do
 by_containers : (called : Call) (said plain : Reply) → ((first : ℕ) (second : Option ℕ) → called ≡ call.Begin first second → ⊥) → (called ≡ call.End → ⊥) → (called ≡ call.Quiesce → ⊥)
-    → (told : Bool) → IsTrue told ↔ ((is_memory said ≡ true) ⊎ (said ≡ plain)) → IsTrue told ↔ IsReplied called said plain
-by_containers (call.Dict container dict_call) said plain begins ends quiesces told so = so
-by_containers (call.List container list_call) said plain begins ends quiesces told so = so
-by_containers (call.Set container set_call) said plain begins ends quiesces told so = so
-by_containers (call.Next cursor) said plain begins ends quiesces told so = so
-by_containers (call.Begin first second) said plain begins ends quiesces told so = absurd (begins first second refl)
-by_containers call.End said plain begins ends quiesces told so = absurd (ends refl)
-by_containers call.Quiesce said plain begins ends quiesces told so = absurd (quiesces refl)
+    → (reported : Bool) → IsTrue reported ↔ ((is_memory said ≡ true) ⊎ (said ≡ plain)) → IsTrue reported ↔ IsReplied called said plain
+by_containers (call.Dict container dict_call) said plain begins ends quiesces reported so = so
+by_containers (call.List container list_call) said plain begins ends quiesces reported so = so
+by_containers (call.Set container set_call) said plain begins ends quiesces reported so = so
+by_containers (call.Next cursor) said plain begins ends quiesces reported so = so
+by_containers (call.Begin first second) said plain begins ends quiesces reported so = absurd (begins first second refl)
+by_containers call.End said plain begins ends quiesces reported so = absurd (ends refl)
+by_containers call.Quiesce said plain begins ends quiesces reported so = absurd (quiesces refl)
 
 pub returns-in_default : goal.returns-in_default
 returns-in_default c =
@@ -25,9 +25,9 @@ returns-in_default c =
     let said = c.args.entry.now.reply in
     let plain = (answer c.args.world.now c.args.hands.now called).reply in
     record {
-      told =
-          IfOk-weaker c.is_answered.result (λ told. IsTrue told ↔ ((is_memory said ≡ true) ⊎ (said ≡ plain))) (λ told. IsTrue told ↔ IsReplied called said plain)
-          (by_containers called said plain c.in_default.not-Begin c.in_default.not-End c.in_default.not-Quiesce) c.is_answered.ensures.told;
+      reported =
+          IfOk-weaker c.is_answered.result (λ reported. IsTrue reported ↔ ((is_memory said ≡ true) ⊎ (said ≡ plain))) (λ reported. IsTrue reported ↔ IsReplied called said plain)
+          (by_containers called said plain c.in_default.not-Begin c.in_default.not-End c.in_default.not-Quiesce) c.is_answered.ensures.reported;
       world = c.is_answered.ensures.world;
       hands = c.is_answered.ensures.hands;
     }

@@ -23,10 +23,10 @@ thread_at threads thread low use_it =
       | inr past ↦ absurd (omega (arith, past.0))
     ]
 
-replicated : (n object : ℕ) (last : LastWrites) → slice_get (replicate n nothing) object ≡ Some last → last ≡ nothing
-replicated n object last at =
-    let low : object < n = omega (arith, slice_get_within _ object last at, length-replicate n nothing) in
-    sym (get_or_from_slice_get (replicate n nothing) object last nothing at) ∙ get_or-replicate n object nothing nothing low
+replicated : (n container : ℕ) (last : LastWrites) → slice_get (replicate n nothing) container ≡ Some last → last ≡ nothing
+replicated n container last at =
+    let low : container < n = omega (arith, slice_get_within _ container last at, length-replicate n nothing) in
+    sym (get_or_from_slice_get (replicate n nothing) container last nothing at) ∙ get_or-replicate n container nothing nothing low
 
 pub returns : goal.returns
 returns c = λ entries.
@@ -38,7 +38,7 @@ returns c = λ entries.
     λ thread progress at.
     thread_at parts.threads thread (omega (arith, slice_get_within threads.items thread progress at)) (λ found here. (found, here, c.in_ok-start_threads.ensures.fresh thread found progress (ap (λ (ts : List Thread). slice_get ts thread) c.as_slice.ensures ∙ here) at)) in
     let blank : c.in_ok-start_containers.field-0.items ≡ replicate (length parts.containers) nothing = c.in_ok-start_containers.ensures ∙ ap (λ k. replicate k nothing) n in
-    let last_is : (object : ℕ) (last : LastWrites) → slice_get c.in_ok-start_containers.field-0.items object ≡ Some last → last ≡ nothing = λ object last at. replicated (length parts.containers) object last (ap (λ (ws : List LastWrites). slice_get ws object) (sym blank) ∙ at) in
+    let last_is : (container : ℕ) (last : LastWrites) → slice_get c.in_ok-start_containers.field-0.items container ≡ Some last → last ≡ nothing = λ container last at. replicated (length parts.containers) container last (ap (λ (ws : List LastWrites). slice_get ws container) (sym blank) ∙ at) in
     record {
       world = c.in_ok-start.ensures ∙ ap start_world c.as_slice-containers.ensures;
       kinds = ap (map kind_of) (c.in_ok-start.ensures ∙ ap start_world c.as_slice-containers.ensures) ∙ kinds_at_start parts.containers;
@@ -47,6 +47,6 @@ returns c = λ entries.
       progress = λ thread progress at. progress_at_start parts entries thread (there thread progress at).0 progress (there thread progress at).1 (there thread progress at).2;
       hands = λ thread progress at. hands_at_start parts entries thread (there thread progress at).0 progress (there thread progress at).1 (there thread progress at).2;
       containers = ap length blank ∙ length-replicate (length parts.containers) nothing;
-      lasts = λ object last at. last_at_start entries object last (ap (λ (w : LastWrites). w.last) (last_is object last at)) (ap (λ (w : LastWrites). w.other) (last_is object last at));
+      lasts = λ container last at. last_at_start entries container last (ap (λ (w : LastWrites). w.last) (last_is container last at)) (ap (λ (w : LastWrites). w.other) (last_is container last at));
       ledger = c.in_ok-start_ledger.ensures;
     }

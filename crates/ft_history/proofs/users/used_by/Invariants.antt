@@ -8,5 +8,5 @@ abbrev pub invariant-loop-call : goal.invariant-loop-call
 invariant-loop-call l =
     record {
       all : vec_len l.used ≡ l.containers;
-      so_far : (object : ℕ) → slice_index_or l.used.items object false ≡ list_any (names object) (take l.call-index l.calls);
+      so_far : (container : ℕ) → slice_index_or l.used.items container false ≡ list_any (names container) (take l.call-index l.calls);
     }

@@ -7,5 +7,5 @@ abbrev pub invariant-loop-thread : goal.invariant-loop-thread
 invariant-loop-thread l =
     record {
       all : vec_len l.users ≡ l.thread-index;
-      so_far : (thread object : ℕ) → thread < l.thread-index → is_used l.users.items thread object ≡ has_call_on l.parts thread object;
+      so_far : (thread container : ℕ) → thread < l.thread-index → is_used l.users.items thread container ≡ has_call_on l.parts thread container;
     }

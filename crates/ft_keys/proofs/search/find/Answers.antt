@@ -2,7 +2,7 @@ use Rattle.std.proofs.Common.{◌≡◌, ℕ, ◌+◌, ◌≤◌, None, length, 
 use Rattle.ft_hash.specs.Probes.{IsMask}
 use Rattle.ft_keys.specs.Searches.{Passed, EndsAt, Tries, Searched, Shows}
 use Rattle.ft_keys.proofs.Shown.{shows-more, shows-both}
-use Rattle.ft_keys.proofs.Trying.{ended-behind, passed-more}
+use Rattle.ft_keys.proofs.Trying.{ended-after, passed-more}
 use Rattle.ft_keys.proofs.Finding.{finds-rightly}
 use Rattle.ft_keys.proofs.Reaching.{walk-long}
 use Rattle.ft_keys.proofs.search.find.Goals as goal
@@ -22,7 +22,7 @@ returns-in-Some-clause-shows g c =
     (λ ws. Passed mask ws key first middle × EndsAt mask ws key middle left found)
     (λ ws. Searched mask ws key first left found)
     (λ ws shown.
-    let ends = ended-behind mask ws key first middle left shown.0.0 found shown.0.1 shown.0.2 shown.1 in
+    let ends = ended-after mask ws key first middle left shown.0.0 found shown.0.1 shown.0.2 shown.1 in
     record {
       ends = ends;
       finds = λ way texts used table small whole. finds-rightly way mask texts ws used key table c.key_fits.ensures first left found ends is small whole;

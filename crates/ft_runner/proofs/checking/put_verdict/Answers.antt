@@ -1,7 +1,7 @@
 use Rattle.std.proofs.Common.{refl, inl, inr}
 use Rattle.ft_runner.specs.Findings.{broken_line}
 use Rattle.ft_runner.specs.Streams.{stream}
-use Rattle.ft_runner.proofs.ReportLemmas.{told}
+use Rattle.ft_runner.proofs.ReportLemmas.{reported}
 use Rattle.ft_runner.proofs.checking.put_verdict.Goals as goal
 
 pub returns-in-Ok : goal.returns-in-Ok
@@ -15,4 +15,4 @@ returns-in-Not g c =
     let sink = g.K.Sink in
     let a = stream (sink.taken c.args.sink.now) (sink.faults c.args.sink.now) in
     let b = stream (sink.taken c.put_broken.new.sink) (sink.faults c.put_broken.new.sink) in
-    rw c.in-Not.is (refl, told a b (broken_line c.in-Not.place c.in-Not.rule) c.put_broken.result c.put_broken.ensures)
+    rw c.in-Not.is (refl, reported a b (broken_line c.in-Not.place c.in-Not.rule) c.put_broken.result c.put_broken.ensures)

@@ -13,7 +13,7 @@ returns-in_err-put_all-2 g c =
     let d = stream (sink.taken c.put_all-2.new.sink) (sink.faults c.put_all-2.new.sink) in
     let r = err_from_is_err_and c.from_residual-in_err-put_all-2.result c.from_residual-in_err-put_all-2.ensures.1 in
     let part = rw (c.as_bytes.ensures.value, c.format.ensures.text) at c.in_err-put_all-2.ensures in
-    rw r.1 (IsPart-longer a d (c.args.before.now ++ decimal c.args.number) c.args.behind.now true (Puts-then a b d c.args.before.now (decimal c.args.number) (Err r.0) c.in_ok-put_all.ensures part))
+    rw r.1 (IsPart-longer a d (c.args.before.now ++ decimal c.args.number) c.args.after.now true (Puts-then a b d c.args.before.now (decimal c.args.number) (Err r.0) c.in_ok-put_all.ensures part))
 
 pub returns : goal.returns
 returns g c =
@@ -23,4 +23,4 @@ returns g c =
     let d = stream (sink.taken c.put_all-2.new.sink) (sink.faults c.put_all-2.new.sink) in
     let e = stream (sink.taken c.put_all-3.new.sink) (sink.faults c.put_all-3.new.sink) in
     let digits = rw (c.as_bytes.ensures.value, c.format.ensures.text) at c.in_ok-put_all-2.ensures in
-    Puts-then a d e (c.args.before.now ++ decimal c.args.number) c.args.behind.now c.put_all-3.result (Receives-then a b d c.args.before.now (decimal c.args.number) false c.in_ok-put_all.ensures digits) c.put_all-3.ensures
+    Puts-then a d e (c.args.before.now ++ decimal c.args.number) c.args.after.now c.put_all-3.result (Receives-then a b d c.args.before.now (decimal c.args.number) false c.in_ok-put_all.ensures digits) c.put_all-3.ensures

@@ -43,7 +43,7 @@ returns-then-count-eq0 g c =
       (omega (arith, c.loop-source-test.true, c.loop-source.bytes.ok.0), c.in-Ok-take.ensures.end c.if-count-eq0.true (omega (arith, inv.buffer))),
     )
 
--- memory is refused behind a piece that came
+-- memory is refused after a piece that came
 pub returns-in_default-extend_from_slice : goal.returns-in_default-extend_from_slice
 returns-in_default-extend_from_slice g c =
     let source = g.S.Source in

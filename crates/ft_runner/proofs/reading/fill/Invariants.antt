@@ -2,7 +2,7 @@ use Rattle.std.proofs.Common.{◌≡◌, ◌≤◌, ◌+◌, ◌-◌, ◌++◌, 
 use Rattle.ft_runner.specs.Streams.{stream, Gives}
 use Rattle.ft_runner.proofs.reading.fill.Given as goal
 
--- what came stands behind the bytes that were there
+-- what came stands after the bytes that were there
 abbrev pub invariant-loop-source : goal.invariant-loop-source
 invariant-loop-source g l =
     let source = g.S.Source in

@@ -11,8 +11,8 @@ returns-in-Some-clause-before c =
     let e : c.position.result ≡ position (λ b. eqb b 46) token = position_from_yields_List (λ b. eqb b 46) _ _ c.position.result c.position.ensures.ran (YieldsList-from_slice token cc) (λ x b q k. search (rules, tests)) in
     before_some (λ b. eqb b 46) token c.in-Some.dot (sym e ∙ c.in-Some.is)
 
-pub returns-in-Some-clause-behind : goal.returns-in-Some-clause-behind
-returns-in-Some-clause-behind c =
+pub returns-in-Some-clause-after : goal.returns-in-Some-clause-after
+returns-in-Some-clause-after c =
     let token = c.args.token.now in
     let e : c.position.result ≡ position (λ b. eqb b 46) token = position_from_yields_List (λ b. eqb b 46) _ _ c.position.result c.position.ensures.ran (YieldsList-from_slice token cc) (λ x b q k. search (rules, tests)) in
     after_some (λ b. eqb b 46) token c.in-Some.dot (sym e ∙ c.in-Some.is)
@@ -23,8 +23,8 @@ returns-in-None-clause-before c =
     let e : c.position.result ≡ position (λ b. eqb b 46) token = position_from_yields_List (λ b. eqb b 46) _ _ c.position.result c.position.ensures.ran (YieldsList-from_slice token cc) (λ x b q k. search (rules, tests)) in
     before_no (λ b. eqb b 46) token (sym e ∙ c.in-None.is)
 
-pub returns-in-None-clause-behind : goal.returns-in-None-clause-behind
-returns-in-None-clause-behind c =
+pub returns-in-None-clause-after : goal.returns-in-None-clause-after
+returns-in-None-clause-after c =
     let token = c.args.token.now in
     let e : c.position.result ≡ position (λ b. eqb b 46) token = position_from_yields_List (λ b. eqb b 46) _ _ c.position.result c.position.ensures.ran (YieldsList-from_slice token cc) (λ x b q k. search (rules, tests)) in
     after_no (λ b. eqb b 46) token (sym e ∙ c.in-None.is)

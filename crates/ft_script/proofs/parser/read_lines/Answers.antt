@@ -14,23 +14,23 @@ nothing_below rest none = ap lines_of (nil_from_length rest none) ∙ no_lines
 pub loop-rest-preserved : goal.loop-rest-preserved
 loop-rest-preserved c =
     rw c.saturating_add-number.ensures (lines_on c.read_line.result c.loop-rest.number c.loop-rest.draft c.read_line.new.self c.next_line.result.0.now (lines_of c.loop-rest.rest.now) (lines_of c.next_line.result.1.now) (read_lines 1 empty_draft (lines_of c.args.text.now))
-    (sym c.told.ensures ∙ c.in_ok-told.was) c.read_line.ensures c.next_line.ensures.line c.loop-rest.invariant)
+    (sym c.reported.ensures ∙ c.in_ok-reported.was) c.read_line.ensures c.next_line.ensures.line c.loop-rest.invariant)
 
-pub returns-in_err-told-clause-fault : goal.returns-in_err-told-clause-fault
-returns-in_err-told-clause-fault c =
+pub returns-in_err-reported-clause-fault : goal.returns-in_err-reported-clause-fault
+returns-in_err-reported-clause-fault c =
     let p = err_from_is_err_and c.from_residual.result c.from_residual.ensures.1 in
-    rw (p.1, p.2) (lines_end c.read_line.result c.loop-rest.number c.loop-rest.draft c.read_line.new.self c.next_line.result.0.now (lines_of c.loop-rest.rest.now) (lines_of c.next_line.result.1.now) (read_lines 1 empty_draft (lines_of c.args.text.now)) c.in_err-told.field-0.0
-    (sym c.told.ensures ∙ c.in_err-told.was) c.read_line.ensures c.next_line.ensures.line c.loop-rest.invariant)
+    rw (p.1, p.2) (lines_end c.read_line.result c.loop-rest.number c.loop-rest.draft c.read_line.new.self c.next_line.result.0.now (lines_of c.loop-rest.rest.now) (lines_of c.next_line.result.1.now) (read_lines 1 empty_draft (lines_of c.args.text.now)) c.in_err-reported.field-0.0
+    (sym c.reported.ensures ∙ c.in_err-reported.was) c.read_line.ensures c.next_line.ensures.line c.loop-rest.invariant)
 
-pub returns-in_err-told-2-clause-fault : goal.returns-in_err-told-2-clause-fault
-returns-in_err-told-2-clause-fault c =
-    let p = err_from_is_err_and c.from_residual-in_err-told-2.result c.from_residual-in_err-told-2.ensures.1 in
+pub returns-in_err-reported-2-clause-fault : goal.returns-in_err-reported-2-clause-fault
+returns-in_err-reported-2-clause-fault c =
+    let p = err_from_is_err_and c.from_residual-in_err-reported-2.result c.from_residual-in_err-reported-2.ensures.1 in
     let none : length c.loop-rest.rest.now ≡ 0 = search rules in
-    rw (p.1, p.2) (text_end c.end_thread.result c.loop-rest.number c.loop-rest.draft c.end_thread.new.self (lines_of c.loop-rest.rest.now) (read_lines 1 empty_draft (lines_of c.args.text.now)) c.in_err-told-2.field-0.0
-    (sym c.told-2.ensures ∙ c.in_err-told-2.was) c.end_thread.ensures (nothing_below c.loop-rest.rest.now none) c.loop-rest.invariant)
+    rw (p.1, p.2) (text_end c.end_thread.result c.loop-rest.number c.loop-rest.draft c.end_thread.new.self (lines_of c.loop-rest.rest.now) (read_lines 1 empty_draft (lines_of c.args.text.now)) c.in_err-reported-2.field-0.0
+    (sym c.reported-2.ensures ∙ c.in_err-reported-2.was) c.end_thread.ensures (nothing_below c.loop-rest.rest.now none) c.loop-rest.invariant)
 
 pub returns-clause-read : goal.returns-clause-read
 returns-clause-read c =
     let none : length c.loop-rest.rest.now ≡ 0 = search rules in
     text_done c.end_thread.result c.loop-rest.number c.loop-rest.draft c.end_thread.new.self (lines_of c.loop-rest.rest.now) (read_lines 1 empty_draft (lines_of c.args.text.now))
-    (sym c.told-2.ensures ∙ c.in_ok-told-2.was) c.end_thread.ensures (nothing_below c.loop-rest.rest.now none) c.loop-rest.invariant
+    (sym c.reported-2.ensures ∙ c.in_ok-reported-2.was) c.end_thread.ensures (nothing_below c.loop-rest.rest.now none) c.loop-rest.invariant

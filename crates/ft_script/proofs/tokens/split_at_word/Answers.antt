@@ -3,7 +3,7 @@ use Rattle.std.specs.List.{position}
 use Rattle.std.specs.Str.{bytes_eq}
 use Rattle.std.proofs.lemmas.Iterator.{YieldsList-from_slice}
 use Rattle.std.proofs.lemmas.Iterator.Search.{position_from_yields_List}
-use Rattle.ft_script.proofs.TokenLists.{before_found, behind_found, before_missing, behind_missing}
+use Rattle.ft_script.proofs.TokenLists.{before_found, after_found, before_missing, after_missing}
 use Rattle.ft_script.proofs.tokens.split_at_word.Goals as goal
 
 pub returns-in-Some-clause-before : goal.returns-in-Some-clause-before
@@ -13,12 +13,12 @@ returns-in-Some-clause-before c =
     let e : c.position.result ≡ position (λ (t : Bor (List ℕ)). bytes_eq t.now word) tokens = position_from_yields_List (λ (t : Bor (List ℕ)). bytes_eq t.now word) _ _ c.position.result c.position.ensures.ran (YieldsList-from_slice tokens cc) (λ x b q k. search (rules, tests)) in
     before_found word tokens c.in-Some.place (sym e ∙ c.in-Some.is)
 
-pub returns-in-Some-clause-behind : goal.returns-in-Some-clause-behind
-returns-in-Some-clause-behind c =
+pub returns-in-Some-clause-after : goal.returns-in-Some-clause-after
+returns-in-Some-clause-after c =
     let word = c.args.word.now in
     let tokens = c.args.tokens.now in
     let e : c.position.result ≡ position (λ (t : Bor (List ℕ)). bytes_eq t.now word) tokens = position_from_yields_List (λ (t : Bor (List ℕ)). bytes_eq t.now word) _ _ c.position.result c.position.ensures.ran (YieldsList-from_slice tokens cc) (λ x b q k. search (rules, tests)) in
-    behind_found word tokens c.in-Some.place (sym e ∙ c.in-Some.is)
+    after_found word tokens c.in-Some.place (sym e ∙ c.in-Some.is)
 
 pub returns-in-None-clause-before : goal.returns-in-None-clause-before
 returns-in-None-clause-before c =
@@ -27,9 +27,9 @@ returns-in-None-clause-before c =
     let e : c.position.result ≡ position (λ (t : Bor (List ℕ)). bytes_eq t.now word) tokens = position_from_yields_List (λ (t : Bor (List ℕ)). bytes_eq t.now word) _ _ c.position.result c.position.ensures.ran (YieldsList-from_slice tokens cc) (λ x b q k. search (rules, tests)) in
     before_missing word tokens (sym e ∙ c.in-None.is)
 
-pub returns-in-None-clause-behind : goal.returns-in-None-clause-behind
-returns-in-None-clause-behind c =
+pub returns-in-None-clause-after : goal.returns-in-None-clause-after
+returns-in-None-clause-after c =
     let word = c.args.word.now in
     let tokens = c.args.tokens.now in
     let e : c.position.result ≡ position (λ (t : Bor (List ℕ)). bytes_eq t.now word) tokens = position_from_yields_List (λ (t : Bor (List ℕ)). bytes_eq t.now word) _ _ c.position.result c.position.ensures.ran (YieldsList-from_slice tokens cc) (λ x b q k. search (rules, tests)) in
-    behind_missing word tokens (sym e ∙ c.in-None.is)
+    after_missing word tokens (sym e ∙ c.in-None.is)

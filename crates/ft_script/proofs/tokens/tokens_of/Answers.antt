@@ -9,7 +9,7 @@ shown tokens = map (λ (token : Bor (List ℕ)). token.now) tokens
 pub loop-i-preserved : goal.loop-i-preserved
 loop-i-preserved c =
     let line = c.args.line.now in
-    let on = cut_on line (shown c.loop-i.tokens.items) c.loop-i.place c.place_behind-next.result c.token_ends-ends.result c.loop-i.start c.loop-i.i c.token_start-start.result (tokens_of line) c.loop-i-test.true c.loop-i.invariant.low c.place_behind-next.ensures c.token_ends-ends.ensures c.token_start-start.ensures c.loop-i.invariant.same in
+    let on = cut_on line (shown c.loop-i.tokens.items) c.loop-i.place c.place_after-next.result c.token_ends-ends.result c.loop-i.start c.loop-i.i c.token_start-start.result (tokens_of line) c.loop-i-test.true c.loop-i.invariant.low c.place_after-next.ensures c.token_ends-ends.ensures c.token_start-start.ensures c.loop-i.invariant.same in
     record {
       same = rw c.in_ok-add_word.ensures on;
       low = start_within c.loop-i.place c.token_ends-ends.result c.loop-i.start c.loop-i.i c.token_start-start.result c.loop-i.invariant.low c.token_start-start.ensures;

@@ -4,4 +4,4 @@ use Rattle.std.proofs.Common.{false}
 use Rattle.ft_script.proofs.words.text_of.Given as goal
 
 abbrev pub invariant-loop-byte : goal.invariant-loop-byte
-invariant-loop-byte l = l.text.items ++ text_from l.behind (drop l.byte-index l.letters) ≡ text_from false l.letters
+invariant-loop-byte l = l.text.items ++ text_from l.after (drop l.byte-index l.letters) ≡ text_from false l.letters

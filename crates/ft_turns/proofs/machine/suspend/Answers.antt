@@ -1,5 +1,5 @@
 use Rattle.std.proofs.Common.{◌≡◌, ◌<◌, length, get_or, arith, ◌∙◌}
-use Rattle.ft_turns.proofs.Suspension.{locks_more, same_at, same_behind, suspended_more}
+use Rattle.ft_turns.proofs.Suspension.{locks_more, same_at, same_after, suspended_more}
 use Rattle.ft_turns.proofs.machine.suspend.Goals as goal
 
 pub loop-section-preserved : goal.loop-section-preserved
@@ -13,5 +13,5 @@ loop-section-preserved c =
     record {
       holders = rw (c.let_all_go.ensures, c.deref.ensures.value, ← c.section-item.is) (locks_more c.loop-section.holders before i item within read ∙ c.loop-section.invariant.holders);
       done = suspended_more before c.loop-section.sections i _ item within (omega arith) c.loop-section.invariant.done (cc (c.clear.ensures.items, same));
-      rest = same_behind c.loop-section.sections before i _ c.loop-section.invariant.rest;
+      rest = same_after c.loop-section.sections before i _ c.loop-section.invariant.rest;
     }

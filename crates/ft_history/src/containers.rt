@@ -1,13 +1,13 @@
 ghost use Rattle.std.specs.Prelude.{◌≡◌, option_map};
 ghost use Rattle.ft_model.specs.Calls.{other_dict, other_list, other_set, one_or_two, containers_of};
-ghost use Rattle.ft_model.specs.Worlds.{container_of, cursor_at, objects_of};
+ghost use Rattle.ft_model.specs.Worlds.{container_of, cursor_at, containers_used};
 ghost use Rattle.ft_history.specs.States.{listed};
 
 use ft_model::{Call, Cursor, DictCall, Hands, ListCall, SetCall};
 
 /// At most two containers.
 #[derive(Clone, Copy, Debug)]
-pub struct Objects {
+pub struct Containers {
     /// The first, if there is one.
     pub first: Option<u32>,
     /// Another one.
@@ -15,7 +15,7 @@ pub struct Objects {
 }
 
 /// The containers that a call names, each once.
-pub fn containers_named(call: &Call) -> Objects
+pub fn containers_named(call: &Call) -> Containers
     ensures { listed result ≡ containers_of call.now }
 {
     match call {
@@ -23,7 +23,7 @@ pub fn containers_named(call: &Call) -> Objects
         Call::List { container, call } => both(*container, other_of_list(call)),
         Call::Set { container, call } => both(*container, other_of_set(call)),
         Call::Begin { first, second } => both(*first, *second),
-        Call::Next { .. } | Call::End | Call::Quiesce => Objects {
+        Call::Next { .. } | Call::End | Call::Quiesce => Containers {
             first: None,
             second: None,
         },
@@ -31,11 +31,11 @@ pub fn containers_named(call: &Call) -> Objects
 }
 
 /// The containers that a call is about: those that it names, or that of its cursor.
-pub fn objects_needed(hands: &Hands, call: &Call) -> Objects
-    ensures { listed result ≡ objects_of hands.now call.now }
+pub fn containers_needed(hands: &Hands, call: &Call) -> Containers
+    ensures { listed result ≡ containers_used hands.now call.now }
 {
     match call {
-        Call::Next { cursor } => Objects {
+        Call::Next { cursor } => Containers {
             first: walked(hands, *cursor),
             second: None,
         },
@@ -56,10 +56,10 @@ fn walked(hands: &Hands, number: u32) -> Option<u32>
 }
 
 /// One container, and the other where it is another one.
-fn both(first: u32, second: Option<u32>) -> Objects
+fn both(first: u32, second: Option<u32>) -> Containers
     ensures { listed result ≡ one_or_two first second }
 {
-    Objects {
+    Containers {
         first: Some(first),
         second: second.filter(|second| *second != first),
     }

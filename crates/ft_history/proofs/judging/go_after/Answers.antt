@@ -6,8 +6,8 @@ use Rattle.std.proofs.lemmas.Option.{slice_get_read}
 use Rattle.ft_model.specs.Histories.{names}
 use Rattle.ft_history.specs.declared.progress.Progress.{Progress}
 use Rattle.ft_history.specs.declared.writers.LastWrites.{LastWrites}
-use Rattle.ft_history.specs.States.{behind_one}
-use Rattle.ft_history.proofs.judging.go_behind.Goals as goal
+use Rattle.ft_history.specs.States.{after_one}
+use Rattle.ft_history.proofs.judging.go_after.Goals as goal
 
 pub returns-in_ok-note_taking : goal.returns-in_ok-note_taking
 returns-in_ok-note_taking c =
@@ -21,19 +21,19 @@ returns-in_ok-note_taking c =
       record {
         at = slice_get_read threads.items _ entry.thread before refl low c.index_mut-progress.ensures.value;
         threads = refl;
-        told = c.in_ok-told.ensures.told;
-        world = c.in_ok-told.ensures.world;
-        hands = c.in_ok-told.ensures.hands;
-        made = c.in_ok-told.ensures.made;
-        marks = c.in_ok-told.ensures.marks;
-        sections = c.in_ok-told.ensures.sections;
+        reported = c.in_ok-reported.ensures.reported;
+        world = c.in_ok-reported.ensures.world;
+        hands = c.in_ok-reported.ensures.hands;
+        made = c.in_ok-reported.ensures.made;
+        marks = c.in_ok-reported.ensures.marks;
+        sections = c.in_ok-reported.ensures.sections;
         writes = ap (λ b. c.args.state.now.writes + cond b 1 0) (sym c.if-entry.true);
         containers = sym c.note_write.new.containers.ok.0 ∙ c.note_write.ensures.length ∙ c.args.state.now.containers.ok.0;
-        lasts = λ object other.
-            let old : LastWrites = get_or c.args.state.now.containers.items object other in
-            c.note_write.ensures.noted object other
-            ∙ ap (λ (ns : List ℕ). cond (list_any (λ n. n == object) ns) (behind_one old entry.thread c.args.place) old) c.containers_named.ensures
-            ∙ ap (λ b. cond (b && names object entry.call) (behind_one old entry.thread c.args.place) old) (sym c.if-entry.true);
+        lasts = λ container other.
+            let old : LastWrites = get_or c.args.state.now.containers.items container other in
+            c.note_write.ensures.noted container other
+            ∙ ap (λ (ns : List ℕ). cond (list_any (λ n. n == container) ns) (after_one old entry.thread c.args.place) old) c.containers_named.ensures
+            ∙ ap (λ b. cond (b && names container entry.call) (after_one old entry.thread c.args.place) old) (sym c.if-entry.true);
         taking = λ wrote. c.in_ok-note_taking.ensures c.args.state.now.world c.size_of_own-size.ensures;
         same = λ quiet. absurd (false≢true (sym quiet ∙ c.if-entry.true));
       },
@@ -51,15 +51,15 @@ returns-else-entry c =
       record {
         at = slice_get_read threads.items _ entry.thread before refl low c.index_mut-progress.ensures.value;
         threads = refl;
-        told = c.in_ok-told.ensures.told;
-        world = c.in_ok-told.ensures.world;
-        hands = c.in_ok-told.ensures.hands;
-        made = c.in_ok-told.ensures.made;
-        marks = c.in_ok-told.ensures.marks;
-        sections = c.in_ok-told.ensures.sections;
+        reported = c.in_ok-reported.ensures.reported;
+        world = c.in_ok-reported.ensures.world;
+        hands = c.in_ok-reported.ensures.hands;
+        made = c.in_ok-reported.ensures.made;
+        marks = c.in_ok-reported.ensures.marks;
+        sections = c.in_ok-reported.ensures.sections;
         writes = let none : c.args.state.now.writes ≡ c.args.state.now.writes + 0 = omega arith in none ∙ ap (λ b. c.args.state.now.writes + cond b 1 0) (sym c.if-entry.false);
         containers = refl;
-        lasts = λ object other. ap (λ b. cond (b && names object entry.call) (behind_one (get_or c.args.state.now.containers.items object other) entry.thread c.args.place) (get_or c.args.state.now.containers.items object other)) (sym c.if-entry.false);
+        lasts = λ container other. ap (λ b. cond (b && names container entry.call) (after_one (get_or c.args.state.now.containers.items container other) entry.thread c.args.place) (get_or c.args.state.now.containers.items container other)) (sym c.if-entry.false);
         taking = λ wrote. absurd (false≢true (sym c.if-entry.false ∙ wrote));
         same = λ quiet. refl;
       },

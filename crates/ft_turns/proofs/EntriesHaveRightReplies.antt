@@ -11,7 +11,7 @@ use Rattle.ft_model.specs.declared.entry.Entry.{Entry}
 use Rattle.ft_model.specs.declared.reply.Reply.TheVariants as reply
 use Rattle.ft_model.specs.declared.script.ScriptParts.{ScriptParts}
 use Rattle.ft_model.specs.Calls.{containers_of}
-use Rattle.ft_model.specs.Worlds.{objects_of}
+use Rattle.ft_model.specs.Worlds.{containers_used}
 use Rattle.ft_model.specs.Answers.{answer, is_memory}
 use Rattle.ft_model.specs.Histories.{writes, calls_of, hands_at, IsReplied, IsAnswered, Section, after_section, sections_at, IfEnds, marks_between, IsCountedBy, IsCounted}
 use Rattle.ft_history.specs.States.{world_before}
@@ -19,7 +19,7 @@ use Rattle.ft_history.proofs.Places.{slice_get_at}
 use Rattle.ft_turns.specs.Orders.{thread_at, next_call}
 use Rattle.ft_turns.specs.Answering.{Tally, noted_after, tally_after, waited_inside, ended_reply, reply_in, Progress}
 use Rattle.ft_turns.proofs.ProgressWords.{hands_of, tally_of}
-use Rattle.ft_turns.proofs.Marks.{count_fixed, own_stack, own_objects}
+use Rattle.ft_turns.proofs.Marks.{count_fixed, own_stack, own_containers}
 use Rattle.ft_turns.proofs.Following.{IsFollowed}
 use Rattle.ft_turns.proofs.PlaceSteps.{AllBelow, marks_next, marks_none, other_unmarked, own_marked}
 
@@ -60,7 +60,7 @@ module _ (entries : List Entry) (place : ℕ) (entry : Entry) (at : slice_get en
   )
 
   pub tallied_call : (count : ℕ) (called : Call) (sections : List Section) (noted : List ℕ) → Tallied entries thread (place + 1) count sections noted → Tallied entries thread (place + 1) (noted_after called noted count).count (after_section place called sections) (noted_after called noted count).noted
-  tallied_call count (call.Begin first second) sections noted tallied = ((let none : marks_between entries thread (place + 1) (record { objects = containers_of (call.Begin first second); begun = place }) ≡ 0 = marks_none entries place entry at thread (containers_of (call.Begin first second)) in omega arith), tallied)
+  tallied_call count (call.Begin first second) sections noted tallied = ((let none : marks_between entries thread (place + 1) (record { containers = containers_of (call.Begin first second); begun = place }) ≡ 0 = marks_none entries place entry at thread (containers_of (call.Begin first second)) in omega arith), tallied)
   tallied_call count call.End [] [] tallied = tt
   tallied_call count call.End [] (first ∷ noted) tallied = absurd tallied
   tallied_call count call.End (section ∷ sections) [] tallied = absurd tallied
@@ -154,14 +154,14 @@ pub record IsDone (script : ScriptParts) (entries : List Entry) (place : ℕ) (e
   pub answered : IsAnswered script entries place entry
   pub counted : IsCounted entries place entry
   pub memory : is_memory entry.reply ≡ false
-  -- the containers that it is about, and those of the section that is innermost behind it, are told by its thread's own calls
-  pub about : objects_of (hands_at script entries entry.thread place) entry.call ≡ own_objects (take (entry.index - 1) (calls_of script entry.thread)) entry.call
-  pub stack : map (λ section. section.objects) (after_section place entry.call (sections_at entries entry.thread place)) ≡ own_stack (take (entry.index - 1 + 1) (calls_of script entry.thread))
+  -- the containers that it is about, and those of the section that is innermost after it, are reported by its thread's own calls
+  pub about : containers_used (hands_at script entries entry.thread place) entry.call ≡ own_containers (take (entry.index - 1) (calls_of script entry.thread)) entry.call
+  pub stack : map (λ section. section.containers) (after_section place entry.call (sections_at entries entry.thread place)) ≡ own_stack (take (entry.index - 1 + 1) (calls_of script entry.thread))
 
-pub record IsTold (script : ScriptParts) (mark_of : ℕ → ℕ → Option ℕ) (entries : List Entry) (progress : Progress) : Type 0 where
+pub record HasRightReply (script : ScriptParts) (mark_of : ℕ → ℕ → Option ℕ) (entries : List Entry) (progress : Progress) : Type 0 where
   pub world : progress.world ≡ world_before script entries (length progress.entries)
   pub hands : (thread : ℕ) → thread < length script.threads → hands_of progress thread ≡ hands_at script entries thread (length progress.entries)
-  pub stack : (thread : ℕ) → map (λ section. section.objects) (sections_at entries thread (length progress.entries)) ≡ own_stack (take (count_fixed (thread_at progress.machine thread)) (calls_of script thread))
+  pub stack : (thread : ℕ) → map (λ section. section.containers) (sections_at entries thread (length progress.entries)) ≡ own_stack (take (count_fixed (thread_at progress.machine thread)) (calls_of script thread))
   pub unfixed : (thread : ℕ) → (thread_at progress.machine thread).fixed ≡ false → thread < length script.threads → Tallied entries thread (length progress.entries) (tally_of progress thread).count (sections_at entries thread (length progress.entries)) (tally_of progress thread).noted
   pub fixed : (thread : ℕ) (called : Call) → (thread_at progress.machine thread).fixed ≡ true → next_call script thread (thread_at progress.machine thread) ≡ Some called
       → Tallied entries thread (length progress.entries) (tally_after (tally_of progress thread) called (mark_of thread (length (thread_at progress.machine thread).marks))).count (sections_at entries thread (length progress.entries)) (tally_after (tally_of progress thread) called (mark_of thread (length (thread_at progress.machine thread).marks))).noted

@@ -1,4 +1,4 @@
--- The state behind an entry that keeps every rule.
+-- The state after an entry that keeps every rule.
 use Rattle.std.proofs.Common.{◌≡◌, ◌≢◌, ℕ, ◌+◌, ◌<◌, ◌≤◌, Bool, true, false, not, ◌&&◌, IsTrue, List, [], ◌∷◌, ◌++◌, map, length, take, get_or, set, Option, Some, None, refl, sym, ap, subst, ◌∙◌, arith, inl, inr, cond}
 use Rattle.std.specs.Prelude.{slice_get, IsSome, IfNone, All, Any, ◌⊎◌}
 use Rattle.std.specs.List.{fold, filter, count_by}
@@ -23,13 +23,13 @@ use Rattle.ft_model.specs.Scripts.{IsScript, IsCallOf, AreMade, cursor_of}
 use Rattle.ft_model.specs.Worlds.{start_world, kind_of, no_hands}
 use Rattle.ft_model.specs.Answers.{answer, after_write, is_memory, is_raised, is_write}
 use Rattle.ft_model.specs.Histories.{writes, world_at, hands_at, calls_of, cursors_of, names, is_marked, IsReplied}
-use Rattle.ft_model.specs.Judging.{IsNext, IsStamped, IsTold, Keeps}
+use Rattle.ft_model.specs.Judging.{IsNext, IsStamped, HasRightReply, Keeps}
 use Rattle.ft_history.specs.declared.progress.Progress.{Progress}
 use Rattle.ft_history.specs.declared.writers.LastWrites.{LastWrites}
 use Rattle.ft_history.specs.declared.state.State.{State}
 use Rattle.ft_history.specs.Ledgers.{IsLedger, AreOfKind}
-use Rattle.ft_history.specs.States.{IsAskable, world_before, behind_one, IsProgress, AreHandsOf, IsLast}
-use Rattle.ft_history.specs.Steps.{IsState, GoesBehind, KeepsFirst, BreaksFirst, FindsLate, KeepsLate, Finds}
+use Rattle.ft_history.specs.States.{IsAskable, world_before, after_one, IsProgress, AreHandsOf, IsLast}
+use Rattle.ft_history.specs.Steps.{IsState, GoesAfter, KeepsFirst, BreaksFirst, FindsLate, KeepsLate, Finds}
 use Rattle.ft_history.proofs.Places.{writes_next, count_next, world_at-before}
 use Rattle.ft_history.proofs.Judged.{keeps_more}
 use Rattle.ft_history.proofs.ScriptLemmas.{call_of_thread, calls_of_thread, is_thread, named_within, no_calls}
@@ -51,9 +51,9 @@ set_cases xs i k x y low at =
 
 -- a reply that isn't a MemoryError makes a write exactly where the plain container's does
 write_alike : (called : Call) (said plain : Reply) → IsReplied called said plain → is_memory said ≡ false → is_write called plain ≡ is_write called said
-write_alike (call.Begin first second) said plain told none = refl
-write_alike call.End said plain told none = refl
-write_alike call.Quiesce said plain told none = refl
+write_alike (call.Begin first second) said plain reported none = refl
+write_alike call.End said plain reported none = refl
+write_alike call.Quiesce said plain reported none = refl
 write_alike (call.Dict container dict_call) said plain (inl memory) none = absurd (false≢true (sym none ∙ memory))
 write_alike (call.Dict container dict_call) said plain (inr same) none = ap (is_write (call.Dict container dict_call)) (sym same)
 write_alike (call.List container list_call) said plain (inl memory) none = absurd (false≢true (sym none ∙ memory))
@@ -80,7 +80,7 @@ module _ (script : ScriptParts) (is_script : IsScript script) (entries : List En
   pub its_call : IsCallOf script (cursors_of script entry.thread) entry.call
   its_call = call_of_thread script is_script entry.thread thread_found.0 thread_found.1 _ entry.call next.call
 
-  module _ (stamped : IsStamped entries place entry) (no_cursor : is_memory entry.reply ≡ true → cursor_of entry.call ≡ None) (said : Bool) (before after : Progress) (old new : State) (is_state : IsState script entries place old) (goes : GoesBehind place entry said before after old new) (told : IsTrue said) where
+  module _ (stamped : IsStamped entries place entry) (no_cursor : is_memory entry.reply ≡ true → cursor_of entry.call ≡ None) (said : Bool) (before after : Progress) (old new : State) (is_state : IsState script entries place old) (goes : GoesAfter place entry said before after old new) (reported : IsTrue said) where
     so_far : IsProgress script entries entry.thread place before
     so_far = is_state.progress entry.thread before goes.at
 
@@ -91,7 +91,7 @@ module _ (script : ScriptParts) (is_script : IsScript script) (entries : List En
     left = leaves_of script.containers old.world is_state.kinds before.hands (cursors_of script entry.thread) entry.call its_call.names its_hands.kinds
 
     replied : IsReplied entry.call entry.reply (answer old.world before.hands entry.call).reply
-    replied = goes.told.0 told
+    replied = goes.reported.0 reported
 
     module _ (plain : is_memory entry.reply ≡ false) where
       world_is : new.world ≡ (answer old.world before.hands entry.call).world
@@ -128,8 +128,8 @@ module _ (script : ScriptParts) (is_script : IsScript script) (entries : List En
           | false ↦ λ plain. world_quiet plain calm
         ] refl
 
-    world_behind : new.world ≡ world_before script entries (place + 1)
-    world_behind =
+    world_after : new.world ≡ world_before script entries (place + 1)
+    world_after =
         let start = start_world script.containers in
         let done = writes (take place entries) in
         elim entry.wrote as (λ b. entry.wrote ≡ b → new.world ≡ fold after_write start (done ++ cond b (entry.call ∷ []) [])) [
@@ -138,15 +138,15 @@ module _ (script : ScriptParts) (is_script : IsScript script) (entries : List En
         ] refl
         ∙ ap (fold after_write start) (sym (writes_next entries place entry at))
 
-    kinds_behind : map kind_of new.world ≡ map kind_of old.world
-    kinds_behind =
+    kinds_after : map kind_of new.world ≡ map kind_of old.world
+    kinds_after =
         elim (is_memory entry.reply) as (λ b. is_memory entry.reply ≡ b → map kind_of new.world ≡ map kind_of old.world) [
           | true ↦ λ memory. ap (map kind_of) (memory_world memory)
           | false ↦ λ plain. ap (map kind_of) (world_is plain) ∙ left.kinds
         ] refl
 
-    ledger_behind : IsLedger script (writes (take (place + 1) entries)) new.ledger
-    ledger_behind =
+    ledger_after : IsLedger script (writes (take (place + 1) entries)) new.ledger
+    ledger_after =
         let done = writes (take place entries) in
         subst (λ (calls : List Call). IsLedger script calls new.ledger) (sym (writes_next entries place entry at))
         (elim entry.wrote as (λ b. entry.wrote ≡ b → IsLedger script (done ++ cond b (entry.call ∷ []) []) new.ledger) [
@@ -177,22 +177,22 @@ module _ (script : ScriptParts) (is_script : IsScript script) (entries : List En
         ] refl in
         subst (λ n. AreHandsOf script entry.thread n after.hands) (sym goes.made) next
 
-    last_behind : (object : ℕ) (last : LastWrites) → slice_get new.containers.items object ≡ Some last → IsLast entries (place + 1) object last
-    last_behind object last here =
-        let within : object < length old.containers.items = omega (arith, slice_get_within new.containers.items object last here, goes.containers) in
-        let was : LastWrites = get_or old.containers.items object last in
-        let old_last : IsLast entries place object was = is_state.lasts object was (slice_get-get_or old.containers.items object last within) in
-        let is : last ≡ cond (entry.wrote && names object entry.call) (behind_one was entry.thread place) was = sym (get_or_from_slice_get new.containers.items object last last here) ∙ goes.lasts object last in
-        elim (entry.wrote && names object entry.call) as (λ b. (entry.wrote && names object entry.call) ≡ b → last ≡ cond b (behind_one was entry.thread place) was → IsLast entries (place + 1) object last) [
-          | true ↦ λ both same. let parts = and_parts entry.wrote (names object entry.call) both in subst (IsLast entries (place + 1) object) (sym same) (last_after_write entries place object entry at was old_last parts.0 parts.1)
-          | false ↦ λ calm same. subst (IsLast entries (place + 1) object) (sym same) (last_after_other entries place object entry at was old_last calm)
+    last_after : (container : ℕ) (last : LastWrites) → slice_get new.containers.items container ≡ Some last → IsLast entries (place + 1) container last
+    last_after container last here =
+        let within : container < length old.containers.items = omega (arith, slice_get_within new.containers.items container last here, goes.containers) in
+        let was : LastWrites = get_or old.containers.items container last in
+        let old_last : IsLast entries place container was = is_state.lasts container was (slice_get-get_or old.containers.items container last within) in
+        let is : last ≡ cond (entry.wrote && names container entry.call) (after_one was entry.thread place) was = sym (get_or_from_slice_get new.containers.items container last last here) ∙ goes.lasts container last in
+        elim (entry.wrote && names container entry.call) as (λ b. (entry.wrote && names container entry.call) ≡ b → last ≡ cond b (after_one was entry.thread place) was → IsLast entries (place + 1) container last) [
+          | true ↦ λ both same. let parts = and_parts entry.wrote (names container entry.call) both in subst (IsLast entries (place + 1) container) (sym same) (last_after_write entries place container entry at was old_last parts.0 parts.1)
+          | false ↦ λ calm same. subst (IsLast entries (place + 1) container) (sym same) (last_after_other entries place container entry at was old_last calm)
         ] refl is
 
-    pub state_behind : IsState script entries (place + 1) new
-    state_behind =
+    pub state_after : IsState script entries (place + 1) new
+    state_after =
         record {
-          world = world_behind;
-          kinds = kinds_behind ∙ is_state.kinds;
+          world = world_after;
+          kinds = kinds_after ∙ is_state.kinds;
           count = goes.writes ∙ ap (λ n. n + cond entry.wrote 1 0) is_state.count ∙ sym (count_next entries place entry at);
           threads = ap length goes.threads ∙ length-set old.threads.items entry.thread after ∙ is_state.threads;
           progress = λ thread progress here.
@@ -206,8 +206,8 @@ module _ (script : ScriptParts) (is_script : IsScript script) (entries : List En
                 | inr other ↦ is_state.hands thread progress other.1
               ];
           containers = goes.containers ∙ is_state.containers;
-          lasts = last_behind;
-          ledger = ledger_behind;
+          lasts = last_after;
+          ledger = ledger_after;
         }
 
   -- its call may be made in the state
@@ -222,8 +222,8 @@ module _ (script : ScriptParts) (is_script : IsScript script) (entries : List En
   pub of_kind_at : (state : State) → IsState script entries place state → AreOfKind state.world entry.call
   of_kind_at state is_state = of_kinds script.containers state.world is_state.kinds (cursors_of script entry.thread) entry.call its_call.names
 
-  pub within_containers : (state : State) → IsState script entries place state → All (λ object. object < length state.containers.items) (containers_of entry.call)
-  within_containers state is_state = subst (λ n. All (λ object. object < n) (containers_of entry.call)) (sym is_state.containers) (named_within script.containers (cursors_of script entry.thread) entry.call its_call.names)
+  pub within_containers : (state : State) → IsState script entries place state → All (λ container. container < length state.containers.items) (containers_of entry.call)
+  within_containers state is_state = subst (λ n. All (λ container. container < n) (containers_of entry.call)) (sym is_state.containers) (named_within script.containers (cursors_of script entry.thread) entry.call its_call.names)
 
   pub thread_within : (state : State) → IsState script entries place state → entry.thread < length state.threads.items
   thread_within state is_state = omega (arith, is_state.threads, slice_get_within script.threads entry.thread thread_found.0 thread_found.1)
@@ -238,24 +238,24 @@ few_marks entries place thread within = omega (arith, count_by-le-length (is_mar
 
 -- ---- what is found at a place
 
-module _ (s : Storage) (script : ScriptParts) (entries : List Entry) (place : ℕ) (entry : Entry) (said : Bool) (before after : Progress) (old new : State) (is_state : IsState script entries place old) (goes : GoesBehind place entry said before after old new) where
+module _ (s : Storage) (script : ScriptParts) (entries : List Entry) (place : ℕ) (entry : Entry) (said : Bool) (before after : Progress) (old new : State) (is_state : IsState script entries place old) (goes : GoesAfter place entry said before after old new) where
   same_world : old.world ≡ world_at script entries (length (writes (take place entries)))
   same_world = is_state.world ∙ sym (world_at-before script entries place)
 
   same_hands : before.hands ≡ hands_at script entries entry.thread place
   same_hands = (is_state.progress entry.thread before goes.at).hands
 
-  pub told_there : IsReplied entry.call entry.reply (answer old.world before.hands entry.call).reply → IsTold script entries place entry
-  told_there replied = subst (λ (hs : List (Option Cursor)). IsReplied entry.call entry.reply (answer (world_at script entries (length (writes (take place entries)))) hs entry.call).reply) same_hands (subst (λ (w : List Content). IsReplied entry.call entry.reply (answer w before.hands entry.call).reply) same_world replied)
+  pub reported_there : IsReplied entry.call entry.reply (answer old.world before.hands entry.call).reply → HasRightReply script entries place entry
+  reported_there replied = subst (λ (hs : List (Option Cursor)). IsReplied entry.call entry.reply (answer (world_at script entries (length (writes (take place entries)))) hs entry.call).reply) same_hands (subst (λ (w : List Content). IsReplied entry.call entry.reply (answer w before.hands entry.call).reply) same_world replied)
 
-  pub told_here : IsTold script entries place entry → IsReplied entry.call entry.reply (answer old.world before.hands entry.call).reply
-  told_here told = subst (λ (w : List Content). IsReplied entry.call entry.reply (answer w before.hands entry.call).reply) (sym same_world) (subst (λ (hs : List (Option Cursor)). IsReplied entry.call entry.reply (answer (world_at script entries (length (writes (take place entries)))) hs entry.call).reply) (sym same_hands) told)
+  pub reported_here : HasRightReply script entries place entry → IsReplied entry.call entry.reply (answer old.world before.hands entry.call).reply
+  reported_here reported = subst (λ (w : List Content). IsReplied entry.call entry.reply (answer w before.hands entry.call).reply) (sym same_world) (subst (λ (hs : List (Option Cursor)). IsReplied entry.call entry.reply (answer (world_at script entries (length (writes (take place entries)))) hs entry.call).reply) (sym same_hands) reported)
 
   pub breaks_reply : KeepsFirst s script entries place entry 3 → said ≡ false → BreaksFirst s script entries place entry rule.Reply
-  breaks_reply first off = record { before = first; broken = λ told. false≢true (sym off ∙ goes.told.1 (told_here told)) }
+  breaks_reply first off = record { before = first; broken = λ reported. false≢true (sym off ∙ goes.reported.1 (reported_here reported)) }
 
   pub keeps_four : KeepsFirst s script entries place entry 3 → said ≡ true → KeepsFirst s script entries place entry 4
-  keeps_four first on = keeps_more s script entries place entry 3 rule.Reply refl first (told_there (goes.told.0 on))
+  keeps_four first on = keeps_more s script entries place entry 3 rule.Reply refl first (reported_there (goes.reported.0 on))
 
 pub finds_all : (s : Storage) (script : ScriptParts) (entries : List Entry) (place : ℕ) (entry : Entry) (found : Option Rule) → KeepsFirst s script entries place entry 4 → FindsLate s script entries place entry found → Finds s script entries place entry found
 finds_all s script entries place entry (Some r) first late = late first

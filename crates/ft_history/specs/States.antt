@@ -70,7 +70,7 @@ begun_of section = record { containers = listed section.containers; begun = sect
 abbrev pub all_begun : List OpenSection → List Begun
 all_begun sections = reverse (map begun_of sections)
 
--- the open sections of a thread after a call of it at a place, by when that many of its calls have waited
+-- the open sections of a thread after a call of it at a place, by when a number of its calls have waited
 abbrev pub after_begun : ℕ → ℕ → Call → List Begun → List Begun
 after_begun place marks (call.Begin first second) sections = record { containers = one_or_two first second; begun = place; marks = marks } ∷ sections
 after_begun place marks call.End sections = drop 1 sections
@@ -96,7 +96,7 @@ abbrev pub inner_begun : List Begun → List ℕ
 inner_begun [] = []
 inner_begun (section ∷ sections) = section.containers
 
--- an `end` says that that many calls in its section waited
+-- an `end` says that a number of calls in its section waited
 abbrev pub IsCountedAs : ℕ → Reply → Type 0
 IsCountedAs marks reply.Kept = marks ≡ 0
 IsCountedAs marks (reply.Suspended count) = (1 ≤ count) × (marks ≡ count)
@@ -119,7 +119,7 @@ pub record IsFresh (thread : Thread) (progress : Progress) : Type 0 where
   pub hands : progress.hands ≡ start_hands (length thread.cursors)
   pub sections : progress.sections.items ≡ []
 
--- hands of a thread that has made that many of its calls: each cursor that these make is there, over a container of its kind
+-- hands of a thread that has made a number of its calls: each cursor that these make is there, over a container of its kind
 pub record AreHandsOf (script : ScriptParts) (thread made : ℕ) (hands : List (Option Cursor)) : Type 0 where
   pub room : length hands ≡ cursors_of script thread
   pub kinds : (number : ℕ) → IfSome (cursor_at hands number) (λ cursor. IsDeclaredAs script.containers (cursor_kind cursor) (container_of cursor))

@@ -59,7 +59,7 @@ pub enum Reply {
     Entered,
     /// The section that ends held its locks all the while.
     Kept,
-    /// The section that ends let its locks go while that many of its calls waited (C API, critical
+    /// The section that ends let its locks go while a number of its calls waited (C API, critical
     /// sections: a thread that would block may let them go).
     Suspended(u32),
     /// The exception that the call raised.

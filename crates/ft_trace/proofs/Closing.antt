@@ -1,0 +1,129 @@
+-- Each entry is right, each number stands once, and who stands for all passes has all entries.
+use Rattle.std.proofs.Common.{◌≡◌, ◌≢◌, ℕ, zero, suc, ◌+◌, ◌<◌, eqb, ltb, Bool, true≢false, cond, List, [], ◌∷◌, ◌++◌, length, refl, sym, ap, ◌∙◌, inl, inr, arith, le_trans}
+use Rattle.std.proofs.lemmas.Bool.Decides.{nat_tests}
+use Rattle.std.proofs.lemmas.Bool.{le-ltb}
+use mathlib.Core.Option.{some}
+use lib.ListN.{get_elem?}
+use Rattle.ft_trace.specs.declared.Shape.{Shape}
+use Rattle.ft_trace.specs.declared.View.{View}
+use Rattle.ft_trace.specs.declared.Act.{Act}
+use Rattle.ft_trace.specs.declared.Act.TheVariants.{Commit, Answer}
+use Rattle.ft_trace.specs.declared.Call.{Call}
+use Rattle.ft_trace.specs.declared.Entry.{Entry}
+use Rattle.ft_trace.specs.Acts.{place, Reports, starter, noted, entries_next, maker, made, both, spent}
+use Rattle.ft_trace.specs.Worlds.{World, container, reply_of, writes_of_call, reply, is_write, world_at}
+use Rattle.ft_trace.specs.Traces.{Event, did, forked, joined, run, word, writes_of, history, May, Valid}
+use Rattle.ft_trace.specs.Entries.{total, entries_of, IsNumber, Right, AllRight, is_number, Legal}
+use Rattle.ft_trace.proofs.Sizes.{set_views, one_more, one_view}
+use Rattle.ft_trace.proofs.Stamps.{world_stays, grows_by}
+use Rattle.ft_trace.proofs.Contents.{count, counted}
+use Rattle.ft_trace.proofs.Totals.{weight, parts_total, entries_total, total_two, total_alone}
+
+reply_same : (c : Call) (w z : World) → ((o : ℕ) → w o ≡ z o) → reply c w ≡ reply c z
+reply_same c w z same = ap (reply_of c) (same (container c))
+
+write_same : (c : Call) (w z : World) → ((o : ℕ) → w o ≡ z o) → is_write c w ≡ is_write c z
+write_same c w z same = ap (writes_of_call c) (same (container c))
+
+number_stays : (b : Act) (cs : List Call) (n : ℕ) (c : Call) → IsNumber cs n c → IsNumber (writes_of b cs) n c
+number_stays (Commit d r f) cs n c is = inr is
+number_stays act cs n c is = is
+
+right_stays : (b : Act) (cs : List Call) (e : Entry) → Right cs e → Right (writes_of b cs) e
+right_stays b cs e r = record {
+  write = λ w. number_stays b cs e.stamp e.call (r.write w);
+  read = λ w.
+      let q = r.read w in
+      let same : (o : ℕ) → world_at e.stamp (writes_of b cs) o ≡ world_at e.stamp cs o = λ o. world_stays e.stamp b cs o q.1 in
+      (write_same e.call (world_at e.stamp (writes_of b cs)) (world_at e.stamp cs) same ∙ q.0, le_trans q.1 (grows_by b cs), reply_same e.call (world_at e.stamp (writes_of b cs)) (world_at e.stamp cs) same ∙ q.2);
+}
+
+all_stay : (b : Act) (cs : List Call) (es : List Entry) → AllRight cs es → AllRight (writes_of b cs) es
+all_stay b cs [] all = tt
+all_stay b cs (e ∷ es) all = (right_stays b cs e all.0, all_stay b cs es all.1)
+
+all-append : (cs : List Call) (xs ys : List Entry) → AllRight cs xs → AllRight cs ys → AllRight cs (xs ++ ys)
+all-append cs [] ys a b = b
+all-append cs (x ∷ xs) ys a b = (a.0, all-append cs xs ys a.1 b)
+
+right_next : (k : Shape) (es : List Event) → count k es ≡ length (history es) → (v : View) (b : Act) → Reports b (word k es (place b)) → May k (run k es) (history es) v b → (fs : List Entry) → AllRight (writes_of b (history es)) fs → AllRight (writes_of b (history es)) (entries_next b fs)
+right_next k es count v (Commit c r f) found may fs all = (record { write = λ _. inl (found ∙ count, refl); read = λ no. absurd (true≢false no) }, all)
+right_next k es count v (Answer c x n) found may fs all = (record { write = λ no. absurd (true≢false (sym no)); read = λ _. (may.0, (let low = may.1 in omega arith), may.2) }, all)
+right_next k es count v act found may fs all = all
+
+-- each entry of each pass is right
+pub all_right : (k : Shape) (es : List Event) → Valid k es → (j : ℕ) (u : View) → get_elem? (run k es).views j ≡ some u → AllRight (history es) u.entries
+all_right k [] valid = one_view (λ j u. AllRight [] u.entries) (starter k) tt
+all_right k (did id v a ∷ es) valid =
+    let old = all_right k es valid.0 in
+    let P : ℕ → View → Type 0 = λ j u. AllRight (writes_of a (history es)) u.entries in
+    set_views P _ id (noted a v) (right_next k es (counted k es valid.0) v a valid.1.2 valid.1.3 v.entries (all_stay a (history es) v.entries (old id v valid.1.0))) (λ j u _ e. all_stay a (history es) u.entries (old j u e))
+all_right k (forked id v ∷ es) valid =
+    let old = all_right k es valid.0 in
+    let P : ℕ → View → Type 0 = λ j u. AllRight (history es) u.entries in
+    one_more P _ (made v) tt (set_views P _ id (maker v) (old id v valid.1.0) (λ j u _ e. old j u e))
+all_right k (joined id v other w ∷ es) valid =
+    let old = all_right k es valid.0 in
+    let P : ℕ → View → Type 0 = λ j u. AllRight (history es) u.entries in
+    set_views P _ other spent tt (λ j u _. set_views P _ id (both v w) (all-append (history es) w.entries v.entries (old other w valid.1.2) (old id v valid.1.0)) (λ j u _ e. old j u e) j u)
+
+below_next : (m n : ℕ) → cond (eqb m n) 1 0 + cond (ltb n m) 1 0 ≡ cond (ltb n (suc m)) 1 0
+below_next m n = grind (arith, nat_tests)
+
+once_by : (k : Shape) (es : List Event) → count k es ≡ length (history es) → (b : Act) → Reports b (word k es (place b)) → (n : ℕ)
+    → total (is_number n) (entries_of es) ≡ cond (ltb n (length (history es))) 1 0 → total (is_number n) (entries_next b (entries_of es)) ≡ cond (ltb n (length (writes_of b (history es)))) 1 0
+once_by k es count (Commit c r f) found n old =
+    let is : f ≡ length (history es) = found ∙ count in
+    let pick : Bool → ℕ = λ b. cond b 1 0 in
+    let next : pick (eqb (length (history es)) n) + pick (ltb n (length (history es))) ≡ pick (ltb n (suc (length (history es)))) = below_next (length (history es)) n in
+    let here : pick (eqb f n) ≡ pick (eqb (length (history es)) n) = ap (λ (z : ℕ). pick (eqb z n)) is in
+    let all : pick (eqb f n) + total (is_number n) (entries_of es) ≡ pick (ltb n (suc (length (history es)))) = omega (arith, next, here, old) in
+    all
+once_by k es count (Answer c x m) found n old = omega arith
+once_by k es count act found n old = old
+
+-- each number below the counter is that of one entry
+pub once : (k : Shape) (es : List Event) → Valid k es → (n : ℕ) → total (is_number n) (entries_of es) ≡ cond (ltb n (length (history es))) 1 0
+once k [] valid n = sym (ap (λ (b : Bool). cond b 1 0) (le-ltb n 0 (omega arith)))
+once k (did id v a ∷ es) valid n = once_by k es (counted k es valid.0) a valid.1.2 n (once k es valid.0 n)
+once k (forked id v ∷ es) valid n = once k es valid.0 n
+once k (joined id v other w ∷ es) valid n = once k es valid.0 n
+
+-- a pass that stands for none has no entry
+pub record Stood (u : View) : Type 0 where
+  pub live : u.number ≢ 0 → 0 < u.parts
+  pub silent : u.number ≡ 0 → u.entries ≡ []
+
+stood : (k : Shape) (es : List Event) → Valid k es → 0 < k.passes → (j : ℕ) (u : View) → get_elem? (run k es).views j ≡ some u → Stood u
+stood k [] valid some_pass = one_view (λ j u. Stood u) (starter k) (record { live = λ _. some_pass; silent = λ _. refl })
+stood k (did id v a ∷ es) valid some_pass =
+    let old = stood k es valid.0 some_pass in
+    set_views (λ j u. Stood u) _ id (noted a v) (record { live = (old id v valid.1.0).live; silent = λ e. absurd (valid.1.1 e) }) (λ j u _ e. old j u e)
+stood k (forked id v ∷ es) valid some_pass =
+    let old = stood k es valid.0 some_pass in
+    let may = valid.1.3 in
+    one_more (λ j u. Stood u) _ (made v) (record { live = λ _. omega arith; silent = λ _. refl }) (set_views (λ j u. Stood u) _ id (maker v) (record { live = λ _. omega arith; silent = λ e. absurd (valid.1.1 e) }) (λ j u _ e. old j u e))
+stood k (joined id v other w ∷ es) valid some_pass =
+    let old = stood k es valid.0 some_pass in
+    let mine = (old id v valid.1.0).live valid.1.3 in
+    set_views (λ j u. Stood u) _ other spent (record { live = λ live. absurd (live refl); silent = λ _. refl })
+    (λ j u _. set_views (λ j u. Stood u) _ id (both v w) (record { live = λ _. omega arith; silent = λ e. absurd (valid.1.3 e) }) (λ j u _ e. old j u e) j u)
+
+zero_or : (n : ℕ) → (n ≢ 0 → ⊥) → n ≡ 0
+zero_or zero never = refl
+zero_or (suc n) never = absurd (never (λ e. omega arith))
+
+-- who stands for all passes has the whole history
+pub closes : (k : Shape) (es : List Event) → Valid k es → 0 < k.passes → (id : ℕ) (v : View) → get_elem? (run k es).views id ≡ some v → v.parts ≡ k.passes → Legal (history es) v.entries
+closes k es valid some_pass id v at all = record {
+  right = all_right k es valid id v at;
+  once = λ n.
+      let h : Entry → ℕ = is_number n in
+      let alone = total_alone (weight h) (run k es).views id v at (λ j u ne e.
+      let two = total_two (λ (z : View). z.parts) (run k es).views id j v u (λ x. ne (sym x)) at e in
+      let sum = parts_total k es valid in
+      let s = stood k es valid some_pass j u e in
+      let none : u.number ≡ 0 = zero_or u.number (λ live. let more = s.live live in omega arith) in
+      ap (λ (l : List Entry). total h l) (s.silent none)) in
+      sym alone ∙ (entries_total h k es valid ∙ once k es valid n);
+}

@@ -1,0 +1,112 @@
+-- The bits of a class, counted over its sixteen free words: those of no table are never set.
+use Rattle.std.proofs.Common.{◌≡◌, ◌≢◌, ℕ, zero, suc, ltb, lt-ltb, ◌+◌, ◌-◌, ◌*◌, ◌/◌, ◌%◌, ◌^◌, ◌<◌, ◌≤◌, Bool, List, [], ◌∷◌, refl, sym, ap, ◌∙◌, subst, arith}
+use mathlib.Core.Logic.{dite}
+use native.Mathlib.Decide.{ℕ_discrete}
+use native.Mathlib.Nat.{zero-div}
+use Rattle.std.proofs.Math.Nat.{div-div-eq-div-mul, pow-suc}
+use Rattle.ft_trace.specs.declared.Shape.{Shape}
+use Rattle.ft_trace.specs.declared.View.{View}
+use Rattle.ft_trace.specs.declared.Act.{Act}
+use Rattle.ft_trace.specs.declared.Act.TheVariants.{ReadFree, TakeTable, GiveTable}
+use Rattle.ft_trace.specs.Bits.{bit, full}
+use Rattle.ft_trace.specs.Addrs.{Addr, count_of, bits, num, fw, bt, least}
+use Rattle.ft_trace.specs.Acts.{place, left}
+use Rattle.ft_trace.specs.Entries.{total}
+use Rattle.ft_trace.specs.Counts.{sum_to, bit_of, set_bits, ones, word_bits, taking, giving}
+use Rattle.ft_trace.specs.Traces.{Event, did, forked, joined, run, word, history, May, Valid}
+use Rattle.ft_trace.proofs.Addrs.{bt_low, same_bit, num_is, num_of, bits_first}
+use Rattle.ft_trace.proofs.Bits.{off_else, on_else}
+use Rattle.ft_trace.proofs.Words.{stays, moves, kept}
+use Rattle.ft_trace.proofs.Counts.{sum_same, counts_stand}
+
+full_off : (n b : ℕ) → n ≤ b → bit b (full n) ≡ 0
+unfolding bit
+full_off zero b low = ap (λ (z : ℕ). z % 2) (zero-div (2 ^ b))
+full_off (suc n) zero low = absurd (omega arith)
+full_off (suc n) (suc b) low =
+    let two : 2 * 2 ^ b ≡ 2 ^ suc b = (let p = pow-suc 2 b in omega (arith, p)) in
+    let half : (full n * 2 + 1) / 2 ≡ full n = omega arith in
+    let e : (full n * 2 + 1) / 2 ^ suc b ≡ full n / 2 ^ b = ap (λ (z : ℕ). (full n * 2 + 1) / z) (sym two) ∙ (sym (div-div-eq-div-mul (full n * 2 + 1) 2 (2 ^ b)) ∙ ap (λ (z : ℕ). z / 2 ^ b) half) in
+    ap (λ (z : ℕ). z % 2) e ∙ full_off n b (omega arith)
+
+-- a bit of a free word, of a table or not
+module _ (k : Shape) (es : List Event) (id : ℕ) (v : View) (t : ℕ) (low : fw t < 16 * k.classes) (none : k.tables ≤ num t) where
+  far : (a : Act) → May k (run k es) (history es) v a → place a ≢ bits (fw t) → bit_of k (did id v a ∷ es) t ≡ bit_of k es t
+  far a may ne = ap (bit (bt t)) (stays k es id v a may (bits (fw t)) low ne)
+
+  near_ : (q : ℕ) (a : Act) → num q < k.tables → place a ≡ bits (fw q) → May k (run k es) (history es) v a → ((n : ℕ) → bt q ≢ bt t → bit (bt t) (left v.number a n) ≡ bit (bt t) n) → bit_of k (did id v a ∷ es) t ≡ bit_of k es t
+  near_ q a less is may does =
+      dite (ℕ_discrete (fw q) (fw t))
+      (λ (e : fw q ≡ fw t).
+      let p : place a ≡ bits (fw t) = is ∙ ap bits e in
+      let m : word k (did id v a ∷ es) (bits (fw t)) ≡ left v.number a (word k es (bits (fw t))) = subst (λ (x : Addr). word k (did id v a ∷ es) x ≡ left v.number a (word k es x)) p (moves k es id v a may) in
+      ap (bit (bt t)) m ∙ does (word k es (bits (fw t))) (λ n. let x = ap num (same_bit q t e n) in omega (arith, x, less, none)))
+      (λ apart. far a may (λ e. apart (let z : bits (fw q) ≡ bits (fw t) = sym is ∙ e in cc)))
+
+  unused_by : (a : Act) → May k (run k es) (history es) v a → bit_of k (did id v a ∷ es) t ≡ bit_of k es t
+  unused_by (TakeTable p f s) may = near_ p (TakeTable p f s) may.0.1 refl may (λ n apart. off_else (bt p) (bt t) n (bt_low p) (bt_low t) apart)
+  unused_by (GiveTable p) may = near_ p (GiveTable p) may.0.1 refl may (λ n apart. on_else (bt p) (bt t) n (bt_low p) apart)
+  unused_by (ReadFree w f) may = ap (bit (bt t)) (kept k es id v (ReadFree w f) (λ n. refl) (bits (fw t)))
+  unused_by act may = far act may (λ e. absurd (cc))
+
+pub unused : (k : Shape) (es : List Event) → Valid k es → (t : ℕ) → fw t < 16 * k.classes → k.tables ≤ num t → bit_of k es t ≡ 0
+unused k [] valid t low none =
+    let n = num_is t in
+    let b = bt_low t in
+    let d = k.tables - 64 * (fw t % 16) in
+    let small : d ≤ bt t = omega (arith, n, none) in
+    let is : least (ltb d 64) d ≡ d = ap (λ (z : Bool). least z d) (lt-ltb d 64 (omega (arith, small, b))) in
+    ap (bit (bt t)) (bits_first k (fw t) low) ∙ (ap (λ (z : ℕ). bit (bt t) (full z)) is ∙ full_off d (bt t) small)
+unused k (did id v a ∷ es) valid t low none = unused_by k es id v t low none a valid.1.3 ∙ unused k es valid.0 t low none
+unused k (forked id v ∷ es) valid t low none = unused k es valid.0 t low none
+unused k (joined id v other w ∷ es) valid t low none = unused k es valid.0 t low none
+
+sum_split : (f : ℕ → ℕ) (a b : ℕ) → sum_to f (a + b) ≡ sum_to f a + sum_to (λ i. f (a + i)) b
+sum_split f a zero = let e : a + 0 ≡ a = omega arith in let z : sum_to f (a + 0) ≡ sum_to f a = ap (sum_to f) e in omega (arith, z)
+sum_split f a (suc b) = let e : a + suc b ≡ suc (a + b) = omega arith in let z : sum_to f (a + suc b) ≡ f (a + b) + sum_to f (a + b) = ap (sum_to f) e in let h = sum_split f a b in omega (arith, z, h)
+
+sum_parts : (f : ℕ → ℕ) (m : ℕ) → sum_to (λ j. sum_to (λ b. f (64 * j + b)) 64) m ≡ sum_to f (64 * m)
+sum_parts f zero = refl
+sum_parts f (suc m) =
+    let h = sum_parts f m in
+    let s = sum_split f (64 * m) 64 in
+    let e : 64 * suc m ≡ 64 * m + 64 = omega arith in
+    let z : sum_to f (64 * suc m) ≡ sum_to f (64 * m + 64) = ap (sum_to f) e in
+    let x : sum_to (λ j. sum_to (λ b. f (64 * j + b)) 64) (suc m) ≡ sum_to (λ b. f (64 * m + b)) 64 + sum_to (λ j. sum_to (λ b. f (64 * j + b)) 64) m = refl in
+    omega (arith, h, s, z, x)
+
+-- nothing from a on
+sum_cut : (f : ℕ → ℕ) (a n : ℕ) → a ≤ n → ((i : ℕ) → a ≤ i → i < n → f i ≡ 0) → sum_to f n ≡ sum_to f a
+sum_cut f a zero low none = let e : 0 ≡ a = omega arith in ap (sum_to f) e
+sum_cut f a (suc n) low none =
+    dite (ℕ_discrete a (suc n)) (λ (e : a ≡ suc n). sym (ap (sum_to f) e))
+    (λ ne.
+    let h = sum_cut f a n (omega (arith, low, ne)) (λ i up less. none i up (omega arith)) in
+    let z = none n (omega (arith, low, ne)) (omega arith) in
+    omega (arith, h, z))
+
+word_of : (c j b : ℕ) → b < 64 → fw (1024 * c + (64 * j + b)) ≡ 16 * c + j
+unfolding fw
+word_of c j b low = omega arith
+
+bit_is : (c j b : ℕ) → b < 64 → bt (1024 * c + (64 * j + b)) ≡ b
+unfolding bt
+bit_is c j b low = omega arith
+
+word_low : (c i n : ℕ) → i < 1024 → c < n → fw (1024 * c + i) < 16 * n
+unfolding fw
+word_low c i n low less = omega arith
+
+pub words_are : (k : Shape) (es : List Event) → k.tables ≤ 1024 → Valid k es → (c : ℕ) → c < k.classes → word_bits k es c ≡ set_bits k es c
+words_are k es small valid c low =
+    let F : ℕ → ℕ = λ i. bit_of k es (1024 * c + i) in
+    let G : ℕ → ℕ = λ j. ones (word k es (bits (16 * c + j))) in
+    let H : ℕ → ℕ = λ j. sum_to (λ b. F (64 * j + b)) 64 in
+    let each : sum_to G 16 ≡ sum_to H 16 = sum_same G H 16 (λ j _. sum_same (λ b. bit b (word k es (bits (16 * c + j)))) (λ b. F (64 * j + b)) 64 (λ b less. ap (λ (z : ℕ). bit z (word k es (bits (16 * c + j)))) (sym (bit_is c j b less)) ∙ ap (λ (z : ℕ). bit (bt (1024 * c + (64 * j + b))) (word k es (bits z))) (sym (word_of c j b less)))) in
+    each
+    ∙ (sum_parts F 16
+    ∙ sum_cut F k.tables (64 * 16) (omega (arith, small)) (λ i up less. unused k es valid (1024 * c + i) (word_low c i k.classes (omega (arith, less)) low) (let n = num_of c i (omega (arith, less)) in omega (arith, n, up))))
+
+-- the bank's rule: the set bits of a class are as many as its count word says, and one for each taking and giving in flight
+pub words_stand : (k : Shape) (es : List Event) → k.tables ≤ 1024 → Valid k es → (c : ℕ) → c < k.classes → word_bits k es c ≡ word k es (count_of c) + total (taking c) (run k es).views + total (giving c) (run k es).views
+words_stand k es small valid c low = words_are k es small valid c low ∙ counts_stand k es small valid c low

@@ -1,0 +1,260 @@
+-- What one action reads and writes, and what the actions of a pass say of it.
+use Rattle.std.specs.Prelude.{◌≡◌, ℕ, suc, ◌+◌, ◌-◌, ◌*◌, ◌^◌, ◌%◌, ◌==◌, nat_lt, Bool, true, false, cond, List, [], ◌∷◌, ◌++◌, slice_set}
+use prog.Atomic.{either}
+use Rattle.ft_trace.specs.declared.Act.{Act}
+use Rattle.ft_trace.specs.declared.Act.TheVariants.{Lock, Unlock, StartWrite, PutBlock, PutRoot, PutTable, PutFresh, PutHeader, Commit, StopWrite, Version, ReadBlock, ReadRoot, ReadTable, ReadCounter, Answer, LowerCount, RaiseCount, ReadCount, ReadFree, TakeTable, GiveTable, Retire, Announce, ReadAnnounced, WriteNumber}
+use Rattle.ft_trace.specs.declared.Entry.{Entry}
+use Rattle.ft_trace.specs.declared.Shape.{Shape}
+use Rattle.ft_trace.specs.declared.Call.{Call}
+use Rattle.ft_trace.specs.declared.View.{View}
+use Rattle.ft_trace.specs.Bits.{bit, bit_on, bit_off}
+use Rattle.ft_trace.specs.Addrs.{Addr, counter, write_number, announced_of, count_of, bits, lock_of, version_of, block, header, cell, cls, at, fw, bt}
+
+-- the word of an action
+abbrev pub place : Act → Addr
+place (Lock o f s) = lock_of o
+place (Unlock o) = lock_of o
+place (StartWrite o f) = version_of o
+place (PutBlock o i x) = block o i
+place (PutRoot o r old) = block o 0
+place (PutTable o t i x) = cell t i
+place (PutFresh t i x) = cell t i
+place (PutHeader t x) = header t
+place (Commit c r f) = counter
+place (StopWrite o f) = version_of o
+place (Version o f) = version_of o
+place (ReadBlock o i f) = block o i
+place (ReadRoot o f) = block o 0
+place (ReadTable t i f) = cell t i
+place (ReadCounter f) = counter
+place (Answer c r n) = counter
+place (LowerCount c old f) = count_of c
+place (RaiseCount c f) = count_of c
+place (ReadCount c f) = count_of c
+place (ReadFree w f) = bits w
+place (TakeTable t f s) = bits (fw t)
+place (GiveTable t) = bits (fw t)
+place (Retire t f) = write_number
+place (Announce p x) = announced_of p
+place (ReadAnnounced p f) = announced_of p
+place (WriteNumber f) = write_number
+
+-- what the word becomes, by the pass of this number, where n was there
+abbrev pub left : ℕ → Act → ℕ → ℕ
+left by (Lock o f s) n = either (n == 0) by n
+left by (Unlock o) n = 0
+left by (StartWrite o f) n = (n + 1) % 2 ^ 64
+left by (PutBlock o i x) n = x
+left by (PutRoot o r old) n = r
+left by (PutTable o t i x) n = x
+left by (PutFresh t i x) n = x
+left by (PutHeader t x) n = x
+left by (Commit c r f) n = (n + 1) % 2 ^ 64
+left by (StopWrite o f) n = (n + 1) % 2 ^ 64
+left by (LowerCount c old f) n = either (n == old) (old - 1) n
+left by (RaiseCount c f) n = (n + 1) % 2 ^ 64
+left by (TakeTable t f s) n = bit_off (bt t) n
+left by (GiveTable t) n = bit_on (bt t) n
+left by (Retire t f) n = (n + 1) % 2 ^ 64
+left by (Announce p x) n = x
+left by act n = n
+
+-- the number that the action says it found was there
+abbrev pub Reports : Act → ℕ → Type 0
+Reports (Lock o f s) n = f ≡ n
+Reports (StartWrite o f) n = f ≡ n
+Reports (Commit c r f) n = f ≡ n
+Reports (StopWrite o f) n = f ≡ n
+Reports (Version o f) n = f ≡ n
+Reports (ReadBlock o i f) n = f ≡ n
+Reports (ReadRoot o f) n = f ≡ n
+Reports (ReadTable t i f) n = f ≡ n
+Reports (ReadCounter f) n = f ≡ n
+Reports (LowerCount c old f) n = f ≡ n
+Reports (RaiseCount c f) n = f ≡ n
+Reports (ReadCount c f) n = f ≡ n
+Reports (ReadFree w f) n = f ≡ n
+Reports (TakeTable t f s) n = f ≡ n
+Reports (Retire t f) n = f ≡ n
+Reports (ReadAnnounced p f) n = f ≡ n
+Reports (WriteNumber f) n = f ≡ n
+Reports act n = Unit {0}
+
+-- the pass has the lock of o
+abbrev pub has_next : ℕ → Act → Bool → Bool
+has_next o (Lock p f s) b = cond (p == o) (cond (f == 0) true b) b
+has_next o (Unlock p) b = cond (p == o) false b
+has_next o act b = b
+
+abbrev pub has : ℕ → List Act → Bool
+has o [] = false
+has o (a ∷ l) = has_next o a (has o l)
+
+-- the pass has made the version of o odd
+abbrev pub writes_next : ℕ → Act → Bool → Bool
+writes_next o (StartWrite p f) b = cond (p == o) true b
+writes_next o (StopWrite p f) b = cond (p == o) false b
+writes_next o act b = b
+
+abbrev pub writes : ℕ → List Act → Bool
+writes o [] = false
+writes o (a ∷ l) = writes_next o a (writes o l)
+
+-- the pass has committed since it made the version of o odd
+abbrev pub done_next : ℕ → Act → Bool → Bool
+done_next o (StartWrite p f) b = cond (p == o) false b
+done_next o (Commit c r f) b = true
+done_next o act b = b
+
+abbrev pub done : ℕ → List Act → Bool
+done o [] = false
+done o (a ∷ l) = done_next o a (done o l)
+
+-- the pass has the table t: 1 fresh, 3 taken out of a root, 4 retired, and 0 where it has it not
+abbrev pub stage_next : ℕ → Act → ℕ → ℕ
+stage_next t (TakeTable p f s) n = cond (p == t) (cond (bit (bt t) f == 1) 1 n) n
+stage_next t (GiveTable p) n = cond (p == t) 0 n
+stage_next t (PutRoot o r old) n = cond (r == suc t) 0 (cond (old == suc t) 3 n)
+stage_next t (Retire p f) n = cond (p == t) 4 n
+stage_next t act n = n
+
+abbrev pub stage : ℕ → List Act → ℕ
+stage t [] = 0
+stage t (a ∷ l) = stage_next t a (stage t l)
+
+-- the number that all must have announced before t is given back
+abbrev pub goal_next : ℕ → Act → ℕ → ℕ
+goal_next t (Retire p f) g = cond (p == t) (f + 1) g
+goal_next t act g = g
+
+abbrev pub goal : ℕ → List Act → ℕ
+goal t [] = 0
+goal t (a ∷ l) = goal_next t a (goal t l)
+
+-- what the pass announces, 0 for offline
+abbrev pub ann_next : Act → ℕ → ℕ
+ann_next (Announce p x) n = x
+ann_next act n = n
+
+abbrev pub ann : List Act → ℕ
+ann [] = 0
+ann (a ∷ l) = ann_next a (ann l)
+
+-- the pass has found t in a root since it last announced
+abbrev pub reads_next : ℕ → Act → Bool → Bool
+reads_next t (ReadRoot o f) b = cond (f == suc t) true b
+reads_next t (Announce p x) b = false
+reads_next t act b = b
+
+abbrev pub reads : ℕ → List Act → Bool
+reads t [] = false
+reads t (a ∷ l) = reads_next t a (reads t l)
+
+-- since it retired t the pass has found that the pass p stood at 0 or at the goal
+abbrev pub clear_next : ℕ → ℕ → ℕ → Act → Bool → Bool
+clear_next t p g (Retire q f) b = cond (q == t) false b
+clear_next t p g (ReadAnnounced q f) b = cond (q == p) (cond (f == 0) true (cond (nat_lt f g) b true)) b
+clear_next t p g act b = b
+
+abbrev pub clear : ℕ → ℕ → List Act → Bool
+clear t p [] = false
+clear t p (a ∷ l) = clear_next t p (goal t l) a (clear t p l)
+
+-- since its last commit the pass has taken a table out of a root
+abbrev pub used_next : Act → Bool → Bool
+used_next (PutRoot o r old) b = cond (old == 0) b true
+used_next (Commit c r f) b = false
+used_next act b = b
+
+abbrev pub used : List Act → Bool
+used [] = false
+used (a ∷ l) = used_next a (used l)
+
+-- how many of them it has still to retire
+abbrev pub debt_next : Act → ℕ → ℕ
+debt_next (PutRoot o r old) n = cond (old == 0) n (n + 1)
+debt_next (Retire t f) n = n - 1
+debt_next act n = n
+
+abbrev pub debt : List Act → ℕ
+debt [] = 0
+debt (a ∷ l) = debt_next a (debt l)
+
+-- what the pass is in the midst of: 0 nothing, 2 c + 1 it has lowered the count of class c and has neither a bit nor raised it again, 2 c + 2 it has set a bit of class c and not yet raised the count
+abbrev pub flight_next : Act → ℕ → ℕ
+flight_next (LowerCount c old f) n = cond (f == old) (2 * c + 1) n
+flight_next (RaiseCount c f) n = 0
+flight_next (TakeTable t f s) n = cond (bit (bt t) f == 1) 0 n
+flight_next (GiveTable t) n = 2 * cls t + 2
+flight_next act n = n
+
+abbrev pub flight : List Act → ℕ
+flight [] = 0
+flight (a ∷ l) = flight_next a (flight l)
+
+-- the class whose count the pass has lowered since its last commit, and one more; 0 where it has raised it again
+abbrev pub owes_next : Act → ℕ → ℕ
+owes_next (LowerCount c old f) n = cond (f == old) (suc c) n
+owes_next (RaiseCount c f) n = cond (n == suc c) 0 n
+owes_next (Commit c r f) n = 0
+owes_next act n = n
+
+abbrev pub owes : List Act → ℕ
+owes [] = 0
+owes (a ∷ l) = owes_next a (owes l)
+
+abbrev pub entries_next : Act → List Entry → List Entry
+entries_next (Commit c r f) es = record { call = c; reply = r; stamp = f; wrote = true } ∷ es
+entries_next (Answer c x s) es = record { call = c; reply = x; stamp = s; wrote = false } ∷ es
+entries_next act es = es
+
+-- the writes that are left
+abbrev pub left_next : Act → ℕ → ℕ
+left_next (Commit c r f) n = n - 1
+left_next act n = n
+
+abbrev pub noted : Act → View → View
+noted a v = record { number = v.number; next = v.next; parts = v.parts; left = left_next a v.left; shape = v.shape; log = a ∷ v.log; entries = entries_next a v.entries }
+
+-- the first pass
+abbrev pub starter : Shape → View
+starter k = record { number = 1; next = 2; parts = k.passes; left = k.passes * k.calls; shape = k; log = []; entries = [] }
+
+-- the pass that makes another, and the one that it makes
+abbrev pub maker : View → View
+maker v = record { number = v.number; next = suc v.next; parts = v.parts - 1; left = v.left - v.shape.calls; shape = v.shape; log = v.log; entries = v.entries }
+
+abbrev pub made : View → View
+made v = record { number = v.next; next = 0; parts = 1; left = v.shape.calls; shape = v.shape; log = []; entries = [] }
+
+-- what two passes know, in the first one's place, and the second afterwards
+abbrev pub both : View → View → View
+both v w = record { number = v.number; next = v.next; parts = v.parts + w.parts; left = v.left + w.left; shape = v.shape; log = v.log; entries = w.entries ++ v.entries }
+
+abbrev pub spent : View
+spent = record { number = 0; next = 0; parts = 0; left = 0; shape = record { containers = 0; passes = 0; calls = 0; classes = 0; tables = 0 }; log = []; entries = [] }
+
+-- the words of the bank, as the pass knows them: right for what it has
+abbrev pub mem_next : Shape → Act → List ℕ → List ℕ
+mem_next k (Lock o f s) m = s.words
+mem_next k (TakeTable t f s) m = s.words
+mem_next k (PutBlock o i x) m = slice_set m (at k (block o i)) x
+mem_next k (PutRoot o r old) m = slice_set m (at k (block o 0)) r
+mem_next k (PutTable o t i x) m = slice_set m (at k (cell t i)) x
+mem_next k (PutFresh t i x) m = slice_set m (at k (cell t i)) x
+mem_next k act m = m
+
+abbrev pub mem : Shape → List Act → List ℕ
+mem k [] = []
+mem k (a ∷ l) = mem_next k a (mem k l)
+
+-- the writes, as the pass knows them: right for the containers whose locks it has
+abbrev pub past_next : Act → List Call → List Call
+past_next (Lock o f s) cs = s.calls
+past_next (TakeTable t f s) cs = s.calls
+past_next (Commit c r f) cs = c ∷ cs
+past_next act cs = cs
+
+abbrev pub past : List Act → List Call
+past [] = []
+past (a ∷ l) = past_next a (past l)

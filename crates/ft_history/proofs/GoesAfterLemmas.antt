@@ -35,7 +35,7 @@ use Rattle.ft_history.proofs.Judged.{keeps_more}
 use Rattle.ft_history.proofs.ScriptLemmas.{call_of_thread, calls_of_thread, is_thread, named_within, no_calls}
 use Rattle.ft_history.proofs.Leaves.{Leaves, leaves_of, of_kinds, askable}
 use Rattle.ft_history.proofs.HandLemmas.{hands_next, hands_same, own_cursors}
-use Rattle.ft_history.proofs.LedgerLemmas.{world_after, ledger_next}
+use Rattle.ft_history.proofs.LedgerLemmas.{world_of_stored, ledger_next}
 use Rattle.ft_history.proofs.ProgressLemmas.{progress_other, progress_mine}
 use Rattle.ft_history.proofs.LastWriteLemmas.{last_after_other, last_after_write}
 
@@ -150,7 +150,7 @@ module _ (script : ScriptParts) (is_script : IsScript script) (entries : List En
         let done = writes (take place entries) in
         subst (λ (calls : List Call). IsLedger script calls new.ledger) (sym (writes_next entries place entry at))
         (elim entry.wrote as (λ b. entry.wrote ≡ b → IsLedger script (done ++ cond b (entry.call ∷ []) []) new.ledger) [
-          | true ↦ λ wrote. ledger_next script done entry.call old.world new.world old.ledger new.ledger (is_state.world ∙ sym (world_after script done)) (written wrote) is_state.ledger (goes.taking wrote)
+          | true ↦ λ wrote. ledger_next script done entry.call old.world new.world old.ledger new.ledger (is_state.world ∙ sym (world_of_stored script done)) (written wrote) is_state.ledger (goes.taking wrote)
           | false ↦ λ calm. subst (λ (calls : List Call). IsLedger script calls new.ledger) (sym (append-nil done)) (subst (IsLedger script done) (sym (goes.same calm)) is_state.ledger)
         ] refl)
 

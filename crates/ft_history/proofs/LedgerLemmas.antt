@@ -37,8 +37,8 @@ stored_world stored [] = refl
 stored_world stored (called ∷ calls) = stored_world (after_stored stored called) calls
 
 -- what the containers have is what the writes leave
-pub world_after : (script : ScriptParts) (calls : List Call) → (stored_after script calls).world ≡ fold after_write (start_world script.containers) calls
-world_after script calls = stored_world (start_stored script) calls
+pub world_of_stored : (script : ScriptParts) (calls : List Call) → (stored_after script calls).world ≡ fold after_write (start_world script.containers) calls
+world_of_stored script calls = stored_world (start_stored script) calls
 
 takings-push : (stored : Stored) (calls : List Call) (called : Call) → takings stored (calls ++ called ∷ []) ≡ takings stored calls ++ takes_in (fold after_stored stored calls) called ∷ []
 takings-push stored [] called = refl

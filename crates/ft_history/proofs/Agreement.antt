@@ -14,11 +14,12 @@ use Rattle.ft_model.specs.declared.script.ScriptParts.{ScriptParts}
 use Rattle.ft_model.specs.Answers.{answer, after_write, is_memory}
 use Rattle.ft_model.specs.Chronicles.{IsChronicle}
 use Rattle.ft_model.specs.Histories.{writes, world_at, entries_of, cursors_of, hands_at, sections_at, after_section, innermost, IsReplied, IsAnswered, IsWhole, Section, names, disturbs, is_disturbed, is_marked, marks_between, IsKeptBy, IsCountedBy, IsKept, IsCounted, IsMarked, has_call_on, needs_at}
+use Rattle.ft_model.specs.Numbers.{begins_of}
 use Rattle.ft_model.specs.Tables.{IsEarned}
 use Rattle.ft_model.specs.Worlds.{start_world, start_hands, containers_used}
 use Rattle.ft_history.proofs.FilteredParts.{any_passed, count_passed}
 use Rattle.ft_history.proofs.Numbered.{written, IsNumbered, writes_before_entry, mine_before, written_between, mine_between}
-use Rattle.ft_history.proofs.OpenSections.{IsOpened, AreOpened, begins_of, are_opened, same_innermost_after, same_ended}
+use Rattle.ft_history.proofs.OpenSections.{IsOpened, AreOpened, are_opened, same_innermost_after, same_ended}
 
 pub record Agree (script : ScriptParts) (one other : List Entry) : Type 0 where
   pub one_whole : IsWhole script one
@@ -37,7 +38,7 @@ after_entry_by script calls hands entry = if is_memory entry.reply then hands el
 disturbs_by_writes : (thread : ℕ) (containers : List ℕ) (e : Entry) → disturbs thread containers e ≡ true → e.wrote ≡ true
 disturbs_by_writes thread containers e disturbed = (and_parts e.wrote (not (e.thread == thread)) (and_parts (e.wrote && not (e.thread == thread)) (list_any (λ container. names container e.call) containers) disturbed).0).0
 
-marks_are_mine : (thread : ℕ) (e : Entry) → is_marked thread e ≡ true → (e.thread == thread) ≡ true
+pub marks_are_mine : (thread : ℕ) (e : Entry) → is_marked thread e ≡ true → (e.thread == thread) ≡ true
 marks_are_mine thread e is = (and_parts (e.thread == thread) (is_some e.waited) is).0
 
 module _ (script : ScriptParts) (one other : List Entry) (agree : Agree script one other) (place place' : ℕ) (entry : Entry) (at : slice_get one place ≡ Some entry) (at' : slice_get other place' ≡ Some entry) where

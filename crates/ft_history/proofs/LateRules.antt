@@ -22,7 +22,8 @@ use Rattle.ft_model.specs.Histories.{Section, innermost, after_section, sections
 use Rattle.ft_history.specs.declared.containers.Containers.{Containers}
 use Rattle.ft_history.specs.declared.progress.Progress.{Progress}
 use Rattle.ft_history.specs.declared.writers.LastWrites.{LastWrites}
-use Rattle.ft_history.specs.States.{Begun, listed, is_used, AreUsers, all_begun, after_begun, inner_begun, section_of, IfEndsBegun, IsCountedAs, IsOpen, IsProgress, IsLast, is_written_since, is_written_on, IsKeptSince}
+use Rattle.ft_model.specs.Numbers.{IsCountedAs}
+use Rattle.ft_history.specs.States.{Begun, listed, is_used, AreUsers, all_begun, after_begun, inner_begun, section_of, IfEndsBegun, IsOpen, IsProgress, IsLast, is_written_since, is_written_on, IsKeptSince}
 use Rattle.ft_history.proofs.ProgressLemmas.{sections_alike}
 use Rattle.ft_history.proofs.LastWriteLemmas.{any_of_containers}
 

@@ -1,6 +1,5 @@
 -- The open sections of a thread, reported by the entries that began them: where these stand, the list says.
 use Rattle.std.proofs.Common.{◌≡◌, ℕ, ◌+◌, ◌<◌, ◌≤◌, true, false, List, [], ◌∷◌, ◌++◌, length, take, drop, Some, refl, sym, ap, subst, ◌∙◌, arith, cond, ◌==◌}
-use Rattle.std.specs.List.{fold}
 use Rattle.std.specs.Prelude.{slice_get}
 use Rattle.std.proofs.lemmas.Bool.{eqb-true}
 use Rattle.std.proofs.lemmas.List.{append-nil}
@@ -8,8 +7,9 @@ use Rattle.std.proofs.lemmas.List.Sums.{fold_push}
 use Rattle.ft_model.specs.declared.call.Call.{Call}
 use Rattle.ft_model.specs.declared.call.Call.TheVariants as call
 use Rattle.ft_model.specs.declared.entry.Entry.{Entry}
-use Rattle.ft_model.specs.Calls.{containers_of}
+use Rattle.ft_model.specs.Calls.{containers_of, is_changing}
 use Rattle.ft_model.specs.Histories.{Section, after_section, sections_at, entries_of, innermost, IfEnds}
+use Rattle.ft_model.specs.Numbers.{after_begins, begins_of, begun_containers, IfEndsBegin}
 use Rattle.ft_history.proofs.Places.{filter_next, by_places}
 use Rattle.ft_history.proofs.Sections.{sections_next}
 
@@ -19,22 +19,13 @@ pub record IsOpened (entries : List Entry) (thread place : ℕ) (section : Secti
   pub at : slice_get entries section.begun ≡ Some begun
   pub mine : begun.thread ≡ thread
   pub containers : section.containers ≡ containers_of begun.call
+  pub quiet : is_changing begun.call ≡ false
 
 -- each of the sections was begun by the entry at its place in the second list
 abbrev pub AreOpened : List Entry → ℕ → ℕ → List Section → List Entry → Type 0
 AreOpened entries thread place [] [] = Unit {0}
 AreOpened entries thread place (section ∷ sections) (begun ∷ begins) = IsOpened entries thread place section begun × AreOpened entries thread place sections begins
 AreOpened entries thread place _ _ = ⊥
-
--- the entries that began what is open after an entry of the thread, innermost first
-abbrev pub after_begins : Entry → Call → List Entry → List Entry
-after_begins entry (call.Begin first second) begins = entry ∷ begins
-after_begins entry call.End begins = drop 1 begins
-after_begins entry other begins = begins
-
--- the same after all of a thread's entries
-abbrev pub begins_of : List Entry → List Entry
-begins_of mine = fold (λ begins entry. after_begins entry entry.call begins) [] mine
 
 -- ---- what is open at a place
 
@@ -45,7 +36,7 @@ module _ (entries : List Entry) (thread : ℕ) where
   still_opened place (section ∷ sections) [] opened = opened
   still_opened place (section ∷ sections) (begun ∷ begins) opened =
       let is_opened : IsOpened entries thread place section begun = opened.0 in
-      (record { before = omega (arith, is_opened.before); at = is_opened.at; mine = is_opened.mine; containers = is_opened.containers }, still_opened place sections begins opened.1)
+      (record { before = omega (arith, is_opened.before); at = is_opened.at; mine = is_opened.mine; containers = is_opened.containers; quiet = is_opened.quiet }, still_opened place sections begins opened.1)
 
   without_innermost : (place : ℕ) (sections : List Section) (begins : List Entry) → AreOpened entries thread place sections begins → AreOpened entries thread place (drop 1 sections) (drop 1 begins)
   without_innermost place [] [] opened = tt
@@ -56,7 +47,7 @@ module _ (entries : List Entry) (thread : ℕ) where
   opened_after : (place : ℕ) (entry : Entry) (called : Call) (sections : List Section) (begins : List Entry) → slice_get entries place ≡ Some entry → entry.thread ≡ thread → entry.call ≡ called
       → AreOpened entries thread place sections begins → AreOpened entries thread (place + 1) (after_section place called sections) (after_begins entry called begins)
   opened_after place entry (call.Begin first second) sections begins at mine is opened =
-      (record { before = omega arith; at = at; mine = mine; containers = ap containers_of (sym is) }, still_opened place sections begins opened)
+      (record { before = omega arith; at = at; mine = mine; containers = ap containers_of (sym is); quiet = ap is_changing is }, still_opened place sections begins opened)
   opened_after place entry call.End sections begins at mine is opened = still_opened place (drop 1 sections) (drop 1 begins) (without_innermost place sections begins opened)
   opened_after place entry other sections begins at mine is opened = still_opened place sections begins opened
 
@@ -81,6 +72,39 @@ module _ (entries : List Entry) (thread : ℕ) where
         | true ↦ λ mine. opened_after n entry entry.call sections begins at (eqb-true _ _ mine) refl opened
         | false ↦ λ other. still_opened n sections begins opened
       ] refl)))
+
+-- ---- the sections and their begins
+
+module _ (entries : List Entry) (thread place : ℕ) where
+  containers_begun : (sections : List Section) (begins : List Entry) → AreOpened entries thread place sections begins → innermost sections ≡ begun_containers begins
+  containers_begun [] [] opened = refl
+  containers_begun [] (begun ∷ begins) opened = absurd opened
+  containers_begun (section ∷ sections) [] opened = absurd opened
+  containers_begun (section ∷ sections) (begun ∷ begins) opened = let is_opened : IsOpened entries thread place section begun = opened.0 in is_opened.containers
+
+  pub containers_begun_after : (entry : Entry) (called : Call) (sections : List Section) (begins : List Entry) → entry.call ≡ called → AreOpened entries thread place sections begins
+      → innermost (after_section place called sections) ≡ begun_containers (after_begins entry called begins)
+  containers_begun_after entry (call.Begin first second) sections begins is opened = ap containers_of (sym is)
+  containers_begun_after entry call.End sections begins is opened = containers_begun (drop 1 sections) (drop 1 begins) (without_innermost entries thread place sections begins opened)
+  containers_begun_after entry called sections begins is opened = containers_begun sections begins opened
+
+  -- what holds of the `begin` of the section that an `end` ends holds of the section
+  pub ended_by_begin : (P : Entry → Type 0) (Q : Section → Type 0) → ((section : Section) (begun : Entry) → IsOpened entries thread place section begun → P begun → Q section)
+      → (called : Call) (sections : List Section) (begins : List Entry) → AreOpened entries thread place sections begins → IfEndsBegin begins called P → IfEnds sections called Q
+  ended_by_begin P Q moves call.End [] begins opened holds = tt
+  ended_by_begin P Q moves call.End (section ∷ sections) [] opened holds = absurd opened
+  ended_by_begin P Q moves call.End (section ∷ sections) (begun ∷ begins) opened holds = moves section begun opened.0 holds
+  ended_by_begin P Q moves called [] begins opened holds = tt
+  ended_by_begin P Q moves called (section ∷ sections) begins opened holds = tt
+
+  -- and the other way round
+  pub begin_of_ended : (P : Entry → Type 0) (Q : Section → Type 0) → ((section : Section) (begun : Entry) → IsOpened entries thread place section begun → Q section → P begun)
+      → (called : Call) (sections : List Section) (begins : List Entry) → AreOpened entries thread place sections begins → IfEnds sections called Q → IfEndsBegin begins called P
+  begin_of_ended P Q moves call.End sections [] opened holds = tt
+  begin_of_ended P Q moves call.End [] (begun ∷ begins) opened holds = absurd opened
+  begin_of_ended P Q moves call.End (section ∷ sections) (begun ∷ begins) opened holds = moves section begun opened.0 holds
+  begin_of_ended P Q moves called sections [] opened holds = tt
+  begin_of_ended P Q moves called sections (begun ∷ begins) opened holds = tt
 
 -- ---- the same begins in two lists
 

@@ -96,12 +96,6 @@ abbrev pub inner_begun : List Begun → List ℕ
 inner_begun [] = []
 inner_begun (section ∷ sections) = section.containers
 
--- an `end` says that a number of calls in its section waited
-abbrev pub IsCountedAs : ℕ → Reply → Type 0
-IsCountedAs marks reply.Kept = marks ≡ 0
-IsCountedAs marks (reply.Suspended count) = (1 ≤ count) × (marks ≡ count)
-IsCountedAs marks said = Unit {0}
-
 -- ---- threads
 
 -- what is kept of a thread before a place

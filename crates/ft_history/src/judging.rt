@@ -14,9 +14,9 @@ ghost use Rattle.ft_history.specs.declared.verdict.Verdict.TheVariants as verdic
 ghost use Rattle.ft_history.specs.States.{AreUsers, IsAskable};
 ghost use Rattle.ft_history.specs.Steps.{IsState, IsUnbrokenBefore, FindsEarly, FindsLate, Finds, GoesAfter, HaveMadeAll};
 
+use crate::containers::{containers_named, containers_needed};
 use crate::ledger::note_taking;
 use crate::memory::is_earned;
-use crate::containers::{containers_named, containers_needed};
 use crate::progress::{Progress, go_through};
 use crate::rules::{
     inner_containers, is_after, is_counted_right, is_kept_right, is_marked_right, is_memory_error,
@@ -175,12 +175,7 @@ fn has_cause(storage: Storage, parts: &ScriptParts, state: &State, entry: &Entry
 }
 
 /// Whether the reply is right, and goes on after the entry.
-fn go_after(
-    alloc: Global,
-    state: &mut State,
-    place: u64,
-    entry: &Entry,
-) -> Result<bool, AllocError>
+fn go_after(alloc: Global, state: &mut State, place: u64, entry: &Entry) -> Result<bool, AllocError>
     requires thread { entry.now.thread < vec_len state.old.threads }
     requires askable { (progress : Progress) → slice_get state.old.threads.items entry.now.thread ≡ Some progress → IsAskable state.old.world progress.hands entry.now.call }
     requires few { (progress : Progress) → slice_get state.old.threads.items entry.now.thread ≡ Some progress → (progress.made < 2 ^ 63) × (progress.marks < 2 ^ 63) }

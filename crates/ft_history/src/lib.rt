@@ -4,13 +4,14 @@
 
 mod chronicles;
 mod classes;
+mod containers;
 mod equal;
 mod judging;
 mod laws;
 mod ledger;
 mod memory;
 mod merging;
-mod containers;
+mod numbers;
 mod passing;
 mod progress;
 mod replies;
@@ -25,11 +26,15 @@ mod verdict;
 mod writers;
 
 pub use chronicles::{put_in_order, sorted_chronicles_are_legal};
+pub use containers::{Containers, containers_named};
 pub use judging::{judge, judge_with_world};
 pub use laws::{
     kept_sections_are_untouched, legal_is_unbroken, one_order, one_verdict,
     threads_keep_their_order, writes_are_numbered,
 };
 pub use merging::{history_order, merge};
-pub use containers::{Containers, containers_named};
+pub use numbers::{
+    legal_histories_are_numbered, numbered_entries_are_legal, numbered_lists_are_numbered,
+    numbered_lists_grow, replies_ask_no_hands, right_entries_stay_right,
+};
 pub use verdict::{Judgement, Verdict};

@@ -5,11 +5,12 @@ ghost use Rattle.ft_model.specs.Answers.{is_write, is_memory};
 ghost use Rattle.std.specs.Ordering.{is_lt};
 ghost use Rattle.ft_model.specs.Histories.{history_cmp};
 ghost use Rattle.ft_model.specs.Judging.{IsAfter};
-ghost use Rattle.ft_history.specs.States.{listed, is_used, all_begun, after_begun, inner_begun, IfEndsBegun, IsCountedAs, is_written_on, IsKeptSince};
+ghost use Rattle.ft_model.specs.Numbers.{IsCountedAs};
+ghost use Rattle.ft_history.specs.States.{listed, is_used, all_begun, after_begun, inner_begun, IfEndsBegun, is_written_on, IsKeptSince};
 
+use crate::containers::{Containers, containers_named};
 use crate::equal::same_call;
 use crate::merging::history_order;
-use crate::containers::{Containers, containers_named};
 use crate::progress::OpenSection;
 use crate::writers::{LastWrites, wrote_after};
 use ft_model::{Call, Entry, Raise, Reply};
@@ -66,7 +67,12 @@ pub fn is_memory_error(reply: &Reply) -> bool
 }
 
 /// Whether the mark names another thread, which has a call on one of the containers.
-pub fn is_marked_right(users: &[Vec<bool>], entry: &Entry, own: Containers, inner: Containers) -> bool
+pub fn is_marked_right(
+    users: &[Vec<bool>],
+    entry: &Entry,
+    own: Containers,
+    inner: Containers,
+) -> bool
     ensures { IsTrue result ↔ IfSome entry.now.waited (λ thread. (thread ≢ entry.now.thread) × (list_any (is_used users.now thread) (listed own ++ listed inner) ≡ true)) }
 {
     match entry.waited {

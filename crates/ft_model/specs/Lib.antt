@@ -11,4 +11,5 @@ pub mod Tables
 pub mod Histories
 pub mod Judging
 pub mod Chronicles
+pub mod Numbers
 pub mod Parts

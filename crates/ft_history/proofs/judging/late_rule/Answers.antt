@@ -11,7 +11,8 @@ use Rattle.ft_history.specs.declared.progress.Progress.{Progress}
 use Rattle.ft_history.specs.declared.progress.OpenSection.{OpenSection}
 use Rattle.ft_history.specs.declared.writers.LastWrites.{LastWrites}
 use Rattle.ft_history.specs.declared.state.State.{State}
-use Rattle.ft_history.specs.States.{all_begun, after_begun, inner_begun, IfEndsBegun, IsKeptSince, IsCountedAs, IsProgress}
+use Rattle.ft_model.specs.Numbers.{IsCountedAs}
+use Rattle.ft_history.specs.States.{all_begun, after_begun, inner_begun, IfEndsBegun, IsKeptSince, IsProgress}
 use Rattle.ft_history.specs.Steps.{IsState}
 use Rattle.ft_history.proofs.Judged.{keeps_more}
 use Rattle.ft_history.proofs.LateRules.{marked_iff, kept_iff, counted_iff}

@@ -1,6 +1,6 @@
 -- Words stand for one content at most.
 use Rattle.std.proofs.Common.{◌≡◌, ◌≢◌, ℕ, ◌<◌, List, [], ◌∷◌, length, get_or, map, filter, Option, Some, None, refl, sym, ap, ◌∙◌, subst, arith}
-use Rattle.std.specs.Prelude.{All, AllPairs, slice_index}
+use Rattle.std.specs.Prelude.{All, AllPairs}
 use Rattle.std.proofs.lemmas.List.{same_lists, length-map, get_or-map}
 use Rattle.std.proofs.lemmas.List.Kept.{AllPairs-filter}
 use Rattle.std.proofs.lemmas.List.Elements.{All-filter}
@@ -13,7 +13,7 @@ use Rattle.ft_layout.specs.declared.slot.Pair.{Pair}
 use Rattle.ft_layout.specs.declared.slot.Stored.{Stored}
 use Rattle.ft_layout.specs.declared.slot.Stored.TheVariants.{Plain}
 use Rattle.ft_layout.specs.Tables.{UsedEntry, is_live, hash_of, slot_with, slot_of, IsTable, IsListTable, entry_word, item_word}
-use Rattle.ft_layout.specs.Containers.{IsRoot, IsBlank, IsBlock, used_pair, used_element, InDictTable, InSetTable, InListTable, IsDictWords, IsSetWords, IsListWords}
+use Rattle.ft_layout.specs.Containers.{IsRoot, block_word, IsBlank, IsBlock, used_pair, used_element, InDictTable, InSetTable, InListTable, IsDictWords, IsSetWords, IsListWords}
 use Rattle.ft_layout.proofs.WordLaws.{entry_is_one, stored_is_one}
 
 -- ---- used entries
@@ -92,7 +92,7 @@ same_used_dict texts texts' words (Some class) us vs f g same = used_is_one _ _ 
 module _ (texts block words : List ℕ) (class class' : Option ℕ) (fill fill' : ℕ) (dict dict' : DictContent) where
   pub one_dict : IsDictWords texts block words class fill dict → IsDictWords texts block words class' fill' dict' → (class ≡ class') × (fill ≡ fill') × (dict ≡ dict')
   one_dict f g =
-      let same_class : class ≡ class' = root_is_one (slice_index block 2) class class' f.head.root g.head.root in
+      let same_class : class ≡ class' = root_is_one (block_word block 2) class class' f.head.root g.head.root in
       let same_fill : fill ≡ fill' = sym f.head.fill_is ∙ g.head.fill_is in
       let table : InDictTable texts words class g.used = subst (λ (c : Option ℕ). InDictTable texts words c g.used) (sym same_class) g.table in
       let used : f.used ≡ g.used = same_used_dict texts texts words class f.used g.used f.table table (f.filled ∙ (same_fill ∙ sym g.filled)) in
@@ -112,7 +112,7 @@ same_used_set texts texts' words (Some class) us vs f g same = used_is_one _ _ _
 module _ (texts block words : List ℕ) (class class' : Option ℕ) (fill fill' : ℕ) (content content' : SetContent) where
   pub one_set : IsSetWords texts block words class fill content → IsSetWords texts block words class' fill' content' → (class ≡ class') × (fill ≡ fill') × (content ≡ content')
   one_set f g =
-      let same_class : class ≡ class' = root_is_one (slice_index block 2) class class' f.head.root g.head.root in
+      let same_class : class ≡ class' = root_is_one (block_word block 2) class class' f.head.root g.head.root in
       let same_fill : fill ≡ fill' = sym f.head.fill_is ∙ g.head.fill_is in
       let table : InSetTable texts words class g.used = subst (λ (c : Option ℕ). InSetTable texts words c g.used) (sym same_class) g.table in
       let used : f.used ≡ g.used = same_used_set texts texts words class f.used g.used f.table table (f.filled ∙ (same_fill ∙ sym g.filled)) in
@@ -137,7 +137,7 @@ same_items words (Some class) us vs f g same = same_values _ words us vs f g sam
 module _ (block words : List ℕ) (class class' : Option ℕ) (values values' : List Value) where
   pub one_list : IsListWords block words class values → IsListWords block words class' values' → (class ≡ class') × (values ≡ values')
   one_list f g =
-      let same_class : class ≡ class' = root_is_one (slice_index block 2) class class' f.head.root g.head.root in
+      let same_class : class ≡ class' = root_is_one (block_word block 2) class class' f.head.root g.head.root in
       let table : InListTable words class values' = subst (λ (c : Option ℕ). InListTable words c values') (sym same_class) g.table in
       (same_class, same_items words class values values' f.table table (sym f.head.count_is ∙ g.head.count_is))
 
@@ -191,14 +191,7 @@ stands_for_set texts block words class fill content f =
 -- ---- what stands for nothing
 
 no_table : (block : List ℕ) → IsBlank block → IsBlock block None 0 0 0
-no_table block blank = record {
-  size = blank.size;
-  root = blank.zeros 2 (omega arith);
-  count_is = blank.zeros 3 (omega arith);
-  fill_is = blank.zeros 4 (omega arith);
-  next_is = blank.zeros 5 (omega arith);
-  spare = (blank.zeros 6 (omega arith), blank.zeros 7 (omega arith));
-}
+no_table block blank = subst (λ (b : List ℕ). IsBlock b None 0 0 0) (sym blank) (record { size = refl; root = refl; count_is = refl; fill_is = refl; next_is = refl; spare = (refl, refl) })
 
 pub no_dict : (texts block words : List ℕ) → IsBlank block → IsDictWords texts block words None 0 (dict_with 0 [])
 no_dict texts block words blank = record { head = no_table block blank; used = []; table = refl; filled = refl; live = refl; below = λ k d low. absurd (omega arith) }

@@ -5,3 +5,4 @@ pub mod PartLaws
 pub mod FieldLaws
 pub mod TableLaws
 pub mod LiveLaws
+pub mod KindLaws

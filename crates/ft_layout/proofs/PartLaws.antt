@@ -1,12 +1,12 @@
 -- Each word of a bank is one part's.
-use Rattle.std.proofs.Common.{◌≡◌, ℕ, zero, suc, ◌+◌, ◌-◌, ◌*◌, ◌/◌, ◌<◌, ◌≤◌, cond, ltb, List, refl, sym, ap, ◌∙◌, subst, inl, inr, arith}
+use Rattle.std.proofs.Common.{◌≡◌, ℕ, zero, suc, ◌+◌, ◌-◌, ◌*◌, ◌/◌, ◌%◌, ◌<◌, ◌≤◌, cond, ltb, List, refl, sym, ap, ◌∙◌, subst, inl, inr, arith}
 use Rattle.std.proofs.lemmas.Bool.{cases_lt, cases_eq}
 use Rattle.std.proofs.lemmas.Bool.Decides.{nat_tests}
 use Rattle.std.proofs.Math.Nat.{mul-le-mul_right, div-mul-le_self, lt-div-mul-add, div-lt_iff_lt-mul}
 use Rattle.ft_layout.specs.Words.{IsClass}
 use Rattle.ft_layout.specs.Sizes.{table_size}
 use Rattle.ft_layout.specs.Starts.{count_of, block_start, heap_size, heap_start, words_below, BankSizes, Part, HasWord, bank_size}
-use Rattle.ft_layout.specs.Starts.Part.{Counter, WriteNumber, Announced, FreeTables, Block, FreePlaces, Box, Table}
+use Rattle.ft_layout.specs.Starts.Part.{Counter, WriteNumber, Announced, FreeCount, FreeTables, Block, FreePlaces, Box, Table}
 use Rattle.ft_layout.proofs.Powers.{words_below-none, words_below-more}
 
 -- ---- stretches of one length, one after the other
@@ -52,24 +52,26 @@ in_class tables class number less = next_stretch number (count_of tables class) 
 
 zone : BankSizes → ℕ → ℕ
 zone bank word =
-    cond (ltb word 1) 0 (cond (ltb word 2) 1 (cond (ltb word 66) 2 (cond (ltb word 76) 3 (cond (ltb word (block_start bank.containers)) 4 (cond (ltb word (heap_start bank.containers bank.heap bank.passes)) 5 6)))))
+    cond (ltb word 1) 0 (cond (ltb word 2) 1 (cond (ltb word 66) 2 (cond (ltb word 80) 3 (cond (ltb word 304) 4 (cond (ltb word (block_start bank.containers)) 5 (cond (ltb word (heap_start bank.containers bank.heap bank.passes)) 6 7))))))
 
 zone_of : Part → ℕ
 zone_of Counter = 0
 zone_of WriteNumber = 1
 zone_of (Announced pass) = 2
-zone_of (FreeTables class) = 3
-zone_of (Block container) = 4
-zone_of (FreePlaces pass word) = 5
-zone_of (Box pass place) = 5
-zone_of (Table class number) = 6
+zone_of (FreeCount class) = 3
+zone_of (FreeTables class x) = 4
+zone_of (Block container) = 5
+zone_of (FreePlaces pass word) = 6
+zone_of (Box pass place) = 6
+zone_of (Table class number) = 7
 
 in_zone : (bank : BankSizes) (part : Part) (word : ℕ) → HasWord bank part word → zone bank word ≡ zone_of part
 unfolding zone zone_of
 in_zone bank Counter word is = let a = is.before in grind (arith, nat_tests)
 in_zone bank WriteNumber word is = let a = is.before in let b = is.from in grind (arith, nat_tests)
 in_zone bank (Announced pass) word is = let a = is.before in let b = is.from in let i : pass < 64 = is.is_part in grind (arith, nat_tests)
-in_zone bank (FreeTables class) word is = let a = is.before in let b = is.from in let i : IsClass class = is.is_part in grind (arith, nat_tests)
+in_zone bank (FreeCount class) word is = let a = is.before in let b = is.from in let i : IsClass class = is.is_part in grind (arith, nat_tests)
+in_zone bank (FreeTables class x) word is = let a = is.before in let b = is.from in let i : IsClass class = is.is_part.0 in let j : x < 16 = is.is_part.1 in grind (arith, nat_tests)
 in_zone bank (Block container) word is = let a = is.before in let b = is.from in let i : container < bank.containers = is.is_part in grind (arith, nat_tests)
 in_zone bank (FreePlaces pass place) word is =
     let a = is.before in
@@ -174,8 +176,22 @@ module _ (bank : BankSizes) (word : ℕ) where
   same_announced : (p q : ℕ) → HasWord bank (Announced p) word → HasWord bank (Announced q) word → p ≡ q
   same_announced p q f g = let a = f.from in let b = f.before in let c = g.from in let d = g.before in omega arith
 
-  same_free : (p q : ℕ) → HasWord bank (FreeTables p) word → HasWord bank (FreeTables q) word → p ≡ q
-  same_free p q f g = let a = f.from in let b = f.before in let c = g.from in let d = g.before in omega arith
+  same_count : (p q : ℕ) → HasWord bank (FreeCount p) word → HasWord bank (FreeCount q) word → p ≡ q
+  same_count p q f g = let a = f.from in let b = f.before in let c = g.from in let d = g.before in let i : IsClass p = f.is_part in let j : IsClass q = g.is_part in omega arith
+
+  same_free : (p x q y : ℕ) → HasWord bank (FreeTables p x) word → HasWord bank (FreeTables q y) word → FreeTables p x ≡ FreeTables q y
+  same_free p x q y f g =
+      let a = f.from in
+      let b = f.before in
+      let c = g.from in
+      let d = g.before in
+      let i : IsClass p = f.is_part.0 in
+      let j : IsClass q = g.is_part.0 in
+      let low : x < 16 = f.is_part.1 in
+      let less : y < 16 = g.is_part.1 in
+      let class : p ≡ q = omega arith in
+      let place : x ≡ y = omega arith in
+      ap (λ (n : ℕ). FreeTables n x) class ∙ ap (FreeTables q) place
 
   same_block : (p q : ℕ) → HasWord bank (Block p) word → HasWord bank (Block q) word → p ≡ q
   same_block p q f g = let a = f.from in let b = f.before in let c = g.from in let d = g.before in omega arith
@@ -185,7 +201,8 @@ module _ (bank : BankSizes) (word : ℕ) where
   part_in_zone Counter Counter e f g = refl
   part_in_zone WriteNumber WriteNumber e f g = refl
   part_in_zone (Announced p) (Announced q) e f g = ap Announced (same_announced p q f g)
-  part_in_zone (FreeTables p) (FreeTables q) e f g = ap FreeTables (same_free p q f g)
+  part_in_zone (FreeCount p) (FreeCount q) e f g = ap FreeCount (same_count p q f g)
+  part_in_zone (FreeTables p x) (FreeTables q y) e f g = same_free p x q y f g
   part_in_zone (Block p) (Block q) e f g = ap Block (same_block p q f g)
   part_in_zone (FreePlaces p x) (FreePlaces q y) e f g = same_bits p x q y f g
   part_in_zone (Box p x) (Box q y) e f g = same_box p x q y f g
@@ -203,7 +220,7 @@ module _ (bank : BankSizes) (word : ℕ) where
   abbrev Owner : Type 0
   Owner = (part : Part) × HasWord bank part word
 
-  shared_word : word < 76 → Owner
+  shared_word : word < 304 → Owner
   shared_word low =
       elim (cases_lt word 1) [
         | inl first ↦ (Counter, record { is_part = tt; from = omega arith; before = omega arith })
@@ -211,13 +228,16 @@ module _ (bank : BankSizes) (word : ℕ) where
           | inl second ↦ (WriteNumber, record { is_part = tt; from = omega arith; before = omega arith })
           | inr b ↦ elim (cases_lt word 66) [
             | inl announced ↦ (Announced (word - 2), record { is_part = omega arith; from = omega arith; before = omega arith })
-            | inr c ↦ (FreeTables (word - 63), record { is_part = (omega arith, omega arith); from = omega arith; before = omega arith })
+            | inr c ↦ elim (cases_lt word 80) [
+              | inl count ↦ (FreeCount (word - 63), record { is_part = (omega arith, omega arith); from = omega arith; before = omega arith })
+              | inr d ↦ (FreeTables ((word - 80) / 16 + 3) ((word - 80) % 16), record { is_part = ((omega arith, omega arith), omega arith); from = omega arith; before = omega arith })
+            ]
           ]
         ]
       ]
 
-  block_word : 76 ≤ word → word < block_start bank.containers → Owner
-  block_word low high = (Block ((word - 76) / 8), record { is_part = omega arith; from = omega arith; before = omega arith })
+  block_word : 304 ≤ word → word < block_start bank.containers → Owner
+  block_word low high = (Block ((word - 304) / 8), record { is_part = omega arith; from = omega arith; before = omega arith })
 
   -- a word of the heap of this pass
   heap_word : (pass : ℕ) → pass < bank.passes → heap_start bank.containers bank.heap pass ≤ word → word < heap_start bank.containers bank.heap pass + heap_size bank.heap → Owner
@@ -251,7 +271,7 @@ module _ (bank : BankSizes) (word : ℕ) where
       let number : (word - base) / size < count_of bank.tables class = (div-lt_iff_lt-mul some).1 (omega arith) in
       (Table class ((word - base) / size), record { is_part = (is, number); from = omega arith; before = omega arith })
 
-  tables_word : (k : ℕ) → k ≤ 10 → heap_start bank.containers bank.heap bank.passes ≤ word → word < heap_start bank.containers bank.heap bank.passes + words_below bank.tables (3 + k) → Owner
+  tables_word : (k : ℕ) → k ≤ 14 → heap_start bank.containers bank.heap bank.passes ≤ word → word < heap_start bank.containers bank.heap bank.passes + words_below bank.tables (3 + k) → Owner
   tables_word zero few low high =
       let none : words_below bank.tables (3 + 0) ≡ 0 = let n : 3 + 0 ≡ 3 = omega arith in ap (words_below bank.tables) n ∙ words_below-none bank.tables in
       absurd (omega (arith, none))
@@ -265,13 +285,13 @@ module _ (bank : BankSizes) (word : ℕ) where
 
   pub some_part : word < bank_size bank → Owner
   some_part low =
-      elim (cases_lt word 76) [
+      elim (cases_lt word 304) [
         | inl shared ↦ shared_word shared
         | inr a ↦ elim (cases_lt word (block_start bank.containers)) [
           | inl block ↦ block_word a block
           | inr b ↦ elim (cases_lt word (heap_start bank.containers bank.heap bank.passes)) [
             | inl heap ↦ heaps_word b heap
-            | inr c ↦ tables_word 10 (omega arith) c (omega (arith, low))
+            | inr c ↦ tables_word 14 (omega arith) c (omega (arith, low))
           ]
         ]
       ]
@@ -281,12 +301,13 @@ module _ (bank : BankSizes) (word : ℕ) where
   within_bank Counter is = let b = is.before in omega arith
   within_bank WriteNumber is = let b = is.before in omega arith
   within_bank (Announced pass) is = let b = is.before in let i : pass < 64 = is.is_part in omega arith
-  within_bank (FreeTables class) is = let b = is.before in let i : IsClass class = is.is_part in omega arith
+  within_bank (FreeCount class) is = let b = is.before in let i : IsClass class = is.is_part in omega arith
+  within_bank (FreeTables class x) is = let b = is.before in let i : IsClass class = is.is_part.0 in let j : x < 16 = is.is_part.1 in omega arith
   within_bank (Block container) is = let b = is.before in let i : container < bank.containers = is.is_part in omega arith
   within_bank (FreePlaces pass x) is = let b = in_heap bank word pass x is in let h = next_stretch pass bank.passes (heap_size bank.heap) is.is_part.0 in omega arith
   within_bank (Box pass x) is = let b = in_heap_box bank word pass x is in let h = next_stretch pass bank.passes (heap_size bank.heap) is.is_part.0 in omega arith
   within_bank (Table class number) is =
       let b = in_tables bank word class number is in
-      let high : class < 13 = let i : IsClass class = is.is_part.0 in omega arith in
-      let h = class_lower bank.tables class 13 is.is_part.0.0 high in
+      let high : class < 17 = let i : IsClass class = is.is_part.0 in omega arith in
+      let h = class_lower bank.tables class 17 is.is_part.0.0 high in
       omega arith

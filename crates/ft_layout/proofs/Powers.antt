@@ -8,7 +8,7 @@ use Rattle.ft_layout.specs.Words.{IsClass}
 use Rattle.ft_layout.specs.Sizes.{table_size}
 use Rattle.ft_layout.specs.Starts.{count_of, words_below}
 
-pub slots_range : (class : ℕ) → IsClass class → (8 ≤ 2 ^ class) × (2 ^ class ≤ 4096)
+pub slots_range : (class : ℕ) → IsClass class → (8 ≤ 2 ^ class) × (2 ^ class ≤ 65536)
 slots_range class is = (pow_mono is.0, pow_mono is.1)
 
 -- no class is below the least

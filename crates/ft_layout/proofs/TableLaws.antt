@@ -46,7 +46,7 @@ module _ (walk : ℕ → List ℕ) (room : ℕ) (texts : List ℕ) (mask : ℕ) 
   empty_table = record {
     size = blank.size;
     head = blank.zeros 0 (inl (omega arith));
-    spare = λ place low. (blank.zeros (entry_at mask place 0) (inr (omega arith)), blank.zeros (entry_at mask place 7) (inr (omega arith)));
+    spare = λ place low. blank.zeros (entry_at mask place 7) (inr (omega arith));
     fill = omega arith;
     entries = λ place any low. absurd (omega arith);
     unused = λ place past low. record {
@@ -117,7 +117,7 @@ module _ (walk : ℕ → List ℕ) (room : ℕ) (texts : List ℕ) (mask : ℕ) 
     head = changes.rest 0 (inl (omega arith)) ∙ table.head;
     spare = λ p less. elim (cases_eq p place) [
       | inl same ↦ rw same now.spare
-      | inr differ ↦ (still p 0 differ (omega arith) ∙ (table.spare p less).0, still p 7 differ (omega arith) ∙ (table.spare p less).1)
+      | inr differ ↦ still p 7 differ (omega arith) ∙ table.spare p less
     ];
     fill = let f = table.fill in omega (arith, as_long);
     entries = λ p any less. at_each (λ q u. IsEntry (entry_word mask news q) (slot_of texts u)) now.says (λ q d differ small. entry_moves (entry_word mask words q) (entry_word mask news q) (λ w few. sym (still q w differ few)) (slot_of texts (get_or used q d)) (table.entries q d small)) p any (omega (arith, as_long));

@@ -23,7 +23,7 @@ pub record ChangesEntry (mask place : ℕ) (old new : List ℕ) : Type 0 where
 pub record SaysUsed (texts : List ℕ) (mask : ℕ) (words : List ℕ) (place : ℕ) (entry : UsedEntry) : Type 0 where
   pub says : IsEntry (entry_word mask words place) (slot_of texts entry)
   pub hash : entry_word mask words place 1 ≡ hash_of texts entry.key
-  pub spare : (entry_word mask words place 0 ≡ 0) × (entry_word mask words place 7 ≡ 0)
+  pub spare : entry_word mask words place 7 ≡ 0
 
 -- Where `of` makes used entries of pairs, or of elements, and the live ones are those: the entry at the place is that of pair number k. With another pair's entry there, pair number k is that one; with a deleted entry there, it is gone.
 pub record StandsFor {Y : Type 0} (of : Y → UsedEntry) (used : List UsedEntry) (place : ℕ) (pairs : List Y) (k : ℕ) : Type 0 where

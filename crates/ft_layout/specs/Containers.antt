@@ -1,9 +1,12 @@
--- What it is for a container's block and its table, as lists of words, to stand for a content. The block's lock and version are no part of it, nor is the table's goal. (profile)
-use Rattle.std.specs.Prelude.{◌≡◌, ℕ, ◌-◌, ◌^◌, ◌<◌, ◌≤◌, List, [], length, map, filter, All, Option, Some, None, slice_index}
+-- What it is for a container's block and its table, as lists of words, to stand for a content. The block's lock and version are no part of it, nor are the table's goal and the versions of entries and items. (profile)
+use Rattle.std.specs.Prelude.{◌≡◌, ℕ, ◌-◌, ◌^◌, ◌<◌, List, [], length, map, filter, replicate, All, Option, Some, None, slice_index}
 use Rattle.ft_model.specs.declared.data.Value.{Value}
 use Rattle.ft_model.specs.declared.content.DictPair.{DictPair}
 use Rattle.ft_model.specs.declared.content.Element.{Element}
+use Rattle.ft_model.specs.declared.content.Content.{Content}
+use Rattle.ft_model.specs.declared.content.Content.TheVariants as content
 use Rattle.ft_model.specs.Contents.{DictContent, SetContent}
+use Rattle.ft_model.specs.Tables.{Table}
 use Rattle.ft_layout.specs.declared.slot.Stored.TheVariants.{Empty, Plain}
 use Rattle.ft_layout.specs.Words.{IsRootOf}
 use Rattle.ft_layout.specs.Tables.{UsedEntry, is_live, IsDictTable, IsSetTable, IsListTable}
@@ -17,19 +20,22 @@ abbrev pub IsRoot : ℕ → Option ℕ → Type 0
 IsRoot root None = root ≡ 0
 IsRoot root (Some class) = (number : ℕ) × IsRootOf root class number
 
--- the words of a container's block but for its lock and version: root, how many pairs, elements or items there are, how many entries were used, and the next serial
-pub record IsBlock (block : List ℕ) (class : Option ℕ) (count fill next : ℕ) : Type 0 where
-  pub size : length block ≡ 8
-  pub root : IsRoot (slice_index block 2) class
-  pub count_is : slice_index block 3 ≡ count
-  pub fill_is : slice_index block 4 ≡ fill
-  pub next_is : slice_index block 5 ≡ next
-  pub spare : (slice_index block 6 ≡ 0) × (slice_index block 7 ≡ 0)
+-- A block is seen as the list of its words 2 to 7, without the lock and the version. This is one of these words, by its number.
+abbrev pub block_word : List ℕ → ℕ → ℕ
+block_word block word = slice_index block (word - 2)
 
--- a block with no table, whose words are 0 but for its lock and version
-pub record IsBlank (block : List ℕ) : Type 0 where
-  pub size : length block ≡ 8
-  pub zeros : (i : ℕ) → 2 ≤ i → slice_index block i ≡ 0
+-- root, how many pairs, elements or items there are, how many entries were used, and the next serial
+pub record IsBlock (block : List ℕ) (class : Option ℕ) (count fill next : ℕ) : Type 0 where
+  pub size : length block ≡ 6
+  pub root : IsRoot (block_word block 2) class
+  pub count_is : block_word block 3 ≡ count
+  pub fill_is : block_word block 4 ≡ fill
+  pub next_is : block_word block 5 ≡ next
+  pub spare : (block_word block 6 ≡ 0) × (block_word block 7 ≡ 0)
+
+-- a block with no table, whose words are 0
+abbrev pub IsBlank : List ℕ → Type 0
+IsBlank block = block ≡ replicate 6 0
 
 -- the used entry of a pair, or of an element, that is there
 abbrev pub used_pair : DictPair → UsedEntry
@@ -73,3 +79,9 @@ pub record IsSetWords (texts block words : List ℕ) (class : Option ℕ) (fill 
 pub record IsListWords (block words : List ℕ) (class : Option ℕ) (values : List Value) : Type 0 where
   pub head : IsBlock block class (length values) 0 0
   pub table : InListTable words class values
+
+-- By its kind: the words stand for the content of a container, with this class and fill of its table.
+abbrev pub StandsAs : List ℕ → List ℕ → List ℕ → Table → Content → Type 0
+StandsAs texts block words table (content.Dict dict) = IsDictWords texts block words table.class table.fill dict
+StandsAs texts block words table (content.Set set) = IsSetWords texts block words table.class table.fill set
+StandsAs texts block words table (content.List values) = IsListWords block words table.class values × (table.fill ≡ 0)

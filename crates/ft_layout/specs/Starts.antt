@@ -11,8 +11,8 @@ IsHeap heap = (64 ≤ heap) × (heap ≤ 4096) × (heap % 64 ≡ 0)
 
 -- how many tables there are of each class, class 3 first
 pub record AreTables (tables : List ℕ) : Type 0 where
-  pub classes : length tables ≡ 10
-  pub counts : All (λ count. (1 ≤ count) × (count ≤ 64)) tables
+  pub classes : length tables ≡ 14
+  pub counts : All (λ count. (1 ≤ count) × (count ≤ 1024)) tables
 
 abbrev pub count_of : List ℕ → ℕ → ℕ
 count_of tables class = slice_index tables (class - 3)
@@ -23,13 +23,17 @@ count_of tables class = slice_index tables (class - 3)
 abbrev pub announced_word : ℕ → ℕ
 announced_word pass = 2 + pass
 
--- which tables of a class are free, after the announced numbers of 64 passes
-abbrev pub free_word : ℕ → ℕ
-free_word class = 66 + (class - 3)
+-- how many tables of a class are free, after the announced numbers of 64 passes
+abbrev pub free_count_word : ℕ → ℕ
+free_count_word class = 66 + (class - 3)
 
--- a block has eight words
+-- which tables of a class are free, a bit for each, 64 in a word, after the counts of 14 classes
+abbrev pub free_word : ℕ → ℕ → ℕ
+free_word class word = 80 + 16 * (class - 3) + word
+
+-- a block has eight words; blocks lie after the sixteen free words of each of 14 classes
 abbrev pub block_start : ℕ → ℕ
-block_start container = 76 + 8 * container
+block_start container = 304 + 8 * container
 
 -- the heap of a pass: a bit for each place, 64 in a word, and then three words for each place
 abbrev pub heap_size : ℕ → ℕ
@@ -63,18 +67,20 @@ pub data Part : Type 0 where
   Counter : Part
   WriteNumber : Part
   Announced : ℕ → Part
-  FreeTables : ℕ → Part
+  FreeCount : ℕ → Part
+  FreeTables : ℕ → ℕ → Part
   Block : ℕ → Part
   FreePlaces : ℕ → ℕ → Part
   Box : ℕ → ℕ → Part
   Table : ℕ → ℕ → Part
 
--- the bank has this part: an announced number of a pass, a block of a container, a word of bits or a box of a pass, a table of a class
+-- the bank has this part: an announced number of a pass, the count or a free word of a class, a block of a container, a word of bits or a box of a pass, a table of a class
 abbrev pub IsPart : BankSizes → Part → Type 0
 IsPart bank Counter = Unit {0}
 IsPart bank WriteNumber = Unit {0}
 IsPart bank (Announced pass) = pass < 64
-IsPart bank (FreeTables class) = IsClass class
+IsPart bank (FreeCount class) = IsClass class
+IsPart bank (FreeTables class word) = IsClass class × (word < 16)
 IsPart bank (Block container) = container < bank.containers
 IsPart bank (FreePlaces pass word) = (pass < bank.passes) × (word < bank.heap / 64)
 IsPart bank (Box pass place) = (pass < bank.passes) × (place < bank.heap)
@@ -84,7 +90,8 @@ abbrev pub part_start : BankSizes → Part → ℕ
 part_start bank Counter = 0
 part_start bank WriteNumber = 1
 part_start bank (Announced pass) = announced_word pass
-part_start bank (FreeTables class) = free_word class
+part_start bank (FreeCount class) = free_count_word class
+part_start bank (FreeTables class word) = free_word class word
 part_start bank (Block container) = block_start container
 part_start bank (FreePlaces pass word) = heap_start bank.containers bank.heap pass + word
 part_start bank (Box pass place) = box_start bank.containers bank.heap pass place
@@ -94,7 +101,8 @@ abbrev pub part_size : Part → ℕ
 part_size Counter = 1
 part_size WriteNumber = 1
 part_size (Announced pass) = 1
-part_size (FreeTables class) = 1
+part_size (FreeCount class) = 1
+part_size (FreeTables class word) = 1
 part_size (Block container) = 8
 part_size (FreePlaces pass word) = 1
 part_size (Box pass place) = 3
@@ -108,4 +116,4 @@ pub record HasWord (bank : BankSizes) (part : Part) (word : ℕ) : Type 0 where
 
 -- how many words the bank has
 abbrev pub bank_size : BankSizes → ℕ
-bank_size bank = table_start bank.containers bank.heap bank.passes bank.tables 13 0
+bank_size bank = table_start bank.containers bank.heap bank.passes bank.tables 17 0

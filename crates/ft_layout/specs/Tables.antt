@@ -83,7 +83,7 @@ pub record Meets (words walk : List ℕ) (place : ℕ) : Type 0 where
 pub record IsTable (walk : ℕ → List ℕ) (room : ℕ) (texts : List ℕ) (mask : ℕ) (used : List UsedEntry) (words : List ℕ) : Type 0 where
   pub size : length words ≡ table_length mask
   pub head : slice_index words 0 ≡ 0
-  pub spare : (place : ℕ) → place < room → (entry_word mask words place 0 ≡ 0) × (entry_word mask words place 7 ≡ 0)
+  pub spare : (place : ℕ) → place < room → entry_word mask words place 7 ≡ 0
   pub fill : length used ≤ room
   pub entries : (place : ℕ) (any : UsedEntry) → place < length used → IsEntry (entry_word mask words place) (slot_of texts (slice_index_or used place any))
   pub unused : (place : ℕ) → length used ≤ place → place < room → IsEntry (entry_word mask words place) Never
@@ -93,6 +93,10 @@ pub record IsTable (walk : ℕ → List ℕ) (room : ℕ) (texts : List ℕ) (ma
   pub names : (slot : ℕ) → slot ≤ mask → index_word words slot ≤ length used
   pub once : (slot other : ℕ) → slot ≤ mask → other ≤ mask → index_word words slot ≢ 0 → index_word words slot ≡ index_word words other → slot ≡ other
   pub met : (place : ℕ) (any : UsedEntry) → place < length used → Meets words (walk (hash_of texts (slice_index_or used place any).key)) place
+
+-- The word of an entry that is kept for a version is 0 in each entry. No table needs this: what words say of entries is the same with versions.
+pub record HasNoVersions (room mask : ℕ) (words : List ℕ) : Type 0 where
+  pub zeros : (place : ℕ) → place < room → entry_word mask words place 0 ≡ 0
 
 -- as many positions as reach every slot
 abbrev pub IsDictTable : List ℕ → ℕ → List UsedEntry → List ℕ → Type 0
@@ -107,7 +111,11 @@ IsSetTable texts mask used words = IsTable (λ hash. set_walk hash mask (mask + 
 pub record IsListTable (mask : ℕ) (values : List Value) (words : List ℕ) : Type 0 where
   pub size : length words ≡ table_length mask
   pub head : slice_index words 0 ≡ 0
-  pub spare : (place : ℕ) → place ≤ mask → (item_word words place 0 ≡ 0) × (item_word words place 3 ≡ 0)
+  pub spare : (place : ℕ) → place ≤ mask → item_word words place 3 ≡ 0
   pub fill : length values ≤ mask + 1
   pub items : (place : ℕ) (any : Value) → place < length values → IsItem (item_word words place) (Plain (slice_index_or values place any))
   pub unused : (place : ℕ) → length values ≤ place → place ≤ mask → IsItem (item_word words place) Empty
+
+-- likewise of each item
+pub record HasNoItemVersions (mask : ℕ) (words : List ℕ) : Type 0 where
+  pub zeros : (place : ℕ) → place ≤ mask → item_word words place 0 ≡ 0

@@ -13,16 +13,16 @@ use Rattle.ft_layout.specs.declared.slot.Slot.TheVariants.{Never, Live, Gone}
 
 -- ---- roots and locks
 
--- the classes of tables
+-- the classes of tables (profile)
 abbrev pub IsClass : ℕ → Type 0
-IsClass class = (3 ≤ class) × (class ≤ 12)
+IsClass class = (3 ≤ class) × (class ≤ 16)
 
--- the root of the table with this number among those of its class; 0 is the root of a container without a table
+-- the root of the table with this number among those of its class, at most 1,024; 0 is the root of a container without a table
 abbrev pub root_word : ℕ → ℕ → ℕ
 root_word class number = class * 65536 + number + 1
 
 abbrev pub IsRootOf : ℕ → ℕ → ℕ → Type 0
-IsRootOf word class number = IsClass class × (number < 64) × (word ≡ root_word class number)
+IsRootOf word class number = IsClass class × (number < 1024) × (word ≡ root_word class number)
 
 -- the passes are numbered below 64
 abbrev pub IsHolder : ℕ → Type 0

@@ -2,14 +2,18 @@ ghost use Rattle.std.specs.Prelude.{◌≡◌, ℕ, ◌+◌, ◌<◌, ◌≤◌,
 ghost use Rattle.ft_model.specs.declared.data.Value.{Value};
 ghost use Rattle.ft_model.specs.declared.content.DictPair.{DictPair};
 ghost use Rattle.ft_model.specs.declared.content.Element.{Element};
+ghost use Rattle.ft_model.specs.declared.content.Content.{Content};
+ghost use Rattle.ft_model.specs.declared.script.Kind.{Kind};
 ghost use Rattle.ft_model.specs.Contents.{DictContent, SetContent, IsDict, IsSet};
+ghost use Rattle.ft_model.specs.Tables.{Table, no_table};
+ghost use Rattle.ft_model.specs.Worlds.{empty_content, kind_of, length_of, serial_of};
 ghost use Rattle.ft_layout.specs.Words.{IsClass};
 ghost use Rattle.ft_layout.specs.Sizes.{dict_entries, set_entries, list_items, table_size};
 ghost use Rattle.ft_layout.specs.Starts.{BankSizes, Part, HasWord, bank_size};
 ghost use Rattle.ft_layout.specs.Tables.{dict_room, set_room, table_length, UsedEntry, is_live, IsTable};
 ghost use Rattle.ft_layout.specs.Changes.{IsBlankTable, KeepsKey, ChangesEntry, SaysUsed, StandsFor};
 ghost use Rattle.ft_layout.specs.Fields.{Field, IsField, field_at, ItemField, IsItemField, item_field_at};
-ghost use Rattle.ft_layout.specs.Containers.{class_mask, used_pair, used_element, IsBlank, IsDictWords, IsSetWords, IsListWords};
+ghost use Rattle.ft_layout.specs.Containers.{class_mask, used_pair, used_element, IsBlank, IsBlock, StandsAs, IsDictWords, IsSetWords, IsListWords};
 
 /// The words of a block and a table stand for at most one dict, with one class of the table and one
 /// fill; and it is a dict: its keys are distinct, and its serials rise and are below the next one.
@@ -44,6 +48,20 @@ pub fn list_words_are_of_one_list()
         IsListWords block words class values → IsListWords block words other second →
         (class ≡ other) × (values ≡ second) }
     ensures empty { (block words : List ℕ) → IsBlank block → IsListWords block words None [] }
+{}
+
+/// Of contents of one kind, the words of a block and a table stand for at most one, with one class
+/// and fill of the table. The block says how many pairs, items or elements there are, and the next
+/// serial. A blank block stands for an empty content.
+pub fn words_are_of_one_content()
+    ensures one { (texts block words : List ℕ) (table other : Table) (content second : Content) →
+        kind_of content ≡ kind_of second → StandsAs texts block words table content →
+        StandsAs texts block words other second → (table ≡ other) × (content ≡ second) }
+    ensures head { (texts block words : List ℕ) (table : Table) (content : Content) →
+        StandsAs texts block words table content →
+        IsBlock block table.class (length_of content) table.fill (serial_of content) }
+    ensures empty { (texts block words : List ℕ) (kind : Kind) → IsBlank block →
+        StandsAs texts block words no_table (empty_content kind) }
 {}
 
 /// The parts of a bank lie one after the other: each word belongs to exactly one, and none has words

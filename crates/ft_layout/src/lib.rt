@@ -8,6 +8,7 @@ mod key;
 mod laws;
 pub mod limit;
 mod lock;
+mod numbers;
 mod root;
 mod size;
 mod slot;
@@ -23,15 +24,16 @@ pub use key::{gone_kind_of, kind_of, payload_of};
 pub use laws::{
     bank_words_are_of_one_part, changed_words_are_of_a_table, dict_words_are_of_one_dict,
     list_words_are_of_one_list, live_entries_stand_for_contents, set_words_are_of_one_set,
-    sizes_are_by_class, table_words_are_of_one_field,
+    sizes_are_by_class, table_words_are_of_one_field, words_are_of_one_content,
 };
 pub use lock::{lock_of, lock_word};
+pub use numbers::{classes_are_bounded, words_have_their_numbers};
 pub use root::{root_of, root_word};
 pub use size::{dict_entries, entry_at, index_at, item_at, list_items, set_entries, table_size};
 pub use slot::{Pair, Ref, Slot, Stored};
 pub use start::{
-    COUNTER, WRITE_NUMBER, announced_word, block_start, box_start, free_word, heap_start,
-    table_start,
+    COUNTER, WRITE_NUMBER, announced_word, block_start, box_start, free_count_word, free_word,
+    heap_start, table_start,
 };
 pub use stored::{stored_kind_of, stored_payload_of};
 pub use word::{block_word, entry_word, item_word};

@@ -1,11 +1,12 @@
 //! How many there may be of what has words in a bank.
 
 /// The least class of tables.
-pub const FIRST_CLASS: u32 = 3;
+pub const LEAST_CLASS: u32 = 3;
 /// The greatest class of tables.
-pub const LAST_CLASS: u32 = 12;
+pub const GREATEST_CLASS: u32 = 16;
 /// How many tables of a class there are at most.
-pub const TABLES: u32 = 64;
+pub const TABLES: u32 = 1024;
+
 /// How many containers there are at most.
 pub const CONTAINERS: u32 = 256;
 /// How many passes there are at most.

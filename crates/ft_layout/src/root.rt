@@ -1,7 +1,7 @@
 ghost use Rattle.std.specs.Prelude.{◌≡◌, ◌↔◌, ℕ, ◌<◌, Some};
 ghost use Rattle.ft_layout.specs.Words.{IsClass, root_word, IsRootOf};
 
-use crate::limit::{FIRST_CLASS, LAST_CLASS, TABLES};
+use crate::limit::{GREATEST_CLASS, LEAST_CLASS, TABLES};
 
 /// What a class counts for in a root, beside the number.
 const CLASS_STEP: u64 = 65536;
@@ -9,7 +9,7 @@ const CLASS_STEP: u64 = 65536;
 /// The root of a container with this table.
 pub fn root_word(class: u32, number: u32) -> u64
     requires class { IsClass class }
-    requires number { number < 64 }
+    requires number { number < 1024 }
     ensures { result ≡ root_word class number }
 {
     u64::from(class) * CLASS_STEP + u64::from(number) + 1
@@ -23,5 +23,5 @@ pub fn root_of(word: u64) -> Option<(u32, u32)>
     let table = word.checked_sub(1)?;
     let class = u32::try_from(table / CLASS_STEP).ok()?;
     let number = (table % CLASS_STEP) as u32;
-    ((FIRST_CLASS..=LAST_CLASS).contains(&class) && number < TABLES).then_some((class, number))
+    ((LEAST_CLASS..=GREATEST_CLASS).contains(&class) && number < TABLES).then_some((class, number))
 }

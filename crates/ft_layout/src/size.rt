@@ -15,7 +15,7 @@ fn slots(class: u32) -> u64
     requires { IsClass class }
     ensures is { result ≡ 2 ^ class }
     ensures least { 8 ≤ result }
-    ensures most { result ≤ 4096 }
+    ensures most { result ≤ 65536 }
 {
     1 << class
 }
@@ -48,7 +48,7 @@ pub fn list_items(class: u32) -> u64
 pub fn table_size(class: u32) -> u64
     requires { IsClass class }
     ensures is { result ≡ table_size class }
-    ensures most { result ≤ 25938 }
+    ensures most { result ≤ 415058 }
 {
     HEADER + slots(class) + ENTRY * dict_entries(class)
 }

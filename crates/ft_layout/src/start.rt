@@ -1,8 +1,8 @@
 ghost use Rattle.std.specs.Prelude.{◌≡◌, ℕ, ◌<◌, ◌≤◌};
 ghost use Rattle.ft_layout.specs.Words.{IsClass, IsHolder};
-ghost use Rattle.ft_layout.specs.Starts.{IsHeap, AreTables, count_of, announced_word, free_word, block_start, heap_start, box_start, table_start};
+ghost use Rattle.ft_layout.specs.Starts.{IsHeap, AreTables, count_of, announced_word, free_count_word, free_word, block_start, heap_start, box_start, table_start};
 
-use crate::limit::{CONTAINERS, FIRST_CLASS, PASSES};
+use crate::limit::{CONTAINERS, LEAST_CLASS, PASSES};
 use crate::size::table_size;
 
 /// The word that counts the writes.
@@ -12,10 +12,14 @@ pub const WRITE_NUMBER: u64 = 1;
 
 /// Where the announced numbers of passes begin.
 const ANNOUNCED: u64 = 2;
+/// Where the counts of the free tables begin.
+const FREE_COUNTS: u64 = 66;
 /// Where the words of the free tables begin.
-const FREE: u64 = 66;
+const FREE: u64 = 80;
+/// How many words say which tables of a class are free.
+const FREE_WORDS: u64 = 16;
 /// Where the containers' blocks begin.
-const BLOCKS: u64 = 76;
+const BLOCKS: u64 = 304;
 /// How many words a block has.
 const BLOCK: u64 = 8;
 /// How many words a box has.
@@ -31,12 +35,21 @@ pub fn announced_word(pass: u32) -> u64
     ANNOUNCED + u64::from(pass)
 }
 
-/// The word that tells which tables of a class are free: bit b is 1 where table b is.
-pub fn free_word(class: u32) -> u64
+/// The word that says how many tables of a class are free.
+pub fn free_count_word(class: u32) -> u64
     requires { IsClass class }
-    ensures { result ≡ free_word class }
+    ensures { result ≡ free_count_word class }
 {
-    FREE + u64::from(class - FIRST_CLASS)
+    FREE_COUNTS + u64::from(class - LEAST_CLASS)
+}
+
+/// A word that says which tables of a class are free: bit b of word w is 1 where table 64w + b is.
+pub fn free_word(class: u32, word: u32) -> u64
+    requires class { IsClass class }
+    requires word { word < 16 }
+    ensures { result ≡ free_word class word }
+{
+    FREE + FREE_WORDS * u64::from(class - LEAST_CLASS) + u64::from(word)
 }
 
 /// Where the block of a container begins; for the number of containers, where the blocks end.
@@ -90,8 +103,8 @@ pub fn table_start(
     ensures { result ≡ table_start containers heap passes tables.now class number }
 {
     let mut start = heap_start(containers, heap, passes);
-    for below in FIRST_CLASS..class {
-        start += u64::from(tables[(below - FIRST_CLASS) as usize]) * table_size(below);
+    for below in LEAST_CLASS..class {
+        start += u64::from(tables[(below - LEAST_CLASS) as usize]) * table_size(below);
     }
     start + u64::from(number) * table_size(class)
 }

@@ -1,11 +1,12 @@
 use crate::{
     Pair, Ref, Slot, Stored, announced_word, bank_words_are_of_one_part, block_start, box_start,
-    changed_words_are_of_a_table, dict_entries, dict_words_are_of_one_dict, entry_at, entry_of,
-    entry_words, free_word, gone_kind_of, heap_start, index_at, item_at, item_of, item_words,
-    kind_of, list_items, list_words_are_of_one_list, live_entries_stand_for_contents, lock_of,
-    lock_word, payload_of, root_of, root_word, set_entries, set_words_are_of_one_set,
-    sizes_are_by_class, stored_kind_of, stored_payload_of, table_size, table_start,
-    table_words_are_of_one_field,
+    changed_words_are_of_a_table, classes_are_bounded, dict_entries, dict_words_are_of_one_dict,
+    entry_at, entry_of, entry_words, free_count_word, free_word, gone_kind_of, heap_start,
+    index_at, item_at, item_of, item_words, kind_of, list_items, list_words_are_of_one_list,
+    live_entries_stand_for_contents, lock_of, lock_word, payload_of, root_of, root_word,
+    set_entries, set_words_are_of_one_set, sizes_are_by_class, stored_kind_of, stored_payload_of,
+    table_size, table_start, table_words_are_of_one_field, words_are_of_one_content,
+    words_have_their_numbers,
 };
 use ft_model::{Key, Sym, Value};
 use std::test::Fail;
@@ -16,7 +17,7 @@ const LEAST: u64 = 9223372036854775808;
 
 #[test]
 fn tables_have_their_entries_items_and_words(rt: HostRuntime) -> Result<(), Fail> {
-    let wanted: [(u64, u64, u64, u64); 10] = [
+    let wanted: [(u64, u64, u64, u64); 14] = [
         (5, 4, 8, 50),
         (10, 9, 16, 98),
         (21, 19, 32, 202),
@@ -27,8 +28,12 @@ fn tables_have_their_entries_items_and_words(rt: HostRuntime) -> Result<(), Fail
         (682, 614, 1024, 6482),
         (1365, 1228, 2048, 12970),
         (2730, 2457, 4096, 25938),
+        (5461, 4915, 8192, 51882),
+        (10922, 9830, 16384, 103762),
+        (21845, 19660, 32768, 207530),
+        (43690, 39321, 65536, 415058),
     ];
-    for class in 3..13 {
+    for class in 3..17 {
         let (pairs, elements, items, words) = wanted[(class - 3) as usize];
         assert_eq!(rt; dict_entries(class), pairs, "of class {class}");
         assert_eq!(rt; set_entries(class), elements, "of class {class}");
@@ -54,39 +59,41 @@ fn fields_lie_after_each_other(rt: HostRuntime) -> Result<(), Fail> {
 // Two containers, and two passes with 64 places each: one word of bits and 192 of boxes.
 #[test]
 fn parts_of_a_small_bank_begin_where_the_last_ended(rt: HostRuntime) -> Result<(), Fail> {
-    let tables = [2, 1, 1, 1, 1, 1, 1, 1, 1, 1];
+    let tables = [2, 1, 1, 1, 1, 1, 1, 1, 1, 1, 1, 1, 1, 1];
     assert_eq!(rt; announced_word(0), 2);
     assert_eq!(rt; announced_word(63), 65);
-    assert_eq!(rt; free_word(3), 66);
-    assert_eq!(rt; free_word(12), 75);
-    assert_eq!(rt; block_start(0), 76);
-    assert_eq!(rt; block_start(1), 84);
-    assert_eq!(rt; heap_start(2, 64, 0), 92);
-    assert_eq!(rt; box_start(2, 64, 0, 0), 93);
-    assert_eq!(rt; box_start(2, 64, 0, 63), 282);
-    assert_eq!(rt; heap_start(2, 64, 1), 285);
-    assert_eq!(rt; box_start(2, 64, 1, 0), 286);
-    assert_eq!(rt; table_start(2, 64, 2, &tables, 3, 0), 478);
-    assert_eq!(rt; table_start(2, 64, 2, &tables, 3, 1), 528);
-    assert_eq!(rt; table_start(2, 64, 2, &tables, 4, 0), 578);
-    assert_eq!(rt; table_start(2, 64, 2, &tables, 5, 0), 676);
-    assert_eq!(rt; table_start(2, 64, 2, &tables, 12, 0), 26402);
+    assert_eq!(rt; free_count_word(3), 66);
+    assert_eq!(rt; free_count_word(16), 79);
+    assert_eq!(rt; free_word(3, 0), 80);
+    assert_eq!(rt; free_word(16, 15), 303);
+    assert_eq!(rt; block_start(0), 304);
+    assert_eq!(rt; block_start(1), 312);
+    assert_eq!(rt; heap_start(2, 64, 0), 320);
+    assert_eq!(rt; box_start(2, 64, 0, 0), 321);
+    assert_eq!(rt; box_start(2, 64, 0, 63), 510);
+    assert_eq!(rt; heap_start(2, 64, 1), 513);
+    assert_eq!(rt; box_start(2, 64, 1, 0), 514);
+    assert_eq!(rt; table_start(2, 64, 2, &tables, 3, 0), 706);
+    assert_eq!(rt; table_start(2, 64, 2, &tables, 3, 1), 756);
+    assert_eq!(rt; table_start(2, 64, 2, &tables, 4, 0), 806);
+    assert_eq!(rt; table_start(2, 64, 2, &tables, 5, 0), 904);
+    assert_eq!(rt; table_start(2, 64, 2, &tables, 16, 0), 415742);
     Ok(())
 }
 
 #[test]
 fn a_root_names_a_table_or_none(rt: HostRuntime) -> Result<(), Fail> {
     assert_eq!(rt; root_word(3, 0), 196609);
-    assert_eq!(rt; root_word(12, 63), 786496);
+    assert_eq!(rt; root_word(16, 1023), 1049600);
     let wanted: [(u64, Option<(u32, u32)>); 9] = [
         (0, None),
         (1, None),
         (196608, None),
         (196609, Some((3, 0))),
-        (196672, Some((3, 63))),
-        (196673, None),
-        (786496, Some((12, 63))),
-        (851969, None),
+        (197632, Some((3, 1023))),
+        (197633, None),
+        (1049600, Some((16, 1023))),
+        (1114113, None),
         (MINUS_ONE, None),
     ];
     for (word, table) in wanted {
@@ -212,6 +219,9 @@ fn keys_and_values_have_kind_and_payload(rt: HostRuntime) -> Result<(), Fail> {
 
 #[test]
 fn laws_take_nothing() {
+    words_have_their_numbers();
+    classes_are_bounded();
+    words_are_of_one_content();
     dict_words_are_of_one_dict();
     set_words_are_of_one_set();
     list_words_are_of_one_list();

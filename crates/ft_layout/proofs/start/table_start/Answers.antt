@@ -15,8 +15,8 @@ loop-below-preserved c =
     let more = words_below-more tables below c.loop-below.auto.below in
     let size : c.table_size.result ≡ table_size below = c.table_size.ensures.is in
     let count : c.from.result ≡ count_of tables below = c.from.ensures in
-    let few : c.from.result ≤ 64 = let h = (c.requires.tables.counts (below - 3) 0 (omega arith)).1 in omega arith in
-    let product : c.from.result * c.table_size.result ≤ 64 * 25938 = mul-le c.from.result c.table_size.result 64 25938 few c.table_size.ensures.most in
+    let few : c.from.result ≤ 1024 = let h = (c.requires.tables.counts (below - 3) 0 (omega arith)).1 in omega arith in
+    let product : c.from.result * c.table_size.result ≤ 1024 * 415058 = mul-le c.from.result c.table_size.result 1024 415058 few c.table_size.ensures.most in
     let words : c.from.result * c.table_size.result ≡ count_of tables below * table_size below = ap (λ (n : ℕ). n * c.table_size.result) count ∙ ap (λ (n : ℕ). count_of tables below * n) size in
     record {
       is = omega arith;

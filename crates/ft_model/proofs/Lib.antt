@@ -10,3 +10,4 @@ pub mod AnswerLaws
 pub mod SetLaws
 pub mod ListLaws
 pub mod CursorLaws
+pub mod ClassLemmas

@@ -1,5 +1,5 @@
 -- What each call answers, and the world and the hands that it leaves: one case for each call.
-use Rattle.std.specs.Prelude.{ℕ, Bool, true, false, not, ◌&&◌, ◌-◌, List, [], ◌∷◌, ◌++◌, map, reverse, length, take, drop, Option, Some, slice_get, slice_set, slice_index_or, negsuc, if◌then◌else◌}
+use Rattle.std.specs.Prelude.{ℕ, Bool, true, false, not, ◌&&◌, ◌-◌, List, [], ◌∷◌, ◌++◌, map, fold, reverse, length, take, drop, Option, Some, slice_get, slice_set, slice_index_or, negsuc, if◌then◌else◌}
 use Rattle.std.specs.List.{remove}
 use Rattle.std.specs.Option.{option_map_or, unwrap_or}
 use Rattle.ft_model.specs.declared.data.Key.{Key}
@@ -13,14 +13,12 @@ use Rattle.ft_model.specs.declared.call.ListCall.{ListCall}
 use Rattle.ft_model.specs.declared.call.ListCall.TheVariants as list
 use Rattle.ft_model.specs.declared.call.SetCall.{SetCall}
 use Rattle.ft_model.specs.declared.call.SetCall.TheVariants as set
-use Rattle.ft_model.specs.declared.reply.Raise.{Raise}
 use Rattle.ft_model.specs.declared.reply.Raise.TheVariants as raise
 use Rattle.ft_model.specs.declared.reply.Reply.{Reply}
 use Rattle.ft_model.specs.declared.reply.Reply.TheVariants as reply
 use Rattle.ft_model.specs.declared.content.Content.{Content}
 use Rattle.ft_model.specs.declared.content.Content.TheVariants as content
 use Rattle.ft_model.specs.declared.content.DictPair.{DictPair}
-use Rattle.ft_model.specs.declared.content.Element.{Element}
 use Rattle.ft_model.specs.declared.cursor.Cursor.{Cursor}
 use Rattle.ft_model.specs.declared.cursor.Cursor.TheVariants as cursor
 use Rattle.ft_model.specs.Keys.{as_value}
@@ -29,7 +27,8 @@ use Rattle.ft_model.specs.Contents.{DictContent, SetContent, dict_get, has_key, 
 use Rattle.ft_model.specs.Contents.{has_element, set_add, set_discard, set_clear, set_or, set_and, set_sub, set_xor, is_subset, same_elements, is_disjoint}
 use Rattle.ft_model.specs.Lists.{index_in, list_slice, list_insert, has_value, index_of, count_of, same_items}
 use Rattle.ft_model.specs.Cursors.{CursorStep, dict_iter, dict_next, list_iter, list_next, set_iter, set_next}
-use Rattle.ft_model.specs.Worlds.{dict_at, list_at, set_at, cursor_at, no_hands}
+use Rattle.ft_model.specs.declared.script.Kind.{Kind}
+use Rattle.ft_model.specs.Worlds.{empty_world, dict_at, list_at, set_at, cursor_at, no_hands}
 
 -- the reply to a call, and what it leaves (profile)
 pub record Answer : Type 0 where
@@ -213,6 +212,10 @@ answer world hands call.Quiesce = shows world hands reply.Done
 -- the world that a write leaves, whoever's it is: no call of a changing kind asks for hands (profile)
 abbrev pub after_write : List Content → Call → List Content
 after_write world call = (answer world no_hands call).world
+
+-- what these writes leave, in their order, of containers of these kinds that are empty at the start (profile)
+abbrev pub world_by : List Kind → List Call → List Content
+world_by kinds calls = fold after_write (empty_world kinds) calls
 
 -- whether a reply is an exception (profile)
 abbrev pub is_raised : Reply → Bool

@@ -1,6 +1,6 @@
 -- What containers have. A dict has its pairs in insertion order, each with the serial that it drew when its key was added, and the next serial; a set has its elements likewise.
 -- (Python manual, Mapping Types: dictionaries preserve insertion order, and updating a key does not affect the order. The order of a set, and serials: profile)
-use Rattle.std.specs.Prelude.{◌≡◌, ◌≢◌, ℕ, Bool, not, ◌&&◌, ◌==◌, ◌+◌, ◌<◌, List, [], ◌∷◌, ◌++◌, map, length, filter, fold, Option, option_map, All, AllPairs, if◌then◌else◌}
+use Rattle.std.specs.Prelude.{◌≡◌, ◌≢◌, ℕ, Bool, not, ◌&&◌, ◌+◌, ◌<◌, List, [], ◌∷◌, ◌++◌, map, length, filter, fold, Option, option_map, All, AllPairs, if◌then◌else◌}
 use Rattle.std.specs.List.{find, list_any, list_all}
 use Rattle.ft_model.specs.declared.data.Key.{Key}
 use Rattle.ft_model.specs.declared.data.Value.{Value}

@@ -1,5 +1,5 @@
 -- Cursors: what `iter` makes, and what one `next` answers and leaves. (Python manual, Iterator Types. Serials, and what changes of the container mean: profile)
-use Rattle.std.specs.Prelude.{◌≡◌, IsSomeAnd, ℕ, Bool, true, false, ◌+◌, ◌-◌, not, ◌==◌, nat_lt, List, length, slice_get, Option, Some, None, if◌then◌else◌}
+use Rattle.std.specs.Prelude.{◌≡◌, IsSomeAnd, ℕ, Bool, true, false, ◌+◌, ◌-◌, ◌==◌, nat_lt, List, length, slice_get, Option, Some, None, if◌then◌else◌}
 use Rattle.std.specs.List.{find}
 use Rattle.ft_model.specs.declared.data.Value.{Value}
 use Rattle.ft_model.specs.declared.reply.Reply.{Reply}

@@ -15,8 +15,9 @@ use Rattle.ft_model.specs.declared.entry.Entry.{Entry}
 use Rattle.ft_model.specs.declared.entry.Storage.{Storage}
 use Rattle.ft_model.specs.declared.script.ScriptParts.{ScriptParts}
 use Rattle.ft_model.specs.Calls.{containers_of}
-use Rattle.ft_model.specs.Worlds.{start_world, start_hands, containers_used}
-use Rattle.ft_model.specs.Answers.{answer, after_write, is_memory, is_write}
+use Rattle.ft_model.specs.declared.script.Kind.{Kind}
+use Rattle.ft_model.specs.Worlds.{kinds_of, start_hands, containers_used}
+use Rattle.ft_model.specs.Answers.{answer, world_by, is_memory, is_write}
 use Rattle.ft_model.specs.Tables.{IsEarned}
 
 -- ---- order
@@ -33,7 +34,7 @@ writes entries = map (λ entry. entry.call) (filter (λ entry. entry.wrote) entr
 
 -- the start world after the first n writes of the history (profile)
 abbrev pub world_at : ScriptParts → List Entry → ℕ → List Content
-world_at script entries n = fold after_write (start_world script.containers) (take n (writes entries))
+world_at script entries n = world_by (kinds_of script.containers) (take n (writes entries))
 
 -- a thread's entries, in order (profile)
 abbrev pub entries_of : ℕ → List Entry → List Entry
@@ -47,22 +48,39 @@ calls_of script thread = option_map_or (λ found. found.calls) (slice_get script
 abbrev pub cursors_of : ScriptParts → ℕ → ℕ
 cursors_of script thread = option_map_or (λ found. length found.cursors) (slice_get script.threads thread) 0
 
--- the hands that an entry leaves to its thread; a MemoryError leaves them as they were (profile)
+-- the hands that an entry leaves to its thread, where `calls` are all writes in their order; a MemoryError leaves them as they were (profile)
+abbrev pub after_stamped : List Kind → List Call → List (Option Cursor) → Entry → List (Option Cursor)
+after_stamped kinds calls hands entry =
+    if is_memory entry.reply then hands else (answer (world_by kinds (take entry.stamp calls)) hands entry.call).hands
+
+-- the hands that these entries of a thread leave to it, with room for that many cursors
+abbrev pub hands_by : List Kind → List Call → ℕ → List Entry → List (Option Cursor)
+hands_by kinds calls room mine = fold (after_stamped kinds calls) (start_hands room) mine
+
+-- those that an entry of a history leaves
 abbrev pub after_entry : ScriptParts → List Entry → List (Option Cursor) → Entry → List (Option Cursor)
-after_entry script entries hands entry = if is_memory entry.reply then hands else (answer (world_at script entries entry.stamp) hands entry.call).hands
+after_entry script entries = after_stamped (kinds_of script.containers) (writes entries)
 
 -- the hands of a thread at a place: those that its entries before it leave (profile)
 abbrev pub hands_at : ScriptParts → List Entry → ℕ → ℕ → List (Option Cursor)
-hands_at script entries thread place = fold (after_entry script entries) (start_hands (cursors_of script thread)) (entries_of thread (take place entries))
+hands_at script entries thread place =
+    hands_by (kinds_of script.containers) (writes entries) (cursors_of script thread) (entries_of thread (take place entries))
 
 -- ---- answers
+
+-- a reply is the plain container's, or a MemoryError
+abbrev pub IsPlainReply : Reply → Reply → Type 0
+IsPlainReply said plain = (is_memory said ≡ true) ⊎ (said ≡ plain)
 
 -- what a call may reply at a place: a section is entered, and ends kept or suspended (C API, critical sections); a container replies as the plain one does there, or raises a MemoryError
 abbrev pub IsReplied : Call → Reply → Reply → Type 0
 IsReplied (call.Begin first second) said plain = said ≡ reply.Entered
 IsReplied call.End said plain = (said ≡ reply.Kept) ⊎ ((count : ℕ) × (said ≡ reply.Suspended count))
 IsReplied call.Quiesce said plain = said ≡ reply.Done
-IsReplied other said plain = (is_memory said ≡ true) ⊎ (said ≡ plain)
+IsReplied (call.Dict container dict_call) said plain = IsPlainReply said plain
+IsReplied (call.List container list_call) said plain = IsPlainReply said plain
+IsReplied (call.Set container set_call) said plain = IsPlainReply said plain
+IsReplied (call.Next cursor) said plain = IsPlainReply said plain
 
 -- an entry is what the plain containers reply at its place (profile)
 pub record IsAnswered (script : ScriptParts) (entries : List Entry) (place : ℕ) (entry : Entry) : Type 0 where
@@ -89,7 +107,11 @@ pub record Section : Type 0 where
 abbrev pub after_section : ℕ → Call → List Section → List Section
 after_section place (call.Begin first second) sections = record { containers = containers_of (call.Begin first second); begun = place } ∷ sections
 after_section place call.End sections = drop 1 sections
-after_section place other sections = sections
+after_section place (call.Dict container dict_call) sections = sections
+after_section place (call.List container list_call) sections = sections
+after_section place (call.Set container set_call) sections = sections
+after_section place (call.Next cursor) sections = sections
+after_section place call.Quiesce sections = sections
 
 -- the open sections after an entry at its place, where the thread is the entry's
 abbrev pub after_numbered : ℕ → List Section → ℕ × Entry → List Section
@@ -104,10 +126,20 @@ abbrev pub innermost : List Section → List ℕ
 innermost [] = []
 innermost (section ∷ sections) = section.containers
 
+-- this holds for the innermost open section, where there is one
+abbrev pub IfInnermost : List Section → (Section → Type 0) → Type 0
+IfInnermost [] P = Unit {0}
+IfInnermost (section ∷ sections) P = P section
+
 -- of an `end`, this holds for the section that it ends: the innermost open one
 abbrev pub IfEnds : List Section → Call → (Section → Type 0) → Type 0
-IfEnds (section ∷ sections) call.End P = P section
-IfEnds sections other P = Unit {0}
+IfEnds sections call.End P = IfInnermost sections P
+IfEnds sections (call.Dict container dict_call) P = Unit {0}
+IfEnds sections (call.List container list_call) P = Unit {0}
+IfEnds sections (call.Set container set_call) P = Unit {0}
+IfEnds sections (call.Next cursor) P = Unit {0}
+IfEnds sections (call.Begin first second) P = Unit {0}
+IfEnds sections call.Quiesce P = Unit {0}
 
 -- whether a call names the container
 abbrev pub names : ℕ → Call → Bool
@@ -134,11 +166,15 @@ abbrev pub IsKeptBy : List Entry → ℕ → ℕ → Section → Reply → Type 
 IsKeptBy entries thread place section reply.Kept = is_disturbed entries thread place section ≡ false
 IsKeptBy entries thread place section said = Unit {0}
 
--- `end` says kept where no call in the section waited, and else how many did (C API, critical sections: a thread that would block may let its locks go; the count: profile)
+-- `end` says kept where none of its calls waited, and else how many did (C API, critical sections: a thread that would block may let its locks go; the count: profile)
+abbrev pub IsCountedAs : ℕ → Reply → Type 0
+IsCountedAs marks reply.Kept = marks ≡ 0
+IsCountedAs marks (reply.Suspended count) = (1 ≤ count) × (marks ≡ count)
+IsCountedAs marks said = Unit {0}
+
+-- `end` says so of the calls between the section's `begin` and its own place
 abbrev pub IsCountedBy : List Entry → ℕ → ℕ → Section → Reply → Type 0
-IsCountedBy entries thread place section reply.Kept = marks_between entries thread place section ≡ 0
-IsCountedBy entries thread place section (reply.Suspended count) = (1 ≤ count) × (marks_between entries thread place section ≡ count)
-IsCountedBy entries thread place section said = Unit {0}
+IsCountedBy entries thread place section said = IsCountedAs (marks_between entries thread place section) said
 
 -- an `end` that says kept is right
 abbrev pub IsKept : List Entry → ℕ → Entry → Type 0
@@ -170,12 +206,21 @@ IsMarked script entries place entry = IfSome entry.waited (λ thread. (thread �
 abbrev pub EachAt : List Entry → (ℕ → Entry → Type 0) → Type 0
 EachAt entries P = (place : ℕ) (entry : Entry) → slice_get entries place ≡ Some entry → P place entry
 
--- a history of the script that containers of one thread can have, each of whose MemoryErrors has its cause (profile)
-pub record IsLegal (storage : Storage) (script : ScriptParts) (entries : List Entry) : Type 0 where
-  pub order : IsSorted history_cmp entries
+-- a MemoryError has its cause, of the writes and of the thread's own entries before its place
+abbrev pub IsEarnedAt : Storage → ScriptParts → List Entry → ℕ → Entry → Type 0
+IsEarnedAt storage script entries place entry =
+    IsEarned storage script (writes (take place entries)) (entries_of entry.thread (take place entries)) entry
+
+-- entries in the order in which their answers were fixed: each has to say what it says at its place (profile)
+pub record IsChronicle (storage : Storage) (script : ScriptParts) (entries : List Entry) : Type 0 where
   pub whole : IsWhole script entries
   pub answered : EachAt entries (IsAnswered script entries)
   pub marked : EachAt entries (IsMarked script entries)
   pub kept : EachAt entries (IsKept entries)
   pub counted : EachAt entries (IsCounted entries)
-  pub earned : EachAt entries (λ place entry. IsEarned storage script (writes (take place entries)) entry)
+  pub earned : EachAt entries (IsEarnedAt storage script entries)
+
+-- a history of the script that containers of one thread can have, each of whose MemoryErrors has its cause: a chronicle in the order of histories (profile)
+pub record IsLegal (storage : Storage) (script : ScriptParts) (entries : List Entry) : Type 0 where
+  pub order : IsSorted history_cmp entries
+  pub chronicle : IsChronicle storage script entries

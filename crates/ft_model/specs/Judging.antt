@@ -1,5 +1,5 @@
 -- Which rule a history breaks first, and where: the rules that are checked at each place, in their order.
-use Rattle.std.specs.Prelude.{◌≡◌, ◌≢◌, ℕ, ◌+◌, ◌-◌, ◌<◌, ◌≤◌, true, false, List, take, length, Some, slice_get}
+use Rattle.std.specs.Prelude.{◌≡◌, ℕ, ◌+◌, ◌<◌, ◌≤◌, false, List, take, length, Some, slice_get}
 use Rattle.std.specs.Ordering.{is_lt}
 use Rattle.ft_model.specs.declared.entry.Entry.{Entry}
 use Rattle.ft_model.specs.declared.entry.Rule.{Rule}
@@ -7,8 +7,7 @@ use Rattle.ft_model.specs.declared.entry.Rule.TheVariants as rule
 use Rattle.ft_model.specs.declared.entry.Storage.{Storage}
 use Rattle.ft_model.specs.declared.script.ScriptParts.{ScriptParts}
 use Rattle.ft_model.specs.Answers.{answer, is_write}
-use Rattle.ft_model.specs.Tables.{IsEarned}
-use Rattle.ft_model.specs.Histories.{history_cmp, writes, world_at, entries_of, calls_of, hands_at, IsReplied, IsMarked, IsKept, IsCounted, EachAt, IsLegal}
+use Rattle.ft_model.specs.Histories.{history_cmp, writes, world_at, entries_of, calls_of, hands_at, IsReplied, IsMarked, IsKept, IsCounted, IsEarnedAt}
 
 -- ---- the rules at a place (profile)
 
@@ -41,7 +40,7 @@ Keeps storage script entries rule.Reply place entry = HasRightReply script entri
 Keeps storage script entries rule.Mark place entry = IsMarked script entries place entry
 Keeps storage script entries rule.Kept place entry = IsKept entries place entry
 Keeps storage script entries rule.Suspended place entry = IsCounted entries place entry
-Keeps storage script entries rule.Memory place entry = IsEarned storage script (writes (take place entries)) entry
+Keeps storage script entries rule.Memory place entry = IsEarnedAt storage script entries place entry
 Keeps storage script entries rule.Missing place entry = Unit {0}
 Keeps storage script entries rule.World place entry = Unit {0}
 

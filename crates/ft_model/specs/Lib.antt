@@ -1,5 +1,6 @@
 pub mod Keys
 pub mod Calls
+pub mod Classes
 pub mod Contents
 pub mod Lists
 pub mod Cursors
@@ -10,6 +11,5 @@ pub mod Answers
 pub mod Tables
 pub mod Histories
 pub mod Judging
-pub mod Chronicles
 pub mod Numbers
 pub mod Parts

@@ -11,37 +11,20 @@ use Rattle.ft_model.specs.declared.entry.Entry.{Entry}
 use Rattle.ft_model.specs.declared.entry.Storage.{Storage}
 use Rattle.ft_model.specs.declared.script.ScriptParts.{ScriptParts}
 use Rattle.ft_model.specs.Calls.{containers_of}
-use Rattle.ft_model.specs.Worlds.{start_world, start_hands, containers_used}
-use Rattle.ft_model.specs.Answers.{answer, after_write, is_memory, is_write}
-use Rattle.ft_model.specs.Tables.{IsEarned, Stored, stored_after, takes_in}
-use Rattle.ft_model.specs.declared.reply.Raise.TheVariants as raise
-use Rattle.ft_model.specs.declared.entry.Storage.TheVariants as storage
-use Rattle.ft_model.specs.Histories.{writes, entries_of, calls_of, cursors_of, names, has_call_on, is_marked, EachAt, IsReplied}
-
--- ---- MemoryErrors that fit
-
--- a MemoryError of a class fits a call that would take a table of that class there (profile)
-abbrev pub IsFittingReply : Stored → Call → Reply → Type 0
-IsFittingReply stored call (reply.Raised (raise.Memory class)) = takes_in stored call ≡ Some class
-IsFittingReply stored call _ = Unit {0}
-
-abbrev pub IsFitting : Storage → ScriptParts → List Call → Entry → Type 0
-IsFitting storage.Plain script calls entry = Unit {0}
-IsFitting storage.Tables script calls entry = IsFittingReply (stored_after script calls) entry.call entry.reply
+use Rattle.ft_model.specs.Worlds.{kinds_of, containers_used}
+use Rattle.ft_model.specs.Answers.{answer, world_by, is_write}
+use Rattle.ft_model.specs.Tables.{IsEarned, IsFitting}
+use Rattle.ft_model.specs.Histories.{writes, entries_of, calls_of, cursors_of, names, has_call_on, is_marked, hands_by, EachAt, IsReplied, IsCountedAs}
 
 -- ---- what the writes leave, by their numbers
 
 -- the world after the first n of these writes (profile)
 abbrev pub world_after : ScriptParts → List Call → ℕ → List Content
-world_after script calls n = fold after_write (start_world script.containers) (take n calls)
-
--- the hands that an entry leaves to its thread; a MemoryError leaves them as they were (profile)
-abbrev pub after_stamped : ScriptParts → List Call → List (Option Cursor) → Entry → List (Option Cursor)
-after_stamped script calls hands entry = if is_memory entry.reply then hands else (answer (world_after script calls entry.stamp) hands entry.call).hands
+world_after script calls n = world_by (kinds_of script.containers) (take n calls)
 
 -- the hands of a thread that its entries so far leave (profile)
 abbrev pub hands_after : ScriptParts → List Call → ℕ → List Entry → List (Option Cursor)
-hands_after script calls thread before = fold (after_stamped script calls) (start_hands (cursors_of script thread)) before
+hands_after script calls thread before = hands_by (kinds_of script.containers) calls (cursors_of script thread) before
 
 -- how many writes there are, as far as an entry tells: a write counts itself
 abbrev pub number_after : Entry → ℕ
@@ -53,7 +36,11 @@ number_after entry = if entry.wrote then entry.stamp + 1 else entry.stamp
 abbrev pub after_begins : Entry → Call → List Entry → List Entry
 after_begins entry (call.Begin first second) begins = entry ∷ begins
 after_begins entry call.End begins = drop 1 begins
-after_begins entry other begins = begins
+after_begins entry (call.Dict container dict_call) begins = begins
+after_begins entry (call.List container list_call) begins = begins
+after_begins entry (call.Set container set_call) begins = begins
+after_begins entry (call.Next cursor) begins = begins
+after_begins entry call.Quiesce begins = begins
 
 abbrev pub begins_of : List Entry → List Entry
 begins_of before = fold (λ begins entry. after_begins entry entry.call begins) [] before
@@ -63,10 +50,20 @@ abbrev pub begun_containers : List Entry → List ℕ
 begun_containers [] = []
 begun_containers (begun ∷ begins) = containers_of begun.call
 
+-- this holds of the innermost one, where there is one
+abbrev pub IfBegun : List Entry → (Entry → Type 0) → Type 0
+IfBegun [] P = Unit {0}
+IfBegun (begun ∷ begins) P = P begun
+
 -- of an `end`, this holds of the `begin` of the section that it ends
 abbrev pub IfEndsBegin : List Entry → Call → (Entry → Type 0) → Type 0
-IfEndsBegin (begun ∷ begins) call.End P = P begun
-IfEndsBegin begins other P = Unit {0}
+IfEndsBegin begins call.End P = IfBegun begins P
+IfEndsBegin begins (call.Dict container dict_call) P = Unit {0}
+IfEndsBegin begins (call.List container list_call) P = Unit {0}
+IfEndsBegin begins (call.Set container set_call) P = Unit {0}
+IfEndsBegin begins (call.Next cursor) P = Unit {0}
+IfEndsBegin begins (call.Begin first second) P = Unit {0}
+IfEndsBegin begins call.Quiesce P = Unit {0}
 
 -- the containers whose locks a call needs: its own, and those of the section that is innermost after it (C API, critical sections)
 abbrev pub needs_after : ScriptParts → List Call → List Entry → Entry → List ℕ
@@ -83,12 +80,6 @@ IsKeptFrom calls before begun until reply.Kept =
     → list_any (λ container. names container called) (containers_of begun.call) ≡ true → list_any (is_number number) before ≡ true
 IsKeptFrom calls before begun until said = Unit {0}
 
--- an `end` says kept where no call in its section waited, and else how many did (profile)
-abbrev pub IsCountedAs : ℕ → Reply → Type 0
-IsCountedAs marks reply.Kept = marks ≡ 0
-IsCountedAs marks (reply.Suspended count) = (1 ≤ count) × (marks ≡ count)
-IsCountedAs marks said = Unit {0}
-
 -- ---- entries with numbers
 
 -- an entry of a thread is right after these entries of it, by these writes in the order of their numbers
@@ -101,7 +92,7 @@ pub record IsRightAfter (storage : Storage) (script : ScriptParts) (calls : List
   pub kept : IfEndsBegin (begins_of before) entry.call (λ begun. IsKeptFrom calls before begun entry.stamp entry.reply)
   pub counted : IfEndsBegin (begins_of before) entry.call (λ begun. IsCountedAs (count_by (is_marked entry.thread) (drop begun.index before)) entry.reply)
   -- a MemoryError has its cause in the writes below its stamp
-  pub earned : IsEarned storage script (take entry.stamp calls) entry
+  pub earned : IsEarned storage script (take entry.stamp calls) before entry
   pub fitting : IsFitting storage script (take entry.stamp calls) entry
 
 -- a mark names another thread that has a call on a container that the marked call needs, be it made before or later (profile)

@@ -1,5 +1,5 @@
 -- The rule of scripts: what names, kinds, cursors, sections and limits a script has. (profile)
-use Rattle.std.specs.Prelude.{◌≡◌, ◌≢◌, ℕ, ◌+◌, ◌-◌, ◌%◌, ◌<◌, ◌≤◌, true, List, [], ◌∷◌, map, sum, length, take, slice_get, All, Any, AllPairs, Option, option_map, Some, None, IfSome}
+use Rattle.std.specs.Prelude.{◌≡◌, ◌≢◌, ℕ, ◌+◌, ◌-◌, ◌%◌, ◌<◌, ◌≤◌, true, List, [], ◌∷◌, ◌++◌, map, replicate, sum, length, take, slice_get, All, Any, AllPairs, Option, option_map, Some, None, IfSome}
 use Rattle.ft_model.specs.declared.data.Key.{Key}
 use Rattle.ft_model.specs.declared.data.Key.TheVariants as key
 use Rattle.ft_model.specs.declared.data.Value.{Value}
@@ -18,6 +18,7 @@ use Rattle.ft_model.specs.declared.script.Kind.TheVariants as kind
 use Rattle.ft_model.specs.declared.script.Thread.{Thread}
 use Rattle.ft_model.specs.declared.script.ScriptParts.{ScriptParts}
 use Rattle.ft_model.specs.Calls.{other_dict, other_list, other_set, cursor_of_dict, cursor_of_list, cursor_of_set}
+use Rattle.ft_model.specs.Classes.{class_count}
 use Rattle.ft_model.specs.Names.{is_container_name, is_thread_name, IsString}
 
 -- ---- strings
@@ -41,32 +42,63 @@ AreStringsOfDict strings (dict.Set key value) = IsKeyOf strings key × IsValueOf
 AreStringsOfDict strings (dict.Del key) = IsKeyOf strings key
 AreStringsOfDict strings (dict.Pop key) = IsKeyOf strings key
 AreStringsOfDict strings (dict.PopOr key default) = IsKeyOf strings key × IsValueOf strings default
+AreStringsOfDict strings dict.PopItem = Unit {0}
 AreStringsOfDict strings (dict.SetDefault key default) = IsKeyOf strings key × IsValueOf strings default
 AreStringsOfDict strings (dict.Has key) = IsKeyOf strings key
-AreStringsOfDict strings _ = Unit {0}
+AreStringsOfDict strings dict.Len = Unit {0}
+AreStringsOfDict strings dict.Items = Unit {0}
+AreStringsOfDict strings (dict.Update other) = Unit {0}
+AreStringsOfDict strings dict.Clear = Unit {0}
+AreStringsOfDict strings (dict.CopyTo other) = Unit {0}
+AreStringsOfDict strings (dict.Eq other) = Unit {0}
+AreStringsOfDict strings (dict.Iter cursor) = Unit {0}
 
 abbrev pub AreStringsOfList : ℕ → ListCall → Type 0
 AreStringsOfList strings (list.Append value) = IsValueOf strings value
 AreStringsOfList strings (list.Insert index value) = IsValueOf strings value
+AreStringsOfList strings (list.Get index) = Unit {0}
 AreStringsOfList strings (list.Set index value) = IsValueOf strings value
+AreStringsOfList strings (list.Del index) = Unit {0}
+AreStringsOfList strings (list.Pop index) = Unit {0}
 AreStringsOfList strings (list.Remove value) = IsValueOf strings value
 AreStringsOfList strings (list.Index value) = IsValueOf strings value
 AreStringsOfList strings (list.Count value) = IsValueOf strings value
 AreStringsOfList strings (list.Has value) = IsValueOf strings value
-AreStringsOfList strings _ = Unit {0}
+AreStringsOfList strings list.Reverse = Unit {0}
+AreStringsOfList strings (list.Extend other) = Unit {0}
+AreStringsOfList strings (list.Slice start end) = Unit {0}
+AreStringsOfList strings list.Clear = Unit {0}
+AreStringsOfList strings list.Len = Unit {0}
+AreStringsOfList strings list.Items = Unit {0}
+AreStringsOfList strings (list.Eq other) = Unit {0}
+AreStringsOfList strings (list.Iter cursor) = Unit {0}
 
 abbrev pub AreStringsOfSet : ℕ → SetCall → Type 0
 AreStringsOfSet strings (set.Add key) = IsKeyOf strings key
 AreStringsOfSet strings (set.Discard key) = IsKeyOf strings key
 AreStringsOfSet strings (set.Remove key) = IsKeyOf strings key
+AreStringsOfSet strings set.Pop = Unit {0}
 AreStringsOfSet strings (set.Has key) = IsKeyOf strings key
-AreStringsOfSet strings _ = Unit {0}
+AreStringsOfSet strings set.Len = Unit {0}
+AreStringsOfSet strings set.Items = Unit {0}
+AreStringsOfSet strings (set.Eq other) = Unit {0}
+AreStringsOfSet strings (set.Or other) = Unit {0}
+AreStringsOfSet strings (set.And other) = Unit {0}
+AreStringsOfSet strings (set.Sub other) = Unit {0}
+AreStringsOfSet strings (set.Xor other) = Unit {0}
+AreStringsOfSet strings (set.Subset other) = Unit {0}
+AreStringsOfSet strings (set.Disjoint other) = Unit {0}
+AreStringsOfSet strings set.Clear = Unit {0}
+AreStringsOfSet strings (set.Iter cursor) = Unit {0}
 
 abbrev pub AreStringsOf : ℕ → Call → Type 0
 AreStringsOf strings (call.Dict container dict_call) = AreStringsOfDict strings dict_call
 AreStringsOf strings (call.List container list_call) = AreStringsOfList strings list_call
 AreStringsOf strings (call.Set container set_call) = AreStringsOfSet strings set_call
-AreStringsOf strings _ = Unit {0}
+AreStringsOf strings (call.Next cursor) = Unit {0}
+AreStringsOf strings (call.Begin first second) = Unit {0}
+AreStringsOf strings call.End = Unit {0}
+AreStringsOf strings call.Quiesce = Unit {0}
 
 -- ---- containers and cursors
 
@@ -100,7 +132,10 @@ abbrev pub cursor_of : Call → Option ℕ
 cursor_of (call.Dict place dict_call) = cursor_of_dict dict_call
 cursor_of (call.List place list_call) = cursor_of_list list_call
 cursor_of (call.Set place set_call) = cursor_of_set set_call
-cursor_of _ = None
+cursor_of (call.Next cursor) = None
+cursor_of (call.Begin first second) = None
+cursor_of call.End = None
+cursor_of call.Quiesce = None
 
 -- a cursor is made before it is moved
 abbrev pub AreMade : List Call → Type 0
@@ -113,9 +148,17 @@ abbrev pub AreNested : ℕ → List Call → Type 0
 AreNested depth [] = depth ≡ 0
 AreNested depth (call.Begin first second ∷ calls) = (depth < 16) × AreNested (depth + 1) calls
 AreNested depth (call.End ∷ calls) = (0 < depth) × AreNested (depth - 1) calls
-AreNested depth (other ∷ calls) = AreNested depth calls
+AreNested depth (call.Dict place dict_call ∷ calls) = AreNested depth calls
+AreNested depth (call.List place list_call ∷ calls) = AreNested depth calls
+AreNested depth (call.Set place set_call ∷ calls) = AreNested depth calls
+AreNested depth (call.Next cursor ∷ calls) = AreNested depth calls
+AreNested depth (call.Quiesce ∷ calls) = AreNested depth calls
 
 -- ---- scripts
+
+-- how many tables of each class there are where a script has no line for the class: 4 of each class from 3 to 12, 1 of each class above
+abbrev pub default_tables : List ℕ
+default_tables = replicate 10 4 ++ replicate 4 1
 
 -- a thread of the script, with its cursors and calls
 pub record IsThread (script : ScriptParts) (thread : Thread) : Type 0 where
@@ -139,9 +182,9 @@ pub record IsScript (script : ScriptParts) : Type 0 where
   pub few_strings : length script.strings ≤ 65536
   pub strings : All IsString script.strings
   pub strings_differ : AllPairs (λ a b. a ≢ b) script.strings
-  -- from 1 to 64 tables of each class from 3 to 12
-  pub classes : length script.tables ≡ 10
-  pub tables : All (λ count. (1 ≤ count) × (count ≤ 64)) script.tables
+  -- from 1 to 1024 tables of each class
+  pub classes : length script.tables ≡ class_count
+  pub tables : All (λ count. (1 ≤ count) × (count ≤ 1024)) script.tables
   -- from 64 to 4096 places in steps of 64
   pub least_heap : 64 ≤ script.heap
   pub greatest_heap : script.heap ≤ 4096

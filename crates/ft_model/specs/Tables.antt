@@ -1,16 +1,12 @@
--- The tables that containers of a script have at a place of a history, computed from the writes before it alone, and when a MemoryError is right.
--- Tables come in classes 3 to 12; a table of class c has 2^c slots. An entry of a dict's or set's table is used once, so that `fill` counts deleted ones too. (profile)
-use Rattle.std.specs.Prelude.{◌≡◌, ℕ, Bool, true, false, not, ◌&&◌, ◌||◌, ◌==◌, ◌+◌, ◌-◌, ◌*◌, ◌/◌, ◌^◌, ◌≤◌, nat_lt, nat_le, List, [], ◌∷◌, map, fold, length, Option, Some, None, slice_get, slice_set, slice_index_or, if◌then◌else◌}
-use Rattle.std.specs.Option.{option_map_or, unwrap_or}
-use Rattle.std.specs.List.{find, count_by, range_with_len, list_any}
+-- The tables that containers have at a place of a history, computed from the writes before it alone, and when a MemoryError is right.
+-- An entry of a dict's or set's table is used once, so that `fill` counts deleted ones too. (profile)
+use Rattle.std.specs.Prelude.{◌≡◌, ℕ, Bool, true, false, ◌&&◌, ◌==◌, ◌+◌, ◌-◌, ◌*◌, ◌^◌, ◌≤◌, nat_lt, List, [], ◌∷◌, map, fold, length, Option, Some, None, slice_set, slice_index_or, if◌then◌else◌}
+use Rattle.std.specs.Option.{option_map_or}
+use Rattle.std.specs.List.{count_by, list_any}
 use Rattle.ft_model.specs.declared.call.Call.{Call}
 use Rattle.ft_model.specs.declared.call.Call.TheVariants as call
-use Rattle.ft_model.specs.declared.call.DictCall.{DictCall}
-use Rattle.ft_model.specs.declared.call.DictCall.TheVariants as dict
-use Rattle.ft_model.specs.declared.call.ListCall.{ListCall}
-use Rattle.ft_model.specs.declared.call.ListCall.TheVariants as list
-use Rattle.ft_model.specs.declared.call.SetCall.{SetCall}
-use Rattle.ft_model.specs.declared.call.SetCall.TheVariants as set
+use Rattle.ft_model.specs.declared.call.TableChange.{TableChange}
+use Rattle.ft_model.specs.declared.call.TableChange.TheVariants as change
 use Rattle.ft_model.specs.declared.content.Content.{Content}
 use Rattle.ft_model.specs.declared.content.Content.TheVariants as content
 use Rattle.ft_model.specs.declared.reply.Reply.{Reply}
@@ -19,140 +15,171 @@ use Rattle.ft_model.specs.declared.reply.Raise.TheVariants as raise
 use Rattle.ft_model.specs.declared.entry.Entry.{Entry}
 use Rattle.ft_model.specs.declared.entry.Storage.{Storage}
 use Rattle.ft_model.specs.declared.entry.Storage.TheVariants as storage
+use Rattle.ft_model.specs.declared.script.Kind.{Kind}
 use Rattle.ft_model.specs.declared.script.ScriptParts.{ScriptParts}
+use Rattle.ft_model.specs.declared.table.KeptTable.{KeptTable}
+use Rattle.ft_model.specs.Calls.{dict_change, list_change, set_change, can_add}
+use Rattle.ft_model.specs.Classes.{least_class, IsClass, dict_entries, list_items, most_pairs, most_elements, most_items, dict_class, set_class, list_class}
 use Rattle.ft_model.specs.Contents.{DictContent, SetContent}
-use Rattle.ft_model.specs.Worlds.{start_world, dict_at, list_at, set_at, named_in}
-use Rattle.ft_model.specs.Answers.{after_write, is_memory}
-
--- ---- classes
-
--- how many entries or items a table of a class has (profile)
-abbrev pub dict_entries : ℕ → ℕ
-dict_entries class = 2 * 2 ^ class / 3
-
-abbrev pub set_entries : ℕ → ℕ
-set_entries class = 3 * 2 ^ class / 5
-
-abbrev pub list_items : ℕ → ℕ
-list_items class = 2 ^ class
-
--- the smallest class of at least this many slots, and 12 where that would be greater
-abbrev pub class_for : ℕ → ℕ
-class_for slots = unwrap_or (find (λ class. nat_le slots (2 ^ class)) (range_with_len 3 9)) 12
-
--- the classes of new tables for that many pairs, elements or items
-abbrev pub dict_class : ℕ → ℕ
-dict_class count = class_for (3 * (count - 1))
-
-abbrev pub set_class : ℕ → ℕ
-set_class count = class_for (4 * (count - 1) + 1)
-
-abbrev pub list_class : ℕ → ℕ
-list_class count = class_for count
+use Rattle.ft_model.specs.Worlds.{kinds_of, empty_world, dict_at, list_at, set_at, named_in, no_hands}
+use Rattle.ft_model.specs.Answers.{answer, after_write, is_memory, is_raised}
 
 -- ---- the table of a container
 
 -- its class, or none where nothing was stored since the start or the last clear, and how many entries are used
-pub record Table : Type 0 where
+pub record TableUse : Type 0 where
   pub class : Option ℕ
   pub fill : ℕ
 
-abbrev pub no_table : Table
+abbrev pub no_table : TableUse
 no_table = record { class = None; fill = 0 }
 
+-- what a kept table says
+abbrev pub table_of : KeptTable → TableUse
+table_of kept = record { class = kept.class; fill = kept.fill }
+
 -- whether that many new entries find no room in the table, and whether that many items do
-abbrev pub outgrows_dict : Table → ℕ → Bool
-outgrows_dict table added = nat_lt 0 added && option_map_or (λ class. nat_lt (dict_entries class) (table.fill + added)) table.class true
+abbrev pub outgrows_dict : TableUse → ℕ → Bool
+outgrows_dict table added =
+    nat_lt 0 added && option_map_or (λ class. nat_lt (dict_entries class) (table.fill + added)) table.class true
 
-abbrev pub outgrows_set : Table → ℕ → Bool
-outgrows_set table added = nat_lt 0 added && option_map_or (λ class. nat_lt (3 * 2 ^ class) (5 * (table.fill + added))) table.class true
+abbrev pub outgrows_set : TableUse → ℕ → Bool
+outgrows_set table added =
+    nat_lt 0 added && option_map_or (λ class. nat_lt (3 * 2 ^ class) (5 * (table.fill + added))) table.class true
 
-abbrev pub outgrows_list : Table → ℕ → Bool
+abbrev pub outgrows_list : TableUse → ℕ → Bool
 outgrows_list table count = nat_lt 0 count && option_map_or (λ class. nat_lt (list_items class) count) table.class true
 
--- the class that a dict takes that had one content and then has another
-abbrev pub dict_takes : Table → DictContent → DictContent → Option ℕ
-dict_takes table old new = if outgrows_dict table (new.next - old.next) then Some (dict_class (length new.pairs)) else None
+-- the class that a container takes that had one content and then has another
+abbrev pub dict_takes : TableUse → DictContent → DictContent → Option ℕ
+dict_takes table old new =
+    if outgrows_dict table (new.next - old.next) then Some (dict_class (length new.pairs)) else None
 
-abbrev pub set_takes : Table → SetContent → SetContent → Option ℕ
-set_takes table old new = if outgrows_set table (new.next - old.next) then Some (set_class (length new.elements)) else None
+abbrev pub set_takes : TableUse → SetContent → SetContent → Option ℕ
+set_takes table old new =
+    if outgrows_set table (new.next - old.next) then Some (set_class (length new.elements)) else None
+
+abbrev pub list_takes : TableUse → ℕ → Option ℕ
+list_takes table count = if outgrows_list table count then Some (list_class count) else None
 
 -- a copy takes a table in any case, but for no pairs
 abbrev pub copy_takes : ℕ → Option ℕ
 copy_takes count = if nat_lt 0 count then Some (dict_class count) else None
 
 -- the table with that many entries more, and the one that is taken for that many
-abbrev pub used : Table → ℕ → Table
+abbrev pub used : TableUse → ℕ → TableUse
 used table added = record { class = table.class; fill = table.fill + added }
 
-abbrev pub taken : ℕ → ℕ → Table
+abbrev pub taken : ℕ → ℕ → TableUse
 taken class count = record { class = Some class; fill = count }
 
--- ---- what a write does to tables
+-- the table of a dict that got a copy of that many pairs, which is none for no pairs
+abbrev pub copy_leaves : ℕ → TableUse
+copy_leaves count = option_map_or (λ class. taken class count) (copy_takes count) no_table
 
-abbrev pub table_at : List Table → ℕ → Table
+-- ---- what a call does to tables
+
+abbrev pub table_at : List TableUse → ℕ → TableUse
 table_at tables place = slice_index_or tables place no_table
 
--- the class that a call of a dict takes, between the world before it and the world after it
-abbrev pub dict_call_takes : List Content → List Content → List Table → ℕ → DictCall → Option ℕ
-dict_call_takes old new tables place (dict.CopyTo other) = copy_takes (length (dict_at old place).pairs)
-dict_call_takes old new tables place _ = dict_takes (table_at tables place) (dict_at old place) (dict_at new place)
+-- the class that a call takes of these, where it grows its container and where it copies
+abbrev pub change_takes : TableChange → Option ℕ → Option ℕ → Option ℕ
+change_takes change.Stays grown copied = None
+change_takes change.Grows grown copied = grown
+change_takes (change.CopiesTo other) grown copied = copied
+change_takes change.GivesUp grown copied = None
 
--- the class of the table that a call takes, if it takes one
-abbrev pub takes_class : List Content → List Content → List Table → Call → Option ℕ
-takes_class old new tables (call.Dict place dict_call) = dict_call_takes old new tables place dict_call
-takes_class old new tables (call.List place list_call) = if outgrows_list (table_at tables place) (length (list_at new place)) then Some (list_class (length (list_at new place))) else None
-takes_class old new tables (call.Set place set_call) = set_takes (table_at tables place) (set_at old place) (set_at new place)
-takes_class old new tables _ = None
+-- the class of the table that a call takes, if it takes one, between the world before it and the world after it
+abbrev pub takes_class : List Content → List Content → List TableUse → Call → Option ℕ
+takes_class old new tables (call.Dict place dict_call) =
+    change_takes
+    (dict_change dict_call)
+    (dict_takes (table_at tables place) (dict_at old place) (dict_at new place))
+    (copy_takes (length (dict_at old place).pairs))
+takes_class old new tables (call.List place list_call) =
+    change_takes (list_change list_call) (list_takes (table_at tables place) (length (list_at new place))) None
+takes_class old new tables (call.Set place set_call) =
+    change_takes (set_change set_call) (set_takes (table_at tables place) (set_at old place) (set_at new place)) None
+takes_class old new tables (call.Next cursor) = None
+takes_class old new tables (call.Begin first second) = None
+takes_class old new tables call.End = None
+takes_class old new tables call.Quiesce = None
 
--- the tables that a call leaves; a clear and a copy of no pairs give the container's own up
-abbrev pub dict_call_leaves : List Content → List Content → List Table → ℕ → DictCall → Option ℕ → List Table
-dict_call_leaves old new tables place dict.Clear takes = slice_set tables place no_table
-dict_call_leaves old new tables place (dict.CopyTo other) takes = slice_set tables other (option_map_or (λ class. taken class (length (dict_at new other).pairs)) takes no_table)
-dict_call_leaves old new tables place _ takes = slice_set tables place (option_map_or (λ class. taken class (length (dict_at new place).pairs)) takes (used (table_at tables place) ((dict_at new place).next - (dict_at old place).next)))
+-- the tables with these in place of a container's own, where it grows, and of the other one's, where it is copied
+abbrev pub change_leaves : List TableUse → ℕ → TableChange → TableUse → TableUse → List TableUse
+change_leaves tables place change.Stays grown copied = tables
+change_leaves tables place change.Grows grown copied = slice_set tables place grown
+change_leaves tables place (change.CopiesTo other) grown copied = slice_set tables other copied
+change_leaves tables place change.GivesUp grown copied = slice_set tables place no_table
 
--- a list's table has no fill
-abbrev pub list_call_leaves : List Table → ℕ → ListCall → Option ℕ → List Table
-list_call_leaves tables place list.Clear takes = slice_set tables place no_table
-list_call_leaves tables place _ takes = slice_set tables place (option_map_or (λ class. taken class 0) takes (table_at tables place))
+-- the table of a container that took a class, if it did, with its new entries and all that it then has
+abbrev pub grown_table : TableUse → Option ℕ → ℕ → ℕ → TableUse
+grown_table table takes added count = option_map_or (λ class. taken class count) takes (used table added)
 
-abbrev pub set_call_leaves : List Content → List Content → List Table → ℕ → SetCall → Option ℕ → List Table
-set_call_leaves old new tables place set.Clear takes = slice_set tables place no_table
-set_call_leaves old new tables place _ takes = slice_set tables place (option_map_or (λ class. taken class (length (set_at new place).elements)) takes (used (table_at tables place) ((set_at new place).next - (set_at old place).next)))
+-- the tables that a call leaves that takes a class, if it takes one; a list's table has no fill
+abbrev pub leaves_tables : List Content → List Content → List TableUse → Call → Option ℕ → List TableUse
+leaves_tables old new tables (call.Dict place dict_call) takes =
+    change_leaves
+    tables
+    place
+    (dict_change dict_call)
+    (grown_table
+    (table_at tables place)
+    takes
+    ((dict_at new place).next - (dict_at old place).next)
+    (length (dict_at new place).pairs))
+    (copy_leaves (length (dict_at old place).pairs))
+leaves_tables old new tables (call.List place list_call) takes =
+    change_leaves tables place (list_change list_call) (grown_table (table_at tables place) takes 0 0) no_table
+leaves_tables old new tables (call.Set place set_call) takes =
+    change_leaves
+    tables
+    place
+    (set_change set_call)
+    (grown_table
+    (table_at tables place)
+    takes
+    ((set_at new place).next - (set_at old place).next)
+    (length (set_at new place).elements))
+    no_table
+leaves_tables old new tables (call.Next cursor) takes = tables
+leaves_tables old new tables (call.Begin first second) takes = tables
+leaves_tables old new tables call.End takes = tables
+leaves_tables old new tables call.Quiesce takes = tables
 
-abbrev pub leaves_tables : List Content → List Content → List Table → Call → Option ℕ → List Table
-leaves_tables old new tables (call.Dict place dict_call) takes = dict_call_leaves old new tables place dict_call takes
-leaves_tables old new tables (call.List place list_call) takes = list_call_leaves tables place list_call takes
-leaves_tables old new tables (call.Set place set_call) takes = set_call_leaves old new tables place set_call takes
-leaves_tables old new tables _ takes = tables
-
--- ---- over a history
+-- ---- over a list of writes
 
 -- what containers have, and their tables
-pub record Stored : Type 0 where
+pub record StoredWorld : Type 0 where
   pub world : List Content
-  pub tables : List Table
+  pub tables : List TableUse
 
-abbrev pub start_stored : ScriptParts → Stored
-start_stored script = record { world = start_world script.containers; tables = map (λ container. no_table) script.containers }
+-- containers of these kinds at the start: empty, and without tables
+abbrev pub opened : List Kind → StoredWorld
+opened kinds = record { world = empty_world kinds; tables = map (λ kind. no_table) kinds }
 
 -- the class that a write takes there, and what it leaves
-abbrev pub takes_in : Stored → Call → Option ℕ
+abbrev pub takes_in : StoredWorld → Call → Option ℕ
 takes_in stored call = takes_class stored.world (after_write stored.world call) stored.tables call
 
-abbrev pub after_stored : Stored → Call → Stored
+abbrev pub after_stored : StoredWorld → Call → StoredWorld
 after_stored stored call =
     record {
       world = after_write stored.world call;
       tables = leaves_tables stored.world (after_write stored.world call) stored.tables call (takes_in stored call);
     }
 
--- what these writes leave, from the start on
-abbrev pub stored_after : ScriptParts → List Call → Stored
-stored_after script calls = fold after_stored (start_stored script) calls
+-- what these writes leave of containers of these kinds, the oldest write first
+abbrev pub stored_by : List Kind → List Call → StoredWorld
+stored_by kinds calls = fold after_stored (opened kinds) calls
+
+-- and the newest write first, for whoever goes back from the last write
+abbrev pub stored_newest : List Kind → List Call → StoredWorld
+stored_newest kinds [] = opened kinds
+stored_newest kinds (call ∷ calls) = after_stored (stored_newest kinds calls) call
 
 -- the classes that each of the writes takes
-abbrev pub takings : Stored → List Call → List (Option ℕ)
+abbrev pub takings : StoredWorld → List Call → List (Option ℕ)
 takings stored [] = []
 takings stored (call ∷ calls) = takes_in stored call ∷ takings (after_stored stored call) calls
 
@@ -160,66 +187,77 @@ abbrev pub is_class : ℕ → Option ℕ → Bool
 is_class class None = false
 is_class class (Some taken_class) = taken_class == class
 
--- how many of the writes took a table of the class
+-- how many of these writes took a table of the class, the oldest write first
+abbrev pub takes_by : List Kind → ℕ → List Call → ℕ
+takes_by kinds class calls = count_by (is_class class) (takings (opened kinds) calls)
+
+-- and the newest write first
+abbrev pub takes_newest : List Kind → ℕ → List Call → ℕ
+takes_newest kinds class [] = 0
+takes_newest kinds class (call ∷ calls) =
+    takes_newest kinds class calls + (if is_class class (takes_in (stored_newest kinds calls) call) then 1 else 0)
+
+-- of the containers of a script
+abbrev pub start_stored : ScriptParts → StoredWorld
+start_stored script = opened (kinds_of script.containers)
+
+abbrev pub stored_after : ScriptParts → List Call → StoredWorld
+stored_after script calls = stored_by (kinds_of script.containers) calls
+
 abbrev pub takes : ScriptParts → ℕ → List Call → ℕ
-takes script class calls = count_by (is_class class) (takings (start_stored script) calls)
+takes script class calls = takes_by (kinds_of script.containers) class calls
 
 -- ---- MemoryErrors
 
--- whether a call can raise a MemoryError of a class or over: it can add to a container. None of these raises another exception
-abbrev pub can_add_dict : DictCall → Bool
-can_add_dict (dict.Set key value) = true
-can_add_dict (dict.SetDefault key default) = true
-can_add_dict (dict.Update other) = true
-can_add_dict (dict.CopyTo other) = true
-can_add_dict _ = false
-
-abbrev pub can_add_list : ListCall → Bool
-can_add_list (list.Append value) = true
-can_add_list (list.Insert index value) = true
-can_add_list (list.Extend other) = true
-can_add_list _ = false
-
-abbrev pub can_add_set : SetCall → Bool
-can_add_set (set.Add key) = true
-can_add_set (set.Or other) = true
-can_add_set (set.Xor other) = true
-can_add_set _ = false
-
-abbrev pub can_add : Call → Bool
-can_add (call.Dict place dict_call) = can_add_dict dict_call
-can_add (call.List place list_call) = can_add_list list_call
-can_add (call.Set place set_call) = can_add_set set_call
-can_add _ = false
-
 -- whether a container has more than the largest table holds
 abbrev pub passes_cap : Content → Bool
-passes_cap (content.Dict dict) = nat_lt (dict_entries 12) (length dict.pairs)
-passes_cap (content.List items) = nat_lt (list_items 12) (length items)
-passes_cap (content.Set set) = nat_lt (set_entries 12) (length set.elements)
+passes_cap (content.Dict dict) = nat_lt most_pairs (length dict.pairs)
+passes_cap (content.List items) = nat_lt most_items (length items)
+passes_cap (content.Set set) = nat_lt most_elements (length set.elements)
 
--- whether a call would leave a container that it names with more than that
+-- whether a call can add, and would leave a container that it names with more than that
 abbrev pub would_pass : List Content → Call → Bool
 would_pass world call = can_add call && list_any passes_cap (named_in (after_write world call) call)
 
--- how many tables of a class the script has
-abbrev pub tables_of : ScriptParts → ℕ → ℕ
-tables_of script class = slice_index_or script.tables (class - 3) 0
+-- how many tables of a class there are, by the counts of all classes
+abbrev pub table_count : List ℕ → ℕ → ℕ
+table_count tables class = slice_index_or tables (class - least_class) 0
 
--- a MemoryError of a class is right where earlier writes, and a call of each other thread in flight, can have taken all its tables
-pub record IsClassEarned (script : ScriptParts) (calls : List Call) (class : ℕ) : Type 0 where
-  pub least : 3 ≤ class
-  pub greatest : class ≤ 12
-  pub all_taken : tables_of script class ≤ takes script class calls + (length script.threads - 1)
+-- earlier writes, and a call of each other thread in flight, can have taken all tables of the class
+pub record IsClassEarned
+    (kinds : List Kind) (tables : List ℕ) (threads : ℕ) (calls : List Call) (class : ℕ) : Type 0 where
+  pub is_class : IsClass class
+  pub all_taken : table_count tables class ≤ takes_by kinds class calls + (threads - 1)
 
--- of these writes before it, a reply of a call has its cause, as far as it is a MemoryError; and MemoryError over is raised wherever the call would pass the largest table (profile)
-abbrev pub IsEarnedReply : ScriptParts → List Call → Call → Reply → Type 0
-IsEarnedReply script calls call (reply.Raised (raise.Memory class)) = (can_add call ≡ true) × (would_pass (stored_after script calls).world call ≡ false) × IsClassEarned script calls class
-IsEarnedReply script calls call (reply.Raised raise.Over) = would_pass (stored_after script calls).world call ≡ true
-IsEarnedReply script calls call (reply.Raised raise.Heap) = ⊥
-IsEarnedReply script calls call _ = would_pass (stored_after script calls).world call ≡ false
+-- a MemoryError of a class or over stands only on a call that can add to a container, and that raises nothing else there
+pub record CanLackMemory (world : List Content) (call : Call) : Type 0 where
+  pub adds : can_add call ≡ true
+  pub raises_nothing : is_raised (answer world no_hands call).reply ≡ false
+
+-- a MemoryError over stands exactly where the call would pass the largest table, and one of a class where it would not,
+-- and where all tables of the class can be taken. `calls` are the writes before it, and `mine` the thread's own entries
+-- before it, by which the values in its heap will count: no call stores a value in a heap yet (profile)
+abbrev pub IsEarnedReply : List Kind → List ℕ → ℕ → List Call → List Entry → Call → Reply → Type 0
+IsEarnedReply kinds tables threads calls mine call (reply.Raised (raise.Memory class)) =
+    CanLackMemory (stored_by kinds calls).world call
+    × (would_pass (stored_by kinds calls).world call ≡ false)
+    × IsClassEarned kinds tables threads calls class
+IsEarnedReply kinds tables threads calls mine call (reply.Raised raise.Over) =
+    CanLackMemory (stored_by kinds calls).world call × (would_pass (stored_by kinds calls).world call ≡ true)
+IsEarnedReply kinds tables threads calls mine call (reply.Raised raise.Heap) = ⊥
+IsEarnedReply kinds tables threads calls mine call _ = would_pass (stored_by kinds calls).world call ≡ false
 
 -- containers that are plain never want memory; those on tables do where there is a cause
-abbrev pub IsEarned : Storage → ScriptParts → List Call → Entry → Type 0
-IsEarned storage.Plain script calls entry = is_memory entry.reply ≡ false
-IsEarned storage.Tables script calls entry = IsEarnedReply script calls entry.call entry.reply
+abbrev pub IsEarned : Storage → ScriptParts → List Call → List Entry → Entry → Type 0
+IsEarned storage.Plain script calls mine entry = is_memory entry.reply ≡ false
+IsEarned storage.Tables script calls mine entry =
+    IsEarnedReply (kinds_of script.containers) script.tables (length script.threads) calls mine entry.call entry.reply
+
+-- a MemoryError of a class fits where the call would take a table of that class there
+abbrev pub IsFittingReply : StoredWorld → Call → Reply → Type 0
+IsFittingReply stored call (reply.Raised (raise.Memory class)) = takes_in stored call ≡ Some class
+IsFittingReply stored call _ = Unit {0}
+
+abbrev pub IsFitting : Storage → ScriptParts → List Call → Entry → Type 0
+IsFitting storage.Plain script calls entry = Unit {0}
+IsFitting storage.Tables script calls entry = IsFittingReply (stored_after script calls) entry.call entry.reply

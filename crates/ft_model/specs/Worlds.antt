@@ -4,12 +4,6 @@ use Rattle.std.specs.Option.{option_map_or}
 use Rattle.ft_model.specs.declared.data.Value.{Value}
 use Rattle.ft_model.specs.declared.call.Call.{Call}
 use Rattle.ft_model.specs.declared.call.Call.TheVariants as call
-use Rattle.ft_model.specs.declared.call.DictCall.{DictCall}
-use Rattle.ft_model.specs.declared.call.DictCall.TheVariants as dict
-use Rattle.ft_model.specs.declared.call.ListCall.{ListCall}
-use Rattle.ft_model.specs.declared.call.ListCall.TheVariants as list
-use Rattle.ft_model.specs.declared.call.SetCall.{SetCall}
-use Rattle.ft_model.specs.declared.call.SetCall.TheVariants as set
 use Rattle.ft_model.specs.declared.content.Content.{Content}
 use Rattle.ft_model.specs.declared.content.Content.TheVariants as content
 use Rattle.ft_model.specs.declared.cursor.Cursor.{Cursor}
@@ -32,9 +26,17 @@ empty_content kind.Dict = content.Dict empty_dict
 empty_content kind.List = content.List []
 empty_content kind.Set = content.Set empty_set
 
+-- containers of these kinds, all of them empty (profile)
+abbrev pub empty_world : List Kind → List Content
+empty_world kinds = map empty_content kinds
+
+-- the kinds of the containers that are declared
+abbrev pub kinds_of : List Declaration → List Kind
+kinds_of containers = map (λ container. container.kind) containers
+
 -- the world at the start: each container that is declared is empty (profile)
 abbrev pub start_world : List Declaration → List Content
-start_world containers = map (λ container. empty_content container.kind) containers
+start_world containers = empty_world (kinds_of containers)
 
 -- what the dict has that a container is; a container of another kind counts as empty
 abbrev pub dict_of : Content → DictContent
@@ -110,7 +112,12 @@ cursor_kind (cursor.Set container walk size last) = kind.Set
 -- the containers that a call is about: those that it names, or that of its cursor
 abbrev pub containers_used : List (Option Cursor) → Call → List ℕ
 containers_used hands (call.Next number) = option_map_or (λ cursor. container_of cursor ∷ []) (cursor_at hands number) []
-containers_used hands named = containers_of named
+containers_used hands (call.Dict container dict_call) = containers_of (call.Dict container dict_call)
+containers_used hands (call.List container list_call) = containers_of (call.List container list_call)
+containers_used hands (call.Set container set_call) = containers_of (call.Set container set_call)
+containers_used hands (call.Begin first second) = containers_of (call.Begin first second)
+containers_used hands call.End = []
+containers_used hands call.Quiesce = []
 
 -- ---- what a call asks of the world and the hands
 

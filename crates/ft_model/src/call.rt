@@ -301,3 +301,16 @@ pub enum Containers {
     /// The one that the call is made on, and the other.
     Two(u32, u32),
 }
+
+/// What a call does to tables, where containers are stored in them.
+#[derive(Clone, Copy, Debug, PartialEq, Eq, Hash)]
+pub enum TableChange {
+    /// It puts nothing new into a container: tables stay as they are.
+    Stays,
+    /// It can put something new into its container, which takes a table where there is no room.
+    Grows,
+    /// It gives this dict new pairs in place of its own, in a table of their own.
+    CopiesTo(u32),
+    /// It gives its container's table up.
+    GivesUp,
+}

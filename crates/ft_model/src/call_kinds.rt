@@ -1,6 +1,6 @@
 ghost use Rattle.std.specs.Prelude.{◌≡◌, length};
 
-use crate::call::{Call, Containers, DictCall, ListCall, SetCall};
+use crate::call::{Call, Containers, DictCall, ListCall, SetCall, TableChange};
 
 impl Containers {
     ghost use Rattle.ft_model.specs.Calls.{one_or_two, container_list};
@@ -28,7 +28,7 @@ impl Containers {
 }
 
 impl Call {
-    ghost use Rattle.ft_model.specs.Calls.{is_changing, containers_of, container_list, locks_of};
+    ghost use Rattle.ft_model.specs.Calls.{is_changing, containers_of, container_list, locks_of, can_add};
 
     /// Whether the call is of a kind that changes a container.
     pub fn is_changing(&self) -> bool
@@ -70,10 +70,37 @@ impl Call {
         };
         if locked { self.containers().count() } else { 0 }
     }
+
+    /// Whether the call can put something new into a container, and so raise a MemoryError of a
+    /// class or over.
+    pub fn can_add(&self) -> bool
+        ensures { result ≡ can_add self.now }
+    {
+        match self {
+            Call::Dict { call, .. } => call.table_change().adds(),
+            Call::List { call, .. } => call.table_change().adds(),
+            Call::Set { call, .. } => call.table_change().adds(),
+            Call::Next { .. } | Call::Begin { .. } | Call::End | Call::Quiesce => false,
+        }
+    }
+}
+
+impl TableChange {
+    ghost use Rattle.ft_model.specs.Calls.{adds};
+
+    /// Whether a call that does this can put something new into a container.
+    pub fn adds(self) -> bool
+        ensures { result ≡ adds self }
+    {
+        match self {
+            TableChange::Grows | TableChange::CopiesTo(_) => true,
+            TableChange::Stays | TableChange::GivesUp => false,
+        }
+    }
 }
 
 impl DictCall {
-    ghost use Rattle.ft_model.specs.Calls.{is_changing_dict, other_dict, cursor_of_dict, is_locked_dict};
+    ghost use Rattle.ft_model.specs.Calls.{is_changing_dict, other_dict, cursor_of_dict, is_locked_dict, dict_change};
 
     /// Whether the call is of a kind that changes a dict.
     pub fn is_changing(&self) -> bool
@@ -107,7 +134,19 @@ impl DictCall {
             DictCall::Update { other } | DictCall::CopyTo { other } | DictCall::Eq { other } => {
                 Some(other)
             }
-            _ => None,
+            DictCall::Get { .. }
+            | DictCall::GetOr { .. }
+            | DictCall::Set { .. }
+            | DictCall::Del { .. }
+            | DictCall::Pop { .. }
+            | DictCall::PopOr { .. }
+            | DictCall::PopItem
+            | DictCall::SetDefault { .. }
+            | DictCall::Has { .. }
+            | DictCall::Len
+            | DictCall::Items
+            | DictCall::Clear
+            | DictCall::Iter { .. } => None,
         }
     }
 
@@ -117,7 +156,21 @@ impl DictCall {
     {
         match *self {
             DictCall::Iter { cursor } => Some(cursor),
-            _ => None,
+            DictCall::Get { .. }
+            | DictCall::GetOr { .. }
+            | DictCall::Set { .. }
+            | DictCall::Del { .. }
+            | DictCall::Pop { .. }
+            | DictCall::PopOr { .. }
+            | DictCall::PopItem
+            | DictCall::SetDefault { .. }
+            | DictCall::Has { .. }
+            | DictCall::Len
+            | DictCall::Items
+            | DictCall::Update { .. }
+            | DictCall::Clear
+            | DictCall::CopyTo { .. }
+            | DictCall::Eq { .. } => None,
         }
     }
 
@@ -125,20 +178,52 @@ impl DictCall {
     pub fn is_locked(&self) -> bool
         ensures { result ≡ is_locked_dict self.now }
     {
-        !matches!(
-            self,
+        match self {
             DictCall::Get { .. }
-                | DictCall::GetOr { .. }
-                | DictCall::Has { .. }
-                | DictCall::Len
-                | DictCall::Items
-                | DictCall::Eq { .. }
-        )
+            | DictCall::GetOr { .. }
+            | DictCall::Has { .. }
+            | DictCall::Len
+            | DictCall::Items
+            | DictCall::Eq { .. } => false,
+            DictCall::Set { .. }
+            | DictCall::Del { .. }
+            | DictCall::Pop { .. }
+            | DictCall::PopOr { .. }
+            | DictCall::PopItem
+            | DictCall::SetDefault { .. }
+            | DictCall::Update { .. }
+            | DictCall::Clear
+            | DictCall::CopyTo { .. }
+            | DictCall::Iter { .. } => true,
+        }
+    }
+
+    /// What the call does to tables.
+    pub fn table_change(&self) -> TableChange
+        ensures { result ≡ dict_change self.now }
+    {
+        match *self {
+            DictCall::Set { .. } | DictCall::SetDefault { .. } | DictCall::Update { .. } =>
+                TableChange::Grows,
+            DictCall::CopyTo { other } => TableChange::CopiesTo(other),
+            DictCall::Clear => TableChange::GivesUp,
+            DictCall::Get { .. }
+            | DictCall::GetOr { .. }
+            | DictCall::Del { .. }
+            | DictCall::Pop { .. }
+            | DictCall::PopOr { .. }
+            | DictCall::PopItem
+            | DictCall::Has { .. }
+            | DictCall::Len
+            | DictCall::Items
+            | DictCall::Eq { .. }
+            | DictCall::Iter { .. } => TableChange::Stays,
+        }
     }
 }
 
 impl ListCall {
-    ghost use Rattle.ft_model.specs.Calls.{is_changing_list, other_list, cursor_of_list, is_locked_list};
+    ghost use Rattle.ft_model.specs.Calls.{is_changing_list, other_list, cursor_of_list, is_locked_list, list_change};
 
     /// Whether the call is of a kind that changes a list.
     pub fn is_changing(&self) -> bool
@@ -172,7 +257,22 @@ impl ListCall {
     {
         match *self {
             ListCall::Extend { other } | ListCall::Eq { other } => Some(other),
-            _ => None,
+            ListCall::Append { .. }
+            | ListCall::Insert { .. }
+            | ListCall::Get { .. }
+            | ListCall::Set { .. }
+            | ListCall::Del { .. }
+            | ListCall::Pop { .. }
+            | ListCall::Remove { .. }
+            | ListCall::Index { .. }
+            | ListCall::Count { .. }
+            | ListCall::Has { .. }
+            | ListCall::Reverse
+            | ListCall::Slice { .. }
+            | ListCall::Clear
+            | ListCall::Len
+            | ListCall::Items
+            | ListCall::Iter { .. } => None,
         }
     }
 
@@ -182,7 +282,23 @@ impl ListCall {
     {
         match *self {
             ListCall::Iter { cursor } => Some(cursor),
-            _ => None,
+            ListCall::Append { .. }
+            | ListCall::Insert { .. }
+            | ListCall::Get { .. }
+            | ListCall::Set { .. }
+            | ListCall::Del { .. }
+            | ListCall::Pop { .. }
+            | ListCall::Remove { .. }
+            | ListCall::Index { .. }
+            | ListCall::Count { .. }
+            | ListCall::Has { .. }
+            | ListCall::Reverse
+            | ListCall::Extend { .. }
+            | ListCall::Slice { .. }
+            | ListCall::Clear
+            | ListCall::Len
+            | ListCall::Items
+            | ListCall::Eq { .. } => None,
         }
     }
 
@@ -190,19 +306,56 @@ impl ListCall {
     pub fn is_locked(&self) -> bool
         ensures { result ≡ is_locked_list self.now }
     {
-        !matches!(
-            self,
+        match self {
             ListCall::Get { .. }
-                | ListCall::Has { .. }
-                | ListCall::Len
-                | ListCall::Items
-                | ListCall::Eq { .. }
-        )
+            | ListCall::Has { .. }
+            | ListCall::Len
+            | ListCall::Items
+            | ListCall::Eq { .. } => false,
+            ListCall::Append { .. }
+            | ListCall::Insert { .. }
+            | ListCall::Set { .. }
+            | ListCall::Del { .. }
+            | ListCall::Pop { .. }
+            | ListCall::Remove { .. }
+            | ListCall::Index { .. }
+            | ListCall::Count { .. }
+            | ListCall::Reverse
+            | ListCall::Extend { .. }
+            | ListCall::Slice { .. }
+            | ListCall::Clear
+            | ListCall::Iter { .. } => true,
+        }
+    }
+
+    /// What the call does to tables.
+    pub fn table_change(&self) -> TableChange
+        ensures { result ≡ list_change self.now }
+    {
+        match *self {
+            ListCall::Append { .. } | ListCall::Insert { .. } | ListCall::Extend { .. } =>
+                TableChange::Grows,
+            ListCall::Clear => TableChange::GivesUp,
+            ListCall::Get { .. }
+            | ListCall::Set { .. }
+            | ListCall::Del { .. }
+            | ListCall::Pop { .. }
+            | ListCall::Remove { .. }
+            | ListCall::Index { .. }
+            | ListCall::Count { .. }
+            | ListCall::Has { .. }
+            | ListCall::Reverse
+            | ListCall::Slice { .. }
+            | ListCall::Len
+            | ListCall::Items
+            | ListCall::Eq { .. }
+            | ListCall::Iter { .. } => TableChange::Stays,
+        }
     }
 }
 
 impl SetCall {
-    ghost use Rattle.ft_model.specs.Calls.{is_changing_set, other_set, cursor_of_set, is_locked_set};
+    ghost use Rattle.ft_model.specs.Calls.{is_changing_set, other_set, cursor_of_set, is_locked_set, set_change};
 
     /// Whether the call is of a kind that changes a set.
     pub fn is_changing(&self) -> bool
@@ -240,7 +393,15 @@ impl SetCall {
             | SetCall::Xor { other }
             | SetCall::Subset { other }
             | SetCall::Disjoint { other } => Some(other),
-            _ => None,
+            SetCall::Add { .. }
+            | SetCall::Discard { .. }
+            | SetCall::Remove { .. }
+            | SetCall::Pop
+            | SetCall::Has { .. }
+            | SetCall::Len
+            | SetCall::Items
+            | SetCall::Clear
+            | SetCall::Iter { .. } => None,
         }
     }
 
@@ -250,7 +411,21 @@ impl SetCall {
     {
         match *self {
             SetCall::Iter { cursor } => Some(cursor),
-            _ => None,
+            SetCall::Add { .. }
+            | SetCall::Discard { .. }
+            | SetCall::Remove { .. }
+            | SetCall::Pop
+            | SetCall::Has { .. }
+            | SetCall::Len
+            | SetCall::Items
+            | SetCall::Eq { .. }
+            | SetCall::Or { .. }
+            | SetCall::And { .. }
+            | SetCall::Sub { .. }
+            | SetCall::Xor { .. }
+            | SetCall::Subset { .. }
+            | SetCall::Disjoint { .. }
+            | SetCall::Clear => None,
         }
     }
 
@@ -258,9 +433,42 @@ impl SetCall {
     pub fn is_locked(&self) -> bool
         ensures { result ≡ is_locked_set self.now }
     {
-        !matches!(
-            self,
-            SetCall::Has { .. } | SetCall::Len | SetCall::Items | SetCall::Eq { .. }
-        )
+        match self {
+            SetCall::Has { .. } | SetCall::Len | SetCall::Items | SetCall::Eq { .. } => false,
+            SetCall::Add { .. }
+            | SetCall::Discard { .. }
+            | SetCall::Remove { .. }
+            | SetCall::Pop
+            | SetCall::Or { .. }
+            | SetCall::And { .. }
+            | SetCall::Sub { .. }
+            | SetCall::Xor { .. }
+            | SetCall::Subset { .. }
+            | SetCall::Disjoint { .. }
+            | SetCall::Clear
+            | SetCall::Iter { .. } => true,
+        }
+    }
+
+    /// What the call does to tables.
+    pub fn table_change(&self) -> TableChange
+        ensures { result ≡ set_change self.now }
+    {
+        match *self {
+            SetCall::Add { .. } | SetCall::Or { .. } | SetCall::Xor { .. } => TableChange::Grows,
+            SetCall::Clear => TableChange::GivesUp,
+            SetCall::Discard { .. }
+            | SetCall::Remove { .. }
+            | SetCall::Pop
+            | SetCall::Has { .. }
+            | SetCall::Len
+            | SetCall::Items
+            | SetCall::Eq { .. }
+            | SetCall::And { .. }
+            | SetCall::Sub { .. }
+            | SetCall::Subset { .. }
+            | SetCall::Disjoint { .. }
+            | SetCall::Iter { .. } => TableChange::Stays,
+        }
     }
 }

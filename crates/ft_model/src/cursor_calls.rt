@@ -13,7 +13,7 @@ use crate::world::World;
 
 /// What one `next` answers, and the cursor that it leaves (Python manual, Iterator Types).
 #[derive(Debug, Drop)]
-pub struct Step {
+pub struct Advanced {
     /// What `next` answers.
     pub reply: Reply,
     /// The cursor after it.
@@ -22,7 +22,7 @@ pub struct Step {
 
 /// One `next` of a cursor over a container of the world (Python manual, Iterator Types).
 #[tactic(auto, using(crate::proofs::CursorLaws::step_rising, crate::proofs::CursorLaws::step_sized, crate::proofs::CursorLaws::step_ended))]
-pub fn advance(world: &World, cursor: &Cursor) -> Step
+pub fn advance(world: &World, cursor: &Cursor) -> Advanced
     requires { IsOfKind world.now (cursor_kind cursor.now) (container_of cursor.now) }
     ensures reply { result.reply ≡ (cursor_step world.now cursor.now).reply }
     ensures cursor { result.cursor ≡ (cursor_step world.now cursor.now).cursor }
@@ -35,7 +35,7 @@ pub fn advance(world: &World, cursor: &Cursor) -> Step
     step_of(world, cursor)
 }
 
-fn step_of(world: &World, cursor: &Cursor) -> Step
+fn step_of(world: &World, cursor: &Cursor) -> Advanced
     requires { IsOfKind world.now (cursor_kind cursor.now) (container_of cursor.now) }
     ensures reply { result.reply ≡ (cursor_step world.now cursor.now).reply }
     ensures cursor { result.cursor ≡ (cursor_step world.now cursor.now).cursor }
@@ -77,12 +77,12 @@ fn step_dict(
     size: u64,
     expected: u64,
     last: Option<u64>,
-) -> Step
+) -> Advanced
     ensures reply { result.reply ≡ (dict_next pairs.now container walk size expected last).reply }
     ensures cursor { result.cursor ≡ (dict_next pairs.now container walk size expected last).cursor }
 {
     match walk {
-        Walk::Ended => Step {
+        Walk::Ended => Advanced {
             reply: Reply::Stop,
             cursor: Cursor::Dict {
                 container,
@@ -95,7 +95,7 @@ fn step_dict(
         Walk::Live if pairs.len() as u64 == size => {
             walk_dict(following_pair(pairs, last), container, size, expected, last)
         }
-        Walk::Live | Walk::Reported => Step {
+        Walk::Live | Walk::Reported => Advanced {
             reply: Reply::Raised(Raise::Size),
             cursor: Cursor::Dict {
                 container,
@@ -115,12 +115,12 @@ fn walk_dict(
     size: u64,
     expected: u64,
     last: Option<u64>,
-) -> Step
+) -> Advanced
     ensures reply { result.reply ≡ (dict_walk pair container size expected last).reply }
     ensures cursor { result.cursor ≡ (dict_walk pair container size expected last).cursor }
 {
     match pair {
-        None => Step {
+        None => Advanced {
             reply: Reply::Stop,
             cursor: Cursor::Dict {
                 container,
@@ -130,7 +130,7 @@ fn walk_dict(
                 last,
             },
         },
-        Some(_) if expected == 0 => Step {
+        Some(_) if expected == 0 => Advanced {
             reply: Reply::Raised(Raise::Keys),
             cursor: Cursor::Dict {
                 container,
@@ -140,7 +140,7 @@ fn walk_dict(
                 last,
             },
         },
-        Some(pair) => Step {
+        Some(pair) => Advanced {
             reply: Reply::Pair(pair.key, pair.value),
             cursor: Cursor::Dict {
                 container,
@@ -174,12 +174,12 @@ fn is_after(last: Option<u64>, serial: u64) -> bool
 }
 
 /// One `next` of a cursor over the items of a list.
-fn step_list(items: &[Value], container: u32, index: u64, ended: bool) -> Step
+fn step_list(items: &[Value], container: u32, index: u64, ended: bool) -> Advanced
     ensures reply { result.reply ≡ (list_next items.now container index ended).reply }
     ensures cursor { result.cursor ≡ (list_next items.now container index ended).cursor }
 {
     match items.get(index as usize) {
-        Some(value) if !ended => Step {
+        Some(value) if !ended => Advanced {
             reply: Reply::Value(*value),
             cursor: Cursor::List {
                 container,
@@ -187,7 +187,7 @@ fn step_list(items: &[Value], container: u32, index: u64, ended: bool) -> Step
                 ended: false,
             },
         },
-        _ => Step {
+        _ => Advanced {
             reply: Reply::Stop,
             cursor: Cursor::List {
                 container,
@@ -199,12 +199,18 @@ fn step_list(items: &[Value], container: u32, index: u64, ended: bool) -> Step
 }
 
 /// One `next` of a cursor over the elements of a set.
-fn step_set(elements: &[Element], container: u32, walk: Walk, size: u64, last: Option<u64>) -> Step
+fn step_set(
+    elements: &[Element],
+    container: u32,
+    walk: Walk,
+    size: u64,
+    last: Option<u64>,
+) -> Advanced
     ensures reply { result.reply ≡ (set_next elements.now container walk size last).reply }
     ensures cursor { result.cursor ≡ (set_next elements.now container walk size last).cursor }
 {
     match walk {
-        Walk::Ended => Step {
+        Walk::Ended => Advanced {
             reply: Reply::Stop,
             cursor: Cursor::Set {
                 container,
@@ -216,7 +222,7 @@ fn step_set(elements: &[Element], container: u32, walk: Walk, size: u64, last: O
         Walk::Live if elements.len() as u64 == size => {
             walk_set(following_element(elements, last), container, size, last)
         }
-        Walk::Live | Walk::Reported => Step {
+        Walk::Live | Walk::Reported => Advanced {
             reply: Reply::Raised(Raise::Size),
             cursor: Cursor::Set {
                 container,
@@ -229,12 +235,12 @@ fn step_set(elements: &[Element], container: u32, walk: Walk, size: u64, last: O
 }
 
 /// Goes on to the element, or to the end, in a set of the size that it had.
-fn walk_set(element: Option<Element>, container: u32, size: u64, last: Option<u64>) -> Step
+fn walk_set(element: Option<Element>, container: u32, size: u64, last: Option<u64>) -> Advanced
     ensures reply { result.reply ≡ (set_walk element container size last).reply }
     ensures cursor { result.cursor ≡ (set_walk element container size last).cursor }
 {
     match element {
-        None => Step {
+        None => Advanced {
             reply: Reply::Stop,
             cursor: Cursor::Set {
                 container,
@@ -243,7 +249,7 @@ fn walk_set(element: Option<Element>, container: u32, size: u64, last: Option<u6
                 last,
             },
         },
-        Some(element) => Step {
+        Some(element) => Advanced {
             reply: Reply::Value(element.key.into_value()),
             cursor: Cursor::Set {
                 container,

@@ -6,6 +6,7 @@ mod accepts;
 mod answers;
 mod call;
 mod call_kinds;
+mod class;
 mod content;
 mod cursor;
 mod cursor_calls;
@@ -21,16 +22,22 @@ mod script;
 mod sequence;
 mod set;
 mod set_calls;
+mod table;
 #[cfg(test)]
 mod tests;
 mod world;
 
 pub use accepts::{has_room, is_declared};
 pub use answers::apply;
-pub use call::{Call, Containers, DictCall, ListCall, SetCall};
+pub use call::{Call, Containers, DictCall, ListCall, SetCall, TableChange};
+pub use class::{
+    CLASS_COUNT, GREATEST_CLASS, LEAST_CLASS, MOST_ELEMENTS, MOST_ITEMS, MOST_PAIRS, class_for,
+    classes_are_bounded, dict_class, dict_entries, list_class, list_items, set_class, set_entries,
+    table_of_copy, taken_by_copy, taken_by_dict, taken_by_list, taken_by_set,
+};
 pub use content::{Content, DictPair, Element};
 pub use cursor::{Cursor, Walk};
-pub use cursor_calls::{Step, advance};
+pub use cursor_calls::{Advanced, advance};
 pub use data::{Key, Sym, Value};
 pub use dict::Dict;
 pub use entry::{Entry, Rule, Storage};
@@ -39,4 +46,5 @@ pub use reply::{Keys, Pairs, Raise, Reply, Values};
 pub use script::{Declaration, Kind, Script, ScriptParts, Text, Thread};
 pub use sequence::Sequence;
 pub use set::Set;
+pub use table::KeptTable;
 pub use world::{Hands, World};

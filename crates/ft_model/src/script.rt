@@ -46,7 +46,7 @@ pub struct ScriptParts {
     pub threads: Sequence<Thread>,
     /// The distinct strings.
     pub strings: Sequence<Text>,
-    /// How many tables there are of each class, from class 3 to class 12.
+    /// How many tables there are of each class, from the least class on.
     pub tables: Sequence<u32>,
     /// How many places the heap of each thread has.
     pub heap: u32,

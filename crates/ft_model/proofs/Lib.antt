@@ -11,3 +11,5 @@ pub mod SetLaws
 pub mod ListLaws
 pub mod CursorLaws
 pub mod ClassLemmas
+pub mod KnownKeys
+pub mod FewSerials

@@ -13,3 +13,4 @@ pub mod Histories
 pub mod Judging
 pub mod Numbers
 pub mod Parts
+pub mod Serials

@@ -11,12 +11,11 @@ use Rattle.ft_model.specs.declared.cursor.Cursor.{Cursor}
 use Rattle.ft_model.specs.declared.entry.Entry.{Entry}
 use Rattle.ft_model.specs.declared.entry.Storage.{Storage}
 use Rattle.ft_model.specs.declared.script.ScriptParts.{ScriptParts}
-use Rattle.ft_model.specs.Answers.{answer, after_write, is_memory}
-use Rattle.ft_model.specs.Chronicles.{IsChronicle}
-use Rattle.ft_model.specs.Histories.{writes, world_at, entries_of, cursors_of, hands_at, sections_at, after_section, innermost, IsReplied, IsAnswered, IsWhole, Section, names, disturbs, is_disturbed, is_marked, marks_between, IsKeptBy, IsCountedBy, IsKept, IsCounted, IsMarked, has_call_on, needs_at}
+use Rattle.ft_model.specs.Answers.{answer, world_by}
+use Rattle.ft_model.specs.Histories.{writes, world_at, entries_of, cursors_of, hands_by, hands_at, sections_at, after_section, innermost, IsReplied, IsAnswered, IsWhole, Section, names, disturbs, is_disturbed, is_marked, marks_between, IsKeptBy, IsCountedBy, IsKept, IsCounted, IsMarked, IsEarnedAt, IsChronicle, has_call_on, needs_at}
 use Rattle.ft_model.specs.Numbers.{begins_of}
 use Rattle.ft_model.specs.Tables.{IsEarned}
-use Rattle.ft_model.specs.Worlds.{start_world, start_hands, containers_used}
+use Rattle.ft_model.specs.Worlds.{kinds_of, containers_used}
 use Rattle.ft_history.proofs.FilteredParts.{any_passed, count_passed}
 use Rattle.ft_history.proofs.Numbered.{written, IsNumbered, writes_before_entry, mine_before, written_between, mine_between}
 use Rattle.ft_history.proofs.OpenSections.{IsOpened, AreOpened, are_opened, same_innermost_after, same_ended}
@@ -30,10 +29,6 @@ pub record Agree (script : ScriptParts) (one other : List Entry) : Type 0 where
   pub same_threads : (thread : ℕ) → entries_of thread one ≡ entries_of thread other
   -- each entry of the second list stands in the first
   pub found : (place : ℕ) (entry : Entry) → slice_get other place ≡ Some entry → (there : ℕ) × (slice_get one there ≡ Some entry)
-
--- the hands that an entry leaves, by the writes of the list
-abbrev after_entry_by : ScriptParts → List Call → List (Option Cursor) → Entry → List (Option Cursor)
-after_entry_by script calls hands entry = if is_memory entry.reply then hands else (answer (fold after_write (start_world script.containers) (take entry.stamp calls)) hands entry.call).hands
 
 disturbs_by_writes : (thread : ℕ) (containers : List ℕ) (e : Entry) → disturbs thread containers e ≡ true → e.wrote ≡ true
 disturbs_by_writes thread containers e disturbed = (and_parts e.wrote (not (e.thread == thread)) (and_parts (e.wrote && not (e.thread == thread)) (list_any (λ container. names container e.call) containers) disturbed).0).0
@@ -56,12 +51,12 @@ module _ (script : ScriptParts) (one other : List Entry) (agree : Agree script o
       ∙ sym (mine_before script other agree.other_whole place' entry at')
 
   same_world : world_at script one entry.stamp ≡ world_at script other entry.stamp
-  same_world = ap (λ (cs : List Call). fold after_write (start_world script.containers) (take entry.stamp cs)) same_calls
+  same_world = ap (λ (cs : List Call). world_by (kinds_of script.containers) (take entry.stamp cs)) same_calls
 
   same_hands : hands_at script one entry.thread place ≡ hands_at script other entry.thread place'
   same_hands =
-      ap (λ (cs : List Call). fold (after_entry_by script cs) (start_hands (cursors_of script entry.thread)) (entries_of entry.thread (take place one))) same_calls
-      ∙ ap (fold (after_entry_by script (writes other)) (start_hands (cursors_of script entry.thread))) same_mine
+      ap (λ (cs : List Call). hands_by (kinds_of script.containers) cs (cursors_of script entry.thread) (entries_of entry.thread (take place one))) same_calls
+      ∙ ap (hands_by (kinds_of script.containers) (writes other) (cursors_of script entry.thread)) same_mine
 
   answered : IsAnswered script one place entry → IsAnswered script other place' entry
   answered is =
@@ -141,8 +136,10 @@ module _ (script : ScriptParts) (one other : List Entry) (agree : Agree script o
   counted is = same_ended one other entry.thread place place' (λ section. IsCountedBy one entry.thread place section entry.reply) (λ section. IsCountedBy other entry.thread place' section entry.reply)
       (λ section section' begun is_opened is_opened'. counted_by section section' begun is_opened is_opened' entry.reply) entry.call (sections_at one entry.thread place) (sections_at other entry.thread place') begins opened opened' is
 
-  earned : (storage : Storage) → IsEarned storage script (writes (take place one)) entry → IsEarned storage script (writes (take place' other)) entry
-  earned storage is = subst (λ cs. IsEarned storage script cs entry) same_before is
+  earned : (storage : Storage) → IsEarnedAt storage script one place entry → IsEarnedAt storage script other place' entry
+  earned storage is =
+      subst (λ es. IsEarned storage script (writes (take place' other)) es entry) same_mine
+      (subst (λ cs. IsEarned storage script cs (entries_of entry.thread (take place one)) entry) same_before is)
 
 pub chronicle_of_agreement : (storage : Storage) (script : ScriptParts) (one other : List Entry) → Agree script one other → IsChronicle storage script one → IsChronicle storage script other
 chronicle_of_agreement storage script one other agree chronicle =

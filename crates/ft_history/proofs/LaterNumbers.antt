@@ -12,12 +12,11 @@ use Rattle.ft_model.specs.declared.entry.Storage.{Storage}
 use Rattle.ft_model.specs.declared.reply.Reply.{Reply}
 use Rattle.ft_model.specs.declared.reply.Reply.TheVariants as reply
 use Rattle.ft_model.specs.declared.script.ScriptParts.{ScriptParts}
-use Rattle.ft_model.specs.Answers.{answer, after_write, is_memory}
-use Rattle.ft_model.specs.Histories.{cursors_of, IsReplied}
-use Rattle.ft_model.specs.Numbers.{world_after, after_stamped, hands_after, number_after, after_begins, begins_of, begun_containers, IfEndsBegin, needs_after, IsKeptFrom, IsRightAfter}
-use Rattle.ft_model.specs.Numbers.{IsFitting}
-use Rattle.ft_model.specs.Tables.{IsEarned}
-use Rattle.ft_model.specs.Worlds.{start_world, start_hands, containers_used}
+use Rattle.ft_model.specs.Answers.{answer, world_by, is_memory}
+use Rattle.ft_model.specs.Histories.{cursors_of, after_stamped, IsReplied}
+use Rattle.ft_model.specs.Numbers.{world_after, hands_after, number_after, after_begins, begins_of, begun_containers, IfEndsBegin, needs_after, IsKeptFrom, IsRightAfter}
+use Rattle.ft_model.specs.Tables.{IsEarned, IsFitting}
+use Rattle.ft_model.specs.Worlds.{kinds_of, start_hands, containers_used}
 use Rattle.ft_history.proofs.Places.{slice_get_left}
 
 stamp_within : (entry : Entry) (n : ℕ) → number_after entry ≤ n → entry.stamp ≤ n
@@ -25,13 +24,13 @@ stamp_within entry n low = elim entry.wrote as (λ b. cond {A = ℕ} b (entry.st
 
 module _ (script : ScriptParts) (calls more : List Call) where
   same_world : (n : ℕ) → n ≤ length calls → world_after script calls n ≡ world_after script (calls ++ more) n
-  same_world n low = ap (fold after_write (start_world script.containers)) (sym (take-append-le n calls more low))
+  same_world n low = ap (world_by (kinds_of script.containers)) (sym (take-append-le n calls more low))
 
-  same_after : (hands : List (Option Cursor)) (before : List Entry) → All (λ earlier. earlier.stamp ≤ length calls) before → fold (after_stamped script calls) hands before ≡ fold (after_stamped script (calls ++ more)) hands before
+  same_after : (hands : List (Option Cursor)) (before : List Entry) → All (λ earlier. earlier.stamp ≤ length calls) before → fold (after_stamped (kinds_of script.containers) calls) hands before ≡ fold (after_stamped (kinds_of script.containers) (calls ++ more)) hands before
   same_after hands [] low = refl
   same_after hands (entry ∷ before) low =
-      ap (λ w. fold (after_stamped script calls) (cond (is_memory entry.reply) hands (answer w hands entry.call).hands) before) (same_world entry.stamp (All-head (λ (e : Entry). e.stamp ≤ length calls) entry before low))
-      ∙ same_after (after_stamped script (calls ++ more) hands entry) before (All-tail (λ (e : Entry). e.stamp ≤ length calls) entry before low)
+      ap (λ w. fold (after_stamped (kinds_of script.containers) calls) (cond (is_memory entry.reply) hands (answer w hands entry.call).hands) before) (same_world entry.stamp (All-head (λ (e : Entry). e.stamp ≤ length calls) entry before low))
+      ∙ same_after (after_stamped (kinds_of script.containers) (calls ++ more) hands entry) before (All-tail (λ (e : Entry). e.stamp ≤ length calls) entry before low)
 
 module _ (storage : Storage) (script : ScriptParts) (calls more : List Call) (before : List Entry) (entry : Entry) (is : IsRightAfter storage script calls before entry) where
   same_calls : take entry.stamp calls ≡ take entry.stamp (calls ++ more)
@@ -50,9 +49,9 @@ module _ (storage : Storage) (script : ScriptParts) (calls more : List Call) (be
   kept_from begun said kept = tt
 
   kept_later : (called : Call) (begins : List Entry) → IfEndsBegin begins called (λ begun. IsKeptFrom calls before begun entry.stamp entry.reply) → IfEndsBegin begins called (λ begun. IsKeptFrom (calls ++ more) before begun entry.stamp entry.reply)
-  kept_later called [] kept = tt
+  kept_later call.End [] kept = tt
   kept_later call.End (begun ∷ begins) kept = kept_from begun entry.reply kept
-  kept_later called (begun ∷ begins) kept = tt
+  kept_later called begins kept = tt
 
   pub right_stays : IsRightAfter storage script (calls ++ more) before entry
   right_stays =
@@ -66,6 +65,6 @@ module _ (storage : Storage) (script : ScriptParts) (calls more : List Call) (be
             ∙ ap (λ hands. (answer (world_after script (calls ++ more) entry.stamp) hands entry.call).reply) same_hands) is.reply;
         kept = kept_later entry.call (begins_of before) is.kept;
         counted = is.counted;
-        earned = subst (λ cs. IsEarned storage script cs entry) same_calls is.earned;
+        earned = subst (λ cs. IsEarned storage script cs before entry) same_calls is.earned;
         fitting = subst (λ cs. IsFitting storage script cs entry) same_calls is.fitting;
       }

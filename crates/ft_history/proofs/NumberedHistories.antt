@@ -139,12 +139,14 @@ module _ (storage : Storage) (script : ScriptParts) (calls : List Call) (entries
   legal_by_numbers =
       record {
         order = sorted;
-        whole = whole;
-        answered = λ place entry at. (each place entry at).answered;
-        marked = λ place entry at. (each place entry at).marked;
-        kept = λ place entry at. (each place entry at).kept;
-        counted = λ place entry at. (each place entry at).counted;
-        earned = λ place entry at. (each place entry at).earned;
+        chronicle = record {
+          whole = whole;
+          answered = λ place entry at. (each place entry at).answered;
+          marked = λ place entry at. (each place entry at).marked;
+          kept = λ place entry at. (each place entry at).kept;
+          counted = λ place entry at. (each place entry at).counted;
+          earned = λ place entry at. (each place entry at).earned;
+        };
       }
 
   pub fitting_by_numbers : AreFitting storage script history
@@ -154,16 +156,16 @@ module _ (storage : Storage) (script : ScriptParts) (calls : List Call) (entries
 
 module _ (storage : Storage) (script : ScriptParts) (history : List Entry) (legal : IsLegal storage script history) (fits : AreFitting storage script history) where
   stamped : IsNumbered history
-  stamped place entry at = (legal.answered place entry at).stamp
+  stamped place entry at = (legal.chronicle.answered place entry at).stamp
 
   legal_each : EachAt history (IsLegalAt storage script history)
   legal_each place entry at =
       record {
-        answered = legal.answered place entry at;
-        marked = legal.marked place entry at;
-        kept = legal.kept place entry at;
-        counted = legal.counted place entry at;
-        earned = legal.earned place entry at;
+        answered = legal.chronicle.answered place entry at;
+        marked = legal.chronicle.marked place entry at;
+        kept = legal.chronicle.kept place entry at;
+        counted = legal.chronicle.counted place entry at;
+        earned = legal.chronicle.earned place entry at;
         fitting = fits place entry at;
       }
 
@@ -180,7 +182,7 @@ module _ (storage : Storage) (script : ScriptParts) (history : List Entry) (lega
       subst (λ (es : List Entry). P es entry) before (each origin.0 entry origin.1)
 
   wrote : EachAt history (λ place entry. entry.wrote ≡ is_write entry.call entry.reply)
-  wrote place entry at = (legal.answered place entry at).wrote
+  wrote place entry at = (legal.chronicle.answered place entry at).wrote
 
   pub numbers_of_legal : AreNumbered storage script (writes history) history
   numbers_of_legal =
@@ -188,13 +190,13 @@ module _ (storage : Storage) (script : ScriptParts) (history : List Entry) (lega
         threads = λ thread.
             record {
               own = λ k d low. eqb-true (get_or (entries_of thread history) k d).thread thread (filter_passes (λ (e : Entry). e.thread == thread) history k d low);
-              indexes = legal.whole.indexes thread;
+              indexes = legal.chronicle.whole.indexes thread;
               numbers = All-filter (λ (e : Entry). e.thread == thread) (λ (e : Entry). e.wrote ≡ true → slice_get (writes history) e.stamp ≡ Some e.call) history (λ k d low. call_at history stamped k (get_or history k d) (slice_get-get_or history k d low));
-              right = among_mine (IsRightAfter storage script (writes history)) (λ place entry at. right_after script history legal.whole stamped wrote place entry at storage (legal_each place entry at)) thread;
+              right = among_mine (IsRightAfter storage script (writes history)) (λ place entry at. right_after script history legal.chronicle.whole stamped wrote place entry at storage (legal_each place entry at)) thread;
             };
         once = λ number low.
             count_both (λ (e : Entry). e.wrote) (λ (e : Entry). e.stamp == number) history
             ∙ counted_once (λ (e : Entry). e.stamp) (written history) 0 (length (writes history)) (write_numbers history stamped) number (omega arith) (omega arith);
-        made = legal.whole.calls;
-        marked = among_mine (IsMarkedAfter script (writes history)) (λ place entry at. marked_after script history legal.whole stamped wrote place entry at (legal.marked place entry at));
+        made = legal.chronicle.whole.calls;
+        marked = among_mine (IsMarkedAfter script (writes history)) (λ place entry at. marked_after script history legal.chronicle.whole stamped wrote place entry at (legal.chronicle.marked place entry at));
       }

@@ -17,10 +17,9 @@ use Rattle.ft_model.specs.declared.reply.Reply.TheVariants as reply
 use Rattle.ft_model.specs.declared.script.ScriptParts.{ScriptParts}
 use Rattle.ft_model.specs.Answers.{is_raised, is_write}
 use Rattle.ft_model.specs.Calls.{containers_of}
-use Rattle.ft_model.specs.Histories.{writes, entries_of, hands_at, sections_at, IsAnswered, IsWhole, EachAt, Section, disturbs, names, is_disturbed, is_marked, marks_between, IsKeptBy, IsCountedBy, IsKept, IsCounted, IsMarked, has_call_on, needs_at}
-use Rattle.ft_model.specs.Numbers.{number_after, begins_of, needs_after, is_number, IsKeptFrom, IsCountedAs, IsRightAfter, IsMarkedAfter}
-use Rattle.ft_model.specs.Numbers.{IsFitting}
-use Rattle.ft_model.specs.Tables.{IsEarned}
+use Rattle.ft_model.specs.Histories.{writes, entries_of, hands_at, sections_at, IsAnswered, IsWhole, EachAt, Section, disturbs, names, is_disturbed, is_marked, marks_between, IsKeptBy, IsCountedAs, IsCountedBy, IsKept, IsCounted, IsMarked, IsEarnedAt, has_call_on, needs_at}
+use Rattle.ft_model.specs.Numbers.{number_after, begins_of, needs_after, is_number, marks_since, IsKeptFrom, IsRightAfter, IsMarkedAfter}
+use Rattle.ft_model.specs.Tables.{IsEarned, IsFitting}
 use Rattle.ft_model.specs.Worlds.{containers_used}
 use Rattle.ft_history.proofs.Agreement.{marks_are_mine}
 use Rattle.ft_history.proofs.FilteredParts.{count_passed, passed_at, passed_before, passed_between}
@@ -75,7 +74,7 @@ pub record IsLegalAt (storage : Storage) (script : ScriptParts) (entries : List 
   pub marked : IsMarked script entries place entry
   pub kept : IsKept entries place entry
   pub counted : IsCounted entries place entry
-  pub earned : IsEarned storage script (writes (take place entries)) entry
+  pub earned : IsEarnedAt storage script entries place entry
   pub fitting : IsFitting storage script (writes (take place entries)) entry
 
 module _ (script : ScriptParts) (entries : List Entry) (whole : IsWhole script entries) (numbered : IsNumbered entries) (wrote : EachAt entries (λ place entry. entry.wrote ≡ is_write entry.call entry.reply)) (place : ℕ) (entry : Entry) (at : slice_get entries place ≡ Some entry) where
@@ -132,7 +131,7 @@ module _ (script : ScriptParts) (entries : List Entry) (whole : IsWhole script e
       (ap (is_number other.stamp) (get_or_from_slice_get before k other other here) ∙ and_from other.wrote (other.stamp == other.stamp) write (eq-eqb other.stamp other.stamp refl))
 
   module _ (section : Section) (begun : Entry) (is_opened : IsOpened entries entry.thread place section begun) where
-    same_marks : count_by (is_marked entry.thread) (drop begun.index before) ≡ marks_between entries entry.thread place section
+    same_marks : marks_since entry.thread before begun ≡ marks_between entries entry.thread place section
     same_marks =
         let start = section.begun + 1 in
         let mine = λ (e : Entry). e.thread == entry.thread in
@@ -247,15 +246,11 @@ module _ (script : ScriptParts) (entries : List Entry) (whole : IsWhole script e
     kept_back reply.Kept kept = kept_from kept
     kept_back said kept = tt
 
-    counted_by : (said : Reply) → IsCountedAs (count_by (is_marked entry.thread) (drop begun.index before)) said → IsCountedBy entries entry.thread place section said
-    counted_by reply.Kept counted = sym same_marks ∙ counted
-    counted_by (reply.Suspended count) counted = (counted.0, sym same_marks ∙ counted.1)
-    counted_by said counted = tt
+    counted_by : (said : Reply) → IsCountedAs (marks_since entry.thread before begun) said → IsCountedBy entries entry.thread place section said
+    counted_by said counted = subst (λ marks. IsCountedAs marks said) same_marks counted
 
-    counted_back : (said : Reply) → IsCountedBy entries entry.thread place section said → IsCountedAs (count_by (is_marked entry.thread) (drop begun.index before)) said
-    counted_back reply.Kept counted = same_marks ∙ counted
-    counted_back (reply.Suspended count) counted = (counted.0, same_marks ∙ counted.1)
-    counted_back said counted = tt
+    counted_back : (said : Reply) → IsCountedBy entries entry.thread place section said → IsCountedAs (marks_since entry.thread before begun) said
+    counted_back said counted = subst (λ marks. IsCountedAs marks said) (sym same_marks) counted
 
   -- ---- both ways
 
@@ -272,9 +267,9 @@ module _ (script : ScriptParts) (entries : List Entry) (whole : IsWhole script e
               ended_by_begin entries entry.thread place (λ begun. IsKeptFrom (writes entries) before begun entry.stamp entry.reply) (λ section. IsKeptBy entries entry.thread place section entry.reply)
               (λ section begun is_opened. kept_by section begun is_opened entry.reply) entry.call (sections_at entries entry.thread place) (begins_of before) opened right.kept;
           counted =
-              ended_by_begin entries entry.thread place (λ begun. IsCountedAs (count_by (is_marked entry.thread) (drop begun.index before)) entry.reply) (λ section. IsCountedBy entries entry.thread place section entry.reply)
+              ended_by_begin entries entry.thread place (λ begun. IsCountedAs (marks_since entry.thread before begun) entry.reply) (λ section. IsCountedBy entries entry.thread place section entry.reply)
               (λ section begun is_opened. counted_by section begun is_opened entry.reply) entry.call (sections_at entries entry.thread place) (begins_of before) opened right.counted;
-          earned = subst (λ cs. IsEarned storage script cs entry) same_calls right.earned;
+          earned = subst (λ cs. IsEarned storage script cs before entry) same_calls right.earned;
           fitting = subst (λ cs. IsFitting storage script cs entry) same_calls right.fitting;
         }
 
@@ -295,8 +290,8 @@ module _ (script : ScriptParts) (entries : List Entry) (whole : IsWhole script e
               begin_of_ended entries entry.thread place (λ begun. IsKeptFrom (writes entries) before begun entry.stamp entry.reply) (λ section. IsKeptBy entries entry.thread place section entry.reply)
               (λ section begun is_opened. kept_back section begun is_opened entry.reply) entry.call (sections_at entries entry.thread place) (begins_of before) opened is.kept;
           counted =
-              begin_of_ended entries entry.thread place (λ begun. IsCountedAs (count_by (is_marked entry.thread) (drop begun.index before)) entry.reply) (λ section. IsCountedBy entries entry.thread place section entry.reply)
+              begin_of_ended entries entry.thread place (λ begun. IsCountedAs (marks_since entry.thread before begun) entry.reply) (λ section. IsCountedBy entries entry.thread place section entry.reply)
               (λ section begun is_opened. counted_back section begun is_opened entry.reply) entry.call (sections_at entries entry.thread place) (begins_of before) opened is.counted;
-          earned = subst (λ cs. IsEarned storage script cs entry) (sym same_calls) is.earned;
+          earned = subst (λ cs. IsEarned storage script cs before entry) (sym same_calls) is.earned;
           fitting = subst (λ cs. IsFitting storage script cs entry) (sym same_calls) is.fitting;
         }

@@ -12,8 +12,7 @@ use Rattle.std.proofs.lemmas.Option.{slice_get-get_or}
 use Rattle.ft_model.specs.declared.entry.Entry.{Entry}
 use Rattle.ft_model.specs.declared.entry.Storage.{Storage}
 use Rattle.ft_model.specs.declared.script.ScriptParts.{ScriptParts}
-use Rattle.ft_model.specs.Chronicles.{IsChronicle}
-use Rattle.ft_model.specs.Histories.{history_cmp, writes, entries_of, IsWhole, IsLegal}
+use Rattle.ft_model.specs.Histories.{history_cmp, writes, entries_of, IsWhole, IsChronicle, IsLegal}
 use Rattle.ft_history.proofs.Agreement.{Agree, chronicle_of_agreement}
 use Rattle.ft_history.proofs.FilteredParts.{key_at}
 use Rattle.ft_history.proofs.Numbered.{written, IsNumbered, count_writes}
@@ -93,6 +92,4 @@ module _ (storage : Storage) (script : ScriptParts) (chronicle history : List En
       }
 
   pub legal_when_sorted : IsLegal storage script history
-  legal_when_sorted =
-      let same : IsChronicle storage script history = chronicle_of_agreement storage script chronicle history agreement is in
-      record { order = sorted; whole = same.whole; answered = same.answered; marked = same.marked; kept = same.kept; counted = same.counted; earned = same.earned }
+  legal_when_sorted = record { order = sorted; chronicle = chronicle_of_agreement storage script chronicle history agreement is }

@@ -13,3 +13,5 @@ pub mod CursorLaws
 pub mod ClassLemmas
 pub mod KnownKeys
 pub mod FewSerials
+pub mod StoredLaws
+pub mod AddingLaws

@@ -23,6 +23,7 @@ mod script;
 mod sequence;
 mod set;
 mod set_calls;
+mod stored;
 mod table;
 #[cfg(test)]
 mod tests;
@@ -48,5 +49,9 @@ pub use reply::{Keys, Pairs, Raise, Reply, Values};
 pub use script::{Declaration, Kind, Script, ScriptParts, Text, Thread};
 pub use sequence::Sequence;
 pub use set::Set;
+pub use stored::{
+    adding_raises_nothing_else, class_is_the_least, new_tables_have_room, newest_first_is_the_same,
+    tables_leave_contents_alone,
+};
 pub use table::KeptTable;
 pub use world::{Hands, World};

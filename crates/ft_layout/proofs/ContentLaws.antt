@@ -54,7 +54,7 @@ root_is_one root (Some a) None f g = absurd (let x = f.1 in omega arith)
 
 -- ---- pairs and elements
 
-pair_back : (a b : DictPair) → used_pair a ≡ used_pair b → a ≡ b
+pub pair_back : (a b : DictPair) → used_pair a ≡ used_pair b → a ≡ b
 pair_back a b e =
     let k : a.key ≡ b.key = ap (λ (u : UsedEntry). u.key) e in
     let s : a.serial ≡ b.serial = ap (λ (u : UsedEntry). u.serial) e in
@@ -63,7 +63,7 @@ pair_back a b e =
     let of : ℕ → Key → Value → DictPair = λ n x y. record { serial = n; key = x; value = y } in
     ap (λ (n : ℕ). of n a.key a.value) s ∙ (ap (λ (x : Key). of b.serial x a.value) k ∙ ap (λ (y : Value). of b.serial b.key y) v)
 
-element_back : (a b : Element) → used_element a ≡ used_element b → a ≡ b
+pub element_back : (a b : Element) → used_element a ≡ used_element b → a ≡ b
 element_back a b e =
     let k : a.key ≡ b.key = ap (λ (u : UsedEntry). u.key) e in
     let s : a.serial ≡ b.serial = ap (λ (u : UsedEntry). u.serial) e in
@@ -96,7 +96,7 @@ module _ (texts block words : List ℕ) (class class' : Option ℕ) (fill fill' 
       let same_fill : fill ≡ fill' = sym f.head.fill_is ∙ g.head.fill_is in
       let table : InDictTable texts words class g.used = subst (λ (c : Option ℕ). InDictTable texts words c g.used) (sym same_class) g.table in
       let used : f.used ≡ g.used = same_used_dict texts texts words class f.used g.used f.table table (f.filled ∙ (same_fill ∙ sym g.filled)) in
-      let pairs : dict.pairs ≡ dict'.pairs = map_back used_pair pair_back dict.pairs dict'.pairs (sym f.live ∙ (ap (filter is_live) used ∙ g.live)) in
+      let pairs : dict.pairs ≡ dict'.pairs = map_back used_pair pair_back dict.pairs dict'.pairs (sym f.entries.live ∙ (ap (filter is_live) used ∙ g.entries.live)) in
       let next : dict.next ≡ dict'.next = sym f.head.next_is ∙ g.head.next_is in
       (same_class, same_fill, ap (λ (n : ℕ). dict_with n dict.pairs) next ∙ ap (dict_with dict'.next) pairs)
 
@@ -116,7 +116,7 @@ module _ (texts block words : List ℕ) (class class' : Option ℕ) (fill fill' 
       let same_fill : fill ≡ fill' = sym f.head.fill_is ∙ g.head.fill_is in
       let table : InSetTable texts words class g.used = subst (λ (c : Option ℕ). InSetTable texts words c g.used) (sym same_class) g.table in
       let used : f.used ≡ g.used = same_used_set texts texts words class f.used g.used f.table table (f.filled ∙ (same_fill ∙ sym g.filled)) in
-      let elements : content.elements ≡ content'.elements = map_back used_element element_back content.elements content'.elements (sym f.live ∙ (ap (filter is_live) used ∙ g.live)) in
+      let elements : content.elements ≡ content'.elements = map_back used_element element_back content.elements content'.elements (sym f.entries.live ∙ (ap (filter is_live) used ∙ g.entries.live)) in
       let next : content.next ≡ content'.next = sym f.head.next_is ∙ g.head.next_is in
       (same_class, same_fill, ap (λ (n : ℕ). set_with n content.elements) next ∙ ap (set_with content'.next) elements)
 
@@ -174,18 +174,18 @@ pub stands_for_dict : (texts block words : List ℕ) (class : Option ℕ) (fill 
 stands_for_dict texts block words class fill dict f =
     let table = dict_in_order texts words class f.used f.table in
     record {
-      distinct = pairs_back (λ a b. a.key ≢ b.key) (λ a b. a.key ≢ b.key) used_pair (λ a b ne. ne) (filter is_live f.used) dict.pairs f.live table.0;
-      rising = pairs_back (λ a b. a.serial < b.serial) (λ a b. a.serial < b.serial) used_pair (λ a b lt. lt) (filter is_live f.used) dict.pairs f.live (AllPairs-filter (λ a b. a.serial < b.serial) is_live f.used table.1);
-      below = all_back (λ entry. entry.serial < dict.next) (λ pair. pair.serial < dict.next) used_pair (λ a lt. lt) (filter is_live f.used) dict.pairs f.live (All-filter is_live (λ entry. entry.serial < dict.next) f.used f.below);
+      distinct = pairs_back (λ a b. a.key ≢ b.key) (λ a b. a.key ≢ b.key) used_pair (λ a b ne. ne) (filter is_live f.used) dict.pairs f.entries.live table.0;
+      rising = pairs_back (λ a b. a.serial < b.serial) (λ a b. a.serial < b.serial) used_pair (λ a b lt. lt) (filter is_live f.used) dict.pairs f.entries.live (AllPairs-filter (λ a b. a.serial < b.serial) is_live f.used table.1);
+      below = all_back (λ entry. entry.serial < dict.next) (λ pair. pair.serial < dict.next) used_pair (λ a lt. lt) (filter is_live f.used) dict.pairs f.entries.live (All-filter is_live (λ entry. entry.serial < dict.next) f.used f.entries.below);
     }
 
 pub stands_for_set : (texts block words : List ℕ) (class : Option ℕ) (fill : ℕ) (content : SetContent) → IsSetWords texts block words class fill content → IsSet content.next content.elements
 stands_for_set texts block words class fill content f =
     let table = set_in_order texts words class f.used f.table in
     record {
-      distinct = pairs_back (λ a b. a.key ≢ b.key) (λ a b. a.key ≢ b.key) used_element (λ a b ne. ne) (filter is_live f.used) content.elements f.live table.0;
-      rising = pairs_back (λ a b. a.serial < b.serial) (λ a b. a.serial < b.serial) used_element (λ a b lt. lt) (filter is_live f.used) content.elements f.live (AllPairs-filter (λ a b. a.serial < b.serial) is_live f.used table.1);
-      below = all_back (λ entry. entry.serial < content.next) (λ element. element.serial < content.next) used_element (λ a lt. lt) (filter is_live f.used) content.elements f.live (All-filter is_live (λ entry. entry.serial < content.next) f.used f.below);
+      distinct = pairs_back (λ a b. a.key ≢ b.key) (λ a b. a.key ≢ b.key) used_element (λ a b ne. ne) (filter is_live f.used) content.elements f.entries.live table.0;
+      rising = pairs_back (λ a b. a.serial < b.serial) (λ a b. a.serial < b.serial) used_element (λ a b lt. lt) (filter is_live f.used) content.elements f.entries.live (AllPairs-filter (λ a b. a.serial < b.serial) is_live f.used table.1);
+      below = all_back (λ entry. entry.serial < content.next) (λ element. element.serial < content.next) used_element (λ a lt. lt) (filter is_live f.used) content.elements f.entries.live (All-filter is_live (λ entry. entry.serial < content.next) f.used f.entries.below);
     }
 
 -- ---- what stands for nothing
@@ -194,10 +194,10 @@ no_table : (block : List ℕ) → IsBlank block → IsBlock block None 0 0 0
 no_table block blank = subst (λ (b : List ℕ). IsBlock b None 0 0 0) (sym blank) (record { size = refl; root = refl; count_is = refl; fill_is = refl; next_is = refl; spare = (refl, refl) })
 
 pub no_dict : (texts block words : List ℕ) → IsBlank block → IsDictWords texts block words None 0 (dict_with 0 [])
-no_dict texts block words blank = record { head = no_table block blank; used = []; table = refl; filled = refl; live = refl; below = λ k d low. absurd (omega arith) }
+no_dict texts block words blank = record { head = no_table block blank; used = []; table = refl; filled = refl; entries = record { live = refl; below = λ k d low. absurd (omega arith) } }
 
 pub no_set : (texts block words : List ℕ) → IsBlank block → IsSetWords texts block words None 0 (set_with 0 [])
-no_set texts block words blank = record { head = no_table block blank; used = []; table = refl; filled = refl; live = refl; below = λ k d low. absurd (omega arith) }
+no_set texts block words blank = record { head = no_table block blank; used = []; table = refl; filled = refl; entries = record { live = refl; below = λ k d low. absurd (omega arith) } }
 
 pub no_list : (block words : List ℕ) → IsBlank block → IsListWords block words None []
 no_list block words blank = record { head = no_table block blank; table = refl }

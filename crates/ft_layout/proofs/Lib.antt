@@ -6,3 +6,6 @@ pub mod FieldLaws
 pub mod TableLaws
 pub mod LiveLaws
 pub mod KindLaws
+mod KeyedLists
+mod FollowLaws
+mod ListTableLaws

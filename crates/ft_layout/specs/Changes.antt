@@ -1,7 +1,8 @@
--- How one entry of a table changes: its words alone, while its key and serial stay.
+-- How one entry or one item of a table changes: its words alone. An entry's key and serial stay. (profile)
 use Rattle.std.specs.Prelude.{◌≡◌, ℕ, ◌<◌, ◌≤◌, false, List, length, map, filter, remove, IsTrue, ◌⊎◌, slice_index, slice_index_or, slice_set}
-use Rattle.ft_layout.specs.Words.{IsEntry}
-use Rattle.ft_layout.specs.Tables.{entry_at, entry_word, table_length, UsedEntry, is_live, hash_of, slot_of}
+use Rattle.ft_layout.specs.declared.slot.Stored.{Stored}
+use Rattle.ft_layout.specs.Words.{IsEntry, IsItem}
+use Rattle.ft_layout.specs.Tables.{entry_at, entry_word, item_at, item_word, table_length, UsedEntry, is_live, hash_of, slot_of}
 
 -- a table of this length all whose words are 0 but the second, its goal
 pub record IsBlankTable (mask : ℕ) (words : List ℕ) : Type 0 where
@@ -24,6 +25,16 @@ pub record SaysUsed (texts : List ℕ) (mask : ℕ) (words : List ℕ) (place : 
   pub says : IsEntry (entry_word mask words place) (slot_of texts entry)
   pub hash : entry_word mask words place 1 ≡ hash_of texts entry.key
   pub spare : entry_word mask words place 7 ≡ 0
+
+-- only words of the item at this place changed
+pub record ChangesItem (place : ℕ) (old new : List ℕ) : Type 0 where
+  pub size : length new ≡ length old
+  pub rest : (i : ℕ) → (i < item_at place 0) ⊎ (item_at place 4 ≤ i) → slice_index new i ≡ slice_index old i
+
+-- the words of the item at this place store this
+pub record SaysStored (words : List ℕ) (place : ℕ) (stored : Stored) : Type 0 where
+  pub says : IsItem (item_word words place) stored
+  pub spare : item_word words place 3 ≡ 0
 
 -- Where `of` makes used entries of pairs, or of elements, and the live ones are those: the entry at the place is that of pair number k. With another pair's entry there, pair number k is that one; with a deleted entry there, it is gone.
 pub record StandsFor {Y : Type 0} (of : Y → UsedEntry) (used : List UsedEntry) (place : ℕ) (pairs : List Y) (k : ℕ) : Type 0 where

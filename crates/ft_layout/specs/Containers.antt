@@ -44,6 +44,16 @@ used_pair pair = record { key = pair.key; serial = pair.serial; stored = Some (P
 abbrev pub used_element : Element → UsedEntry
 used_element element = record { key = element.key; serial = element.serial; stored = Some Empty }
 
+-- The used entries of a dict: the live ones are its pairs, in the order of their places, and so of their serials. Each serial is below the next one, a deleted entry's too.
+pub record AreDictEntries (used : List UsedEntry) (dict : DictContent) : Type 0 where
+  pub live : filter is_live used ≡ map used_pair dict.pairs
+  pub below : All (λ entry. entry.serial < dict.next) used
+
+-- of a set likewise, with its elements
+pub record AreSetEntries (used : List UsedEntry) (set : SetContent) : Type 0 where
+  pub live : filter is_live used ≡ map used_element set.elements
+  pub below : All (λ entry. entry.serial < set.next) used
+
 -- the entries are those of the table, where there is one; else none was used
 abbrev pub InDictTable : List ℕ → List ℕ → Option ℕ → List UsedEntry → Type 0
 InDictTable texts words None used = used ≡ []
@@ -57,23 +67,21 @@ abbrev pub InListTable : List ℕ → Option ℕ → List Value → Type 0
 InListTable words None values = values ≡ []
 InListTable words (Some class) values = IsListTable (class_mask class) values words
 
--- A dict: its pairs are the live entries, in the order of their places, and so of their serials.
+-- A dict, whose entries the table has.
 pub record IsDictWords (texts block words : List ℕ) (class : Option ℕ) (fill : ℕ) (dict : DictContent) : Type 0 where
   pub head : IsBlock block class (length dict.pairs) fill dict.next
   pub used : List UsedEntry
   pub table : InDictTable texts words class used
   pub filled : length used ≡ fill
-  pub live : filter is_live used ≡ map used_pair dict.pairs
-  pub below : All (λ entry. entry.serial < dict.next) used
+  pub entries : AreDictEntries used dict
 
--- A set: its elements are the live entries, likewise.
+-- A set, likewise.
 pub record IsSetWords (texts block words : List ℕ) (class : Option ℕ) (fill : ℕ) (set : SetContent) : Type 0 where
   pub head : IsBlock block class (length set.elements) fill set.next
   pub used : List UsedEntry
   pub table : InSetTable texts words class used
   pub filled : length used ≡ fill
-  pub live : filter is_live used ≡ map used_element set.elements
-  pub below : All (λ entry. entry.serial < set.next) used
+  pub entries : AreSetEntries used set
 
 -- A list: its values are the items, each at its index. It has neither a fill nor serials.
 pub record IsListWords (block words : List ℕ) (class : Option ℕ) (values : List Value) : Type 0 where

@@ -56,6 +56,10 @@ pub record UsedEntry : Type 0 where
 abbrev pub is_live : UsedEntry → Bool
 is_live entry = is_some entry.stored
 
+-- the entry once its key was deleted
+abbrev pub deleted : UsedEntry → UsedEntry
+deleted entry = record { key = entry.key; serial = entry.serial; stored = None }
+
 -- the hash of a key, where the strings have these hashes by number
 abbrev pub hash_of : List ℕ → Key → ℕ
 hash_of texts (key.Int n) = int_hash n

@@ -3,7 +3,9 @@
 #![tactic(auto)]
 
 mod entry;
+mod follow;
 mod item;
+mod items;
 mod key;
 mod laws;
 pub mod limit;
@@ -19,7 +21,9 @@ mod tests;
 mod word;
 
 pub use entry::{entry_of, entry_words};
+pub use follow::{used_entries_follow_a_dict, used_entries_follow_a_set};
 pub use item::{item_of, item_words};
+pub use items::{changed_words_are_of_a_list, items_are_moved_one_by_one};
 pub use key::{gone_kind_of, kind_of, payload_of};
 pub use laws::{
     bank_words_are_of_one_part, changed_words_are_of_a_table, dict_words_are_of_one_dict,

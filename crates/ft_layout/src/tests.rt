@@ -1,12 +1,13 @@
 use crate::{
     Pair, Ref, Slot, Stored, announced_word, bank_words_are_of_one_part, block_start, box_start,
-    changed_words_are_of_a_table, classes_are_bounded, dict_entries, dict_words_are_of_one_dict,
-    entry_at, entry_of, entry_words, free_count_word, free_word, gone_kind_of, heap_start,
-    index_at, item_at, item_of, item_words, kind_of, list_items, list_words_are_of_one_list,
-    live_entries_stand_for_contents, lock_of, lock_word, payload_of, root_of, root_word,
-    set_entries, set_words_are_of_one_set, sizes_are_by_class, stored_kind_of, stored_payload_of,
-    table_size, table_start, table_words_are_of_one_field, words_are_of_one_content,
-    words_have_their_numbers,
+    changed_words_are_of_a_list, changed_words_are_of_a_table, classes_are_bounded, dict_entries,
+    dict_words_are_of_one_dict, entry_at, entry_of, entry_words, free_count_word, free_word,
+    gone_kind_of, heap_start, index_at, item_at, item_of, item_words, items_are_moved_one_by_one,
+    kind_of, list_items, list_words_are_of_one_list, live_entries_stand_for_contents, lock_of,
+    lock_word, payload_of, root_of, root_word, set_entries, set_words_are_of_one_set,
+    sizes_are_by_class, stored_kind_of, stored_payload_of, table_size, table_start,
+    table_words_are_of_one_field, used_entries_follow_a_dict, used_entries_follow_a_set,
+    words_are_of_one_content, words_have_their_numbers,
 };
 use ft_model::{Key, Sym, Value};
 use std::test::Fail;
@@ -230,4 +231,8 @@ fn laws_take_nothing() {
     sizes_are_by_class();
     changed_words_are_of_a_table();
     live_entries_stand_for_contents();
+    used_entries_follow_a_dict();
+    used_entries_follow_a_set();
+    changed_words_are_of_a_list();
+    items_are_moved_one_by_one();
 }

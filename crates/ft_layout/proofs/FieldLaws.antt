@@ -1,8 +1,8 @@
 -- Each word of a table is one field's, and the sizes by class are those by the last slot.
 use Rattle.std.proofs.Common.{◌≡◌, ℕ, ◌+◌, ◌-◌, ◌/◌, ◌%◌, ◌<◌, ◌≤◌, refl, ap, ◌∙◌, inl, inr, arith}
 use Rattle.std.proofs.lemmas.Bool.{cases_lt}
-use Rattle.ft_layout.specs.Words.{IsClass}
-use Rattle.ft_layout.specs.Sizes.{dict_entries, set_entries, list_items, table_size}
+use Rattle.ft_model.specs.Classes.{IsClass, dict_entries, set_entries, list_items}
+use Rattle.ft_layout.specs.Sizes.{table_size}
 use Rattle.ft_layout.specs.Tables.{dict_room, set_room, table_length, entry_at}
 use Rattle.ft_layout.specs.Fields.{Field, IsField, field_at, ItemField, IsItemField, item_field_at}
 use Rattle.ft_layout.specs.Fields.Field.{Header, Index, Entry}

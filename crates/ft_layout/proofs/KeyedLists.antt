@@ -1,5 +1,5 @@
 -- Lists whose elements have keys, each key once: what is at a key, and what is left without it.
-use Rattle.std.proofs.Common.{◌≡◌, ◌≢◌, ℕ, zero, suc, ◌+◌, ◌<◌, ◌≤◌, Bool, true, false, not, cond, ltb, List, [], ◌∷◌, ◌++◌, length, get_or, take, drop, filter, find, position, Some, None, refl, sym, ap, ◌∙◌, inl, inr, arith}
+use Rattle.std.proofs.Common.{◌≡◌, ◌≢◌, ℕ, zero, suc, ◌+◌, ◌<◌, Bool, true, false, not, cond, ltb, List, [], ◌∷◌, length, get_or, filter, find, position, Some, None, refl, sym, ap, ◌∙◌, inl, inr, arith}
 use Rattle.std.specs.Prelude.{All, AllPairs, remove, slice_get}
 use Rattle.std.specs.List.{position_or_len, list_any}
 use Rattle.std.proofs.lemmas.Bool.{cases_lt, lt-ltb}

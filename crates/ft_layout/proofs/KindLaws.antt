@@ -4,18 +4,18 @@ use Rattle.ft_model.specs.declared.content.Content.{Content}
 use Rattle.ft_model.specs.declared.content.Content.TheVariants as content
 use Rattle.ft_model.specs.declared.script.Kind.{Kind}
 use Rattle.ft_model.specs.declared.script.Kind.TheVariants as kind
-use Rattle.ft_model.specs.Tables.{Table, no_table}
+use Rattle.ft_model.specs.Tables.{TableUse, no_table}
 use Rattle.ft_model.specs.Worlds.{empty_content, kind_of, length_of, serial_of}
 use Rattle.ft_layout.specs.Containers.{IsBlank, IsBlock, StandsAs}
 use Rattle.ft_layout.proofs.ContentLaws.{one_dict, one_set, one_list, no_dict, no_set, no_list}
 
-abbrev table_with : Option ℕ → ℕ → Table
+abbrev table_with : Option ℕ → ℕ → TableUse
 table_with class fill = record { class = class; fill = fill }
 
-same_table : (a b : Table) → a.class ≡ b.class → a.fill ≡ b.fill → a ≡ b
+same_table : (a b : TableUse) → a.class ≡ b.class → a.fill ≡ b.fill → a ≡ b
 same_table a b class fill = ap (λ (c : Option ℕ). table_with c a.fill) class ∙ ap (λ (n : ℕ). table_with b.class n) fill
 
-pub one_content : (texts block words : List ℕ) (table other : Table) (a b : Content) → kind_of a ≡ kind_of b → StandsAs texts block words table a → StandsAs texts block words other b → (table ≡ other) × (a ≡ b)
+pub one_content : (texts block words : List ℕ) (table other : TableUse) (a b : Content) → kind_of a ≡ kind_of b → StandsAs texts block words table a → StandsAs texts block words other b → (table ≡ other) × (a ≡ b)
 one_content texts block words table other (content.Dict dict) (content.Dict second) same f g =
     let one = one_dict texts block words table.class other.class table.fill other.fill dict second f g in
     (same_table table other one.0 one.1, ap content.Dict one.2)
@@ -38,7 +38,7 @@ no_content texts block words kind.Set blank = no_set texts block words blank
 no_content texts block words kind.List blank = (no_list block words blank, refl)
 
 -- the block has the same words whatever the container is
-pub head_of : (texts block words : List ℕ) (table : Table) (a : Content) → StandsAs texts block words table a → IsBlock block table.class (length_of a) table.fill (serial_of a)
+pub head_of : (texts block words : List ℕ) (table : TableUse) (a : Content) → StandsAs texts block words table a → IsBlock block table.class (length_of a) table.fill (serial_of a)
 head_of texts block words table (content.Dict dict) f = f.head
 head_of texts block words table (content.Set elements) f = f.head
 head_of texts block words table (content.List values) f = subst (λ (n : ℕ). IsBlock block table.class (length_of (content.List values)) n 0) (sym f.1) f.0.head

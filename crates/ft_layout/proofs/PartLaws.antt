@@ -3,7 +3,7 @@ use Rattle.std.proofs.Common.{◌≡◌, ℕ, zero, suc, ◌+◌, ◌-◌, ◌*�
 use Rattle.std.proofs.lemmas.Bool.{cases_lt, cases_eq}
 use Rattle.std.proofs.lemmas.Bool.Decides.{nat_tests}
 use Rattle.std.proofs.Math.Nat.{mul-le-mul_right, div-mul-le_self, lt-div-mul-add, div-lt_iff_lt-mul}
-use Rattle.ft_layout.specs.Words.{IsClass}
+use Rattle.ft_model.specs.Classes.{IsClass}
 use Rattle.ft_layout.specs.Sizes.{table_size}
 use Rattle.ft_layout.specs.Starts.{count_of, block_start, heap_size, heap_start, words_below, BankSizes, Part, HasWord, bank_size}
 use Rattle.ft_layout.specs.Starts.Part.{Counter, WriteNumber, Announced, FreeCount, FreeTables, Block, FreePlaces, Box, Table}
@@ -70,8 +70,8 @@ unfolding zone zone_of
 in_zone bank Counter word is = let a = is.before in grind (arith, nat_tests)
 in_zone bank WriteNumber word is = let a = is.before in let b = is.from in grind (arith, nat_tests)
 in_zone bank (Announced pass) word is = let a = is.before in let b = is.from in let i : pass < 64 = is.is_part in grind (arith, nat_tests)
-in_zone bank (FreeCount class) word is = let a = is.before in let b = is.from in let i : IsClass class = is.is_part in grind (arith, nat_tests)
-in_zone bank (FreeTables class x) word is = let a = is.before in let b = is.from in let i : IsClass class = is.is_part.0 in let j : x < 16 = is.is_part.1 in grind (arith, nat_tests)
+in_zone bank (FreeCount class) word is = let a = is.before in let b = is.from in let i = is.is_part in let least = i.least in let most = i.greatest in grind (arith, nat_tests)
+in_zone bank (FreeTables class x) word is = let a = is.before in let b = is.from in let i = is.is_part.0 in let least = i.least in let most = i.greatest in let j : x < 16 = is.is_part.1 in grind (arith, nat_tests)
 in_zone bank (Block container) word is = let a = is.before in let b = is.from in let i : container < bank.containers = is.is_part in grind (arith, nat_tests)
 in_zone bank (FreePlaces pass place) word is =
     let a = is.before in
@@ -144,7 +144,7 @@ module _ (bank : BankSizes) (word : ℕ) where
   not_lower c m d n f g less =
       let a = in_tables c m f in
       let b = in_tables d n g in
-      let low : 3 ≤ c = f.is_part.0.0 in
+      let low : 3 ≤ c = f.is_part.0.least in
       let h = class_lower bank.tables c d low less in
       omega arith
 
@@ -177,7 +177,7 @@ module _ (bank : BankSizes) (word : ℕ) where
   same_announced p q f g = let a = f.from in let b = f.before in let c = g.from in let d = g.before in omega arith
 
   same_count : (p q : ℕ) → HasWord bank (FreeCount p) word → HasWord bank (FreeCount q) word → p ≡ q
-  same_count p q f g = let a = f.from in let b = f.before in let c = g.from in let d = g.before in let i : IsClass p = f.is_part in let j : IsClass q = g.is_part in omega arith
+  same_count p q f g = let a = f.from in let b = f.before in let c = g.from in let d = g.before in let i = f.is_part in let least = i.least in let most = i.greatest in let j = g.is_part in let low_class = j.least in let high_class = j.greatest in omega arith
 
   same_free : (p x q y : ℕ) → HasWord bank (FreeTables p x) word → HasWord bank (FreeTables q y) word → FreeTables p x ≡ FreeTables q y
   same_free p x q y f g =
@@ -185,8 +185,8 @@ module _ (bank : BankSizes) (word : ℕ) where
       let b = f.before in
       let c = g.from in
       let d = g.before in
-      let i : IsClass p = f.is_part.0 in
-      let j : IsClass q = g.is_part.0 in
+      let i = f.is_part.0 in let least = i.least in let most = i.greatest in
+      let j = g.is_part.0 in let low_class = j.least in let high_class = j.greatest in
       let low : x < 16 = f.is_part.1 in
       let less : y < 16 = g.is_part.1 in
       let class : p ≡ q = omega arith in
@@ -229,8 +229,8 @@ module _ (bank : BankSizes) (word : ℕ) where
           | inr b ↦ elim (cases_lt word 66) [
             | inl announced ↦ (Announced (word - 2), record { is_part = omega arith; from = omega arith; before = omega arith })
             | inr c ↦ elim (cases_lt word 80) [
-              | inl count ↦ (FreeCount (word - 63), record { is_part = (omega arith, omega arith); from = omega arith; before = omega arith })
-              | inr d ↦ (FreeTables ((word - 80) / 16 + 3) ((word - 80) % 16), record { is_part = ((omega arith, omega arith), omega arith); from = omega arith; before = omega arith })
+              | inl count ↦ (FreeCount (word - 63), record { is_part = record { least = omega arith; greatest = omega arith }; from = omega arith; before = omega arith })
+              | inr d ↦ (FreeTables ((word - 80) / 16 + 3) ((word - 80) % 16), record { is_part = (record { least = omega arith; greatest = omega arith }, omega arith); from = omega arith; before = omega arith })
             ]
           ]
         ]
@@ -280,7 +280,7 @@ module _ (bank : BankSizes) (word : ℕ) where
       let next : words_below bank.tables (3 + suc k) ≡ words_below bank.tables (3 + k + 1) = let n : 3 + suc k ≡ 3 + k + 1 = omega arith in ap (words_below bank.tables) n in
       elim (cases_lt word (heap_start bank.containers bank.heap bank.passes + words_below bank.tables (3 + k))) [
         | inl lower ↦ tables_word k (omega arith) low lower
-        | inr here ↦ class_word (3 + k) (omega arith, omega arith) here (omega (arith, more, next))
+        | inr here ↦ class_word (3 + k) (record { least = omega arith; greatest = omega arith }) here (omega (arith, more, next))
       ]
 
   pub some_part : word < bank_size bank → Owner
@@ -301,13 +301,13 @@ module _ (bank : BankSizes) (word : ℕ) where
   within_bank Counter is = let b = is.before in omega arith
   within_bank WriteNumber is = let b = is.before in omega arith
   within_bank (Announced pass) is = let b = is.before in let i : pass < 64 = is.is_part in omega arith
-  within_bank (FreeCount class) is = let b = is.before in let i : IsClass class = is.is_part in omega arith
-  within_bank (FreeTables class x) is = let b = is.before in let i : IsClass class = is.is_part.0 in let j : x < 16 = is.is_part.1 in omega arith
+  within_bank (FreeCount class) is = let b = is.before in let i = is.is_part in let least = i.least in let most = i.greatest in omega arith
+  within_bank (FreeTables class x) is = let b = is.before in let i = is.is_part.0 in let least = i.least in let most = i.greatest in let j : x < 16 = is.is_part.1 in omega arith
   within_bank (Block container) is = let b = is.before in let i : container < bank.containers = is.is_part in omega arith
   within_bank (FreePlaces pass x) is = let b = in_heap bank word pass x is in let h = next_stretch pass bank.passes (heap_size bank.heap) is.is_part.0 in omega arith
   within_bank (Box pass x) is = let b = in_heap_box bank word pass x is in let h = next_stretch pass bank.passes (heap_size bank.heap) is.is_part.0 in omega arith
   within_bank (Table class number) is =
       let b = in_tables bank word class number is in
-      let high : class < 17 = let i : IsClass class = is.is_part.0 in omega arith in
-      let h = class_lower bank.tables class 17 is.is_part.0.0 high in
+      let high : class < 17 = let i = is.is_part.0 in let least = i.least in let most = i.greatest in omega arith in
+      let h = class_lower bank.tables class 17 is.is_part.0.least high in
       omega arith

@@ -4,12 +4,12 @@ use Rattle.std.specs.Prelude.{sum}
 use Rattle.std.specs.List.{range_with_len}
 use Rattle.std.proofs.Math.Pow.{pow_mono}
 use Rattle.std.proofs.lemmas.List.FromFn.{sum_by-map-range_with_len_more}
-use Rattle.ft_layout.specs.Words.{IsClass}
+use Rattle.ft_model.specs.Classes.{IsClass}
 use Rattle.ft_layout.specs.Sizes.{table_size}
 use Rattle.ft_layout.specs.Starts.{count_of, words_below}
 
 pub slots_range : (class : ℕ) → IsClass class → (8 ≤ 2 ^ class) × (2 ^ class ≤ 65536)
-slots_range class is = (pow_mono is.0, pow_mono is.1)
+slots_range class is = (pow_mono is.least, pow_mono is.greatest)
 
 -- no class is below the least
 pub words_below-none : (tables : List ℕ) → words_below tables 3 ≡ 0

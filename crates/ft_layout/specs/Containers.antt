@@ -6,7 +6,7 @@ use Rattle.ft_model.specs.declared.content.Element.{Element}
 use Rattle.ft_model.specs.declared.content.Content.{Content}
 use Rattle.ft_model.specs.declared.content.Content.TheVariants as content
 use Rattle.ft_model.specs.Contents.{DictContent, SetContent}
-use Rattle.ft_model.specs.Tables.{Table}
+use Rattle.ft_model.specs.Tables.{TableUse}
 use Rattle.ft_layout.specs.declared.slot.Stored.TheVariants.{Empty, Plain}
 use Rattle.ft_layout.specs.Words.{IsRootOf}
 use Rattle.ft_layout.specs.Tables.{UsedEntry, is_live, IsDictTable, IsSetTable, IsListTable}
@@ -89,7 +89,7 @@ pub record IsListWords (block words : List ℕ) (class : Option ℕ) (values : L
   pub table : InListTable words class values
 
 -- By its kind: the words stand for the content of a container, with this class and fill of its table.
-abbrev pub StandsAs : List ℕ → List ℕ → List ℕ → Table → Content → Type 0
+abbrev pub StandsAs : List ℕ → List ℕ → List ℕ → TableUse → Content → Type 0
 StandsAs texts block words table (content.Dict dict) = IsDictWords texts block words table.class table.fill dict
 StandsAs texts block words table (content.Set set) = IsSetWords texts block words table.class table.fill set
 StandsAs texts block words table (content.List values) = IsListWords block words table.class values × (table.fill ≡ 0)

@@ -1,7 +1,7 @@
 -- Where in the bank's list of words each part lies: the words for all, a block of each container, the heap of each pass, and the tables, class by class. (profile)
 use Rattle.std.specs.Prelude.{◌≡◌, ℕ, ◌+◌, ◌-◌, ◌*◌, ◌/◌, ◌%◌, ◌<◌, ◌≤◌, List, length, map, sum, All, slice_index}
 use Rattle.std.specs.List.{range_with_len}
-use Rattle.ft_layout.specs.Words.{IsClass}
+use Rattle.ft_model.specs.Classes.{IsClass}
 use Rattle.ft_layout.specs.Sizes.{table_size}
 
 -- ---- limits

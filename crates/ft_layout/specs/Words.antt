@@ -1,10 +1,11 @@
 -- The words in which keys, stored values, entries and items are reported. (profile, all of it)
-use Rattle.std.specs.Prelude.{◌≡◌, ℕ, ◌+◌, ◌*◌, ◌^◌, ◌<◌, ◌≤◌, Option, Some, None, List, [], ◌∷◌, FitsSigned}
+use Rattle.std.specs.Prelude.{◌≡◌, ℕ, ◌+◌, ◌*◌, ◌^◌, ◌<◌, Option, Some, None, List, [], ◌∷◌, FitsSigned}
 use Rattle.std.specs.Int.{w64, cast_unsigned}
 use Rattle.ft_model.specs.declared.data.Sym.{Sym}
 use Rattle.ft_model.specs.declared.data.Key.{Key}
 use Rattle.ft_model.specs.declared.data.Key.TheVariants as key
 use Rattle.ft_model.specs.declared.data.Value.TheVariants as value
+use Rattle.ft_model.specs.Classes.{IsClass}
 use Rattle.ft_layout.specs.declared.slot.Stored.{Stored}
 use Rattle.ft_layout.specs.declared.slot.Stored.TheVariants.{Empty, Plain, Boxed}
 use Rattle.ft_layout.specs.declared.slot.Pair.{Pair}
@@ -12,10 +13,6 @@ use Rattle.ft_layout.specs.declared.slot.Slot.{Slot}
 use Rattle.ft_layout.specs.declared.slot.Slot.TheVariants.{Never, Live, Gone}
 
 -- ---- roots and locks
-
--- the classes of tables (profile)
-abbrev pub IsClass : ℕ → Type 0
-IsClass class = (3 ≤ class) × (class ≤ 16)
 
 -- the root of the table with this number among those of its class, at most 1,024; 0 is the root of a container without a table
 abbrev pub root_word : ℕ → ℕ → ℕ

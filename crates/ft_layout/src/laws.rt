@@ -5,10 +5,10 @@ ghost use Rattle.ft_model.specs.declared.content.Element.{Element};
 ghost use Rattle.ft_model.specs.declared.content.Content.{Content};
 ghost use Rattle.ft_model.specs.declared.script.Kind.{Kind};
 ghost use Rattle.ft_model.specs.Contents.{DictContent, SetContent, IsDict, IsSet};
-ghost use Rattle.ft_model.specs.Tables.{Table, no_table};
+ghost use Rattle.ft_model.specs.Tables.{TableUse, no_table};
 ghost use Rattle.ft_model.specs.Worlds.{empty_content, kind_of, length_of, serial_of};
-ghost use Rattle.ft_layout.specs.Words.{IsClass};
-ghost use Rattle.ft_layout.specs.Sizes.{dict_entries, set_entries, list_items, table_size};
+ghost use Rattle.ft_model.specs.Classes.{IsClass, dict_entries, set_entries, list_items};
+ghost use Rattle.ft_layout.specs.Sizes.{table_size};
 ghost use Rattle.ft_layout.specs.Starts.{BankSizes, Part, HasWord, bank_size};
 ghost use Rattle.ft_layout.specs.Tables.{dict_room, set_room, table_length, UsedEntry, is_live, IsTable};
 ghost use Rattle.ft_layout.specs.Changes.{IsBlankTable, KeepsKey, ChangesEntry, SaysUsed, StandsFor};
@@ -54,10 +54,10 @@ pub fn list_words_are_of_one_list()
 /// and fill of the table. The block says how many pairs, items or elements there are, and the next
 /// serial. A blank block stands for an empty content.
 pub fn words_are_of_one_content()
-    ensures one { (texts block words : List ℕ) (table other : Table) (content second : Content) →
+    ensures one { (texts block words : List ℕ) (table other : TableUse) (content second : Content) →
         kind_of content ≡ kind_of second → StandsAs texts block words table content →
         StandsAs texts block words other second → (table ≡ other) × (content ≡ second) }
-    ensures head { (texts block words : List ℕ) (table : Table) (content : Content) →
+    ensures head { (texts block words : List ℕ) (table : TableUse) (content : Content) →
         StandsAs texts block words table content →
         IsBlock block table.class (length_of content) table.fill (serial_of content) }
     ensures empty { (texts block words : List ℕ) (kind : Kind) → IsBlank block →

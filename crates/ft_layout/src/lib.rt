@@ -22,6 +22,7 @@ mod word;
 
 pub use entry::{entry_of, entry_words};
 pub use follow::{used_entries_follow_a_dict, used_entries_follow_a_set};
+pub use ft_model::{dict_entries, list_items, set_entries};
 pub use item::{item_of, item_words};
 pub use items::{changed_words_are_of_a_list, items_are_moved_one_by_one};
 pub use key::{gone_kind_of, kind_of, payload_of};
@@ -31,9 +32,9 @@ pub use laws::{
     sizes_are_by_class, table_words_are_of_one_field, words_are_of_one_content,
 };
 pub use lock::{lock_of, lock_word};
-pub use numbers::{classes_are_bounded, words_have_their_numbers};
+pub use numbers::words_have_their_numbers;
 pub use root::{root_of, root_word};
-pub use size::{dict_entries, entry_at, index_at, item_at, list_items, set_entries, table_size};
+pub use size::{entry_at, index_at, item_at, table_size};
 pub use slot::{Pair, Ref, Slot, Stored};
 pub use start::{
     COUNTER, WRITE_NUMBER, announced_word, block_start, box_start, free_count_word, free_word,

@@ -1,9 +1,5 @@
 //! How many there may be of what has words in a bank.
 
-/// The least class of tables.
-pub const LEAST_CLASS: u32 = 3;
-/// The greatest class of tables.
-pub const GREATEST_CLASS: u32 = 16;
 /// How many tables of a class there are at most.
 pub const TABLES: u32 = 1024;
 

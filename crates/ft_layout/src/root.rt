@@ -1,7 +1,9 @@
 ghost use Rattle.std.specs.Prelude.{◌≡◌, ◌↔◌, ℕ, ◌<◌, Some};
-ghost use Rattle.ft_layout.specs.Words.{IsClass, root_word, IsRootOf};
+ghost use Rattle.ft_model.specs.Classes.{IsClass};
+ghost use Rattle.ft_layout.specs.Words.{root_word, IsRootOf};
 
-use crate::limit::{GREATEST_CLASS, LEAST_CLASS, TABLES};
+use crate::limit::TABLES;
+use ft_model::{GREATEST_CLASS, LEAST_CLASS};
 
 /// What a class counts for in a root, beside the number.
 const CLASS_STEP: u64 = 65536;

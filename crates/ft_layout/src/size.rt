@@ -1,7 +1,9 @@
 ghost use Rattle.std.specs.Prelude.{◌≡◌, ℕ, ◌<◌, ◌≤◌, ◌^◌};
-ghost use Rattle.ft_layout.specs.Words.{IsClass};
-ghost use Rattle.ft_layout.specs.Sizes.{dict_entries, set_entries, list_items, table_size};
+ghost use Rattle.ft_model.specs.Classes.{IsClass};
+ghost use Rattle.ft_layout.specs.Sizes.{table_size};
 ghost use Rattle.ft_layout.specs.Tables.{index_at, entry_at, item_at};
+
+use ft_model::{dict_entries, list_items};
 
 /// How many words the header of a table has.
 const HEADER: u64 = 2;
@@ -10,47 +12,15 @@ const ENTRY: u64 = 8;
 /// How many words an item has.
 const ITEM: u64 = 4;
 
-/// How many index slots a table of this class has.
-fn slots(class: u32) -> u64
-    requires { IsClass class }
-    ensures is { result ≡ 2 ^ class }
-    ensures least { 8 ≤ result }
-    ensures most { result ≤ 65536 }
-{
-    1 << class
-}
-
-/// How many entries a dict has in a table of this class.
-pub fn dict_entries(class: u32) -> u64
-    requires { IsClass class }
-    ensures { result ≡ dict_entries class }
-{
-    2 * slots(class) / 3
-}
-
-/// How many entries a set has in a table of this class.
-pub fn set_entries(class: u32) -> u64
-    requires { IsClass class }
-    ensures { result ≡ set_entries class }
-{
-    3 * slots(class) / 5
-}
-
-/// How many items a list has in a table of this class.
-pub fn list_items(class: u32) -> u64
-    requires { IsClass class }
-    ensures { result ≡ list_items class }
-{
-    slots(class)
-}
-
-/// How many words a table of this class has.
+/// How many words a table of this class has: its header, a word for each index slot, and the entries
+/// that a dict has in it. A list has as many items as there are slots.
+#[tactic(auto, using(crate::proofs::Powers::slots_range))]
 pub fn table_size(class: u32) -> u64
     requires { IsClass class }
     ensures is { result ≡ table_size class }
     ensures most { result ≤ 415058 }
 {
-    HEADER + slots(class) + ENTRY * dict_entries(class)
+    HEADER + list_items(class) + ENTRY * dict_entries(class)
 }
 
 /// Which word of a table is this index slot.

@@ -1,9 +1,11 @@
 ghost use Rattle.std.specs.Prelude.{◌≡◌, ℕ, ◌<◌, ◌≤◌};
-ghost use Rattle.ft_layout.specs.Words.{IsClass, IsHolder};
+ghost use Rattle.ft_model.specs.Classes.{IsClass};
+ghost use Rattle.ft_layout.specs.Words.{IsHolder};
 ghost use Rattle.ft_layout.specs.Starts.{IsHeap, AreTables, count_of, announced_word, free_count_word, free_word, block_start, heap_start, box_start, table_start};
 
-use crate::limit::{CONTAINERS, LEAST_CLASS, PASSES};
+use crate::limit::{CONTAINERS, PASSES};
 use crate::size::table_size;
+use ft_model::LEAST_CLASS;
 
 /// The word that counts the writes.
 pub const COUNTER: u64 = 0;

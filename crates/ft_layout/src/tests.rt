@@ -1,6 +1,6 @@
 use crate::{
     Pair, Ref, Slot, Stored, announced_word, bank_words_are_of_one_part, block_start, box_start,
-    changed_words_are_of_a_list, changed_words_are_of_a_table, classes_are_bounded, dict_entries,
+    changed_words_are_of_a_list, changed_words_are_of_a_table, dict_entries,
     dict_words_are_of_one_dict, entry_at, entry_of, entry_words, free_count_word, free_word,
     gone_kind_of, heap_start, index_at, item_at, item_of, item_words, items_are_moved_one_by_one,
     kind_of, list_items, list_words_are_of_one_list, live_entries_stand_for_contents, lock_of,
@@ -221,7 +221,6 @@ fn keys_and_values_have_kind_and_payload(rt: HostRuntime) -> Result<(), Fail> {
 #[test]
 fn laws_take_nothing() {
     words_have_their_numbers();
-    classes_are_bounded();
     words_are_of_one_content();
     dict_words_are_of_one_dict();
     set_words_are_of_one_set();

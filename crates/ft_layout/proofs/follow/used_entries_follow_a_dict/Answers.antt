@@ -1,4 +1,4 @@
-use Rattle.std.proofs.Common.{◌≡◌, Some, ◌∙◌, sym}
+use Rattle.std.proofs.Common.{Some, ◌∙◌}
 use Rattle.ft_layout.proofs.FollowLaws.{live_pair, value_at, missing_key, changed_value, added_key, deleted_key}
 use Rattle.ft_layout.proofs.follow.used_entries_follow_a_dict.Goals as goal
 

@@ -1,4 +1,4 @@
-use Rattle.std.proofs.Common.{◌≡◌, Some, ◌∙◌}
+use Rattle.std.proofs.Common.{Some, ◌∙◌}
 use Rattle.ft_layout.proofs.FollowLaws.{live_element, present_element, kept_element, missing_element, added_element_is, deleted_element}
 use Rattle.ft_layout.proofs.follow.used_entries_follow_a_set.Goals as goal
 

@@ -41,7 +41,7 @@ stamp_below a b le = omega (arith, le, at_most_one a, at_most_one b)
 
 module _ (storage : Storage) (script : ScriptParts) (calls : List Call) (entries history : List Entry) (is : AreNumbered storage script calls entries) (moved : IsPermutation entries history) (sorted : IsSorted history_cmp history) where
   was_whole : IsWhole script entries
-  was_whole = record { calls = is.made; indexes = λ thread. (is.threads thread).indexes }
+  was_whole = record { calls = λ thread. (is.done thread).made; indexes = λ thread. (is.threads thread).indexes }
 
   thread_ranks : (thread : ℕ) → IsNonDecreasingBy rank (entries_of thread entries)
   thread_ranks thread =
@@ -133,7 +133,7 @@ module _ (storage : Storage) (script : ScriptParts) (calls : List Call) (entries
       let before = entries_of entry.thread (take place history) in
       legal_at script history whole numbered (λ place' entry' at'. (right_at place' entry' at').wrote) place entry at storage
       (subst (λ cs. IsRightAfter storage script cs before entry) (sym same_writes) (right_at place entry at))
-      (subst (λ cs. IsMarkedAfter script cs before entry) (sym same_writes) (in_history (IsMarkedAfter script calls) is.marked place entry at))
+      (subst (λ cs. IsMarkedAfter script cs before entry) (sym same_writes) (in_history (IsMarkedAfter script calls) (λ thread. (is.done thread).marked) place entry at))
 
   pub legal_by_numbers : IsLegal storage script history
   legal_by_numbers =
@@ -197,6 +197,9 @@ module _ (storage : Storage) (script : ScriptParts) (history : List Entry) (lega
         once = λ number low.
             count_both (λ (e : Entry). e.wrote) (λ (e : Entry). e.stamp == number) history
             ∙ counted_once (λ (e : Entry). e.stamp) (written history) 0 (length (writes history)) (write_numbers history stamped) number (omega arith) (omega arith);
-        made = legal.chronicle.whole.calls;
-        marked = among_mine (IsMarkedAfter script (writes history)) (λ place entry at. marked_after script history legal.chronicle.whole stamped wrote place entry at (legal.chronicle.marked place entry at));
+        done = λ thread.
+            record {
+              made = legal.chronicle.whole.calls thread;
+              marked = among_mine (IsMarkedAfter script (writes history)) (λ place entry at. marked_after script history legal.chronicle.whole stamped wrote place entry at (legal.chronicle.marked place entry at)) thread;
+            };
       }

@@ -12,8 +12,8 @@ use Rattle.ft_model.specs.declared.entry.Entry.{Entry}
 use Rattle.ft_model.specs.declared.entry.Storage.{Storage}
 use Rattle.ft_model.specs.declared.script.Thread.{Thread}
 use Rattle.ft_model.specs.declared.script.ScriptParts.{ScriptParts}
-use Rattle.ft_model.specs.Histories.{entries_of, calls_of, EachAt}
-use Rattle.ft_model.specs.Numbers.{IsMarkedAfter, IsNumberedThread, AreNumbered, AreNumberedLists, AreDone}
+use Rattle.ft_model.specs.Histories.{entries_of}
+use Rattle.ft_model.specs.Numbers.{IsNumberedThread, IsDone, AreNumbered, AreNumberedLists, AreDone}
 
 -- ---- what passes
 
@@ -89,6 +89,9 @@ module _ (storage : Storage) (script : ScriptParts) (calls : List Call) (lists :
       record {
         threads = of_thread (IsNumberedThread storage script calls) is.threads (λ thread none. no_entries storage script calls thread);
         once = is.once;
-        made = of_thread (λ thread mine. map (λ (e : Entry). e.call) mine ≡ calls_of script thread) (λ thread mine at. (done thread mine at).made) (λ thread none. sym (ap (λ (o : Option Thread). option_map_or (λ (found : Thread). found.calls) o []) none));
-        marked = of_thread (λ thread mine. EachAt mine (λ k entry. IsMarkedAfter script calls (take k mine) entry)) (λ thread mine at. (done thread mine at).marked) (λ thread none k entry at. absurd (let nothing : None ≡ Some entry = at in cc));
+        done = of_thread (IsDone script calls) done (λ thread none.
+            record {
+              made = sym (ap (λ (o : Option Thread). option_map_or (λ (found : Thread). found.calls) o []) none);
+              marked = λ k entry at. absurd (let nothing : None ≡ Some entry = at in cc);
+            });
       }

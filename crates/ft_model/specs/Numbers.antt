@@ -17,8 +17,8 @@ use Rattle.ft_model.specs.Answers.{answer, world_by, is_write}
 use Rattle.ft_model.specs.Tables.{IsEarned, IsFitting}
 use Rattle.ft_model.specs.Histories.{writes, entries_of, calls_of, cursors_of, names, has_call_on, is_marked, hands_by, EachAt, IsReplied, IsCountedAs}
 
--- In all of this file `calls` are the calls of the writes in the order of their numbers, which count from 0, and `before`
--- or `mine` are entries of one thread in its order.
+-- Here `calls` are the calls of the writes in the order of their numbers, which count from 0; `before` and `mine` are
+-- entries of one thread in its order.
 
 -- ---- what a thread finds
 
@@ -79,8 +79,8 @@ IfEndsBegin begins (call.Next cursor) P = Unit {0}
 IfEndsBegin begins (call.Begin first second) P = Unit {0}
 IfEndsBegin begins call.Quiesce P = Unit {0}
 
--- an `end` says kept only where each write on the section's containers that is numbered from the `begin`'s stamp on, and
--- below the `end`'s own, is the thread's (C API, critical sections: the locks were held all the while)
+-- an `end` says kept only where each write on the section's containers that is numbered from the `begin`'s stamp on,
+-- and below the `end`'s own, is the thread's (C API, critical sections: the locks were held all the while)
 abbrev pub IsKeptFrom : List Call → List Entry → Entry → ℕ → Reply → Type 0
 IsKeptFrom calls before begun until reply.Kept =
     (number : ℕ) (called : Call)
@@ -95,8 +95,8 @@ IsKeptFrom calls before begun until said = Unit {0}
 abbrev pub marks_since : ℕ → List Entry → Entry → ℕ
 marks_since thread before begun = count_by (is_marked thread) (drop begun.index before)
 
--- the containers whose locks a call needs: its own, and those of the section that is innermost after it (C API, critical
--- sections)
+-- the containers whose locks a call needs: its own, and those of the section that is innermost after it (C API,
+-- critical sections)
 abbrev pub needs_after : ScriptParts → List Call → List Entry → Entry → List ℕ
 needs_after script calls before entry =
     containers_used (hands_after script calls entry.thread before) entry.call
@@ -114,7 +114,8 @@ pub record IsRightAfter
   pub reply : IsReplied entry.call entry.reply (plain_reply script calls before entry)
   pub kept : IfEndsBegin (begins_of before) entry.call (λ begun. IsKeptFrom calls before begun entry.stamp entry.reply)
   pub counted :
-      IfEndsBegin (begins_of before) entry.call (λ begun. IsCountedAs (marks_since entry.thread before begun) entry.reply)
+      IfEndsBegin (begins_of before) entry.call
+      (λ begun. IsCountedAs (marks_since entry.thread before begun) entry.reply)
   -- a MemoryError has its cause in the writes that it knows of, and stands where a table would be taken
   pub earned : IsEarned storage script (take entry.stamp calls) before entry
   pub fitting : IsFitting storage script (take entry.stamp calls) entry
@@ -134,6 +135,11 @@ pub record IsNumberedThread
   pub numbers : All (λ entry. entry.wrote ≡ true → slice_get calls entry.stamp ≡ Some entry.call) mine
   pub right : EachAt mine (λ place entry. IsRightAfter storage script calls (take place mine) entry)
 
+-- a thread has made all its calls, and its marks are right
+pub record IsDone (script : ScriptParts) (calls : List Call) (thread : ℕ) (mine : List Entry) : Type 0 where
+  pub made : map (λ entry. entry.call) mine ≡ calls_of script thread
+  pub marked : EachAt mine (λ place entry. IsMarkedAfter script calls (take place mine) entry)
+
 -- the entries of all threads, when all calls are made; nothing is said of how those of one thread stand among those of
 -- another (profile)
 pub record AreNumbered
@@ -141,11 +147,7 @@ pub record AreNumbered
   pub threads : (thread : ℕ) → IsNumberedThread storage script calls thread (entries_of thread entries)
   -- each number is that of one write
   pub once : (number : ℕ) → number < length calls → count_by (is_number number) entries ≡ 1
-  pub made : (thread : ℕ) → map (λ entry. entry.call) (entries_of thread entries) ≡ calls_of script thread
-  pub marked :
-      (thread : ℕ)
-      → EachAt (entries_of thread entries) (λ place entry.
-      IsMarkedAfter script calls (take place (entries_of thread entries)) entry)
+  pub done : (thread : ℕ) → IsDone script calls thread (entries_of thread entries)
 
 -- ---- one list for each thread
 
@@ -159,12 +161,7 @@ pub record AreNumberedLists
       → IsNumberedThread storage script calls thread mine
   pub once : (number : ℕ) → number < length calls → count_by (is_number number) (flat_map (λ mine. mine) lists) ≡ 1
 
--- a thread has made all its calls, and its marks are right
-pub record IsDone (script : ScriptParts) (calls : List Call) (thread : ℕ) (mine : List Entry) : Type 0 where
-  pub made : map (λ entry. entry.call) mine ≡ calls_of script thread
-  pub marked : EachAt mine (λ place entry. IsMarkedAfter script calls (take place mine) entry)
-
--- so have all threads
+-- all threads are done
 abbrev pub AreDone : ScriptParts → List Call → List (List Entry) → Type 0
 AreDone script calls lists =
     (thread : ℕ) (mine : List Entry) → slice_get lists thread ≡ Some mine → IsDone script calls thread mine

@@ -15,8 +15,8 @@ use Rattle.ft_model.specs.declared.entry.Entry.{Entry}
 use Rattle.ft_model.specs.declared.entry.Storage.{Storage}
 use Rattle.ft_model.specs.declared.script.ScriptParts.{ScriptParts}
 use Rattle.ft_model.specs.Answers.{is_write}
-use Rattle.ft_model.specs.Histories.{history_cmp, writes, entries_of, EachAt, IsWhole, IsLegal}
-use Rattle.ft_model.specs.Numbers.{number_after, is_number, IsRightAfter, IsMarkedAfter, AreNumbered, AreFitting}
+use Rattle.ft_model.specs.Histories.{history_cmp, writes, entries_of, EachAt, IsWhole, IsChronicle, IsLegal}
+use Rattle.ft_model.specs.Numbers.{number_after, is_number, IsRightAfter, IsMarkedAfter, AreNumbered, AreFitting, IsHistoryOf}
 use Rattle.ft_history.proofs.RightEntries.{IsLegalAt, call_at, legal_at, marked_after, passed_from, right_after}
 use Rattle.ft_history.proofs.Counted.{count_both, counted_once, keys_in_range}
 use Rattle.ft_history.proofs.FilteredParts.{key_at, passed_at, passed_before}
@@ -110,7 +110,7 @@ module _ (storage : Storage) (script : ScriptParts) (calls : List Call) (entries
   stamp_at k d low = key_at (λ (e : Entry). e.stamp) (written history) 0 (keys ∙ ap (range_with_len 0) (sym count_calls)) k d low ∙ omega arith
 
   -- the writes of the history are the calls, in the order of their numbers
-  pub same_writes : writes history ≡ calls
+  same_writes : writes history ≡ calls
   same_writes =
       same_lists (writes history) calls (count_writes history ∙ count_calls) (λ k d low.
       let within : k < length (written history) = omega (arith, count_writes history) in
@@ -135,22 +135,19 @@ module _ (storage : Storage) (script : ScriptParts) (calls : List Call) (entries
       (subst (λ cs. IsRightAfter storage script cs before entry) (sym same_writes) (right_at place entry at))
       (subst (λ cs. IsMarkedAfter script cs before entry) (sym same_writes) (in_history (IsMarkedAfter script calls) (λ thread. (is.done thread).marked) place entry at))
 
-  pub legal_by_numbers : IsLegal storage script history
-  legal_by_numbers =
+  chronicle : IsChronicle storage script history
+  chronicle =
       record {
-        order = sorted;
-        chronicle = record {
-          whole = whole;
-          answered = λ place entry at. (each place entry at).answered;
-          marked = λ place entry at. (each place entry at).marked;
-          kept = λ place entry at. (each place entry at).kept;
-          counted = λ place entry at. (each place entry at).counted;
-          earned = λ place entry at. (each place entry at).earned;
-        };
+        whole = whole;
+        answered = λ place entry at. (each place entry at).answered;
+        marked = λ place entry at. (each place entry at).marked;
+        kept = λ place entry at. (each place entry at).kept;
+        counted = λ place entry at. (each place entry at).counted;
+        earned = λ place entry at. (each place entry at).earned;
       }
 
-  pub fitting_by_numbers : AreFitting storage script history
-  fitting_by_numbers place entry at = (each place entry at).fitting
+  pub history_by_numbers : IsHistoryOf storage script calls history
+  history_by_numbers = record { legal = record { order = sorted; chronicle = chronicle }; fitting = λ place entry at. (each place entry at).fitting; written = same_writes }
 
 -- ---- from a legal history
 
@@ -184,7 +181,7 @@ module _ (storage : Storage) (script : ScriptParts) (history : List Entry) (lega
   wrote : EachAt history (λ place entry. entry.wrote ≡ is_write entry.call entry.reply)
   wrote place entry at = (legal.chronicle.answered place entry at).wrote
 
-  pub numbers_of_legal : AreNumbered storage script (writes history) history
+  numbers_of_legal : AreNumbered storage script (writes history) history
   numbers_of_legal =
       record {
         threads = λ thread.
@@ -203,3 +200,6 @@ module _ (storage : Storage) (script : ScriptParts) (history : List Entry) (lega
               marked = among_mine (IsMarkedAfter script (writes history)) (λ place entry at. marked_after script history legal.chronicle.whole stamped wrote place entry at (legal.chronicle.marked place entry at)) thread;
             };
       }
+
+pub numbers_of_history : (storage : Storage) (script : ScriptParts) (calls : List Call) (history : List Entry) → IsHistoryOf storage script calls history → AreNumbered storage script calls history
+numbers_of_history storage script calls history is = subst (λ cs. AreNumbered storage script cs history) is.written (numbers_of_legal storage script history is.legal is.fitting)

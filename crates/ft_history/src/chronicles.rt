@@ -5,8 +5,7 @@ ghost use Rattle.std.specs.Ordering.{is_lt};
 ghost use Rattle.ft_model.specs.declared.entry.Entry.{Entry};
 ghost use Rattle.ft_model.specs.declared.entry.Storage.{Storage};
 ghost use Rattle.ft_model.specs.declared.script.ScriptParts.{ScriptParts};
-ghost use Rattle.ft_model.specs.Histories.{IsChronicle};
-ghost use Rattle.ft_model.specs.Histories.{history_cmp, IsLegal};
+ghost use Rattle.ft_model.specs.Histories.{history_cmp, IsChronicle, IsLegal};
 
 use crate::merging::history_order;
 use ft_model::Entry;

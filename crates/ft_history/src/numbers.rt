@@ -1,5 +1,6 @@
-//! From entries that know of one another by the numbers of the writes to a history. The functions do
-//! nothing: their contracts are the laws.
+//! From the entries of threads that run beside each other to one history, for whoever notes them
+//! thread by thread: each is right by its own thread's entries and by the numbers of the writes. The
+//! functions do nothing: their contracts are the laws.
 ghost use Rattle.std.specs.Prelude.{◌≡◌, ◌≢◌, ◌++◌, ◌∷◌, [], ℕ, List, Option, Some, length, replicate, slice_get, slice_set};
 ghost use Rattle.std.specs.List.{flat_map};
 ghost use Rattle.std.specs.List.Sorted.{IsPermutation, IsSorted};
@@ -12,22 +13,19 @@ ghost use Rattle.ft_model.specs.declared.entry.Storage.{Storage};
 ghost use Rattle.ft_model.specs.declared.script.ScriptParts.{ScriptParts};
 ghost use Rattle.ft_model.specs.Answers.{answer};
 ghost use Rattle.ft_model.specs.Worlds.{no_hands};
-ghost use Rattle.ft_model.specs.Histories.{history_cmp, writes, IsLegal};
-ghost use Rattle.ft_model.specs.Numbers.{calls_after, needs_after, IsRightAfter, IsNextEntry, AreNumbered, AreNumberedLists, AreDone, AreFitting};
+ghost use Rattle.ft_model.specs.Histories.{history_cmp};
+ghost use Rattle.ft_model.specs.Numbers.{calls_after, needs_after, IsRightAfter, IsNextEntry, AreNumbered, AreNumberedLists, AreDone, IsHistoryOf};
 
 /// Entries with numbers, put in the order of a history, are a legal history. Its writes are those
 /// calls, in the order of their numbers, and each MemoryError of a class stands on a call that would
 /// take a table of that class.
 pub fn numbered_entries_are_legal()
-    ensures legal { (storage : Storage) (script : ScriptParts) (calls : List Call) (entries history : List Entry) → AreNumbered storage script calls entries → IsPermutation entries history → IsSorted history_cmp history → IsLegal storage script history }
-    ensures fitting { (storage : Storage) (script : ScriptParts) (calls : List Call) (entries history : List Entry) → AreNumbered storage script calls entries → IsPermutation entries history → IsSorted history_cmp history → AreFitting storage script history }
-    ensures calls { (storage : Storage) (script : ScriptParts) (calls : List Call) (entries history : List Entry) → AreNumbered storage script calls entries → IsPermutation entries history → IsSorted history_cmp history → writes history ≡ calls }
+    ensures { (storage : Storage) (script : ScriptParts) (calls : List Call) (entries history : List Entry) → AreNumbered storage script calls entries → IsPermutation entries history → IsSorted history_cmp history → IsHistoryOf storage script calls history }
 {}
 
-/// Nothing less would do: the entries of a legal history in which MemoryErrors are fitting have the
-/// numbers of its writes.
+/// Nothing less would do: the entries of such a history have the numbers of its writes.
 pub fn legal_histories_are_numbered()
-    ensures { (storage : Storage) (script : ScriptParts) (history : List Entry) → IsLegal storage script history → AreFitting storage script history → AreNumbered storage script (writes history) history }
+    ensures { (storage : Storage) (script : ScriptParts) (calls : List Call) (history : List Entry) → IsHistoryOf storage script calls history → AreNumbered storage script calls history }
 {}
 
 /// Lists for each thread, once all threads are done, are entries with numbers.

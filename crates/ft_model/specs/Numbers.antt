@@ -15,7 +15,7 @@ use Rattle.ft_model.specs.Calls.{containers_of}
 use Rattle.ft_model.specs.Worlds.{kinds_of, containers_used}
 use Rattle.ft_model.specs.Answers.{answer, world_by, is_write}
 use Rattle.ft_model.specs.Tables.{IsEarned, IsFitting}
-use Rattle.ft_model.specs.Histories.{writes, entries_of, calls_of, cursors_of, names, has_call_on, is_marked, hands_by, EachAt, IsReplied, IsCountedAs}
+use Rattle.ft_model.specs.Histories.{writes, entries_of, calls_of, cursors_of, names, has_call_on, is_marked, hands_by, EachAt, IsReplied, IsCountedAs, IsLegal}
 
 -- Here `calls` are the calls of the writes in the order of their numbers, which count from 0; `before` and `mine` are
 -- entries of one thread in its order.
@@ -180,9 +180,16 @@ pub record IsNextEntry
   pub number : entry.wrote ≡ true → entry.stamp ≡ length calls
   pub right : IsRightAfter storage script calls mine entry
 
--- ---- beside a legal history
+-- ---- the history of the entries
 
 -- each MemoryError of a class stands on a call that would take a table of the class there (profile)
 abbrev pub AreFitting : Storage → ScriptParts → List Entry → Type 0
 AreFitting storage script entries =
     EachAt entries (λ place entry. IsFitting storage script (writes (take place entries)) entry)
+
+-- a legal history with these writes, in which MemoryErrors fit (profile)
+pub record IsHistoryOf
+    (storage : Storage) (script : ScriptParts) (calls : List Call) (history : List Entry) : Type 0 where
+  pub legal : IsLegal storage script history
+  pub fitting : AreFitting storage script history
+  pub written : writes history ≡ calls

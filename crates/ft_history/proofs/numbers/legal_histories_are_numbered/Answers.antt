@@ -1,5 +1,5 @@
-use Rattle.ft_history.proofs.NumberedHistories.{numbers_of_legal}
+use Rattle.ft_history.proofs.NumberedHistories.{numbers_of_history}
 use Rattle.ft_history.proofs.numbers.legal_histories_are_numbered.Goals as goal
 
 pub returns : goal.returns
-returns c = numbers_of_legal
+returns c = numbers_of_history

@@ -9,3 +9,4 @@ pub mod KindLaws
 mod KeyedLists
 mod FollowLaws
 mod ListTableLaws
+mod Readers

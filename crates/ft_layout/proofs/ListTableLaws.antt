@@ -11,7 +11,7 @@ use Rattle.ft_layout.specs.Tables.{item_at, item_word, IsListTable}
 use Rattle.ft_layout.specs.Changes.{IsBlankTable, ChangesItem, SaysStored}
 use Rattle.ft_layout.proofs.FollowLaws.{there}
 
-item_moves : (f g : ℕ → ℕ) → ((w : ℕ) → w < 4 → g w ≡ f w) → (s : Stored) → IsItem f s → IsItem g s
+pub item_moves : (f g : ℕ → ℕ) → ((w : ℕ) → w < 4 → g w ≡ f w) → (s : Stored) → IsItem f s → IsItem g s
 item_moves f g same s is = record { fits = is.fits; kind_is = same 1 (omega arith) ∙ is.kind_is; payload_is = same 2 (omega arith) ∙ is.payload_is }
 
 pub empty_list_table : (mask : ℕ) (words : List ℕ) → IsBlankTable mask words → IsListTable mask [] words

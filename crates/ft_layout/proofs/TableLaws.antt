@@ -13,29 +13,29 @@ use Rattle.ft_layout.specs.Tables.{index_at, entry_at, index_word, entry_word, U
 use Rattle.ft_layout.proofs.LiveLaws.{distinct-live, distinct-used}
 use Rattle.ft_layout.specs.Changes.{IsBlankTable, KeepsKey, ChangesEntry, SaysUsed}
 
--- ---- words that are the same say the same
+-- ---- words that are the same say the same: those of an entry but the first and the last
 
-module _ (f g : ℕ → ℕ) (same : (w : ℕ) → w < 8 → f w ≡ g w) where
+module _ (f g : ℕ → ℕ) (same : (w : ℕ) → 1 ≤ w → w < 7 → f w ≡ g w) where
   stored_moves : (s : Stored) → IsStored (f 4) (f 5) s → IsStored (g 4) (g 5) s
-  stored_moves s is = record { fits = is.fits; kind_is = sym (same 4 (omega arith)) ∙ is.kind_is; payload_is = sym (same 5 (omega arith)) ∙ is.payload_is }
+  stored_moves s is = record { fits = is.fits; kind_is = sym (same 4 (omega arith) (omega arith)) ∙ is.kind_is; payload_is = sym (same 5 (omega arith) (omega arith)) ∙ is.payload_is }
 
   pub entry_moves : (s : Slot) → IsEntry f s → IsEntry g s
   entry_moves Never is = record {
-    kind = sym (same 2 (omega arith)) ∙ is.kind;
-    payload = sym (same 3 (omega arith)) ∙ is.payload;
+    kind = sym (same 2 (omega arith) (omega arith)) ∙ is.kind;
+    payload = sym (same 3 (omega arith) (omega arith)) ∙ is.payload;
     value = stored_moves Empty is.value;
   }
   entry_moves (Live pair) is = record {
-    hash = sym (same 1 (omega arith)) ∙ is.hash;
-    key = record { fits = is.key.fits; kind_is = sym (same 2 (omega arith)) ∙ is.key.kind_is; payload_is = sym (same 3 (omega arith)) ∙ is.key.payload_is };
+    hash = sym (same 1 (omega arith) (omega arith)) ∙ is.hash;
+    key = record { fits = is.key.fits; kind_is = sym (same 2 (omega arith) (omega arith)) ∙ is.key.kind_is; payload_is = sym (same 3 (omega arith) (omega arith)) ∙ is.key.payload_is };
     value = stored_moves pair.value is.value;
-    serial = sym (same 6 (omega arith)) ∙ is.serial;
+    serial = sym (same 6 (omega arith) (omega arith)) ∙ is.serial;
   }
   entry_moves (Gone key serial) is = record {
-    key_is = record { fits = is.key_is.fits; kind_is = sym (same 2 (omega arith)) ∙ is.key_is.kind_is; payload_is = sym (same 3 (omega arith)) ∙ is.key_is.payload_is };
+    key_is = record { fits = is.key_is.fits; kind_is = sym (same 2 (omega arith) (omega arith)) ∙ is.key_is.kind_is; payload_is = sym (same 3 (omega arith) (omega arith)) ∙ is.key_is.payload_is };
     left = is.left;
     value = stored_moves is.left is.value;
-    serial_is = sym (same 6 (omega arith)) ∙ is.serial_is;
+    serial_is = sym (same 6 (omega arith) (omega arith)) ∙ is.serial_is;
   }
 
 -- ---- an empty table
@@ -120,8 +120,8 @@ module _ (walk : ℕ → List ℕ) (room : ℕ) (texts : List ℕ) (mask : ℕ) 
       | inr differ ↦ still p 7 differ (omega arith) ∙ table.spare p less
     ];
     fill = let f = table.fill in omega (arith, as_long);
-    entries = λ p any less. at_each (λ q u. IsEntry (entry_word mask news q) (slot_of texts u)) now.says (λ q d differ small. entry_moves (entry_word mask words q) (entry_word mask news q) (λ w few. sym (still q w differ few)) (slot_of texts (get_or used q d)) (table.entries q d small)) p any (omega (arith, as_long));
-    unused = λ p past less. entry_moves (entry_word mask words p) (entry_word mask news p) (λ w few. sym (still p w (omega (arith, as_long)) few)) Never (table.unused p (omega (arith, as_long)) less);
+    entries = λ p any less. at_each (λ q u. IsEntry (entry_word mask news q) (slot_of texts u)) now.says (λ q d differ small. entry_moves (entry_word mask words q) (entry_word mask news q) (λ w _ few. sym (still q w differ (omega (arith, few)))) (slot_of texts (get_or used q d)) (table.entries q d small)) p any (omega (arith, as_long));
+    unused = λ p past less. entry_moves (entry_word mask words p) (entry_word mask news p) (λ w _ few. sym (still p w (omega (arith, as_long)) (omega (arith, few)))) Never (table.unused p (omega (arith, as_long)) less);
     hashes = λ p any less. at_each (λ q u. entry_word mask news q 1 ≡ hash_of texts u.key) now.hash (λ q d differ small. still q 1 differ (omega arith) ∙ table.hashes q d small) p any (omega (arith, as_long));
     distinct = distinct-live changed (λ i j d less small a b same.
         let x = keeps i d (omega (arith, as_long)) in

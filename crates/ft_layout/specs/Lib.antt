@@ -5,3 +5,4 @@ pub mod Tables
 pub mod Fields
 pub mod Changes
 pub mod Containers
+pub mod Reading

@@ -16,6 +16,7 @@ mod size;
 mod slot;
 mod start;
 mod stored;
+mod take;
 #[cfg(test)]
 mod tests;
 mod word;
@@ -41,4 +42,5 @@ pub use start::{
     heap_start, table_start,
 };
 pub use stored::{stored_kind_of, stored_payload_of};
+pub use take::{Take, read_entry, read_item};
 pub use word::{block_word, entry_word, item_word};

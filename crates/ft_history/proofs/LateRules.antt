@@ -19,11 +19,12 @@ use Rattle.ft_model.specs.declared.script.ScriptParts.{ScriptParts}
 use Rattle.std.specs.Global.{Vec}
 use Rattle.ft_model.specs.Worlds.{containers_used}
 use Rattle.ft_model.specs.Histories.{Section, innermost, after_section, sections_at, hands_at, has_call_on, needs_at, disturbs, is_disturbed, is_marked, marks_between, IfEnds, IsKeptBy, IsCountedBy, IsMarked, IsKept, IsCounted}
-use Rattle.ft_history.specs.declared.containers.Containers.{Containers}
+use Rattle.ft_model.specs.declared.call.Containers.{Containers}
+use Rattle.ft_model.specs.Calls.{container_list}
 use Rattle.ft_history.specs.declared.progress.Progress.{Progress}
 use Rattle.ft_history.specs.declared.writers.LastWrites.{LastWrites}
 use Rattle.ft_model.specs.Numbers.{IsCountedAs}
-use Rattle.ft_history.specs.States.{Begun, listed, is_used, AreUsers, all_begun, after_begun, inner_begun, section_of, IfEndsBegun, IsOpen, IsProgress, IsLast, is_written_since, is_written_on, IsKeptSince}
+use Rattle.ft_history.specs.States.{Begun, is_used, AreUsers, all_begun, after_begun, inner_begun, section_of, IfEndsBegun, IsOpen, IsProgress, IsLast, is_written_since, is_written_on, IsKeptSince}
 use Rattle.ft_history.proofs.ProgressLemmas.{sections_alike}
 use Rattle.ft_history.proofs.LastWriteLemmas.{any_of_containers}
 
@@ -42,17 +43,17 @@ inner_alike [] = refl
 inner_alike (section ∷ sections) = refl
 
 pub marked_iff : (script : ScriptParts) (entries : List Entry) (place : ℕ) (entry : Entry) (progress : Progress) (users : List (Vec Bool)) (own inner : Containers) (r : Bool)
-    → AreUsers script users → IsProgress script entries entry.thread place progress → listed own ≡ containers_used progress.hands entry.call
-    → ((at marks : ℕ) → listed inner ≡ inner_begun (after_begun at marks entry.call (all_begun progress.sections.items)))
-    → IsTrue r ↔ IfSome entry.waited (λ thread. (thread ≢ entry.thread) × (list_any (is_used users thread) (listed own ++ listed inner) ≡ true)) → IsTrue r ↔ IsMarked script entries place entry
+    → AreUsers script users → IsProgress script entries entry.thread place progress → container_list own ≡ containers_used progress.hands entry.call
+    → ((at marks : ℕ) → container_list inner ≡ inner_begun (after_begun at marks entry.call (all_begun progress.sections.items)))
+    → IsTrue r ↔ IfSome entry.waited (λ thread. (thread ≢ entry.thread) × (list_any (is_used users thread) (container_list own ++ container_list inner) ≡ true)) → IsTrue r ↔ IsMarked script entries place entry
 marked_iff script entries place entry progress users own inner r are_users so_far own_is inner_is is =
     let called = entry.call in
     let begun = all_begun progress.sections.items in
-    let needs : listed own ++ listed inner ≡ needs_at script entries place entry = λ i.
+    let needs : container_list own ++ container_list inner ≡ needs_at script entries place entry = λ i.
     (own_is ∙ ap (λ (hs : List (Option Cursor)). containers_used hs called) so_far.hands) i
     ++ (inner_is place 0 ∙ sym (inner_alike (after_begun place 0 called begun)) ∙ ap innermost (sections_alike place 0 called begun) ∙ ap (λ (ss : List Section). innermost (after_section place called ss)) (sym so_far.sections)) i in
-    let same : (thread : ℕ) → list_any (is_used users thread) (listed own ++ listed inner) ≡ list_any (has_call_on script thread) (needs_at script entries place entry) = λ thread.
-    any_alike (is_used users thread) (has_call_on script thread) (listed own ++ listed inner) (are_users thread) ∙ ap (list_any (has_call_on script thread)) needs in
+    let same : (thread : ℕ) → list_any (is_used users thread) (container_list own ++ container_list inner) ≡ list_any (has_call_on script thread) (needs_at script entries place entry) = λ thread.
+    any_alike (is_used users thread) (has_call_on script thread) (container_list own ++ container_list inner) (are_users thread) ∙ ap (list_any (has_call_on script thread)) needs in
     (λ yes. IfSome_then entry.waited (is.0 yes) (λ thread both. (both.0, sym (same thread) ∙ both.1)), λ marked. is.1 (IfSome_then entry.waited marked (λ thread both. (both.0, same thread ∙ both.1))))
 
 -- ---- ends

@@ -1,10 +1,10 @@
 -- What the judge keeps of the entries before a place. None of it is needed to say what a legal history is.
 use Rattle.std.specs.Prelude.{◌≡◌, ℕ, Bool, true, false, ◌+◌, ◌<◌, ◌≤◌, nat_le, ◌==◌, not, List, [], ◌∷◌, ◌++◌, map, reverse, take, drop, length, All, Option, Some, None, if◌then◌else◌, IfSome, IsSome, slice_get, slice_index_or}
-use Rattle.std.specs.Option.{option_to_list, option_map, option_map_or}
+use Rattle.std.specs.Option.{option_map, option_map_or}
 use Rattle.ft_model.specs.declared.call.Call.{Call}
 use Rattle.ft_model.specs.declared.call.Call.TheVariants as call
 use Rattle.ft_model.specs.declared.entry.Entry.{Entry}
-use Rattle.ft_model.specs.Calls.{one_or_two}
+use Rattle.ft_model.specs.Calls.{one_or_two, container_list}
 use Rattle.std.specs.Global.{Vec}
 use Rattle.std.specs.List.{fold, list_any, count_by, AllByRecursion, Any}
 use Rattle.ft_model.specs.declared.cursor.Cursor.{Cursor}
@@ -18,15 +18,10 @@ use Rattle.ft_model.specs.declared.content.Content.TheVariants as content
 use Rattle.ft_model.specs.Worlds.{start_world, start_hands, IsDeclared, cursor_at, cursor_kind, container_of}
 use Rattle.ft_model.specs.Answers.{after_write}
 use Rattle.ft_model.specs.Histories.{Section, entries_of, calls_of, cursors_of, hands_at, writes, sections_at, is_marked, disturbs, has_call_on}
-use Rattle.ft_history.specs.declared.containers.Containers.{Containers}
 use Rattle.ft_history.specs.declared.progress.OpenSection.{OpenSection}
 use Rattle.ft_history.specs.declared.progress.Progress.{Progress}
 use Rattle.ft_history.specs.declared.writers.LastWrites.{LastWrites}
 use Rattle.ft_history.specs.declared.writers.Write.{Write}
-
--- the containers, in order
-abbrev pub listed : Containers → List ℕ
-listed containers = option_to_list containers.first ++ option_to_list containers.second
 
 -- ---- contents
 
@@ -64,7 +59,7 @@ pub record Begun : Type 0 where
   pub marks : ℕ
 
 abbrev pub begun_of : OpenSection → Begun
-begun_of section = record { containers = listed section.containers; begun = section.begun; marks = section.marks }
+begun_of section = record { containers = container_list section.containers; begun = section.begun; marks = section.marks }
 
 -- innermost first
 abbrev pub all_begun : List OpenSection → List Begun

@@ -19,8 +19,8 @@ use crate::ledger::note_taking;
 use crate::memory::is_earned;
 use crate::progress::{Progress, go_through};
 use crate::rules::{
-    inner_containers, is_after, is_counted_right, is_kept_right, is_marked_right, is_memory_error,
-    is_next, is_stamped,
+    containers_needed, inner_containers, is_after, is_counted_right, is_kept_right,
+    is_marked_right, is_memory_error, is_next, is_stamped,
 };
 use crate::sizes::size_of_own;
 use crate::state::{State, start};
@@ -191,7 +191,7 @@ fn go_after(alloc: Global, state: &mut State, place: u64, entry: &Entry) -> Resu
         state.writes += 1;
         note_write(
             &mut state.containers,
-            containers_named(&entry.call),
+            entry.call.containers(),
             entry.thread,
             place,
         );

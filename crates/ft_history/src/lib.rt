@@ -4,7 +4,6 @@
 
 mod chronicles;
 mod classes;
-mod containers;
 mod equal;
 mod judging;
 mod laws;
@@ -26,7 +25,6 @@ mod verdict;
 mod writers;
 
 pub use chronicles::{put_in_order, sorted_chronicles_are_legal};
-pub use containers::{Containers, containers_named};
 pub use judging::{judge, judge_with_world};
 pub use laws::{
     kept_sections_are_untouched, legal_is_unbroken, one_order, one_verdict,

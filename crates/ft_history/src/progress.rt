@@ -3,9 +3,8 @@ ghost use Rattle.ft_model.specs.Answers.{answer, is_memory};
 ghost use Rattle.ft_model.specs.Histories.{IsReplied};
 ghost use Rattle.ft_history.specs.States.{IsAskable, all_begun, after_begun};
 
-use crate::containers::{Containers, containers_named};
 use crate::replies::is_replied;
-use ft_model::{Call, Entry, Hands, World};
+use ft_model::{Call, Containers, Entry, Hands, World};
 use std::alloc::{AllocError, Global};
 
 /// An open section of a thread.
@@ -71,7 +70,7 @@ fn go_on(progress: &mut Progress, place: u64, entry: &Entry) -> Result<(), Alloc
     match entry.call {
         Call::Begin { .. } => {
             progress.sections.push(OpenSection {
-                containers: containers_named(&entry.call),
+                containers: entry.call.containers(),
                 begun: place,
                 marks: progress.marks,
             })?;
@@ -79,7 +78,11 @@ fn go_on(progress: &mut Progress, place: u64, entry: &Entry) -> Result<(), Alloc
         Call::End => {
             let _ = progress.sections.pop();
         }
-        _ => {}
+        Call::Dict { .. }
+        | Call::List { .. }
+        | Call::Set { .. }
+        | Call::Next { .. }
+        | Call::Quiesce => {}
     }
     Ok(())
 }

@@ -1,19 +1,19 @@
 ghost use Rattle.std.specs.Prelude.{◌≡◌, ◌≢◌, ◌↔◌, ℕ, ◌+◌, ◌-◌, ◌<◌, ◌≤◌, ◌^◌, ◌++◌, true, false, length, drop, IsTrue, IfSome, Some, slice_get, slice_index_or};
 ghost use Rattle.std.specs.List.{list_any};
-ghost use Rattle.std.specs.Option.{option_to_list};
+ghost use Rattle.ft_model.specs.Calls.{container_list};
+ghost use Rattle.ft_model.specs.Worlds.{containers_used};
 ghost use Rattle.ft_model.specs.Answers.{is_write, is_memory};
 ghost use Rattle.std.specs.Ordering.{is_lt};
 ghost use Rattle.ft_model.specs.Histories.{history_cmp};
 ghost use Rattle.ft_model.specs.Judging.{IsAfter};
 ghost use Rattle.ft_model.specs.Numbers.{IsCountedAs};
-ghost use Rattle.ft_history.specs.States.{listed, is_used, all_begun, after_begun, inner_begun, IfEndsBegun, is_written_on, IsKeptSince};
+ghost use Rattle.ft_history.specs.States.{is_used, all_begun, after_begun, inner_begun, IfEndsBegun, is_written_on, IsKeptSince};
 
-use crate::containers::{Containers, containers_named};
 use crate::equal::same_call;
 use crate::merging::history_order;
 use crate::progress::OpenSection;
 use crate::writers::{LastWrites, wrote_after};
-use ft_model::{Call, Entry, Raise, Reply};
+use ft_model::{Call, Containers, Entry, Hands, Raise, Reply};
 
 /// Whether the entry is the call after those that its thread has made.
 pub fn is_next(calls: &[Call], made: u64, entry: &Entry) -> bool
@@ -73,7 +73,7 @@ pub fn is_marked_right(
     own: Containers,
     inner: Containers,
 ) -> bool
-    ensures { IsTrue result ↔ IfSome entry.now.waited (λ thread. (thread ≢ entry.now.thread) × (list_any (is_used users.now thread) (listed own ++ listed inner) ≡ true)) }
+    ensures { IsTrue result ↔ IfSome entry.now.waited (λ thread. (thread ≢ entry.now.thread) × (list_any (is_used users.now thread) (container_list own ++ container_list inner) ≡ true)) }
 {
     match entry.waited {
         Some(thread) => {
@@ -86,35 +86,63 @@ pub fn is_marked_right(
 
 /// Whether the thread has a call on one of the containers.
 fn uses_one(users: &[Vec<bool>], thread: u32, containers: Containers) -> bool
-    ensures { result ≡ list_any (is_used users.now thread) (listed containers) }
+    ensures { result ≡ list_any (is_used users.now thread) (container_list containers) }
 {
-    uses(users, thread, containers.first) || uses(users, thread, containers.second)
+    match containers {
+        Containers::None => false,
+        Containers::One(only) => uses(users, thread, only),
+        Containers::Two(first, second) => {
+            uses(users, thread, first) || uses(users, thread, second)
+        }
+    }
 }
 
-/// Whether the thread has a call on the container, if there is one.
-fn uses(users: &[Vec<bool>], thread: u32, container: Option<u32>) -> bool
-    ensures { result ≡ list_any (is_used users.now thread) (option_to_list container) }
+/// Whether the thread has a call on the container.
+fn uses(users: &[Vec<bool>], thread: u32, container: u32) -> bool
+    ensures { result ≡ is_used users.now thread container }
 {
-    match (container, users.get(thread as usize)) {
-        (Some(container), Some(used)) => used.get(container as usize).copied().unwrap_or(false),
-        _ => false,
+    match users.get(thread as usize) {
+        Some(used) => used.get(container as usize).copied().unwrap_or(false),
+        None => false,
+    }
+}
+
+/// The containers whose locks a call needs for itself: those that it names, or that of its cursor.
+pub fn containers_needed(hands: &Hands, call: &Call) -> Containers
+    ensures { container_list result ≡ containers_used hands.now call.now }
+{
+    match call {
+        Call::Next { cursor } => match hands.cursors().get(*cursor as usize) {
+            Some(Some(cursor)) => Containers::One(cursor.container()),
+            _ => Containers::None,
+        },
+        Call::Dict { .. }
+        | Call::List { .. }
+        | Call::Set { .. }
+        | Call::Begin { .. }
+        | Call::End
+        | Call::Quiesce => call.containers(),
     }
 }
 
 /// The containers of the section that is innermost after the call.
 pub fn inner_containers(sections: &[OpenSection], call: &Call) -> Containers
-    ensures { (place marks : ℕ) → listed result ≡ inner_begun (after_begun place marks call.now (all_begun sections.now)) }
+    ensures { (place marks : ℕ) → container_list result ≡ inner_begun (after_begun place marks call.now (all_begun sections.now)) }
 {
     match call {
-        Call::Begin { .. } => containers_named(call),
+        Call::Begin { .. } => call.containers(),
         Call::End => innermost_but_one(sections),
-        _ => innermost(sections),
+        Call::Dict { .. }
+        | Call::List { .. }
+        | Call::Set { .. }
+        | Call::Next { .. }
+        | Call::Quiesce => innermost(sections),
     }
 }
 
 /// The containers of the section that is innermost after the end of one.
 fn innermost_but_one(sections: &[OpenSection]) -> Containers
-    ensures { listed result ≡ inner_begun (drop 1 (all_begun sections.now)) }
+    ensures { container_list result ≡ inner_begun (drop 1 (all_begun sections.now)) }
 {
     match sections {
         [outer @ .., _] => innermost(outer),
@@ -124,14 +152,11 @@ fn innermost_but_one(sections: &[OpenSection]) -> Containers
 
 /// The containers of the innermost section.
 fn innermost(sections: &[OpenSection]) -> Containers
-    ensures { listed result ≡ inner_begun (all_begun sections.now) }
+    ensures { container_list result ≡ inner_begun (all_begun sections.now) }
 {
     match sections {
         [.., section] => section.containers,
-        [] => Containers {
-            first: None,
-            second: None,
-        },
+        [] => Containers::None,
     }
 }
 
@@ -141,23 +166,32 @@ pub fn is_kept_right(containers: &[LastWrites], sections: &[OpenSection], entry:
 {
     match (&entry.call, sections, &entry.reply) {
         (Call::End, [.., section], Reply::Kept) => {
-            let begun = section.begun;
-            !(is_disturbed(containers, entry.thread, begun, section.containers.first)
-                || is_disturbed(containers, entry.thread, begun, section.containers.second))
+            !is_disturbed(containers, entry.thread, section)
         }
         _ => true,
     }
 }
 
-/// Whether another thread wrote on the container after a place.
-fn is_disturbed(containers: &[LastWrites], thread: u32, begun: u64, container: Option<u32>) -> bool
-    ensures { result ≡ list_any (is_written_on containers.now thread (begun + 1)) (option_to_list container) }
+/// Whether another thread wrote on a container of the section after its `begin`.
+fn is_disturbed(containers: &[LastWrites], thread: u32, section: &OpenSection) -> bool
+    ensures { result ≡ list_any (is_written_on containers.now thread (section.now.begun + 1)) (container_list section.now.containers) }
 {
-    match container {
-        Some(container) => match containers.get(container as usize) {
-            Some(writes) => wrote_after(*writes, thread, begun),
-            None => false,
-        },
+    match section.containers {
+        Containers::None => false,
+        Containers::One(only) => is_written(containers, thread, section.begun, only),
+        Containers::Two(first, second) => {
+            is_written(containers, thread, section.begun, first)
+                || is_written(containers, thread, section.begun, second)
+        }
+    }
+}
+
+/// Whether another thread wrote on the container after a place.
+fn is_written(containers: &[LastWrites], thread: u32, begun: u64, container: u32) -> bool
+    ensures { result ≡ is_written_on containers.now thread (begun + 1) container }
+{
+    match containers.get(container as usize) {
+        Some(writes) => wrote_after(*writes, thread, begun),
         None => false,
     }
 }

@@ -1,13 +1,11 @@
-ghost use Rattle.std.specs.Prelude.{◌≡◌, ◌||◌, ◌==◌, ℕ, ◌<◌, false, length, map, All, IfOk, IfSome, slice_index_or, vec_len};
+ghost use Rattle.std.specs.Prelude.{◌≡◌, ◌||◌, ◌==◌, ℕ, ◌<◌, false, length, map, All, IfOk, slice_index_or, vec_len};
 ghost use Rattle.std.specs.List.{list_any};
-ghost use Rattle.std.specs.Option.{option_to_list};
-ghost use Rattle.ft_model.specs.Calls.{containers_of};
+ghost use Rattle.ft_model.specs.Calls.{container_list, containers_of};
 ghost use Rattle.ft_model.specs.Histories.{names};
 ghost use Rattle.ft_model.specs.Scripts.{IsScript};
-ghost use Rattle.ft_history.specs.States.{listed, AreUsers};
+ghost use Rattle.ft_history.specs.States.{AreUsers};
 
-use crate::containers::{Containers, containers_named};
-use ft_model::{Call, ScriptParts};
+use ft_model::{Call, Containers, ScriptParts};
 use std::alloc::{AllocError, Global};
 
 /// For each thread of a script, which of the containers its calls name.
@@ -30,28 +28,32 @@ fn used_by(alloc: Global, containers: usize, calls: &[Call]) -> Result<Vec<bool>
 {
     let mut used = vec![in alloc; false; containers]?;
     for call in calls {
-        mark_both(&mut used, containers_named(call));
+        mark_all(&mut used, call.containers());
     }
     Ok(used)
 }
 
 /// Marks containers as used.
-fn mark_both(used: &mut Vec<bool>, named: Containers)
-    requires { All (λ container. container < vec_len used.old) (listed named) }
+fn mark_all(used: &mut Vec<bool>, named: Containers)
+    requires { All (λ container. container < vec_len used.old) (container_list named) }
     ensures length { vec_len used.new ≡ vec_len used.old }
-    ensures marked { (other : ℕ) → slice_index_or used.new.items other false ≡ (slice_index_or used.old.items other false || list_any (λ container. container == other) (listed named)) }
+    ensures marked { (other : ℕ) → slice_index_or used.new.items other false ≡ (slice_index_or used.old.items other false || list_any (λ container. container == other) (container_list named)) }
 {
-    mark(used, named.first);
-    mark(used, named.second);
+    match named {
+        Containers::None => {}
+        Containers::One(only) => mark(used, only),
+        Containers::Two(first, second) => {
+            mark(used, first);
+            mark(used, second);
+        }
+    }
 }
 
-/// Marks a container as used, if there is one.
-fn mark(used: &mut Vec<bool>, container: Option<u32>)
-    requires { IfSome container (λ container. container < vec_len used.old) }
+/// Marks a container as used.
+fn mark(used: &mut Vec<bool>, container: u32)
+    requires { container < vec_len used.old }
     ensures length { vec_len used.new ≡ vec_len used.old }
-    ensures marked { (other : ℕ) → slice_index_or used.new.items other false ≡ (slice_index_or used.old.items other false || list_any (λ container. container == other) (option_to_list container)) }
+    ensures marked { (other : ℕ) → slice_index_or used.new.items other false ≡ (slice_index_or used.old.items other false || container == other) }
 {
-    if let Some(container) = container {
-        used[container as usize] = true;
-    }
+    used[container as usize] = true;
 }

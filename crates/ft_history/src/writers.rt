@@ -1,10 +1,10 @@
-ghost use Rattle.std.specs.Prelude.{◌≡◌, ◌+◌, ◌<◌, ◌==◌, ℕ, All, IfSome, if◌then◌else◌, slice_index_or, vec_len};
+ghost use Rattle.std.specs.Prelude.{◌≡◌, ◌+◌, ◌<◌, ◌==◌, ℕ, All, if◌then◌else◌, slice_index_or, vec_len};
 ghost use Rattle.std.specs.List.{list_any};
-ghost use Rattle.std.specs.Option.{option_to_list};
+ghost use Rattle.ft_model.specs.Calls.{container_list};
 ghost use Rattle.ft_history.specs.declared.writers.LastWrites.{LastWrites};
-ghost use Rattle.ft_history.specs.States.{listed, after_one, is_written_since};
+ghost use Rattle.ft_history.specs.States.{after_one, is_written_since};
 
-use crate::containers::Containers;
+use ft_model::Containers;
 
 /// A write on a container.
 #[derive(Clone, Copy, Debug)]
@@ -26,26 +26,30 @@ pub struct LastWrites {
 
 /// Notes a write on containers.
 pub fn note_write(containers: &mut Vec<LastWrites>, named: Containers, thread: u32, place: u64)
-    requires { All (λ container. container < vec_len containers.old) (listed named) }
+    requires { All (λ container. container < vec_len containers.old) (container_list named) }
     ensures length { vec_len containers.new ≡ vec_len containers.old }
     ensures noted { (container : ℕ) (other : LastWrites) → slice_index_or containers.new.items container other
-        ≡ (if list_any (λ name. name == container) (listed named) then after_one (slice_index_or containers.old.items container other) thread place else slice_index_or containers.old.items container other) }
+        ≡ (if list_any (λ name. name == container) (container_list named) then after_one (slice_index_or containers.old.items container other) thread place else slice_index_or containers.old.items container other) }
 {
-    note_one(containers, named.first, thread, place);
-    note_one(containers, named.second, thread, place);
+    match named {
+        Containers::None => {}
+        Containers::One(only) => note_one(containers, only, thread, place),
+        Containers::Two(first, second) => {
+            note_one(containers, first, thread, place);
+            note_one(containers, second, thread, place);
+        }
+    }
 }
 
-/// Notes a write on a container, if there is one.
-fn note_one(containers: &mut Vec<LastWrites>, container: Option<u32>, thread: u32, place: u64)
-    requires { IfSome container (λ container. container < vec_len containers.old) }
+/// Notes a write on a container.
+fn note_one(containers: &mut Vec<LastWrites>, container: u32, thread: u32, place: u64)
+    requires { container < vec_len containers.old }
     ensures length { vec_len containers.new ≡ vec_len containers.old }
-    ensures noted { (container' : ℕ) (other : LastWrites) → slice_index_or containers.new.items container' other
-        ≡ (if list_any (λ name. name == container') (option_to_list container) then after_one (slice_index_or containers.old.items container' other) thread place else slice_index_or containers.old.items container' other) }
+    ensures noted { (any : ℕ) (other : LastWrites) → slice_index_or containers.new.items any other
+        ≡ (if container == any then after_one (slice_index_or containers.old.items any other) thread place else slice_index_or containers.old.items any other) }
 {
-    if let Some(container) = container {
-        let writes = containers[container as usize];
-        containers[container as usize] = after_write(writes, thread, place);
-    }
+    let writes = containers[container as usize];
+    containers[container as usize] = after_write(writes, thread, place);
 }
 
 /// The last writes, after one more.

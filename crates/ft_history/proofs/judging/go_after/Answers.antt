@@ -32,7 +32,7 @@ returns-in_ok-note_taking c =
         lasts = λ container other.
             let old : LastWrites = get_or c.args.state.now.containers.items container other in
             c.note_write.ensures.noted container other
-            ∙ ap (λ (ns : List ℕ). cond (list_any (λ n. n == container) ns) (after_one old entry.thread c.args.place) old) c.containers_named.ensures
+            ∙ ap (λ (ns : List ℕ). cond (list_any (λ n. n == container) ns) (after_one old entry.thread c.args.place) old) c.containers.ensures
             ∙ ap (λ b. cond (b && names container entry.call) (after_one old entry.thread c.args.place) old) (sym c.if-entry.true);
         taking = λ wrote. c.in_ok-note_taking.ensures c.args.state.now.world c.size_of_own-size.ensures;
         same = λ quiet. absurd (false≢true (sym quiet ∙ c.if-entry.true));

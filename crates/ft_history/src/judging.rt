@@ -14,7 +14,6 @@ ghost use Rattle.ft_history.specs.declared.verdict.Verdict.TheVariants as verdic
 ghost use Rattle.ft_history.specs.States.{AreUsers, IsAskable};
 ghost use Rattle.ft_history.specs.Steps.{IsState, IsUnbrokenBefore, FindsEarly, FindsLate, Finds, GoesAfter, HaveMadeAll};
 
-use crate::containers::{containers_named, containers_needed};
 use crate::ledger::note_taking;
 use crate::memory::is_earned;
 use crate::progress::{Progress, go_through};

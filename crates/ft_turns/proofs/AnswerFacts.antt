@@ -202,9 +202,9 @@ module _ (n : ℕ) (world : List Content) (contents : All (IsContentOf n) world)
 
   dict_step : (pairs : List DictPair) (container : ℕ) (state : Walk) (size expected : ℕ) (last : Option ℕ) → All (IsPairOf n) pairs → IsStep (cursor.Dict container state size expected last) (dict_next pairs container state size expected last)
   dict_step pairs container walk.Ended size expected last of = (refl, tt, refl, refl)
-  dict_step pairs container walk.EntriesHaveRightReplies size expected last of = (refl, tt, refl, refl)
+  dict_step pairs container walk.Reported size expected last of = (refl, tt, refl, refl)
   dict_step pairs container walk.Live size expected last of =
-      elim (length pairs == size) as (λ b. IsStep (cursor.Dict container walk.Live size expected last) (if b then dict_walk (next_pair pairs last) container size expected last else record { reply = reply.Raised raise.Size; cursor = cursor.Dict container walk.EntriesHaveRightReplies size expected last })) [
+      elim (length pairs == size) as (λ b. IsStep (cursor.Dict container walk.Live size expected last) (if b then dict_walk (next_pair pairs last) container size expected last else record { reply = reply.Raised raise.Size; cursor = cursor.Dict container walk.Reported size expected last })) [
         | false ↦ (refl, tt, refl, refl)
         | true ↦ elim (next_pair pairs last) as (λ o. next_pair pairs last ≡ o → IsStep (cursor.Dict container walk.Live size expected last) (dict_walk o container size expected last)) [
           | None ↦ λ _. (refl, tt, refl, refl)
@@ -217,9 +217,9 @@ module _ (n : ℕ) (world : List Content) (contents : All (IsContentOf n) world)
 
   set_step : (elements : List Element) (container : ℕ) (state : Walk) (size : ℕ) (last : Option ℕ) → All (IsElementOf n) elements → IsStep (cursor.Set container state size last) (set_next elements container state size last)
   set_step elements container walk.Ended size last of = (refl, tt, refl, refl)
-  set_step elements container walk.EntriesHaveRightReplies size last of = (refl, tt, refl, refl)
+  set_step elements container walk.Reported size last of = (refl, tt, refl, refl)
   set_step elements container walk.Live size last of =
-      elim (length elements == size) as (λ b. IsStep (cursor.Set container walk.Live size last) (if b then set_walk (next_element elements last) container size last else record { reply = reply.Raised raise.Size; cursor = cursor.Set container walk.EntriesHaveRightReplies size last })) [
+      elim (length elements == size) as (λ b. IsStep (cursor.Set container walk.Live size last) (if b then set_walk (next_element elements last) container size last else record { reply = reply.Raised raise.Size; cursor = cursor.Set container walk.Reported size last })) [
         | false ↦ (refl, tt, refl, refl)
         | true ↦ elim (next_element elements last) as (λ o. next_element elements last ≡ o → IsStep (cursor.Set container walk.Live size last) (set_walk o container size last)) [
           | None ↦ λ _. (refl, tt, refl, refl)

@@ -7,7 +7,7 @@ use Rattle.std.proofs.lemmas.Option.{slice_get_cases}
 use Rattle.ft_model.specs.declared.script.Thread.{Thread}
 use Rattle.ft_model.specs.declared.script.ScriptParts.{ScriptParts}
 use Rattle.ft_model.specs.Histories.{calls_of, cursors_of}
-use Rattle.ft_history.specs.States.{listed}
+use Rattle.ft_model.specs.Calls.{container_list}
 use Rattle.ft_turns.specs.declared.machine.Standing.{Standing}
 use Rattle.ft_turns.specs.Cursors.{AreCursors, no_containers}
 use Rattle.ft_turns.specs.Orders.{fresh_thread}
@@ -25,7 +25,7 @@ fresh_at (suc n) (suc number) = fresh_at n number
 
 -- no cursor was made
 fresh_cursors : (n : ℕ) → AreCursors [] (replicate n no_containers)
-fresh_cursors n = λ number. ap listed (fresh_at n number)
+fresh_cursors n = λ number. ap container_list (fresh_at n number)
 
 all_fresh : (threads : List Thread) (k : ℕ) → get_or (map (λ (thread : Thread). fresh_thread) threads) k fresh_thread ≡ fresh_thread
 all_fresh [] k = refl

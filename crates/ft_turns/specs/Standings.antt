@@ -5,7 +5,7 @@ use Rattle.std.specs.List.{sum_by}
 use Rattle.ft_model.specs.declared.call.Call.{Call}
 use Rattle.ft_model.specs.declared.script.ScriptParts.{ScriptParts}
 use Rattle.ft_model.specs.Histories.{calls_of, cursors_of}
-use Rattle.ft_history.specs.States.{listed}
+use Rattle.ft_model.specs.Calls.{container_list}
 use Rattle.ft_turns.specs.declared.machine.Machine.{Machine as LockMachine}
 use Rattle.ft_turns.specs.declared.machine.Section.{Section}
 use Rattle.ft_turns.specs.declared.machine.Standing.{Standing}
@@ -17,7 +17,7 @@ use Rattle.ft_turns.specs.Orders.{OpenSection, ThreadState, Machine, Locking, fr
 -- ---- what is kept in memory
 
 abbrev pub section_of : Section → OpenSection
-section_of section = record { containers = listed section.containers; taken = section.taken.items }
+section_of section = record { containers = container_list section.containers; taken = section.taken.items }
 
 abbrev pub state_of : Standing → ThreadState
 state_of standing =

@@ -1,94 +1,51 @@
 //! The locks that calls take, and who holds them.
 
-ghost use Rattle.std.specs.Prelude.{◌≡◌, ◌==◌, [], ◌∷◌, ◌++◌, List, not, slice_set, IfOk, OnOk};
+ghost use Rattle.std.specs.Prelude.{◌≡◌, ◌==◌, [], ◌∷◌, ◌++◌, List, slice_set, IfOk, OnOk, if◌then◌else◌};
 ghost use Rattle.ft_model.specs.declared.call.Call.{Call};
 ghost use Rattle.ft_model.specs.declared.call.Call.TheVariants as call;
-ghost use Rattle.ft_model.specs.Calls.{is_locked_dict, is_locked_list, is_locked_set, locks_of};
+ghost use Rattle.ft_model.specs.Calls.{container_list, containers_of, locks_of};
 ghost use Rattle.ft_model.specs.Scripts.{cursor_of};
-ghost use Rattle.ft_history.specs.States.{listed};
 ghost use Rattle.ft_turns.specs.Orders.{lower_first, locks_taken, holder_of, take_locks, let_go};
 ghost use Rattle.ft_turns.specs.Cursors.{AreCursors};
 
-use ft_history::{Containers, containers_named};
-use ft_model::{Call, DictCall, ListCall, SetCall};
+use ft_model::{Call, Containers};
 use std::alloc::AllocError;
-
-/// No container.
-pub(crate) const NO_OBJECTS: Containers = Containers {
-    first: None,
-    second: None,
-};
 
 /// The containers whose locks a call takes, the lower one first. The cursors of its thread are given
 /// by the containers that they go over.
 pub(crate) fn locks_needed(cursors: &[Containers], call: &Call) -> Containers
-    ensures { (before : List Call) → AreCursors before cursors.now → listed result ≡ lower_first (locks_taken before call.now) }
+    ensures { (before : List Call) → AreCursors before cursors.now → container_list result ≡ lower_first (locks_taken before call.now) }
 {
     match call {
         Call::Next { cursor } => in_order(walked(cursors, *cursor)),
-        _ if is_locked(call) => in_order(containers_named(call)),
-        _ => NO_OBJECTS,
+        Call::Dict { .. }
+        | Call::List { .. }
+        | Call::Set { .. }
+        | Call::Begin { .. }
+        | Call::End
+        | Call::Quiesce => in_order(locked_from_the_start(call)),
     }
 }
 
 /// The container that a cursor goes over, where the cursor was made.
 fn walked(cursors: &[Containers], number: u32) -> Containers
-    ensures { (before : List Call) → AreCursors before cursors.now → listed result ≡ locks_taken before (call.Next number) }
+    ensures { (before : List Call) → AreCursors before cursors.now → container_list result ≡ locks_taken before (call.Next number) }
 {
     match cursors.get(number as usize) {
         Some(containers) => *containers,
-        None => NO_OBJECTS,
+        None => Containers::None,
     }
 }
 
-/// Whether a call takes the locks of what it names from the start; the others are tried without a
-/// lock first (PEP 703, Optimistically avoiding locking).
-fn is_locked(call: &Call) -> bool
-    ensures { result ≡ not (locks_of call.now == 0) }
+/// The containers that a call names, where it takes their locks from the start.
+fn locked_from_the_start(call: &Call) -> Containers
+    ensures { container_list result ≡ (if locks_of call.now == 0 then [] else containers_of call.now) }
 {
-    match call {
-        Call::Dict { call, .. } => is_locked_dict(call),
-        Call::List { call, .. } => is_locked_list(call),
-        Call::Set { call, .. } => is_locked_set(call),
-        Call::Next { .. } | Call::Begin { .. } => true,
-        Call::End | Call::Quiesce => false,
+    if call.locks() == 0 {
+        Containers::None
+    } else {
+        call.containers()
     }
-}
-
-fn is_locked_dict(call: &DictCall) -> bool
-    ensures { result ≡ is_locked_dict call.now }
-{
-    !matches!(
-        call,
-        DictCall::Get { .. }
-            | DictCall::GetOr { .. }
-            | DictCall::Has { .. }
-            | DictCall::Len
-            | DictCall::Items
-            | DictCall::Eq { .. }
-    )
-}
-
-fn is_locked_list(call: &ListCall) -> bool
-    ensures { result ≡ is_locked_list call.now }
-{
-    !matches!(
-        call,
-        ListCall::Get { .. }
-            | ListCall::Has { .. }
-            | ListCall::Len
-            | ListCall::Items
-            | ListCall::Eq { .. }
-    )
-}
-
-fn is_locked_set(call: &SetCall) -> bool
-    ensures { result ≡ is_locked_set call.now }
-{
-    !matches!(
-        call,
-        SetCall::Has { .. } | SetCall::Len | SetCall::Items | SetCall::Eq { .. }
-    )
 }
 
 /// The cursor that a call makes, if it makes one (Python manual, Iterator Types).
@@ -96,32 +53,20 @@ pub(crate) fn cursor_made(call: &Call) -> Option<u32>
     ensures { result ≡ cursor_of call.now }
 {
     match call {
-        Call::Dict {
-            call: DictCall::Iter { cursor },
-            ..
-        }
-        | Call::List {
-            call: ListCall::Iter { cursor },
-            ..
-        }
-        | Call::Set {
-            call: SetCall::Iter { cursor },
-            ..
-        } => Some(*cursor),
-        _ => None,
+        Call::Dict { call, .. } => call.cursor(),
+        Call::List { call, .. } => call.cursor(),
+        Call::Set { call, .. } => call.cursor(),
+        Call::Next { .. } | Call::Begin { .. } | Call::End | Call::Quiesce => None,
     }
 }
 
 /// The same containers, the lower one first.
 pub(crate) fn in_order(containers: Containers) -> Containers
-    ensures { listed result ≡ lower_first (listed containers) }
+    ensures { container_list result ≡ lower_first (container_list containers) }
 {
-    match (containers.first, containers.second) {
-        (Some(first), Some(second)) if second < first => Containers {
-            first: Some(second),
-            second: Some(first),
-        },
-        _ => containers,
+    match containers {
+        Containers::Two(first, second) if second < first => Containers::Two(second, first),
+        Containers::None | Containers::One(_) | Containers::Two(..) => containers,
     }
 }
 
@@ -176,17 +121,17 @@ pub(crate) fn take_all(
     thread: u32,
     containers: Containers,
 ) -> Result<Option<u32>, AllocError>
-    ensures holders { OnOk result (holders.new ≡ (take_locks thread holders.old (listed containers)).holders) }
-    ensures own { OnOk result (own.new.items ≡ own.old.items ++ (take_locks thread holders.old (listed containers)).taken) }
-    ensures found { IfOk result (λ found. found ≡ (take_locks thread holders.old (listed containers)).found) }
+    ensures holders { OnOk result (holders.new ≡ (take_locks thread holders.old (container_list containers)).holders) }
+    ensures own { OnOk result (own.new.items ≡ own.old.items ++ (take_locks thread holders.old (container_list containers)).taken) }
+    ensures found { IfOk result (λ found. found ≡ (take_locks thread holders.old (container_list containers)).found) }
 {
-    let mut found = None;
-    if let Some(first) = containers.first {
-        found = take_lock(holders, own, thread, first)?;
-    }
-    match containers.second {
-        Some(second) if found.is_none() => take_lock(holders, own, thread, second),
-        _ => Ok(found),
+    match containers {
+        Containers::None => Ok(None),
+        Containers::One(only) => take_lock(holders, own, thread, only),
+        Containers::Two(first, second) => match take_lock(holders, own, thread, first)? {
+            None => take_lock(holders, own, thread, second),
+            found => Ok(found),
+        },
     }
 }
 

@@ -7,9 +7,8 @@ ghost use Rattle.ft_turns.specs.Orders.{without_locks, section_locks, let_go, le
 ghost use Rattle.ft_turns.specs.Cursors.{AreCursors};
 ghost use Rattle.ft_turns.specs.Standings.{section_of, state_of, answer_tried, finish_tried, machine_with, machine_of, turned_of, fixed_by, IsTried, IsReady, AreFresh, marks_made, finishes_of};
 
-use crate::locks::{NO_OBJECTS, cursor_made, in_order, let_all_go, locks_needed, take_all};
-use ft_history::{Containers, containers_named};
-use ft_model::{Call, ScriptParts, Thread};
+use crate::locks::{cursor_made, in_order, let_all_go, locks_needed, take_all};
+use ft_model::{Call, Containers, ScriptParts, Thread};
 use std::alloc::{AllocError, Global};
 use std::collections::VecDeque;
 
@@ -100,7 +99,7 @@ fn answer(
         Call::Begin { .. } => {
             let taken = std::mem::replace(&mut standing.own, Vec::new(alloc));
             standing.sections.push_front(Section {
-                containers: containers_named(call),
+                containers: call.containers(),
                 taken,
             })?;
         }
@@ -131,7 +130,7 @@ fn finish(standing: &mut Standing, call: &Call) -> Result<(), AllocError>
     standing.mark = None;
     standing.fixed = false;
     if let Some(number) = cursor_made(call) {
-        standing.cursors[number as usize] = containers_named(call);
+        standing.cursors[number as usize] = call.containers();
     }
     Ok(())
 }
@@ -178,7 +177,7 @@ fn try_finish(
 {
     let containers = match standing.sections.front() {
         Some(section) => in_order(section.containers),
-        None => NO_OBJECTS,
+        None => Containers::None,
     };
     match take_all(holders, &mut standing.own, thread, containers)? {
         Some(found) => {
@@ -259,7 +258,7 @@ impl Standing {
             sections: VecDeque::new(alloc),
             own: Vec::new(alloc),
             mark: None,
-            cursors: vec![in alloc; NO_OBJECTS; cursors]?,
+            cursors: vec![in alloc; Containers::None; cursors]?,
         })
     }
 }

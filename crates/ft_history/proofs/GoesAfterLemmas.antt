@@ -24,10 +24,10 @@ use Rattle.ft_model.specs.Worlds.{start_world, kind_of, no_hands}
 use Rattle.ft_model.specs.Answers.{answer, after_write, is_memory, is_raised, is_write}
 use Rattle.ft_model.specs.Histories.{writes, world_at, hands_at, calls_of, cursors_of, names, is_marked, IsReplied}
 use Rattle.ft_model.specs.Judging.{IsNext, IsStamped, HasRightReply, Keeps}
-use Rattle.ft_history.specs.declared.progress.Progress.{Progress}
+use Rattle.ft_history.specs.declared.progress.ThreadProgress.{ThreadProgress}
 use Rattle.ft_history.specs.declared.writers.LastWrites.{LastWrites}
 use Rattle.ft_history.specs.declared.state.State.{State}
-use Rattle.ft_history.specs.Ledgers.{IsLedger, AreOfKind}
+use Rattle.ft_history.specs.Accounts.{IsAccount, AreOfKind}
 use Rattle.ft_history.specs.States.{IsAskable, world_before, after_one, IsProgress, AreHandsOf, IsLast}
 use Rattle.ft_history.specs.Steps.{IsState, GoesAfter, KeepsFirst, BreaksFirst, FindsLate, KeepsLate, Finds}
 use Rattle.ft_history.proofs.Places.{writes_next, count_next, world_at-before}
@@ -35,7 +35,7 @@ use Rattle.ft_history.proofs.Judged.{keeps_more}
 use Rattle.ft_history.proofs.ScriptLemmas.{call_of_thread, calls_of_thread, is_thread, named_within, no_calls}
 use Rattle.ft_history.proofs.Leaves.{Leaves, leaves_of, of_kinds, askable}
 use Rattle.ft_history.proofs.HandLemmas.{hands_next, hands_same, own_cursors}
-use Rattle.ft_history.proofs.LedgerLemmas.{world_of_stored, ledger_next}
+use Rattle.ft_history.proofs.AccountLemmas.{world_of_stored, account_next}
 use Rattle.ft_history.proofs.ProgressLemmas.{progress_other, progress_mine}
 use Rattle.ft_history.proofs.LastWriteLemmas.{last_after_other, last_after_write}
 
@@ -80,7 +80,7 @@ module _ (script : ScriptParts) (is_script : IsScript script) (entries : List En
   pub its_call : IsCallOf script (cursors_of script entry.thread) entry.call
   its_call = call_of_thread script is_script entry.thread thread_found.0 thread_found.1 _ entry.call next.call
 
-  module _ (stamped : IsStamped entries place entry) (no_cursor : is_memory entry.reply ≡ true → cursor_of entry.call ≡ None) (said : Bool) (before after : Progress) (old new : State) (is_state : IsState script entries place old) (goes : GoesAfter place entry said before after old new) (reported : IsTrue said) where
+  module _ (stamped : IsStamped entries place entry) (no_cursor : is_memory entry.reply ≡ true → cursor_of entry.call ≡ None) (said : Bool) (before after : ThreadProgress) (old new : State) (is_state : IsState script entries place old) (goes : GoesAfter place entry said before after old new) (reported : IsTrue said) where
     so_far : IsProgress script entries entry.thread place before
     so_far = is_state.progress entry.thread before goes.at
 
@@ -145,13 +145,13 @@ module _ (script : ScriptParts) (is_script : IsScript script) (entries : List En
           | false ↦ λ plain. ap (map kind_of) (world_is plain) ∙ left.kinds
         ] refl
 
-    ledger_after : IsLedger script (writes (take (place + 1) entries)) new.ledger
-    ledger_after =
+    account_after : IsAccount script (writes (take (place + 1) entries)) new.account
+    account_after =
         let done = writes (take place entries) in
-        subst (λ (calls : List Call). IsLedger script calls new.ledger) (sym (writes_next entries place entry at))
-        (elim entry.wrote as (λ b. entry.wrote ≡ b → IsLedger script (done ++ cond b (entry.call ∷ []) []) new.ledger) [
-          | true ↦ λ wrote. ledger_next script done entry.call old.world new.world old.ledger new.ledger (is_state.world ∙ sym (world_of_stored script done)) (written wrote) is_state.ledger (goes.taking wrote)
-          | false ↦ λ calm. subst (λ (calls : List Call). IsLedger script calls new.ledger) (sym (append-nil done)) (subst (IsLedger script done) (sym (goes.same calm)) is_state.ledger)
+        subst (λ (calls : List Call). IsAccount script calls new.account) (sym (writes_next entries place entry at))
+        (elim entry.wrote as (λ b. entry.wrote ≡ b → IsAccount script (done ++ cond b (entry.call ∷ []) []) new.account) [
+          | true ↦ λ wrote. account_next script done entry.call old.world new.world old.account new.account (is_state.world ∙ sym (world_of_stored script done)) (written wrote) is_state.account (goes.taking wrote)
+          | false ↦ λ calm. subst (λ (calls : List Call). IsAccount script calls new.account) (sym (append-nil done)) (subst (IsAccount script done) (sym (goes.same calm)) is_state.account)
         ] refl)
 
     low : entry.thread < length old.threads.items
@@ -196,22 +196,22 @@ module _ (script : ScriptParts) (is_script : IsScript script) (entries : List En
           count = goes.writes ∙ ap (λ n. n + cond entry.wrote 1 0) is_state.count ∙ sym (count_next entries place entry at);
           threads = ap length goes.threads ∙ length-set old.threads.items entry.thread after ∙ is_state.threads;
           progress = λ thread progress here.
-              elim (set_cases old.threads.items entry.thread thread after progress low (ap (λ (ps : List Progress). slice_get ps thread) (sym goes.threads) ∙ here)) [
+              elim (set_cases old.threads.items entry.thread thread after progress low (ap (λ (ps : List ThreadProgress). slice_get ps thread) (sym goes.threads) ∙ here)) [
                 | inl mine ↦ subst (λ t. IsProgress script entries t (place + 1) progress) (sym mine.0) (subst (IsProgress script entries entry.thread (place + 1)) mine.1 new_progress)
                 | inr other ↦ progress_other script entries place entry at thread progress (λ same. other.0 (sym same)) (is_state.progress thread progress other.1)
               ];
           hands = λ thread progress here.
-              elim (set_cases old.threads.items entry.thread thread after progress low (ap (λ (ps : List Progress). slice_get ps thread) (sym goes.threads) ∙ here)) [
-                | inl mine ↦ subst (λ t. AreHandsOf script t progress.made progress.hands) (sym mine.0) (subst (λ (p : Progress). AreHandsOf script entry.thread p.made p.hands) mine.1 new_hands)
+              elim (set_cases old.threads.items entry.thread thread after progress low (ap (λ (ps : List ThreadProgress). slice_get ps thread) (sym goes.threads) ∙ here)) [
+                | inl mine ↦ subst (λ t. AreHandsOf script t progress.made progress.hands) (sym mine.0) (subst (λ (p : ThreadProgress). AreHandsOf script entry.thread p.made p.hands) mine.1 new_hands)
                 | inr other ↦ is_state.hands thread progress other.1
               ];
           containers = goes.containers ∙ is_state.containers;
           lasts = last_after;
-          ledger = ledger_after;
+          account = account_after;
         }
 
   -- its call may be made in the state
-  pub askable_at : (state : State) (progress : Progress) → IsState script entries place state → slice_get state.threads.items entry.thread ≡ Some progress → IsAskable state.world progress.hands entry.call
+  pub askable_at : (state : State) (progress : ThreadProgress) → IsState script entries place state → slice_get state.threads.items entry.thread ≡ Some progress → IsAskable state.world progress.hands entry.call
   askable_at state progress is_state here =
       let hands = is_state.hands entry.thread progress here in
       let calls_made : AreMade (calls_of script entry.thread) = subst AreMade (sym (calls_of_thread script is_script entry.thread thread_found.0 thread_found.1)) (is_thread script is_script entry.thread thread_found.0 thread_found.1).made in
@@ -238,7 +238,7 @@ few_marks entries place thread within = omega (arith, count_by-le-length (is_mar
 
 -- ---- what is found at a place
 
-module _ (s : Storage) (script : ScriptParts) (entries : List Entry) (place : ℕ) (entry : Entry) (said : Bool) (before after : Progress) (old new : State) (is_state : IsState script entries place old) (goes : GoesAfter place entry said before after old new) where
+module _ (s : Storage) (script : ScriptParts) (entries : List Entry) (place : ℕ) (entry : Entry) (said : Bool) (before after : ThreadProgress) (old new : State) (is_state : IsState script entries place old) (goes : GoesAfter place entry said before after old new) where
   same_world : old.world ≡ world_at script entries (length (writes (take place entries)))
   same_world = is_state.world ∙ sym (world_at-before script entries place)
 

@@ -15,7 +15,7 @@ use Rattle.ft_model.specs.declared.script.ScriptParts.{ScriptParts}
 use Rattle.ft_model.specs.Answers.{is_write}
 use Rattle.ft_model.specs.Histories.{writes, calls_of, entries_of}
 use Rattle.ft_model.specs.Judging.{IsNext, IsStamped, Keeps, rank_of}
-use Rattle.ft_history.specs.declared.progress.Progress.{Progress}
+use Rattle.ft_history.specs.declared.progress.ThreadProgress.{ThreadProgress}
 use Rattle.ft_history.specs.States.{IsProgress}
 use Rattle.ft_history.specs.Steps.{KeepsFirst, BreaksFirst}
 use Rattle.ft_history.proofs.OneVerdict.{same_rule}
@@ -35,7 +35,7 @@ module _ (storage : Storage) (script : ScriptParts) (entries : List Entry) (plac
 
 -- ---- whole and stamp
 
-pub next_iff : (script : ScriptParts) (entries : List Entry) (place : ℕ) (entry : Entry) (found : Thread) (progress : Progress) (r : Bool)
+pub next_iff : (script : ScriptParts) (entries : List Entry) (place : ℕ) (entry : Entry) (found : Thread) (progress : ThreadProgress) (r : Bool)
     → calls_of script entry.thread ≡ found.calls → progress.made ≡ length (entries_of entry.thread (take place entries))
     → IsTrue r ↔ ((entry.index ≡ progress.made + 1) × (slice_get found.calls progress.made ≡ Some entry.call)) → IsTrue r ↔ IsNext script entries place entry
 next_iff script entries place entry found progress r calls made is = (

@@ -18,13 +18,12 @@ use Rattle.ft_model.specs.declared.entry.Entry.{Entry}
 use Rattle.ft_model.specs.declared.script.ScriptParts.{ScriptParts}
 use Rattle.std.specs.Global.{Vec}
 use Rattle.ft_model.specs.Worlds.{containers_used}
-use Rattle.ft_model.specs.Histories.{Section, innermost, after_section, sections_at, hands_at, has_call_on, needs_at, disturbs, is_disturbed, is_marked, marks_between, IfEnds, IsKeptBy, IsCountedBy, IsMarked, IsKept, IsCounted}
+use Rattle.ft_model.specs.Histories.{Section, innermost, after_section, sections_at, hands_at, has_call_on, needs_at, disturbs, is_disturbed, is_marked, marks_between, IfInnermost, IfEnds, IsKeptBy, IsCountedAs, IsCountedBy, IsMarked, IsKept, IsCounted}
 use Rattle.ft_model.specs.declared.call.Containers.{Containers}
 use Rattle.ft_model.specs.Calls.{container_list}
-use Rattle.ft_history.specs.declared.progress.Progress.{Progress}
+use Rattle.ft_history.specs.declared.progress.ThreadProgress.{ThreadProgress}
 use Rattle.ft_history.specs.declared.writers.LastWrites.{LastWrites}
-use Rattle.ft_model.specs.Numbers.{IsCountedAs}
-use Rattle.ft_history.specs.States.{Begun, is_used, AreUsers, all_begun, after_begun, inner_begun, section_of, IfEndsBegun, IsOpen, IsProgress, IsLast, is_written_since, is_written_on, IsKeptSince}
+use Rattle.ft_history.specs.States.{Begun, is_used, AreUsers, all_begun, after_begun, inner_begun, section_of, IfInnerBegun, IfEndsBegun, IsOpen, IsProgress, IsLast, is_written_since, is_written_on, IsKeptSince}
 use Rattle.ft_history.proofs.ProgressLemmas.{sections_alike}
 use Rattle.ft_history.proofs.LastWriteLemmas.{any_of_containers}
 
@@ -42,7 +41,7 @@ inner_alike : (sections : List Begun) → innermost (map section_of sections) �
 inner_alike [] = refl
 inner_alike (section ∷ sections) = refl
 
-pub marked_iff : (script : ScriptParts) (entries : List Entry) (place : ℕ) (entry : Entry) (progress : Progress) (users : List (Vec Bool)) (own inner : Containers) (r : Bool)
+pub marked_iff : (script : ScriptParts) (entries : List Entry) (place : ℕ) (entry : Entry) (progress : ThreadProgress) (users : List (Vec Bool)) (own inner : Containers) (r : Bool)
     → AreUsers script users → IsProgress script entries entry.thread place progress → container_list own ≡ containers_used progress.hands entry.call
     → ((at marks : ℕ) → container_list inner ≡ inner_begun (after_begun at marks entry.call (all_begun progress.sections.items)))
     → IsTrue r ↔ IfSome entry.waited (λ thread. (thread ≢ entry.thread) × (list_any (is_used users thread) (container_list own ++ container_list inner) ≡ true)) → IsTrue r ↔ IsMarked script entries place entry
@@ -58,19 +57,20 @@ marked_iff script entries place entry progress users own inner r are_users so_fa
 
 -- ---- ends
 
+inner_iff : (sections : List Begun) (R Q : Begun → Type 0) (P : Section → Type 0) → AllByRecursion R sections → ((section : Begun) → R section → Q section ↔ P (section_of section))
+    → IfInnerBegun sections Q ↔ IfInnermost (map section_of sections) P
+inner_iff [] R Q P each same = (λ _. tt, λ _. tt)
+inner_iff (section ∷ sections) R Q P each same = same section each.0
+
 ends_iff : (sections : List Begun) (called : Call) (R Q : Begun → Type 0) (P : Section → Type 0) → AllByRecursion R sections → ((section : Begun) → R section → Q section ↔ P (section_of section))
     → IfEndsBegun sections called Q ↔ IfEnds (map section_of sections) called P
-ends_iff [] called R Q P each same = (λ _. tt, λ _. nothing called)
-  where
-    nothing : (c : Call) → IfEndsBegun [] c Q
-    nothing c = tt
-ends_iff (section ∷ sections) call.End R Q P each same = same section each.0
-ends_iff (section ∷ sections) (call.Dict container dict_call) R Q P each same = (λ _. tt, λ _. tt)
-ends_iff (section ∷ sections) (call.List container list_call) R Q P each same = (λ _. tt, λ _. tt)
-ends_iff (section ∷ sections) (call.Set container set_call) R Q P each same = (λ _. tt, λ _. tt)
-ends_iff (section ∷ sections) (call.Next cursor) R Q P each same = (λ _. tt, λ _. tt)
-ends_iff (section ∷ sections) (call.Begin first second) R Q P each same = (λ _. tt, λ _. tt)
-ends_iff (section ∷ sections) call.Quiesce R Q P each same = (λ _. tt, λ _. tt)
+ends_iff sections call.End R Q P each same = inner_iff sections R Q P each same
+ends_iff sections (call.Dict container dict_call) R Q P each same = (λ _. tt, λ _. tt)
+ends_iff sections (call.List container list_call) R Q P each same = (λ _. tt, λ _. tt)
+ends_iff sections (call.Set container set_call) R Q P each same = (λ _. tt, λ _. tt)
+ends_iff sections (call.Next cursor) R Q P each same = (λ _. tt, λ _. tt)
+ends_iff sections (call.Begin first second) R Q P each same = (λ _. tt, λ _. tt)
+ends_iff sections call.Quiesce R Q P each same = (λ _. tt, λ _. tt)
 
 -- ---- kept
 
@@ -103,7 +103,7 @@ module _ (script : ScriptParts) (entries : List Entry) (place : ℕ) (thread : �
   kept_alike (reply.Suspended n) section is_open = (λ _. tt, λ _. tt)
   kept_alike (reply.Raised raise) section is_open = (λ _. tt, λ _. tt)
 
-pub kept_iff : (script : ScriptParts) (entries : List Entry) (place : ℕ) (entry : Entry) (progress : Progress) (containers : List LastWrites) (r : Bool)
+pub kept_iff : (script : ScriptParts) (entries : List Entry) (place : ℕ) (entry : Entry) (progress : ThreadProgress) (containers : List LastWrites) (r : Bool)
     → length containers ≡ length script.containers → ((container : ℕ) (last : LastWrites) → slice_get containers container ≡ Some last → IsLast entries place container last) → IsProgress script entries entry.thread place progress
     → IsTrue r ↔ IfEndsBegun (all_begun progress.sections.items) entry.call (λ section. IsKeptSince containers entry.thread section entry.reply) → IsTrue r ↔ IsKept entries place entry
 kept_iff script entries place entry progress containers r long lasts so_far is =
@@ -136,7 +136,7 @@ module _ (script : ScriptParts) (entries : List Entry) (place thread marks : ℕ
   counted_alike reply.Entered section is_open = (λ _. tt, λ _. tt)
   counted_alike (reply.Raised raise) section is_open = (λ _. tt, λ _. tt)
 
-pub counted_iff : (script : ScriptParts) (entries : List Entry) (place : ℕ) (entry : Entry) (progress : Progress) (r : Bool)
+pub counted_iff : (script : ScriptParts) (entries : List Entry) (place : ℕ) (entry : Entry) (progress : ThreadProgress) (r : Bool)
     → IsProgress script entries entry.thread place progress
     → IsTrue r ↔ IfEndsBegun (all_begun progress.sections.items) entry.call (λ section. IsCountedAs (progress.marks - section.marks) entry.reply) → IsTrue r ↔ IsCounted entries place entry
 counted_iff script entries place entry progress r so_far is =

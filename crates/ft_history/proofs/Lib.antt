@@ -13,7 +13,7 @@ pub mod LastWriteLemmas
 pub mod LateRules
 pub mod LaterNumbers
 pub mod Leaves
-pub mod LedgerLemmas
+pub mod AccountLemmas
 pub mod NextEntries
 pub mod Numbered
 pub mod NumberedHistories

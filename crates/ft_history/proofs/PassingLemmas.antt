@@ -77,21 +77,21 @@ module _ (world : List Content) (place : ℕ) (x : Content) (low : place < lengt
 
 -- ---- what passes now
 
-passes_dict : (world : List Content) (place : ℕ) → IsOfKind world kind.Dict place → passes_cap (get_or world place empty) ≡ ltb 2730 (length (dict_at world place).pairs)
+passes_dict : (world : List Content) (place : ℕ) → IsOfKind world kind.Dict place → passes_cap (get_or world place empty) ≡ ltb 43690 (length (dict_at world place).pairs)
 passes_dict [] place is = absurd (let e : None ≡ Some kind.Dict = is in cc)
 passes_dict (content.Dict d ∷ world) zero is = refl
 passes_dict (content.List items ∷ world) zero is = absurd (let e : Some kind.List ≡ Some kind.Dict = is in cc)
 passes_dict (content.Set s ∷ world) zero is = absurd (let e : Some kind.Set ≡ Some kind.Dict = is in cc)
 passes_dict (first ∷ world) (suc place) is = passes_dict world place is
 
-passes_list : (world : List Content) (place : ℕ) → IsOfKind world kind.List place → passes_cap (get_or world place empty) ≡ ltb 4096 (length (list_at world place))
+passes_list : (world : List Content) (place : ℕ) → IsOfKind world kind.List place → passes_cap (get_or world place empty) ≡ ltb 65536 (length (list_at world place))
 passes_list [] place is = absurd (let e : None ≡ Some kind.List = is in cc)
 passes_list (content.List items ∷ world) zero is = refl
 passes_list (content.Dict d ∷ world) zero is = absurd (let e : Some kind.Dict ≡ Some kind.List = is in cc)
 passes_list (content.Set s ∷ world) zero is = absurd (let e : Some kind.Set ≡ Some kind.List = is in cc)
 passes_list (first ∷ world) (suc place) is = passes_list world place is
 
-passes_set : (world : List Content) (place : ℕ) → IsOfKind world kind.Set place → passes_cap (get_or world place empty) ≡ ltb 2457 (length (set_at world place).elements)
+passes_set : (world : List Content) (place : ℕ) → IsOfKind world kind.Set place → passes_cap (get_or world place empty) ≡ ltb 39321 (length (set_at world place).elements)
 passes_set [] place is = absurd (let e : None ≡ Some kind.Set = is in cc)
 passes_set (content.Set s ∷ world) zero is = refl
 passes_set (content.Dict d ∷ world) zero is = absurd (let e : Some kind.Dict ≡ Some kind.Set = is in cc)
@@ -112,30 +112,30 @@ module _ (world : List Content) (place : ℕ) (one : IsOfKind world kind.Dict pl
   low_dict : place < length world
   low_dict = is_there world kind.Dict place one
 
-  pub dict_set_passes : (key : Key) (value : Value) → ltb 2730 (length (dict_at world place).pairs + cond (has_key (dict_at world place).pairs key) 0 1) ≡ would_pass world (call.Dict place (dict.Set key value))
-  dict_set_passes key value = ap (λ n. ltb 2730 n) (sym (length-dict_set (dict_at world place) key value)) ∙ sym (written_one world place (content.Dict (dict_set (dict_at world place) key value)) low_dict)
+  pub dict_set_passes : (key : Key) (value : Value) → ltb 43690 (length (dict_at world place).pairs + cond (has_key (dict_at world place).pairs key) 0 1) ≡ would_pass world (call.Dict place (dict.Set key value))
+  dict_set_passes key value = ap (λ n. ltb 43690 n) (sym (length-dict_set (dict_at world place) key value)) ∙ sym (written_one world place (content.Dict (dict_set (dict_at world place) key value)) low_dict)
 
-  pub dict_default_passes : (key : Key) (value : Value) → ltb 2730 (length (dict_at world place).pairs + cond (has_key (dict_at world place).pairs key) 0 1) ≡ would_pass world (call.Dict place (dict.SetDefault key value))
+  pub dict_default_passes : (key : Key) (value : Value) → ltb 43690 (length (dict_at world place).pairs + cond (has_key (dict_at world place).pairs key) 0 1) ≡ would_pass world (call.Dict place (dict.SetDefault key value))
   dict_default_passes key value =
       let old : DictContent = dict_at world place in
-      elim (dict_get old.pairs key) as (λ o. dict_get old.pairs key ≡ o → ltb 2730 (length old.pairs + cond (has_key old.pairs key) 0 1) ≡ some_passes (option_map_or (λ found. shows world no_hands (reply.Value found)) o (puts world no_hands place (content.Dict (dict_set old key value)) (reply.Value value))).world (place ∷ [])) [
+      elim (dict_get old.pairs key) as (λ o. dict_get old.pairs key ≡ o → ltb 43690 (length old.pairs + cond (has_key old.pairs key) 0 1) ≡ some_passes (option_map_or (λ found. shows world no_hands (reply.Value found)) o (puts world no_hands place (content.Dict (dict_set old key value)) (reply.Value value))).world (place ∷ [])) [
         | None ↦ λ none. dict_set_passes key value
         | Some found ↦ λ some.
             let same : length old.pairs + 0 ≡ length old.pairs = omega arith in
-            ap (λ b. ltb 2730 (length old.pairs + cond b 0 1)) (found_key old.pairs key found some) ∙ ap (λ n. ltb 2730 n) same ∙ sym (passes_dict world place one) ∙ sym (or_false (passes_cap (get_or world place empty)))
+            ap (λ b. ltb 43690 (length old.pairs + cond b 0 1)) (found_key old.pairs key found some) ∙ ap (λ n. ltb 43690 n) same ∙ sym (passes_dict world place one) ∙ sym (or_false (passes_cap (get_or world place empty)))
       ] refl
 
   pub dict_update_passes : (other : ℕ) → IsOfKind world kind.Dict other
-      → (ltb 2730 (length (dict_update (dict_at world place) (dict_at world other).pairs).pairs) || (not (eqb place other) && ltb 2730 (length (dict_at world other).pairs))) ≡ would_pass world (call.Dict place (dict.Update other))
+      → (ltb 43690 (length (dict_update (dict_at world place) (dict_at world other).pairs).pairs) || (not (eqb place other) && ltb 43690 (length (dict_at world other).pairs))) ≡ would_pass world (call.Dict place (dict.Update other))
   dict_update_passes other both =
       let updated : Content = content.Dict (dict_update (dict_at world place) (dict_at world other).pairs) in
       ap (λ b. passes_cap updated || (not (eqb place other) && b)) (sym (passes_dict world other both))
       ∙ sym (written_two world place updated low_dict other)
 
-  pub dict_copy_passes : (other : ℕ) → IsOfKind world kind.Dict other → ltb 2730 (length (dict_at world place).pairs) ≡ would_pass world (call.Dict place (dict.CopyTo other))
+  pub dict_copy_passes : (other : ℕ) → IsOfKind world kind.Dict other → ltb 43690 (length (dict_at world place).pairs) ≡ would_pass world (call.Dict place (dict.CopyTo other))
   dict_copy_passes other both =
       let copied : Content = content.Dict (dict_copy (dict_at world other) (dict_at world place).pairs) in
-      let same : passes_cap copied ≡ ltb 2730 (length (dict_at world place).pairs) = ap (λ n. ltb 2730 n) (length-pairs_from (dict_at world other).next (dict_at world place).pairs) in
+      let same : passes_cap copied ≡ ltb 43690 (length (dict_at world place).pairs) = ap (λ n. ltb 43690 n) (length-pairs_from (dict_at world other).next (dict_at world place).pairs) in
       sym same ∙ sym (written_copy world other copied (is_there world kind.Dict other both) place (passes_dict world place one ∙ sym same))
 
 -- ---- lists
@@ -148,16 +148,16 @@ module _ (world : List Content) (place : ℕ) (one : IsOfKind world kind.List pl
   low_list : place < length world
   low_list = is_there world kind.List place one
 
-  pub list_append_passes : (value : Value) → ltb 4096 (length (list_at world place) + 1) ≡ would_pass world (call.List place (list.Append value))
-  list_append_passes value = ap (λ n. ltb 4096 n) (sym (length_push (list_at world place) value)) ∙ sym (written_one world place (content.List (list_at world place ++ value ∷ [])) low_list)
+  pub list_append_passes : (value : Value) → ltb 65536 (length (list_at world place) + 1) ≡ would_pass world (call.List place (list.Append value))
+  list_append_passes value = ap (λ n. ltb 65536 n) (sym (length_push (list_at world place) value)) ∙ sym (written_one world place (content.List (list_at world place ++ value ∷ [])) low_list)
 
-  pub list_insert_passes : (index : ℤ) (value : Value) → ltb 4096 (length (list_at world place) + 1) ≡ would_pass world (call.List place (list.Insert index value))
-  list_insert_passes index value = ap (λ n. ltb 4096 n) (sym (length-insert (list_at world place) (clamped_in (length (list_at world place)) index) value (clamped (list_at world place) index))) ∙ sym (written_one world place (content.List (list_insert (list_at world place) index value)) low_list)
+  pub list_insert_passes : (index : ℤ) (value : Value) → ltb 65536 (length (list_at world place) + 1) ≡ would_pass world (call.List place (list.Insert index value))
+  list_insert_passes index value = ap (λ n. ltb 65536 n) (sym (length-insert (list_at world place) (clamped_in (length (list_at world place)) index) value (clamped (list_at world place) index))) ∙ sym (written_one world place (content.List (list_insert (list_at world place) index value)) low_list)
 
-  pub list_extend_passes : (other : ℕ) → IsOfKind world kind.List other → (ltb 4096 (length (list_at world place) + length (list_at world other)) || (not (eqb place other) && ltb 4096 (length (list_at world other)))) ≡ would_pass world (call.List place (list.Extend other))
+  pub list_extend_passes : (other : ℕ) → IsOfKind world kind.List other → (ltb 65536 (length (list_at world place) + length (list_at world other)) || (not (eqb place other) && ltb 65536 (length (list_at world other)))) ≡ would_pass world (call.List place (list.Extend other))
   list_extend_passes other both =
       let longer : Content = content.List (list_at world place ++ list_at world other) in
-      ap (λ n. ltb 4096 n || (not (eqb place other) && ltb 4096 (length (list_at world other)))) (sym (length-append (list_at world place) (list_at world other)))
+      ap (λ n. ltb 65536 n || (not (eqb place other) && ltb 65536 (length (list_at world other)))) (sym (length-append (list_at world place) (list_at world other)))
       ∙ ap (λ b. passes_cap longer || (not (eqb place other) && b)) (sym (passes_list world other both))
       ∙ sym (written_two world place longer low_list other)
 
@@ -178,8 +178,8 @@ module _ (world : List Content) (place : ℕ) (one : IsOfKind world kind.Set pla
   low_set : place < length world
   low_set = is_there world kind.Set place one
 
-  pub set_add_passes : (key : Key) → ltb 2457 (length (set_at world place).elements + cond (has_element (set_at world place).elements key) 0 1) ≡ would_pass world (call.Set place (set_call.Add key))
-  set_add_passes key = ap (λ n. ltb 2457 n) (sym (length-set_add (set_at world place) key)) ∙ sym (written_one world place (content.Set (set_add (set_at world place) key)) low_set)
+  pub set_add_passes : (key : Key) → ltb 39321 (length (set_at world place).elements + cond (has_element (set_at world place).elements key) 0 1) ≡ would_pass world (call.Set place (set_call.Add key))
+  set_add_passes key = ap (λ n. ltb 39321 n) (sym (length-set_add (set_at world place) key)) ∙ sym (written_one world place (content.Set (set_add (set_at world place) key)) low_set)
 
   -- the elements that are kept, and those of the other set that are added
   joined : List Element → ℕ → Content
@@ -190,19 +190,19 @@ module _ (world : List Content) (place : ℕ) (one : IsOfKind world kind.Set pla
       })
 
   joined_passes : (kept : List Element) (other : ℕ) → IsOfKind world kind.Set other
-      → (ltb 2457 (length kept + length (those_not_in (set_at world place).elements (set_at world other).elements)) || (not (eqb place other) && ltb 2457 (length (set_at world other).elements))) ≡ some_passes (set world place (joined kept other)) (one_or_two place (Some other))
+      → (ltb 39321 (length kept + length (those_not_in (set_at world place).elements (set_at world other).elements)) || (not (eqb place other) && ltb 39321 (length (set_at world other).elements))) ≡ some_passes (set world place (joined kept other)) (one_or_two place (Some other))
   unfolding joined
   joined_passes kept other both =
-      ap (λ n. ltb 2457 n || (not (eqb place other) && ltb 2457 (length (set_at world other).elements))) (sym (length-added kept (those_not_in (set_at world place).elements (set_at world other).elements) (set_at world place).next))
+      ap (λ n. ltb 39321 n || (not (eqb place other) && ltb 39321 (length (set_at world other).elements))) (sym (length-added kept (those_not_in (set_at world place).elements (set_at world other).elements) (set_at world place).next))
       ∙ ap (λ b. passes_cap (joined kept other) || (not (eqb place other) && b)) (sym (passes_set world other both))
       ∙ sym (written_two world place (joined kept other) low_set other)
 
   pub set_or_passes : (other : ℕ) → IsOfKind world kind.Set other
-      → (ltb 2457 (length (set_at world place).elements + length (those_not_in (set_at world place).elements (set_at world other).elements)) || (not (eqb place other) && ltb 2457 (length (set_at world other).elements))) ≡ would_pass world (call.Set place (set_call.Or other))
+      → (ltb 39321 (length (set_at world place).elements + length (those_not_in (set_at world place).elements (set_at world other).elements)) || (not (eqb place other) && ltb 39321 (length (set_at world other).elements))) ≡ would_pass world (call.Set place (set_call.Or other))
   unfolding joined
   set_or_passes other both = joined_passes (set_at world place).elements other both
 
   pub set_xor_passes : (other : ℕ) → IsOfKind world kind.Set other
-      → (ltb 2457 (length (those_not_in (set_at world other).elements (set_at world place).elements) + length (those_not_in (set_at world place).elements (set_at world other).elements)) || (not (eqb place other) && ltb 2457 (length (set_at world other).elements))) ≡ would_pass world (call.Set place (set_call.Xor other))
+      → (ltb 39321 (length (those_not_in (set_at world other).elements (set_at world place).elements) + length (those_not_in (set_at world place).elements (set_at world other).elements)) || (not (eqb place other) && ltb 39321 (length (set_at world other).elements))) ≡ would_pass world (call.Set place (set_call.Xor other))
   unfolding joined
   set_xor_passes other both = joined_passes (those_not_in (set_at world other).elements (set_at world place).elements) other both

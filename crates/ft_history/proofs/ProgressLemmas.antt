@@ -14,7 +14,7 @@ use Rattle.ft_model.specs.Calls.{containers_of}
 use Rattle.ft_model.specs.Worlds.{start_hands}
 use Rattle.ft_model.specs.Answers.{answer, is_memory}
 use Rattle.ft_model.specs.Histories.{Section, entries_of, cursors_of, after_entry, hands_at, is_marked, sections_at, after_section, after_numbered, world_at, writes}
-use Rattle.ft_history.specs.declared.progress.Progress.{Progress}
+use Rattle.ft_history.specs.declared.progress.ThreadProgress.{ThreadProgress}
 use Rattle.ft_history.specs.States.{world_before, Begun, all_begun, after_begun, section_of, IsOpen, IsProgress}
 use Rattle.ft_history.proofs.Places.{take_next, filter_next, world_at-before}
 use Rattle.ft_history.proofs.Sections.{sections_next}
@@ -72,7 +72,7 @@ module _ (script : ScriptParts) (entries : List Entry) (place : ℕ) (entry : En
       ∙ fold_push (after_entry script entries) (start_hands (cursors_of script entry.thread)) (entries_of entry.thread (take place entries)) entry
       ∙ ap (λ world. cond (is_memory entry.reply) hands (answer world hands entry.call).hands) (ap (world_at script entries) stamp ∙ world_at-before script entries place)
 
-  pub progress_other : (thread : ℕ) (progress : Progress) → (entry.thread ≢ thread) → IsProgress script entries thread place progress → IsProgress script entries thread (place + 1) progress
+  pub progress_other : (thread : ℕ) (progress : ThreadProgress) → (entry.thread ≢ thread) → IsProgress script entries thread place progress → IsProgress script entries thread (place + 1) progress
   progress_other thread progress other so_far =
       record {
         made = so_far.made ∙ ap length (sym (entries_of_other thread other));
@@ -82,7 +82,7 @@ module _ (script : ScriptParts) (entries : List Entry) (place : ℕ) (entry : En
         «open» = still_open script entries thread place (all_begun progress.sections.items) so_far.«open»;
       }
 
-  pub progress_mine : (old new : Progress) → IsProgress script entries entry.thread place old → entry.stamp ≡ length (writes (take place entries)) → All (λ which. which < length script.containers) (containers_of entry.call)
+  pub progress_mine : (old new : ThreadProgress) → IsProgress script entries entry.thread place old → entry.stamp ≡ length (writes (take place entries)) → All (λ which. which < length script.containers) (containers_of entry.call)
       → new.made ≡ old.made + 1 → new.marks ≡ old.marks + cond (is_some entry.waited) 1 0
       → new.hands ≡ cond (is_memory entry.reply) old.hands (answer (world_before script entries place) old.hands entry.call).hands
       → all_begun new.sections.items ≡ after_begun place new.marks entry.call (all_begun old.sections.items)

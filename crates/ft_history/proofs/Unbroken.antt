@@ -60,10 +60,10 @@ module _ (storage : Storage) (script : ScriptParts) (entries : List Entry) (lega
         index =
             let by_range : Some entry.index ≡ Some (1 + length front) =
             sym (slice_get-map (λ (e : Entry). e.index) (entries_of entry.thread entries) (length front) ∙ ap (option_map (λ (e : Entry). e.index)) here)
-            ∙ ap (λ (ks : List ℕ). slice_get ks (length front)) (legal.whole.indexes entry.thread) ∙ range_at 1 _ _ low in
+            ∙ ap (λ (ks : List ℕ). slice_get ks (length front)) (legal.chronicle.whole.indexes entry.thread) ∙ range_at 1 _ _ low in
             let e : entry.index ≡ 1 + length front = cc in omega arith;
         call =
-            ap (λ (cs : List Call). slice_get cs (length front)) (sym (legal.whole.calls entry.thread))
+            ap (λ (cs : List Call). slice_get cs (length front)) (sym (legal.chronicle.whole.calls entry.thread))
             ∙ slice_get-map (λ (e : Entry). e.call) (entries_of entry.thread entries) (length front) ∙ ap (option_map (λ (e : Entry). e.call)) here;
       }
 
@@ -76,18 +76,18 @@ module _ (storage : Storage) (script : ScriptParts) (entries : List Entry) (lega
 
   keeps_of_legal : (place : ℕ) (entry : Entry) → slice_get entries place ≡ Some entry → (r : Rule) → Keeps storage script entries r place entry
   keeps_of_legal place entry at rule.Whole = next_of_legal place entry at
-  keeps_of_legal place entry at rule.Stamp = record { stamp = (legal.answered place entry at).stamp; wrote = (legal.answered place entry at).wrote }
+  keeps_of_legal place entry at rule.Stamp = record { stamp = (legal.chronicle.answered place entry at).stamp; wrote = (legal.chronicle.answered place entry at).wrote }
   keeps_of_legal place entry at rule.Order = after_of_legal place entry at
-  keeps_of_legal place entry at rule.Reply = subst (λ n. IsReplied entry.call entry.reply (answer (world_at script entries n) (hands_at script entries entry.thread place) entry.call).reply) (legal.answered place entry at).stamp (legal.answered place entry at).reply
-  keeps_of_legal place entry at rule.Mark = legal.marked place entry at
-  keeps_of_legal place entry at rule.Kept = legal.kept place entry at
-  keeps_of_legal place entry at rule.Suspended = legal.counted place entry at
-  keeps_of_legal place entry at rule.Memory = legal.earned place entry at
+  keeps_of_legal place entry at rule.Reply = subst (λ n. IsReplied entry.call entry.reply (answer (world_at script entries n) (hands_at script entries entry.thread place) entry.call).reply) (legal.chronicle.answered place entry at).stamp (legal.chronicle.answered place entry at).reply
+  keeps_of_legal place entry at rule.Mark = legal.chronicle.marked place entry at
+  keeps_of_legal place entry at rule.Kept = legal.chronicle.kept place entry at
+  keeps_of_legal place entry at rule.Suspended = legal.chronicle.counted place entry at
+  keeps_of_legal place entry at rule.Memory = legal.chronicle.earned place entry at
   keeps_of_legal place entry at rule.Missing = tt
   keeps_of_legal place entry at rule.World = tt
 
   complete_of_legal : IsComplete script entries
-  complete_of_legal thread = omega (arith, ap length (legal.whole.calls thread), length-map (entries_of thread entries) (λ (e : Entry). e.call))
+  complete_of_legal thread = omega (arith, ap length (legal.chronicle.whole.calls thread), length-map (entries_of thread entries) (λ (e : Entry). e.call))
 
   keeps_after_of_legal : (r : Rule) → KeepsAfter script entries r
   keeps_after_of_legal rule.Missing = complete_of_legal
@@ -164,15 +164,17 @@ module _ (storage : Storage) (script : ScriptParts) (entries : List Entry) (unbr
   legal_of_unbroken =
       record {
         order = order_of_unbroken;
-        whole = whole_of_unbroken;
-        answered = λ place entry at.
-            record {
-              stamp = (stamped place entry at).stamp;
-              wrote = (stamped place entry at).wrote;
-              reply = subst (λ n. IsReplied entry.call entry.reply (answer (world_at script entries n) (hands_at script entries entry.thread place) entry.call).reply) (sym (stamped place entry at).stamp) ((unbroken place rule.Reply).entry entry at);
-            };
-        marked = λ place entry at. (unbroken place rule.Mark).entry entry at;
-        kept = λ place entry at. (unbroken place rule.Kept).entry entry at;
-        counted = λ place entry at. (unbroken place rule.Suspended).entry entry at;
-        earned = λ place entry at. (unbroken place rule.Memory).entry entry at;
+        chronicle = record {
+          whole = whole_of_unbroken;
+          answered = λ place entry at.
+              record {
+                stamp = (stamped place entry at).stamp;
+                wrote = (stamped place entry at).wrote;
+                reply = subst (λ n. IsReplied entry.call entry.reply (answer (world_at script entries n) (hands_at script entries entry.thread place) entry.call).reply) (sym (stamped place entry at).stamp) ((unbroken place rule.Reply).entry entry at);
+              };
+          marked = λ place entry at. (unbroken place rule.Mark).entry entry at;
+          kept = λ place entry at. (unbroken place rule.Kept).entry entry at;
+          counted = λ place entry at. (unbroken place rule.Suspended).entry entry at;
+          earned = λ place entry at. (unbroken place rule.Memory).entry entry at;
+        };
       }

@@ -13,7 +13,7 @@ use Rattle.ft_model.specs.declared.script.Thread.{Thread}
 use Rattle.ft_model.specs.declared.script.ScriptParts.{ScriptParts}
 use Rattle.ft_model.specs.Histories.{calls_of, entries_of, IsLegal}
 use Rattle.ft_model.specs.Judging.{HoldsAt, KeepsAfter, IsComplete, IsUnbroken, IsFirstBroken, rank_of}
-use Rattle.ft_history.specs.declared.progress.Progress.{Progress}
+use Rattle.ft_history.specs.declared.progress.ThreadProgress.{ThreadProgress}
 use Rattle.ft_history.specs.declared.state.State.{State}
 use Rattle.ft_history.specs.Steps.{IsState, IsUnbrokenBefore, BreaksFirst, Finds, HaveMadeAll}
 use Rattle.ft_history.proofs.Unbroken.{legal_of_unbroken}

@@ -1,5 +1,5 @@
 pub mod Verdicts
 pub mod Laws
-pub mod Ledgers
+pub mod Accounts
 pub mod States
 pub mod Steps

@@ -19,7 +19,7 @@ use Rattle.ft_model.specs.Worlds.{start_world, start_hands, IsDeclared, cursor_a
 use Rattle.ft_model.specs.Answers.{after_write}
 use Rattle.ft_model.specs.Histories.{Section, entries_of, calls_of, cursors_of, hands_at, writes, sections_at, is_marked, disturbs, has_call_on}
 use Rattle.ft_history.specs.declared.progress.OpenSection.{OpenSection}
-use Rattle.ft_history.specs.declared.progress.Progress.{Progress}
+use Rattle.ft_history.specs.declared.progress.ThreadProgress.{ThreadProgress}
 use Rattle.ft_history.specs.declared.writers.LastWrites.{LastWrites}
 use Rattle.ft_history.specs.declared.writers.Write.{Write}
 
@@ -38,7 +38,10 @@ abbrev pub IsAskable : List Content → List (Option Cursor) → Call → Type 0
 IsAskable world hands (call.Begin first second) = Unit {0}
 IsAskable world hands call.End = Unit {0}
 IsAskable world hands call.Quiesce = Unit {0}
-IsAskable world hands called = IsDeclared world hands called
+IsAskable world hands (call.Dict container dict_call) = IsDeclared world hands (call.Dict container dict_call)
+IsAskable world hands (call.List container list_call) = IsDeclared world hands (call.List container list_call)
+IsAskable world hands (call.Set container set_call) = IsDeclared world hands (call.Set container set_call)
+IsAskable world hands (call.Next cursor) = IsDeclared world hands (call.Next cursor)
 
 -- ---- who uses what
 
@@ -69,7 +72,11 @@ all_begun sections = reverse (map begun_of sections)
 abbrev pub after_begun : ℕ → ℕ → Call → List Begun → List Begun
 after_begun place marks (call.Begin first second) sections = record { containers = one_or_two first second; begun = place; marks = marks } ∷ sections
 after_begun place marks call.End sections = drop 1 sections
-after_begun place marks other sections = sections
+after_begun place marks (call.Dict container dict_call) sections = sections
+after_begun place marks (call.List container list_call) sections = sections
+after_begun place marks (call.Set container set_call) sections = sections
+after_begun place marks (call.Next cursor) sections = sections
+after_begun place marks call.Quiesce sections = sections
 
 -- the section without its count
 abbrev pub section_of : Begun → Section
@@ -81,10 +88,20 @@ pub record IsOpen (script : ScriptParts) (entries : List Entry) (thread place : 
   pub marks : section.marks ≡ count_by (is_marked thread) (take (section.begun + 1) entries)
   pub containers : All (λ container. container < length script.containers) section.containers
 
+-- this holds for what is kept of the innermost open section, where there is one
+abbrev pub IfInnerBegun : List Begun → (Begun → Type 0) → Type 0
+IfInnerBegun [] P = Unit {0}
+IfInnerBegun (section ∷ sections) P = P section
+
 -- of an `end`, this holds for what is kept of the section that it ends
 abbrev pub IfEndsBegun : List Begun → Call → (Begun → Type 0) → Type 0
-IfEndsBegun (section ∷ sections) call.End P = P section
-IfEndsBegun sections other P = Unit {0}
+IfEndsBegun sections call.End P = IfInnerBegun sections P
+IfEndsBegun sections (call.Dict container dict_call) P = Unit {0}
+IfEndsBegun sections (call.List container list_call) P = Unit {0}
+IfEndsBegun sections (call.Set container set_call) P = Unit {0}
+IfEndsBegun sections (call.Next cursor) P = Unit {0}
+IfEndsBegun sections (call.Begin first second) P = Unit {0}
+IfEndsBegun sections call.Quiesce P = Unit {0}
 
 -- the containers of the innermost open section, where there is one
 abbrev pub inner_begun : List Begun → List ℕ
@@ -94,7 +111,7 @@ inner_begun (section ∷ sections) = section.containers
 -- ---- threads
 
 -- what is kept of a thread before a place
-pub record IsProgress (script : ScriptParts) (entries : List Entry) (thread place : ℕ) (progress : Progress) : Type 0 where
+pub record IsProgress (script : ScriptParts) (entries : List Entry) (thread place : ℕ) (progress : ThreadProgress) : Type 0 where
   pub made : progress.made ≡ length (entries_of thread (take place entries))
   pub marks : progress.marks ≡ count_by (is_marked thread) (take place entries)
   pub hands : progress.hands ≡ hands_at script entries thread place
@@ -102,7 +119,7 @@ pub record IsProgress (script : ScriptParts) (entries : List Entry) (thread plac
   pub «open» : AllByRecursion (IsOpen script entries thread place) (all_begun progress.sections.items)
 
 -- what is kept of a thread that has made no call
-pub record IsFresh (thread : Thread) (progress : Progress) : Type 0 where
+pub record IsFresh (thread : Thread) (progress : ThreadProgress) : Type 0 where
   pub made : progress.made ≡ 0
   pub marks : progress.marks ≡ 0
   pub hands : progress.hands ≡ start_hands (length thread.cursors)

@@ -10,10 +10,10 @@ use Rattle.ft_model.specs.Worlds.{kind_of}
 use Rattle.ft_model.specs.Answers.{answer, is_memory}
 use Rattle.ft_model.specs.Histories.{writes, names, IsReplied}
 use Rattle.ft_model.specs.Judging.{Keeps, HoldsAt, rank_of}
-use Rattle.ft_history.specs.declared.progress.Progress.{Progress}
+use Rattle.ft_history.specs.declared.progress.ThreadProgress.{ThreadProgress}
 use Rattle.ft_history.specs.declared.writers.LastWrites.{LastWrites}
 use Rattle.ft_history.specs.declared.state.State.{State}
-use Rattle.ft_history.specs.Ledgers.{IsLedger, GoesOn}
+use Rattle.ft_history.specs.Accounts.{IsAccount, CountsCall}
 use Rattle.ft_history.specs.States.{world_before, all_begun, after_begun, after_one, IsProgress, AreHandsOf, IsLast}
 
 -- the state says what the entries before a place come to
@@ -22,14 +22,14 @@ pub record IsState (script : ScriptParts) (entries : List Entry) (place : ℕ) (
   pub kinds : map kind_of state.world ≡ map (λ container. container.kind) script.containers
   pub count : state.writes ≡ length (writes (take place entries))
   pub threads : length state.threads.items ≡ length script.threads
-  pub progress : (thread : ℕ) (progress : Progress) → slice_get state.threads.items thread ≡ Some progress → IsProgress script entries thread place progress
-  pub hands : (thread : ℕ) (progress : Progress) → slice_get state.threads.items thread ≡ Some progress → AreHandsOf script thread progress.made progress.hands
+  pub progress : (thread : ℕ) (progress : ThreadProgress) → slice_get state.threads.items thread ≡ Some progress → IsProgress script entries thread place progress
+  pub hands : (thread : ℕ) (progress : ThreadProgress) → slice_get state.threads.items thread ≡ Some progress → AreHandsOf script thread progress.made progress.hands
   pub containers : length state.containers.items ≡ length script.containers
   pub lasts : (container : ℕ) (last : LastWrites) → slice_get state.containers.items container ≡ Some last → IsLast entries place container last
-  pub ledger : IsLedger script (writes (take place entries)) state.ledger
+  pub account : IsAccount script (writes (take place entries)) state.account
 
 -- the state goes on after an entry of the thread that went on from one progress to another
-pub record GoesAfter (place : ℕ) (entry : Entry) (said : Bool) (before after : Progress) (old new : State) : Type 0 where
+pub record GoesAfter (place : ℕ) (entry : Entry) (said : Bool) (before after : ThreadProgress) (old new : State) : Type 0 where
   pub at : slice_get old.threads.items entry.thread ≡ Some before
   pub threads : new.threads.items ≡ slice_set old.threads.items entry.thread after
   pub reported : IsTrue said ↔ IsReplied entry.call entry.reply (answer old.world before.hands entry.call).reply
@@ -42,8 +42,8 @@ pub record GoesAfter (place : ℕ) (entry : Entry) (said : Bool) (before after :
   pub containers : length new.containers.items ≡ length old.containers.items
   pub lasts : (container : ℕ) (other : LastWrites) → slice_index_or new.containers.items container other
       ≡ (if entry.wrote && names container entry.call then after_one (slice_index_or old.containers.items container other) entry.thread place else slice_index_or old.containers.items container other)
-  pub taking : entry.wrote ≡ true → GoesOn old.world new.world entry.call old.ledger new.ledger
-  pub same : entry.wrote ≡ false → new.ledger ≡ old.ledger
+  pub taking : entry.wrote ≡ true → CountsCall old.world new.world entry.call old.account new.account
+  pub same : entry.wrote ≡ false → new.account ≡ old.account
 
 -- every rule holds at every place before this one
 abbrev pub IsUnbrokenBefore : Storage → ScriptParts → List Entry → ℕ → Type 0
@@ -80,6 +80,6 @@ Finds storage script entries place entry None = (rule : Rule) → Keeps storage 
 Finds storage script entries place entry (Some rule) = BreaksFirst storage script entries place entry rule
 
 -- each thread has made as many calls as it has
-abbrev pub HaveMadeAll : List Thread → List Progress → Type 0
+abbrev pub HaveMadeAll : List Thread → List ThreadProgress → Type 0
 HaveMadeAll threads progresses =
-    (thread : ℕ) (found : Thread) (progress : Progress) → slice_get threads thread ≡ Some found → slice_get progresses thread ≡ Some progress → length found.calls ≤ progress.made
+    (thread : ℕ) (found : Thread) (progress : ThreadProgress) → slice_get threads thread ≡ Some found → slice_get progresses thread ≡ Some progress → length found.calls ≤ progress.made

@@ -5,18 +5,18 @@ ghost use Rattle.ft_model.specs.declared.entry.Entry.{Entry};
 ghost use Rattle.ft_model.specs.declared.entry.Storage.{Storage};
 ghost use Rattle.ft_model.specs.declared.script.ScriptParts.{ScriptParts};
 ghost use Rattle.ft_model.specs.Calls.{containers_of};
-ghost use Rattle.ft_model.specs.Histories.{writes, world_at};
-ghost use Rattle.ft_model.specs.Tables.{IsEarned};
-ghost use Rattle.ft_history.specs.Ledgers.{AreOfKind};
-ghost use Rattle.ft_history.specs.declared.progress.Progress.{Progress};
+ghost use Rattle.ft_model.specs.Classes.{class_count};
+ghost use Rattle.ft_model.specs.Histories.{writes, world_at, IsEarnedAt};
+ghost use Rattle.ft_history.specs.Accounts.{AreOfKind};
+ghost use Rattle.ft_history.specs.declared.progress.ThreadProgress.{ThreadProgress};
 ghost use Rattle.ft_history.specs.Verdicts.{IsVerdict};
 ghost use Rattle.ft_history.specs.declared.verdict.Verdict.TheVariants as verdict;
 ghost use Rattle.ft_history.specs.States.{AreUsers, IsAskable};
 ghost use Rattle.ft_history.specs.Steps.{IsState, IsUnbrokenBefore, FindsEarly, FindsLate, Finds, GoesAfter, HaveMadeAll};
 
-use crate::ledger::note_taking;
+use crate::account::note_taking;
 use crate::memory::is_earned;
-use crate::progress::{Progress, go_through};
+use crate::progress::{ThreadProgress, go_through};
 use crate::rules::{
     containers_needed, inner_containers, is_after, is_counted_right, is_kept_right,
     is_marked_right, is_memory_error, is_next, is_stamped,
@@ -78,7 +78,7 @@ pub fn judge_with_world(
 }
 
 /// Whether each thread has made all its calls.
-fn is_complete(threads: &[Thread], progresses: &[Progress]) -> bool
+fn is_complete(threads: &[Thread], progresses: &[ThreadProgress]) -> bool
     requires { length threads.now ≡ length progresses.now }
     ensures { IsTrue result ↔ HaveMadeAll threads.now progresses.now }
 {
@@ -165,23 +165,23 @@ fn late_rule(
 /// Whether the reply is a MemoryError where one is due, and nowhere without cause.
 fn has_cause(storage: Storage, parts: &ScriptParts, state: &State, entry: &Entry) -> bool
     requires { AreOfKind state.now.world entry.now.call }
-    ensures { (entries : List Entry) (place : ℕ) → IsState parts.now entries place state.now → IsTrue result ↔ IsEarned storage parts.now (writes (take place entries)) entry.now }
+    ensures { (entries : List Entry) (place : ℕ) → IsState parts.now entries place state.now → IsTrue result ↔ IsEarnedAt storage parts.now entries place entry.now }
 {
     match storage {
         Storage::Plain => !is_memory_error(&entry.reply),
-        Storage::Tables => is_earned(parts, &state.world, &state.ledger, entry),
+        Storage::Tables => is_earned(parts, &state.world, &state.account, entry),
     }
 }
 
 /// Whether the reply is right, and goes on after the entry.
 fn go_after(alloc: Global, state: &mut State, place: u64, entry: &Entry) -> Result<bool, AllocError>
     requires thread { entry.now.thread < vec_len state.old.threads }
-    requires askable { (progress : Progress) → slice_get state.old.threads.items entry.now.thread ≡ Some progress → IsAskable state.old.world progress.hands entry.now.call }
-    requires few { (progress : Progress) → slice_get state.old.threads.items entry.now.thread ≡ Some progress → (progress.made < 2 ^ 63) × (progress.marks < 2 ^ 63) }
+    requires askable { (progress : ThreadProgress) → slice_get state.old.threads.items entry.now.thread ≡ Some progress → IsAskable state.old.world progress.hands entry.now.call }
+    requires few { (progress : ThreadProgress) → slice_get state.old.threads.items entry.now.thread ≡ Some progress → (progress.made < 2 ^ 63) × (progress.marks < 2 ^ 63) }
     requires writes { state.old.writes < 2 ^ 63 }
     requires containers { All (λ container. container < vec_len state.old.containers) (containers_of entry.now.call) }
-    requires ledger { vec_len state.old.ledger.takings ≡ 10 }
-    ensures { IfOk result (λ reported. (before : Progress) × (after : Progress) × GoesAfter place entry.now reported before after state.old state.new) }
+    requires account { vec_len state.old.account.takings ≡ class_count }
+    ensures { IfOk result (λ reported. (before : ThreadProgress) × (after : ThreadProgress) × GoesAfter place entry.now reported before after state.old state.new) }
 {
     let size = size_of_own(&state.world, &entry.call);
     let progress = &mut state.threads[entry.thread as usize];
@@ -194,7 +194,7 @@ fn go_after(alloc: Global, state: &mut State, place: u64, entry: &Entry) -> Resu
             entry.thread,
             place,
         );
-        note_taking(&mut state.ledger, &state.world, &entry.call, size)?;
+        note_taking(&mut state.account, &state.world, &entry.call, size)?;
     }
     Ok(reported)
 }

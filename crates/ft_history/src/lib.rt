@@ -2,12 +2,11 @@
 //! thread can have.
 #![tactic(auto)]
 
+mod account;
 mod chronicles;
-mod classes;
 mod equal;
 mod judging;
 mod laws;
-mod ledger;
 mod memory;
 mod merging;
 mod numbers;
@@ -17,7 +16,6 @@ mod replies;
 mod rules;
 mod sizes;
 mod state;
-mod table;
 #[cfg(test)]
 mod tests;
 mod users;

@@ -1,21 +1,26 @@
-ghost use Rattle.std.specs.Prelude.{◌≡◌, ◌↔◌, List, IsTrue};
+//! Whether a MemoryError has its cause, and none is missing. What the account says is what the writes
+//! before the entry come to, so that nothing of the containers themselves is asked.
+ghost use Rattle.std.specs.Prelude.{◌≡◌, ◌↔◌, List, IsTrue, length};
 ghost use Rattle.ft_model.specs.declared.call.Call.{Call};
-ghost use Rattle.ft_model.specs.Tables.{stored_after, IsClassEarned, IsEarnedReply};
-ghost use Rattle.ft_history.specs.Ledgers.{AreOfKind, IsLedger};
+ghost use Rattle.ft_model.specs.declared.entry.Entry.{Entry};
+ghost use Rattle.ft_model.specs.declared.entry.Storage.TheVariants as storage;
+ghost use Rattle.ft_model.specs.Worlds.{kinds_of};
+ghost use Rattle.ft_model.specs.Tables.{stored_after, IsClassEarned, IsEarned};
+ghost use Rattle.ft_history.specs.Accounts.{AreOfKind, IsAccount};
 
-use crate::ledger::Ledger;
-use crate::passing::{can_add, would_pass};
-use ft_model::{Entry, Raise, Reply, ScriptParts, World};
+use crate::account::TableAccount;
+use crate::passing::would_pass;
+use ft_model::{Entry, GREATEST_CLASS, LEAST_CLASS, Raise, Reply, ScriptParts, World};
 
 /// Whether a MemoryError has its cause, and none is missing, where containers are on tables.
-pub fn is_earned(parts: &ScriptParts, world: &World, ledger: &Ledger, entry: &Entry) -> bool
+pub fn is_earned(parts: &ScriptParts, world: &World, account: &TableAccount, entry: &Entry) -> bool
     requires { AreOfKind world.now entry.now.call }
-    ensures { (calls : List Call) → world.now ≡ (stored_after parts.now calls).world → IsLedger parts.now calls ledger.now → IsTrue result ↔ IsEarnedReply parts.now calls entry.now.call entry.now.reply }
+    ensures { (calls : List Call) (mine : List Entry) → world.now ≡ (stored_after parts.now calls).world → IsAccount parts.now calls account.now → IsTrue result ↔ IsEarned storage.Tables parts.now calls mine entry.now }
 {
     let passes = would_pass(world, &entry.call);
     match entry.reply {
         Reply::Raised(Raise::Memory(class)) => {
-            can_add(&entry.call) && !passes && is_class_earned(parts, ledger, class)
+            entry.call.can_add() && !passes && is_class_earned(parts, account, class)
         }
         Reply::Raised(Raise::Over) => passes,
         Reply::Raised(Raise::Heap) => false,
@@ -24,15 +29,15 @@ pub fn is_earned(parts: &ScriptParts, world: &World, ledger: &Ledger, entry: &En
 }
 
 /// Whether earlier calls, and one of each other thread, can have taken all tables of the class.
-fn is_class_earned(parts: &ScriptParts, ledger: &Ledger, class: u32) -> bool
-    ensures { (calls : List Call) → IsLedger parts.now calls ledger.now → IsTrue result ↔ IsClassEarned parts.now calls class }
+fn is_class_earned(parts: &ScriptParts, account: &TableAccount, class: u32) -> bool
+    ensures { (calls : List Call) → IsAccount parts.now calls account.now → IsTrue result ↔ IsClassEarned (kinds_of parts.now.containers) parts.now.tables (length parts.now.threads) calls class }
 {
-    if !(3..=12).contains(&class) {
+    if !(LEAST_CLASS..=GREATEST_CLASS).contains(&class) {
         return false;
     }
-    let place = class as usize - 3;
+    let place = (class - LEAST_CLASS) as usize;
     let tables = parts.tables.as_slice().get(place).copied().unwrap_or(0);
-    let taken = ledger.takings.get(place).copied().unwrap_or(0);
+    let taken = account.takings.get(place).copied().unwrap_or(0);
     let others = parts.threads.len().saturating_sub(1) as u64;
     u64::from(tables).saturating_sub(others) <= taken
 }

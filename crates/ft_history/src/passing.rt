@@ -1,46 +1,18 @@
+//! Whether a call would leave a container with more than the largest table holds, from the lengths of
+//! the containers alone.
 ghost use Rattle.std.specs.Prelude.{◌≡◌, ◌+◌, ◌^◌, ◌<◌, ◌&&◌, ◌||◌, ◌==◌, not, nat_lt, IfSome, length, filter, if◌then◌else◌};
 ghost use Rattle.ft_model.specs.declared.call.Call.TheVariants as call_of;
 ghost use Rattle.ft_model.specs.declared.script.Kind.TheVariants as kind;
 ghost use Rattle.ft_model.specs.Calls.{other_dict, other_list, other_set};
 ghost use Rattle.ft_model.specs.Contents.{has_key, has_element, those_not_in, dict_update};
-ghost use Rattle.ft_model.specs.Tables.{can_add, would_pass};
+ghost use Rattle.ft_model.specs.Tables.{would_pass};
 ghost use Rattle.ft_model.specs.Worlds.{IsOfKind};
-ghost use Rattle.ft_history.specs.Ledgers.{AreOfKind};
+ghost use Rattle.ft_history.specs.Accounts.{AreOfKind};
 
-use ft_model::{Call, Dict, DictCall, DictPair, Key, ListCall, Set, SetCall, World};
-
-/// How many pairs the largest table of a dict holds.
-const MOST_PAIRS: usize = 2730;
-
-/// How many items the largest table of a list holds.
-const MOST_ITEMS: usize = 4096;
-
-/// How many elements the largest table of a set holds.
-const MOST_ELEMENTS: usize = 2457;
-
-/// Whether the call is of a kind that can add to a container.
-pub fn can_add(call: &Call) -> bool
-    ensures { result ≡ can_add call.now }
-{
-    match call {
-        Call::Dict { call, .. } => matches!(
-            call,
-            DictCall::Set { .. }
-                | DictCall::SetDefault { .. }
-                | DictCall::Update { .. }
-                | DictCall::CopyTo { .. }
-        ),
-        Call::List { call, .. } => matches!(
-            call,
-            ListCall::Append { .. } | ListCall::Insert { .. } | ListCall::Extend { .. }
-        ),
-        Call::Set { call, .. } => matches!(
-            call,
-            SetCall::Add { .. } | SetCall::Or { .. } | SetCall::Xor { .. }
-        ),
-        Call::Next { .. } | Call::Begin { .. } | Call::End | Call::Quiesce => false,
-    }
-}
+use ft_model::{
+    Call, Dict, DictCall, DictPair, Key, ListCall, MOST_ELEMENTS, MOST_ITEMS, MOST_PAIRS, Set,
+    SetCall, World,
+};
 
 /// Whether the call can add, and would leave a container that it names with more than the largest
 /// table holds.
@@ -77,7 +49,18 @@ fn dict_would_pass(world: &World, place: u32, call: &DictCall) -> bool
             )
         }
         DictCall::CopyTo { .. } => dict.len() > MOST_PAIRS,
-        _ => false,
+        DictCall::Get { .. }
+        | DictCall::GetOr { .. }
+        | DictCall::Del { .. }
+        | DictCall::Pop { .. }
+        | DictCall::PopOr { .. }
+        | DictCall::PopItem
+        | DictCall::Has { .. }
+        | DictCall::Len
+        | DictCall::Items
+        | DictCall::Clear
+        | DictCall::Eq { .. }
+        | DictCall::Iter { .. } => false,
     }
 }
 
@@ -94,7 +77,21 @@ fn list_would_pass(world: &World, place: u32, call: &ListCall) -> bool
             let count = world.list(other).len();
             one_passes(MOST_ITEMS, list.len() + count, count, place, other)
         }
-        _ => false,
+        ListCall::Get { .. }
+        | ListCall::Set { .. }
+        | ListCall::Del { .. }
+        | ListCall::Pop { .. }
+        | ListCall::Remove { .. }
+        | ListCall::Index { .. }
+        | ListCall::Count { .. }
+        | ListCall::Has { .. }
+        | ListCall::Reverse
+        | ListCall::Slice { .. }
+        | ListCall::Clear
+        | ListCall::Len
+        | ListCall::Items
+        | ListCall::Eq { .. }
+        | ListCall::Iter { .. } => false,
     }
 }
 
@@ -118,7 +115,19 @@ fn set_would_pass(world: &World, place: u32, call: &SetCall) -> bool
             let after = new_elements(others, set) + new_elements(set, others);
             one_passes(MOST_ELEMENTS, after, count, place, other)
         }
-        _ => false,
+        SetCall::Discard { .. }
+        | SetCall::Remove { .. }
+        | SetCall::Pop
+        | SetCall::Has { .. }
+        | SetCall::Len
+        | SetCall::Items
+        | SetCall::Eq { .. }
+        | SetCall::And { .. }
+        | SetCall::Sub { .. }
+        | SetCall::Subset { .. }
+        | SetCall::Disjoint { .. }
+        | SetCall::Clear
+        | SetCall::Iter { .. } => false,
     }
 }
 

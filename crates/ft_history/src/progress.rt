@@ -20,7 +20,7 @@ pub struct OpenSection {
 
 /// How far a thread has come.
 #[derive(Drop)]
-pub struct Progress {
+pub struct ThreadProgress {
     /// How many of its calls it has made.
     pub made: u64,
     /// How many of these waited for a lock.
@@ -35,7 +35,7 @@ pub struct Progress {
 pub fn go_through(
     alloc: Global,
     world: &mut World,
-    progress: &mut Progress,
+    progress: &mut ThreadProgress,
     place: u64,
     entry: &Entry,
 ) -> Result<bool, AllocError>
@@ -55,7 +55,7 @@ pub fn go_through(
 }
 
 /// Goes on after an entry of the thread, but for what its call does to the cursors.
-fn go_on(progress: &mut Progress, place: u64, entry: &Entry) -> Result<(), AllocError>
+fn go_on(progress: &mut ThreadProgress, place: u64, entry: &Entry) -> Result<(), AllocError>
     requires made { progress.old.made < 2 ^ 63 }
     requires marks { progress.old.marks < 2 ^ 63 }
     ensures made { OnOk result (progress.new.made ≡ progress.old.made + 1) }

@@ -4,9 +4,8 @@ ghost use Rattle.ft_model.specs.Calls.{container_list};
 ghost use Rattle.ft_model.specs.Worlds.{containers_used};
 ghost use Rattle.ft_model.specs.Answers.{is_write, is_memory};
 ghost use Rattle.std.specs.Ordering.{is_lt};
-ghost use Rattle.ft_model.specs.Histories.{history_cmp};
+ghost use Rattle.ft_model.specs.Histories.{history_cmp, IsCountedAs};
 ghost use Rattle.ft_model.specs.Judging.{IsAfter};
-ghost use Rattle.ft_model.specs.Numbers.{IsCountedAs};
 ghost use Rattle.ft_history.specs.States.{is_used, all_begun, after_begun, inner_begun, IfEndsBegun, is_written_on, IsKeptSince};
 
 use crate::equal::same_call;

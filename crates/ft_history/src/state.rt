@@ -2,12 +2,12 @@ ghost use Rattle.std.specs.Prelude.{◌≡◌, ℕ, Some, None, List, length, re
 ghost use Rattle.ft_model.specs.declared.entry.Entry.{Entry};
 ghost use Rattle.ft_model.specs.Scripts.{IsScript};
 ghost use Rattle.ft_model.specs.declared.script.Thread.{Thread};
-ghost use Rattle.ft_history.specs.declared.progress.Progress.{Progress};
+ghost use Rattle.ft_history.specs.declared.progress.ThreadProgress.{ThreadProgress};
 ghost use Rattle.ft_history.specs.Steps.{IsState};
 ghost use Rattle.ft_history.specs.States.{IsFresh};
 
-use crate::ledger::{Ledger, start_ledger};
-use crate::progress::Progress;
+use crate::account::{TableAccount, start_account};
+use crate::progress::ThreadProgress;
 use crate::writers::LastWrites;
 use ft_model::{Hands, ScriptParts, Thread, World};
 use std::alloc::{AllocError, Global};
@@ -20,11 +20,11 @@ pub struct State {
     /// How many writes there were.
     pub writes: u64,
     /// How far each thread has come.
-    pub threads: Vec<Progress>,
+    pub threads: Vec<ThreadProgress>,
     /// The last writes on each container.
     pub containers: Vec<LastWrites>,
     /// The tables that containers on tables would have.
-    pub ledger: Ledger,
+    pub account: TableAccount,
 }
 
 /// The state at the start of a script.
@@ -38,18 +38,18 @@ pub fn start(alloc: Global, parts: &ScriptParts) -> Result<State, AllocError>
         writes: 0,
         threads: start_threads(alloc, parts.threads.as_slice())?,
         containers: start_containers(alloc, containers.len())?,
-        ledger: start_ledger(alloc, parts)?,
+        account: start_account(alloc, parts)?,
     })
 }
 
 /// No thread has made a call.
-fn start_threads(alloc: Global, threads: &[Thread]) -> Result<Vec<Progress>, AllocError>
+fn start_threads(alloc: Global, threads: &[Thread]) -> Result<Vec<ThreadProgress>, AllocError>
     ensures length { IfOk result (λ all. vec_len all ≡ length threads.now) }
-    ensures fresh { IfOk result (λ all. (thread : ℕ) (found : Thread) (progress : Progress) → slice_get threads.now thread ≡ Some found → slice_get all.items thread ≡ Some progress → IsFresh found progress) }
+    ensures fresh { IfOk result (λ all. (thread : ℕ) (found : Thread) (progress : ThreadProgress) → slice_get threads.now thread ≡ Some found → slice_get all.items thread ≡ Some progress → IsFresh found progress) }
 {
     let mut all = Vec::new(alloc);
     for thread in threads {
-        all.push(Progress {
+        all.push(ThreadProgress {
             made: 0,
             marks: 0,
             hands: Hands::start(alloc, thread.cursors.len())?,

@@ -4,7 +4,7 @@ use Rattle.std.specs.List.{list_any}
 use Rattle.std.proofs.lemmas.Bool.{false≢true}
 use Rattle.std.proofs.lemmas.Option.{slice_get_read}
 use Rattle.ft_model.specs.Histories.{names}
-use Rattle.ft_history.specs.declared.progress.Progress.{Progress}
+use Rattle.ft_history.specs.declared.progress.ThreadProgress.{ThreadProgress}
 use Rattle.ft_history.specs.declared.writers.LastWrites.{LastWrites}
 use Rattle.ft_history.specs.States.{after_one}
 use Rattle.ft_history.proofs.judging.go_after.Goals as goal
@@ -13,8 +13,8 @@ pub returns-in_ok-note_taking : goal.returns-in_ok-note_taking
 returns-in_ok-note_taking c =
     let threads = c.args.state.now.threads in
     let entry = c.args.entry.now in
-    let before : Progress = c.index_mut-progress.result.now in
-    let after : Progress = c.go_through.new.progress in
+    let before : ThreadProgress = c.index_mut-progress.result.now in
+    let after : ThreadProgress = c.go_through.new.progress in
     let low : entry.thread < length threads.items = omega (arith, c.requires.thread, threads.ok.0) in (
       before,
       after,
@@ -43,8 +43,8 @@ pub returns-else-entry : goal.returns-else-entry
 returns-else-entry c =
     let threads = c.args.state.now.threads in
     let entry = c.args.entry.now in
-    let before : Progress = c.index_mut-progress.result.now in
-    let after : Progress = c.go_through.new.progress in
+    let before : ThreadProgress = c.index_mut-progress.result.now in
+    let after : ThreadProgress = c.go_through.new.progress in
     let low : entry.thread < length threads.items = omega (arith, c.requires.thread, threads.ok.0) in (
       before,
       after,

@@ -1,13 +1,15 @@
 use Rattle.std.proofs.Common.{◌≡◌, ◌↔◌, IsTrue, List, take, sym, subst, ◌∙◌}
 use Rattle.ft_model.specs.declared.call.Call.{Call}
+use Rattle.ft_model.specs.declared.entry.Entry.{Entry}
 use Rattle.ft_model.specs.declared.entry.Storage.{Storage}
-use Rattle.ft_model.specs.Histories.{writes}
+use Rattle.ft_model.specs.Histories.{writes, entries_of}
 use Rattle.ft_model.specs.Tables.{IsEarned}
-use Rattle.ft_history.proofs.LedgerLemmas.{world_of_stored}
+use Rattle.ft_history.proofs.AccountLemmas.{world_of_stored}
 use Rattle.ft_history.proofs.judging.has_cause.Goals as goal
 
 pub returns-in-Tables : goal.returns-in-Tables
 returns-in-Tables c = λ entries place is_state.
     let calls : List Call = writes (take place entries) in
-    subst (λ (s : Storage). IsTrue c.is_earned.result ↔ IsEarned s c.args.parts.now calls c.args.entry.now) (sym c.in-Tables.is)
-    (c.is_earned.ensures calls (is_state.world ∙ sym (world_of_stored c.args.parts.now calls)) is_state.ledger)
+    let mine : List Entry = entries_of c.args.entry.now.thread (take place entries) in
+    subst (λ (s : Storage). IsTrue c.is_earned.result ↔ IsEarned s c.args.parts.now calls mine c.args.entry.now) (sym c.in-Tables.is)
+    (c.is_earned.ensures calls mine (is_state.world ∙ sym (world_of_stored c.args.parts.now calls)) is_state.account)

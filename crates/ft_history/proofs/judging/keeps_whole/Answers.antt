@@ -5,7 +5,7 @@ use Rattle.std.proofs.lemmas.Option.{slice_get_read, slice_get_past, slice_get_w
 use Rattle.ft_model.specs.declared.call.Call.{Call}
 use Rattle.ft_model.specs.declared.script.Thread.{Thread}
 use Rattle.ft_model.specs.Judging.{IsNext}
-use Rattle.ft_history.specs.declared.progress.Progress.{Progress}
+use Rattle.ft_history.specs.declared.progress.ThreadProgress.{ThreadProgress}
 use Rattle.ft_history.proofs.ScriptLemmas.{calls_of-at, no_calls}
 use Rattle.ft_history.proofs.Judged.{next_iff}
 use Rattle.ft_history.proofs.judging.keeps_whole.Goals as goal
@@ -16,7 +16,7 @@ returns-in-Some-Some c = λ entries place is_state.
     let look = c.in-Some-Some.ensures.lookup in
     let look' = c.in-Some-Some.ensures'.lookup in
     let at : slice_get c.args.parts.now.threads entry.thread ≡ Some c.in-Some-Some.found.now = ap (λ (ts : List Thread). slice_get ts entry.thread) (sym c.as_slice.ensures) ∙ slice_get_read c.as_slice.result.now _ _ c.in-Some-Some.found.now refl (ltb-true _ _ (sym look.0)) look.1 in
-    let at' : slice_get c.args.state.now.threads.items entry.thread ≡ Some c.in-Some-Some.progress.now = ap (λ (ps : List Progress). slice_get ps entry.thread) (sym c.deref.ensures.value) ∙ slice_get_read c.deref.result.now _ _ c.in-Some-Some.progress.now refl (ltb-true _ _ (sym look'.0)) look'.1 in
+    let at' : slice_get c.args.state.now.threads.items entry.thread ≡ Some c.in-Some-Some.progress.now = ap (λ (ps : List ThreadProgress). slice_get ps entry.thread) (sym c.deref.ensures.value) ∙ slice_get_read c.deref.result.now _ _ c.in-Some-Some.progress.now refl (ltb-true _ _ (sym look'.0)) look'.1 in
     next_iff c.args.parts.now entries place entry c.in-Some-Some.found.now c.in-Some-Some.progress.now c.is_next.result (calls_of-at c.args.parts.now entry.thread c.in-Some-Some.found.now at) (is_state.progress entry.thread c.in-Some-Some.progress.now at').made
     (subst (λ cs. (IsTrue c.is_next.result → (entry.index ≡ c.in-Some-Some.progress.now.made + 1) × (slice_get cs c.in-Some-Some.progress.now.made ≡ Some entry.call)) × ((entry.index ≡ c.in-Some-Some.progress.now.made + 1) × (slice_get cs c.in-Some-Some.progress.now.made ≡ Some entry.call) → IsTrue c.is_next.result)) c.as_slice-in-Some-Some.ensures c.is_next.ensures)
 

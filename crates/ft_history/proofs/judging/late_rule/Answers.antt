@@ -6,12 +6,11 @@ use Rattle.ft_model.specs.declared.entry.Entry.{Entry}
 use Rattle.ft_model.specs.declared.entry.Rule.TheVariants as rule
 use Rattle.ft_model.specs.declared.script.ScriptParts.{ScriptParts}
 use Rattle.ft_model.specs.Answers.{is_memory}
-use Rattle.ft_model.specs.Histories.{IsMarked, IsKept, IsCounted}
-use Rattle.ft_history.specs.declared.progress.Progress.{Progress}
+use Rattle.ft_model.specs.Histories.{IsMarked, IsKept, IsCounted, IsCountedAs}
+use Rattle.ft_history.specs.declared.progress.ThreadProgress.{ThreadProgress}
 use Rattle.ft_history.specs.declared.progress.OpenSection.{OpenSection}
 use Rattle.ft_history.specs.declared.writers.LastWrites.{LastWrites}
 use Rattle.ft_history.specs.declared.state.State.{State}
-use Rattle.ft_model.specs.Numbers.{IsCountedAs}
 use Rattle.ft_history.specs.States.{all_begun, after_begun, inner_begun, IfEndsBegun, IsKeptSince, IsProgress}
 use Rattle.ft_history.specs.Steps.{IsState}
 use Rattle.ft_history.proofs.Judged.{keeps_more}
@@ -23,24 +22,24 @@ refuted : {P : Type 0} (r : Bool) → r ≡ false → IsTrue r ↔ P → ¬ P
 refuted r off is p = false≢true (sym off ∙ is.1 p)
 
 -- the state's progress of the entry's thread
-there : (parts : ScriptParts) (entries : List Entry) (place thread : ℕ) (state : State) (progress : Progress) → IsState parts entries place state → thread < length state.threads.items → progress ≡ get_or state.threads.items thread progress → IsProgress parts entries thread place progress
+there : (parts : ScriptParts) (entries : List Entry) (place thread : ℕ) (state : State) (progress : ThreadProgress) → IsState parts entries place state → thread < length state.threads.items → progress ≡ get_or state.threads.items thread progress → IsProgress parts entries thread place progress
 there parts entries place thread state progress is_state low read = is_state.progress thread progress (slice_get_read state.threads.items _ thread progress refl low read)
 
-kept : (parts : ScriptParts) (entries : List Entry) (place : ℕ) (entry : Entry) (state : State) (progress : Progress) (r : Bool) (containers : List LastWrites) (sections : List OpenSection) → containers ≡ state.containers.items → sections ≡ progress.sections.items
+kept : (parts : ScriptParts) (entries : List Entry) (place : ℕ) (entry : Entry) (state : State) (progress : ThreadProgress) (r : Bool) (containers : List LastWrites) (sections : List OpenSection) → containers ≡ state.containers.items → sections ≡ progress.sections.items
     → IsState parts entries place state → IsProgress parts entries entry.thread place progress → IsTrue r ↔ IfEndsBegun (all_begun sections) entry.call (λ section. IsKeptSince containers entry.thread section entry.reply) → IsTrue r ↔ IsKept entries place entry
 kept parts entries place entry state progress r containers sections one other is_state so_far is =
     kept_iff parts entries place entry progress state.containers.items r is_state.containers is_state.lasts so_far
     (subst (λ ss. IsTrue r ↔ IfEndsBegun (all_begun ss) entry.call (λ section. IsKeptSince state.containers.items entry.thread section entry.reply)) other
     (subst (λ ws. IsTrue r ↔ IfEndsBegun (all_begun sections) entry.call (λ section. IsKeptSince ws entry.thread section entry.reply)) one is))
 
-counted : (parts : ScriptParts) (entries : List Entry) (place : ℕ) (entry : Entry) (progress : Progress) (r : Bool) (sections : List OpenSection) → sections ≡ progress.sections.items → IsProgress parts entries entry.thread place progress
+counted : (parts : ScriptParts) (entries : List Entry) (place : ℕ) (entry : Entry) (progress : ThreadProgress) (r : Bool) (sections : List OpenSection) → sections ≡ progress.sections.items → IsProgress parts entries entry.thread place progress
     → IsTrue r ↔ IfEndsBegun (all_begun sections) entry.call (λ section. IsCountedAs (progress.marks - section.marks) entry.reply) → IsTrue r ↔ IsCounted entries place entry
 counted parts entries place entry progress r sections same so_far is = counted_iff parts entries place entry progress r so_far (subst (λ ss. IsTrue r ↔ IfEndsBegun (all_begun ss) entry.call (λ section. IsCountedAs (progress.marks - section.marks) entry.reply)) same is)
 
 pub returns-then-not-is_marked_right : goal.returns-then-not-is_marked_right
 returns-then-not-is_marked_right c = λ entries place at users is_state first.
     let parts = c.args.parts.now in
-    let progress : Progress = c.index-progress.result.now in
+    let progress : ThreadProgress = c.index-progress.result.now in
     let so_far = there parts entries place c.args.entry.now.thread c.args.state.now progress is_state (omega (arith, c.requires.thread, c.args.state.now.threads.ok.0)) c.index-progress.ensures in
     let inner = λ (at marks : ℕ). c.inner_containers.ensures at marks ∙ ap (λ ss. inner_begun (after_begun at marks c.args.entry.now.call (all_begun ss))) c.deref.ensures.value in
     record { before = first; broken = refuted c.is_marked_right.result c.if-not-is_marked_right.true (marked_iff parts entries place c.args.entry.now progress c.args.users.now _ _ c.is_marked_right.result users so_far c.containers_needed-own.ensures inner c.is_marked_right.ensures) }
@@ -48,7 +47,7 @@ returns-then-not-is_marked_right c = λ entries place at users is_state first.
 pub returns-then-not-is_kept_right : goal.returns-then-not-is_kept_right
 returns-then-not-is_kept_right c = λ entries place at users is_state first.
     let parts = c.args.parts.now in
-    let progress : Progress = c.index-progress.result.now in
+    let progress : ThreadProgress = c.index-progress.result.now in
     let entry = c.args.entry.now in
     let so_far = there parts entries place entry.thread c.args.state.now progress is_state (omega (arith, c.requires.thread, c.args.state.now.threads.ok.0)) c.index-progress.ensures in
     let inner = λ (at marks : ℕ). c.inner_containers.ensures at marks ∙ ap (λ ss. inner_begun (after_begun at marks entry.call (all_begun ss))) c.deref.ensures.value in
@@ -61,7 +60,7 @@ returns-then-not-is_kept_right c = λ entries place at users is_state first.
 pub returns-then-not-is_counted_right : goal.returns-then-not-is_counted_right
 returns-then-not-is_counted_right c = λ entries place at users is_state first.
     let parts = c.args.parts.now in
-    let progress : Progress = c.index-progress.result.now in
+    let progress : ThreadProgress = c.index-progress.result.now in
     let entry = c.args.entry.now in
     let so_far = there parts entries place entry.thread c.args.state.now progress is_state (omega (arith, c.requires.thread, c.args.state.now.threads.ok.0)) c.index-progress.ensures in
     let inner = λ (at marks : ℕ). c.inner_containers.ensures at marks ∙ ap (λ ss. inner_begun (after_begun at marks entry.call (all_begun ss))) c.deref.ensures.value in
@@ -75,7 +74,7 @@ returns-then-not-is_counted_right c = λ entries place at users is_state first.
 pub returns-then-not-has_cause : goal.returns-then-not-has_cause
 returns-then-not-has_cause c = λ entries place at users is_state first.
     let parts = c.args.parts.now in
-    let progress : Progress = c.index-progress.result.now in
+    let progress : ThreadProgress = c.index-progress.result.now in
     let entry = c.args.entry.now in
     let so_far = there parts entries place entry.thread c.args.state.now progress is_state (omega (arith, c.requires.thread, c.args.state.now.threads.ok.0)) c.index-progress.ensures in
     let inner = λ (at marks : ℕ). c.inner_containers.ensures at marks ∙ ap (λ ss. inner_begun (after_begun at marks entry.call (all_begun ss))) c.deref.ensures.value in
@@ -90,7 +89,7 @@ returns-then-not-has_cause c = λ entries place at users is_state first.
 pub returns : goal.returns
 returns c = λ entries place at users is_state.
     let parts = c.args.parts.now in
-    let progress : Progress = c.index-progress.result.now in
+    let progress : ThreadProgress = c.index-progress.result.now in
     let entry = c.args.entry.now in
     let so_far = there parts entries place entry.thread c.args.state.now progress is_state (omega (arith, c.requires.thread, c.args.state.now.threads.ok.0)) c.index-progress.ensures in
     let inner = λ (at marks : ℕ). c.inner_containers.ensures at marks ∙ ap (λ ss. inner_begun (after_begun at marks entry.call (all_begun ss))) c.deref.ensures.value in

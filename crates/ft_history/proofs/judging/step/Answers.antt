@@ -4,11 +4,11 @@ use Rattle.ft_model.specs.Calls.{containers_of}
 use Rattle.std.proofs.lemmas.Option.{slice_get_read, same_Some}
 use Rattle.ft_model.specs.declared.entry.Entry.{Entry}
 use Rattle.ft_model.specs.declared.entry.Rule.TheVariants as rule
-use Rattle.ft_history.specs.declared.progress.Progress.{Progress}
+use Rattle.ft_history.specs.declared.progress.ThreadProgress.{ThreadProgress}
 use Rattle.ft_history.specs.Steps.{IsState, BreaksFirst, Finds}
-use Rattle.ft_model.specs.Histories.{writes}
+use Rattle.ft_model.specs.Histories.{writes, entries_of}
 use Rattle.ft_history.proofs.Judged.{few_made}
-use Rattle.ft_history.proofs.LedgerLemmas.{earned_no_cursor}
+use Rattle.ft_history.proofs.AccountLemmas.{earned_no_cursor}
 use Rattle.ft_history.proofs.GoesAfterLemmas.{state_after, askable_at, of_kind_at, within_containers, thread_within, few_writes, few_marks, breaks_reply, keeps_four, finds_all, where_none}
 use Rattle.ft_history.proofs.judging.step.Goals as goal
 
@@ -33,8 +33,8 @@ late_rule-late-requires-clause-kinds c =
     let next = c.in_default.ensures c.args.storage rule.Whole (omega arith) in
     of_kind_at c.args.parts.now c.requires.script c.args.entries.now c.args.place c.index-entries-place.result at next c.args.state.now c.requires.state
 
-pub go_after-requires-clause-ledger : goal.go_after-requires-clause-ledger
-go_after-requires-clause-ledger c = omega (arith, c.args.state.now.ledger.takings.ok.0, c.requires.state.ledger.classes)
+pub go_after-requires-clause-account : goal.go_after-requires-clause-account
+go_after-requires-clause-account c = omega (arith, c.args.state.now.account.takings.ok.0, c.requires.state.account.classes)
 
 pub go_after-requires-clause-thread : goal.go_after-requires-clause-thread
 go_after-requires-clause-thread c =
@@ -80,7 +80,7 @@ returns-then-reported-clause-state c =
     let goes = c.in_ok-reported.ensures in
     let first = c.in_default.ensures c.args.storage in
     where_none c.args.storage c.args.parts.now c.args.entries.now c.args.place c.index-entries-place.result _ c.late_rule-late.result (c.late_rule-late.ensures c.args.entries.now c.args.place at c.requires.users c.requires.state)
-    (λ late. state_after c.args.parts.now c.requires.script c.args.entries.now c.args.place c.index-entries-place.result at (first rule.Whole (omega arith)) (first rule.Stamp (omega arith)) (earned_no_cursor c.args.storage c.args.parts.now (writes (take c.args.place c.args.entries.now)) c.index-entries-place.result late.memory) c.in_ok-reported.reported goes.0 goes.1 c.args.state.now c.go_after.new.state c.requires.state goes.2 c.if-reported.true)
+    (λ late. state_after c.args.parts.now c.requires.script c.args.entries.now c.args.place c.index-entries-place.result at (first rule.Whole (omega arith)) (first rule.Stamp (omega arith)) (earned_no_cursor c.args.storage c.args.parts.now (writes (take c.args.place c.args.entries.now)) (entries_of c.index-entries-place.result.thread (take c.args.place c.args.entries.now)) c.index-entries-place.result late.memory) c.in_ok-reported.reported goes.0 goes.1 c.args.state.now c.go_after.new.state c.requires.state goes.2 c.if-reported.true)
 
 pub returns-else-reported-clause-found : goal.returns-else-reported-clause-found
 returns-else-reported-clause-found c = λ entry at'.

@@ -16,4 +16,4 @@ returns-clause-begun c = λ entries place entry section outer at is_open.
 
 pub returns-clause-untouched : goal.returns-clause-untouched
 returns-clause-untouched c = λ storage script entries place entry section outer legal at ends kept is_open.
-    untouched entries entry.thread place section (rw (is_open, ends, kept) at (legal.kept place entry at))
+    untouched entries entry.thread place section (rw (is_open, ends, kept) at (legal.chronicle.kept place entry at))

@@ -6,7 +6,7 @@ use Rattle.ft_model.specs.declared.content.Content.{Content}
 use Rattle.ft_model.specs.declared.script.Declaration.{Declaration}
 use Rattle.ft_model.specs.declared.script.Thread.{Thread}
 use Rattle.ft_model.specs.Worlds.{start_world, kind_of}
-use Rattle.ft_history.specs.declared.progress.Progress.{Progress}
+use Rattle.ft_history.specs.declared.progress.ThreadProgress.{ThreadProgress}
 use Rattle.ft_history.specs.declared.writers.LastWrites.{LastWrites}
 use Rattle.ft_history.specs.States.{IsFresh, IsLast}
 use Rattle.ft_history.proofs.LastWriteLemmas.{last_at_start}
@@ -34,7 +34,7 @@ returns c = λ entries.
     let n : length c.as_slice-containers.result.now ≡ length parts.containers = ap length c.as_slice-containers.ensures in
     let threads = c.in_ok-start_threads.field-0 in
     let same_threads : length threads.items ≡ length parts.threads = omega (arith, threads.ok.0, c.in_ok-start_threads.ensures.length, ap length c.as_slice.ensures) in
-    let there : (thread : ℕ) (progress : Progress) → slice_get threads.items thread ≡ Some progress → (found : Thread) × (slice_get parts.threads thread ≡ Some found) × IsFresh found progress =
+    let there : (thread : ℕ) (progress : ThreadProgress) → slice_get threads.items thread ≡ Some progress → (found : Thread) × (slice_get parts.threads thread ≡ Some found) × IsFresh found progress =
     λ thread progress at.
     thread_at parts.threads thread (omega (arith, slice_get_within threads.items thread progress at)) (λ found here. (found, here, c.in_ok-start_threads.ensures.fresh thread found progress (ap (λ (ts : List Thread). slice_get ts thread) c.as_slice.ensures ∙ here) at)) in
     let blank : c.in_ok-start_containers.field-0.items ≡ replicate (length parts.containers) nothing = c.in_ok-start_containers.ensures ∙ ap (λ k. replicate k nothing) n in
@@ -48,5 +48,5 @@ returns c = λ entries.
       hands = λ thread progress at. hands_at_start parts entries thread (there thread progress at).0 progress (there thread progress at).1 (there thread progress at).2;
       containers = ap length blank ∙ length-replicate (length parts.containers) nothing;
       lasts = λ container last at. last_at_start entries container last (ap (λ (w : LastWrites). w.last) (last_is container last at)) (ap (λ (w : LastWrites). w.other) (last_is container last at));
-      ledger = c.in_ok-start_ledger.ensures;
+      account = c.in_ok-start_account.ensures;
     }

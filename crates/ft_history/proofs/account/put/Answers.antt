@@ -1,6 +1,6 @@
 use Rattle.std.proofs.lemmas.List.{map-set}
-use Rattle.ft_history.specs.Ledgers.{table_of}
-use Rattle.ft_history.proofs.ledger.put.Goals as goal
+use Rattle.ft_model.specs.Tables.{table_of}
+use Rattle.ft_history.proofs.account.put.Goals as goal
 
 pub returns-then-place-len : goal.returns-then-place-len
 returns-then-place-len c = map-set table_of c.args.tables.now.items c.args.place c.args.table

@@ -1,7 +1,0 @@
-use Rattle.std.proofs.Common.{◌≡◌, ap, ◌∙◌, replicate}
-use Rattle.ft_model.specs.Tables.{no_table}
-use Rattle.ft_history.proofs.LedgerLemmas.{ledger_at_start}
-use Rattle.ft_history.proofs.ledger.start_ledger.Goals as goal
-
-pub returns : goal.returns
-returns c = ledger_at_start c.args.parts.now _ (c.in_ok-no_tables.ensures ∙ ap (λ n. replicate n no_table) c.len.ensures) (c.in_ok-vec.ensures.items_if_clones_equal (λ y same. same))

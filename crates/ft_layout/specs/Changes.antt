@@ -36,9 +36,12 @@ pub record SaysStored (words : List ℕ) (place : ℕ) (stored : Stored) : Type 
   pub says : IsItem (item_word words place) stored
   pub spare : item_word words place 3 ≡ 0
 
--- Where `of` makes used entries of pairs, or of elements, and the live ones are those: the entry at the place is that of pair number k. With another pair's entry there, pair number k is that one; with a deleted entry there, it is gone.
-pub record StandsFor {Y : Type 0} (of : Y → UsedEntry) (used : List UsedEntry) (place : ℕ) (pairs : List Y) (k : ℕ) : Type 0 where
+-- Where `of` makes used entries of pairs, or of elements, and the live ones are those: the entry at the place is that
+-- of pair number k. With another pair's entry there, pair number k is that one; with a deleted entry there, it is gone.
+pub record StandsFor {Y : Type 0} (of : Y → UsedEntry) (used : List UsedEntry) (place : ℕ) (pairs : List Y) (k : ℕ)
+    : Type 0 where
   pub low : k < length pairs
   pub is : (pair : Y) (any : UsedEntry) → of (slice_index_or pairs k pair) ≡ slice_index_or used place any
   pub changed : (pair : Y) → filter is_live (slice_set used place (of pair)) ≡ map of (slice_set pairs k pair)
-  pub deleted : (gone : UsedEntry) → is_live gone ≡ false → filter is_live (slice_set used place gone) ≡ map of (remove pairs k)
+  pub deleted : (gone : UsedEntry) → is_live gone ≡ false
+      → filter is_live (slice_set used place gone) ≡ map of (remove pairs k)

@@ -1,4 +1,5 @@
--- What it is for a container's block and its table, as lists of words, to stand for a content. The block's lock and version are no part of it, nor are the table's goal and the versions of entries and items. (profile)
+-- What it is for a container's block and its table, as lists of words, to stand for a content. The block's lock and
+-- version are no part of it, nor are the table's goal and the versions of entries and items. (profile)
 use Rattle.std.specs.Prelude.{◌≡◌, ℕ, ◌-◌, ◌^◌, ◌<◌, List, [], length, map, filter, replicate, All, Option, Some, None, slice_index}
 use Rattle.ft_model.specs.declared.data.Value.{Value}
 use Rattle.ft_model.specs.declared.content.DictPair.{DictPair}
@@ -20,7 +21,7 @@ abbrev pub IsRoot : ℕ → Option ℕ → Type 0
 IsRoot root None = root ≡ 0
 IsRoot root (Some class) = (number : ℕ) × IsRootOf root class number
 
--- A block is seen as the list of its words 2 to 7, without the lock and the version. This is one of these words, by its number.
+-- A block is seen as the list of its words 2 to 7, without the lock and the version. This is one of them, by its number.
 abbrev pub block_word : List ℕ → ℕ → ℕ
 block_word block word = slice_index block (word - 2)
 
@@ -44,7 +45,8 @@ used_pair pair = record { key = pair.key; serial = pair.serial; stored = Some (P
 abbrev pub used_element : Element → UsedEntry
 used_element element = record { key = element.key; serial = element.serial; stored = Some Empty }
 
--- The used entries of a dict: the live ones are its pairs, in the order of their places, and so of their serials. Each serial is below the next one, a deleted entry's too.
+-- The used entries of a dict: the live ones are its pairs, in the order of their places, and so of their serials. Each
+-- serial is below the next one, a deleted entry's too.
 pub record AreDictEntries (used : List UsedEntry) (dict : DictContent) : Type 0 where
   pub live : filter is_live used ≡ map used_pair dict.pairs
   pub below : All (λ entry. entry.serial < dict.next) used

@@ -9,9 +9,10 @@ pub record TakenWord : Type 0 where
 -- these, of which the newest comes first, lead from one state to the other
 abbrev pub Takes : {S : Type 0} → (S → ℕ → ℕ → S → Type 0) → S → List TakenWord → S → Type 0
 Takes gave first [] last = first ≡ last
-Takes {S} gave first (taken ∷ earlier) last = (between : S) × Takes gave first earlier between × gave between taken.at taken.word last
+Takes {S} gave first (taken ∷ earlier) last =
+    (between : S) × Takes gave first earlier between × gave between taken.at taken.word last
 
--- Words were taken at these addresses, in this order. The fact holds of any words that are at these addresses as they were taken.
+-- Words were taken at these addresses, in this order. The fact holds of any words that are there as they were taken.
 pub record ShowsWords {S : Type 0} (gave : S → ℕ → ℕ → S → Type 0) (first last : S) (addresses : List ℕ)
     (fact : (ℕ → ℕ) → Type 0) : Type 0 where
   pub taken : List TakenWord

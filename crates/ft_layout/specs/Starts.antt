@@ -1,4 +1,5 @@
--- Where in the bank's list of words each part lies: the words for all, a block of each container, the heap of each pass, and the tables, class by class. (profile)
+-- Where in the bank's list of words each part lies: the words for all, a block of each container, the heap of each
+-- pass, and the tables, class by class. (profile)
 use Rattle.std.specs.Prelude.{◌≡◌, ℕ, ◌+◌, ◌-◌, ◌*◌, ◌/◌, ◌%◌, ◌<◌, ◌≤◌, List, length, map, sum, All, slice_index}
 use Rattle.std.specs.List.{range_with_len}
 use Rattle.ft_model.specs.Classes.{IsClass}
@@ -52,7 +53,8 @@ words_below tables class = sum (map (λ below. count_of tables below * table_siz
 
 -- tables lie after the heaps
 abbrev pub table_start : ℕ → ℕ → ℕ → List ℕ → ℕ → ℕ → ℕ
-table_start containers heap passes tables class number = heap_start containers heap passes + words_below tables class + number * table_size class
+table_start containers heap passes tables class number =
+    heap_start containers heap passes + words_below tables class + number * table_size class
 
 -- ---- parts of a bank
 
@@ -74,7 +76,8 @@ pub data Part : Type 0 where
   Box : ℕ → ℕ → Part
   Table : ℕ → ℕ → Part
 
--- the bank has this part: an announced number of a pass, the count or a free word of a class, a block of a container, a word of bits or a box of a pass, a table of a class
+-- the bank has this part: an announced number of a pass, the count or a free word of a class, a block of a container, a
+-- word of bits or a box of a pass, a table of a class
 abbrev pub IsPart : BankSizes → Part → Type 0
 IsPart bank Counter = Unit {0}
 IsPart bank WriteNumber = Unit {0}

@@ -14,10 +14,11 @@ use Rattle.ft_layout.specs.declared.slot.Slot.TheVariants.{Never, Live, Gone}
 
 -- ---- roots and locks
 
--- the root of the table with this number among those of its class, at most 1,024; 0 is the root of a container without a table
+-- the root of the table with this number among those of its class; 0 is the root of a container without a table
 abbrev pub root_word : ℕ → ℕ → ℕ
 root_word class number = class * 65536 + number + 1
 
+-- a class has at most 1,024 tables
 abbrev pub IsRootOf : ℕ → ℕ → ℕ → Type 0
 IsRootOf word class number = IsClass class × (number < 1024) × (word ≡ root_word class number)
 
@@ -98,7 +99,9 @@ stored_payload (Boxed box) = box.pass * 65536 + box.place
 
 -- eight words: 0 is kept for a version, and 7 for nothing
 abbrev pub entry_words : Pair → List ℕ
-entry_words pair = 0 ∷ pair.hash ∷ key_kind pair.key ∷ key_payload pair.key ∷ stored_kind pair.value ∷ stored_payload pair.value ∷ pair.serial ∷ 0 ∷ []
+entry_words pair =
+    0 ∷ pair.hash ∷ key_kind pair.key ∷ key_payload pair.key ∷ stored_kind pair.value ∷ stored_payload pair.value
+    ∷ pair.serial ∷ 0 ∷ []
 
 -- a pair that words can tell
 abbrev pub FitsPair : Pair → Type 0

@@ -1,3 +1,6 @@
+//! Entries of dicts and sets as eight words. Writers and readers of tables go by one pair of functions:
+//! what `entry_words` makes of a pair, `entry_of` reads back, and it refuses every other kind or payload.
+
 ghost use Rattle.std.specs.Prelude.{◌≡◌, ◌↔◌, ℕ, List, Some, slice_index};
 ghost use Rattle.ft_layout.specs.declared.slot.Pair.{Pair};
 ghost use Rattle.ft_layout.specs.declared.slot.Slot.{Slot};

@@ -1,3 +1,6 @@
+//! Items of lists as four words, for writers and readers of lists' tables: what `item_words` makes,
+//! `item_of` reads back, and it refuses every other kind or payload.
+
 ghost use Rattle.std.specs.Prelude.{◌≡◌, ◌↔◌, Some, slice_index};
 ghost use Rattle.ft_layout.specs.declared.slot.Stored.{Stored};
 ghost use Rattle.ft_layout.specs.Words.{item_words, FitsStored, IsItem};

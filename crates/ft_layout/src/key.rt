@@ -1,3 +1,6 @@
+//! Keys as a kind and a payload, there or deleted, for entries and for searches, which compare the two
+//! words alone: two keys are the same exactly where both words are.
+
 ghost use Rattle.std.specs.Prelude.{◌≡◌, ◌↔◌, ℕ, Some};
 ghost use Rattle.ft_layout.specs.Words.{key_kind, gone_kind, key_payload, IsKey, IsGoneKey, IsText};
 

@@ -1,3 +1,6 @@
+//! Laws on the definitions, for the proofs of crates above: words stand for one content at most, each word
+//! of a bank and of a table is of one part or field, and an entry that changes changes nothing else.
+
 ghost use Rattle.std.specs.Prelude.{◌≡◌, ℕ, ◌+◌, ◌<◌, ◌≤◌, List, [], ◌∷◌, ◌++◌, length, map, filter, All, IsTrue, Option, None, slice_index_or, slice_set};
 ghost use Rattle.ft_model.specs.declared.data.Value.{Value};
 ghost use Rattle.ft_model.specs.declared.content.DictPair.{DictPair};

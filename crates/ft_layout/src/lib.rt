@@ -1,5 +1,30 @@
-//! The words of 64 bits in which containers lie: locks, roots, tables, entries and items, and what it
-//! is for words to stand for a dict, a set or a list.
+//! The words of 64 bits in which containers lie, where each word is, and what it is for words to stand
+//! for a dict, a set or a list.
+//!
+//! A bank is one list of words, and its parts lie one after the other:
+//!
+//! ```text
+//! word 0       the counter: how many writes there were
+//!      1       the write number
+//!      2 .. 65    the announced number of each pass
+//!     66 .. 79    how many tables of each class are free
+//!     80 .. 303   which of them are free: sixteen words for each class, a bit for each table
+//!    304 ..       a block of eight words for each container
+//!     then        the heap of each pass: a bit for each place, then a box of three words for each
+//!     then        the tables, class by class
+//! ```
+//!
+//! The block of a container names its table by the root. A table of class c has 2^c index words and
+//! the entries of a dict or a set, or instead of both 2^c items of a list:
+//!
+//! ```text
+//! block   lock | version | root | used | fill | next serial | 0 | 0
+//! table   0 | goal | index words .. | entries ..      or      0 | goal | items ..
+//! entry   version | hash | key kind | key | value kind | value | serial | 0
+//! item    version | value kind | value | 0
+//! ```
+//!
+//! An index word is 0 where its slot was never used, or the place of an entry plus 1.
 #![tactic(auto)]
 
 mod entry;

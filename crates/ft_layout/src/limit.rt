@@ -1,4 +1,5 @@
-//! How many there may be of what has words in a bank.
+//! How many there may be of what has words in a bank. Makers of banks and readers of scripts keep to these
+//! numbers, and the sums of starts then stay below 2^63.
 
 /// How many tables of a class there are at most.
 pub const TABLES: u32 = 1024;

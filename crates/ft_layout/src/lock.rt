@@ -1,3 +1,6 @@
+//! Locks of containers as words, for whoever takes, holds or waits for one: a lock names its holder, and
+//! 0 none.
+
 ghost use Rattle.std.specs.Prelude.{◌≡◌, ◌↔◌, ℕ, Some};
 ghost use Rattle.std.specs.Option.{ForSome};
 ghost use Rattle.ft_layout.specs.Words.{IsHolder, lock_word, IsLockOf};

@@ -1,3 +1,6 @@
+//! Roots of containers as words, for whoever looks for a container's table: a root names one table by its
+//! class and number, and 0 none.
+
 ghost use Rattle.std.specs.Prelude.{◌≡◌, ◌↔◌, ℕ, ◌<◌, Some};
 ghost use Rattle.ft_model.specs.Classes.{IsClass};
 ghost use Rattle.ft_layout.specs.Words.{root_word, IsRootOf};

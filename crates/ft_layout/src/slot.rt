@@ -1,3 +1,6 @@
+//! What the words of entries and items can say, as types. Readers answer in them and writers take them,
+//! so no one else handles kinds and payloads.
+
 use ft_model::{Key, Value};
 
 /// A box: a place in the heap of the pass that made it.

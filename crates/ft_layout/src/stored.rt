@@ -1,3 +1,6 @@
+//! Stored values as a kind and a payload, for entries and items: each value, box and nothing at all has
+//! one kind and one payload, and no other two words stand for any of them.
+
 ghost use Rattle.std.specs.Prelude.{◌≡◌, ◌↔◌, ℕ, Some};
 ghost use Rattle.ft_layout.specs.Words.{stored_kind, stored_payload, FitsStored, IsStored};
 

@@ -1,3 +1,6 @@
+//! The numbers of words in a block, an entry and an item, by name. Whoever reads or writes a single word
+//! names it so.
+
 /// Which word of a container's block is which.
 pub mod block_word {
     /// The lock: 0, or the number of the pass that holds it plus 1.

@@ -15,6 +15,7 @@ pub mod LaterNumbers
 pub mod Leaves
 pub mod AccountLemmas
 pub mod NextEntries
+pub mod Matching
 pub mod Numbered
 pub mod NumberedHistories
 pub mod OneOrder

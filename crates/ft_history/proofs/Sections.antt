@@ -36,11 +36,13 @@ sections_next entries thread place entry at =
 abbrev AreBegun : List Entry → ℕ → ℕ → List Section → Type 0
 AreBegun entries thread place sections = AllByRecursion (IsBegun entries thread place) sections
 
+pub begun_longer : (entries : List Entry) (thread place : ℕ) (section : Section) → IsBegun entries thread place section → IsBegun entries thread (place + 1) section
+begun_longer entries thread place section is =
+    record { before = omega (arith, is.before); entry = is.entry; at = is.at; mine = is.mine; first = is.first; second = is.second; call = is.call; containers = is.containers }
+
 still_begun : (entries : List Entry) (thread place : ℕ) (sections : List Section) → AreBegun entries thread place sections → AreBegun entries thread (place + 1) sections
 still_begun entries thread place [] begun = tt
-still_begun entries thread place (section ∷ sections) begun =
-    let is_begun : IsBegun entries thread place section = begun.0 in
-    (record { before = omega (arith, is_begun.before); entry = is_begun.entry; at = is_begun.at; mine = is_begun.mine; first = is_begun.first; second = is_begun.second; call = is_begun.call; containers = is_begun.containers }, still_begun entries thread place sections begun.1)
+still_begun entries thread place (section ∷ sections) begun = (begun_longer entries thread place section begun.0, still_begun entries thread place sections begun.1)
 
 begun_after : (entries : List Entry) (thread place : ℕ) (entry : Entry) (called : Call) (sections : List Section) → slice_get entries place ≡ Some entry → entry.thread ≡ thread → entry.call ≡ called → AreBegun entries thread place sections → AreBegun entries thread (place + 1) (after_section place called sections)
 begun_after entries thread place entry (call.Begin first second) sections at mine is begun =

@@ -48,7 +48,7 @@ IsFront-push calls front entry is_front index call =
 -- ---- from a legal history
 
 module _ (storage : Storage) (script : ScriptParts) (entries : List Entry) (legal : IsLegal storage script entries) where
-  next_of_legal : (place : ℕ) (entry : Entry) → slice_get entries place ≡ Some entry → IsNext script entries place entry
+  pub next_of_legal : (place : ℕ) (entry : Entry) → slice_get entries place ≡ Some entry → IsNext script entries place entry
   next_of_legal place entry at =
       let mine = λ (e : Entry). e.thread == entry.thread in
       let front = filter mine (take place entries) in

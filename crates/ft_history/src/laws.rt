@@ -7,11 +7,13 @@ ghost use Rattle.ft_model.specs.declared.reply.Reply.TheVariants.{Kept};
 ghost use Rattle.ft_model.specs.declared.entry.Entry.{Entry};
 ghost use Rattle.ft_model.specs.declared.entry.Storage.{Storage};
 ghost use Rattle.ft_model.specs.declared.script.ScriptParts.{ScriptParts};
-ghost use Rattle.ft_model.specs.Histories.{history_cmp, writes, entries_of, calls_of, Section, sections_at, IsLegal};
+ghost use Rattle.ft_model.specs.Histories.{history_cmp, writes, entries_of, calls_of, sections_at, IsLegal};
 ghost use Rattle.ft_model.specs.Judging.{IsUnbroken};
+ghost use Rattle.ft_model.specs.Calls.{containers_of};
+ghost use Rattle.ft_model.specs.Scripts.{IsScript};
 ghost use Rattle.ft_history.specs.declared.verdict.Verdict.{Verdict};
 ghost use Rattle.ft_history.specs.Verdicts.{IsVerdict};
-ghost use Rattle.ft_history.specs.Laws.{IsUntouched, IsBegun};
+ghost use Rattle.ft_history.specs.Laws.{Matches, IsUntouched};
 
 /// A history is legal exactly where it breaks no rule at any place.
 pub fn legal_is_unbroken()
@@ -23,9 +25,11 @@ pub fn one_verdict()
     ensures { (storage : Storage) (script : ScriptParts) (entries : List Entry) (one other : Verdict) → IsVerdict storage script entries one → IsVerdict storage script entries other → one ≡ other }
 {}
 
-/// Of a legal history the entries of one thread are its calls, in its order.
+/// Of a legal history the entries of one thread are its calls, in its order, with the indexes 1, 2, 3
+/// and so on.
 pub fn threads_keep_their_order()
-    ensures { (storage : Storage) (script : ScriptParts) (entries : List Entry) (thread : ℕ) → IsLegal storage script entries → map (λ entry. entry.call) (entries_of thread entries) ≡ calls_of script thread }
+    ensures indexes { (storage : Storage) (script : ScriptParts) (entries : List Entry) (thread : ℕ) → IsLegal storage script entries → map (λ entry. entry.index) (entries_of thread entries) ≡ range_with_len 1 (length (calls_of script thread)) }
+    ensures calls { (storage : Storage) (script : ScriptParts) (entries : List Entry) (thread : ℕ) → IsLegal storage script entries → map (λ entry. entry.call) (entries_of thread entries) ≡ calls_of script thread }
 {}
 
 /// The writes of a legal history are numbered 0, 1, 2 and so on, each once.
@@ -33,11 +37,18 @@ pub fn writes_are_numbered()
     ensures { (storage : Storage) (script : ScriptParts) (entries : List Entry) → IsLegal storage script entries → map (λ entry. entry.stamp) (filter (λ entry. entry.wrote) entries) ≡ range_with_len 0 (length (writes entries)) }
 {}
 
+/// In a legal history each `end` is that of one `begin`, and of no other; the section that it ends is
+/// the innermost one that is open then.
+pub fn each_end_matches_one_begin()
+    ensures one { (storage : Storage) (script : ScriptParts) (entries : List Entry) (ended : ℕ) (end : Entry) → IsScript script → IsLegal storage script entries → slice_get entries ended ≡ Some end → end.call ≡ End → (begun : ℕ) × (begin : Entry) × Matches entries begun ended begin end }
+    ensures only { (entries : List Entry) (one other ended : ℕ) (begin another end : Entry) → Matches entries one ended begin end → Matches entries other ended another end → one ≡ other }
+    ensures section { (entries : List Entry) (begun ended : ℕ) (begin end : Entry) → Matches entries begun ended begin end → sections_at entries end.thread ended ≡ record { containers = containers_of begin.call; begun = begun } ∷ sections_at entries end.thread begun }
+{}
+
 /// Between an `end` that is reported kept and its `begin` no other thread's write names one of the
-/// section's containers.
+/// `begin`'s containers.
 pub fn kept_sections_are_untouched()
-    ensures begun { (entries : List Entry) (place : ℕ) (entry : Entry) (section : Section) (outer : List Section) → slice_get entries place ≡ Some entry → sections_at entries entry.thread place ≡ section ∷ outer → IsBegun entries entry.thread place section }
-    ensures untouched { (storage : Storage) (script : ScriptParts) (entries : List Entry) (place : ℕ) (entry : Entry) (section : Section) (outer : List Section) → IsLegal storage script entries → slice_get entries place ≡ Some entry → entry.call ≡ End → entry.reply ≡ Kept → sections_at entries entry.thread place ≡ section ∷ outer → IsUntouched entries entry.thread section.begun place section.containers }
+    ensures { (storage : Storage) (script : ScriptParts) (entries : List Entry) (begun ended : ℕ) (begin end : Entry) → IsLegal storage script entries → Matches entries begun ended begin end → end.reply ≡ Kept → IsUntouched entries end.thread begun ended (containers_of begin.call) }
 {}
 
 /// Of one set of entries, no two of which are alike in the order, there is one list in the order of a

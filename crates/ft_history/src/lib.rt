@@ -25,8 +25,8 @@ mod writers;
 pub use chronicles::{put_in_order, sorted_chronicles_are_legal};
 pub use judging::{judge, judge_with_world};
 pub use laws::{
-    kept_sections_are_untouched, legal_is_unbroken, one_order, one_verdict,
-    threads_keep_their_order, writes_are_numbered,
+    each_end_matches_one_begin, kept_sections_are_untouched, legal_is_unbroken, one_order,
+    one_verdict, threads_keep_their_order, writes_are_numbered,
 };
 pub use merging::{history_order, merge};
 pub use numbers::{

@@ -1,10 +1,8 @@
 -- What is kept of tables, one write further.
-use Rattle.std.proofs.Common.{◌≡◌, ℕ, ◌+◌, ◌-◌, ◌<◌, ◌≤◌, Bool, true, false, List, [], ◌∷◌, ◌++◌, map, length, get_or, set, Option, Some, None, refl, sym, ap, ◌∙◌, arith, cond, replicate}
-use Rattle.std.specs.Prelude.{◌&&◌}
-use Rattle.std.specs.List.{fold, count_by, list_any}
-use Rattle.std.proofs.lemmas.Bool.{false≢true, and_parts}
+use Rattle.std.proofs.Common.{◌≡◌, ℕ, ◌+◌, ◌-◌, true, List, [], ◌∷◌, ◌++◌, map, length, None, refl, sym, ap, ◌∙◌, arith, cond, replicate}
+use Rattle.std.proofs.lemmas.Bool.{false≢true}
 use Rattle.std.proofs.lemmas.List.{get_or-replicate}
-use Rattle.std.proofs.lemmas.List.Sums.{fold_push, sum_by_push}
+use Rattle.std.proofs.lemmas.List.Sums.{fold_push}
 use Rattle.ft_model.specs.declared.call.Call.{Call}
 use Rattle.ft_model.specs.declared.call.Call.TheVariants as call
 use Rattle.ft_model.specs.declared.call.DictCall.{DictCall}
@@ -23,37 +21,15 @@ use Rattle.ft_model.specs.declared.reply.Raise.TheVariants as raise
 use Rattle.ft_model.specs.declared.script.Declaration.{Declaration}
 use Rattle.ft_model.specs.declared.script.ScriptParts.{ScriptParts}
 use Rattle.ft_model.specs.Calls.{cursor_of_dict, cursor_of_list, cursor_of_set, dict_change, list_change, set_change, adds, can_add}
-use Rattle.ft_model.specs.Classes.{least_class, class_count, IsClass}
-use Rattle.ft_model.specs.Contents.{DictContent, SetContent, dict_get, dict_set}
-use Rattle.ft_model.specs.declared.content.Content.TheVariants as content
-use Rattle.ft_model.specs.declared.data.Value.{Value}
+use Rattle.ft_model.specs.Classes.{least_class, class_count}
+use Rattle.ft_model.proofs.StoredLaws.{takes_push}
 use Rattle.ft_model.specs.declared.script.Kind.{Kind}
-use Rattle.std.specs.Option.{option_map_or}
 use Rattle.ft_model.specs.Scripts.{cursor_of}
-use Rattle.ft_model.specs.Worlds.{start_world, kinds_of, dict_at, list_at, set_at, no_hands}
-use Rattle.ft_model.specs.Answers.{after_write, is_memory, is_raised, shows, puts, answer_dict, answer_list, answer_set}
-use Rattle.ft_model.specs.Tables.{TableUse, no_table, StoredWorld, opened, start_stored, takes_class, leaves_tables, takes_in, after_stored, stored_after, takings, is_class, takes, CanLackMemory, IsEarned, IsEarnedReply}
+use Rattle.ft_model.specs.Worlds.{kinds_of}
+use Rattle.ft_model.specs.Answers.{after_write, is_memory}
+use Rattle.ft_model.specs.Tables.{TableUse, no_table, StoredWorld, start_stored, takes_class, leaves_tables, after_stored, stored_after, takings, is_class, takes, IsEarned, IsEarnedReply}
 use Rattle.ft_history.specs.declared.account.TableAccount.{TableAccount}
-use Rattle.ft_history.specs.Accounts.{tables_of, taken_of, IsAccount, CountsTaking, CountsCall}
-
--- ---- worlds and takings
-
-stored_world : (stored : StoredWorld) (calls : List Call) → (fold after_stored stored calls).world ≡ fold after_write stored.world calls
-stored_world stored [] = refl
-stored_world stored (called ∷ calls) = stored_world (after_stored stored called) calls
-
--- what the containers have is what the writes leave
-pub world_of_stored : (script : ScriptParts) (calls : List Call) → (stored_after script calls).world ≡ fold after_write (start_world script.containers) calls
-world_of_stored script calls = stored_world (start_stored script) calls
-
-takings-push : (stored : StoredWorld) (calls : List Call) (called : Call) → takings stored (calls ++ called ∷ []) ≡ takings stored calls ++ takes_in (fold after_stored stored calls) called ∷ []
-takings-push stored [] called = refl
-takings-push stored (first ∷ calls) called = ap (λ (rest : List (Option ℕ)). takes_in stored first ∷ rest) (takings-push (after_stored stored first) calls called)
-
-takes-push : (script : ScriptParts) (class : ℕ) (calls : List Call) (called : Call) → takes script class (calls ++ called ∷ []) ≡ takes script class calls + cond (is_class class (takes_in (stored_after script calls) called)) 1 0
-takes-push script class calls called =
-    ap (count_by (is_class class)) (takings-push (start_stored script) calls called)
-    ∙ sum_by_push (λ taking. cond (is_class class taking) 1 0) (takings (start_stored script) calls) (takes_in (stored_after script calls) called)
+use Rattle.ft_history.specs.Accounts.{tables_of, taken_of, IsAccount, CountsCall}
 
 -- ---- one write further
 
@@ -76,12 +52,11 @@ module _ (script : ScriptParts) (calls : List Call) (called : Call) (old new : L
             goes.takings.takings class is
             ∙ ap (λ n. n + cond (is_class class (takes_class old new (tables_of before.tables.items) called)) 1 0) (kept.takings class is)
             ∙ ap (λ n. takes script class calls + n) (same_for_stored (λ o n ts. cond (is_class class (takes_class o n ts called)) 1 0))
-            ∙ sym (takes-push script class calls called);
+            ∙ sym (takes_push (kinds_of script.containers) class calls called);
       }
 
--- ---- a call that can add
+-- ---- a call that can add makes no cursor
 
--- it makes no cursor
 adding_dict : (called : DictCall) → adds (dict_change called) ≡ true → cursor_of_dict called ≡ None
 adding_dict (dict.Iter cursor) can = absurd (false≢true can)
 adding_dict _ can = refl
@@ -99,39 +74,6 @@ adding (call.Dict place dict_call) can = adding_dict dict_call can
 adding (call.List place list_call) can = adding_list list_call can
 adding (call.Set place set_call) can = adding_set set_call can
 adding _ can = refl
-
--- and it raises no other exception
-quiet_dict : (world : List Content) (place : ℕ) (old : DictContent) (called : DictCall) → adds (dict_change called) ≡ true → is_raised (answer_dict world no_hands place old called).reply ≡ false
-quiet_dict world place old (dict.SetDefault key default) can =
-    elim (dict_get old.pairs key) as (λ o. is_raised (option_map_or (λ value. shows world no_hands (reply.Value value)) o (puts world no_hands place (content.Dict (dict_set old key default)) (reply.Value default))).reply ≡ false) [
-      | None ↦ refl
-      | Some value ↦ refl
-    ]
-quiet_dict world place old (dict.Set key value) can = refl
-quiet_dict world place old (dict.Update other) can = refl
-quiet_dict world place old (dict.CopyTo other) can = refl
-quiet_dict world place old _ can = absurd (false≢true can)
-
-quiet_list : (world : List Content) (place : ℕ) (items : List Value) (called : ListCall) → adds (list_change called) ≡ true → is_raised (answer_list world no_hands place items called).reply ≡ false
-quiet_list world place items (list.Append value) can = refl
-quiet_list world place items (list.Insert index value) can = refl
-quiet_list world place items (list.Extend other) can = refl
-quiet_list world place items _ can = absurd (false≢true can)
-
-quiet_set : (world : List Content) (place : ℕ) (old : SetContent) (called : SetCall) → adds (set_change called) ≡ true → is_raised (answer_set world no_hands place old called).reply ≡ false
-quiet_set world place old (set_call.Add key) can = refl
-quiet_set world place old (set_call.Or other) can = refl
-quiet_set world place old (set_call.Xor other) can = refl
-quiet_set world place old _ can = absurd (false≢true can)
-
-pub can_lack : (world : List Content) (called : Call) → can_add called ≡ true → CanLackMemory world called
-can_lack world (call.Dict place dict_call) can = record { adds = can; raises_nothing = quiet_dict world place (dict_at world place) dict_call can }
-can_lack world (call.List place list_call) can = record { adds = can; raises_nothing = quiet_list world place (list_at world place) list_call can }
-can_lack world (call.Set place set_call) can = record { adds = can; raises_nothing = quiet_set world place (set_at world place) set_call can }
-can_lack world (call.Next cursor) can = absurd (false≢true can)
-can_lack world (call.Begin first second) can = absurd (false≢true can)
-can_lack world call.End can = absurd (false≢true can)
-can_lack world call.Quiesce can = absurd (false≢true can)
 
 earned_adds : (kinds : List Kind) (tables : List ℕ) (threads : ℕ) (calls : List Call) (mine : List Entry) (called : Call) (said : Reply) → IsEarnedReply kinds tables threads calls mine called said → is_memory said ≡ true → can_add called ≡ true
 earned_adds kinds tables threads calls mine called (reply.Raised (raise.Memory class)) earned memory = earned.0.adds

@@ -1,13 +1,12 @@
 -- Two lists of the same entries, in which threads and writes have the same order: what an entry has to say is the same at its places in both.
 use Rattle.std.proofs.Common.{◌≡◌, ◌≢◌, ℕ, ◌+◌, ◌-◌, ◌<◌, true, List, ◌++◌, length, take, drop, Some, sym, ap, subst, ◌∙◌, arith, cond, map, ◌==◌}
-use Rattle.std.specs.List.{fold, between, list_any, count_by}
-use Rattle.std.specs.Prelude.{slice_get, IfSome, Option, is_some, not, ◌&&◌, if◌then◌else◌}
+use Rattle.std.specs.List.{between, list_any, count_by}
+use Rattle.std.specs.Prelude.{slice_get, IfSome, is_some, not, ◌&&◌}
 use Rattle.std.proofs.lemmas.Bool.{and_parts}
 use Rattle.std.proofs.lemmas.Option.{slice_get_within}
 use Rattle.ft_model.specs.declared.call.Call.{Call}
 use Rattle.ft_model.specs.declared.reply.Reply.{Reply}
 use Rattle.ft_model.specs.declared.reply.Reply.TheVariants as reply
-use Rattle.ft_model.specs.declared.cursor.Cursor.{Cursor}
 use Rattle.ft_model.specs.declared.entry.Entry.{Entry}
 use Rattle.ft_model.specs.declared.entry.Storage.{Storage}
 use Rattle.ft_model.specs.declared.script.ScriptParts.{ScriptParts}

@@ -1,13 +1,8 @@
 -- What an answer leaves: it shows what is there, puts one content in place of another of its kind, or makes a cursor.
-use Rattle.std.proofs.Common.{◌≡◌, ◌≢◌, ℕ, zero, suc, ◌<◌, Bool, true, false, not, ◌&&◌, List, [], ◌∷◌, map, length, Option, Some, None, refl, sym, ap, ◌∙◌, arith, cond, set, inl, inr, negsuc, ◌-◌}
-use Rattle.std.specs.Prelude.{slice_get, slice_index_or, slice_set, IfSome, IsSome}
-use Rattle.std.specs.Option.{option_map, option_map_or, unwrap_or}
+use Rattle.std.proofs.Common.{◌≡◌, ℕ, Bool, true, false, List, length, Option, Some, None, refl, cond, negsuc, ◌-◌}
+use Rattle.std.specs.Prelude.{slice_get, slice_index_or, slice_set, IfSome}
+use Rattle.std.specs.Option.{option_map_or, unwrap_or}
 use Rattle.std.specs.List.{remove}
-use Rattle.std.proofs.lemmas.Bool.{false≢true, cases_eq, cases_lt}
-use Rattle.std.proofs.lemmas.List.{map-set, length-set, get_or-set_same, get_or-set_other, set_past}
-use Rattle.std.proofs.lemmas.Option.{slice_get-map}
-use Rattle.ft_model.specs.declared.call.Call.{Call}
-use Rattle.ft_model.specs.declared.call.Call.TheVariants as call
 use Rattle.ft_model.specs.declared.call.DictCall.{DictCall}
 use Rattle.ft_model.specs.declared.call.DictCall.TheVariants as dict
 use Rattle.ft_model.specs.declared.call.ListCall.{ListCall}
@@ -25,12 +20,11 @@ use Rattle.ft_model.specs.declared.content.Content.TheVariants as content
 use Rattle.ft_model.specs.declared.cursor.Cursor.{Cursor}
 use Rattle.ft_model.specs.declared.reply.Reply.{Reply}
 use Rattle.ft_model.specs.declared.reply.Reply.TheVariants as reply
-use Rattle.ft_model.specs.declared.script.Kind.{Kind}
 use Rattle.ft_model.specs.declared.script.Kind.TheVariants as kind
 use Rattle.ft_model.specs.Calls.{is_changing_dict, is_changing_list, is_changing_set, other_dict, other_list, other_set, cursor_of_dict, cursor_of_list, cursor_of_set}
 use Rattle.ft_model.specs.Contents.{DictContent, SetContent, dict_get, has_key, dict_set, dict_del, has_element, set_discard}
 use Rattle.ft_model.specs.Lists.{index_in, index_of}
-use Rattle.ft_model.specs.Worlds.{IsOfKind, kind_of, cursor_kind, container_of, cursor_at}
+use Rattle.ft_model.specs.Worlds.{IsOfKind, kind_of, cursor_kind, container_of}
 use Rattle.ft_model.specs.Answers.{Answer, shows, puts, moves, answer_dict, answer_list, answer_set, without_last, without_first, is_raised}
 
 -- how an answer depends on the hands, where it comes from a call that changes something or not, and makes a cursor or not

@@ -1,6 +1,6 @@
 -- The state after an entry that keeps every rule.
 use Rattle.std.proofs.Common.{◌≡◌, ◌≢◌, ℕ, ◌+◌, ◌<◌, ◌≤◌, Bool, true, false, not, ◌&&◌, IsTrue, List, [], ◌∷◌, ◌++◌, map, length, take, get_or, set, Option, Some, None, refl, sym, ap, subst, ◌∙◌, arith, inl, inr, cond}
-use Rattle.std.specs.Prelude.{slice_get, IsSome, IfNone, All, Any, ◌⊎◌}
+use Rattle.std.specs.Prelude.{slice_get, IfNone, All, Any, ◌⊎◌}
 use Rattle.std.specs.List.{fold, filter, count_by}
 use Rattle.std.proofs.lemmas.Bool.{cases_eq, and_parts, false≢true}
 use Rattle.std.proofs.lemmas.List.{length-set, get_or-set_same, get_or-set_other, append-nil, length-map, length-take-le}
@@ -20,7 +20,7 @@ use Rattle.ft_model.specs.declared.script.Thread.{Thread}
 use Rattle.ft_model.specs.declared.script.ScriptParts.{ScriptParts}
 use Rattle.ft_model.specs.Calls.{is_changing, containers_of}
 use Rattle.ft_model.specs.Scripts.{IsScript, IsCallOf, AreMade, cursor_of}
-use Rattle.ft_model.specs.Worlds.{start_world, kind_of, no_hands}
+use Rattle.ft_model.specs.Worlds.{start_world, kinds_of, kind_of}
 use Rattle.ft_model.specs.Answers.{answer, after_write, is_memory, is_raised, is_write}
 use Rattle.ft_model.specs.Histories.{writes, world_at, hands_at, calls_of, cursors_of, names, is_marked, IsReplied}
 use Rattle.ft_model.specs.Judging.{IsNext, IsStamped, HasRightReply, Keeps}
@@ -35,7 +35,8 @@ use Rattle.ft_history.proofs.Judged.{keeps_more}
 use Rattle.ft_history.proofs.ScriptLemmas.{call_of_thread, calls_of_thread, is_thread, named_within, no_calls}
 use Rattle.ft_history.proofs.Leaves.{Leaves, leaves_of, of_kinds, askable}
 use Rattle.ft_history.proofs.HandLemmas.{hands_next, hands_same, own_cursors}
-use Rattle.ft_history.proofs.AccountLemmas.{world_of_stored, account_next}
+use Rattle.ft_history.proofs.AccountLemmas.{account_next}
+use Rattle.ft_model.proofs.StoredLaws.{stored_world}
 use Rattle.ft_history.proofs.ProgressLemmas.{progress_other, progress_mine}
 use Rattle.ft_history.proofs.LastWriteLemmas.{last_after_other, last_after_write}
 
@@ -150,7 +151,7 @@ module _ (script : ScriptParts) (is_script : IsScript script) (entries : List En
         let done = writes (take place entries) in
         subst (λ (calls : List Call). IsAccount script calls new.account) (sym (writes_next entries place entry at))
         (elim entry.wrote as (λ b. entry.wrote ≡ b → IsAccount script (done ++ cond b (entry.call ∷ []) []) new.account) [
-          | true ↦ λ wrote. account_next script done entry.call old.world new.world old.account new.account (is_state.world ∙ sym (world_of_stored script done)) (written wrote) is_state.account (goes.taking wrote)
+          | true ↦ λ wrote. account_next script done entry.call old.world new.world old.account new.account (is_state.world ∙ sym (stored_world (kinds_of script.containers) done)) (written wrote) is_state.account (goes.taking wrote)
           | false ↦ λ calm. subst (λ (calls : List Call). IsAccount script calls new.account) (sym (append-nil done)) (subst (IsAccount script done) (sym (goes.same calm)) is_state.account)
         ] refl)
 

@@ -1,6 +1,6 @@
 -- The hands of a thread, one call further.
-use Rattle.std.proofs.Common.{◌≡◌, ℕ, ◌+◌, ◌<◌, List, [], ◌∷◌, ◌++◌, length, take, get_or, Option, Some, None, refl, sym, ap, subst, ◌∙◌, arith, inl, inr}
-use Rattle.std.specs.Prelude.{slice_get, IfSome, IsSome, Any, ◌⊎◌}
+use Rattle.std.proofs.Common.{◌≡◌, ℕ, ◌+◌, ◌<◌, List, [], ◌∷◌, ◌++◌, length, take, Option, Some, None, sym, subst, ◌∙◌, arith, inl, inr}
+use Rattle.std.specs.Prelude.{slice_get, IfSome, Any, ◌⊎◌}
 use Rattle.std.proofs.lemmas.Bool.{cases_lt}
 use Rattle.std.proofs.lemmas.List.{length_push, get_or_append_left, get_or_push}
 use Rattle.ft_model.specs.declared.call.Call.{Call}
@@ -8,10 +8,9 @@ use Rattle.ft_model.specs.declared.call.Call.TheVariants as call
 use Rattle.ft_model.specs.declared.content.Content.{Content}
 use Rattle.ft_model.specs.declared.cursor.Cursor.{Cursor}
 use Rattle.ft_model.specs.declared.script.ScriptParts.{ScriptParts}
-use Rattle.ft_model.specs.Scripts.{IsDeclaredAs, NamesOf, AreNamesOf, cursor_of}
-use Rattle.ft_model.specs.Worlds.{cursor_at, cursor_kind, container_of}
+use Rattle.ft_model.specs.Scripts.{NamesOf, cursor_of}
 use Rattle.ft_model.specs.Answers.{answer}
-use Rattle.ft_model.specs.Histories.{calls_of, cursors_of}
+use Rattle.ft_model.specs.Histories.{calls_of}
 use Rattle.ft_history.specs.States.{AreHandsOf}
 use Rattle.ft_history.proofs.Places.{take_next}
 use Rattle.ft_history.proofs.Leaves.{Leaves}

@@ -1,5 +1,4 @@
 -- The order of a history is a total order.
-use Rattle.std.proofs.Common.{refl}
 use Rattle.std.specs.Cmp.{IsTotalOrder, IsStrictWeakOrder, bool_cmp_total}
 use Rattle.std.specs.Ordering.{is_lt}
 use Rattle.std.proofs.lemmas.Cmp.{nat_cmp_total, on_total, then_total}

@@ -1,14 +1,12 @@
 -- What the judge's tests say of the rules.
-use Rattle.std.proofs.Common.{◌≡◌, ◌↔◌, IsTrue, ℕ, ◌+◌, ◌-◌, ◌<◌, ◌≤◌, Bool, true, false, List, [], ◌∷◌, ◌++◌, map, length, take, drop, Option, Some, None, refl, sym, ap, subst, ◌∙◌, arith, inl, inr, ◌==◌}
-use Rattle.std.specs.Prelude.{slice_get, IfSome, All}
+use Rattle.std.proofs.Common.{◌≡◌, ◌↔◌, IsTrue, ℕ, ◌+◌, ◌≤◌, Bool, List, length, take, Some, sym, ap, subst, ◌∙◌, arith, inl, inr, ◌==◌}
+use Rattle.std.specs.Prelude.{slice_get}
 use Rattle.std.proofs.lemmas.Bool.{cases_lt}
 use Rattle.std.proofs.lemmas.List.{length-take-le}
 use Rattle.std.proofs.lemmas.List.Sums.{length-filter, count_by-le-length}
-use Rattle.std.proofs.lemmas.Option.{slice_get_within}
 use Rattle.ft_model.specs.declared.call.Call.{Call}
 use Rattle.ft_model.specs.declared.entry.Entry.{Entry}
 use Rattle.ft_model.specs.declared.entry.Rule.{Rule}
-use Rattle.ft_model.specs.declared.entry.Rule.TheVariants as rule
 use Rattle.ft_model.specs.declared.entry.Storage.{Storage}
 use Rattle.ft_model.specs.declared.script.Thread.{Thread}
 use Rattle.ft_model.specs.declared.script.ScriptParts.{ScriptParts}
@@ -16,8 +14,7 @@ use Rattle.ft_model.specs.Answers.{is_write}
 use Rattle.ft_model.specs.Histories.{writes, calls_of, entries_of}
 use Rattle.ft_model.specs.Judging.{IsNext, IsStamped, Keeps, rank_of}
 use Rattle.ft_history.specs.declared.progress.ThreadProgress.{ThreadProgress}
-use Rattle.ft_history.specs.States.{IsProgress}
-use Rattle.ft_history.specs.Steps.{KeepsFirst, BreaksFirst}
+use Rattle.ft_history.specs.Steps.{KeepsFirst}
 use Rattle.ft_history.proofs.OneVerdict.{same_rule}
 
 -- ---- one rule more

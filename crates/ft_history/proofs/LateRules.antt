@@ -1,9 +1,9 @@
 -- What the judge's tests say of the rules on marks and sections.
-use Rattle.std.proofs.Common.{◌≡◌, ◌≢◌, ◌↔◌, IsTrue, ℕ, ◌+◌, ◌-◌, ◌<◌, ◌≤◌, Bool, true, false, ◌||◌, List, [], ◌∷◌, ◌++◌, map, length, take, drop, get_or, Option, Some, None, refl, sym, ap, subst, ◌∙◌, arith, inl, inr, cond}
+use Rattle.std.proofs.Common.{◌≡◌, ◌≢◌, ◌↔◌, IsTrue, ℕ, ◌+◌, ◌-◌, ◌<◌, Bool, true, false, ◌||◌, List, [], ◌∷◌, ◌++◌, map, length, take, drop, Option, Some, refl, sym, ap, subst, ◌∙◌, arith, inl, inr, cond}
 use Rattle.std.specs.Prelude.{slice_get, IfSome, All}
 use Rattle.std.specs.Option.{option_map_or}
 use Rattle.std.specs.List.{list_any, count_by, between, AllByRecursion}
-use Rattle.std.proofs.lemmas.List.{take-take, length-take-le}
+use Rattle.std.proofs.lemmas.List.{take-take}
 use Rattle.std.proofs.lemmas.List.Elements.{recursion_from_All}
 use Rattle.std.proofs.lemmas.List.Sums.{sum_by-take-drop}
 use Rattle.std.proofs.lemmas.Slice.{between_is}
@@ -12,13 +12,12 @@ use Rattle.ft_model.specs.declared.call.Call.{Call}
 use Rattle.ft_model.specs.declared.call.Call.TheVariants as call
 use Rattle.ft_model.specs.declared.reply.Reply.{Reply}
 use Rattle.ft_model.specs.declared.reply.Reply.TheVariants as reply
-use Rattle.ft_model.specs.declared.reply.Raise.{Raise}
 use Rattle.ft_model.specs.declared.cursor.Cursor.{Cursor}
 use Rattle.ft_model.specs.declared.entry.Entry.{Entry}
 use Rattle.ft_model.specs.declared.script.ScriptParts.{ScriptParts}
 use Rattle.std.specs.Global.{Vec}
 use Rattle.ft_model.specs.Worlds.{containers_used}
-use Rattle.ft_model.specs.Histories.{Section, innermost, after_section, sections_at, hands_at, has_call_on, needs_at, disturbs, is_disturbed, is_marked, marks_between, IfInnermost, IfEnds, IsKeptBy, IsCountedAs, IsCountedBy, IsMarked, IsKept, IsCounted}
+use Rattle.ft_model.specs.Histories.{Section, innermost, after_section, has_call_on, needs_at, disturbs, is_disturbed, is_marked, marks_between, IfInnermost, IfEnds, IsKeptBy, IsCountedAs, IsCountedBy, IsMarked, IsKept, IsCounted}
 use Rattle.ft_model.specs.declared.call.Containers.{Containers}
 use Rattle.ft_model.specs.Calls.{container_list}
 use Rattle.ft_history.specs.declared.progress.ThreadProgress.{ThreadProgress}

@@ -1,7 +1,7 @@
 -- What a call leaves of the kinds of containers, and of the hands.
-use Rattle.std.proofs.Common.{◌≡◌, ◌≢◌, ℕ, zero, suc, ◌<◌, ◌≤◌, Bool, true, false, not, ◌&&◌, List, [], ◌∷◌, map, length, Option, Some, None, refl, sym, ap, subst, ◌∙◌, arith, cond, set, inl, inr, ◌==◌, ◌-◌, eqb}
-use Rattle.std.specs.Prelude.{slice_get, IfSome, IsSome, IsSomeAnd, is_some}
-use Rattle.std.specs.Option.{option_map, option_map_or}
+use Rattle.std.proofs.Common.{◌≡◌, ℕ, zero, suc, ◌<◌, Bool, true, false, not, ◌&&◌, List, [], ◌∷◌, map, length, Option, Some, None, refl, sym, ap, subst, ◌∙◌, arith, cond, set, inl, inr, ◌==◌, ◌-◌}
+use Rattle.std.specs.Prelude.{slice_get, IfSome, IsSome, IsSomeAnd}
+use Rattle.std.specs.Option.{option_map_or}
 use Rattle.std.proofs.lemmas.Bool.{false≢true, cases_eq, cases_lt}
 use Rattle.std.proofs.lemmas.List.{map-set, length-set, get_or-set_same, get_or-set_other, set_past}
 use Rattle.std.proofs.lemmas.Option.{slice_get-map, IfSome_then}
@@ -21,9 +21,9 @@ use Rattle.ft_model.specs.declared.script.Declaration.{Declaration}
 use Rattle.ft_model.specs.declared.script.Kind.{Kind}
 use Rattle.ft_model.specs.declared.script.Kind.TheVariants as kind
 use Rattle.ft_model.specs.Calls.{is_changing}
-use Rattle.ft_model.specs.Scripts.{IsDeclaredAs, AreNamesOf, NamesOf, cursor_of}
+use Rattle.ft_model.specs.Scripts.{IsDeclaredAs, NamesOf, cursor_of}
 use Rattle.ft_model.specs.Cursors.{CursorStep, dict_next, dict_walk, next_pair, set_next, set_walk, next_element, list_next, list_walk}
-use Rattle.ft_model.specs.Worlds.{IsOfKind, IsNamed, IsDeclared, kind_of, cursor_kind, container_of, cursor_at, no_hands, dict_at, list_at, set_at}
+use Rattle.ft_model.specs.Worlds.{IsOfKind, kind_of, cursor_kind, container_of, cursor_at, no_hands, dict_at, list_at, set_at}
 use Rattle.ft_model.specs.Answers.{Answer, answer, cursor_step, is_raised, is_write, shows, moves}
 use Rattle.ft_history.specs.Accounts.{AreOfKind}
 use Rattle.ft_history.specs.States.{IsAskable}

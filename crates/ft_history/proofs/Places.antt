@@ -1,5 +1,5 @@
 -- What stands before a place of a history, one entry further.
-use Rattle.std.proofs.Common.{◌≡◌, ℕ, zero, suc, ◌+◌, ◌<◌, Bool, true, false, List, [], ◌∷◌, ◌++◌, map, length, take, drop, get_or, Some, refl, sym, ap, subst, ◌∙◌, arith, cond, inl, inr, ◌≤◌}
+use Rattle.std.proofs.Common.{◌≡◌, ℕ, zero, suc, ◌+◌, ◌<◌, Bool, true, false, List, [], ◌∷◌, ◌++◌, map, length, take, drop, Some, refl, sym, ap, subst, ◌∙◌, arith, cond, inl, inr, ◌≤◌}
 use Rattle.std.specs.List.{filter, fold}
 use Rattle.std.specs.Prelude.{slice_get, ◌⊎◌}
 use Rattle.std.proofs.Math.Numerals.{add-one}
@@ -9,12 +9,11 @@ use Rattle.std.proofs.lemmas.List.Elements.{filter-append}
 use Rattle.std.proofs.lemmas.Option.{slice_get_within, get_or_from_slice_get, slice_get_cases}
 use Rattle.ft_model.specs.declared.call.Call.{Call}
 use Rattle.ft_model.specs.declared.entry.Entry.{Entry}
-use Rattle.ft_model.specs.declared.content.Content.{Content}
 use Rattle.ft_model.specs.declared.script.ScriptParts.{ScriptParts}
 use Rattle.ft_history.specs.States.{world_before}
 use Rattle.ft_model.specs.Worlds.{start_world}
 use Rattle.ft_model.specs.Answers.{after_write}
-use Rattle.ft_model.specs.Histories.{writes, world_at, entries_of}
+use Rattle.ft_model.specs.Histories.{writes, world_at}
 
 -- ---- lists
 

@@ -1,9 +1,9 @@
 -- What is kept of a thread, one entry further.
-use Rattle.std.proofs.Common.{◌≡◌, ◌≢◌, ℕ, ◌+◌, ◌<◌, ◌≤◌, Bool, true, false, ◌&&◌, List, [], ◌∷◌, ◌++◌, map, length, take, drop, Option, Some, refl, sym, ap, subst, ◌∙◌, arith, cond, eqb}
+use Rattle.std.proofs.Common.{◌≡◌, ◌≢◌, ℕ, ◌+◌, ◌<◌, ◌&&◌, List, [], ◌∷◌, ◌++◌, map, length, take, Option, Some, refl, sym, ap, subst, ◌∙◌, arith, cond, eqb}
 use Rattle.std.specs.Prelude.{slice_get, is_some, All}
 use Rattle.std.specs.List.{fold, count_by, AllByRecursion}
 use Rattle.std.proofs.lemmas.Bool.{eq-eqb, ne_eqb}
-use Rattle.std.proofs.lemmas.List.{append-nil, length-append, length_push, drop-map}
+use Rattle.std.proofs.lemmas.List.{append-nil, length_push, drop-map}
 use Rattle.std.proofs.lemmas.List.Sums.{sum_by_push, fold_push}
 use Rattle.ft_model.specs.declared.call.Call.{Call}
 use Rattle.ft_model.specs.declared.call.Call.TheVariants as call
@@ -13,7 +13,7 @@ use Rattle.ft_model.specs.declared.script.ScriptParts.{ScriptParts}
 use Rattle.ft_model.specs.Calls.{containers_of}
 use Rattle.ft_model.specs.Worlds.{start_hands}
 use Rattle.ft_model.specs.Answers.{answer, is_memory}
-use Rattle.ft_model.specs.Histories.{Section, entries_of, cursors_of, after_entry, hands_at, is_marked, sections_at, after_section, after_numbered, world_at, writes}
+use Rattle.ft_model.specs.Histories.{entries_of, cursors_of, after_entry, hands_at, is_marked, sections_at, after_section, world_at, writes}
 use Rattle.ft_history.specs.declared.progress.ThreadProgress.{ThreadProgress}
 use Rattle.ft_history.specs.States.{world_before, Begun, all_begun, after_begun, section_of, IsOpen, IsProgress}
 use Rattle.ft_history.proofs.Places.{take_next, filter_next, world_at-before}

@@ -1,8 +1,7 @@
 -- What the rule of scripts says of threads and of their calls.
-use Rattle.std.proofs.Common.{◌≡◌, ℕ, zero, suc, ◌<◌, ◌≤◌, Bool, true, false, List, [], ◌∷◌, length, get_or, Option, Some, None, refl, sym, ap, subst, ◌∙◌, arith, cond, eqb}
+use Rattle.std.proofs.Common.{◌≡◌, ℕ, ◌<◌, ◌≤◌, true, false, List, [], ◌∷◌, length, get_or, Option, Some, None, sym, ap, subst, ◌∙◌, arith, cond, eqb}
 use Rattle.std.specs.Prelude.{slice_get, All, IfSome}
-use Rattle.std.specs.Option.{option_map, option_map_or}
-use Rattle.std.specs.List.{AllByRecursion}
+use Rattle.std.specs.Option.{option_map_or}
 use Rattle.std.proofs.lemmas.List.Elements.{All-from_recursion}
 use Rattle.std.proofs.lemmas.Option.{slice_get-map, slice_get_within, get_or_from_slice_get, slice_get_past, IfSome_then}
 use Rattle.std.proofs.lemmas.List.{length-map}

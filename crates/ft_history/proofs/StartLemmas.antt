@@ -1,12 +1,10 @@
 -- The state at the start.
-use Rattle.std.proofs.Common.{◌≡◌, ℕ, ◌+◌, ◌-◌, ◌<◌, ◌≤◌, List, [], ◌∷◌, map, length, get_or, replicate, take, Option, Some, None, refl, sym, ap, subst, ◌∙◌, arith, inl, inr}
-use Rattle.std.specs.Prelude.{slice_get, slice_index_or, IfSome, IsSome, All, Any}
+use Rattle.std.proofs.Common.{◌≡◌, ℕ, List, [], ◌∷◌, map, length, take, Option, Some, None, refl, sym, ap, subst, ◌∙◌, arith, inl, inr}
+use Rattle.std.specs.Prelude.{slice_get, IfSome}
 use Rattle.std.specs.Option.{option_map_or}
 use Rattle.std.specs.List.{AllByRecursion}
 use Rattle.std.proofs.lemmas.Bool.{cases_lt}
 use Rattle.std.proofs.lemmas.List.{get_or-replicate, length-replicate, get_or_past}
-use Rattle.std.proofs.lemmas.List.Elements.{All-replicate}
-use Rattle.std.proofs.lemmas.Option.{slice_get_within, slice_get-get_or, get_or_from_slice_get}
 use Rattle.ft_model.specs.declared.entry.Entry.{Entry}
 use Rattle.ft_model.specs.declared.cursor.Cursor.{Cursor}
 use Rattle.ft_model.specs.declared.script.Declaration.{Declaration}
@@ -14,14 +12,11 @@ use Rattle.ft_model.specs.declared.script.Kind.{Kind}
 use Rattle.ft_model.specs.declared.script.Kind.TheVariants as kind
 use Rattle.ft_model.specs.declared.script.Thread.{Thread}
 use Rattle.ft_model.specs.declared.script.ScriptParts.{ScriptParts}
-use Rattle.ft_model.specs.Scripts.{IsScript, IsDeclaredAs}
+use Rattle.ft_model.specs.Scripts.{IsDeclaredAs}
 use Rattle.ft_model.specs.Worlds.{start_world, start_hands, empty_content, kind_of, cursor_at, cursor_kind, container_of}
-use Rattle.ft_model.specs.Histories.{cursors_of, calls_of}
+use Rattle.ft_model.specs.Histories.{calls_of}
 use Rattle.ft_history.specs.declared.progress.ThreadProgress.{ThreadProgress}
-use Rattle.ft_history.specs.declared.writers.LastWrites.{LastWrites}
 use Rattle.ft_history.specs.States.{IsFresh, IsProgress, AreHandsOf, IsOpen, all_begun, section_of}
-use Rattle.ft_history.proofs.ScriptLemmas.{cursors_of_thread}
-use Rattle.ft_history.proofs.LastWriteLemmas.{last_at_start}
 
 pub kinds_at_start : (containers : List Declaration) → map kind_of (start_world containers) ≡ map (λ (c : Declaration). c.kind) containers
 kinds_at_start [] = refl

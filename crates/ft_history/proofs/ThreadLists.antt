@@ -1,5 +1,5 @@
 -- One list for each thread, and the entries of all in one list.
-use Rattle.std.proofs.Common.{◌≡◌, ℕ, zero, suc, ◌+◌, ◌<◌, Bool, true, false, List, [], ◌∷◌, ◌++◌, take, get_or, Some, None, refl, sym, ap, subst, ◌∙◌, arith, cond, inl, inr, map, ◌==◌}
+use Rattle.std.proofs.Common.{◌≡◌, ℕ, zero, suc, ◌+◌, ◌<◌, Bool, true, false, List, [], ◌∷◌, ◌++◌, get_or, Some, None, refl, sym, ap, subst, ◌∙◌, arith, cond, inl, inr, ◌==◌}
 use Rattle.std.specs.List.{All, filter, flat_map}
 use Rattle.std.specs.Option.{option_map_or}
 use Rattle.std.specs.Prelude.{Option, slice_get}

@@ -1,15 +1,15 @@
 -- A history is legal exactly where it breaks no rule at any place.
-use Rattle.std.proofs.Common.{◌≡◌, ℕ, zero, suc, ◌+◌, ◌<◌, ◌≤◌, Bool, true, false, List, [], ◌∷◌, ◌++◌, map, length, take, drop, get_or, Some, refl, sym, ap, subst, ◌∙◌, arith, cond, eqb, inl, inr, ◌==◌}
+use Rattle.std.proofs.Common.{◌≡◌, ℕ, zero, suc, ◌+◌, ◌<◌, ◌≤◌, true, false, List, [], ◌∷◌, ◌++◌, map, length, take, drop, get_or, Some, refl, sym, ap, subst, ◌∙◌, arith, cond, ◌==◌}
 use Rattle.std.specs.List.{filter, range_with_len}
 use Rattle.std.specs.List.Sorted.{IsSorted}
 use Rattle.std.specs.Ordering.{is_lt}
 use Rattle.std.specs.Option.{option_map}
 use Rattle.std.specs.Prelude.{slice_get}
 use Rattle.std.proofs.Math.Numerals.{add-one}
-use Rattle.std.proofs.lemmas.Bool.{eq-eqb, eqb-true, cases_Bool}
+use Rattle.std.proofs.lemmas.Bool.{eq-eqb, eqb-true}
 use Rattle.std.proofs.lemmas.Bool.Decides.{nat_tests}
-use Rattle.std.proofs.lemmas.List.{map_push, length_push, length-map, append-nil, take_all, length-take-le}
-use Rattle.std.proofs.lemmas.Option.{slice_get-map, slice_get-get_or, slice_get_cases, slice_get_within}
+use Rattle.std.proofs.lemmas.List.{map_push, length_push, length-map, append-nil, take_all}
+use Rattle.std.proofs.lemmas.Option.{slice_get-map, slice_get-get_or, slice_get_within}
 use Rattle.ft_model.specs.declared.call.Call.{Call}
 use Rattle.ft_model.specs.declared.entry.Entry.{Entry}
 use Rattle.ft_model.specs.declared.entry.Rule.{Rule}
@@ -17,9 +17,8 @@ use Rattle.ft_model.specs.declared.entry.Rule.TheVariants as rule
 use Rattle.ft_model.specs.declared.entry.Storage.{Storage}
 use Rattle.ft_model.specs.declared.script.ScriptParts.{ScriptParts}
 use Rattle.ft_model.specs.Answers.{answer}
-use Rattle.ft_model.specs.Tables.{IsEarned}
-use Rattle.ft_model.specs.Histories.{history_cmp, writes, world_at, entries_of, calls_of, hands_at, IsReplied, IsAnswered, IsWhole, IsLegal}
-use Rattle.ft_model.specs.Judging.{IsNext, IsStamped, IsAfter, HasRightReply, Keeps, IsComplete, KeepsAfter, HoldsAt, IsUnbroken}
+use Rattle.ft_model.specs.Histories.{history_cmp, writes, world_at, entries_of, calls_of, hands_at, IsReplied, IsWhole, IsLegal}
+use Rattle.ft_model.specs.Judging.{IsNext, IsStamped, IsAfter, Keeps, IsComplete, KeepsAfter, IsUnbroken}
 use Rattle.ft_history.proofs.Places.{take_next, drop_here, filter_next, filter_parts, slice_get_at, count_next, by_places}
 
 -- ---- what a thread has done of its calls

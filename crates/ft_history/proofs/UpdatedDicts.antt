@@ -1,13 +1,12 @@
 -- How many pairs a dict has after a call that adds to it.
-use Rattle.std.proofs.Common.{◌≡◌, ◌≢◌, ℕ, zero, suc, ◌+◌, ◌<◌, ◌≤◌, Bool, true, false, not, ◌||◌, List, [], ◌∷◌, ◌++◌, map, length, get_or, refl, sym, ap, ◌∙◌, arith, cond}
+use Rattle.std.proofs.Common.{◌≡◌, ◌≢◌, ℕ, suc, ◌+◌, ◌<◌, Bool, true, false, not, ◌||◌, List, [], ◌∷◌, ◌++◌, length, get_or, refl, ap, ◌∙◌, arith, cond}
 use Rattle.std.specs.Prelude.{AllPairs, filter}
-use Rattle.std.specs.List.{list_any}
 use Rattle.std.proofs.lemmas.List.{length-map, length_push}
 use Rattle.ft_model.specs.declared.data.Key.{Key}
 use Rattle.ft_model.specs.declared.data.Value.{Value}
 use Rattle.ft_model.specs.declared.content.DictPair.{DictPair}
 use Rattle.ft_model.specs.Keys.{same_key}
-use Rattle.ft_model.specs.Contents.{DictContent, IsDict, is_at, has_key, with_value, dict_set, dict_update}
+use Rattle.ft_model.specs.Contents.{DictContent, is_at, has_key, with_value, dict_set, dict_update}
 use Rattle.ft_model.proofs.KeyLemmas.{same_key-true}
 
 -- ---- one key more

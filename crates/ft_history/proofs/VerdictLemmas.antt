@@ -1,21 +1,20 @@
 -- What the judge's answer says of the history.
-use Rattle.std.proofs.Common.{◌≡◌, ◌↔◌, IsTrue, ℕ, ◌+◌, ◌-◌, ◌<◌, ◌≤◌, Bool, true, false, List, [], length, take, Option, Some, None, refl, sym, ap, subst, ◌∙◌, arith, inl, inr}
+use Rattle.std.proofs.Common.{◌≡◌, ◌↔◌, IsTrue, ℕ, ◌+◌, ◌<◌, ◌≤◌, Bool, true, false, List, [], length, take, Option, Some, None, refl, sym, ap, subst, ◌∙◌, arith, inl, inr}
 use Rattle.std.specs.Prelude.{slice_get}
 use Rattle.std.specs.Option.{option_map_or}
 use Rattle.std.proofs.lemmas.Bool.{cases_lt, false≢true}
 use Rattle.std.proofs.lemmas.List.{take_all}
-use Rattle.std.proofs.lemmas.Option.{slice_get_within, slice_get_cases, slice_get_past}
+use Rattle.std.proofs.lemmas.Option.{slice_get_within, slice_get_cases}
 use Rattle.ft_model.specs.declared.entry.Entry.{Entry}
 use Rattle.ft_model.specs.declared.entry.Rule.{Rule}
 use Rattle.ft_model.specs.declared.entry.Rule.TheVariants as rule
 use Rattle.ft_model.specs.declared.entry.Storage.{Storage}
 use Rattle.ft_model.specs.declared.script.Thread.{Thread}
 use Rattle.ft_model.specs.declared.script.ScriptParts.{ScriptParts}
-use Rattle.ft_model.specs.Histories.{calls_of, entries_of, IsLegal}
-use Rattle.ft_model.specs.Judging.{HoldsAt, KeepsAfter, IsComplete, IsUnbroken, IsFirstBroken, rank_of}
-use Rattle.ft_history.specs.declared.progress.ThreadProgress.{ThreadProgress}
+use Rattle.ft_model.specs.Histories.{entries_of, IsLegal}
+use Rattle.ft_model.specs.Judging.{HoldsAt, KeepsAfter, IsComplete, IsFirstBroken, rank_of}
 use Rattle.ft_history.specs.declared.state.State.{State}
-use Rattle.ft_history.specs.Steps.{IsState, IsUnbrokenBefore, BreaksFirst, Finds, HaveMadeAll}
+use Rattle.ft_history.specs.Steps.{IsState, IsUnbrokenBefore, Finds, HaveMadeAll}
 use Rattle.ft_history.proofs.Unbroken.{legal_of_unbroken}
 
 module _ (s : Storage) (script : ScriptParts) (entries : List Entry) (place : ℕ) (low : place < length entries) (unbroken : IsUnbrokenBefore s script entries place) where

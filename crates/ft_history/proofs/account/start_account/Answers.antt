@@ -1,4 +1,4 @@
-use Rattle.std.proofs.Common.{◌≡◌, ap, ◌∙◌, replicate}
+use Rattle.std.proofs.Common.{ap, ◌∙◌, replicate}
 use Rattle.ft_model.specs.Tables.{no_table}
 use Rattle.ft_history.proofs.AccountLemmas.{account_at_start}
 use Rattle.ft_history.proofs.account.start_account.Goals as goal

@@ -1,6 +1,4 @@
-use Rattle.std.proofs.Common.{◌≡◌, true, ap, sym, ◌∙◌}
-use Rattle.ft_model.specs.declared.call.Call.{Call}
-use Rattle.ft_model.specs.contracts.call.CallPartialEq.TheImpl as calls
+use Rattle.std.proofs.Common.{sym, ◌∙◌}
 use Rattle.ft_history.proofs.Equality.{call_exact, call_alike}
 use Rattle.ft_history.proofs.equal.same_call.Goals as goal
 

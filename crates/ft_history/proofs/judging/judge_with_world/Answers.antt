@@ -1,14 +1,12 @@
-use Rattle.std.proofs.Common.{◌≡◌, ◌↔◌, IsTrue, ℕ, take, ◌+◌, ◌-◌, ◌<◌, ◌≤◌, List, length, Option, Some, None, refl, sym, ap, subst, ◌∙◌, arith}
+use Rattle.std.proofs.Common.{◌≡◌, ◌↔◌, IsTrue, ℕ, take, ◌+◌, ◌-◌, List, length, Some, sym, ap, subst, ◌∙◌, arith}
 use Rattle.std.specs.Prelude.{slice_get, IfNone}
 use Rattle.ft_model.specs.declared.entry.Entry.{Entry}
 use Rattle.ft_model.specs.declared.entry.Rule.TheVariants as rule
 use Rattle.ft_model.specs.declared.script.ScriptParts.{ScriptParts}
-use Rattle.ft_model.specs.declared.script.Thread.{Thread}
 use Rattle.ft_model.specs.Histories.{writes, world_at, IsLegal}
 use Rattle.std.proofs.lemmas.List.{take_all}
 use Rattle.ft_history.proofs.Places.{world_at-before}
 use Rattle.ft_model.specs.Judging.{IsFirstBroken}
-use Rattle.ft_history.specs.declared.progress.ThreadProgress.{ThreadProgress}
 use Rattle.ft_history.specs.Steps.{IsState, IsUnbrokenBefore, Finds, HaveMadeAll}
 use Rattle.ft_history.proofs.VerdictLemmas.{goes_on, first_broken, legal_at_end, missing_at_end}
 use Rattle.ft_history.proofs.judging.judge_with_world.Goals as goal

@@ -1,4 +1,4 @@
-use Rattle.std.proofs.Common.{◌≡◌, ℕ, ◌+◌, not, ◌&&◌, ◌||◌, length, sym, ap, subst, ◌∙◌, cond, eqb, ltb}
+use Rattle.std.proofs.Common.{ℕ, ◌+◌, not, ◌&&◌, ◌||◌, length, sym, ap, subst, ◌∙◌, cond, eqb, ltb}
 use Rattle.ft_model.specs.declared.call.Call.TheVariants as call
 use Rattle.ft_model.specs.declared.call.DictCall.{DictCall}
 use Rattle.ft_model.specs.declared.script.Kind.TheVariants as kind

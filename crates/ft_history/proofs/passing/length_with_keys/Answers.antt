@@ -1,7 +1,6 @@
-use Rattle.std.proofs.Common.{◌≡◌, ◌≢◌, ℕ, ◌+◌, not, List, length, sym, ap, subst, ◌∙◌}
-use Rattle.std.specs.Prelude.{AllPairs, filter}
+use Rattle.std.proofs.Common.{◌+◌, List, length, sym, ap, ◌∙◌}
+use Rattle.std.specs.Prelude.{filter}
 use Rattle.ft_model.specs.declared.content.DictPair.{DictPair}
-use Rattle.ft_model.specs.Contents.{has_key}
 use Rattle.ft_history.proofs.UpdatedDicts.{is_new, length-dict_update}
 use Rattle.ft_history.proofs.passing.length_with_keys.Goals as goal
 

@@ -1,4 +1,4 @@
-use Rattle.std.proofs.Common.{◌≡◌, ℕ, ◌+◌, not, ◌&&◌, ◌||◌, List, length, sym, ap, subst, ◌∙◌, cond, eqb, ltb}
+use Rattle.std.proofs.Common.{ℕ, ◌+◌, not, ◌&&◌, ◌||◌, List, length, sym, ap, subst, ◌∙◌, eqb, ltb}
 use Rattle.std.specs.Prelude.{IfSome}
 use Rattle.ft_model.specs.declared.call.Call.TheVariants as call
 use Rattle.ft_model.specs.declared.call.ListCall.{ListCall}

@@ -1,14 +1,12 @@
-use Rattle.std.proofs.Common.{◌≡◌, ℕ, ◌<◌, List, [], map, length, get_or, replicate, Option, Some, None, refl, sym, ap, subst, ◌∙◌, arith, inl, inr}
+use Rattle.std.proofs.Common.{◌≡◌, ℕ, ◌<◌, List, map, length, replicate, Some, None, refl, sym, ap, ◌∙◌, arith, inl, inr}
 use Rattle.std.specs.Prelude.{slice_get}
 use Rattle.std.proofs.lemmas.List.{get_or-replicate, length-replicate}
 use Rattle.std.proofs.lemmas.Option.{slice_get_within, slice_get_cases, get_or_from_slice_get}
-use Rattle.ft_model.specs.declared.content.Content.{Content}
-use Rattle.ft_model.specs.declared.script.Declaration.{Declaration}
 use Rattle.ft_model.specs.declared.script.Thread.{Thread}
 use Rattle.ft_model.specs.Worlds.{start_world, kind_of}
 use Rattle.ft_history.specs.declared.progress.ThreadProgress.{ThreadProgress}
 use Rattle.ft_history.specs.declared.writers.LastWrites.{LastWrites}
-use Rattle.ft_history.specs.States.{IsFresh, IsLast}
+use Rattle.ft_history.specs.States.{IsFresh}
 use Rattle.ft_history.proofs.LastWriteLemmas.{last_at_start}
 use Rattle.ft_history.proofs.StartLemmas.{kinds_at_start, progress_at_start, hands_at_start}
 use Rattle.ft_history.proofs.state.start.Goals as goal

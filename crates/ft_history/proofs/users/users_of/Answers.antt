@@ -1,4 +1,4 @@
-use Rattle.std.proofs.Common.{◌≡◌, ℕ, ◌+◌, ◌<◌, ◌≤◌, Bool, false, List, [], ◌∷◌, ◌++◌, length, Option, Some, None, refl, sym, ap, subst, ◌∙◌, arith, inl, inr, vec_len, below_more}
+use Rattle.std.proofs.Common.{◌≡◌, ℕ, ◌<◌, ◌≤◌, Bool, false, List, [], ◌∷◌, ◌++◌, length, Some, refl, sym, ap, subst, ◌∙◌, arith, inl, inr, below_more}
 use Rattle.std.specs.Prelude.{slice_get, slice_index_or, All}
 use Rattle.std.specs.Global.{Vec}
 use Rattle.std.specs.Option.{option_map_or}
@@ -8,7 +8,7 @@ use Rattle.std.proofs.lemmas.Option.{slice_get_read, slice_get_past}
 use Rattle.ft_model.specs.declared.call.Call.{Call}
 use Rattle.ft_model.specs.declared.script.Thread.{Thread}
 use Rattle.ft_model.specs.Calls.{containers_of}
-use Rattle.ft_model.specs.Histories.{calls_of, has_call_on, names}
+use Rattle.ft_model.specs.Histories.{has_call_on, names}
 use Rattle.ft_history.specs.States.{is_used}
 use Rattle.ft_history.proofs.Places.{slice_get_at, slice_get_left}
 use Rattle.ft_history.proofs.ScriptLemmas.{calls_within, calls_of_thread}

@@ -10,15 +10,15 @@ use Rattle.std.proofs.lemmas.Bool.{cases_eq, cases_lt}
 use Rattle.ft_model.specs.declared.data.Key.{Key}
 use Rattle.ft_hash.specs.Probes.{IsMask}
 use Rattle.ft_layout.specs.declared.slot.Stored.{Stored}
-use Rattle.ft_layout.specs.Words.{FitsKey, key_kind, key_payload, IsEntry}
+use Rattle.ft_layout.specs.Words.{FitsKey, key_kind, gone_kind, key_payload, IsEntry}
 use Rattle.ft_layout.specs.Tables.{UsedEntry, is_live, hash_of, slot_with, dict_room, index_word, entry_word, Meets}
-use Rattle.ft_layout.proofs.WordLaws.{key_is_one, gone_is, kind_range}
+use Rattle.ft_layout.proofs.WordLaws.{key_is_one, gone_key_is_one, gone_is, kind_range}
 use Rattle.ft_keys.specs.declared.walk.Way.{Way}
 use Rattle.ft_keys.specs.declared.walk.Way.TheVariants.{Dict, Set}
 use Rattle.ft_keys.specs.declared.search.Found.{Found}
-use Rattle.ft_keys.specs.declared.search.Found.TheVariants.{At, Free, Spent}
+use Rattle.ft_keys.specs.declared.search.Found.TheVariants.{At, Was, Free, Spent}
 use Rattle.ft_keys.specs.Ways.{walk_slots, room, IsTableOf}
-use Rattle.ft_keys.specs.Searches.{HasKey, Passes, EndsAt, Finds}
+use Rattle.ft_keys.specs.Searches.{HasKey, HadKey, Passes, EndsAt, Finds}
 use Rattle.ft_keys.proofs.Distinct.{few-distinct}
 use Rattle.ft_keys.proofs.Reaching.{walk-within, walk-reaches}
 
@@ -36,6 +36,13 @@ same-entry : (word : ℕ → ℕ) (hash serial : ℕ) (key other : Key) (stored 
 same-entry word hash serial key other (Some stored) fits entry kind payload = (key_is_one (word 2) (word 3) other key entry.key (record { fits = fits; kind_is = kind; payload_is = payload }), refl)
 same-entry word hash serial key other None fits entry kind payload =
     absurd (let gone = entry.key_is.kind_is in let three = gone_is other in let low = kind_range key in let high = kind_range other in omega arith)
+
+-- an entry with the words of a key that was deleted had this key, and isn't there
+gone-entry : (word : ℕ → ℕ) (hash serial : ℕ) (key other : Key) (stored : Option Stored) → FitsKey key → IsEntry word (slot_with hash other serial stored) →
+    word 2 ≡ gone_kind key → word 3 ≡ key_payload key → (other ≡ key) × (is_some stored ≡ false)
+gone-entry word hash serial key other None fits entry kind payload = (gone_key_is_one (word 2) (word 3) other key entry.key_is (record { fits = fits; kind_is = kind; payload_is = payload }), refl)
+gone-entry word hash serial key other (Some stored) fits entry kind payload =
+    absurd (let there = entry.key.kind_is in let three = gone_is key in let low = kind_range key in let high = kind_range other in omega arith)
 
 -- an entry that is there has the words of its key
 live-entry : (word : ℕ → ℕ) (hash serial : ℕ) (key : Key) (stored : Option Stored) → IsTrue (is_some stored) → IsEntry word (slot_with hash key serial stored) →
@@ -90,6 +97,22 @@ module _ (way : Way) (mask : ℕ) (texts words : List ℕ) (used : List UsedEntr
             same-entry (entry_word mask words place) (hash_of texts e.key) e.serial key e.key e.stored fits (table.entries place any low) has.0 has.1,
       )
 
+  found-gone : (slot place : ℕ) → slot ≤ mask → index_word words slot ≡ place + 1 → HadKey mask words place key → Finds used key (Was slot place)
+  found-gone slot place inside here had =
+      let named = table.names slot inside in
+      let low : place < length used = omega arith in (
+        low,
+        λ any.
+            let e = slice_index_or used place any in
+            gone-entry (entry_word mask words place) (hash_of texts e.key) e.serial key e.key e.stored fits (table.entries place any low) had.0 had.1,
+      )
+
+  -- a slot on the walk is one of the table
+  on-walk : (first passed left : List ℕ) (slot : ℕ) → first ≡ passed ++ slot ∷ left → first ≡ walk_slots way (hash_of texts key) mask → slot ≤ mask
+  on-walk first passed left slot split whole =
+      let here : Contains (passed ++ slot ∷ left) slot = Contains-append_right passed (slot ∷ left) slot (0, omega arith, refl) in
+      All-contains (λ s. s ≤ mask) (walk_slots way (hash_of texts key) mask) slot (walk-within way (hash_of texts key) mask) (subst (λ (w : List ℕ). Contains w slot) (sym split ∙ whole) here)
+
   -- the slot that names the entry of a key that is there isn't passed
   not-passed : (slot place : ℕ) (any : UsedEntry) → place < length used → is_live (slice_index_or used place any) ≡ true → (slice_index_or used place any).key ≡ key →
       index_word words slot ≡ place + 1 → ¬ Passes mask words key slot
@@ -128,10 +151,8 @@ module _ (way : Way) (mask : ℕ) (texts words : List ℕ) (used : List UsedEntr
       not-all-used way mask texts words used table hash is small (All-weaker (Passes mask words key) (λ slot. index_word words slot ≢ 0) (λ slot p. p.was_used) (walk_slots way hash mask) passes)
 
   pub finds-rightly : (first left : List ℕ) (found : Found) → EndsAt mask words key first left found → IsMask mask → hash_of texts key < 2 ^ 64 → first ≡ walk_slots way (hash_of texts key) mask → Finds used key found
-  finds-rightly first left (At slot place) ends is small whole =
-      let here : Contains (ends.0 ++ slot ∷ left) slot = Contains-append_right ends.0 (slot ∷ left) slot (0, omega arith, refl) in
-      let inside = All-contains (λ s. s ≤ mask) (walk_slots way (hash_of texts key) mask) slot (walk-within way (hash_of texts key) mask) (subst (λ (w : List ℕ). Contains w slot) (sym ends.1 ∙ whole) here) in
-      found-at slot place inside ends.3 ends.4
+  finds-rightly first left (At slot place) ends is small whole = found-at slot place (on-walk first ends.0 left slot ends.1 whole) ends.3 ends.4
+  finds-rightly first left (Was slot place) ends is small whole = found-gone slot place (on-walk first ends.0 left slot ends.1 whole) ends.3 ends.4
   finds-rightly first left (Free slot) ends is small whole =
       found-free ends.0 ends.1 slot (ap (λ l. ends.0 ++ l) (sym ends.3) ∙ sym ends.2 ∙ whole) ends.4 ends.5
   finds-rightly first left Spent ends is small whole =

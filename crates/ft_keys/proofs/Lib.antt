@@ -1,13 +1,14 @@
 pub mod Ways
 pub mod Shown
-pub mod Naming
 pub mod Trying
 pub mod Distinct
 pub mod Reaching
 pub mod Finding
+pub mod Loading
 pub mod Bounds
 pub mod Putting
 pub mod Written
 pub mod Adding
+pub mod Placing
 pub mod Moving
 pub mod Listing

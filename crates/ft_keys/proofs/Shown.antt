@@ -1,6 +1,5 @@
 -- Calls that show facts of words, one after the other.
-use Rattle.std.proofs.Common.{◌≡◌, ◌≢◌, ℕ, zero, suc, ◌+◌, List, [], ◌∷◌, ◌++◌, refl, sym, ap, ◌∙◌, subst, arith}
-use Rattle.ft_layout.specs.Tables.{index_word, entry_word}
+use Rattle.std.proofs.Common.{◌≡◌, ℕ, zero, suc, ◌+◌, List, [], ◌∷◌, ◌++◌, refl, ap, ◌∙◌, subst, arith}
 use Rattle.ft_keys.specs.declared.words.Access.{Access}
 use Rattle.ft_keys.specs.declared.words.Access.TheVariants.{Index, Entry, PutIndex, PutEntry, OldEntry}
 use Rattle.ft_keys.specs.Accesses.{put_by, after, Tells, Fits, Runs, IsLoad, AreLoads, index_loads, Follows}
@@ -32,11 +31,11 @@ fits-append mask earlier (access ∷ later) words fits =
     let both = fits-append mask earlier later words fits.0 in
     (both.0, (both.1, subst (Tells mask access) (after-append mask earlier later words) fits.1))
 
-loads-append : (earlier later : List Access) → AreLoads earlier → AreLoads later → AreLoads (later ++ earlier)
+pub loads-append : (earlier later : List Access) → AreLoads earlier → AreLoads later → AreLoads (later ++ earlier)
 loads-append earlier [] loads more = loads
 loads-append earlier (access ∷ later) loads more = (more.0, loads-append earlier later loads more.1)
 
-index-loads-append : (earlier later : List Access) → index_loads (later ++ earlier) ≡ index_loads earlier + index_loads later
+pub index-loads-append : (earlier later : List Access) → index_loads (later ++ earlier) ≡ index_loads earlier + index_loads later
 index-loads-append earlier [] = omega arith
 index-loads-append earlier (Index slot value ∷ later) = let more = index-loads-append earlier later in omega arith
 index-loads-append earlier (Entry place word value ∷ later) = index-loads-append earlier later
@@ -54,7 +53,7 @@ follows-append first middle left earlier (PutEntry place word value ∷ later) f
 follows-append first middle left earlier (OldEntry place word value ∷ later) follow more = follows-append first middle left earlier later follow more
 
 module _ {S : Type 0} (gave : S → Access → S → Type 0) (mask : ℕ) where
-  -- no call shows nothing
+  -- no call shows what every list has
   pub shows-none : (left : List ℕ) (state : S) (steps : ℕ) (P : List ℕ → Type 0) → ((words : List ℕ) → P words) → Shows gave mask left left state state steps steps P
   shows-none left state steps P given = record { calls = []; runs = refl; loads = tt; follows = refl; steps = omega arith; shown = λ words _. given words }
 
@@ -75,17 +74,3 @@ module _ {S : Type 0} (gave : S → Access → S → Type 0) (mask : ℕ) where
         let both = fits-append mask one.calls two.calls words fits in
         (one.shown words both.0, two.shown words (subst (Fits mask two.calls) (loads-leave mask one.calls words one.loads) both.1));
   }
-
-  -- one load of an entry's word
-  pub shows-entry : (left : List ℕ) (start end : S) (steps place word value : ℕ) → gave start (Entry place word value) end → Shows gave mask left left start end steps steps (λ words. value ≡ entry_word mask words place word)
-  shows-entry left start end steps place word value gives = record { calls = Entry place word value ∷ []; runs = (start, refl, gives); loads = (tt, tt); follows = refl; steps = omega arith; shown = λ words fits. fits.1 }
-
-  -- one load of the first slot's index word, which was never used
-  pub shows-free : (left rest : List ℕ) (start end : S) (before after slot value : ℕ) → left ≡ slot ∷ rest → value ≡ 0 → after ≡ before + 1 → gave start (Index slot value) end → Shows gave mask left left start end before after (λ words. index_word words slot ≡ 0)
-  shows-free left rest start end before after slot zero front none counted gives = record { calls = Index slot 0 ∷ []; runs = (start, refl, gives); loads = (tt, tt); follows = (rest, refl, front); steps = omega arith; shown = λ words fits. sym fits.1 }
-  shows-free left rest start end before after slot (suc value) front none counted gives = absurd (omega arith)
-
-  -- or which was used, and is left after
-  pub shows-used : (first left : List ℕ) (start end : S) (before after slot value : ℕ) → first ≡ slot ∷ left → value ≢ 0 → after ≡ before + 1 → gave start (Index slot value) end → Shows gave mask first left start end before after (λ words. value ≡ index_word words slot)
-  shows-used first left start end before after slot zero front used counted gives = absurd (used refl)
-  shows-used first left start end before after slot (suc value) front used counted gives = record { calls = Index slot (suc value) ∷ []; runs = (start, refl, gives); loads = (tt, tt); follows = front; steps = omega arith; shown = λ words fits. fits.1 }

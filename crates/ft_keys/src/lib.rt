@@ -2,6 +2,7 @@
 //! are and whoever else may write them.
 #![tactic(auto)]
 
+mod laws;
 mod list;
 mod place;
 mod rebuilding;
@@ -12,10 +13,14 @@ mod tests;
 mod walk;
 mod words;
 
+pub use laws::{
+    placed_pairs_are_of_a_table, searches_end_at_the_first_free_slot, searches_find_keys,
+    searches_load_slot_by_slot, walk_cost,
+};
 pub use list::{ListMove, ListWords};
-pub use place::place_new;
+pub use place::{place_at, place_new};
 pub use rebuilding::rebuild;
-pub use search::{Found, find, walk_cost};
+pub use search::{Found, find, find_live};
 pub use steps::Steps;
 pub use walk::{Walk, Way};
 pub use words::{Access, Move, Words};

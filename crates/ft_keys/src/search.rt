@@ -1,16 +1,23 @@
-ghost use Rattle.std.specs.Prelude.{◌≡◌, ◌≢◌, ◌↔◌, ℕ, ◌+◌, ◌<◌, ◌≤◌, [], length, IsTrue, IfSome, MatchOption};
+//! A search for a key on the walk of its hash. Each load is one slot's index word, or the kind or the
+//! payload of the entry that it names, and the contracts keep the whole list of loads: for a reader
+//! that takes words from many moments, and for a holder of a lock, whose words stay as they are.
+ghost use Rattle.std.specs.Prelude.{◌≡◌, ◌≢◌, ℕ, ◌+◌, ◌<◌, ◌≤◌, List, length, Option, IfSome};
 ghost use Rattle.ft_hash.specs.Probes.{IsMask};
 ghost use Rattle.ft_layout.specs.Words.{FitsKey};
-ghost use Rattle.ft_layout.specs.Tables.{dict_room, index_word};
+ghost use Rattle.ft_layout.specs.Tables.{dict_room};
 ghost use Rattle.ft_keys.specs.declared.walk.Way.{Way};
+ghost use Rattle.ft_keys.specs.declared.words.Access.{Access};
+ghost use Rattle.ft_keys.specs.declared.search.Found.TheVariants.{Was};
 ghost use Rattle.ft_keys.specs.Ways.{walk_slots};
-ghost use Rattle.ft_keys.specs.Costs.{most_loads, IsBounded};
-ghost use Rattle.ft_keys.specs.Searches.{IsWithin, NamesKey, Tries, Searched, Shows};
+ghost use Rattle.ft_keys.specs.Accesses.{Runs, index_loads};
+ghost use Rattle.ft_keys.specs.Loads.{LoadsSlot, TriesOne, Searches};
+ghost use Rattle.ft_keys.specs.Costs.{most_loads};
+ghost use Rattle.ft_keys.specs.Searches.{IsWithin, Searched, Shows};
 
 use crate::steps::Steps;
 use crate::walk::Walk;
 use crate::words::Words;
-use ft_layout::{kind_of, payload_of};
+use ft_layout::{gone_kind_of, kind_of, payload_of};
 use ft_model::Key;
 use std::sync::ledger::Ledger;
 
@@ -19,29 +26,59 @@ use std::sync::ledger::Ledger;
 pub enum Found {
     /// The slot that names the key's entry, and the entry's place.
     At(u64, u64),
+    /// The slot and the place of a deleted entry of the key, after which a further search goes on.
+    Was(u64, u64),
     /// The slot at which the search ended, since it was never used.
     Free(u64),
     /// Every slot was tried.
     Spent,
 }
 
-/// Whether the index word names the entry that is there with the key, in a table with that many entries.
-fn names_key<W: Words>(words: &mut W, word: u64, room: u64, key: Key) -> bool
+/// What the loads of one slot came to.
+#[derive(Clone, Copy)]
+enum Compared {
+    /// The slot was never used.
+    Unused,
+    /// It names the key's entry, which is there, at this place.
+    Live(u64),
+    /// It names a deleted entry of the key, at this place.
+    Gone(u64),
+    /// It names another's entry, or none.
+    Other,
+}
+
+/// Loads a slot's index word and compares the entry that it names with the key, in a table with that
+/// many entries.
+fn compare<W: Words>(words: &mut W, slot: u64, room: u64, key: Key) -> Compared
     requires can { W.can words.old }
-    requires word { word ≢ 0 }
+    requires slot { slot ≤ W.mask words.old }
     requires room { room ≡ dict_room (W.mask words.old) }
     ensures can { W.can words.new × (W.may_put words.old → W.may_put words.new) × (W.mask words.new ≡ W.mask words.old) }
-    ensures within { IsTrue result → word ≤ room }
-    ensures shows { Shows W.gave (W.mask words.old) [] [] words.old words.new 0 0
-        (λ ws. IsTrue result ↔ NamesKey (W.mask words.old) ws word key) }
+    ensures loads { (loads : List Access) × Runs W.gave words.old loads words.new
+        × LoadsSlot (W.mask words.old) key slot loads result }
 {
+    let word = words.index(slot);
+    if word == 0 {
+        return Compared::Unused;
+    }
     if word > room {
-        return false;
+        return Compared::Other;
     }
-    if words.entry(word - 1, 2) != kind_of(key) {
-        return false;
+    let place = word - 1;
+    let kind = words.entry(place, 2);
+    if kind == kind_of(key) {
+        if words.entry(place, 3) == payload_of(key) {
+            return Compared::Live(place);
+        }
+        return Compared::Other;
     }
-    words.entry(word - 1, 3) == payload_of(key)
+    if kind != gone_kind_of(key) {
+        return Compared::Other;
+    }
+    if words.entry(place, 3) == payload_of(key) {
+        return Compared::Gone(place);
+    }
+    Compared::Other
 }
 
 /// Tries the next slot of the walk. `None` says that the search goes on after it.
@@ -55,26 +92,31 @@ fn try_slot<W: Words, L: Ledger>(
     requires mask { W.mask words.old ≡ walk.old.mask }
     ensures can { W.can words.new × (W.may_put words.old → W.may_put words.new) × (W.mask words.new ≡ W.mask words.old) }
     ensures mask { (walk.new.mask ≡ walk.old.mask) × IsMask walk.old.mask }
+    ensures count { walk.new.passed + length walk.new.left ≡ walk.old.passed + length walk.old.left }
     ensures within { IfSome result (λ found. IsWithin walk.old.mask found) }
-    ensures cost { MatchOption result
-        ((steps.new ≡ steps.old + 1) × (length walk.old.left ≡ length walk.new.left + 1))
-        (λ _. steps.new ≤ steps.old + length walk.old.left) }
-    ensures shows { Shows W.gave walk.old.mask walk.old.left walk.new.left words.old words.new steps.old steps.new
-        (λ ws. Tries walk.old.mask ws key walk.old.left walk.new.left result) }
+    ensures loads { (loads : List Access) × Runs W.gave words.old loads words.new
+        × TriesOne walk.old.mask key walk.old.left walk.new.left result loads
+        × (steps.new ≡ steps.old + index_loads loads) }
 {
     let Some(slot) = walk.slot() else {
         return Some(Found::Spent);
     };
     steps.tick();
-    let word = words.index(slot);
-    if word == 0 {
-        return Some(Found::Free(slot));
+    match compare(words, slot, walk.room(), key) {
+        Compared::Unused => Some(Found::Free(slot)),
+        Compared::Live(place) => {
+            walk.pass();
+            Some(Found::At(slot, place))
+        }
+        Compared::Gone(place) => {
+            walk.pass();
+            Some(Found::Was(slot, place))
+        }
+        Compared::Other => {
+            walk.pass();
+            None
+        }
     }
-    walk.pass();
-    if names_key(words, word, walk.room(), key) {
-        return Some(Found::At(slot, word - 1));
-    }
-    None
 }
 
 /// A key's integer has 64 bits, and its string's number 32.
@@ -91,9 +133,9 @@ pub(crate) fn key_fits(key: Key)
     }
 }
 
-/// Looks for the key on the walk of its hash: passes every slot that was used and doesn't name the
-/// key's entry. Where it ended at a slot never used, a further search on the same walk loads that
-/// slot again.
+/// Looks for the key on the walk of its hash: passes every slot that was used for another key, and
+/// ends at the key's entry, at a deleted entry of the key, or at a slot never used. A further search
+/// on the same walk goes on after the entry, or loads the slot never used again.
 ///
 /// Every load of an index word is a step.
 pub fn find<W: Words, L: Ledger>(
@@ -105,15 +147,15 @@ pub fn find<W: Words, L: Ledger>(
     requires can { W.can words.old }
     requires mask { W.mask words.old ≡ walk.old.mask }
     ensures can { W.can words.new × (W.may_put words.old → W.may_put words.new) × (W.mask words.new ≡ W.mask words.old) }
-    ensures mask { walk.new.mask ≡ walk.old.mask }
+    ensures mask { (walk.new.mask ≡ walk.old.mask) × IsMask walk.old.mask }
+    ensures count { walk.new.passed + length walk.new.left ≡ walk.old.passed + length walk.old.left }
     ensures within { IsWithin walk.old.mask result }
-    ensures shows { Shows W.gave walk.old.mask walk.old.left walk.new.left words.old words.new steps.old steps.new
-        (λ ws. Searched walk.old.mask ws key walk.old.left walk.new.left result) }
+    ensures searches { Searches W.gave walk.old.mask key walk.old.left walk.new.left result
+        words.old words.new steps.old steps.new }
     ensures cost { steps.new ≤ steps.old + length walk.old.left }
     ensures first { (way : Way) (hash : ℕ) → walk.old.left ≡ walk_slots way hash walk.old.mask →
         steps.new ≤ steps.old + most_loads way walk.old.mask }
 {
-    key_fits(key);
     'slots: loop {
         if let Some(found) = try_slot(words, walk, key, steps) {
             return found;
@@ -121,9 +163,33 @@ pub fn find<W: Words, L: Ledger>(
     }
 }
 
-/// What all searches on one walk cost, whoever else writes: while index words that aren't 0 stay so,
-/// and a slot that ended a search is loaded again once at most, they load no more index words than
-/// twice the slots and 13 for a dict, or eleven times the slots and 130 for a set.
-pub fn walk_cost()
-    ensures { IsBounded }
-{}
+/// [`find`] that passes the deleted entries of the key, for callers whose words nobody else writes.
+pub fn find_live<W: Words, L: Ledger>(
+    words: &mut W,
+    walk: &mut Walk,
+    key: Key,
+    steps: &mut Steps<L>,
+) -> Found
+    requires can { W.can words.old }
+    requires mask { W.mask words.old ≡ walk.old.mask }
+    ensures can { W.can words.new × (W.may_put words.old → W.may_put words.new) × (W.mask words.new ≡ W.mask words.old) }
+    ensures mask { (walk.new.mask ≡ walk.old.mask) × IsMask walk.old.mask }
+    ensures count { walk.new.passed + length walk.new.left ≡ walk.old.passed + length walk.old.left }
+    ensures within { IsWithin walk.old.mask result }
+    ensures live { (slot place : ℕ) → result ≢ Was slot place }
+    ensures shows { Shows W.gave walk.old.mask walk.old.left walk.new.left words.old words.new steps.old steps.new
+        (λ ws. Searched walk.old.mask ws key walk.old.left walk.new.left result) }
+    ensures cost { steps.new ≤ steps.old + length walk.old.left }
+    ensures first { (way : Way) (hash : ℕ) → walk.old.left ≡ walk_slots way hash walk.old.mask →
+        steps.new ≤ steps.old + most_loads way walk.old.mask }
+{
+    key_fits(key);
+    'entries: loop {
+        match find(words, walk, key, steps) {
+            Found::Was(..) => {}
+            Found::At(slot, place) => return Found::At(slot, place),
+            Found::Free(slot) => return Found::Free(slot),
+            Found::Spent => return Found::Spent,
+        }
+    }
+}

@@ -3,7 +3,7 @@ ghost use Rattle.ft_hash.specs.Probes.{IsMask};
 ghost use Rattle.ft_layout.specs.Tables.{table_length};
 
 use crate::walk::room_of;
-use crate::{Found, ListMove, ListWords, Steps, Walk, Way, Words};
+use crate::{Found, ListMove, ListWords, Steps, Walk, Way, Words, find};
 use ft_hash::hash_int;
 use ft_layout::{Pair, Stored, gone_kind_of, kind_of, payload_of};
 use ft_model::{Key, Sym, Value};
@@ -82,7 +82,7 @@ fn find_by<L: Ledger>(
     let mut steps: Steps<L> = Steps::new(blank);
     let mut walk = Walk::new(way, hash, mask);
     let mut list = ListWords { words, mask };
-    list.find(&mut walk, key, &mut steps)
+    list.find_live(&mut walk, key, &mut steps)
 }
 
 fn find_in(rt: &impl Abort, words: &mut [u64], way: Way, mask: u64, key: Key, hash: u64) -> Found
@@ -141,7 +141,7 @@ fn check_searches(
         assert_eq!(rt; found, *want, "at {key:?}");
         let place = match found {
             Found::At(_, place) => Some(place),
-            Found::Free(_) | Found::Spent => None,
+            Found::Was(..) | Found::Free(_) | Found::Spent => None,
         };
         let scanned = scan(rt, words, mask, *key);
         assert_eq!(rt; place, scanned, "at {key:?}");
@@ -345,14 +345,14 @@ fn find_again<L: Ledger>(rt: &impl Abort, words: &mut [u64], blank: Blank)
     let mut steps: Steps<L> = Steps::new(blank);
     let mut walk = Walk::new(Way::Dict, 5, mask);
     let mut list = ListWords { words, mask };
-    let found = list.find(&mut walk, text(0), &mut steps);
+    let found = list.find_live(&mut walk, text(0), &mut steps);
     assert_eq!(rt; found, Found::Free(5));
     list.put_entry(0, 3, 0);
     list.put_entry(0, 2, kind_of(text(0)));
     list.put_index(5, 1);
-    let found = list.find(&mut walk, text(0), &mut steps);
+    let found = list.find_live(&mut walk, text(0), &mut steps);
     assert_eq!(rt; found, Found::At(5, 0));
-    let found = list.find(&mut walk, text(0), &mut steps);
+    let found = list.find_live(&mut walk, text(0), &mut steps);
     assert_eq!(rt; found, Found::Free(2));
 }
 
@@ -361,6 +361,38 @@ fn find_again<L: Ledger>(rt: &impl Abort, words: &mut [u64], blank: Blank)
 fn a_further_search_loads_the_slot_again(rt: HostRuntime) -> Result<(), Fail> {
     let mut words = empty_table(rt.alloc(), mask_of(3))?;
     find_again::<Brand>(&rt, &mut words, Blank::new(1));
+    Ok(())
+}
+
+fn find_three_times<L: Ledger>(rt: &impl Abort, words: &mut [u64], blank: Blank)
+    requires name { blank.name ≡ L.name }
+    requires parts { (blank.parts ≡ L.parts) × (L.parts ≡ 1) }
+{
+    let mask = mask_of(3);
+    assert!(rt; words.len() as u64 == size_of(mask), "no table");
+    let mut steps: Steps<L> = Steps::new(blank);
+    let mut walk = Walk::new(Way::Dict, 5, mask);
+    let mut list = ListWords { words, mask };
+    let found = find(&mut list, &mut walk, text(0), &mut steps);
+    assert_eq!(rt; found, Found::Was(5, 0));
+    assert_eq!(rt; walk.count(), 1);
+    let found = find(&mut list, &mut walk, text(0), &mut steps);
+    assert_eq!(rt; found, Found::Free(3));
+    assert_eq!(rt; walk.count(), 2);
+    let found = find(&mut list, &mut walk, text(0), &mut steps);
+    assert_eq!(rt; found, Found::Free(3));
+    assert_eq!(rt; walk.count(), 2);
+}
+
+// A deleted entry of the key ends a search, and a further one goes on after it: past another key's
+// entry, to a slot never used, at which the next one passes nothing.
+#[test]
+fn a_search_ends_at_a_deleted_entry_of_its_key(rt: HostRuntime) -> Result<(), Fail> {
+    let mask = mask_of(3);
+    let mut words = empty_table(rt.alloc(), mask)?;
+    let keys = [(text(0), 5), (text(1), 5)];
+    check_searches(&rt, &mut words, Way::Dict, mask, &keys, &[0], &[]);
+    find_three_times::<Brand>(&rt, &mut words, Blank::new(1));
     Ok(())
 }
 

@@ -1,0 +1,55 @@
+//! What lists of calls on a table's words come to: laws, which run nothing.
+ghost use Rattle.std.specs.Prelude.{◌≡◌, ◌≢◌, ℕ, ◌+◌, ◌^◌, ◌<◌, ◌≤◌, List, ◌++◌, length, Some};
+ghost use Rattle.ft_model.specs.declared.data.Key.{Key};
+ghost use Rattle.ft_hash.specs.Probes.{IsMask};
+ghost use Rattle.ft_layout.specs.declared.slot.Pair.{Pair};
+ghost use Rattle.ft_layout.specs.Words.{FitsKey, FitsPair, entry_words};
+ghost use Rattle.ft_keys.specs.declared.walk.Way.{Way};
+ghost use Rattle.ft_keys.specs.Ways.{walk_slots, room};
+ghost use Rattle.ft_keys.specs.declared.words.Access.{Access};
+ghost use Rattle.ft_keys.specs.declared.search.Found.{Found};
+ghost use Rattle.ft_keys.specs.declared.search.Found.TheVariants.{Free};
+ghost use Rattle.ft_keys.specs.Accesses.{after, AreLoads, Follows, index_loads, Fits};
+ghost use Rattle.ft_keys.specs.Loads.{unpassed, last_loads, Loads};
+ghost use Rattle.ft_keys.specs.Costs.{IsBounded};
+ghost use Rattle.ft_keys.specs.Searches.{EndsAt, Searched};
+ghost use Rattle.ft_keys.specs.Changes.{FirstFree, place_puts, Adds};
+
+/// Of every list of words that answers as the loads of a search were answered, the search came to
+/// what is there: in the words of a table it finds the key exactly where it is.
+pub fn searches_find_keys()
+    ensures { (mask : ℕ) (key : Key) (first left : List ℕ) (found : Found) (calls : List Access) (words : List ℕ) →
+        IsMask mask → FitsKey key → Loads mask key first left found calls → Fits mask calls words →
+        Searched mask words key first left found }
+{}
+
+/// A search loads the index words of the slots of its walk in their order: one for each slot that it
+/// passed, and one more where it didn't try all. It puts nothing.
+pub fn searches_load_slot_by_slot()
+    ensures loads { (mask : ℕ) (key : Key) (first left : List ℕ) (found : Found) (calls : List Access) →
+        Loads mask key first left found calls → AreLoads calls × Follows first calls left }
+    ensures count { (mask : ℕ) (key : Key) (first left : List ℕ) (found : Found) (calls : List Access) →
+        (loads : Loads mask key first left found calls) → index_loads calls ≡ length loads.passed + last_loads found }
+{}
+
+/// Where a search on a list of words ended at a slot never used, that slot is the first such one of
+/// its walk: a new entry is named there.
+pub fn searches_end_at_the_first_free_slot()
+    ensures { (mask : ℕ) (words : List ℕ) (key : Key) (first left : List ℕ) (slot : ℕ) →
+        EndsAt mask words key first left (Free slot) → FirstFree words first (Some slot) }
+{}
+
+/// A pair that is put at the place after the used entries, and named in the first slot of its hash
+/// that was never used, is in the table after the others.
+pub fn placed_pairs_are_of_a_table()
+    ensures { (way : Way) (mask fill slot : ℕ) (pair : Pair) (words : List ℕ) → IsMask mask → pair.hash < 2 ^ 64 →
+        FitsPair pair → fill < room way mask → FirstFree words (walk_slots way pair.hash mask) (Some slot) →
+        Adds way mask fill pair words (after mask (place_puts slot fill (entry_words pair)) words) }
+{}
+
+/// What all searches on one walk cost, whoever else writes: while index words that aren't 0 stay so,
+/// and a slot that ended a search is loaded again once at most, they load no more index words than
+/// twice the slots and 13 for a dict, or eleven times the slots and 130 for a set.
+pub fn walk_cost()
+    ensures { IsBounded }
+{}

@@ -23,15 +23,15 @@ use Rattle.ft_model.specs.Scripts.{IsScript, IsCallOf, AreMade, cursor_of}
 use Rattle.ft_model.specs.Worlds.{start_world, kinds_of, kind_of}
 use Rattle.ft_model.specs.Answers.{answer, after_write, is_memory, is_raised, is_write}
 use Rattle.ft_model.specs.Histories.{writes, world_at, hands_at, calls_of, cursors_of, names, is_marked, IsReplied}
-use Rattle.ft_model.specs.Judging.{IsNext, IsStamped, HasRightReply, Keeps}
+use Rattle.ft_model.specs.Judging.{IsNext, IsStamped, HasRightReply, Holds}
 use Rattle.ft_history.specs.declared.progress.ThreadProgress.{ThreadProgress}
 use Rattle.ft_history.specs.declared.writers.LastWrites.{LastWrites}
 use Rattle.ft_history.specs.declared.state.State.{State}
 use Rattle.ft_history.specs.Accounts.{IsAccount, AreOfKind}
 use Rattle.ft_history.specs.States.{IsAskable, world_before, after_one, IsProgress, AreHandsOf, IsLast}
-use Rattle.ft_history.specs.Steps.{IsState, GoesAfter, KeepsFirst, BreaksFirst, FindsLate, KeepsLate, Finds}
+use Rattle.ft_history.specs.Steps.{IsState, GoesAfter, HoldsFirst, BreaksFirst, FindsLate, HoldsLate, Finds}
 use Rattle.ft_history.proofs.Places.{writes_next, count_next, world_at-before}
-use Rattle.ft_history.proofs.Judged.{keeps_more}
+use Rattle.ft_history.proofs.Judged.{holds_more}
 use Rattle.ft_history.proofs.ScriptLemmas.{call_of_thread, calls_of_thread, is_thread, named_within, no_calls}
 use Rattle.ft_history.proofs.Leaves.{Leaves, leaves_of, of_kinds, askable}
 use Rattle.ft_history.proofs.HandLemmas.{hands_next, hands_same, own_cursors}
@@ -252,17 +252,17 @@ module _ (s : Storage) (script : ScriptParts) (entries : List Entry) (place : �
   pub reported_here : HasRightReply script entries place entry → IsReplied entry.call entry.reply (answer old.world before.hands entry.call).reply
   reported_here reported = subst (λ (w : List Content). IsReplied entry.call entry.reply (answer w before.hands entry.call).reply) (sym same_world) (subst (λ (hs : List (Option Cursor)). IsReplied entry.call entry.reply (answer (world_at script entries (length (writes (take place entries)))) hs entry.call).reply) (sym same_hands) reported)
 
-  pub breaks_reply : KeepsFirst s script entries place entry 3 → said ≡ false → BreaksFirst s script entries place entry rule.Reply
+  pub breaks_reply : HoldsFirst s script entries place entry 3 → said ≡ false → BreaksFirst s script entries place entry rule.Reply
   breaks_reply first off = record { before = first; broken = λ reported. false≢true (sym off ∙ goes.reported.1 (reported_here reported)) }
 
-  pub keeps_four : KeepsFirst s script entries place entry 3 → said ≡ true → KeepsFirst s script entries place entry 4
-  keeps_four first on = keeps_more s script entries place entry 3 rule.Reply refl first (reported_there (goes.reported.0 on))
+  pub holds_four : HoldsFirst s script entries place entry 3 → said ≡ true → HoldsFirst s script entries place entry 4
+  holds_four first on = holds_more s script entries place entry 3 rule.Reply refl first (reported_there (goes.reported.0 on))
 
-pub finds_all : (s : Storage) (script : ScriptParts) (entries : List Entry) (place : ℕ) (entry : Entry) (found : Option Rule) → KeepsFirst s script entries place entry 4 → FindsLate s script entries place entry found → Finds s script entries place entry found
+pub finds_all : (s : Storage) (script : ScriptParts) (entries : List Entry) (place : ℕ) (entry : Entry) (found : Option Rule) → HoldsFirst s script entries place entry 4 → FindsLate s script entries place entry found → Finds s script entries place entry found
 finds_all s script entries place entry (Some r) first late = late first
 finds_all s script entries place entry None first late = all
   where
-    all : (r : Rule) → Keeps s script entries r place entry
+    all : (r : Rule) → Holds s script entries r place entry
     all rule.Whole = first rule.Whole (omega arith)
     all rule.Stamp = first rule.Stamp (omega arith)
     all rule.Order = first rule.Order (omega arith)
@@ -274,6 +274,6 @@ finds_all s script entries place entry None first late = all
     all rule.Missing = tt
     all rule.World = tt
 
-pub where_none : (s : Storage) (script : ScriptParts) (entries : List Entry) (place : ℕ) (entry : Entry) (X : Type 0) (found : Option Rule) → FindsLate s script entries place entry found → (KeepsLate s script entries place entry → X) → IfNone found X
+pub where_none : (s : Storage) (script : ScriptParts) (entries : List Entry) (place : ℕ) (entry : Entry) (X : Type 0) (found : Option Rule) → FindsLate s script entries place entry found → (HoldsLate s script entries place entry → X) → IfNone found X
 where_none s script entries place entry X None late so = so late
 where_none s script entries place entry X (Some r) late so = tt

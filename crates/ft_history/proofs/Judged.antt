@@ -12,22 +12,22 @@ use Rattle.ft_model.specs.declared.script.Thread.{Thread}
 use Rattle.ft_model.specs.declared.script.ScriptParts.{ScriptParts}
 use Rattle.ft_model.specs.Answers.{is_write}
 use Rattle.ft_model.specs.Histories.{writes, calls_of, entries_of}
-use Rattle.ft_model.specs.Judging.{IsNext, IsStamped, Keeps, rank_of}
+use Rattle.ft_model.specs.Judging.{IsNext, IsStamped, Holds, rank_of}
 use Rattle.ft_history.specs.declared.progress.ThreadProgress.{ThreadProgress}
-use Rattle.ft_history.specs.Steps.{KeepsFirst}
+use Rattle.ft_history.specs.Steps.{HoldsFirst}
 use Rattle.ft_history.proofs.OneVerdict.{same_rule}
 
 -- ---- one rule more
 
 module _ (storage : Storage) (script : ScriptParts) (entries : List Entry) (place : ℕ) (entry : Entry) where
-  pub keeps_none : KeepsFirst storage script entries place entry 0
-  keeps_none other low = absurd (omega arith)
+  pub holds_none : HoldsFirst storage script entries place entry 0
+  holds_none other low = absurd (omega arith)
 
-  pub keeps_more : (count : ℕ) (r : Rule) → rank_of r ≡ count → KeepsFirst storage script entries place entry count → Keeps storage script entries r place entry → KeepsFirst storage script entries place entry (count + 1)
-  keeps_more count r rank first keeps other low =
+  pub holds_more : (count : ℕ) (r : Rule) → rank_of r ≡ count → HoldsFirst storage script entries place entry count → Holds storage script entries r place entry → HoldsFirst storage script entries place entry (count + 1)
+  holds_more count r rank first keeps other low =
       elim (cases_lt (rank_of other) count) [
         | inl before ↦ first other before
-        | inr here ↦ subst (λ q. Keeps storage script entries q place entry) (same_rule r other (omega arith)) keeps
+        | inr here ↦ subst (λ q. Holds storage script entries q place entry) (same_rule r other (omega arith)) keeps
       ]
 
 -- ---- whole and stamp

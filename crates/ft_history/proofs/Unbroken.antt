@@ -18,7 +18,7 @@ use Rattle.ft_model.specs.declared.entry.Storage.{Storage}
 use Rattle.ft_model.specs.declared.script.ScriptParts.{ScriptParts}
 use Rattle.ft_model.specs.Answers.{answer}
 use Rattle.ft_model.specs.Histories.{history_cmp, writes, world_at, entries_of, calls_of, hands_at, IsReplied, IsWhole, IsLegal}
-use Rattle.ft_model.specs.Judging.{IsNext, IsStamped, IsAfter, Keeps, IsComplete, KeepsAfter, IsUnbroken}
+use Rattle.ft_model.specs.Judging.{IsNext, IsStamped, IsAfter, Holds, IsComplete, HoldsAtEnd, IsUnbroken}
 use Rattle.ft_history.proofs.Places.{take_next, drop_here, filter_next, filter_parts, slice_get_at, count_next, by_places}
 
 -- ---- what a thread has done of its calls
@@ -73,35 +73,35 @@ module _ (storage : Storage) (script : ScriptParts) (entries : List Entry) (lega
       let e1 : get_or entries (last + 1) before ≡ entry = cc (slice_get-get_or entries (last + 1) before low) in
       rw (e0, e1) at (legal.order last before (omega arith) low)
 
-  keeps_of_legal : (place : ℕ) (entry : Entry) → slice_get entries place ≡ Some entry → (r : Rule) → Keeps storage script entries r place entry
-  keeps_of_legal place entry at rule.Whole = next_of_legal place entry at
-  keeps_of_legal place entry at rule.Stamp = record { stamp = (legal.chronicle.answered place entry at).stamp; wrote = (legal.chronicle.answered place entry at).wrote }
-  keeps_of_legal place entry at rule.Order = after_of_legal place entry at
-  keeps_of_legal place entry at rule.Reply = subst (λ n. IsReplied entry.call entry.reply (answer (world_at script entries n) (hands_at script entries entry.thread place) entry.call).reply) (legal.chronicle.answered place entry at).stamp (legal.chronicle.answered place entry at).reply
-  keeps_of_legal place entry at rule.Mark = legal.chronicle.marked place entry at
-  keeps_of_legal place entry at rule.Kept = legal.chronicle.kept place entry at
-  keeps_of_legal place entry at rule.Suspended = legal.chronicle.counted place entry at
-  keeps_of_legal place entry at rule.Memory = legal.chronicle.earned place entry at
-  keeps_of_legal place entry at rule.Missing = tt
-  keeps_of_legal place entry at rule.World = tt
+  holds_of_legal : (place : ℕ) (entry : Entry) → slice_get entries place ≡ Some entry → (r : Rule) → Holds storage script entries r place entry
+  holds_of_legal place entry at rule.Whole = next_of_legal place entry at
+  holds_of_legal place entry at rule.Stamp = record { stamp = (legal.chronicle.answered place entry at).stamp; wrote = (legal.chronicle.answered place entry at).wrote }
+  holds_of_legal place entry at rule.Order = after_of_legal place entry at
+  holds_of_legal place entry at rule.Reply = subst (λ n. IsReplied entry.call entry.reply (answer (world_at script entries n) (hands_at script entries entry.thread place) entry.call).reply) (legal.chronicle.answered place entry at).stamp (legal.chronicle.answered place entry at).reply
+  holds_of_legal place entry at rule.Mark = legal.chronicle.marked place entry at
+  holds_of_legal place entry at rule.Kept = legal.chronicle.kept place entry at
+  holds_of_legal place entry at rule.Suspended = legal.chronicle.counted place entry at
+  holds_of_legal place entry at rule.Memory = legal.chronicle.earned place entry at
+  holds_of_legal place entry at rule.Missing = tt
+  holds_of_legal place entry at rule.World = tt
 
   complete_of_legal : IsComplete script entries
   complete_of_legal thread = omega (arith, ap length (legal.chronicle.whole.calls thread), length-map (entries_of thread entries) (λ (e : Entry). e.call))
 
-  keeps_after_of_legal : (r : Rule) → KeepsAfter script entries r
-  keeps_after_of_legal rule.Missing = complete_of_legal
-  keeps_after_of_legal rule.Whole = tt
-  keeps_after_of_legal rule.Stamp = tt
-  keeps_after_of_legal rule.Order = tt
-  keeps_after_of_legal rule.Reply = tt
-  keeps_after_of_legal rule.Mark = tt
-  keeps_after_of_legal rule.Kept = tt
-  keeps_after_of_legal rule.Suspended = tt
-  keeps_after_of_legal rule.Memory = tt
-  keeps_after_of_legal rule.World = tt
+  holds_at_end : (r : Rule) → HoldsAtEnd script entries r
+  holds_at_end rule.Missing = complete_of_legal
+  holds_at_end rule.Whole = tt
+  holds_at_end rule.Stamp = tt
+  holds_at_end rule.Order = tt
+  holds_at_end rule.Reply = tt
+  holds_at_end rule.Mark = tt
+  holds_at_end rule.Kept = tt
+  holds_at_end rule.Suspended = tt
+  holds_at_end rule.Memory = tt
+  holds_at_end rule.World = tt
 
   pub unbroken_of_legal : IsUnbroken storage script entries
-  unbroken_of_legal place r = record { entry = λ entry at. keeps_of_legal place entry at r; after = λ _. keeps_after_of_legal r }
+  unbroken_of_legal place r = record { entry = λ entry at. holds_of_legal place entry at r; after = λ _. holds_at_end r }
 
 -- ---- from one that breaks no rule
 

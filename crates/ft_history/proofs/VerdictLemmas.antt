@@ -12,7 +12,7 @@ use Rattle.ft_model.specs.declared.entry.Storage.{Storage}
 use Rattle.ft_model.specs.declared.script.Thread.{Thread}
 use Rattle.ft_model.specs.declared.script.ScriptParts.{ScriptParts}
 use Rattle.ft_model.specs.Histories.{entries_of, IsLegal}
-use Rattle.ft_model.specs.Judging.{HoldsAt, KeepsAfter, IsComplete, IsFirstBroken, rank_of}
+use Rattle.ft_model.specs.Judging.{HoldsAt, HoldsAtEnd, IsComplete, IsFirstBroken, rank_of}
 use Rattle.ft_history.specs.declared.state.State.{State}
 use Rattle.ft_history.specs.Steps.{IsState, IsUnbrokenBefore, Finds, HaveMadeAll}
 use Rattle.ft_history.proofs.Unbroken.{legal_of_unbroken}
@@ -61,32 +61,32 @@ complete_iff script entries state r is_state is =
     )
 
 module _ (s : Storage) (script : ScriptParts) (entries : List Entry) (unbroken : IsUnbrokenBefore s script entries (length entries)) where
-  after_all : (place : ℕ) (r : Rule) → length entries ≤ place → (place ≡ length entries → KeepsAfter script entries r) → HoldsAt s script entries place r
+  after_all : (place : ℕ) (r : Rule) → length entries ≤ place → (place ≡ length entries → HoldsAtEnd script entries r) → HoldsAt s script entries place r
   after_all place r past after = record { entry = λ entry at. absurd (let low = slice_get_within entries place entry at in omega arith); after = after }
 
-  keeps_after : (r : Rule) → IsComplete script entries → KeepsAfter script entries r
-  keeps_after rule.Missing complete = complete
-  keeps_after rule.Whole complete = tt
-  keeps_after rule.Stamp complete = tt
-  keeps_after rule.Order complete = tt
-  keeps_after rule.Reply complete = tt
-  keeps_after rule.Mark complete = tt
-  keeps_after rule.Kept complete = tt
-  keeps_after rule.Suspended complete = tt
-  keeps_after rule.Memory complete = tt
-  keeps_after rule.World complete = tt
+  holds_after : (r : Rule) → IsComplete script entries → HoldsAtEnd script entries r
+  holds_after rule.Missing complete = complete
+  holds_after rule.Whole complete = tt
+  holds_after rule.Stamp complete = tt
+  holds_after rule.Order complete = tt
+  holds_after rule.Reply complete = tt
+  holds_after rule.Mark complete = tt
+  holds_after rule.Kept complete = tt
+  holds_after rule.Suspended complete = tt
+  holds_after rule.Memory complete = tt
+  holds_after rule.World complete = tt
 
-  keeps_lower : (r : Rule) → rank_of r < 8 → KeepsAfter script entries r
-  keeps_lower rule.Missing low = absurd (omega arith)
-  keeps_lower rule.World low = tt
-  keeps_lower rule.Whole low = tt
-  keeps_lower rule.Stamp low = tt
-  keeps_lower rule.Order low = tt
-  keeps_lower rule.Reply low = tt
-  keeps_lower rule.Mark low = tt
-  keeps_lower rule.Kept low = tt
-  keeps_lower rule.Suspended low = tt
-  keeps_lower rule.Memory low = tt
+  holds_lower : (r : Rule) → rank_of r < 8 → HoldsAtEnd script entries r
+  holds_lower rule.Missing low = absurd (omega arith)
+  holds_lower rule.World low = tt
+  holds_lower rule.Whole low = tt
+  holds_lower rule.Stamp low = tt
+  holds_lower rule.Order low = tt
+  holds_lower rule.Reply low = tt
+  holds_lower rule.Mark low = tt
+  holds_lower rule.Kept low = tt
+  holds_lower rule.Suspended low = tt
+  holds_lower rule.Memory low = tt
 
   pub legal_at_end : (state : State) (r : Bool) → IsState script entries (length entries) state → IsTrue r ↔ HaveMadeAll script.threads state.threads.items → r ≡ true → IsLegal s script entries
   legal_at_end state r is_state is on =
@@ -94,12 +94,12 @@ module _ (s : Storage) (script : ScriptParts) (entries : List Entry) (unbroken :
       legal_of_unbroken s script entries (λ place q.
       elim (cases_lt place (length entries)) [
         | inl low ↦ unbroken place q low
-        | inr past ↦ after_all place q past (λ _. keeps_after q complete)
+        | inr past ↦ after_all place q past (λ _. holds_after q complete)
       ])
 
   pub missing_at_end : (state : State) (r : Bool) → IsState script entries (length entries) state → IsTrue r ↔ HaveMadeAll script.threads state.threads.items → r ≡ false → IsFirstBroken s script entries (length entries) rule.Missing
   missing_at_end state r is_state is off =
       record {
-        before = record { earlier = unbroken; here = λ other low. after_all (length entries) other (omega arith) (λ _. keeps_lower other low) };
+        before = record { earlier = unbroken; here = λ other low. after_all (length entries) other (omega arith) (λ _. holds_lower other low) };
         broken = λ kept. false≢true (sym off ∙ (complete_iff script entries state r is_state is).1 (kept.after refl));
       }

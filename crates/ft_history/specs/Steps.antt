@@ -9,7 +9,7 @@ use Rattle.ft_model.specs.declared.script.ScriptParts.{ScriptParts}
 use Rattle.ft_model.specs.Worlds.{kind_of}
 use Rattle.ft_model.specs.Answers.{answer, is_memory}
 use Rattle.ft_model.specs.Histories.{writes, names, IsReplied}
-use Rattle.ft_model.specs.Judging.{Keeps, HoldsAt, rank_of}
+use Rattle.ft_model.specs.Judging.{Holds, HoldsAt, rank_of}
 use Rattle.ft_history.specs.declared.progress.ThreadProgress.{ThreadProgress}
 use Rattle.ft_history.specs.declared.writers.LastWrites.{LastWrites}
 use Rattle.ft_history.specs.declared.state.State.{State}
@@ -50,33 +50,33 @@ abbrev pub IsUnbrokenBefore : Storage → ScriptParts → List Entry → ℕ →
 IsUnbrokenBefore storage script entries place = (before : ℕ) (rule : Rule) → before < place → HoldsAt storage script entries before rule
 
 -- a number of first rules hold of the entry
-abbrev pub KeepsFirst : Storage → ScriptParts → List Entry → ℕ → Entry → ℕ → Type 0
-KeepsFirst storage script entries place entry count = (other : Rule) → rank_of other < count → Keeps storage script entries other place entry
+abbrev pub HoldsFirst : Storage → ScriptParts → List Entry → ℕ → Entry → ℕ → Type 0
+HoldsFirst storage script entries place entry count = (other : Rule) → rank_of other < count → Holds storage script entries other place entry
 
 -- it is the first that the entry breaks
 pub record BreaksFirst (storage : Storage) (script : ScriptParts) (entries : List Entry) (place : ℕ) (entry : Entry) (rule : Rule) : Type 0 where
-  pub before : KeepsFirst storage script entries place entry (rank_of rule)
-  pub broken : ¬ (Keeps storage script entries rule place entry)
+  pub before : HoldsFirst storage script entries place entry (rank_of rule)
+  pub broken : ¬ (Holds storage script entries rule place entry)
 
 -- of the first three rules, the first that the entry breaks
 abbrev pub FindsEarly : Storage → ScriptParts → List Entry → ℕ → Entry → Option Rule → Type 0
-FindsEarly storage script entries place entry None = KeepsFirst storage script entries place entry 3
+FindsEarly storage script entries place entry None = HoldsFirst storage script entries place entry 3
 FindsEarly storage script entries place entry (Some rule) = BreaksFirst storage script entries place entry rule
 
 -- of those after the fourth, the first that the entry breaks
-pub record KeepsLate (storage : Storage) (script : ScriptParts) (entries : List Entry) (place : ℕ) (entry : Entry) : Type 0 where
-  pub mark : Keeps storage script entries rule.Mark place entry
-  pub kept : Keeps storage script entries rule.Kept place entry
-  pub suspended : Keeps storage script entries rule.Suspended place entry
-  pub memory : Keeps storage script entries rule.Memory place entry
+pub record HoldsLate (storage : Storage) (script : ScriptParts) (entries : List Entry) (place : ℕ) (entry : Entry) : Type 0 where
+  pub mark : Holds storage script entries rule.Mark place entry
+  pub kept : Holds storage script entries rule.Kept place entry
+  pub suspended : Holds storage script entries rule.Suspended place entry
+  pub memory : Holds storage script entries rule.Memory place entry
 
 abbrev pub FindsLate : Storage → ScriptParts → List Entry → ℕ → Entry → Option Rule → Type 0
-FindsLate storage script entries place entry None = KeepsLate storage script entries place entry
-FindsLate storage script entries place entry (Some rule) = KeepsFirst storage script entries place entry 4 → BreaksFirst storage script entries place entry rule
+FindsLate storage script entries place entry None = HoldsLate storage script entries place entry
+FindsLate storage script entries place entry (Some rule) = HoldsFirst storage script entries place entry 4 → BreaksFirst storage script entries place entry rule
 
 -- of all rules, the first that the entry breaks
 abbrev pub Finds : Storage → ScriptParts → List Entry → ℕ → Entry → Option Rule → Type 0
-Finds storage script entries place entry None = (rule : Rule) → Keeps storage script entries rule place entry
+Finds storage script entries place entry None = (rule : Rule) → Holds storage script entries rule place entry
 Finds storage script entries place entry (Some rule) = BreaksFirst storage script entries place entry rule
 
 -- each thread has made as many calls as it has

@@ -91,7 +91,7 @@ fn is_complete(threads: &[Thread], progresses: &[ThreadProgress]) -> bool
 }
 
 /// Whether the entry is the next call of its thread.
-fn keeps_whole(parts: &ScriptParts, state: &State, entry: &Entry) -> bool
+fn holds_whole(parts: &ScriptParts, state: &State, entry: &Entry) -> bool
     ensures { (entries : List Entry) (place : ℕ) → IsState parts.now entries place state.now → IsTrue result ↔ IsNext parts.now entries place entry.now }
 {
     let thread = entry.thread as usize;
@@ -116,7 +116,7 @@ fn early_rule(
     requires state { IsState parts.now entries.now place state.now }
     ensures { (storage : Storage) → FindsEarly storage parts.now entries.now place entry.now result }
 {
-    if !keeps_whole(parts, state, entry) {
+    if !holds_whole(parts, state, entry) {
         return Some(Rule::Whole);
     }
     if !is_stamped(state.writes, entry) {

@@ -32,31 +32,31 @@ abbrev pub HasRightReply : ScriptParts → List Entry → ℕ → Entry → Type
 HasRightReply script entries place entry = IsReplied entry.call entry.reply (answer (world_at script entries (length (writes (take place entries)))) (hands_at script entries entry.thread place) entry.call).reply
 
 -- the rule holds of the entry at its place
-abbrev pub Keeps : Storage → ScriptParts → List Entry → Rule → ℕ → Entry → Type 0
-Keeps storage script entries rule.Whole place entry = IsNext script entries place entry
-Keeps storage script entries rule.Stamp place entry = IsStamped entries place entry
-Keeps storage script entries rule.Order place entry = IsAfter entries place entry
-Keeps storage script entries rule.Reply place entry = HasRightReply script entries place entry
-Keeps storage script entries rule.Mark place entry = IsMarked script entries place entry
-Keeps storage script entries rule.Kept place entry = IsKept entries place entry
-Keeps storage script entries rule.Suspended place entry = IsCounted entries place entry
-Keeps storage script entries rule.Memory place entry = IsEarnedAt storage script entries place entry
-Keeps storage script entries rule.Missing place entry = Unit {0}
-Keeps storage script entries rule.World place entry = Unit {0}
+abbrev pub Holds : Storage → ScriptParts → List Entry → Rule → ℕ → Entry → Type 0
+Holds storage script entries rule.Whole place entry = IsNext script entries place entry
+Holds storage script entries rule.Stamp place entry = IsStamped entries place entry
+Holds storage script entries rule.Order place entry = IsAfter entries place entry
+Holds storage script entries rule.Reply place entry = HasRightReply script entries place entry
+Holds storage script entries rule.Mark place entry = IsMarked script entries place entry
+Holds storage script entries rule.Kept place entry = IsKept entries place entry
+Holds storage script entries rule.Suspended place entry = IsCounted entries place entry
+Holds storage script entries rule.Memory place entry = IsEarnedAt storage script entries place entry
+Holds storage script entries rule.Missing place entry = Unit {0}
+Holds storage script entries rule.World place entry = Unit {0}
 
 -- all calls of each thread are there
 abbrev pub IsComplete : ScriptParts → List Entry → Type 0
 IsComplete script entries = (thread : ℕ) → length (calls_of script thread) ≤ length (entries_of thread entries)
 
 -- the rule holds after the last entry, where `Missing` alone asks something
-abbrev pub KeepsAfter : ScriptParts → List Entry → Rule → Type 0
-KeepsAfter script entries rule.Missing = IsComplete script entries
-KeepsAfter script entries _ = Unit {0}
+abbrev pub HoldsAtEnd : ScriptParts → List Entry → Rule → Type 0
+HoldsAtEnd script entries rule.Missing = IsComplete script entries
+HoldsAtEnd script entries _ = Unit {0}
 
 -- the rule holds at a place, which is an entry's or the one after the last entry
 pub record HoldsAt (storage : Storage) (script : ScriptParts) (entries : List Entry) (place : ℕ) (rule : Rule) : Type 0 where
-  pub entry : (entry : Entry) → slice_get entries place ≡ Some entry → Keeps storage script entries rule place entry
-  pub after : place ≡ length entries → KeepsAfter script entries rule
+  pub entry : (entry : Entry) → slice_get entries place ≡ Some entry → Holds storage script entries rule place entry
+  pub after : place ≡ length entries → HoldsAtEnd script entries rule
 
 -- the order in which the rules are reported, where several are broken at one place
 abbrev pub rank_of : Rule → ℕ

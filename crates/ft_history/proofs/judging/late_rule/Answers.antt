@@ -11,7 +11,7 @@ use Rattle.ft_history.specs.declared.writers.LastWrites.{LastWrites}
 use Rattle.ft_history.specs.declared.state.State.{State}
 use Rattle.ft_history.specs.States.{all_begun, after_begun, inner_begun, IfEndsBegun, IsKeptSince, IsProgress}
 use Rattle.ft_history.specs.Steps.{IsState}
-use Rattle.ft_history.proofs.Judged.{keeps_more}
+use Rattle.ft_history.proofs.Judged.{holds_more}
 use Rattle.ft_history.proofs.LateRules.{marked_iff, kept_iff, counted_iff}
 use Rattle.ft_history.proofs.judging.late_rule.Goals as goal
 
@@ -51,7 +51,7 @@ returns-then-not-is_kept_right c = λ entries place at users is_state first.
     let inner = λ (at marks : ℕ). c.inner_containers.ensures at marks ∙ ap (λ ss. inner_begun (after_begun at marks entry.call (all_begun ss))) c.deref.ensures.value in
     let marked = (marked_iff parts entries place entry progress c.args.users.now _ _ c.is_marked_right.result users so_far c.containers_needed-own.ensures inner c.is_marked_right.ensures).0 c.if-not-is_marked_right.false in
     record {
-      before = keeps_more c.args.storage parts entries place entry 4 rule.Mark refl first marked;
+      before = holds_more c.args.storage parts entries place entry 4 rule.Mark refl first marked;
       broken = refuted c.is_kept_right.result c.if-not-is_kept_right.true (kept parts entries place entry c.args.state.now progress c.is_kept_right.result _ _ c.deref-2.ensures.value c.deref-3.ensures.value is_state so_far c.is_kept_right.ensures);
     }
 
@@ -65,7 +65,7 @@ returns-then-not-is_counted_right c = λ entries place at users is_state first.
     let marked = (marked_iff parts entries place entry progress c.args.users.now _ _ c.is_marked_right.result users so_far c.containers_needed-own.ensures inner c.is_marked_right.ensures).0 c.if-not-is_marked_right.false in
     let is_kept = (kept parts entries place entry c.args.state.now progress c.is_kept_right.result _ _ c.deref-2.ensures.value c.deref-3.ensures.value is_state so_far c.is_kept_right.ensures).0 c.if-not-is_kept_right.false in
     record {
-      before = keeps_more c.args.storage parts entries place entry 5 rule.Kept refl (keeps_more c.args.storage parts entries place entry 4 rule.Mark refl first marked) is_kept;
+      before = holds_more c.args.storage parts entries place entry 5 rule.Kept refl (holds_more c.args.storage parts entries place entry 4 rule.Mark refl first marked) is_kept;
       broken = refuted c.is_counted_right.result c.if-not-is_counted_right.true (counted parts entries place entry progress c.is_counted_right.result _ c.deref-4.ensures.value so_far c.is_counted_right.ensures);
     }
 
@@ -80,7 +80,7 @@ returns-then-not-has_cause c = λ entries place at users is_state first.
     let is_kept = (kept parts entries place entry c.args.state.now progress c.is_kept_right.result _ _ c.deref-2.ensures.value c.deref-3.ensures.value is_state so_far c.is_kept_right.ensures).0 c.if-not-is_kept_right.false in
     let is_counted = (counted parts entries place entry progress c.is_counted_right.result _ c.deref-4.ensures.value so_far c.is_counted_right.ensures).0 c.if-not-is_counted_right.false in
     record {
-      before = keeps_more c.args.storage parts entries place entry 6 rule.Suspended refl (keeps_more c.args.storage parts entries place entry 5 rule.Kept refl (keeps_more c.args.storage parts entries place entry 4 rule.Mark refl first marked) is_kept) is_counted;
+      before = holds_more c.args.storage parts entries place entry 6 rule.Suspended refl (holds_more c.args.storage parts entries place entry 5 rule.Kept refl (holds_more c.args.storage parts entries place entry 4 rule.Mark refl first marked) is_kept) is_counted;
       broken = refuted c.has_cause.result c.if-not-has_cause.true (c.has_cause.ensures entries place is_state);
     }
 

@@ -8,7 +8,7 @@ use Rattle.ft_history.specs.Steps.{BreaksFirst, Finds}
 use Rattle.ft_model.specs.Histories.{writes, entries_of}
 use Rattle.ft_history.proofs.Judged.{few_made}
 use Rattle.ft_history.proofs.AccountLemmas.{earned_no_cursor}
-use Rattle.ft_history.proofs.GoesAfterLemmas.{state_after, askable_at, of_kind_at, within_containers, thread_within, few_writes, few_marks, breaks_reply, keeps_four, finds_all, where_none}
+use Rattle.ft_history.proofs.GoesAfterLemmas.{state_after, askable_at, of_kind_at, within_containers, thread_within, few_writes, few_marks, breaks_reply, holds_four, finds_all, where_none}
 use Rattle.ft_history.proofs.judging.step.Goals as goal
 
 -- the entry that stands at the place
@@ -69,7 +69,7 @@ pub returns-then-reported-clause-found : goal.returns-then-reported-clause-found
 returns-then-reported-clause-found c = λ entry at'.
     let at = here c.args.entries.now c.args.place c.index-entries-place.result c.requires.place c.index-entries-place.is in
     let goes = c.in_ok-reported.ensures in
-    let first = keeps_four c.args.storage c.args.parts.now c.args.entries.now c.args.place c.index-entries-place.result c.in_ok-reported.reported goes.0 goes.1 c.args.state.now c.go_after.new.state c.requires.state goes.2 (c.in_default.ensures c.args.storage) c.if-reported.true in
+    let first = holds_four c.args.storage c.args.parts.now c.args.entries.now c.args.place c.index-entries-place.result c.in_ok-reported.reported goes.0 goes.1 c.args.state.now c.go_after.new.state c.requires.state goes.2 (c.in_default.ensures c.args.storage) c.if-reported.true in
     subst (λ e. Finds c.args.storage c.args.parts.now c.args.entries.now c.args.place e c.late_rule-late.result) (same_Some _ _ (sym at ∙ at'))
     (finds_all c.args.storage c.args.parts.now c.args.entries.now c.args.place c.index-entries-place.result c.late_rule-late.result first (c.late_rule-late.ensures c.args.entries.now c.args.place at c.requires.users c.requires.state))
 

@@ -6,7 +6,7 @@ use Rattle.ft_model.specs.declared.script.Thread.{Thread}
 use Rattle.ft_history.specs.declared.progress.ThreadProgress.{ThreadProgress}
 use Rattle.ft_history.proofs.ScriptLemmas.{calls_of-at, no_calls}
 use Rattle.ft_history.proofs.Judged.{next_iff}
-use Rattle.ft_history.proofs.judging.keeps_whole.Goals as goal
+use Rattle.ft_history.proofs.judging.holds_whole.Goals as goal
 
 pub returns-in-Some-Some : goal.returns-in-Some-Some
 returns-in-Some-Some c = λ entries place is_state.

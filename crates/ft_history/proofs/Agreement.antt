@@ -16,14 +16,14 @@ use Rattle.ft_model.specs.Numbers.{begins_of}
 use Rattle.ft_model.specs.Tables.{IsEarned}
 use Rattle.ft_model.specs.Worlds.{kinds_of, containers_used}
 use Rattle.ft_history.proofs.FilteredParts.{any_passed, count_passed}
-use Rattle.ft_history.proofs.Numbered.{written, IsNumbered, writes_before_entry, mine_before, written_between, mine_between}
+use Rattle.ft_history.proofs.Stamped.{written, AreStamped, writes_before_entry, mine_before, written_between, mine_between}
 use Rattle.ft_history.proofs.OpenSections.{IsOpened, AreOpened, are_opened, same_innermost_after, same_ended}
 
 pub record Agree (script : ScriptParts) (one other : List Entry) : Type 0 where
   pub one_whole : IsWhole script one
   pub other_whole : IsWhole script other
-  pub one_numbered : IsNumbered one
-  pub other_numbered : IsNumbered other
+  pub one_numbered : AreStamped one
+  pub other_numbered : AreStamped other
   pub same_writes : written one ≡ written other
   pub same_threads : (thread : ℕ) → entries_of thread one ≡ entries_of thread other
   -- each entry of the second list stands in the first

@@ -16,7 +16,7 @@ pub mod Leaves
 pub mod AccountLemmas
 pub mod NextEntries
 pub mod Matching
-pub mod Numbered
+pub mod Stamped
 pub mod NumberedHistories
 pub mod OneOrder
 pub mod OneVerdict

@@ -20,7 +20,7 @@ use Rattle.ft_model.specs.Numbers.{number_after, is_number, IsRightAfter, IsMark
 use Rattle.ft_history.proofs.RightEntries.{IsLegalAt, call_at, legal_at, marked_after, passed_from, right_after}
 use Rattle.ft_history.proofs.Counted.{count_both, counted_once, keys_in_range}
 use Rattle.ft_history.proofs.FilteredParts.{key_at, passed_at, passed_before}
-use Rattle.ft_history.proofs.Numbered.{written, IsNumbered, count_writes}
+use Rattle.ft_history.proofs.Stamped.{written, AreStamped, count_writes}
 use Rattle.ft_history.proofs.SortedStamps.{rank, at_most_one, ranks_of_sorted, sorted_stamped}
 use Rattle.ft_history.proofs.ThreadOrder.{same_threads, still_whole}
 use Rattle.ft_history.proofs.WriteNumbers.{write_numbers}
@@ -125,7 +125,7 @@ module _ (storage : Storage) (script : ScriptParts) (calls : List Call) (entries
         | inr past ↦ absurd (omega (arith, past.0))
       ])
 
-  numbered : IsNumbered history
+  numbered : AreStamped history
   numbered = sorted_stamped history sorted stamp_at (λ place entry at. omega (arith, count_calls, (right_at place entry at).within))
 
   each : EachAt history (IsLegalAt storage script history)
@@ -152,7 +152,7 @@ module _ (storage : Storage) (script : ScriptParts) (calls : List Call) (entries
 -- ---- from a legal history
 
 module _ (storage : Storage) (script : ScriptParts) (history : List Entry) (legal : IsLegal storage script history) (fits : AreFitting storage script history) where
-  stamped : IsNumbered history
+  stamped : AreStamped history
   stamped place entry at = (legal.chronicle.answered place entry at).stamp
 
   legal_each : EachAt history (IsLegalAt storage script history)

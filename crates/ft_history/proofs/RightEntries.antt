@@ -23,7 +23,7 @@ use Rattle.ft_model.specs.Tables.{IsEarned, IsFitting}
 use Rattle.ft_model.specs.Worlds.{containers_used}
 use Rattle.ft_history.proofs.Agreement.{marks_are_mine}
 use Rattle.ft_history.proofs.FilteredParts.{count_passed, passed_at, passed_before, passed_between}
-use Rattle.ft_history.proofs.Numbered.{written, IsNumbered, count_writes, mine_through, stamp_is}
+use Rattle.ft_history.proofs.Stamped.{written, AreStamped, count_writes, mine_through, stamp_is}
 use Rattle.ft_history.proofs.OpenSections.{IsOpened, AreOpened, are_opened, begin_of_ended, ended_by_begin, containers_begun_after}
 use Rattle.ft_history.proofs.Places.{count_next, writes_before, writes_parts}
 
@@ -50,7 +50,7 @@ slice_get-take xs i j x low at =
 
 -- ---- lists whose stamps are right
 
-module _ (entries : List Entry) (numbered : IsNumbered entries) where
+module _ (entries : List Entry) (numbered : AreStamped entries) where
   -- stamps never fall, and rise after a write
   pub stamps_rise : (i j : ℕ) (a b : Entry) → slice_get entries i ≡ Some a → slice_get entries j ≡ Some b → i < j → a.stamp + cond a.wrote 1 0 ≤ b.stamp
   stamps_rise i j a b at_a at_b lt =
@@ -77,7 +77,7 @@ pub record IsLegalAt (storage : Storage) (script : ScriptParts) (entries : List 
   pub earned : IsEarnedAt storage script entries place entry
   pub fitting : IsFitting storage script (writes (take place entries)) entry
 
-module _ (script : ScriptParts) (entries : List Entry) (whole : IsWhole script entries) (numbered : IsNumbered entries) (wrote : EachAt entries (λ place entry. entry.wrote ≡ is_write entry.call entry.reply)) (place : ℕ) (entry : Entry) (at : slice_get entries place ≡ Some entry) where
+module _ (script : ScriptParts) (entries : List Entry) (whole : IsWhole script entries) (numbered : AreStamped entries) (wrote : EachAt entries (λ place entry. entry.wrote ≡ is_write entry.call entry.reply)) (place : ℕ) (entry : Entry) (at : slice_get entries place ≡ Some entry) where
   abbrev before : List Entry
   before = entries_of entry.thread (take place entries)
 

@@ -15,7 +15,7 @@ use Rattle.ft_model.specs.declared.script.ScriptParts.{ScriptParts}
 use Rattle.ft_model.specs.Histories.{history_cmp, writes, entries_of, IsWhole, IsChronicle, IsLegal}
 use Rattle.ft_history.proofs.Agreement.{Agree, chronicle_of_agreement}
 use Rattle.ft_history.proofs.FilteredParts.{key_at}
-use Rattle.ft_history.proofs.Numbered.{written, IsNumbered, count_writes}
+use Rattle.ft_history.proofs.Stamped.{written, AreStamped, count_writes}
 use Rattle.ft_history.proofs.Places.{count_next}
 use Rattle.ft_history.proofs.SortedStamps.{rank, at_most_one, count_parts, sorted_stamped}
 use Rattle.ft_history.proofs.ThreadOrder.{same_passed, same_threads, still_there, still_whole}
@@ -30,7 +30,7 @@ same_stamp a b is = grind (arith, nat_tests)
 -- ---- lists in order
 
 -- stamps that are right rise from reads to writes
-ranks_rise : (entries : List Entry) → IsNumbered entries → IsNonDecreasingBy rank entries
+ranks_rise : (entries : List Entry) → AreStamped entries → IsNonDecreasingBy rank entries
 ranks_rise entries numbered =
     IsNonDecreasingBy-from_all_adjacent rank entries (λ k d within.
     let a = get_or entries k d in
@@ -42,7 +42,7 @@ ranks_rise entries numbered =
     let one : cond {A = ℕ} a.wrote 1 0 ≤ 1 = at_most_one a in
     let goal : rank a ≤ rank b = omega arith in goal)
 
-module _ (entries : List Entry) (numbered : IsNumbered entries) where
+module _ (entries : List Entry) (numbered : AreStamped entries) where
   written_keys : map (λ (e : Entry). e.stamp) (written entries) ≡ range_with_len 0 (length (written entries))
   written_keys = write_numbers entries numbered ∙ ap (range_with_len 0) (count_writes entries)
 
@@ -60,11 +60,11 @@ module _ (entries : List Entry) (numbered : IsNumbered entries) where
 
 -- ---- a chronicle and the same entries in the order of a history
 
-pub same_written : (script : ScriptParts) (chronicle history : List Entry) → IsWhole script chronicle → IsNumbered chronicle → IsPermutation chronicle history → IsSorted history_cmp history → written chronicle ≡ written history
+pub same_written : (script : ScriptParts) (chronicle history : List Entry) → IsWhole script chronicle → AreStamped chronicle → IsPermutation chronicle history → IsSorted history_cmp history → written chronicle ≡ written history
 same_written script chronicle history whole numbered moved sorted = same_passed chronicle history moved sorted (λ (e : Entry). e.wrote) (written_sorted chronicle numbered) (written_differ chronicle numbered)
 
 module _ (storage : Storage) (script : ScriptParts) (chronicle history : List Entry) (is : IsChronicle storage script chronicle) (moved : IsPermutation chronicle history) (sorted : IsSorted history_cmp history) where
-  stamps_right : IsNumbered chronicle
+  stamps_right : AreStamped chronicle
   stamps_right place entry at = (is.answered place entry at).stamp
 
   written_stay : written chronicle ≡ written history

@@ -13,7 +13,7 @@ use Rattle.std.proofs.lemmas.Option.{get_or_from_slice_get, slice_get_within}
 use Rattle.ft_model.specs.declared.entry.Entry.{Entry}
 use Rattle.ft_model.specs.Histories.{history_cmp, writes}
 use Rattle.ft_history.proofs.FilteredParts.{passed_at, passed_before}
-use Rattle.ft_history.proofs.Numbered.{written, count_writes}
+use Rattle.ft_history.proofs.Stamped.{written, count_writes}
 use Rattle.ft_history.proofs.Places.{filter_parts}
 
 -- ---- the order, in numbers

@@ -16,13 +16,13 @@ abbrev pub written : List Entry → List Entry
 written entries = filter (λ (e : Entry). e.wrote) entries
 
 -- each stamp is the number of writes before it
-abbrev pub IsNumbered : List Entry → Type 0
-IsNumbered entries = EachAt entries (λ place entry. entry.stamp ≡ length (writes (take place entries)))
+abbrev pub AreStamped : List Entry → Type 0
+AreStamped entries = EachAt entries (λ place entry. entry.stamp ≡ length (writes (take place entries)))
 
 pub count_writes : (entries : List Entry) → length (writes entries) ≡ length (written entries)
 count_writes entries = length-map (written entries) (λ (e : Entry). e.call)
 
-module _ (entries : List Entry) (numbered : IsNumbered entries) (place : ℕ) (entry : Entry) (at : slice_get entries place ≡ Some entry) where
+module _ (entries : List Entry) (numbered : AreStamped entries) (place : ℕ) (entry : Entry) (at : slice_get entries place ≡ Some entry) where
   pub stamp_is : length (written (take place entries)) ≡ entry.stamp
   stamp_is = sym (numbered place entry at ∙ count_writes (take place entries))
 
@@ -61,7 +61,7 @@ module _ (script : ScriptParts) (entries : List Entry) (whole : IsWhole script e
 
 module _ (entries : List Entry) (start : ℕ) (begun : Entry) (begun_at : slice_get entries start ≡ Some begun) (place : ℕ) (entry : Entry) (at : slice_get entries place ≡ Some entry) (before : start < place) where
   -- the writes are those of certain numbers
-  pub written_between : IsNumbered entries → written (between (start + 1) place entries) ≡ drop (begun.stamp + cond begun.wrote 1 0) (take entry.stamp (written entries))
+  pub written_between : AreStamped entries → written (between (start + 1) place entries) ≡ drop (begun.stamp + cond begun.wrote 1 0) (take entry.stamp (written entries))
   written_between numbered =
       passed_between (λ (e : Entry). e.wrote) entries (start + 1) place (omega arith)
       ∙ ap (λ n. drop n (take (length (written (take place entries))) (written entries))) (next_write entries numbered start begun begun_at)

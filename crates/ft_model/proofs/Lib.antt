@@ -15,3 +15,8 @@ pub mod KnownKeys
 pub mod FewSerials
 pub mod StoredLaws
 pub mod AddingLaws
+pub mod Untouched
+pub mod ClassRooms
+pub mod TableOrder
+pub mod LegalTables
+pub mod Takings

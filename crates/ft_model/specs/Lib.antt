@@ -14,3 +14,4 @@ pub mod Judging
 pub mod Numbers
 pub mod Parts
 pub mod Serials
+pub mod Changes

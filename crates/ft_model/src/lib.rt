@@ -43,7 +43,10 @@ pub use cursor_calls::{Advanced, advance};
 pub use data::{Key, Sym, Value};
 pub use dict::Dict;
 pub use entry::{Entry, Rule, Storage};
-pub use laws::{calls_have_room, serials_are_few, worlds_keep_their_rule};
+pub use laws::{
+    a_write_takes_one_table, calls_have_room, others_are_untouched, serials_are_few,
+    tables_are_in_order, tables_stay_in_order, worlds_keep_their_rule,
+};
 pub use list::List;
 pub use reply::{Keys, Pairs, Raise, Reply, Values};
 pub use script::{Declaration, Kind, Script, ScriptParts, Text, Thread};

@@ -1,3 +1,6 @@
+//! Hashes of integers as Python has them, and of texts, for every table that keeps keys: equal keys have
+//! equal hashes, whoever computes them.
+
 ghost use Rattle.std.specs.Prelude.{◌≡◌};
 ghost use Rattle.ft_hash.specs.Hashes.{int_hash, text_hash};
 

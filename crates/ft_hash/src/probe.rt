@@ -1,5 +1,8 @@
-ghost use Rattle.std.specs.Prelude.{◌≡◌, ℕ, ◌+◌, ◌<◌, ◌≤◌, ◌^◌};
-ghost use Rattle.ft_hash.specs.Probes.{IsMask, Covers};
+//! The order in which a table's slots are tried for a hash, for whoever searches a table or puts an entry
+//! in one. It names slots of the table alone, and comes to each of them.
+
+ghost use Rattle.std.specs.Prelude.{◌≡◌, ℕ, ◌+◌, ◌<◌, ◌≤◌, ◌^◌, All, Contains};
+ghost use Rattle.ft_hash.specs.Probes.{IsMask, Covers, dict_walk, set_walk};
 
 use std::marker::Model;
 
@@ -67,4 +70,19 @@ impl Probe {
 /// A probe passes over no slot, whatever the hash and however large the table.
 pub fn cover()
     ensures { (hash mask : ℕ) → hash < 2 ^ 64 → IsMask mask → Covers hash mask }
+{}
+
+/// A walk tries slots of the table alone, a dict's and a set's, whatever the hash and however long.
+pub fn walks_stay_in_the_table()
+    ensures dict { (hash mask count : ℕ) → All (λ slot. slot ≤ mask) (dict_walk hash mask count) }
+    ensures set { (hash mask count : ℕ) → All (λ slot. slot ≤ mask) (set_walk hash mask count) }
+{}
+
+/// A walk of as many positions as there are slots and 13 more tries every slot of the table, a dict's and
+/// a set's, whatever the hash.
+pub fn walks_try_every_slot()
+    ensures dict { (hash mask slot : ℕ) → hash < 2 ^ 64 → IsMask mask → slot ≤ mask →
+        Contains (dict_walk hash mask (mask + 14)) slot }
+    ensures set { (hash mask slot : ℕ) → hash < 2 ^ 64 → IsMask mask → slot ≤ mask →
+        Contains (set_walk hash mask (mask + 14)) slot }
 {}

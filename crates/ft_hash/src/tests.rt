@@ -1,6 +1,8 @@
+//! Hashes that Python gives, those of the FNV page, and probes worked by hand.
+
 ghost use Rattle.ft_hash.specs.Probes.{IsMask};
 
-use crate::{Probe, cover, hash_int, hash_text};
+use crate::{Probe, cover, hash_int, hash_text, walks_stay_in_the_table, walks_try_every_slot};
 use std::process::Abort;
 use std::test::Fail;
 
@@ -83,5 +85,7 @@ fn a_probe_goes_through_all_slots(rt: HostRuntime) -> Result<(), Fail> {
     let of_a = [12, 1, 1, 9, 14, 10, 5, 3, 12, 27, 0, 31, 6, 31, 28, 13];
     check_probe(&rt, hash_text("a"), 31, &of_a);
     cover();
+    walks_stay_in_the_table();
+    walks_try_every_slot();
     Ok(())
 }

@@ -182,6 +182,14 @@ fn change(dict: &mut Dict, call: &DictCall) -> Result<Reply, AllocError>
             dict.clear();
             Ok(Reply::Done)
         }
-        _ => unreachable!(),
+        DictCall::Get { .. }
+        | DictCall::GetOr { .. }
+        | DictCall::Has { .. }
+        | DictCall::Len
+        | DictCall::Items
+        | DictCall::Update { .. }
+        | DictCall::CopyTo { .. }
+        | DictCall::Eq { .. }
+        | DictCall::Iter { .. } => unreachable!(),
     }
 }

@@ -157,6 +157,15 @@ fn change(list: &mut List, call: &ListCall) -> Result<Reply, AllocError>
             list.clear();
             Ok(Reply::Done)
         }
-        _ => unreachable!(),
+        ListCall::Get { .. }
+        | ListCall::Index { .. }
+        | ListCall::Count { .. }
+        | ListCall::Has { .. }
+        | ListCall::Extend { .. }
+        | ListCall::Slice { .. }
+        | ListCall::Len
+        | ListCall::Items
+        | ListCall::Eq { .. }
+        | ListCall::Iter { .. } => unreachable!(),
     }
 }

@@ -126,7 +126,18 @@ fn combine(alloc: Global, set: &mut Set, other: &Set, call: &SetCall) -> Result<
         SetCall::And { .. } => set.and(alloc, other),
         SetCall::Sub { .. } => set.sub(alloc, other),
         SetCall::Xor { .. } => set.xor(alloc, other),
-        _ => unreachable!(),
+        SetCall::Add { .. }
+        | SetCall::Discard { .. }
+        | SetCall::Remove { .. }
+        | SetCall::Pop
+        | SetCall::Has { .. }
+        | SetCall::Len
+        | SetCall::Items
+        | SetCall::Eq { .. }
+        | SetCall::Subset { .. }
+        | SetCall::Disjoint { .. }
+        | SetCall::Clear
+        | SetCall::Iter { .. } => unreachable!(),
     }
 }
 
@@ -185,6 +196,16 @@ fn change(set: &mut Set, call: &SetCall) -> Result<Reply, AllocError>
             set.clear();
             Ok(Reply::Done)
         }
-        _ => unreachable!(),
+        SetCall::Has { .. }
+        | SetCall::Len
+        | SetCall::Items
+        | SetCall::Eq { .. }
+        | SetCall::Or { .. }
+        | SetCall::And { .. }
+        | SetCall::Sub { .. }
+        | SetCall::Xor { .. }
+        | SetCall::Subset { .. }
+        | SetCall::Disjoint { .. }
+        | SetCall::Iter { .. } => unreachable!(),
     }
 }

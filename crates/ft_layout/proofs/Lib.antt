@@ -10,3 +10,4 @@ mod KeyedLists
 mod FollowLaws
 mod ListTableLaws
 mod Readers
+mod PutLaws

@@ -11,8 +11,8 @@ use Rattle.ft_layout.specs.Tables.{item_at, item_word, IsListTable}
 use Rattle.ft_layout.specs.Changes.{IsBlankTable, ChangesItem, SaysStored}
 use Rattle.ft_layout.proofs.FollowLaws.{there}
 
-pub item_moves : (f g : ℕ → ℕ) → ((w : ℕ) → w < 4 → g w ≡ f w) → (s : Stored) → IsItem f s → IsItem g s
-item_moves f g same s is = record { fits = is.fits; kind_is = same 1 (omega arith) ∙ is.kind_is; payload_is = same 2 (omega arith) ∙ is.payload_is }
+pub item_moves : (f g : ℕ → ℕ) → ((w : ℕ) → 1 ≤ w → w < 3 → g w ≡ f w) → (s : Stored) → IsItem f s → IsItem g s
+item_moves f g same s is = record { fits = is.fits; kind_is = same 1 (omega arith) (omega arith) ∙ is.kind_is; payload_is = same 2 (omega arith) (omega arith) ∙ is.payload_is }
 
 pub empty_list_table : (mask : ℕ) (words : List ℕ) → IsBlankTable mask words → IsListTable mask [] words
 empty_list_table mask words blank = record {
@@ -50,11 +50,11 @@ module _ (mask : ℕ) (values : List Value) (old new : List ℕ) (table : IsList
       | inl same ↦ subst (λ (q : ℕ). IsItem (item_word new q) (Plain (get_or news q any))) (sym same) (subst (λ (s : Stored). IsItem (item_word new place) s) (here any (omega arith)) now.says)
       | inr differ ↦
           let k = kept p any differ low in
-          subst (λ (v : Value). IsItem (item_word new p) (Plain v)) (sym k.1) (item_moves (item_word old p) (item_word new p) (λ w few. still p w differ few) (Plain (get_or values p any)) (table.items p any k.0))
+          subst (λ (v : Value). IsItem (item_word new p) (Plain v)) (sym k.1) (item_moves (item_word old p) (item_word new p) (λ w _ few. still p w differ (omega (arith, few))) (Plain (get_or values p any)) (table.items p any k.0))
     ];
     unused = λ p past low. elim (cases_eq p place) [
       | inl same ↦ subst (λ (q : ℕ). IsItem (item_word new q) Empty) (sym same) (subst (λ (s : Stored). IsItem (item_word new place) s) (none (omega arith)) now.says)
-      | inr differ ↦ item_moves (item_word old p) (item_word new p) (λ w few. still p w differ few) Empty (table.unused p (rest p differ past) low)
+      | inr differ ↦ item_moves (item_word old p) (item_word new p) (λ w _ few. still p w differ (omega (arith, few))) Empty (table.unused p (rest p differ past) low)
     ];
   }
 

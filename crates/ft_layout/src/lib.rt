@@ -36,6 +36,7 @@ mod laws;
 pub mod limit;
 mod lock;
 mod numbers;
+mod puts;
 mod root;
 mod size;
 mod slot;
@@ -59,6 +60,7 @@ pub use laws::{
 };
 pub use lock::{lock_of, lock_word};
 pub use numbers::words_have_their_numbers;
+pub use puts::{puts_change_one_entry, versions_change_nothing};
 pub use root::{root_of, root_word};
 pub use size::{entry_at, index_at, item_at, table_size};
 pub use slot::{Pair, Ref, Slot, Stored};

@@ -1,139 +1,186 @@
 -- The words of the bank lie apart.
-use Rattle.std.proofs.Common.{◌≡◌, ℕ, Bool, true, false, ltb, zero, suc, ◌+◌, ◌-◌, ◌*◌, ◌%◌, ◌<◌, ◌≤◌, List, [], ◌∷◌, ◌++◌, length, get_or, replicate, refl, sym, ap, ◌∙◌, arith, length-append}
+use Rattle.std.proofs.Common.{◌≡◌, ℕ, Bool, true, false, ltb, zero, suc, ◌+◌, ◌-◌, ◌*◌, ◌/◌, ◌%◌, ◌<◌, ◌≤◌, List, [], ◌∷◌, ◌++◌, length, get_or, replicate, refl, sym, ap, ◌∙◌, arith, length-append}
 use Rattle.std.specs.Prelude.{slice_index}
 use Rattle.std.proofs.lemmas.List.{get_or-replicate, length-replicate}
 use Rattle.std.proofs.Math.Decide.{dec_lt}
 use mathlib.Core.Logic.{dite}
 use native.Mathlib.Decide.{ℕ_discrete}
+use Rattle.ft_model.specs.Classes.{IsClass}
+use Rattle.ft_layout.specs.Sizes.{table_size}
+use Rattle.ft_layout.specs.Starts.{count_of, heap_size, words_below}
+use Rattle.ft_layout.proofs.Powers.{words_below-more}
 use Rattle.ft_trace.specs.declared.Shape.{Shape}
 use Rattle.ft_trace.specs.Bits.{bit}
 use Rattle.ft_trace.proofs.Bits.{bit_full}
-use Rattle.ft_trace.specs.Addrs.{Addr, counter, write_number, announced_of, count_of, bits, lock_of, version_of, block, header, cell, cls, num, fw, bt, size, IsTable, first, far, start_of, extent, at, Inside, least, free_word, free_words, opening}
+use Rattle.ft_trace.specs.Addrs.{Addr, counter, write_number, announced_of, count_of_class, bits, lock_of, version_of, block, header, cell, containers_in, tables_in, cls, num, fw, bt, slots, places, size, IsTable, far, start_of, extent, at, Inside, free_counts, least, free_word, free_words, opening}
 
 pub up_mul : (n a b : ℕ) → a ≤ b → a * n ≤ b * n
 up_mul n zero b low = omega arith
 up_mul n (suc a) zero low = absurd (omega arith)
 up_mul n (suc a) (suc b) low = let h = up_mul n a b (omega arith) in omega arith
 
-pub first_up : (n a b : ℕ) → a ≤ b → first n a ≤ first n b
-unfolding first
-first_up n zero b low = omega arith
-first_up n (suc a) zero low = absurd (omega arith)
-first_up n (suc a) (suc b) low =
-    dite (ℕ_discrete a b) (λ (e : a ≡ b). let z = ap (λ (i : ℕ). first n (suc i)) e in omega (arith, z))
-    (λ ne. let h = first_up n (suc a) b (omega arith) in let p : 0 ≤ n * (1 + size b) = omega arith in omega (arith, h, p))
+-- the words of a table: two of its header, and the others
+pub table_size_is : (c : ℕ) → table_size c ≡ 2 + size c
+unfolding slots places
+table_size_is c = omega arith
 
-pub first_next : (n c : ℕ) → first n (suc c) ≡ first n c + n * (1 + size c)
-unfolding first
-first_next n c = refl
+pub first_next : (tables : List ℕ) (c : ℕ) → 3 ≤ c → words_below tables (suc c) ≡ words_below tables c + count_of tables c * (2 + size c)
+first_next tables c up =
+    let e : c + 1 ≡ suc c = omega arith in
+    ap (words_below tables) (sym e) ∙ (words_below-more tables c up ∙ ap (λ (z : ℕ). words_below tables c + count_of tables c * z) (table_size_is c))
 
-pub start_is : (k : Shape) (t : ℕ) → start_of k t ≡ far k + first k.tables (cls t) + num t * (1 + size (cls t))
+pub first_up : (tables : List ℕ) (a b : ℕ) → 3 ≤ a → a ≤ b → words_below tables a ≤ words_below tables b
+first_up tables zero b up low = absurd (omega arith)
+first_up tables (suc a) zero up low = absurd (omega arith)
+first_up tables (suc a) (suc b) up low =
+    dite (ℕ_discrete a b) (λ (e : a ≡ b). let z = ap (λ (i : ℕ). words_below tables (suc i)) e in omega (arith, z))
+    (λ ne.
+    let h = first_up tables (suc a) b up (omega arith) in
+    let n = first_next tables b (omega arith) in
+    let p : 0 ≤ count_of tables b * (2 + size b) = omega arith in
+    omega (arith, h, n, p))
+
+pub start_is : (k : Shape) (t : ℕ) → start_of k t ≡ far k + words_below k.tables (cls t) + num t * (2 + size (cls t))
 unfolding start_of
-start_is k t = refl
+start_is k t = ap (λ (z : ℕ). far k + words_below k.tables (cls t) + num t * z) (table_size_is (cls t))
 
-pub extent_is : (k : Shape) → extent k ≡ far k + first k.tables k.classes
+pub extent_is : (k : Shape) → extent k ≡ far k + words_below k.tables 17
 unfolding extent
 extent_is k = refl
+
+-- tables lie after the blocks
+pub far_up : (k : Shape) → 304 + 8 * containers_in k ≤ far k
+unfolding far
+far_up k = let p : 0 ≤ k.passes * heap_size k.heap = omega arith in omega (arith, p)
+
+pub far_low : (k : Shape) → far k ≤ extent k
+far_low k = let e = extent_is k in let p : 0 ≤ words_below k.tables 17 = omega arith in omega (arith, e, p)
 
 pub same_table : (t q : ℕ) → cls t ≡ cls q → num t ≡ num q → t ≡ q
 unfolding cls num
 same_table t q c n = omega arith
 
-pub start_low : (k : Shape) (t : ℕ) → far k ≤ start_of k t
-start_low k t = let e = start_is k t in omega (arith, e)
+pub start_low : (k : Shape) (t : ℕ) → 304 + 8 * containers_in k ≤ start_of k t
+start_low k t =
+    let e = start_is k t in
+    let f = far_up k in
+    let p : 0 ≤ words_below k.tables (cls t) = omega arith in
+    let q : 0 ≤ num t * (2 + size (cls t)) = omega arith in
+    omega (arith, e, f, p, q)
 
 -- where the tables of its class, and it, end
-end_class : (k : Shape) (t : ℕ) → IsTable k t → start_of k t + 1 + size (cls t) ≤ far k + first k.tables (suc (cls t))
+end_class : (k : Shape) (t : ℕ) → IsTable k t → start_of k t + 2 + size (cls t) ≤ far k + words_below k.tables (suc (cls t))
 end_class k t is =
     let e = start_is k t in
-    let f = first_next k.tables (cls t) in
+    let f = first_next k.tables (cls t) is.0.least in
     let low = is.1 in
-    let m = up_mul (1 + size (cls t)) (suc (num t)) k.tables (omega arith) in
+    let m = up_mul (2 + size (cls t)) (suc (num t)) (tables_in k (cls t)) (omega arith) in
     omega (arith, e, f, m)
 
-pub start_high : (k : Shape) (t : ℕ) → IsTable k t → start_of k t + 1 + size (cls t) ≤ extent k
+pub start_high : (k : Shape) (t : ℕ) → IsTable k t → start_of k t + 2 + size (cls t) ≤ extent k
 start_high k t is =
     let a = end_class k t is in
-    let b = first_up k.tables (suc (cls t)) k.classes (let l = is.0 in omega arith) in
+    let l = is.0.least in
+    let h = is.0.greatest in
+    let b = first_up k.tables (suc (cls t)) 17 (omega arith) (omega arith) in
     let e = extent_is k in
     omega (arith, a, b, e)
 
-before : (k : Shape) (t q : ℕ) → IsTable k t → IsTable k q → cls t < cls q → start_of k t + 1 + size (cls t) ≤ start_of k q
+before : (k : Shape) (t q : ℕ) → IsTable k t → IsTable k q → cls t < cls q → start_of k t + 2 + size (cls t) ≤ start_of k q
 before k t q is it less =
     let a = end_class k t is in
-    let b = first_up k.tables (suc (cls t)) (cls q) (omega arith) in
+    let l = is.0.least in
+    let b = first_up k.tables (suc (cls t)) (cls q) (omega arith) (omega arith) in
     let e = start_is k q in
-    omega (arith, a, b, e)
+    let p : 0 ≤ num q * (2 + size (cls q)) = omega arith in
+    omega (arith, a, b, e, p)
 
-beside : (k : Shape) (t q : ℕ) → cls t ≡ cls q → num t < num q → start_of k t + 1 + size (cls t) ≤ start_of k q
+beside : (k : Shape) (t q : ℕ) → cls t ≡ cls q → num t < num q → start_of k t + 2 + size (cls t) ≤ start_of k q
 beside k t q same less =
     let e = start_is k t in
-    let f : start_of k q ≡ far k + first k.tables (cls t) + num q * (1 + size (cls t)) = start_is k q ∙ ap (λ (c : ℕ). far k + first k.tables c + num q * (1 + size c)) (sym same) in
-    let m = up_mul (1 + size (cls t)) (suc (num t)) (num q) (omega arith) in
+    let f : start_of k q ≡ far k + words_below k.tables (cls t) + num q * (2 + size (cls t)) = start_is k q ∙ ap (λ (c : ℕ). far k + words_below k.tables c + num q * (2 + size c)) (sym same) in
+    let m = up_mul (2 + size (cls t)) (suc (num t)) (num q) (omega arith) in
     omega (arith, e, f, m)
 
 -- two tables that meet are one
-pub start_apart : (k : Shape) (t q : ℕ) → IsTable k t → IsTable k q → start_of k q < start_of k t + 1 + size (cls t) → start_of k t < start_of k q + 1 + size (cls q) → t ≡ q
+pub start_apart : (k : Shape) (t q : ℕ) → IsTable k t → IsTable k q → start_of k q < start_of k t + 2 + size (cls t) → start_of k t < start_of k q + 2 + size (cls q) → t ≡ q
 start_apart k t q is it a b =
     dite (dec_lt (cls t) (cls q)) (λ less. let h = before k t q is it less in absurd (omega arith))
     (λ no. dite (dec_lt (cls q) (cls t)) (λ less. let h = before k q t it is less in absurd (omega arith))
-    (λ no'.
+    (λ no1.
     let same : cls t ≡ cls q = omega arith in
     dite (dec_lt (num t) (num q)) (λ less. let h = beside k t q same less in absurd (omega arith))
-    (λ no''. dite (dec_lt (num q) (num t)) (λ less. let h = beside k q t (sym same) less in absurd (omega arith))
-    (λ no'''. same_table t q same (omega arith)))))
+    (λ no2. dite (dec_lt (num q) (num t)) (λ less. let h = beside k q t (sym same) less in absurd (omega arith))
+    (λ no3. same_table t q same (omega arith)))))
 
 pub at_low : (k : Shape) (x : Addr) → Inside k x → at k x < extent k
-at_low k (announced_of p) in_it = let e = extent_is k in omega (arith, e)
-at_low k (count_of c) in_it = let e = extent_is k in omega (arith, e)
-at_low k (bits c) in_it = let e = extent_is k in omega (arith, e)
-at_low k (lock_of o) in_it = let e = extent_is k in omega (arith, e)
-at_low k (version_of o) in_it = let e = extent_is k in omega (arith, e)
-at_low k (block o i) in_it = let e = extent_is k in let l = in_it.0 in let m = in_it.1 in omega (arith, e)
+at_low k (announced_of p) in_it = let e = far_up k in let f = far_low k in let l = in_it.0 in let m = in_it.1 in omega (arith, e, f)
+at_low k (count_of_class c) in_it = let e = far_up k in let f = far_low k in let l = in_it.least in let m = in_it.greatest in omega (arith, e, f)
+at_low k (bits c) in_it = let e = far_up k in let f = far_low k in omega (arith, e, f)
+at_low k (lock_of o) in_it = let e = far_up k in let f = far_low k in omega (arith, e, f)
+at_low k (version_of o) in_it = let e = far_up k in let f = far_low k in omega (arith, e, f)
+at_low k (block o i) in_it = let e = far_up k in let f = far_low k in let l = in_it.0 in let m = in_it.1 in omega (arith, e, f)
 at_low k (header t) in_it = let h = start_high k t in_it in omega arith
 at_low k (cell t i) in_it = let h = start_high k t in_it.0 in let l = in_it.1 in omega arith
-at_low k act in_it = let e = extent_is k in omega (arith, e)
-
-below : (k : Shape) (t : ℕ) → IsTable k t → far k ≤ start_of k t
-below k t is = start_low k t
+at_low k counter in_it = let e = far_up k in let f = far_low k in omega (arith, e, f)
+at_low k write_number in_it = let e = far_up k in let f = far_low k in omega (arith, e, f)
 
 -- one word has one address
 pub at_apart : (k : Shape) (x y : Addr) → Inside k x → Inside k y → at k x ≡ at k y → x ≡ y
 at_apart k counter counter a b e = refl
 at_apart k counter (header t) a b e = let l = start_low k t in absurd (omega arith)
 at_apart k counter (cell t i) a b e = let l = start_low k t in absurd (omega arith)
+at_apart k counter (announced_of s) a b e = let b0 = b.0 in let b1 = b.1 in absurd (omega arith)
+at_apart k counter (count_of_class s) a b e = let b0 = b.least in let b1 = b.greatest in absurd (omega arith)
+at_apart k counter (block s i) a b e = let b0 = b.0 in let b1 = b.1 in absurd (omega arith)
 at_apart k counter y a b e = absurd (omega arith)
 at_apart k write_number write_number a b e = refl
 at_apart k write_number (header t) a b e = let l = start_low k t in absurd (omega arith)
 at_apart k write_number (cell t i) a b e = let l = start_low k t in absurd (omega arith)
+at_apart k write_number (announced_of s) a b e = let b0 = b.0 in let b1 = b.1 in absurd (omega arith)
+at_apart k write_number (count_of_class s) a b e = let b0 = b.least in let b1 = b.greatest in absurd (omega arith)
+at_apart k write_number (block s i) a b e = let b0 = b.0 in let b1 = b.1 in absurd (omega arith)
 at_apart k write_number y a b e = absurd (omega arith)
-at_apart k (announced_of p) (announced_of q) a b e = ap announced_of (omega arith)
-at_apart k (announced_of p) (header t) a b e = let l = start_low k t in absurd (omega arith)
-at_apart k (announced_of p) (cell t i) a b e = let l = start_low k t in absurd (omega arith)
-at_apart k (announced_of p) y a b e = absurd (omega arith)
-at_apart k (count_of p) (count_of q) a b e = ap count_of (omega arith)
-at_apart k (count_of p) (header t) a b e = let l = start_low k t in absurd (omega arith)
-at_apart k (count_of p) (cell t i) a b e = let l = start_low k t in absurd (omega arith)
-at_apart k (count_of p) y a b e = absurd (omega arith)
+at_apart k (announced_of p) (announced_of q) a b e = let a0 = a.0 in let a1 = a.1 in let b0 = b.0 in let b1 = b.1 in ap announced_of (omega arith)
+at_apart k (announced_of p) (header t) a b e = let a0 = a.0 in let a1 = a.1 in let l = start_low k t in absurd (omega arith)
+at_apart k (announced_of p) (cell t i) a b e = let a0 = a.0 in let a1 = a.1 in let l = start_low k t in absurd (omega arith)
+at_apart k (announced_of p) (count_of_class s) a b e = let a0 = a.0 in let a1 = a.1 in let b0 = b.least in let b1 = b.greatest in absurd (omega arith)
+at_apart k (announced_of p) (block s i) a b e = let a0 = a.0 in let a1 = a.1 in let b0 = b.0 in let b1 = b.1 in absurd (omega arith)
+at_apart k (announced_of p) y a b e = let a0 = a.0 in let a1 = a.1 in absurd (omega arith)
+at_apart k (count_of_class p) (count_of_class q) a b e = let a0 = a.least in let a1 = a.greatest in let b0 = b.least in let b1 = b.greatest in ap count_of_class (omega arith)
+at_apart k (count_of_class p) (header t) a b e = let a0 = a.least in let a1 = a.greatest in let l = start_low k t in absurd (omega arith)
+at_apart k (count_of_class p) (cell t i) a b e = let a0 = a.least in let a1 = a.greatest in let l = start_low k t in absurd (omega arith)
+at_apart k (count_of_class p) (announced_of s) a b e = let a0 = a.least in let a1 = a.greatest in let b0 = b.0 in let b1 = b.1 in absurd (omega arith)
+at_apart k (count_of_class p) (block s i) a b e = let a0 = a.least in let a1 = a.greatest in let b0 = b.0 in let b1 = b.1 in absurd (omega arith)
+at_apart k (count_of_class p) y a b e = let a0 = a.least in let a1 = a.greatest in absurd (omega arith)
 at_apart k (bits p) (bits q) a b e = ap bits (omega arith)
 at_apart k (bits p) (header t) a b e = let l = start_low k t in absurd (omega arith)
 at_apart k (bits p) (cell t i) a b e = let l = start_low k t in absurd (omega arith)
+at_apart k (bits p) (announced_of s) a b e = let b0 = b.0 in let b1 = b.1 in absurd (omega arith)
+at_apart k (bits p) (count_of_class s) a b e = let b0 = b.least in let b1 = b.greatest in absurd (omega arith)
+at_apart k (bits p) (block s i) a b e = let b0 = b.0 in let b1 = b.1 in absurd (omega arith)
 at_apart k (bits p) y a b e = absurd (omega arith)
 at_apart k (lock_of p) (lock_of q) a b e = ap lock_of (omega arith)
 at_apart k (lock_of p) (header t) a b e = let l = start_low k t in absurd (omega arith)
 at_apart k (lock_of p) (cell t i) a b e = let l = start_low k t in absurd (omega arith)
 at_apart k (lock_of p) (block o i) a b e = let m = b.1 in absurd (omega arith)
+at_apart k (lock_of p) (announced_of s) a b e = let b0 = b.0 in let b1 = b.1 in absurd (omega arith)
+at_apart k (lock_of p) (count_of_class s) a b e = let b0 = b.least in let b1 = b.greatest in absurd (omega arith)
 at_apart k (lock_of p) y a b e = absurd (omega arith)
 at_apart k (version_of p) (version_of q) a b e = ap version_of (omega arith)
 at_apart k (version_of p) (header t) a b e = let l = start_low k t in absurd (omega arith)
 at_apart k (version_of p) (cell t i) a b e = let l = start_low k t in absurd (omega arith)
 at_apart k (version_of p) (block o i) a b e = let m = b.1 in absurd (omega arith)
+at_apart k (version_of p) (announced_of s) a b e = let b0 = b.0 in let b1 = b.1 in absurd (omega arith)
+at_apart k (version_of p) (count_of_class s) a b e = let b0 = b.least in let b1 = b.greatest in absurd (omega arith)
 at_apart k (version_of p) y a b e = absurd (omega arith)
 at_apart k (block o i) (block q j) a b e = let m = a.1 in let n = b.1 in let x : o ≡ q = omega arith in let y : i ≡ j = omega arith in λ d. block (x d) (y d)
 at_apart k (block o i) (header t) a b e = let l = start_low k t in let m = a.0 in let n = a.1 in absurd (omega arith)
 at_apart k (block o i) (cell t j) a b e = let l = start_low k t in let m = a.0 in let n = a.1 in absurd (omega arith)
 at_apart k (block o i) (lock_of q) a b e = let m = a.1 in absurd (omega arith)
 at_apart k (block o i) (version_of q) a b e = let m = a.1 in absurd (omega arith)
+at_apart k (block o i) (announced_of s) a b e = let m = a.1 in let b0 = b.0 in let b1 = b.1 in absurd (omega arith)
+at_apart k (block o i) (count_of_class s) a b e = let m = a.1 in let b0 = b.least in let b1 = b.greatest in absurd (omega arith)
 at_apart k (block o i) y a b e = absurd (omega arith)
 at_apart k (header t) (header q) a b e = ap header (start_apart k t q a b (omega arith) (omega arith))
 at_apart k (header t) (cell q i) a b e =
@@ -142,6 +189,8 @@ at_apart k (header t) (cell q i) a b e =
     let z : start_of k t ≡ start_of k q = ap (start_of k) same in
     absurd (omega arith)
 at_apart k (header t) (block o i) a b e = let l = start_low k t in let m = b.0 in let n = b.1 in absurd (omega arith)
+at_apart k (header t) (announced_of s) a b e = let l = start_low k t in let b0 = b.0 in let b1 = b.1 in absurd (omega arith)
+at_apart k (header t) (count_of_class s) a b e = let l = start_low k t in let b0 = b.least in let b1 = b.greatest in absurd (omega arith)
 at_apart k (header t) y a b e = let l = start_low k t in absurd (omega arith)
 at_apart k (cell t i) (cell q j) a b e =
     let l = a.1 in
@@ -156,6 +205,8 @@ at_apart k (cell t i) (header q) a b e =
     let z : start_of k t ≡ start_of k q = ap (start_of k) same in
     absurd (omega arith)
 at_apart k (cell t i) (block o j) a b e = let l = start_low k t in let m = b.0 in let n = b.1 in absurd (omega arith)
+at_apart k (cell t i) (announced_of s) a b e = let l = start_low k t in let b0 = b.0 in let b1 = b.1 in absurd (omega arith)
+at_apart k (cell t i) (count_of_class s) a b e = let l = start_low k t in let b0 = b.least in let b1 = b.greatest in absurd (omega arith)
 at_apart k (cell t i) y a b e = let l = start_low k t in absurd (omega arith)
 
 in_front : (xs ys : List ℕ) (i d : ℕ) → i < length xs → get_or (xs ++ ys) i d ≡ get_or xs i d
@@ -169,40 +220,54 @@ past_front (x ∷ xs) ys i zero d is = absurd (omega arith)
 past_front (x ∷ xs) ys i (suc n) d is = past_front xs ys i n d (omega arith)
 
 -- which table is which bit of which word
-pub fw_low : (k : Shape) (t : ℕ) → IsTable k t → fw t < 16 * k.classes
-unfolding cls fw
-fw_low k t is = let l = is.0 in omega (arith, l)
+pub fw_low : (k : Shape) (t : ℕ) → IsTable k t → fw t < 224
+unfolding fw
+fw_low k t is = let l = is.0.least in let h = is.0.greatest in let n = is.2 in omega (arith, l, h, n)
 
 pub bt_low : (t : ℕ) → bt t < 64
 unfolding bt
 bt_low t = omega arith
 
-pub same_bit : (t q : ℕ) → fw t ≡ fw q → bt t ≡ bt q → t ≡ q
+pub same_bit : (k : Shape) (t q : ℕ) → IsTable k t → IsTable k q → fw t ≡ fw q → bt t ≡ bt q → t ≡ q
 unfolding fw bt
-same_bit t q c n = omega arith
+same_bit k t q is it c n =
+    let a = is.0.least in
+    let b = it.0.least in
+    let e = is.2 in
+    let f = it.2 in
+    same_table t q (omega (arith, a, b, e, f, c)) (omega (arith, a, b, e, f, c, n))
 
-pub num_is : (t : ℕ) → num t ≡ 64 * (fw t % 16) + bt t
-unfolding num fw bt
-num_is t = omega arith
+pub num_is : (k : Shape) (t : ℕ) → IsTable k t → (num t ≡ 64 * (fw t % 16) + bt t) × (3 + fw t / 16 ≡ cls t)
+unfolding fw bt
+num_is k t is = let a = is.0.least in let n = is.2 in (omega (arith, a, n), omega (arith, a, n))
 
 -- the table with this number in its class
-pub cls_of : (c i : ℕ) → i < 1024 → cls (1024 * c + i) ≡ c
+pub cls_of : (c i : ℕ) → i < 1024 → cls (65536 * c + i) ≡ c
 unfolding cls
 cls_of c i low = omega arith
 
-pub num_of : (c i : ℕ) → i < 1024 → num (1024 * c + i) ≡ i
+pub num_of : (c i : ℕ) → i < 1024 → num (65536 * c + i) ≡ i
 unfolding num
 num_of c i low = omega arith
 
-pub table_is : (t : ℕ) → 1024 * cls t + num t ≡ t
+pub table_is : (t : ℕ) → 65536 * cls t + num t ≡ t
 unfolding cls num
 table_is t = omega arith
 
-free_long : (tables w n : ℕ) → length (free_words tables w n) ≡ n
+counts_long : (tables : List ℕ) (c n : ℕ) → length (free_counts tables c n) ≡ n
+counts_long tables c zero = refl
+counts_long tables c (suc n) = ap suc (counts_long tables (suc c) n)
+
+counts_at : (tables : List ℕ) (c n i : ℕ) → i < n → get_or (free_counts tables c n) i 0 ≡ count_of tables (c + i)
+counts_at tables c zero i low = absurd (omega arith)
+counts_at tables c (suc n) zero low = ap (count_of tables) (omega arith)
+counts_at tables c (suc n) (suc i) low = counts_at tables (suc c) n i (omega arith) ∙ ap (count_of tables) (omega arith)
+
+free_long : (tables : List ℕ) (w n : ℕ) → length (free_words tables w n) ≡ n
 free_long tables w zero = refl
 free_long tables w (suc n) = ap suc (free_long tables (suc w) n)
 
-free_at : (tables w n i : ℕ) → i < n → get_or (free_words tables w n) i 0 ≡ free_word tables (w + i)
+free_at : (tables : List ℕ) (w n i : ℕ) → i < n → get_or (free_words tables w n) i 0 ≡ free_word tables (w + i)
 free_at tables w zero i low = absurd (omega arith)
 free_at tables w (suc n) zero low = ap (free_word tables) (omega arith)
 free_at tables w (suc n) (suc i) low = free_at tables (suc w) n i (omega arith) ∙ ap (free_word tables) (omega arith)
@@ -213,83 +278,100 @@ least_up false b n low less = low
 
 module _ (k : Shape) where
   abbrev Anns : List ℕ
-  Anns = replicate {A = ℕ} (k.passes + 1) 0
+  Anns = replicate {A = ℕ} 64 0
 
   abbrev Counts : List ℕ
-  Counts = replicate {A = ℕ} k.classes k.tables
+  Counts = free_counts k.tables 3 14
 
   abbrev Frees : List ℕ
-  Frees = free_words k.tables 0 (16 * k.classes)
+  Frees = free_words k.tables 0 224
 
   abbrev Rest : List ℕ
-  Rest = replicate {A = ℕ} (4 * k.containers + first k.tables k.classes) 0
+  Rest = replicate {A = ℕ} (extent k - 304) 0
 
-  long_anns : length Anns ≡ k.passes + 1
-  long_anns = length-replicate (k.passes + 1) 0
+  long_anns : length Anns ≡ 64
+  long_anns = length-replicate {A = ℕ} 64 0
 
-  long_counts : length Counts ≡ k.classes
-  long_counts = length-replicate k.classes k.tables
+  long_counts : length Counts ≡ 14
+  long_counts = counts_long k.tables 3 14
 
-  long_frees : length Frees ≡ 16 * k.classes
-  long_frees = free_long k.tables 0 (16 * k.classes)
+  long_frees : length Frees ≡ 224
+  long_frees = free_long k.tables 0 224
 
-  long_rest : length Rest ≡ 4 * k.containers + first k.tables k.classes
-  long_rest = length-replicate (4 * k.containers + first k.tables k.classes) 0
+  long_rest : length Rest ≡ extent k - 304
+  long_rest = length-replicate {A = ℕ} (extent k - 304) 0
+
+  parts : (xs cs fs rs : List ℕ) → length xs ≡ 64 → length cs ≡ 14 → length fs ≡ 224 → length rs ≡ extent k - 304 → length (0 ∷ 1 ∷ (xs ++ (cs ++ (fs ++ rs)))) ≡ extent k
+  parts xs cs fs rs a b c d =
+      let x = length-append xs (cs ++ (fs ++ rs)) in
+      let y = length-append cs (fs ++ rs) in
+      let z = length-append fs rs in
+      let e = far_low k in
+      let f = far_up k in
+      omega (arith, a, b, c, d, x, y, z, e, f)
 
   pub opening_long : length (opening k) ≡ extent k
-  opening_long =
-      let a = long_anns in
-      let b = long_counts in
-      let c = long_frees in
-      let d = long_rest in
-      let x = length-append Anns (Counts ++ (Frees ++ Rest)) in
-      let y = length-append Counts (Frees ++ Rest) in
-      let z = length-append Frees Rest in
-      let e = extent_is k in
-      omega (arith, a, b, c, d, x, y, z, e)
+  opening_long = parts Anns Counts Frees Rest long_anns long_counts long_frees long_rest
 
-  -- past the announced words
-  past_anns : (i n : ℕ) → n ≡ suc (suc (k.passes + 1 + i)) → get_or (opening k) n 0 ≡ get_or (Counts ++ (Frees ++ Rest)) i 0
-  past_anns i n is = let a = long_anns in ap (λ (z : ℕ). get_or (opening k) z 0) is ∙ past_front Anns (Counts ++ (Frees ++ Rest)) i (k.passes + 1 + i) 0 (omega (arith, a))
+  part_anns : (xs rs : List ℕ) (i : ℕ) → length xs ≡ 64 → i < 64 → get_or (0 ∷ 1 ∷ (xs ++ rs)) (2 + i) 0 ≡ get_or xs i 0
+  part_anns xs rs i a low = let n : 2 + i ≡ suc (suc i) = omega arith in ap (λ (z : ℕ). get_or (0 ∷ 1 ∷ (xs ++ rs)) z 0) n ∙ in_front xs rs i 0 (omega (arith, a))
 
-  pub count_first : (c : ℕ) → c < k.classes → slice_index (opening k) (at k (count_of c)) ≡ k.tables
-  count_first c low = let b = long_counts in past_anns c (3 + k.passes + c) (omega arith) ∙ (in_front Counts (Frees ++ Rest) c 0 (omega (arith, b)) ∙ get_or-replicate k.classes c k.tables 0 low)
+  part_counts : (xs cs rs : List ℕ) (i : ℕ) → length xs ≡ 64 → length cs ≡ 14 → i < 14 → get_or (0 ∷ 1 ∷ (xs ++ (cs ++ rs))) (66 + i) 0 ≡ get_or cs i 0
+  part_counts xs cs rs i a c low =
+      let n : 66 + i ≡ suc (suc (64 + i)) = omega arith in
+      ap (λ (z : ℕ). get_or (0 ∷ 1 ∷ (xs ++ (cs ++ rs))) z 0) n ∙ (past_front xs (cs ++ rs) i (64 + i) 0 (omega (arith, a)) ∙ in_front cs rs i 0 (omega (arith, c)))
 
-  pub bits_first : (w : ℕ) → w < 16 * k.classes → slice_index (opening k) (at k (bits w)) ≡ free_word k.tables w
-  bits_first w low =
-      let b = long_counts in
-      let c = long_frees in
-      past_anns (k.classes + w) (3 + k.passes + k.classes + w) (omega arith)
-      ∙ (past_front Counts (Frees ++ Rest) w (k.classes + w) 0 (omega (arith, b)) ∙ (in_front Frees Rest w 0 (omega (arith, c)) ∙ (free_at k.tables 0 (16 * k.classes) w low ∙ ap (free_word k.tables) (omega arith))))
+  part_frees : (xs cs fs rs : List ℕ) (i : ℕ) → length xs ≡ 64 → length cs ≡ 14 → length fs ≡ 224 → i < 224 → get_or (0 ∷ 1 ∷ (xs ++ (cs ++ (fs ++ rs)))) (80 + i) 0 ≡ get_or fs i 0
+  part_frees xs cs fs rs i a c f low =
+      let n : 80 + i ≡ suc (suc (78 + i)) = omega arith in
+      ap (λ (z : ℕ). get_or (0 ∷ 1 ∷ (xs ++ (cs ++ (fs ++ rs)))) z 0) n
+      ∙ (past_front xs (cs ++ (fs ++ rs)) (14 + i) (78 + i) 0 (omega (arith, a)) ∙ (past_front cs (fs ++ rs) i (14 + i) 0 (omega (arith, c)) ∙ in_front fs rs i 0 (omega (arith, f))))
+
+  part_rest : (xs cs fs rs : List ℕ) (i : ℕ) → length xs ≡ 64 → length cs ≡ 14 → length fs ≡ 224 → get_or (0 ∷ 1 ∷ (xs ++ (cs ++ (fs ++ rs)))) (304 + i) 0 ≡ get_or rs i 0
+  part_rest xs cs fs rs i a c f =
+      let n : 304 + i ≡ suc (suc (302 + i)) = omega arith in
+      ap (λ (z : ℕ). get_or (0 ∷ 1 ∷ (xs ++ (cs ++ (fs ++ rs)))) z 0) n
+      ∙ (past_front xs (cs ++ (fs ++ rs)) (238 + i) (302 + i) 0 (omega (arith, a)) ∙ (past_front cs (fs ++ rs) (224 + i) (238 + i) 0 (omega (arith, c)) ∙ past_front fs rs i (224 + i) 0 (omega (arith, f))))
+
+  pub count_first : (c : ℕ) → IsClass c → slice_index (opening k) (at k (count_of_class c)) ≡ tables_in k c
+  count_first c is =
+      let l = is.least in
+      let h = is.greatest in
+      part_counts Anns Counts (Frees ++ Rest) (c - 3) long_anns long_counts (omega (arith, l, h)) ∙ (counts_at k.tables 3 14 (c - 3) (omega (arith, l, h)) ∙ ap (count_of k.tables) (omega (arith, l)))
+
+  pub bits_first : (w : ℕ) → w < 224 → slice_index (opening k) (at k (bits w)) ≡ free_word k.tables w
+  bits_first w low = part_frees Anns Counts Frees Rest w long_anns long_counts long_frees low ∙ (free_at k.tables 0 224 w low ∙ ap (free_word k.tables) (omega arith))
 
   -- all tables are free
   pub bit_first : (t : ℕ) → IsTable k t → bit (bt t) (slice_index (opening k) (at k (bits (fw t)))) ≡ 1
   bit_first t is =
-      let n = num_is t in
+      let n = num_is k t is in
+      let n0 = n.0 in
       let l = is.1 in
       let low = bt_low t in
-      let d = k.tables - 64 * (fw t % 16) in
-      ap (bit (bt t)) (bits_first (fw t) (fw_low k t is)) ∙ bit_full (least (ltb d 64) d) (bt t) (least_up (ltb d 64) (bt t) d low (omega (arith, n, l)))
+      let d = count_of k.tables (3 + fw t / 16) - 64 * (fw t % 16) in
+      let same : count_of k.tables (3 + fw t / 16) ≡ tables_in k (cls t) = ap (count_of k.tables) n.1 in
+      ap (bit (bt t)) (bits_first (fw t) (fw_low k t is)) ∙ bit_full (least (ltb d 64) d) (bt t) (least_up (ltb d 64) (bt t) d low (omega (arith, n0, l, same)))
 
-  pub ann_first : (p : ℕ) → p ≤ k.passes → slice_index (opening k) (at k (announced_of p)) ≡ 0
-  ann_first p low =
-      let a = long_anns in
-      let n : 2 + p ≡ suc (suc p) = omega arith in
-      ap (λ (z : ℕ). get_or (opening k) z 0) n ∙ (in_front Anns (Counts ++ (Frees ++ Rest)) p 0 (omega (arith, a)) ∙ get_or-replicate (k.passes + 1) p 0 0 (omega arith))
+  pub ann_first : (p : ℕ) → 0 < p → p ≤ 64 → slice_index (opening k) (at k (announced_of p)) ≡ 0
+  ann_first p up low = part_anns Anns (Counts ++ (Frees ++ Rest)) (p - 1) long_anns (omega arith) ∙ get_or-replicate {A = ℕ} 64 (p - 1) 0 0 (omega arith)
 
-  pub rest_first : (i : ℕ) → 3 + k.passes + 17 * k.classes ≤ i → i < extent k → slice_index (opening k) i ≡ 0
+  pub rest_first : (i : ℕ) → 304 ≤ i → i < extent k → slice_index (opening k) i ≡ 0
   rest_first i up low =
-      let ex = extent_is k in
-      let b = long_counts in
-      let c = long_frees in
-      let r = 4 * k.containers + first k.tables k.classes in
-      let j = i - (3 + k.passes + 17 * k.classes) in
-      past_anns (k.classes + (16 * k.classes + j)) i (omega arith)
-      ∙ (past_front Counts (Frees ++ Rest) (16 * k.classes + j) (k.classes + (16 * k.classes + j)) 0 (omega (arith, b))
-      ∙ (past_front Frees Rest j (16 * k.classes + j) 0 (omega (arith, c)) ∙ get_or-replicate r j 0 0 (omega (arith, ex))))
+      let n : i ≡ 304 + (i - 304) = omega arith in
+      ap (λ (z : ℕ). get_or (opening k) z 0) n ∙ (part_rest Anns Counts Frees Rest (i - 304) long_anns long_counts long_frees ∙ get_or-replicate {A = ℕ} (extent k - 304) (i - 304) 0 0 (omega arith))
 
-pub block_first : (k : Shape) (i : ℕ) → 3 + k.passes + 17 * k.classes ≤ i → i < far k → slice_index (opening k) i ≡ 0
-block_first k i up low = rest_first k i up (let e = extent_is k in omega arith)
+low_first : (k : Shape) (i : ℕ) → 304 ≤ i → i < 304 + 8 * containers_in k → slice_index (opening k) i ≡ 0
+low_first k i up low = rest_first k i up (let e = far_up k in let f = far_low k in omega (arith, e, f))
+
+pub lock_first : (k : Shape) (o : ℕ) → o < containers_in k → slice_index (opening k) (at k (lock_of o)) ≡ 0
+lock_first k o low = low_first k (at k (lock_of o)) (omega arith) (omega arith)
+
+pub version_first : (k : Shape) (o : ℕ) → o < containers_in k → slice_index (opening k) (at k (version_of o)) ≡ 0
+version_first k o low = low_first k (at k (version_of o)) (omega arith) (omega arith)
+
+pub block_first : (k : Shape) (o i : ℕ) → o < containers_in k → i < 6 → slice_index (opening k) (at k (block o i)) ≡ 0
+block_first k o i low small = low_first k (at k (block o i)) (omega arith) (omega arith)
 
 pub cell_first : (k : Shape) (t i : ℕ) → IsTable k t → i < size (cls t) → slice_index (opening k) (at k (cell t i)) ≡ 0
-cell_first k t i table small = rest_first k (at k (cell t i)) (let l = start_low k t in omega arith) (at_low k (cell t i) (table, small))
+cell_first k t i table small = rest_first k (at k (cell t i)) (let l = start_low k t in omega (arith, l)) (at_low k (cell t i) (table, small))

@@ -14,7 +14,7 @@ use Rattle.ft_trace.specs.Entries.{total}
 use Rattle.ft_trace.specs.Traces.{Event, did, forked, joined, run, word, history, May, Valid}
 use Rattle.ft_trace.proofs.Sizes.{set_views, one_more, one_view}
 use Rattle.ft_trace.proofs.Cases.{here, miss}
-use Rattle.ft_trace.proofs.Words.{stays, moves, kept}
+use Rattle.ft_trace.proofs.Words.{stays, moves, loaded}
 use Rattle.ft_trace.proofs.Versions.{one_up}
 use Rattle.atomic_table.proofs.Lists.{set_else}
 use Rattle.ft_trace.proofs.Totals.{total_set, total_forked}
@@ -59,8 +59,8 @@ spends k es id v some_one (PutRoot o r old) may =
     let g = stays k es id v (PutRoot o r old) may write_number tt (λ e. absurd (cc)) in
     let b = by_root (used v.log) old (debt v.log) v.parts v.left some_one may.5 in
     omega (arith, g, b)
-spends k es id v some_one (Commit c r f) may =
-    let g = stays k es id v (Commit c r f) may write_number tt (λ e. absurd (cc)) in
+spends k es id v some_one (Commit c r f s) may =
+    let g = stays k es id v (Commit c r f s) may write_number tt (λ e. absurd (cc)) in
     let room = may.3 in
     let low = once_low (used v.log) in
     omega (arith, g, room, low, some_one)
@@ -68,7 +68,7 @@ spends k es id v some_one (Retire t f) may =
     let g : word k (did id v (Retire t f) ∷ es) write_number ≡ word k es write_number + 1 = moves k es id v (Retire t f) may ∙ one_up (word k es write_number) may.2 in
     let owed = may.3 in
     omega (arith, g, owed)
-spends k es id v some_one (WriteNumber f) may = let g = kept k es id v (WriteNumber f) (λ n. refl) write_number in omega (arith, g)
+spends k es id v some_one (WriteNumber f) may = let g = loaded k es id v (WriteNumber f) (λ n. refl) write_number in omega (arith, g)
 spends k es id v some_one act may = let g = stays k es id v act may write_number tt (λ e. absurd (cc)) in omega (arith, g)
 
 pub budgets : (k : Shape) (es : List Event) → 0 < k.passes → Valid k es → word k es write_number + total budget (run k es).views ≤ 1 + k.passes * k.calls + k.passes

@@ -2,7 +2,7 @@
 use Rattle.std.proofs.Common.{◌≡◌, ◌≢◌, ℕ, eqb, eq-eqb, ne_eqb, Bool, true, false, true≢false, cond, List, refl, sym, ap, subst, arith}
 use mathlib.Core.Logic.{dite}
 use native.Mathlib.Decide.{ℕ_discrete}
-use Rattle.ft_trace.specs.declared.Call.{Call}
+use Rattle.ft_model.specs.declared.call.Call.{Call}
 use Rattle.ft_trace.specs.declared.Act.{Act}
 use Rattle.ft_trace.specs.declared.Act.TheVariants.{Lock, Unlock, StartWrite, PutBlock, PutRoot, PutTable, PutFresh, PutHeader, StopWrite, Version, ReadBlock, ReadRoot, ReadTable, LowerCount, RaiseCount, ReadCount, ReadFree, TakeTable, GiveTable, Announce, ReadAnnounced}
 use Rattle.ft_trace.specs.declared.Shape.{Shape}
@@ -52,6 +52,6 @@ inside k m cs v (ReadCount c f) may = may
 inside k m cs v (ReadFree w f) may = may
 inside k m cs v (TakeTable t f s) may = fw_low k t may.0
 inside k m cs v (GiveTable t) may = fw_low k t may.0
-inside k m cs v (Announce p x) may = may.1
-inside k m cs v (ReadAnnounced p f) may = may
+inside k m cs v (Announce p x) may = (may.3, may.4)
+inside k m cs v (ReadAnnounced p f) may = (may.1, may.2)
 inside k m cs v act may = tt

@@ -8,71 +8,69 @@ use Rattle.ft_trace.specs.declared.Shape.{Shape}
 use Rattle.ft_trace.specs.declared.View.{View}
 use Rattle.ft_trace.specs.declared.Act.{Act}
 use Rattle.ft_trace.specs.declared.Act.TheVariants.{Commit, Answer}
-use Rattle.ft_trace.specs.declared.Call.{Call}
+use Rattle.ft_model.specs.declared.call.Call.{Call}
 use Rattle.ft_trace.specs.declared.Entry.{Entry}
 use Rattle.ft_trace.specs.Acts.{place, Reports, starter, noted, entries_next, maker, made, both, spent}
-use Rattle.ft_trace.specs.Worlds.{World, container, reply_of, writes_of_call, reply, is_write, world_at}
+use Rattle.ft_model.specs.declared.script.Kind.{Kind}
+use Rattle.ft_model.specs.Tables.{stored_newest}
+use Rattle.ft_trace.specs.Worlds.{first_writes, reply_in}
 use Rattle.ft_trace.specs.Traces.{Event, did, forked, joined, run, word, writes_of, history, May, Valid}
-use Rattle.ft_trace.specs.Entries.{total, entries_of, IsNumber, Right, AllRight, is_number, Legal}
+use Rattle.ft_trace.specs.Entries.{total, entries_of, IsNumber, Right, AllRight, is_number, Numbered}
 use Rattle.ft_trace.proofs.Sizes.{set_views, one_more, one_view}
-use Rattle.ft_trace.proofs.Stamps.{world_stays, grows_by}
+use Rattle.ft_trace.proofs.Stamps.{all_writes, writes_stay, grows_by}
 use Rattle.ft_trace.proofs.Contents.{count, counted}
 use Rattle.ft_trace.proofs.Totals.{weight, parts_total, entries_total, total_two, total_alone}
 
-reply_same : (c : Call) (w z : World) → ((o : ℕ) → w o ≡ z o) → reply c w ≡ reply c z
-reply_same c w z same = ap (reply_of c) (same (container c))
-
-write_same : (c : Call) (w z : World) → ((o : ℕ) → w o ≡ z o) → is_write c w ≡ is_write c z
-write_same c w z same = ap (writes_of_call c) (same (container c))
-
 number_stays : (b : Act) (cs : List Call) (n : ℕ) (c : Call) → IsNumber cs n c → IsNumber (writes_of b cs) n c
-number_stays (Commit d r f) cs n c is = inr is
+number_stays (Commit d r f s) cs n c is = inr is
 number_stays act cs n c is = is
 
-right_stays : (b : Act) (cs : List Call) (e : Entry) → Right cs e → Right (writes_of b cs) e
-right_stays b cs e r = record {
+right_stays : (kinds : List Kind) (b : Act) (cs : List Call) (e : Entry) → Right kinds cs e → Right kinds (writes_of b cs) e
+right_stays kinds b cs e r = record {
+  wrote = r.wrote;
   write = λ w. number_stays b cs e.stamp e.call (r.write w);
-  read = λ w.
-      let q = r.read w in
-      let same : (o : ℕ) → world_at e.stamp (writes_of b cs) o ≡ world_at e.stamp cs o = λ o. world_stays e.stamp b cs o q.1 in
-      (write_same e.call (world_at e.stamp (writes_of b cs)) (world_at e.stamp cs) same ∙ q.0, le_trans q.1 (grows_by b cs), reply_same e.call (world_at e.stamp (writes_of b cs)) (world_at e.stamp cs) same ∙ q.2);
+  low = le_trans r.low (grows_by b cs);
+  reply = ap (λ (l : List Call). reply_in (stored_newest kinds l) e.call) (writes_stay e.stamp b cs r.low) ∙ r.reply;
 }
 
-all_stay : (b : Act) (cs : List Call) (es : List Entry) → AllRight cs es → AllRight (writes_of b cs) es
-all_stay b cs [] all = tt
-all_stay b cs (e ∷ es) all = (right_stays b cs e all.0, all_stay b cs es all.1)
+all_stay : (kinds : List Kind) (b : Act) (cs : List Call) (es : List Entry) → AllRight kinds cs es → AllRight kinds (writes_of b cs) es
+all_stay kinds b cs [] all = tt
+all_stay kinds b cs (e ∷ es) all = (right_stays kinds b cs e all.0, all_stay kinds b cs es all.1)
 
-all-append : (cs : List Call) (xs ys : List Entry) → AllRight cs xs → AllRight cs ys → AllRight cs (xs ++ ys)
-all-append cs [] ys a b = b
-all-append cs (x ∷ xs) ys a b = (a.0, all-append cs xs ys a.1 b)
+all-append : (kinds : List Kind) (cs : List Call) (xs ys : List Entry) → AllRight kinds cs xs → AllRight kinds cs ys → AllRight kinds cs (xs ++ ys)
+all-append kinds cs [] ys a b = b
+all-append kinds cs (x ∷ xs) ys a b = (a.0, all-append kinds cs xs ys a.1 b)
 
-right_next : (k : Shape) (es : List Event) → count k es ≡ length (history es) → (v : View) (b : Act) → Reports b (word k es (place b)) → May k (run k es) (history es) v b → (fs : List Entry) → AllRight (writes_of b (history es)) fs → AllRight (writes_of b (history es)) (entries_next b fs)
-right_next k es count v (Commit c r f) found may fs all = (record { write = λ _. inl (found ∙ count, refl); read = λ no. absurd (true≢false no) }, all)
-right_next k es count v (Answer c x n) found may fs all = (record { write = λ no. absurd (true≢false (sym no)); read = λ _. (may.0, (let low = may.1 in omega arith), may.2) }, all)
+right_next : (k : Shape) (es : List Event) → count k es ≡ length (history es) → (v : View) (b : Act) → Reports b (word k es (place b)) → May k (run k es) (history es) v b → (fs : List Entry) → AllRight k.kinds (writes_of b (history es)) fs → AllRight k.kinds (writes_of b (history es)) (entries_next b fs)
+right_next k es count v (Commit c r f s) found may fs all =
+    let is : f ≡ length (history es) = found ∙ count in
+    let all_of : first_writes f (c ∷ history es) ≡ history es = writes_stay f (Commit c r f s) (history es) (omega (arith, is)) ∙ (ap (λ (z : ℕ). first_writes z (history es)) is ∙ all_writes (history es)) in
+    (record { wrote = sym may.0; write = λ _. inl (is, refl); low = omega (arith, is); reply = ap (λ (l : List Call). reply_in (stored_newest k.kinds l) c) all_of ∙ may.4 }, all)
+right_next k es count v (Answer c x n) found may fs all = (record { wrote = sym may.0; write = λ no. absurd (true≢false (sym no)); low = (let low = may.1 in omega arith); reply = may.2 }, all)
 right_next k es count v act found may fs all = all
 
 -- each entry of each pass is right
-pub all_right : (k : Shape) (es : List Event) → Valid k es → (j : ℕ) (u : View) → get_elem? (run k es).views j ≡ some u → AllRight (history es) u.entries
-all_right k [] valid = one_view (λ j u. AllRight [] u.entries) (starter k) tt
+pub all_right : (k : Shape) (es : List Event) → Valid k es → (j : ℕ) (u : View) → get_elem? (run k es).views j ≡ some u → AllRight k.kinds (history es) u.entries
+all_right k [] valid = one_view (λ j u. AllRight k.kinds [] u.entries) (starter k) tt
 all_right k (did id v a ∷ es) valid =
     let old = all_right k es valid.0 in
-    let P : ℕ → View → Type 0 = λ j u. AllRight (writes_of a (history es)) u.entries in
-    set_views P _ id (noted a v) (right_next k es (counted k es valid.0) v a valid.1.2 valid.1.3 v.entries (all_stay a (history es) v.entries (old id v valid.1.0))) (λ j u _ e. all_stay a (history es) u.entries (old j u e))
+    let P : ℕ → View → Type 0 = λ j u. AllRight k.kinds (writes_of a (history es)) u.entries in
+    set_views P _ id (noted a v) (right_next k es (counted k es valid.0) v a valid.1.2 valid.1.3 v.entries (all_stay k.kinds a (history es) v.entries (old id v valid.1.0))) (λ j u _ e. all_stay k.kinds a (history es) u.entries (old j u e))
 all_right k (forked id v ∷ es) valid =
     let old = all_right k es valid.0 in
-    let P : ℕ → View → Type 0 = λ j u. AllRight (history es) u.entries in
+    let P : ℕ → View → Type 0 = λ j u. AllRight k.kinds (history es) u.entries in
     one_more P _ (made v) tt (set_views P _ id (maker v) (old id v valid.1.0) (λ j u _ e. old j u e))
 all_right k (joined id v other w ∷ es) valid =
     let old = all_right k es valid.0 in
-    let P : ℕ → View → Type 0 = λ j u. AllRight (history es) u.entries in
-    set_views P _ other spent tt (λ j u _. set_views P _ id (both v w) (all-append (history es) w.entries v.entries (old other w valid.1.2) (old id v valid.1.0)) (λ j u _ e. old j u e) j u)
+    let P : ℕ → View → Type 0 = λ j u. AllRight k.kinds (history es) u.entries in
+    set_views P _ other spent tt (λ j u _. set_views P _ id (both v w) (all-append k.kinds (history es) w.entries v.entries (old other w valid.1.2) (old id v valid.1.0)) (λ j u _ e. old j u e) j u)
 
 below_next : (m n : ℕ) → cond (eqb m n) 1 0 + cond (ltb n m) 1 0 ≡ cond (ltb n (suc m)) 1 0
 below_next m n = grind (arith, nat_tests)
 
 once_by : (k : Shape) (es : List Event) → count k es ≡ length (history es) → (b : Act) → Reports b (word k es (place b)) → (n : ℕ)
     → total (is_number n) (entries_of es) ≡ cond (ltb n (length (history es))) 1 0 → total (is_number n) (entries_next b (entries_of es)) ≡ cond (ltb n (length (writes_of b (history es)))) 1 0
-once_by k es count (Commit c r f) found n old =
+once_by k es count (Commit c r f s) found n old =
     let is : f ≡ length (history es) = found ∙ count in
     let pick : Bool → ℕ = λ b. cond b 1 0 in
     let next : pick (eqb (length (history es)) n) + pick (ltb n (length (history es))) ≡ pick (ltb n (suc (length (history es)))) = below_next (length (history es)) n in
@@ -114,7 +112,7 @@ zero_or zero never = refl
 zero_or (suc n) never = absurd (never (λ e. omega arith))
 
 -- who stands for all passes has the whole history
-pub closes : (k : Shape) (es : List Event) → Valid k es → 0 < k.passes → (id : ℕ) (v : View) → get_elem? (run k es).views id ≡ some v → v.parts ≡ k.passes → Legal (history es) v.entries
+pub closes : (k : Shape) (es : List Event) → Valid k es → 0 < k.passes → (id : ℕ) (v : View) → get_elem? (run k es).views id ≡ some v → v.parts ≡ k.passes → Numbered k.kinds (history es) v.entries
 closes k es valid some_pass id v at all = record {
   right = all_right k es valid id v at;
   once = λ n.

@@ -1,24 +1,30 @@
 -- The counter is the number of writes, and while a version is even the words stand for the history.
-use Rattle.std.proofs.Common.{◌≡◌, ◌≢◌, ℕ, suc, ◌%◌, ◌<◌, true, List, [], ◌∷◌, ◌++◌, length, refl, sym, ap, ◌∙◌, subst, arith}
+use Prim.Native.Nat.{zero}
+use Rattle.std.proofs.Common.{◌≡◌, ℕ, suc, ◌%◌, ◌<◌, true, List, [], ◌∷◌, ◌++◌, length, refl, sym, ap, ◌∙◌, subst, arith}
 use mathlib.Core.Option.{some}
 use mathlib.Core.Logic.{dite}
 use native.Mathlib.Decide.{ℕ_discrete}
 use lib.ListN.{get_elem?}
-use Rattle.ft_trace.specs.declared.Call.{Call}
 use Rattle.ft_trace.specs.declared.Shape.{Shape}
 use Rattle.ft_trace.specs.declared.View.{View}
 use Rattle.ft_trace.specs.declared.Act.{Act}
 use Rattle.ft_trace.specs.declared.Act.TheVariants.{StartWrite, PutBlock, PutRoot, PutTable, PutFresh, Commit, StopWrite, ReadBlock, ReadRoot, ReadTable, ReadCounter, Answer}
-use Rattle.ft_trace.specs.Addrs.{Addr, counter, block, cell, Inside}
+use Rattle.ft_trace.specs.Addrs.{Addr, counter, block, cell, Inside, containers_in}
 use Rattle.ft_trace.specs.Acts.{writes, noted}
-use Rattle.ft_trace.specs.Worlds.{Content, World, after, container, changed, world}
-use Rattle.ft_trace.specs.Words.{table_of, inner, Picture, picture, StandsIn, Stands}
+use Rattle.ft_model.specs.declared.script.Kind.{Kind}
+use Rattle.ft_model.specs.declared.script.Kind.TheVariants as kind
+use Rattle.ft_model.specs.Worlds.{empty_content}
+use Rattle.ft_model.specs.Tables.{no_table}
+use Rattle.std.specs.Prelude.{replicate, map, slice_index_or}
+use Rattle.ft_trace.specs.Worlds.{Kept, kept, kind_in}
+use Rattle.ft_trace.proofs.Untouched.{untouched}
+use Rattle.ft_trace.specs.Words.{table_of, inner, Picture, picture, Stands}
 use Rattle.ft_trace.specs.Traces.{Event, did, forked, joined, run, word, writes_of, history, StandsFor, May, Valid}
 use Rattle.ft_trace.proofs.Sizes.{set_at}
-use Rattle.ft_trace.proofs.Cases.{hit, miss, off}
+use Rattle.ft_trace.proofs.Cases.{hit, off}
 use Rattle.ft_trace.proofs.Addrs.{block_first}
-use Rattle.ft_trace.proofs.Words.{stays, moves, kept}
-use Rattle.ft_trace.proofs.Pieces.{table_same, picture_same}
+use Rattle.ft_trace.proofs.Words.{stays, moves, loaded}
+use Rattle.ft_trace.proofs.Pieces.{block_zero, table_same, picture_same}
 use Rattle.ft_trace.proofs.Versions.{one_up, version, versioned, on_seq, writing_is_odd, rises, rises_one}
 use Rattle.ft_trace.proofs.Places.{root, root_table, placed}
 
@@ -29,9 +35,9 @@ abbrev pub tab : Shape → List Event → ℕ → List ℕ
 tab k es t = table_of k t (run k es).words
 
 counts : (k : Shape) (es : List Event) (id : ℕ) (v : View) → count k es ≡ length (history es) → (b : Act) → May k (run k es) (history es) v b → count k (did id v b ∷ es) ≡ length (writes_of b (history es))
-counts k es id v old (Commit c r f) may = moves k es id v (Commit c r f) may ∙ (one_up (count k es) may.2 ∙ omega (arith, old))
-counts k es id v old (ReadCounter f) may = kept k es id v (ReadCounter f) (λ n. refl) counter ∙ old
-counts k es id v old (Answer c x n) may = kept k es id v (Answer c x n) (λ n. refl) counter ∙ old
+counts k es id v old (Commit c r f s) may = moves k es id v (Commit c r f s) may ∙ (one_up (count k es) may.2 ∙ omega (arith, old))
+counts k es id v old (ReadCounter f) may = loaded k es id v (ReadCounter f) (λ n. refl) counter ∙ old
+counts k es id v old (Answer c x n) may = loaded k es id v (Answer c x n) (λ n. refl) counter ∙ old
 counts k es id v old act may = stays k es id v act may counter tt (λ e. absurd (cc)) ∙ old
 
 pub counted : (k : Shape) (es : List Event) → Valid k es → count k es ≡ length (history es)
@@ -40,9 +46,6 @@ counted k (did id v a ∷ es) valid = counts k es id v (counted k es valid.0) a 
 counted k (forked id v ∷ es) valid = counted k es valid.0
 counted k (joined id v other w ∷ es) valid = counted k es valid.0
 
-pub untouched : (c : Call) (w : World) (o : ℕ) → container c ≢ o → after c w o ≡ w o
-untouched c w o ne = miss (container c) o (changed c (w o)) (w o) ne
-
 -- a word of the container's block, or of the table that its root names
 abbrev pub Of : Shape → List Event → ℕ → Addr → Type 0
 Of k es o (block p i) = p ≡ o
@@ -50,7 +53,7 @@ Of k es o (cell t i) = root k es o ≡ suc t
 Of k es o x = ⊥
 
 -- only who writes o changes a word of o
-pub alters : (k : Shape) (es : List Event) → Valid k es → (id : ℕ) (v : View) → get_elem? (run k es).views id ≡ some v → (o : ℕ) → o < k.containers → (writes o v.log ≡ true → ⊥) → (x : Addr) → Inside k x → Of k es o x → (a : Act) → May k (run k es) (history es) v a → word k (did id v a ∷ es) x ≡ word k es x
+pub alters : (k : Shape) (es : List Event) → Valid k es → (id : ℕ) (v : View) → get_elem? (run k es).views id ≡ some v → (o : ℕ) → o < containers_in k → (writes o v.log ≡ true → ⊥) → (x : Addr) → Inside k x → Of k es o x → (a : Act) → May k (run k es) (history es) v a → word k (did id v a ∷ es) x ≡ word k es x
 alters k es valid id v at o low never x in_it of (PutBlock p i y) may = stays k es id v (PutBlock p i y) may x in_it (λ e. never (subst (λ (z : ℕ). writes z v.log ≡ true) (subst (Of k es o) (sym e) of) may.2))
 alters k es valid id v at o low never x in_it of (PutRoot p r old) may = stays k es id v (PutRoot p r old) may x in_it (λ e. never (subst (λ (z : ℕ). writes z v.log ≡ true) (subst (Of k es o) (sym e) of) may.1))
 alters k es valid id v at o low never x in_it of (PutTable p t i y) may =
@@ -69,40 +72,40 @@ alters k es valid id v at o low never x in_it of (PutFresh t i y) may =
     let a = (its.hands id v at (λ z. absurd (omega (arith, z, one)))).0 in
     let b = (its.roots o low mine).0 in
     absurd (omega (arith, a, b, one)))
-alters k es valid id v at o low never x in_it of (ReadBlock p i f) may = kept k es id v (ReadBlock p i f) (λ n. refl) x
-alters k es valid id v at o low never x in_it of (ReadRoot p f) may = kept k es id v (ReadRoot p f) (λ n. refl) x
-alters k es valid id v at o low never x in_it of (ReadTable t i f) may = kept k es id v (ReadTable t i f) (λ n. refl) x
+alters k es valid id v at o low never x in_it of (ReadBlock p i f) may = loaded k es id v (ReadBlock p i f) (λ n. refl) x
+alters k es valid id v at o low never x in_it of (ReadRoot p f) may = loaded k es id v (ReadRoot p f) (λ n. refl) x
+alters k es valid id v at o low never x in_it of (ReadTable t i f) may = loaded k es id v (ReadTable t i f) (λ n. refl) x
 alters k es valid id v at o low never x in_it of act may = stays k es id v act may x in_it (λ e. subst (Of k es o) (sym e) of)
 
 -- nothing that an even version stands for changes
 pub record Still (k : Shape) (es now : List Event) (o : ℕ) : Type 0 where
   pub picture : picture k o (run k now).words ≡ picture k o (run k es).words
-  pub content : world (history now) o ≡ world (history es) o
+  pub content : kept k.kinds (history now) o ≡ kept k.kinds (history es) o
 
-pub still_of : (k : Shape) (es now : List Event) → Valid k es → (o : ℕ) → o < k.containers → ((x : Addr) → Inside k x → Of k es o x → word k now x ≡ word k es x) → world (history now) o ≡ world (history es) o → Still k es now o
+pub still_of : (k : Shape) (es now : List Event) → Valid k es → (o : ℕ) → o < containers_in k → ((x : Addr) → Inside k x → Of k es o x → word k now x ≡ word k es x) → kept k.kinds (history now) o ≡ kept k.kinds (history es) o → Still k es now o
 still_of k es now valid o low words content = record {
   picture =
-      (picture_same k o (run k now).words (run k es).words (words (block o 0) (low, omega arith) refl) (words (block o 1) (low, omega arith) refl)
+      (picture_same k o (run k now).words (run k es).words (λ i small. words (block o i) (low, small) refl)
       (λ t r. table_same k t (run k now).words (run k es).words (λ i small. words (cell t i) (root_table k es valid o low t r, small) r)));
   content = content;
 }
 
-pub content_by : (k : Shape) (es : List Event) (v : View) (o : ℕ) → (writes o v.log ≡ true → ⊥) → (a : Act) → May k (run k es) (history es) v a → world (writes_of a (history es)) o ≡ world (history es) o
-content_by k es v o never (Commit c r f) may = untouched c (world (history es)) o (λ e. never (subst (λ (z : ℕ). writes z v.log ≡ true) e may.1))
+pub content_by : (k : Shape) (es : List Event) (v : View) (o : ℕ) → (writes o v.log ≡ true → ⊥) → (a : Act) → May k (run k es) (history es) v a → kept k.kinds (writes_of a (history es)) o ≡ kept k.kinds (history es) o
+content_by k es v o never (Commit c r f s) may = untouched k.kinds c (history es) o (λ e. never (subst (λ (z : ℕ). writes z v.log ≡ true) e may.1))
 content_by k es v o never act may = refl
 
 -- an action of a pass that does not write o
-pub unwritten : (k : Shape) (es : List Event) (id : ℕ) (v : View) (a : Act) → Valid k (did id v a ∷ es) → (o : ℕ) → o < k.containers → (writes o v.log ≡ true → ⊥) → Still k es (did id v a ∷ es) o
+pub unwritten : (k : Shape) (es : List Event) (id : ℕ) (v : View) (a : Act) → Valid k (did id v a ∷ es) → (o : ℕ) → o < containers_in k → (writes o v.log ≡ true → ⊥) → Still k es (did id v a ∷ es) o
 unwritten k es id v a valid o low never =
     still_of k es (did id v a ∷ es) valid.0 o low (λ x in_it of. alters k es valid.0 id v valid.1.0 o low never x in_it of a valid.1.3) (content_by k es v o never a valid.1.3)
 
-pub still : (k : Shape) (es : List Event) (e : Event) → Valid k (e ∷ es) → (o : ℕ) → o < k.containers → version k es o % 2 ≡ 0 → Still k es (e ∷ es) o
+pub still : (k : Shape) (es : List Event) (e : Event) → Valid k (e ∷ es) → (o : ℕ) → o < containers_in k → version k es o % 2 ≡ 0 → Still k es (e ∷ es) o
 still k es (did id v a) valid o low even = unwritten k es id v a valid o low (λ w. writing_is_odd k es valid.0 o low id v valid.1.0 w even)
 still k es (forked id v) valid o low even = record { picture = refl; content = refl }
 still k es (joined id v other w) valid o low even = record { picture = refl; content = refl }
 
 -- while an even version stays, nothing changes that it stands for
-pub quiet : (k : Shape) (newer older : List Event) → Valid k (newer ++ older) → (o : ℕ) → o < k.containers → version k older o % 2 ≡ 0 → version k (newer ++ older) o ≡ version k older o → Still k older (newer ++ older) o
+pub quiet : (k : Shape) (newer older : List Event) → Valid k (newer ++ older) → (o : ℕ) → o < containers_in k → version k older o % 2 ≡ 0 → version k (newer ++ older) o ≡ version k older o → Still k older (newer ++ older) o
 quiet k [] older valid o low even same = record { picture = refl; content = refl }
 quiet k (e ∷ newer) older valid o low even same =
     let a = rises k newer older valid.0 o low in
@@ -112,28 +115,35 @@ quiet k (e ∷ newer) older valid o low even same =
     let one = still k (newer ++ older) e valid o low (ap (λ (n : ℕ). n % 2) here ∙ even) in
     record { picture = one.picture ∙ old.picture; content = one.content ∙ old.content }
 
--- where there is no table the content is empty
-pub empty_stands : StandsIn 0 0 0 [] (λ q. 0)
-empty_stands = record {
-  full = omega arith;
-  index = λ s low. absurd (omega arith);
-  unused = λ p low _. absurd (omega arith);
-  walks = λ p low used. absurd (omega arith);
-  distinct = λ p q low high live. absurd (omega arith);
-  sound = λ p low live. absurd (omega arith);
-  complete = λ key some_one. absurd (some_one refl);
-}
+-- where all words are 0 the content is empty
+pub empty_stands : (texts : List ℕ) (kind : Kind) → Stands texts (record { block = replicate 6 0; table = [] }) (record { content = empty_content kind; table = no_table })
+empty_stands texts kind.Dict = record { head = record { size = refl; root = refl; count_is = refl; fill_is = refl; next_is = refl; spare = (refl, refl) }; used = []; table = refl; filled = refl; entries = record { live = refl; below = λ i _ none. absurd (omega arith) } }
+empty_stands texts kind.Set = record { head = record { size = refl; root = refl; count_is = refl; fill_is = refl; next_is = refl; spare = (refl, refl) }; used = []; table = refl; filled = refl; entries = record { live = refl; below = λ i _ none. absurd (omega arith) } }
+empty_stands texts kind.List = (record { head = record { size = refl; root = refl; count_is = refl; fill_is = refl; next_is = refl; spare = (refl, refl) }; table = refl }, refl)
+
+mapped : {A B : Type 0} (f : A → B) (l : List A) (i : ℕ) (d : A) → slice_index_or (map f l) i (f d) ≡ f (slice_index_or l i d)
+mapped f [] i d = refl
+mapped f (x ∷ xs) zero d = refl
+mapped f (x ∷ xs) (suc i) d = mapped f xs i d
+
+pub opened_kept : (kinds : List Kind) (o : ℕ) → kept kinds [] o ≡ record { content = empty_content (kind_in kinds o); table = no_table }
+opened_kept kinds o =
+    let c = mapped empty_content kinds o kind.List in
+    let t = mapped (λ (z : Kind). no_table) kinds o kind.List in
+    λ d. record { content = c d; table = t d }
 
 pub stands_for : (k : Shape) (es now : List Event) (o : ℕ) → Still k es now o → StandsFor k (run k es) (history es) o → StandsFor k (run k now) (history now) o
-stands_for k es now o same old = subst (λ (z : Picture × Content). Stands z.0 z.1) (λ i. (sym same.picture i, sym same.content i)) old
+stands_for k es now o same old = subst (λ (z : Picture × Kept). Stands k.texts z.0 z.1) (λ i. (sym same.picture i, sym same.content i)) old
 
 -- the words of o stand for what the history makes of it
-pub stands : (k : Shape) (es : List Event) → Valid k es → (o : ℕ) → o < k.containers → version k es o % 2 ≡ 0 → StandsFor k (run k es) (history es) o
+pub stands : (k : Shape) (es : List Event) → Valid k es → (o : ℕ) → o < containers_in k → version k es o % 2 ≡ 0 → StandsFor k (run k es) (history es) o
 stands k [] valid o low even =
-    let r : word k [] (block o 0) ≡ 0 = block_first k _ (omega arith) (omega arith) in
-    let f : word k [] (block o 1) ≡ 0 = block_first k _ (omega arith) (omega arith) in
-    let p : picture k o (run k []).words ≡ record { root = 0; fill = 0; table = [] } = λ d. record { root = r d; fill = f d; table = inner k (r d) (run k []).words } in
-    subst (λ (z : Picture). Stands z (λ q. 0)) (sym p) empty_stands
+    let zeros : (i : ℕ) → i < 6 → word k [] (block o i) ≡ 0 = λ i small. block_first k o i low small in
+    let r = zeros 0 (omega arith) in
+    let b = block_zero k o (run k []).words zeros in
+    let none : Picture = record { block = replicate 6 0; table = [] } in
+    let p : picture k o (run k []).words ≡ none = λ d. record { block = b d; table = inner k (r d) (run k []).words } in
+    subst (λ (z : Picture × Kept). Stands k.texts z.0 z.1) (λ i. (sym p i, sym (opened_kept k.kinds o) i)) (empty_stands k.texts (kind_in k.kinds o))
 stands k (did id v a ∷ es) valid o low even =
     dite (ℕ_discrete (version k es o % 2) 0)
     (λ (was : version k es o % 2 ≡ 0). stands_for k es (did id v a ∷ es) o (still k es (did id v a) valid o low was) (stands k es valid.0 o low was))

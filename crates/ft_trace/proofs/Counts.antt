@@ -1,5 +1,5 @@
 -- The count word of a class: its set bits, less the takings and givings in flight.
-use Rattle.std.proofs.Common.{◌≡◌, ◌≢◌, ◌⊎◌, ℕ, zero, suc, eqb, ◌+◌, ◌-◌, ◌*◌, ◌<◌, ◌≤◌, cond, List, [], ◌∷◌, refl, sym, ap, ◌∙◌, inl, inr, ⊎_elim, arith}
+use Rattle.std.proofs.Common.{◌≡◌, ◌≢◌, ◌⊎◌, ℕ, zero, suc, eqb, ◌+◌, ◌-◌, ◌*◌, ◌<◌, ◌≤◌, cond, List, [], ◌∷◌, refl, sym, ap, ◌∙◌, subst, inl, inr, ⊎_elim, arith}
 use mathlib.Core.Option.{some, some-ne-none, some-injective}
 use mathlib.Core.Logic.{dite}
 use native.Mathlib.Decide.{ℕ_discrete}
@@ -10,15 +10,17 @@ use Rattle.ft_trace.specs.declared.View.{View}
 use Rattle.ft_trace.specs.declared.Act.{Act}
 use Rattle.ft_trace.specs.declared.Act.TheVariants.{LowerCount, RaiseCount, ReadCount, ReadFree, TakeTable, GiveTable}
 use Rattle.ft_trace.specs.Bits.{bit}
-use Rattle.ft_trace.specs.Addrs.{count_of, bits, cls, num, fw, bt, IsTable}
+use Rattle.ft_trace.specs.Addrs.{tables_in, count_of_class, bits, cls, num, fw, bt, IsTable}
 use Rattle.ft_trace.specs.Acts.{place, stage, flight, flight_next, noted, maker, made, both, spent}
 use Rattle.ft_trace.specs.Entries.{total}
 use Rattle.ft_trace.specs.Counts.{sum_to, bit_of, set_bits, taking, giving}
 use Rattle.ft_trace.specs.Traces.{Event, did, forked, joined, run, word, history, May, Valid}
+use Rattle.ft_model.specs.Classes.{IsClass}
+use Rattle.ft_trace.proofs.Announcing.{fits}
 use Rattle.ft_trace.proofs.Cases.{miss, here, same_or}
 use Rattle.ft_trace.proofs.Addrs.{bt_low, cls_of, num_of, table_is, bit_first, count_first}
 use Rattle.ft_trace.proofs.Bits.{off_same, on_same, off_else, on_else, bit_small}
-use Rattle.ft_trace.proofs.Words.{stays, moves, kept}
+use Rattle.ft_trace.proofs.Words.{stays, moves, loaded}
 use Rattle.ft_trace.proofs.Versions.{one_up}
 use Rattle.ft_trace.proofs.Places.{placed, other_bit, bit_stays}
 use Rattle.ft_trace.proofs.Totals.{total_set, total_forked, total_joined}
@@ -78,10 +80,14 @@ abbrev pub busy_in : ℕ → View → ℕ
 busy_in c u = busy c (flight u.log)
 
 -- a table of the class
-pub of_class : (k : Shape) (c i : ℕ) → k.tables ≤ 1024 → c < k.classes → i < k.tables → IsTable k (1024 * c + i)
-of_class k c i small low less = let a = cls_of c i (omega arith) in let b = num_of c i (omega arith) in (omega (arith, a, low), omega (arith, b, less))
+pub of_class : (k : Shape) (c i : ℕ) → tables_in k c ≤ 1024 → IsClass c → i < tables_in k c → IsTable k (65536 * c + i)
+of_class k c i small low less =
+    let a = cls_of c i (omega arith) in
+    let b = num_of c i (omega arith) in
+    let room : i < tables_in k (cls (65536 * c + i)) = subst (λ (z : ℕ). i < tables_in k z) (sym a) less in
+    (subst IsClass (sym a) low, omega (arith, b, room), omega (arith, b, less, small))
 
-module _ (k : Shape) (es : List Event) (id : ℕ) (v : View) (c : ℕ) (small : k.tables ≤ 1024) (low : c < k.classes) where
+module _ (k : Shape) (es : List Event) (id : ℕ) (v : View) (c : ℕ) (small : tables_in k c ≤ 1024) (low : IsClass c) where
   abbrev S : ℕ
   S = set_bits k es c
 
@@ -89,10 +95,10 @@ module _ (k : Shape) (es : List Event) (id : ℕ) (v : View) (c : ℕ) (small : 
   S' a = set_bits k (did id v a ∷ es) c
 
   abbrev C : ℕ
-  C = word k es (count_of c)
+  C = word k es (count_of_class c)
 
   abbrev C' : Act → ℕ
-  C' a = word k (did id v a ∷ es) (count_of c)
+  C' a = word k (did id v a ∷ es) (count_of_class c)
 
   abbrev B : ℕ
   B = busy c (flight v.log)
@@ -109,34 +115,34 @@ module _ (k : Shape) (es : List Event) (id : ℕ) (v : View) (c : ℕ) (small : 
 
   -- on no free word
   no_bit : (a : Act) → May k (run k es) (history es) v a → ((w : ℕ) → place a ≢ bits w) → S' a ≡ S
-  no_bit a may apart = sum_same (λ i. bit_of k (did id v a ∷ es) (1024 * c + i)) (λ i. bit_of k es (1024 * c + i)) k.tables (λ i less. bit_stays k es id v (1024 * c + i) (of_class k c i small low less) a may (apart (fw (1024 * c + i))))
+  no_bit a may apart = sum_same (λ i. bit_of k (did id v a ∷ es) (65536 * c + i)) (λ i. bit_of k es (65536 * c + i)) (tables_in k c) (λ i less. bit_stays k es id v (65536 * c + i) (of_class k c i small low less) a may (apart (fw (65536 * c + i))))
 
   -- on the bit of the table p
   one_bit : (a : Act) (p : ℕ) → IsTable k p → ((t : ℕ) → IsTable k t → p ≢ t → bit_of k (did id v a ∷ es) t ≡ bit_of k es t) → ((cls p ≡ c) × (S' a + bit_of k es p ≡ S + bit_of k (did id v a ∷ es) p)) ⊎ ((cls p ≢ c) × (S' a ≡ S))
   one_bit a p is else =
-      let f : ℕ → ℕ = λ i. bit_of k (did id v a ∷ es) (1024 * c + i) in
-      let g : ℕ → ℕ = λ i. bit_of k es (1024 * c + i) in
+      let f : ℕ → ℕ = λ i. bit_of k (did id v a ∷ es) (65536 * c + i) in
+      let g : ℕ → ℕ = λ i. bit_of k es (65536 * c + i) in
       let split = table_is p in
       dite (ℕ_discrete (cls p) c)
       (λ (e : cls p ≡ c).
-      let j : 1024 * c + num p ≡ p = omega (arith, split, e) in
-      let s = sum_one f g k.tables (num p) is.1 (λ i less ne. else (1024 * c + i) (of_class k c i small low less) (λ z. ne (omega (arith, z, j)))) in
+      let j : 65536 * c + num p ≡ p = omega (arith, split, e) in
+      let s = sum_one f g (tables_in k c) (num p) (subst (λ (z : ℕ). num p < tables_in k z) e is.1) (λ i less ne. else (65536 * c + i) (of_class k c i small low less) (λ z. ne (omega (arith, z, j)))) in
       let x : f (num p) ≡ bit_of k (did id v a ∷ es) p = ap (bit_of k (did id v a ∷ es)) j in
       let y : g (num p) ≡ bit_of k es p = ap (bit_of k es) j in
       inl (e, omega (arith, s, x, y)))
-      (λ far. inr (far, sum_same f g k.tables (λ i less. else (1024 * c + i) (of_class k c i small low less) (λ z. far (ap cls z ∙ cls_of c i (omega arith))))))
+      (λ far. inr (far, sum_same f g (tables_in k c) (λ i less. else (65536 * c + i) (of_class k c i small low less) (λ z. far (ap cls z ∙ cls_of c i (omega arith))))))
 
   take_else : (p f : ℕ) (s : _) → May k (run k es) (history es) v (TakeTable p f s) → (t : ℕ) → IsTable k t → p ≢ t → bit_of k (did id v (TakeTable p f s) ∷ es) t ≡ bit_of k es t
-  take_else p f s may t is ne = other_bit k es id v t is p (TakeTable p f s) ne refl may (λ n apart. off_else (bt p) (bt t) n (bt_low p) (bt_low t) apart)
+  take_else p f s may t is ne = other_bit k es id v t is p may.0 (TakeTable p f s) ne refl may (λ n apart. off_else (bt p) (bt t) n (bt_low p) (bt_low t) apart)
 
   give_else : (p : ℕ) → May k (run k es) (history es) v (GiveTable p) → (t : ℕ) → IsTable k t → p ≢ t → bit_of k (did id v (GiveTable p) ∷ es) t ≡ bit_of k es t
-  give_else p may t is ne = other_bit k es id v t is p (GiveTable p) ne refl may (λ n apart. on_else (bt p) (bt t) n (bt_low p) apart)
+  give_else p may t is ne = other_bit k es id v t is p may.0 (GiveTable p) ne refl may (λ n apart. on_else (bt p) (bt t) n (bt_low p) apart)
 
   by_lower : (d old f : ℕ) → Step (LowerCount d old f)
   by_lower d old f ok room =
       let A : Act = LowerCount d old f in
       let may = ok.1.3 in
-      let found : f ≡ word k es (count_of d) = ok.1.2 in
+      let found : f ≡ word k es (count_of_class d) = ok.1.2 in
       let s = no_bit A may (λ w e. absurd (cc)) in
       let up = may.1 in
       let b : B ≡ 0 = busy_not c (flight v.log) (λ z. let y = may.2 in omega (arith, z, y)) (λ z. let y = may.2 in omega (arith, z, y)) in
@@ -145,13 +151,13 @@ module _ (k : Shape) (es : List Event) (id : ℕ) (v : View) (c : ℕ) (small : 
       let n : flight_next A (flight v.log) ≡ 2 * d + 1 = here f old (2 * d + 1) (flight v.log) e in
       dite (ℕ_discrete d c)
       (λ (same : d ≡ c).
-      let m : C' A ≡ either (eqb (word k es (count_of d)) old) (old - 1) (word k es (count_of d)) = ap (λ (z : ℕ). word k (did id v A ∷ es) (count_of z)) (sym same) ∙ moves k es id v A may in
-      let x : either (eqb (word k es (count_of d)) old) (old - 1) (word k es (count_of d)) ≡ old - 1 = here (word k es (count_of d)) old (old - 1) (word k es (count_of d)) (sym found ∙ e) in
-      let w : word k es (count_of d) ≡ C = ap (λ (z : ℕ). word k es (count_of z)) same in
+      let m : C' A ≡ either (eqb (word k es (count_of_class d)) old) (old - 1) (word k es (count_of_class d)) = ap (λ (z : ℕ). word k (did id v A ∷ es) (count_of_class z)) (sym same) ∙ moves k es id v A may in
+      let x : either (eqb (word k es (count_of_class d)) old) (old - 1) (word k es (count_of_class d)) ≡ old - 1 = here (word k es (count_of_class d)) old (old - 1) (word k es (count_of_class d)) (sym found ∙ e) in
+      let w : word k es (count_of_class d) ≡ C = ap (λ (z : ℕ). word k es (count_of_class z)) same in
       let b' : B' A ≡ 1 = busy_is c (flight_next A (flight v.log)) (inl (omega (arith, n, same))) in
       omega (arith, s, up, b, b', m, x, w, found, e))
       (λ ne.
-      let stay = stays k es id v A may (count_of c) low (λ z. ne (cc)) in
+      let stay = stays k es id v A may (count_of_class c) low (λ z. ne (cc)) in
       let b' : B' A ≡ 0 = busy_not c (flight_next A (flight v.log)) (λ z. ne (omega (arith, n, z))) (λ z. omega (arith, n, z)) in
       omega (arith, s, b, b', stay)))
       (λ no.
@@ -159,11 +165,11 @@ module _ (k : Shape) (es : List Event) (id : ℕ) (v : View) (c : ℕ) (small : 
       let b' : B' A ≡ B = ap (busy c) n in
       dite (ℕ_discrete d c)
       (λ (same : d ≡ c).
-      let m : C' A ≡ either (eqb (word k es (count_of d)) old) (old - 1) (word k es (count_of d)) = ap (λ (z : ℕ). word k (did id v A ∷ es) (count_of z)) (sym same) ∙ moves k es id v A may in
-      let x : either (eqb (word k es (count_of d)) old) (old - 1) (word k es (count_of d)) ≡ word k es (count_of d) = miss (word k es (count_of d)) old (old - 1) (word k es (count_of d)) (λ z. no (found ∙ z)) in
-      let w : word k es (count_of d) ≡ C = ap (λ (z : ℕ). word k es (count_of z)) same in
+      let m : C' A ≡ either (eqb (word k es (count_of_class d)) old) (old - 1) (word k es (count_of_class d)) = ap (λ (z : ℕ). word k (did id v A ∷ es) (count_of_class z)) (sym same) ∙ moves k es id v A may in
+      let x : either (eqb (word k es (count_of_class d)) old) (old - 1) (word k es (count_of_class d)) ≡ word k es (count_of_class d) = miss (word k es (count_of_class d)) old (old - 1) (word k es (count_of_class d)) (λ z. no (found ∙ z)) in
+      let w : word k es (count_of_class d) ≡ C = ap (λ (z : ℕ). word k es (count_of_class z)) same in
       omega (arith, s, b', m, x, w))
-      (λ ne. let stay = stays k es id v A may (count_of c) low (λ z. ne (cc)) in omega (arith, s, b', stay)))
+      (λ ne. let stay = stays k es id v A may (count_of_class c) low (λ z. ne (cc)) in omega (arith, s, b', stay)))
 
   -- the count has room
   raised : (f : ℕ) → Valid k (did id v (RaiseCount c f) ∷ es) → C + B ≤ 1024 → (B ≡ 1) × (C' (RaiseCount c f) ≡ C + 1)
@@ -185,7 +191,7 @@ module _ (k : Shape) (es : List Event) (id : ℕ) (v : View) (c : ℕ) (small : 
       (λ ne ok room.
       let A : Act = RaiseCount d f in
       let s = no_bit A ok.1.3 (λ w e. absurd (cc)) in
-      let stay = stays k es id v A ok.1.3 (count_of c) low (λ z. ne (cc)) in
+      let stay = stays k es id v A ok.1.3 (count_of_class c) low (λ z. ne (cc)) in
       let b : B ≡ 0 = ⊎_elim
       (λ (e : flight v.log ≡ 2 * d + 1). busy_not c (flight v.log) (λ z. ne (omega (arith, e, z))) (λ z. omega (arith, e, z)))
       (λ (e : flight v.log ≡ 2 * d + 2). busy_not c (flight v.log) (λ z. omega (arith, e, z)) (λ z. ne (omega (arith, e, z)))) ok.1.3.1 in
@@ -196,7 +202,7 @@ module _ (k : Shape) (es : List Event) (id : ℕ) (v : View) (c : ℕ) (small : 
   by_take p f s ok room =
       let A : Act = TakeTable p f s in
       let may = ok.1.3 in
-      let stay = stays k es id v A may (count_of c) low (λ z. absurd (cc)) in
+      let stay = stays k es id v A may (count_of_class c) low (λ z. absurd (cc)) in
       let was : bit (bt p) f ≡ bit_of k es p = ap (bit (bt p)) ok.1.2 in
       let now : bit_of k (did id v A ∷ es) p ≡ 0 = ap (bit (bt p)) (moves k es id v A may) ∙ off_same (bt p) (word k es (bits (fw p))) (bt_low p) in
       let small_bit = bit_small (bt p) f in
@@ -229,14 +235,14 @@ module _ (k : Shape) (es : List Event) (id : ℕ) (v : View) (c : ℕ) (small : 
       let A : Act = GiveTable p in
       let may = ok.1.3 in
       let its = placed k es ok.0 p may.0 in
-      let stay = stays k es id v A may (count_of c) low (λ z. absurd (cc)) in
+      let stay = stays k es id v A may (count_of_class c) low (λ z. absurd (cc)) in
       let some_stage : stage p v.log ≢ 0 = ⊎_elim (λ (x : stage p v.log ≡ 1). λ z. absurd (omega (arith, x, z))) (λ (x : (stage p v.log ≡ 4) × _). λ z. let y = x.0 in absurd (omega (arith, y, z))) may.1 in
       let mine = its.hands id v ok.1.0 some_stage in
       let small_bit = bit_small (bt p) (word k es (bits (fw p))) in
       let not_one : bit_of k es p ≢ 1 = λ b. some_stage (sym mine.0 ∙ its.free_is b) in
       let was : bit_of k es p ≡ 0 = omega (arith, small_bit, not_one) in
       let now : bit_of k (did id v A ∷ es) p ≡ 1 = ap (bit (bt p)) (moves k es id v A may) ∙ on_same (bt p) (word k es (bits (fw p))) (bt_low p) in
-      let idle = may.3 in
+      let idle = may.2 in
       let b : B ≡ 0 = busy_not c (flight v.log) (λ z. omega (arith, idle, z)) (λ z. omega (arith, idle, z)) in
       ⊎_elim
       (λ (h : (cls p ≡ c) × (S' A + bit_of k es p ≡ S + bit_of k (did id v A ∷ es) p)).
@@ -256,15 +262,15 @@ module _ (k : Shape) (es : List Event) (id : ℕ) (v : View) (c : ℕ) (small : 
   evenly (GiveTable p) = by_give p
   evenly (ReadCount d f) = λ ok room.
       let s = no_bit (ReadCount d f) ok.1.3 (λ w e. absurd (cc)) in
-      let m = kept k es id v (ReadCount d f) (λ n. refl) (count_of c) in
+      let m = loaded k es id v (ReadCount d f) (λ n. refl) (count_of_class c) in
       omega (arith, s, m)
   evenly (ReadFree w f) = λ ok room.
-      let s : S' (ReadFree w f) ≡ S = sum_same (λ i. bit_of k (did id v (ReadFree w f) ∷ es) (1024 * c + i)) (λ i. bit_of k es (1024 * c + i)) k.tables (λ i less. ap (bit (bt (1024 * c + i))) (kept k es id v (ReadFree w f) (λ n. refl) (bits (fw (1024 * c + i))))) in
-      let m = stays k es id v (ReadFree w f) ok.1.3 (count_of c) low (λ e. absurd (cc)) in
+      let s : S' (ReadFree w f) ≡ S = sum_same (λ i. bit_of k (did id v (ReadFree w f) ∷ es) (65536 * c + i)) (λ i. bit_of k es (65536 * c + i)) (tables_in k c) (λ i less. ap (bit (bt (65536 * c + i))) (loaded k es id v (ReadFree w f) (λ n. refl) (bits (fw (65536 * c + i))))) in
+      let m = stays k es id v (ReadFree w f) ok.1.3 (count_of_class c) low (λ e. absurd (cc)) in
       omega (arith, s, m)
   evenly act = λ ok room.
       let s = no_bit act ok.1.3 (λ w e. absurd (cc)) in
-      let m = stays k es id v act ok.1.3 (count_of c) low (λ e. absurd (cc)) in
+      let m = stays k es id v act ok.1.3 (count_of_class c) low (λ e. absurd (cc)) in
       omega (arith, s, m)
 
 pub total_at : (f : View → ℕ) (l : List View) (i : ℕ) (v : View) → get_elem? l i ≡ some v → f v ≤ total f l
@@ -272,29 +278,34 @@ total_at f [] i v e = absurd (some-ne-none v (sym e))
 total_at f (x ∷ xs) zero v e = let same : f x ≡ f v = ap f (some-injective x v e) in omega (arith, same)
 total_at f (x ∷ xs) (suc i) v e = let t = total_at f xs i v e in omega (arith, t)
 
-pub bits_low : (k : Shape) (es : List Event) (c : ℕ) → set_bits k es c ≤ k.tables
-bits_low k es c = sum_low (λ i. bit_of k es (1024 * c + i)) k.tables (λ i less. bit_small (bt (1024 * c + i)) (word k es (bits (fw (1024 * c + i)))))
+pub bits_low : (k : Shape) (es : List Event) (c : ℕ) → set_bits k es c ≤ tables_in k c
+bits_low k es c = sum_low (λ i. bit_of k es (65536 * c + i)) (tables_in k c) (λ i less. bit_small (bt (65536 * c + i)) (word k es (bits (fw (65536 * c + i)))))
 
-pub counted_bits : (k : Shape) (es : List Event) → k.tables ≤ 1024 → Valid k es → (c : ℕ) → c < k.classes → set_bits k es c ≡ word k es (count_of c) + total (busy_in c) (run k es).views
-counted_bits k [] small valid c low =
-    let a = sum_ones (λ i. bit_of k [] (1024 * c + i)) k.tables (λ i less. bit_first k (1024 * c + i) (of_class k c i small low less)) in
-    let b : word k [] (count_of c) ≡ k.tables = count_first k c low in
+few : (k : Shape) (es : List Event) → Valid k es → (c : ℕ) → IsClass c → tables_in k c ≤ 1024
+few k es valid c low = (fits k es valid).tables c low
+
+pub counted_bits : (k : Shape) (es : List Event) → Valid k es → (c : ℕ) → IsClass c → set_bits k es c ≡ word k es (count_of_class c) + total (busy_in c) (run k es).views
+counted_bits k [] valid c low =
+    let small = few k [] valid c low in
+    let a = sum_ones (λ i. bit_of k [] (65536 * c + i)) (tables_in k c) (λ i less. bit_first k (65536 * c + i) (of_class k c i small low less)) in
+    let b : word k [] (count_of_class c) ≡ (tables_in k c) = count_first k c low in
     let z : busy c 0 ≡ 0 = busy_not c 0 (λ z. omega arith) (λ z. omega arith) in
     omega (arith, a, b, z)
-counted_bits k (did id v a ∷ es) small valid c low =
-    let old = counted_bits k es small valid.0 c low in
+counted_bits k (did id v a ∷ es) valid c low =
+    let small = few k es valid.0 c low in
+    let old = counted_bits k es valid.0 c low in
     let top = bits_low k es c in
     let part = total_at (busy_in c) (run k es).views id v valid.1.0 in
     let t = total_set (busy_in c) (run k es).views id v (noted a v) valid.1.0 in
     let e = evenly k es id v c small low a valid (omega (arith, old, top, part, small)) in
     omega (arith, old, t, e, part)
-counted_bits k (forked id v ∷ es) small valid c low =
+counted_bits k (forked id v ∷ es) valid c low =
     let z : busy c 0 ≡ 0 = busy_not c 0 (λ z. omega arith) (λ z. omega arith) in
-    counted_bits k es small valid.0 c low ∙ ap (λ (n : ℕ). word k es (count_of c) + n) (sym (total_forked (busy_in c) (run k es).views id v (maker v) (made v) valid.1.0 (omega (arith, z))))
-counted_bits k (joined id v other w ∷ es) small valid c low =
+    counted_bits k es valid.0 c low ∙ ap (λ (n : ℕ). word k es (count_of_class c) + n) (sym (total_forked (busy_in c) (run k es).views id v (maker v) (made v) valid.1.0 (omega (arith, z))))
+counted_bits k (joined id v other w ∷ es) valid c low =
     let z : busy c 0 ≡ 0 = busy_not c 0 (λ z. omega arith) (λ z. omega arith) in
     let none : busy_in c w ≡ 0 = ap (busy c) valid.1.5.3 ∙ z in
-    counted_bits k es small valid.0 c low ∙ ap (λ (n : ℕ). word k es (count_of c) + n) (sym (total_joined (busy_in c) (run k es).views id other v w (both v w) spent valid.1.0 valid.1.1 valid.1.2 (omega (arith, z, none))))
+    counted_bits k es valid.0 c low ∙ ap (λ (n : ℕ). word k es (count_of_class c) + n) (sym (total_joined (busy_in c) (run k es).views id other v w (both v w) spent valid.1.0 valid.1.1 valid.1.2 (omega (arith, z, none))))
 
 -- the sum of two numbers of each
 total_both : (f g : View → ℕ) (l : List View) → total (λ (u : View). f u + g u) l ≡ total f l + total g l
@@ -302,17 +313,18 @@ total_both f g [] = refl
 total_both f g (x ∷ xs) = let t = total_both f g xs in omega (arith, t)
 
 -- the set bits of a class, its count, the takings in flight, the givings in flight
-pub counts_stand : (k : Shape) (es : List Event) → k.tables ≤ 1024 → Valid k es → (c : ℕ) → c < k.classes → set_bits k es c ≡ word k es (count_of c) + total (taking c) (run k es).views + total (giving c) (run k es).views
-counts_stand k es small valid c low = let a = counted_bits k es small valid c low in let b = total_both (taking c) (giving c) (run k es).views in omega (arith, a, b)
+pub counts_stand : (k : Shape) (es : List Event) → Valid k es → (c : ℕ) → IsClass c → set_bits k es c ≡ word k es (count_of_class c) + total (taking c) (run k es).views + total (giving c) (run k es).views
+counts_stand k es valid c low = let a = counted_bits k es valid c low in let b = total_both (taking c) (giving c) (run k es).views in omega (arith, a, b)
 
-pub count_low : (k : Shape) (es : List Event) → k.tables ≤ 1024 → Valid k es → (c : ℕ) → c < k.classes → word k es (count_of c) ≤ k.tables
-count_low k es small valid c low = let a = counted_bits k es small valid c low in let b = bits_low k es c in omega (arith, a, b)
+pub count_low : (k : Shape) (es : List Event) → Valid k es → (c : ℕ) → IsClass c → word k es (count_of_class c) ≤ tables_in k c
+count_low k es valid c low = let a = counted_bits k es valid c low in let b = bits_low k es c in omega (arith, a, b)
 
 -- a raise finds less than there are tables
-pub raise_room : (k : Shape) (es : List Event) (id : ℕ) (v : View) (c f : ℕ) → k.tables ≤ 1024 → Valid k (did id v (RaiseCount c f) ∷ es) → (word k es (count_of c) < k.tables) × (word k (did id v (RaiseCount c f) ∷ es) (count_of c) ≡ word k es (count_of c) + 1)
-raise_room k es id v c f small valid =
+pub raise_room : (k : Shape) (es : List Event) (id : ℕ) (v : View) (c f : ℕ) → Valid k (did id v (RaiseCount c f) ∷ es) → (word k es (count_of_class c) < (tables_in k c)) × (word k (did id v (RaiseCount c f) ∷ es) (count_of_class c) ≡ word k es (count_of_class c) + 1)
+raise_room k es id v c f valid =
     let low = valid.1.3.0 in
-    let old = counted_bits k es small valid.0 c low in
+    let small = few k es valid.0 c low in
+    let old = counted_bits k es valid.0 c low in
     let top = bits_low k es c in
     let part = total_at (busy_in c) (run k es).views id v valid.1.0 in
     let r = raised k es id v c small low f valid (omega (arith, old, top, part, small)) in

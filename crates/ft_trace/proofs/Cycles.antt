@@ -9,7 +9,7 @@ use Rattle.ft_trace.specs.Traces.{Possible}
 use Rattle.ft_trace.proofs.Cases.{hit}
 use Rattle.ft_trace.proofs.Announcing.{heard}
 use Rattle.ft_trace.proofs.Budgets.{goals_room}
-use Rattle.ft_trace.proofs.Calls.{next_possible}
+use Rattle.ft_trace.proofs.Nexts.{next_possible}
 
 module _ (v : View) (t : ℕ) (first : v.number ≡ 1) (possible : Possible v) (one : v.shape.passes ≡ 1) (small : v.shape.passes * v.shape.calls < 2 ^ 62) (table : IsTable v.shape t) (three : stage t v.log ≡ 3) (owed : 0 < debt v.log) (idle : flight v.log ≡ 0) where
   abbrev k : Shape
@@ -32,13 +32,13 @@ module _ (v : View) (t : ℕ) (first : v.number ≡ 1) (possible : Possible v) (
       (λ es id knows. let g = goals_room k es (omega (arith, one)) knows.0 in (table, three, omega (arith, g, one, small), owed))
 
   step2 : (f : ℕ) → Possible (r1 f) → (n : ℕ) × Possible (r2 f)
-  step2 f q = next_possible (r1 f) live q (λ _. Announce v.number 0) (announced_of v.number) (λ _. refl) (λ _. tt) (λ es id knows. (refl, omega (arith, first, one), omega arith))
+  step2 f q = next_possible (r1 f) live q (λ _. Announce v.number 0) (announced_of v.number) (λ _. refl) (λ _. tt) (λ es id knows. (refl, omega (arith, first, one), omega arith, omega (arith, first), omega (arith, first)))
 
   -- it finds itself offline
   step3 : (f : ℕ) → Possible (r2 f) → (h : ℕ) × (Possible (r3 f h) × (h ≡ 0))
   unfolding next_possible
   step3 f q =
-      let n = next_possible (r2 f) live q (λ h. ReadAnnounced v.number h) (announced_of v.number) (λ _. refl) (λ _. refl) (λ es id knows. let z : v.number ≤ k.passes = omega (arith, first, one) in z) in
+      let n = next_possible (r2 f) live q (λ h. ReadAnnounced v.number h) (announced_of v.number) (λ _. refl) (λ _. refl) (λ es id knows. let z : v.number ≤ k.passes = omega (arith, first, one) in (z, omega (arith, first), omega (arith, first))) in
       let w = (heard k q.0 q.2.0 q.1 (r2 f) q.2.1).word_is live (omega (arith, first, one)) in
       (n.0, (n.1, w))
 
@@ -63,5 +63,5 @@ module _ (v : View) (t : ℕ) (first : v.number ≡ 1) (possible : Possible v) (
         f,
         h,
         (next_possible (r3 f h) live d.1.0 (λ _. GiveTable t) (bits (fw t)) (λ _. refl) (λ _. tt)
-            (λ es id knows. (table, inr (four, passed f h d.1.1), λ one_is. absurd (omega (arith, one_is, four)), idle))).1,
+            (λ es id knows. (table, inr (four, passed f h d.1.1), idle))).1,
       )

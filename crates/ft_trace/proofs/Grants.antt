@@ -6,21 +6,22 @@ use Rattle.ft_trace.specs.declared.Snap.{Snap}
 use Rattle.ft_trace.specs.declared.View.{View}
 use Rattle.ft_trace.specs.declared.Act.TheVariants.{LowerCount, RaiseCount, ReadCount, ReadFree, TakeTable}
 use Rattle.ft_trace.specs.Bits.{bit}
-use Rattle.ft_trace.specs.Addrs.{count_of, bits, cls, fw, bt, IsTable}
+use Rattle.ft_model.specs.Classes.{IsClass}
+use Rattle.ft_trace.specs.Addrs.{count_of_class, bits, cls, fw, bt, IsTable}
 use Rattle.ft_trace.specs.Acts.{stage, flight, owes, noted}
 use Rattle.ft_trace.specs.Traces.{did, run, word, history, snap, Possible}
 use Rattle.ft_trace.proofs.Sizes.{set_at}
 use Rattle.ft_trace.proofs.Cases.{miss, here}
-use Rattle.ft_trace.proofs.Calls.{next_possible}
+use Rattle.ft_trace.proofs.Nexts.{next_possible}
 
 module _ (v : View) (live : v.number ≢ 0) (possible : Possible v) where
-  pub count_possible : (c : ℕ) → c < v.shape.classes → (f : ℕ) × Possible (noted (ReadCount c f) v)
-  count_possible c low = next_possible v live possible (λ f. ReadCount c f) (count_of c) (λ _. refl) (λ _. refl) (λ es id knows. low)
+  pub count_possible : (c : ℕ) → IsClass c → (f : ℕ) × Possible (noted (ReadCount c f) v)
+  count_possible c low = next_possible v live possible (λ f. ReadCount c f) (count_of_class c) (λ _. refl) (λ _. refl) (λ es id knows. low)
 
-  pub lower_possible : (c old : ℕ) → c < v.shape.classes → 0 < old → flight v.log ≡ 0 → owes v.log ≡ 0 → (f : ℕ) × Possible (noted (LowerCount c old f) v)
-  lower_possible c old low up idle none = next_possible v live possible (λ f. LowerCount c old f) (count_of c) (λ _. refl) (λ _. refl) (λ es id knows. (low, up, idle, none))
+  pub lower_possible : (c old : ℕ) → IsClass c → 0 < old → flight v.log ≡ 0 → owes v.log ≡ 0 → (f : ℕ) × Possible (noted (LowerCount c old f) v)
+  lower_possible c old low up idle none = next_possible v live possible (λ f. LowerCount c old f) (count_of_class c) (λ _. refl) (λ _. refl) (λ es id knows. (low, up, idle, none))
 
-  pub free_possible : (w : ℕ) → w < 16 * v.shape.classes → (f : ℕ) × Possible (noted (ReadFree w f) v)
+  pub free_possible : (w : ℕ) → w < 224 → (f : ℕ) × Possible (noted (ReadFree w f) v)
   free_possible w low = next_possible v live possible (λ f. ReadFree w f) (bits w) (λ _. refl) (λ _. refl) (λ es id knows. low)
 
   pub take_possible : (t : ℕ) → IsTable v.shape t → stage t v.log ≡ 0 → flight v.log ≡ 2 * cls t + 1 → (f : ℕ) × (s : Snap) × Possible (noted (TakeTable t f s) v)
@@ -33,8 +34,8 @@ module _ (v : View) (live : v.number ≢ 0) (possible : Possible v) where
       let s = snap (run k es) (history es) in
       (f, s, (did id v (TakeTable t f s) ∷ es, id, ((knows.0, (knows.1, live, refl, (table, none, refl, fl))), set_at (run k es).views id v (noted (TakeTable t f s) v) knows.1)))
 
-  pub raise_possible : (c : ℕ) → c < v.shape.classes → (flight v.log ≡ 2 * c + 1) ⊎ (flight v.log ≡ 2 * c + 2) → (f : ℕ) × Possible (noted (RaiseCount c f) v)
-  raise_possible c low fl = next_possible v live possible (λ f. RaiseCount c f) (count_of c) (λ _. refl) (λ _. refl) (λ es id knows. (low, fl))
+  pub raise_possible : (c : ℕ) → IsClass c → (flight v.log ≡ 2 * c + 1) ⊎ (flight v.log ≡ 2 * c + 2) → (f : ℕ) × Possible (noted (RaiseCount c f) v)
+  raise_possible c low fl = next_possible v live possible (λ f. RaiseCount c f) (count_of_class c) (λ _. refl) (λ _. refl) (λ es id knows. (low, fl))
 
 -- what a whole call leaves: nothing in flight
 pub record Ends (v : View) : Type 0 where

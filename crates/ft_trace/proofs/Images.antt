@@ -5,20 +5,21 @@ use mathlib.Core.Option.{some}
 use mathlib.Core.Logic.{dite}
 use native.Mathlib.Decide.{ℕ_discrete}
 use lib.ListN.{get_elem?}
-use Rattle.ft_trace.specs.declared.Call.{Call}
+use Rattle.ft_model.specs.declared.call.Call.{Call}
 use Rattle.ft_trace.specs.declared.Snap.{Snap}
 use Rattle.ft_trace.specs.declared.Shape.{Shape}
 use Rattle.ft_trace.specs.declared.View.{View}
 use Rattle.ft_trace.specs.declared.Act.{Act}
 use Rattle.ft_trace.specs.declared.Act.TheVariants.{Lock, Unlock, PutBlock, PutRoot, PutTable, PutFresh, Commit, ReadBlock, ReadRoot, ReadTable, TakeTable, GiveTable, Retire}
-use Rattle.ft_trace.specs.Addrs.{Addr, counter, write_number, announced_of, bits, count_of, lock_of, version_of, block, header, cell, Inside, at, extent}
+use Rattle.ft_trace.specs.Addrs.{Addr, counter, write_number, announced_of, bits, count_of_class, lock_of, version_of, block, header, cell, Inside, at, extent}
 use Rattle.ft_trace.specs.Acts.{place, left, has, writes, stage, stage_next, mem, past, starter, noted, maker, made, both, spent}
-use Rattle.ft_trace.specs.Worlds.{Content, container, changed, world}
+use Rattle.ft_trace.specs.Worlds.{kept}
+use Rattle.ft_trace.specs.Addrs.{containers_in}
 use Rattle.ft_trace.specs.Traces.{Event, did, forked, joined, run, word, history, snap, May, Valid}
 use Rattle.ft_trace.proofs.Sizes.{set_views, one_more, one_view}
 use Rattle.ft_trace.proofs.Cases.{same_or, hit, miss, off}
 use Rattle.ft_trace.proofs.Addrs.{at_low}
-use Rattle.ft_trace.proofs.Words.{wide, stays, moves, kept}
+use Rattle.ft_trace.proofs.Words.{wide, stays, moves, loaded}
 use Rattle.ft_trace.proofs.Locks.{one_holder}
 use Rattle.ft_trace.proofs.Versions.{writer_has}
 use Rattle.ft_trace.proofs.Places.{root, placed}
@@ -27,7 +28,7 @@ use Rattle.ft_trace.proofs.Contents.{alters, content_by}
 -- the words that a pass has to itself
 abbrev pub Owns : Shape → List Event → View → Addr → Type 0
 Owns k es u (block o i) = has o u.log ≡ true
-Owns k es u (cell t i) = (stage t u.log ≡ 1) ⊎ ((o : ℕ) × (o < k.containers) × (has o u.log ≡ true) × (root k es o ≡ suc t))
+Owns k es u (cell t i) = (stage t u.log ≡ 1) ⊎ ((o : ℕ) × (o < containers_in k) × (has o u.log ≡ true) × (root k es o ≡ suc t))
 Owns k es u x = ⊥
 
 abbrev pub Owner : View → Type 0
@@ -36,7 +37,7 @@ Owner u = ((o : ℕ) × (has o u.log ≡ true)) ⊎ ((t : ℕ) × (stage t u.log
 pub record Imaged (k : Shape) (es : List Event) (u : View) : Type 0 where
   pub wide : Owner u → length (mem k u.log) ≡ extent k
   pub words : (x : Addr) → Inside k x → Owns k es u x → slice_index (mem k u.log) (at k x) ≡ word k es x
-  pub content : (o : ℕ) → has o u.log ≡ true → world (past u.log) o ≡ world (history es) o
+  pub content : (o : ℕ) → has o u.log ≡ true → kept k.kinds (past u.log) o ≡ kept k.kinds (history es) o
 
 -- a word that no action but a put may change
 abbrev IsData : Addr → Type 0
@@ -50,7 +51,7 @@ data_of k es u (cell t i) owns = tt
 data_of k es u counter owns = absurd owns
 data_of k es u write_number owns = absurd owns
 data_of k es u (announced_of p) owns = absurd owns
-data_of k es u (count_of c) owns = absurd owns
+data_of k es u (count_of_class c) owns = absurd owns
 data_of k es u (bits c) owns = absurd owns
 data_of k es u (lock_of o) owns = absurd owns
 data_of k es u (version_of o) owns = absurd owns
@@ -73,10 +74,10 @@ fresh_stays k es valid id v at j u ne there t i in_it mine (PutFresh q d y) may 
     let its = placed k es valid t in_it.0 in
     let theirs : stage t v.log ≡ 1 = ap (λ (z : ℕ). stage z v.log) (sym same) ∙ may.2 in
     ne (sym (its.hands j u there (λ z. absurd (omega (arith, mine, z)))).1 ∙ (its.hands id v at (λ z. absurd (omega (arith, theirs, z)))).1))
-fresh_stays k es valid id v at j u ne there t i in_it mine (ReadTable q d f) may = kept k es id v (ReadTable q d f) (λ n. refl) (cell t i)
+fresh_stays k es valid id v at j u ne there t i in_it mine (ReadTable q d f) may = loaded k es id v (ReadTable q d f) (λ n. refl) (cell t i)
 fresh_stays k es valid id v at j u ne there t i in_it mine act may = stays k es id v act may (cell t i) in_it (λ e. absurd (cc))
 
-other : (k : Shape) (es : List Event) (id : ℕ) (v : View) (a : Act) → Valid k (did id v a ∷ es) → (j : ℕ) (u : View) → j ≢ id → get_elem? (run k es).views j ≡ some u → Imaged k es u → (low : (o : ℕ) → has o u.log ≡ true → o < k.containers) → Imaged k (did id v a ∷ es) u
+other : (k : Shape) (es : List Event) (id : ℕ) (v : View) (a : Act) → Valid k (did id v a ∷ es) → (j : ℕ) (u : View) → j ≢ id → get_elem? (run k es).views j ≡ some u → Imaged k es u → (low : (o : ℕ) → has o u.log ≡ true → o < containers_in k) → Imaged k (did id v a ∷ es) u
 other k es id v a valid j u ne there old low = record { wide = old.wide; words = by; content = λ o mine. old.content o mine ∙ sym (content_by k es v o (not_writing o mine) a valid.1.3) }
   where
     not_writing : (o : ℕ) → has o u.log ≡ true → writes o v.log ≡ true → ⊥
@@ -87,7 +88,7 @@ other k es id v a valid j u ne there old low = record { wide = old.wide; words =
     by (cell t i) in_it mine =
         ⊎_elim
         (λ (one : stage t u.log ≡ 1). old.words (cell t i) in_it (inl one) ∙ sym (fresh_stays k es valid.0 id v valid.1.0 j u ne there t i in_it one a valid.1.3))
-        (λ (h : (o : ℕ) × (o < k.containers) × (has o u.log ≡ true) × (root k (did id v a ∷ es) o ≡ suc t)).
+        (λ (h : (o : ℕ) × (o < containers_in k) × (has o u.log ≡ true) × (root k (did id v a ∷ es) o ≡ suc t)).
         let never = not_writing h.0 h.2 in
         let same = alters k es valid.0 id v valid.1.0 h.0 h.1 never (block h.0 0) (h.1, omega arith) refl a valid.1.3 in
         let names : root k es h.0 ≡ suc t = sym same ∙ h.3 in
@@ -96,7 +97,7 @@ other k es id v a valid j u ne there old low = record { wide = old.wide; words =
     by counter in_it mine = absurd mine
     by write_number in_it mine = absurd mine
     by (announced_of p) in_it mine = absurd mine
-    by (count_of c) in_it mine = absurd mine
+    by (count_of_class c) in_it mine = absurd mine
     by (bits c) in_it mine = absurd mine
     by (lock_of o) in_it mine = absurd mine
     by (version_of o) in_it mine = absurd mine
@@ -108,7 +109,7 @@ fresh k es id v a s is m p h same =
     let words : mem k (a ∷ v.log) ≡ (run k es).words = m ∙ ap (λ (z : Snap). z.words) is in record {
       wide = λ _. ap (λ (l : List ℕ). length l) words ∙ wide k es;
       words = λ x in_it owns. ap (λ (l : List ℕ). slice_index l (at k x)) words ∙ sym (same x in_it (data_of k (did id v a ∷ es) (noted a v) x owns));
-      content = λ o _. ap (λ (cs : List Call). world cs o) (p ∙ (ap (λ (z : Snap). z.calls) is ∙ sym h));
+      content = λ o _. ap (λ (cs : List Call). kept k.kinds cs o) (p ∙ (ap (λ (z : Snap). z.calls) is ∙ sym h));
     }
 
 -- what the pass has after an action it had before
@@ -121,19 +122,19 @@ calm : (k : Shape) (es : List Event) (id : ℕ) (v : View) (a : Act) → Imaged 
 calm k es id v a old m p h has_before stage_before same = record {
   wide = λ e. ap (λ (l : List ℕ). length l) m ∙ old.wide (⊎_elim (λ (x : (o : ℕ) × (has o (a ∷ v.log) ≡ true)). inl (x.0, has_before x.0 x.1)) (λ (x : (t : ℕ) × (stage t (a ∷ v.log) ≡ 1)). inr (x.0, stage_before x.0 x.1)) e);
   words = λ x in_it owns. ap (λ (l : List ℕ). slice_index l (at k x)) m ∙ (old.words x in_it (backward x in_it owns) ∙ sym (same x in_it (data_of k (did id v a ∷ es) (noted a v) x owns)));
-  content = λ o mine. ap (λ (cs : List Call). world cs o) p ∙ (old.content o (has_before o mine) ∙ ap (λ (cs : List Call). world cs o) (sym h));
+  content = λ o mine. ap (λ (cs : List Call). kept k.kinds cs o) p ∙ (old.content o (has_before o mine) ∙ ap (λ (cs : List Call). kept k.kinds cs o) (sym h));
 }
   where
     backward : Backward k es (did id v a ∷ es) v (noted a v)
     backward (block o i) in_it mine = has_before o mine
     backward (cell t i) in_it mine =
         ⊎_elim (λ (x : stage t (a ∷ v.log) ≡ 1). inl (stage_before t x))
-        (λ (x : (o : ℕ) × (o < k.containers) × (has o (a ∷ v.log) ≡ true) × (root k (did id v a ∷ es) o ≡ suc t)). inr (x.0, x.1, has_before x.0 x.2, sym (same (block x.0 0) (x.1, omega arith) tt) ∙ x.3))
+        (λ (x : (o : ℕ) × (o < containers_in k) × (has o (a ∷ v.log) ≡ true) × (root k (did id v a ∷ es) o ≡ suc t)). inr (x.0, x.1, has_before x.0 x.2, sym (same (block x.0 0) (x.1, omega arith) tt) ∙ x.3))
         mine
     backward counter in_it mine = absurd mine
     backward write_number in_it mine = absurd mine
     backward (announced_of p) in_it mine = absurd mine
-    backward (count_of c) in_it mine = absurd mine
+    backward (count_of_class c) in_it mine = absurd mine
     backward (bits c) in_it mine = absurd mine
     backward (lock_of o) in_it mine = absurd mine
     backward (version_of o) in_it mine = absurd mine
@@ -157,17 +158,17 @@ stored k es id v a y valid may old in_place m l p h same_has long backward = rec
       one ∙ sym two)
       (λ ne. get_or-set_other (mem k v.log) (at k (place a)) (at k x) y 0 ne ∙ (mine ∙ sym (get_or-set_other (run k es).words (at k (place a)) (at k x) y 0 ne)))
       ∙ sym now);
-  content = λ o mine. ap (λ (cs : List Call). world cs o) p ∙ (old.content o (sym (same_has o) ∙ mine) ∙ ap (λ (cs : List Call). world cs o) (sym h));
+  content = λ o mine. ap (λ (cs : List Call). kept k.kinds cs o) p ∙ (old.content o (sym (same_has o) ∙ mine) ∙ ap (λ (cs : List Call). kept k.kinds cs o) (sym h));
 }
 
 -- where roots and what the pass has are as before
-same_back : (k : Shape) (es : List Event) (id : ℕ) (v : View) (a : Act) → ((o : ℕ) → has o (a ∷ v.log) ≡ has o v.log) → ((t : ℕ) → stage t (a ∷ v.log) ≡ stage t v.log) → ((o : ℕ) → o < k.containers → root k (did id v a ∷ es) o ≡ root k es o) → Backward k es (did id v a ∷ es) v (noted a v)
+same_back : (k : Shape) (es : List Event) (id : ℕ) (v : View) (a : Act) → ((o : ℕ) → has o (a ∷ v.log) ≡ has o v.log) → ((t : ℕ) → stage t (a ∷ v.log) ≡ stage t v.log) → ((o : ℕ) → o < containers_in k → root k (did id v a ∷ es) o ≡ root k es o) → Backward k es (did id v a ∷ es) v (noted a v)
 same_back k es id v a h s r (block o i) in_it mine = sym (h o) ∙ mine
-same_back k es id v a h s r (cell t i) in_it mine = ⊎_elim (λ (x : stage t (a ∷ v.log) ≡ 1). inl (sym (s t) ∙ x)) (λ (x : (o : ℕ) × (o < k.containers) × (has o (a ∷ v.log) ≡ true) × (root k (did id v a ∷ es) o ≡ suc t)). inr (x.0, x.1, sym (h x.0) ∙ x.2, sym (r x.0 x.1) ∙ x.3)) mine
+same_back k es id v a h s r (cell t i) in_it mine = ⊎_elim (λ (x : stage t (a ∷ v.log) ≡ 1). inl (sym (s t) ∙ x)) (λ (x : (o : ℕ) × (o < containers_in k) × (has o (a ∷ v.log) ≡ true) × (root k (did id v a ∷ es) o ≡ suc t)). inr (x.0, x.1, sym (h x.0) ∙ x.2, sym (r x.0 x.1) ∙ x.3)) mine
 same_back k es id v a h s r counter in_it mine = absurd mine
 same_back k es id v a h s r write_number in_it mine = absurd mine
 same_back k es id v a h s r (announced_of p) in_it mine = absurd mine
-same_back k es id v a h s r (count_of c) in_it mine = absurd mine
+same_back k es id v a h s r (count_of_class c) in_it mine = absurd mine
 same_back k es id v a h s r (bits c) in_it mine = absurd mine
 same_back k es id v a h s r (lock_of o) in_it mine = absurd mine
 same_back k es id v a h s r (version_of o) in_it mine = absurd mine
@@ -178,7 +179,7 @@ root_back k es id v p r past may (block o i) in_it mine = mine
 root_back k es id v p r past may (cell t i) in_it mine =
     ⊎_elim
     (λ (x : stage_next t (PutRoot p r past) (stage t v.log) ≡ 1). inl (two_ways (eqb r (suc t)) (eqb past (suc t)) (stage t v.log) x))
-    (λ (x : (o : ℕ) × (o < k.containers) × (has o v.log ≡ true) × (root k (did id v (PutRoot p r past) ∷ es) o ≡ suc t)).
+    (λ (x : (o : ℕ) × (o < containers_in k) × (has o v.log ≡ true) × (root k (did id v (PutRoot p r past) ∷ es) o ≡ suc t)).
     dite (ℕ_discrete x.0 p)
     (λ (e : x.0 ≡ p). inl (may.3 t (sym (moves k es id v (PutRoot p r past) may) ∙ (ap (root k (did id v (PutRoot p r past) ∷ es)) (sym e) ∙ x.3))).1)
     (λ ne. inr (x.0, x.1, x.2, sym (stays k es id v (PutRoot p r past) may (block x.0 0) (x.1, omega arith) (λ e. ne (cc))) ∙ x.3)))
@@ -191,7 +192,7 @@ root_back k es id v p r past may (cell t i) in_it mine =
 root_back k es id v p r past may counter in_it mine = absurd mine
 root_back k es id v p r past may write_number in_it mine = absurd mine
 root_back k es id v p r past may (announced_of q) in_it mine = absurd mine
-root_back k es id v p r past may (count_of c) in_it mine = absurd mine
+root_back k es id v p r past may (count_of_class c) in_it mine = absurd mine
 root_back k es id v p r past may (bits c) in_it mine = absurd mine
 root_back k es id v p r past may (lock_of o) in_it mine = absurd mine
 root_back k es id v p r past may (version_of o) in_it mine = absurd mine
@@ -213,15 +214,15 @@ own k es id v valid here_ old (Unlock p) may =
     (apart k es id v (Unlock p) may (λ d. d))
 own k es id v valid here_ old (GiveTable p) may = calm k es id v (GiveTable p) old refl refl refl (λ o m. m) (λ t m. not_one (eqb p t) 0 (stage t v.log) (λ z. absurd (omega (arith, z))) m) (apart k es id v (GiveTable p) may (λ d. d))
 own k es id v valid here_ old (Retire p f) may = calm k es id v (Retire p f) old refl refl refl (λ o m. m) (λ t m. not_one (eqb p t) 4 (stage t v.log) (λ z. absurd (omega (arith, z))) m) (apart k es id v (Retire p f) may (λ d. d))
-own k es id v valid here_ old (ReadBlock p i f) may = calm k es id v (ReadBlock p i f) old refl refl refl (λ o m. m) (λ t m. m) (λ x _ _. kept k es id v (ReadBlock p i f) (λ n. refl) x)
-own k es id v valid here_ old (ReadRoot p f) may = calm k es id v (ReadRoot p f) old refl refl refl (λ o m. m) (λ t m. m) (λ x _ _. kept k es id v (ReadRoot p f) (λ n. refl) x)
-own k es id v valid here_ old (ReadTable p i f) may = calm k es id v (ReadTable p i f) old refl refl refl (λ o m. m) (λ t m. m) (λ x _ _. kept k es id v (ReadTable p i f) (λ n. refl) x)
-own k es id v valid here_ old (Commit c r f) may =
-    let same = apart k es id v (Commit c r f) may (λ d. d) in
+own k es id v valid here_ old (ReadBlock p i f) may = calm k es id v (ReadBlock p i f) old refl refl refl (λ o m. m) (λ t m. m) (λ x _ _. loaded k es id v (ReadBlock p i f) (λ n. refl) x)
+own k es id v valid here_ old (ReadRoot p f) may = calm k es id v (ReadRoot p f) old refl refl refl (λ o m. m) (λ t m. m) (λ x _ _. loaded k es id v (ReadRoot p f) (λ n. refl) x)
+own k es id v valid here_ old (ReadTable p i f) may = calm k es id v (ReadTable p i f) old refl refl refl (λ o m. m) (λ t m. m) (λ x _ _. loaded k es id v (ReadTable p i f) (λ n. refl) x)
+own k es id v valid here_ old (Commit c r f s) may =
+    let same = apart k es id v (Commit c r f s) may (λ d. d) in
     record {
       wide = old.wide;
-      words = λ x in_it owns. old.words x in_it (same_back k es id v (Commit c r f) (λ o. refl) (λ t. refl) (λ o low. same (block o 0) (low, omega arith) tt) x in_it owns) ∙ sym (same x in_it (data_of k (did id v (Commit c r f) ∷ es) (noted (Commit c r f) v) x owns));
-      content = λ o mine. ap (λ (z : Content). cond (eqb (container c) o) (changed c z) z) (old.content o mine);
+      words = λ x in_it owns. old.words x in_it (same_back k es id v (Commit c r f s) (λ o. refl) (λ t. refl) (λ o low. same (block o 0) (low, omega arith) tt) x in_it owns) ∙ sym (same x in_it (data_of k (did id v (Commit c r f s) ∷ es) (noted (Commit c r f s) v) x owns));
+      content = λ o mine. ap (λ (z : Snap). kept k.kinds (c ∷ z.calls) o) may.7;
     }
 own k es id v valid here_ old (PutBlock p i x) may =
     stored k es id v (PutBlock p i x) x valid may old (may.0, may.1) refl refl refl refl (λ o. refl) (old.wide (inl (p, writer_has k es valid p id v here_ may.2)))
@@ -238,11 +239,11 @@ own k es id v valid here_ old act may = calm k es id v act old refl refl refl (�
 
 -- a lock is that of an container of the bank
 abbrev Low : Shape → ℕ → View → Type 0
-Low k j u = (o : ℕ) → has o u.log ≡ true → o < k.containers
+Low k j u = (o : ℕ) → has o u.log ≡ true → o < containers_in k
 
-low_next : (k : Shape) (es : List Event) (v : View) (b : Act) → May k (run k es) (history es) v b → ((o : ℕ) → has o v.log ≡ true → o < k.containers) → (o : ℕ) → has o (b ∷ v.log) ≡ true → o < k.containers
-low_next k es v (Lock p f s) may old o mine = same_or (λ (z : ℕ). z < k.containers → cond (eqb z o) (cond (eqb f 0) true (has o v.log)) (has o v.log) ≡ true → o < k.containers) p o (λ low _. low) (λ ne _ e. old o (sym (miss p o (cond (eqb f 0) true (has o v.log)) (has o v.log) ne) ∙ e)) may.0 mine
-low_next k es v (Unlock p) may old o mine = same_or (λ (z : ℕ). cond (eqb z o) false (has o v.log) ≡ true → o < k.containers) p o (λ e. off (sym (hit o false (has o v.log)) ∙ e)) (λ ne e. old o (sym (miss p o false (has o v.log) ne) ∙ e)) mine
+low_next : (k : Shape) (es : List Event) (v : View) (b : Act) → May k (run k es) (history es) v b → ((o : ℕ) → has o v.log ≡ true → o < containers_in k) → (o : ℕ) → has o (b ∷ v.log) ≡ true → o < containers_in k
+low_next k es v (Lock p f s) may old o mine = same_or (λ (z : ℕ). z < containers_in k → cond (eqb z o) (cond (eqb f 0) true (has o v.log)) (has o v.log) ≡ true → o < containers_in k) p o (λ low _. low) (λ ne _ e. old o (sym (miss p o (cond (eqb f 0) true (has o v.log)) (has o v.log) ne) ∙ e)) may.0 mine
+low_next k es v (Unlock p) may old o mine = same_or (λ (z : ℕ). cond (eqb z o) false (has o v.log) ≡ true → o < containers_in k) p o (λ e. off (sym (hit o false (has o v.log)) ∙ e)) (λ ne e. old o (sym (miss p o false (has o v.log) ne) ∙ e)) mine
 low_next k es v act may old o mine = old o mine
 
 pub has_low : (k : Shape) (es : List Event) → Valid k es → (j : ℕ) (u : View) → get_elem? (run k es).views j ≡ some u → Low k j u
@@ -264,11 +265,11 @@ nothing k es u e =
   where
     never : {A : Type 0} (x : Addr) → Owns k es u x → A
     never (block o i) mine = off (sym (ap (has o) e) ∙ mine)
-    never (cell t i) mine = ⊎_elim (λ (x : stage t u.log ≡ 1). let z : stage t u.log ≡ 0 = ap (stage t) e in absurd (omega (arith, x, z))) (λ (x : (o : ℕ) × (o < k.containers) × (has o u.log ≡ true) × (root k es o ≡ suc t)). off (sym (ap (has x.0) e) ∙ x.2)) mine
+    never (cell t i) mine = ⊎_elim (λ (x : stage t u.log ≡ 1). let z : stage t u.log ≡ 0 = ap (stage t) e in absurd (omega (arith, x, z))) (λ (x : (o : ℕ) × (o < containers_in k) × (has o u.log ≡ true) × (root k es o ≡ suc t)). off (sym (ap (has x.0) e) ∙ x.2)) mine
     never counter mine = absurd mine
     never write_number mine = absurd mine
     never (announced_of p) mine = absurd mine
-    never (count_of c) mine = absurd mine
+    never (count_of_class c) mine = absurd mine
     never (bits c) mine = absurd mine
     never (lock_of o) mine = absurd mine
     never (version_of o) mine = absurd mine

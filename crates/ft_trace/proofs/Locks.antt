@@ -1,5 +1,5 @@
 -- A lock word names a pass exactly where that pass has the lock.
-use Rattle.std.proofs.Common.{◌≡◌, ◌≢◌, ℕ, eqb, eq-eqb, ne_eqb, ◌<◌, Bool, true, false, cond, List, [], ◌∷◌, set, sym, ap, ◌∙◌, subst, refl, arith}
+use Rattle.std.proofs.Common.{◌≡◌, ◌≢◌, ℕ, eqb, eq-eqb, ne_eqb, ◌<◌, Bool, true, false, cond, List, [], ◌∷◌, set, sym, ap, ◌∙◌, subst, refl}
 use mathlib.Core.Option.{some, some-injective}
 use mathlib.Core.Logic.{dite}
 use native.Mathlib.Decide.{ℕ_discrete}
@@ -9,13 +9,13 @@ use Rattle.ft_trace.specs.declared.Shape.{Shape}
 use Rattle.ft_trace.specs.declared.View.{View}
 use Rattle.ft_trace.specs.declared.Act.{Act}
 use Rattle.ft_trace.specs.declared.Act.TheVariants.{Lock, Unlock}
-use Rattle.ft_trace.specs.Addrs.{lock_of}
+use Rattle.ft_trace.specs.Addrs.{lock_of, containers_in}
 use Rattle.ft_trace.specs.Acts.{place, Reports, has, has_next, starter, noted, maker, made, both, spent}
 use Rattle.ft_trace.specs.Traces.{Event, did, forked, joined, run, word, history, May, Valid}
 use Rattle.ft_trace.proofs.Sizes.{set_at, set_views, one_more, one_view}
 use Rattle.atomic_table.proofs.Lists.{set_else, at_longer}
 use Rattle.ft_trace.proofs.Cases.{hit, miss, here, off, same_or}
-use Rattle.ft_trace.proofs.Addrs.{block_first}
+use Rattle.ft_trace.proofs.Addrs.{lock_first}
 use Rattle.ft_trace.proofs.Words.{stays, moves}
 use Rattle.ft_trace.proofs.Seats.{same_seat, holder_lives}
 
@@ -30,7 +30,7 @@ module _ (o : ℕ) (F : Act → Type 0) (lock : (f : ℕ) (s : _) → F (Lock o 
 abbrev pub Names : Shape → List Event → ℕ → ℕ → View → Type 0
 Names k es o j u = has o u.log ≡ true → word k es (lock_of o) ≡ u.number
 
-pub names : (k : Shape) (es : List Event) → Valid k es → (o : ℕ) → o < k.containers → (j : ℕ) (u : View) → get_elem? (run k es).views j ≡ some u → Names k es o j u
+pub names : (k : Shape) (es : List Event) → Valid k es → (o : ℕ) → o < containers_in k → (j : ℕ) (u : View) → get_elem? (run k es).views j ≡ some u → Names k es o j u
 names k [] valid o low = one_view (Names k [] o) (starter k) (λ no. off no)
 names k (did id v a ∷ es) valid o low =
     let old = names k es valid.0 o low in
@@ -75,8 +75,8 @@ other_holds views o id w v at keeps h =
     (id, w, set_at views id v w at, keeps (subst (λ (z : View). has o z.log ≡ true) u h.3)))
     (λ ne. (h.0, h.1, set_else views id h.0 w ne ∙ h.2, h.3))
 
-pub holder : (k : Shape) (es : List Event) → Valid k es → (o : ℕ) → o < k.containers → word k es (lock_of o) ≢ 0 → Holder (run k es).views o
-holder k [] valid o low some_one = absurd (some_one (block_first k _ (omega arith) (omega arith)))
+pub holder : (k : Shape) (es : List Event) → Valid k es → (o : ℕ) → o < containers_in k → word k es (lock_of o) ≢ 0 → Holder (run k es).views o
+holder k [] valid o low some_one = absurd (some_one (lock_first k o low))
 holder k (did id v a ∷ es) valid o low here =
     let old = holder k es valid.0 o low in
     let at = word k es (lock_of o) in
@@ -100,6 +100,6 @@ holder k (joined id v other w ∷ es) valid o low some_one =
     other_holds (set (run k es).views id (both v w)) o other spent w (set_else (run k es).views id other (both v w) valid.1.1 ∙ valid.1.2) (λ mine. off (sym (valid.1.5.0 o) ∙ mine)) h
 
 -- one pass at most has a lock
-pub one_holder : (k : Shape) (es : List Event) → Valid k es → (o : ℕ) → o < k.containers → (i j : ℕ) (u w : View) → get_elem? (run k es).views i ≡ some u → get_elem? (run k es).views j ≡ some w → has o u.log ≡ true → has o w.log ≡ true → i ≡ j
+pub one_holder : (k : Shape) (es : List Event) → Valid k es → (o : ℕ) → o < containers_in k → (i j : ℕ) (u w : View) → get_elem? (run k es).views i ≡ some u → get_elem? (run k es).views j ≡ some w → has o u.log ≡ true → has o w.log ≡ true → i ≡ j
 one_holder k es valid o low i j u w at there mine theirs =
     same_seat k es valid i j u w at there (holder_lives k es valid i u at o mine) (sym (names k es valid o low i u at mine) ∙ names k es valid o low j w there theirs)

@@ -5,16 +5,18 @@ use mathlib.Core.Option.{some}
 use mathlib.Core.Logic.{dite}
 use native.Mathlib.Decide.{ℕ_discrete}
 use lib.ListN.{get_elem?}
-use Rattle.ft_trace.specs.declared.Call.{Call}
+use Rattle.ft_model.specs.declared.call.Call.{Call}
 use Rattle.ft_trace.specs.declared.Shape.{Shape}
 use Rattle.ft_trace.specs.declared.View.{View}
 use Rattle.ft_trace.specs.declared.Act.{Act}
 use Rattle.ft_trace.specs.declared.Act.TheVariants.{PutRoot, PutTable, Commit, StartWrite, StopWrite}
-use Rattle.ft_trace.specs.Addrs.{counter, cell, cls, slots, places}
+use Rattle.ft_trace.specs.Addrs.{counter, cell, cls}
 use Rattle.ft_trace.specs.Acts.{writes, writes_next, done, done_next, noted, maker, made, both, spent}
-use Rattle.ft_trace.specs.Words.{entry_of}
-use Rattle.ft_trace.specs.Carefuls.{Timely}
-use Rattle.ft_trace.specs.Traces.{Event, did, forked, joined, run, writes_of, history, Valid}
+use Rattle.ft_trace.specs.Worlds.{kind_in}
+use Rattle.ft_trace.specs.Kinds.{rows, version_at}
+use Rattle.ft_trace.specs.Addrs.{containers_in}
+use Rattle.ft_trace.proofs.ByKind.{as_version, row_low}
+use Rattle.ft_trace.specs.Traces.{Event, did, forked, joined, run, writes_of, history, CarefulFor, TimelyFor, Valid}
 use Rattle.ft_trace.proofs.Sizes.{set_views, one_more}
 use Rattle.ft_trace.proofs.Cases.{hit, miss, off, same_or}
 use Rattle.ft_trace.proofs.Addrs.{block_first}
@@ -25,24 +27,24 @@ use Rattle.ft_trace.proofs.Versions.{writer_has}
 use Rattle.ft_trace.proofs.Places.{root, on_root, root_table, placed}
 use Rattle.ft_trace.proofs.Contents.{count, counted, tab}
 use Rattle.ft_trace.proofs.Stamps.{grows_by}
-use Rattle.ft_trace.proofs.Sounds.{on_cells, put_tab}
+use Rattle.ft_trace.proofs.Sounds.{content, on_cells, put_tab}
 use Rattle.ft_trace.proofs.Rooms.{counter_room}
 
-abbrev N : ℕ → ℕ
-N t = slots (cls t)
+abbrev V : Shape → ℕ → ℕ → ℕ → ℕ
+V k o t p = version_at (kind_in k.kinds o) (cls t) p
 
-abbrev P : ℕ → ℕ
-P t = places (cls t)
+abbrev R : Shape → ℕ → ℕ → ℕ
+R k o t = rows (kind_in k.kinds o) (cls t)
 
 -- what holds of the versions, as far as the pass that writes o has come
 pub record Lows (k : Shape) (es : List Event) (o t : ℕ) : Type 0 where
-  pub even : (p : ℕ) → p < places (cls t) → entry_of (slots (cls t)) (tab k es t) p 3 % 2 ≡ 0 → entry_of (slots (cls t)) (tab k es t) p 3 ≤ 2 * count k es
-  pub odd : (p : ℕ) → p < places (cls t) → entry_of (slots (cls t)) (tab k es t) p 3 ≤ 2 * count k es + 1
-  pub written : (j : ℕ) (u : View) → get_elem? (run k es).views j ≡ some u → writes o u.log ≡ true → done o u.log ≡ true → (p : ℕ) → p < places (cls t) → entry_of (slots (cls t)) (tab k es t) p 3 ≤ 2 * count k es
+  pub even : (p : ℕ) → p < R k o t → slice_index (tab k es t) (V k o t p) % 2 ≡ 0 → slice_index (tab k es t) (V k o t p) ≤ 2 * count k es
+  pub odd : (p : ℕ) → p < R k o t → slice_index (tab k es t) (V k o t p) ≤ 2 * count k es + 1
+  pub written : (j : ℕ) (u : View) → get_elem? (run k es).views j ≡ some u → writes o u.log ≡ true → done o u.log ≡ true → (p : ℕ) → p < R k o t → slice_index (tab k es t) (V k o t p) ≤ 2 * count k es
 
 -- a pass that has just committed or is as far as before
 come : (o : ℕ) (b : Act) (v : View) → writes_next o b (writes o v.log) ≡ true → done_next o b (done o v.log) ≡ true → ((writes o v.log ≡ true) × (done o v.log ≡ true)) ⊎ ((cs : List Call) → length (writes_of b cs) ≡ suc (length cs))
-come o (Commit c r f) v w d = inr (λ cs. refl)
+come o (Commit c r f s) v w d = inr (λ cs. refl)
 come o (StartWrite p f) v w d =
     same_or (λ (z : ℕ). cond (eqb z o) true (writes o v.log) ≡ true → cond (eqb z o) false (done o v.log) ≡ true → ((writes o v.log ≡ true) × (done o v.log ≡ true)) ⊎ ((cs : List Call) → length (writes_of (StartWrite z f) cs) ≡ suc (length cs))) p o
     (λ _ d. off (sym (hit o false (done o v.log)) ∙ d)) (λ ne w d. inl (sym (miss p o true (writes o v.log) ne) ∙ w, sym (miss p o false (done o v.log) ne) ∙ d)) w d
@@ -51,8 +53,8 @@ come o (StopWrite p f) v w d =
     (λ w. off (sym (hit o false (writes o v.log)) ∙ w)) (λ ne w. inl (sym (miss p o false (writes o v.log) ne) ∙ w, d)) w
 come o act v w d = inl (w, d)
 
-pub lows : (k : Shape) (es : List Event) → Valid k es → (o : ℕ) → o < k.containers → (t : ℕ) → root k es o ≡ suc t → Lows k es o t
-lows k [] valid o low t e = let z : root k [] o ≡ 0 = block_first k _ (omega arith) (omega arith) in absurd (omega (arith, z, e))
+pub lows : (k : Shape) (es : List Event) → Valid k es → (o : ℕ) → o < containers_in k → (t : ℕ) → root k es o ≡ suc t → Lows k es o t
+lows k [] valid o low t e = let z : root k [] o ≡ 0 = block_first k o 0 low (omega arith) in absurd (omega (arith, z, e))
 lows k (did id v a ∷ es) valid o low t e =
     let table = root_table k (did id v a ∷ es) valid o low t e in
     let C = count k es in
@@ -68,11 +70,11 @@ lows k (did id v a ∷ es) valid o low t e =
     let same = table_same k t (run k (did id v A ∷ es)).words (run k es).words (λ i small. stays k es id v A ok.1.3 (cell t i) (table, small) (λ e. absurd (cc))) in
     let c = stays k es id v A ok.1.3 counter tt (λ e. absurd (cc)) in
     let l = ok.1.3.6 t is in
-    let at : (p : ℕ) → entry_of (N t) (tab k (did id v A ∷ es) t) p 3 ≡ entry_of (N t) (tab k es t) p 3 = λ p. ap (λ (z : List ℕ). entry_of (N t) z p 3) same in
+    let at : (p : ℕ) → slice_index (tab k (did id v A ∷ es) t) (V k o t p) ≡ slice_index (tab k es t) (V k o t p) = λ p. ap (λ (z : List ℕ). slice_index z (V k o t p)) same in
     record {
       even = λ p less two. let s = at p in let h = l.even p less (ap (λ (z : ℕ). z % 2) (sym s) ∙ two) in omega (arith, s, h, c);
       odd = λ p less. let s = at p in let h = l.odd p less in omega (arith, s, h, c);
-      written = set_views (λ j u. writes o u.log ≡ true → done o u.log ≡ true → (p : ℕ) → p < P t → entry_of (N t) (tab k (did id v A ∷ es) t) p 3 ≤ 2 * C' A) _ id (noted A v)
+      written = set_views (λ j u. writes o u.log ≡ true → done o u.log ≡ true → (p : ℕ) → p < R k o t → slice_index (tab k (did id v A ∷ es) t) (V k o t p) ≤ 2 * C' A) _ id (noted A v)
           (λ _ d p less. let s = at p in let h = l.written d p less in omega (arith, s, h, c))
           (λ j u ne at w. absurd (alone j u ne at ok.1.3.1 w));
     })
@@ -87,18 +89,19 @@ lows k (did id v a ∷ es) valid o low t e =
     let its = placed k es ok.0 t table in
     let same : q ≡ o = sym (its.roots q may.0 may.4).1 ∙ (its.roots o low names).1 in
     let writing : writes o v.log ≡ true = subst (λ (z : ℕ). writes z v.log ≡ true) same may.3 in
-    let timely : Timely (N t) (P t) i x (done o v.log) = subst (λ (z : ℕ). Timely (N t) (P t) i x (done z v.log)) same may.6 in
+    let timely : TimelyFor k o t i x (done o v.log) = subst (λ (z : ℕ). TimelyFor k z t i x (done z v.log)) same may.6 in
+    let care = subst (λ (z : ℕ). CarefulFor k (run k es).words z t (content k es z) i x) same may.5 in
     let c = stays k es id v A may counter tt (λ e. absurd (cc)) in
     let ws = tab k es t in
     let zs = tab k (did id v A ∷ es) t in
     let is : zs ≡ slice_set ws i x = put_tab k es id v q t i x table may.2 in
     let long = table_long k t (run k es).words in
-    let else : (p : ℕ) → i ≢ 4 * p + 3 + N t → entry_of (N t) zs p 3 ≡ entry_of (N t) ws p 3 = λ p ne. ap (λ (z : List ℕ). entry_of (N t) z p 3) is ∙ get_or-set_other ws i (4 * p + 3 + N t) x 0 (λ e. ne (sym e)) in
-    let there : (p : ℕ) → p < P t → i ≡ 4 * p + 3 + N t → (entry_of (N t) zs p 3 ≡ x) × (x ≡ suc (entry_of (N t) ws p 3)) = λ p less e. (ap (λ (z : List ℕ). entry_of (N t) z p 3) is ∙ (ap (λ (z : ℕ). slice_index (slice_set ws z x) (4 * p + 3 + N t)) e ∙ get_or-set_same ws (4 * p + 3 + N t) x 0 (omega (arith, long))), may.5.version p less e) in
+    let else : (p : ℕ) → i ≢ V k o t p → slice_index zs (V k o t p) ≡ slice_index ws (V k o t p) = λ p ne. ap (λ (z : List ℕ). slice_index z (V k o t p)) is ∙ get_or-set_other ws i (V k o t p) x 0 (λ e. ne (sym e)) in
+    let there : (p : ℕ) → p < R k o t → i ≡ V k o t p → (slice_index zs (V k o t p) ≡ x) × (x ≡ slice_index ws (V k o t p) + 1) = λ p less e. (ap (λ (z : List ℕ). slice_index z (V k o t p)) is ∙ (ap (λ (z : ℕ). slice_index (slice_set ws z x) (V k o t p)) e ∙ get_or-set_same ws (V k o t p) x 0 (subst (λ (z : ℕ). V k o t p < z) (sym long) (row_low (kind_in k.kinds o) (cls t) p table.0 less))), as_version (kind_in k.kinds o) (cls t) ws (content k es o) i x care p less e) in
     record {
       even = λ p less two.
-          dite (ℕ_discrete i (4 * p + 3 + N t))
-          (λ (e : i ≡ 4 * p + 3 + N t).
+          dite (ℕ_discrete i (V k o t p))
+          (λ (e : i ≡ V k o t p).
           let h = there p less e in
           let h0 = h.0 in
           let h1 = h.1 in
@@ -107,8 +110,8 @@ lows k (did id v a ∷ es) valid o low t e =
           omega (arith, h0, h1, b, c, two))
           (λ ne. let s = else p ne in let h = old.even p less (ap (λ (z : ℕ). z % 2) (sym s) ∙ two) in omega (arith, s, h, c));
       odd = λ p less.
-          dite (ℕ_discrete i (4 * p + 3 + N t))
-          (λ (e : i ≡ 4 * p + 3 + N t).
+          dite (ℕ_discrete i (V k o t p))
+          (λ (e : i ≡ V k o t p).
           let h = there p less e in
           let h0 = h.0 in
           let h1 = h.1 in
@@ -116,11 +119,11 @@ lows k (did id v a ∷ es) valid o low t e =
           (λ (two : x % 2 ≡ 0). let b = old.written id v ok.1.0 writing (timely.later p less e two) p less in omega (arith, h0, h1, b, c))
           (λ one. let b = old.even p less (omega (arith, h1, one)) in omega (arith, h0, h1, b, c)))
           (λ ne. let s = else p ne in let h = old.odd p less in omega (arith, s, h, c));
-      written = set_views (λ j u. writes o u.log ≡ true → done o u.log ≡ true → (p : ℕ) → p < P t → entry_of (N t) zs p 3 ≤ 2 * C' A) _ id (noted A v)
+      written = set_views (λ j u. writes o u.log ≡ true → done o u.log ≡ true → (p : ℕ) → p < R k o t → slice_index zs (V k o t p) ≤ 2 * C' A) _ id (noted A v)
           (λ w d p less.
           let b = old.written id v ok.1.0 w d p less in
-          dite (ℕ_discrete i (4 * p + 3 + N t))
-          (λ (e : i ≡ 4 * p + 3 + N t).
+          dite (ℕ_discrete i (V k o t p))
+          (λ (e : i ≡ V k o t p).
           let h = there p less e in
           let h0 = h.0 in
           let h1 = h.1 in
@@ -132,12 +135,12 @@ lows k (did id v a ∷ es) valid o low t e =
     (λ i x ok. let one = ok.1.3.2 in let its = placed k es ok.0 t table in let a = (its.hands id v ok.1.0 (λ z. absurd (omega (arith, z, one)))).0 in let b = (its.roots o low names).0 in absurd (omega (arith, a, b, one)))
     (λ b same_by ok.
     let same = same_by ok.1.3 in
-    let at : (p : ℕ) → entry_of (N t) (tab k (did id v b ∷ es) t) p 3 ≡ entry_of (N t) (tab k es t) p 3 = λ p. ap (λ (z : List ℕ). entry_of (N t) z p 3) same in
+    let at : (p : ℕ) → slice_index (tab k (did id v b ∷ es) t) (V k o t p) ≡ slice_index (tab k es t) (V k o t p) = λ p. ap (λ (z : List ℕ). slice_index z (V k o t p)) same in
     let c = up b ok in
     record {
       even = λ p less two. let s = at p in let h = old.even p less (ap (λ (z : ℕ). z % 2) (sym s) ∙ two) in omega (arith, s, h, c);
       odd = λ p less. let s = at p in let h = old.odd p less in omega (arith, s, h, c);
-      written = set_views (λ j u. writes o u.log ≡ true → done o u.log ≡ true → (p : ℕ) → p < P t → entry_of (N t) (tab k (did id v b ∷ es) t) p 3 ≤ 2 * C' b) _ id (noted b v)
+      written = set_views (λ j u. writes o u.log ≡ true → done o u.log ≡ true → (p : ℕ) → p < R k o t → slice_index (tab k (did id v b ∷ es) t) (V k o t p) ≤ 2 * C' b) _ id (noted b v)
           (λ w d p less.
           let s = at p in
           ⊎_elim
@@ -150,13 +153,13 @@ lows k (did id v a ∷ es) valid o low t e =
     a valid e
 lows k (forked id v ∷ es) valid o low t e =
     let old = lows k es valid.0 o low t e in
-    let W : ℕ → View → Type 0 = λ j u. writes o u.log ≡ true → done o u.log ≡ true → (p : ℕ) → p < P t → entry_of (N t) (tab k es t) p 3 ≤ 2 * count k es in
+    let W : ℕ → View → Type 0 = λ j u. writes o u.log ≡ true → done o u.log ≡ true → (p : ℕ) → p < R k o t → slice_index (tab k es t) (V k o t p) ≤ 2 * count k es in
     record { even = old.even; odd = old.odd; written = one_more W _ (made v) (λ no. off no) (set_views W _ id (maker v) (old.written id v valid.1.0) (λ j u _ at. old.written j u at)) }
 lows k (joined id v other w ∷ es) valid o low t e =
     let old = lows k es valid.0 o low t e in
-    let W : ℕ → View → Type 0 = λ j u. writes o u.log ≡ true → done o u.log ≡ true → (p : ℕ) → p < P t → entry_of (N t) (tab k es t) p 3 ≤ 2 * count k es in
+    let W : ℕ → View → Type 0 = λ j u. writes o u.log ≡ true → done o u.log ≡ true → (p : ℕ) → p < R k o t → slice_index (tab k es t) (V k o t p) ≤ 2 * count k es in
     record { even = old.even; odd = old.odd; written = set_views W _ other spent (λ no. off no) (λ j u _. set_views W _ id (both v w) (old.written id v valid.1.0) (λ j u _ at. old.written j u at) j u) }
 
 -- an entry's version has room for two steps
-pub entry_room : (k : Shape) (es : List Event) → Valid k es → (o : ℕ) → o < k.containers → (t : ℕ) → root k es o ≡ suc t → (p : ℕ) → p < places (cls t) → entry_of (slots (cls t)) (tab k es t) p 3 ≤ 2 * (k.passes * k.calls) + 1
+pub entry_room : (k : Shape) (es : List Event) → Valid k es → (o : ℕ) → o < containers_in k → (t : ℕ) → root k es o ≡ suc t → (p : ℕ) → p < R k o t → slice_index (tab k es t) (V k o t p) ≤ 2 * (k.passes * k.calls) + 1
 entry_room k es valid o low t names p less = let a = (lows k es valid o low t names).odd p less in let b = counter_room k es valid in omega (arith, a, b)

@@ -1,98 +1,189 @@
 -- The look-up of a key that is not found: it is absent at the counter that was loaded, whatever was written meanwhile under other keys.
-use Rattle.std.proofs.Common.{◌≡◌, ◌⊎◌, ℕ, suc, ◌+◌, ◌*◌, ◌%◌, ◌<◌, ◌≤◌, true, List, ◌∷◌, ◌++◌, refl, sym, ap, ◌∙◌, ⊎_elim, arith}
+use Rattle.std.proofs.Common.{◌≡◌, ◌≢◌, ◌⊎◌, ℕ, suc, ◌+◌, ◌%◌, ◌<◌, ◌≤◌, true, List, [], ◌∷◌, ◌++◌, refl, sym, ap, ◌∙◌, subst, ⊎_elim, arith, le_refl}
+use Rattle.std.specs.Prelude.{slice_index}
 use Rattle.std.proofs.Math.Decide.{dec_lt}
 use mathlib.Core.Option.{some}
 use mathlib.Core.Logic.{dite}
 use native.Mathlib.Decide.{ℕ_discrete}
 use lib.ListN.{get_elem?}
+use Rattle.ft_model.specs.declared.call.Call.{Call}
+use Rattle.ft_model.specs.declared.data.Key.{Key}
+use Rattle.ft_layout.specs.Words.{key_kind, gone_kind, key_payload}
 use Rattle.ft_trace.specs.declared.Shape.{Shape}
 use Rattle.ft_trace.specs.declared.View.{View}
 use Rattle.ft_trace.specs.declared.Act.{Act}
 use Rattle.ft_trace.specs.declared.Act.TheVariants.{ReadTable, ReadCounter}
-use Rattle.ft_trace.specs.Addrs.{IsTable, cls, slots, places}
+use Rattle.ft_trace.specs.Addrs.{containers_in, IsTable, cls, slots, places}
 use Rattle.ft_trace.specs.Acts.{reads}
 use Rattle.ft_trace.specs.Ages.{whose}
-use Rattle.ft_trace.specs.Worlds.{world, world_at}
-use Rattle.ft_trace.specs.Words.{index_of, entry_of, slot_of}
-use Rattle.ft_trace.specs.Carefuls.{Reached}
-use Rattle.ft_trace.specs.Finding.{Other, Dead, Beyond, Left, Visit, Miss}
+use Rattle.ft_trace.specs.Worlds.{kept, first_writes, kind_in}
+use Rattle.ft_trace.specs.Words.{index_of, entry_at, entry_of, walk_of}
+use Rattle.ft_trace.specs.Carefuls.{IsLive, IsDead, Reached, Later}
+use Rattle.ft_trace.specs.Kinds.{under, IsKeyed}
+use Rattle.ft_trace.specs.Finding.{OtherKind, OtherPayload, Dead, Beyond, Passed, Visit, Miss, Full}
 use Rattle.ft_trace.specs.Traces.{Event, run, history, Valid}
 use Rattle.ft_trace.proofs.Contents.{count, tab}
-use Rattle.ft_trace.proofs.Carefuls.{slot_low}
-use Rattle.ft_trace.proofs.Sounds.{sound_at}
-use Rattle.ft_trace.proofs.Spots.{under_trans, stamp_then, Spot, Back, go, Opened, open_window, named_by, found}
+use Rattle.ft_trace.proofs.Carefuls.{kind_is, later_used, later_dead, none_or}
+use Rattle.ft_trace.proofs.ByKind.{keyed_later, keyed_sound}
+use Rattle.ft_trace.proofs.Sounds.{LaterIn, sound_at}
+use Rattle.ft_trace.proofs.Spots.{Under, under_trans, stamp_then, Spot, Back, go, Opened, open_window, named_by, found}
 
--- an entry that was visited on the walk is not one that the key's walk meets
-module _ (k : Shape) (o key t j : ℕ) (low : o < k.containers) (table : IsTable k t) (start walk : List Act) (read : reads t start ≡ true) (s : Spot k t j start walk) (whom : whose s.es t ≡ o) (slot place p : ℕ) (in_table : slot < slots (cls t)) (low_place : place < places (cls t)) (low_p : p < places (cls t))
-    (here : index_of (tab k s.es t) slot ≡ suc p) (mine : entry_of (slots (cls t)) (tab k s.es t) p 1 ≡ key) (alive : (entry_of (slots (cls t)) (tab k s.es t) p 0 ≡ 1) ⊎ (entry_of (slots (cls t)) (tab k s.es t) p 3 % 2 ≡ 1)) where
+-- an entry that was passed on the walk is not one that the key's walk meets
+module _ (k : Shape) (o : ℕ) (key : Key) (t j : ℕ) (low : o < containers_in k) (keyed : IsKeyed (kind_in k.kinds o)) (table : IsTable k t) (start walk : List Act) (read : reads t start ≡ true) (s : Spot k t j start walk) (whom : whose s.es t ≡ o) (slot place p : ℕ) (in_table : slot < slots (cls t)) (low_place : place < places (cls t)) (low_p : p < places (cls t))
+    (here : index_of (tab k s.es t) slot ≡ suc p) (mine : IsLive (slots (cls t)) (tab k s.es t) p key ⊎ IsDead (slots (cls t)) (tab k s.es t) p key) (alive : (entry_of (slots (cls t)) (tab k s.es t) p 2 ≡ key_kind key) ⊎ (entry_of (slots (cls t)) (tab k s.es t) p 0 % 2 ≡ 1)) where
   abbrev N : ℕ
   N = slots (cls t)
 
+  abbrev M : ℕ
+  M = places (cls t)
+
   back : (walk : List Act) (s : Spot k t j start walk) (xs : List Act) (a : Act) (rest : List Act) → walk ≡ xs ++ a ∷ rest → Back k t j start s.es a rest
   back walk s xs a rest is = go k t j start walk table read s xs a rest is
+
+  later_from : (from : List Event) (a : Act) (rest : List Act) → whose from t ≡ o → (b : Back k t j start from a rest) → Later N M (tab k b.spot.es t) (tab k from t)
+  later_from from a rest whom b = keyed_later (kind_in k.kinds o) keyed (cls t) (tab k b.spot.es t) (tab k from t) (subst (λ (z : ℕ). LaterIn k z t (tab k b.spot.es t) (tab k from t)) whom b.later)
 
   pub beyond_table : Beyond walk t slot → ⊥
   beyond_table h =
       let ia : Act = ReadTable t slot (suc h.place) in
       let iw = back walk s h.newer ia h.rest h.is in
       let index_read : suc h.place ≡ index_of (tab k iw.spot.es t) slot = found k t j slot (suc h.place) start h.rest s.es (omega arith) iw in
-      let x = iw.later.index slot in_table (λ none. absurd (omega (arith, none, index_read))) in
+      let x = (later_from s.es ia h.rest whom iw).index slot in_table (λ none. absurd (omega (arith, none, index_read))) in
       let high = h.high in
       absurd (omega (arith, x, index_read, here, high, low_p))
 
-  other_key : Other walk t slot place key → ⊥
-  other_key h =
-      let ka : Act = ReadTable t (4 * place + 1 + N) h.found in
-      let ia : Act = ReadTable t slot (suc place) in
-      let kw = back walk s h.newer ka (h.mid ++ ia ∷ h.rest) h.is in
-      let iw = back (h.mid ++ ia ∷ h.rest) kw.spot h.mid ia h.rest refl in
-      let index_read : suc place ≡ index_of (tab k iw.spot.es t) slot = found k t j slot (suc place) start h.rest kw.spot.es (omega arith) iw in
-      let key_read : h.found ≡ entry_of N (tab k kw.spot.es t) place 1 = found k t j (4 * place + 1 + N) h.found start (h.mid ++ ia ∷ h.rest) s.es (omega arith) kw in
-      let names = named_by k iw.spot.es iw.spot.valid o t table iw.spot.now (iw.whom ∙ (kw.whom ∙ whom)) in
-      let used = (sound_at k iw.spot.es iw.spot.valid o low t names).named slot place in_table low_place (sym index_read) in
-      let used' = iw.later.used place low_place used in
-      let to_here : index_of (tab k s.es t) slot ≡ suc place =
-      (let x = iw.later.index slot in_table (λ none. absurd (omega (arith, none, index_read))) in
-      let y : index_of (tab k kw.spot.es t) slot ≡ suc place = x ∙ sym index_read in kw.later.index slot in_table (λ none. absurd (omega (arith, none, y))) ∙ y) in
-      let same : place ≡ p = omega (arith, to_here, here) in
-      h.apart (key_read ∙ (sym (kw.later.key place low_place used') ∙ (ap (λ (z : ℕ). entry_of N (tab k s.es t) z 1) same ∙ mine)))
+  -- a word of the entry that was read after the slot, and its kind then
+  module _ (newer mid rest : List Act) (w f : ℕ) (small : w < 8) (is : walk ≡ newer ++ ReadTable t (entry_at N place w) f ∷ (mid ++ ReadTable t slot (suc place) ∷ rest)) where
+    abbrev ka : Act
+    ka = ReadTable t (entry_at N place w) f
 
-  dead_entry : Dead walk t slot place → ⊥
+    abbrev ia : Act
+    ia = ReadTable t slot (suc place)
+
+    abbrev kw : Back k t j start s.es ka (mid ++ ia ∷ rest)
+    kw = back walk s newer ka (mid ++ ia ∷ rest) is
+
+    abbrev iw : Back k t j start kw.spot.es ia rest
+    iw = back (mid ++ ia ∷ rest) kw.spot mid ia rest refl
+
+    word_read : f ≡ entry_of N (tab k kw.spot.es t) place w
+    word_read = found k t j (entry_at N place w) f start (mid ++ ia ∷ rest) s.es (omega arith) kw
+
+    index_read : suc place ≡ index_of (tab k iw.spot.es t) slot
+    index_read = found k t j slot (suc place) start rest kw.spot.es (omega arith) iw
+
+    k_later : Later N M (tab k kw.spot.es t) (tab k s.es t)
+    k_later = later_from s.es ka (mid ++ ia ∷ rest) whom kw
+
+    i_later : Later N M (tab k iw.spot.es t) (tab k kw.spot.es t)
+    i_later = later_from kw.spot.es ia rest (kw.whom ∙ whom) iw
+
+    used : entry_of N (tab k kw.spot.es t) place 2 ≢ 0
+    used =
+        let names = named_by k iw.spot.es iw.spot.valid o t table iw.spot.now (iw.whom ∙ (kw.whom ∙ whom)) in
+        let sound = keyed_sound (kind_in k.kinds o) keyed k.texts (cls t) (tab k iw.spot.es t) (kept k.kinds (history iw.spot.es) o).content (sound_at k iw.spot.es iw.spot.valid o low t names) in
+        later_used N M (tab k iw.spot.es t) (tab k kw.spot.es t) i_later place low_place (sound.named slot place in_table low_place (sym index_read))
+
+    same : place ≡ p
+    same =
+        let x = i_later.index slot in_table (λ none. absurd (omega (arith, none, index_read))) in
+        let y : index_of (tab k kw.spot.es t) slot ≡ suc place = x ∙ sym index_read in
+        let z = k_later.index slot in_table (λ none. absurd (omega (arith, none, y))) in
+        omega (arith, y, z, here)
+
+  other_kind : OtherKind walk t slot place key → ⊥
+  other_kind h =
+      let u = used h.newer h.mid h.rest 2 h.found (omega arith) h.is in
+      let f = word_read h.newer h.mid h.rest 2 h.found (omega arith) h.is in
+      let e = same h.newer h.mid h.rest 2 h.found (omega arith) h.is in
+      let l = (k_later h.newer h.mid h.rest 2 h.found (omega arith) h.is).kind place low_place u in
+      let there : entry_of N (tab k s.es t) place 2 ≡ entry_of N (tab k s.es t) p 2 = ap (λ (z : ℕ). entry_of N (tab k s.es t) z 2) e in
+      let ks = kind_is key in
+      let k0 = ks.0 in
+      let k1 = ks.1 in
+      let k2 = ks.2 in
+      let live = h.live in
+      let dead = h.dead in
+      let kind_then = entry_of N (tab k (kw h.newer h.mid h.rest 2 h.found (omega arith) h.is).spot.es t) place 2 in
+      ⊎_elim
+      (λ (x : entry_of N (tab k s.es t) place 2 ≡ kind_then).
+      ⊎_elim (λ (m : IsLive N (tab k s.es t) p key). live (f ∙ (sym x ∙ (there ∙ m.0)))) (λ (m : IsDead N (tab k s.es t) p key). dead (f ∙ (sym x ∙ (there ∙ m.0)))) mine)
+      (λ (x : (kind_then < 3) × (entry_of N (tab k s.es t) place 2 ≡ kind_then + 2)).
+      let x0 = x.0 in
+      let x1 = x.1 in
+      ⊎_elim (λ (m : IsLive N (tab k s.es t) p key). let m0 = m.0 in absurd (omega (arith, x1, there, m0, k1, u)))
+      (λ (m : IsDead N (tab k s.es t) p key). let m0 = m.0 in let z : kind_then ≡ key_kind key = omega (arith, x1, there, m0, k2) in live (f ∙ z)) mine)
+      l
+
+  other_payload : OtherPayload walk t slot place key → ⊥
+  other_payload h =
+      let u = used h.newer h.mid h.rest 3 h.found (omega arith) h.is in
+      let f = word_read h.newer h.mid h.rest 3 h.found (omega arith) h.is in
+      let e = same h.newer h.mid h.rest 3 h.found (omega arith) h.is in
+      let l = (k_later h.newer h.mid h.rest 3 h.found (omega arith) h.is).key place low_place u in
+      let there : entry_of N (tab k s.es t) place 3 ≡ entry_of N (tab k s.es t) p 3 = ap (λ (z : ℕ). entry_of N (tab k s.es t) z 3) e in
+      let payload : entry_of N (tab k s.es t) p 3 ≡ key_payload key = ⊎_elim (λ (m : IsLive N (tab k s.es t) p key). m.1) (λ (m : IsDead N (tab k s.es t) p key). m.1) mine in
+      h.apart (f ∙ (sym l ∙ (there ∙ payload)))
+
+  dead_entry : Dead walk t slot place key → ⊥
   dead_entry h =
-      let va : Act = ReadTable t (4 * place + 3 + N) h.version in
-      let da : Act = ReadTable t (4 * place + 0 + N) 2 in
+      let va : Act = ReadTable t (entry_at N place 0) h.version in
+      let da : Act = ReadTable t (entry_at N place 2) (gone_kind key) in
       let ia : Act = ReadTable t slot (suc place) in
       let vw = back walk s h.newer va (h.mid ++ da ∷ h.rest) h.is in
       let dw = back (h.mid ++ da ∷ h.rest) vw.spot h.mid da h.rest refl in
       let iw = back walk s h.before ia h.older h.named in
+      let v_later = later_from s.es va (h.mid ++ da ∷ h.rest) whom vw in
+      let d_later = later_from vw.spot.es da h.rest (vw.whom ∙ whom) dw in
+      let i_later = later_from s.es ia h.older whom iw in
       let index_read : suc place ≡ index_of (tab k iw.spot.es t) slot = found k t j slot (suc place) start h.older s.es (omega arith) iw in
-      let same : place ≡ p = (let x = iw.later.index slot in_table (λ none. absurd (omega (arith, none, index_read))) in omega (arith, x, index_read, here)) in
-      let dead : 2 ≡ entry_of N (tab k dw.spot.es t) place 0 = found k t j (4 * place + 0 + N) 2 start h.rest vw.spot.es (omega arith) dw in
-      let version : h.version ≡ entry_of N (tab k vw.spot.es t) place 3 = found k t j (4 * place + 3 + N) h.version start (h.mid ++ da ∷ h.rest) s.es (omega arith) vw in
-      let then_dead : entry_of N (tab k vw.spot.es t) place 0 ≡ 2 = dw.later.dead place low_place (sym dead) in
-      let even : entry_of N (tab k vw.spot.es t) place 3 % 2 ≡ 0 = ap (λ (z : ℕ). z % 2) (sym version) ∙ h.even in
-      let now_dead : entry_of N (tab k s.es t) p 0 ≡ 2 = ap (λ (z : ℕ). entry_of N (tab k s.es t) z 0) (sym same) ∙ vw.later.dead place low_place then_dead in
-      let now_even : entry_of N (tab k s.es t) p 3 % 2 ≡ 0 = ap (λ (z : ℕ). entry_of N (tab k s.es t) z 3 % 2) (sym same) ∙ (ap (λ (z : ℕ). z % 2) (vw.later.gone place low_place then_dead even) ∙ even) in
-      ⊎_elim (λ (live : entry_of N (tab k s.es t) p 0 ≡ 1). absurd (omega (arith, live, now_dead))) (λ (odd : entry_of N (tab k s.es t) p 3 % 2 ≡ 1). absurd (omega (arith, odd, now_even))) alive
+      let same : place ≡ p = (let x = i_later.index slot in_table (λ none. absurd (omega (arith, none, index_read))) in omega (arith, x, index_read, here)) in
+      let dead : gone_kind key ≡ entry_of N (tab k dw.spot.es t) place 2 = found k t j (entry_at N place 2) (gone_kind key) start h.rest vw.spot.es (omega arith) dw in
+      let version : h.version ≡ entry_of N (tab k vw.spot.es t) place 0 = found k t j (entry_at N place 0) h.version start (h.mid ++ da ∷ h.rest) s.es (omega arith) vw in
+      let ks = kind_is key in
+      let k0 = ks.0 in
+      let k1 = ks.1 in
+      let k2 = ks.2 in
+      let high0 : 3 ≤ entry_of N (tab k dw.spot.es t) place 2 = omega (arith, dead, k0, k2) in
+      let then_dead = later_dead N M (tab k dw.spot.es t) (tab k vw.spot.es t) d_later place low_place high0 in
+      let high1 : 3 ≤ entry_of N (tab k vw.spot.es t) place 2 = omega (arith, then_dead, high0) in
+      let even : entry_of N (tab k vw.spot.es t) place 0 % 2 ≡ 0 = ap (λ (z : ℕ). z % 2) (sym version) ∙ h.even in
+      let now_dead : entry_of N (tab k s.es t) place 2 ≡ entry_of N (tab k vw.spot.es t) place 2 = later_dead N M (tab k vw.spot.es t) (tab k s.es t) v_later place low_place high1 in
+      let now_even : entry_of N (tab k s.es t) place 0 % 2 ≡ 0 = ap (λ (z : ℕ). z % 2) (v_later.gone place low_place high1 even) ∙ even in
+      let kind_p : entry_of N (tab k s.es t) place 2 ≡ entry_of N (tab k s.es t) p 2 = ap (λ (z : ℕ). entry_of N (tab k s.es t) z 2) same in
+      let version_p : entry_of N (tab k s.es t) place 0 ≡ entry_of N (tab k s.es t) p 0 = ap (λ (z : ℕ). entry_of N (tab k s.es t) z 0) same in
+      ⊎_elim (λ (live : entry_of N (tab k s.es t) p 2 ≡ key_kind key). absurd (omega (arith, live, kind_p, now_dead, high1, k1))) (λ (odd : entry_of N (tab k s.es t) p 0 % 2 ≡ 1). absurd (omega (arith, odd, version_p, now_even))) alive
 
--- a slot that was left past_front is not one that the key's walk meets
-pub left_behind : (k : Shape) (o key t j : ℕ) (low : o < k.containers) (table : IsTable k t) (start walk : List Act) (read : reads t start ≡ true) (s : Spot k t j start walk) (whom : whose s.es t ≡ o) (slot p : ℕ) (in_table : slot < slots (cls t)) (low_p : p < places (cls t))
-    (here : index_of (tab k s.es t) slot ≡ suc p) (mine : entry_of (slots (cls t)) (tab k s.es t) p 1 ≡ key) (alive : (entry_of (slots (cls t)) (tab k s.es t) p 0 ≡ 1) ⊎ (entry_of (slots (cls t)) (tab k s.es t) p 3 % 2 ≡ 1)) → Left walk t slot key → ⊥
-left_behind k o key t j low table start walk read s whom slot p in_table low_p here mine alive =
+-- a slot that was passed is not one that the key's walk meets
+pub passed_by : (k : Shape) (o : ℕ) (key : Key) (t j : ℕ) (low : o < containers_in k) (keyed : IsKeyed (kind_in k.kinds o)) (table : IsTable k t) (start walk : List Act) (read : reads t start ≡ true) (s : Spot k t j start walk) (whom : whose s.es t ≡ o) (slot : ℕ) (in_table : slot < slots (cls t)) (probe : List ℕ)
+    (r : Reached (slots (cls t)) (places (cls t)) (tab k s.es t) probe key) → index_of (tab k s.es t) slot ≡ suc r.place → Passed walk t slot key → ⊥
+passed_by k o key t j low keyed table start walk read s whom slot in_table probe r here =
     ⊎_elim
     (λ (v : Visit walk t slot key).
     ⊎_elim
-    (other_key k o key t j low table start walk read s whom slot v.place p in_table v.low low_p here mine alive)
-    (dead_entry k o key t j low table start walk read s whom slot v.place p in_table v.low low_p here mine alive)
+    (other_kind k o key t j low keyed table start walk read s whom slot v.place r.place in_table v.low r.low here r.mine r.alive)
+    (λ rest. ⊎_elim
+    (other_payload k o key t j low keyed table start walk read s whom slot v.place r.place in_table v.low r.low here r.mine r.alive)
+    (dead_entry k o key t j low keyed table start walk read s whom slot v.place r.place in_table v.low r.low here r.mine r.alive) rest)
     v.how)
-    (λ (b : Beyond walk t slot). beyond_table k o key t j low table start walk read s whom slot p p in_table low_p low_p here mine alive b)
+    (λ (b : Beyond walk t slot). beyond_table k o key t j low keyed table start walk read s whom slot r.place r.place in_table r.low r.low here r.mine r.alive b)
 
-module _ (k : Shape) (es : List Event) (valid : Valid k es) (o t key n : ℕ) (low : o < k.containers) (j : ℕ) (u : View) (at : get_elem? (run k es).views j ≡ some u) (h : Miss u.log o t key n) where
-  abbrev S : ℕ
-  S = slots (cls t)
+-- from a moment at which no entry of the key is met
+absent_at : (k : Shape) (es : List Event) (valid : Valid k es) (o t : ℕ) (key : Key) (n : ℕ) (low : o < containers_in k) (keyed : IsKeyed (kind_in k.kinds o)) (table : IsTable k t) (j : ℕ) (start rest : List Act) (s : Spot k t j start rest) → Under s.es es → whose s.es t ≡ o → n ≡ count k s.es
+    → (Reached (slots (cls t)) (places (cls t)) (tab k s.es t) (walk_of (kind_in k.kinds o) k.texts (cls t) key) key → ⊥) → (n ≤ count k es) × (under (kept k.kinds (first_writes n (history es)) o).content key ≡ [])
+absent_at k es valid o t key n low keyed table j start rest s below whom is never =
+    let names = named_by k s.es s.valid o t table s.now whom in
+    let sound = keyed_sound (kind_in k.kinds o) keyed k.texts (cls t) (tab k s.es t) (kept k.kinds (history s.es) o).content (sound_at k s.es s.valid o low t names) in
+    let none : under (kept k.kinds (history s.es) o).content key ≡ [] = ⊎_elim (λ e. e) (λ there. absurd (never (sound.reached key there))) (none_or (under (kept k.kinds (history s.es) o).content key)) in
+    let c = stamp_then k s.es es s.valid valid below n is in
+    (c.0, ap (λ (cs : List Call). under (kept k.kinds cs o).content key) c.1 ∙ none)
+
+module _ (k : Shape) (es : List Event) (valid : Valid k es) (o t : ℕ) (key : Key) (n : ℕ) (low : o < containers_in k) (keyed : IsKeyed (kind_in k.kinds o)) (j : ℕ) (u : View) (at : get_elem? (run k es).views j ≡ some u) (h : Miss u.log o t (walk_of (kind_in k.kinds o) k.texts (cls t) key) key n) where
+  abbrev probe : List ℕ
+  probe = walk_of (kind_in k.kinds o) k.texts (cls t) key
 
   abbrev last : Act
-  last = ReadTable t (slot_of S key h.steps) 0
+  last = ReadTable t (slice_index probe h.steps) 0
 
   abbrev start : List Act
   start = h.window.rest
@@ -109,31 +200,48 @@ module _ (k : Shape) (es : List Event) (valid : Valid k es) (o t key n : ℕ) (l
   abbrev then_ : List Event
   then_ = loaded.spot.es
 
-  some_slot : 0 < S
-  some_slot = let z = h.small in omega arith
+  whom_then : whose then_ t ≡ o
+  whom_then = loaded.whom ∙ (top.whom ∙ open_.whom)
 
-  still_free : index_of (tab k then_ t) (slot_of S key h.steps) ≡ 0
-  still_free =
-      let less = slot_low S key h.steps some_slot in
-      let free : 0 ≡ index_of (tab k top.spot.es t) (slot_of S key h.steps) = found k t j (slot_of S key h.steps) 0 start (h.mid ++ ReadCounter n ∷ h.rest) open_.spot.es (omega arith) top in
-      dite (ℕ_discrete (index_of (tab k then_ t) (slot_of S key h.steps)) 0) (λ e. e)
-      (λ used. absurd (used (sym (loaded.later.index (slot_of S key h.steps) less used) ∙ sym free)))
+  still_free : slice_index probe h.steps < slots (cls t) → index_of (tab k then_ t) (slice_index probe h.steps) ≡ 0
+  still_free less =
+      let free : 0 ≡ index_of (tab k top.spot.es t) (slice_index probe h.steps) = found k t j (slice_index probe h.steps) 0 start (h.mid ++ ReadCounter n ∷ h.rest) open_.spot.es (omega arith) top in
+      let l = keyed_later (kind_in k.kinds o) keyed (cls t) (tab k then_ t) (tab k top.spot.es t) (subst (λ (z : ℕ). LaterIn k z t (tab k then_ t) (tab k top.spot.es t)) (top.whom ∙ open_.whom) loaded.later) in
+      dite (ℕ_discrete (index_of (tab k then_ t) (slice_index probe h.steps)) 0) (λ e. e)
+      (λ used. absurd (used (sym (l.index (slice_index probe h.steps) less used) ∙ sym free)))
 
-  never : Reached S (places (cls t)) (tab k then_ t) key → ⊥
+  never : Reached (slots (cls t)) (places (cls t)) (tab k then_ t) probe key → ⊥
   never r =
       let m = r.met in
       dite (ℕ_discrete m.step h.steps)
-      (λ (e : m.step ≡ h.steps). let x : index_of (tab k then_ t) (slot_of S key m.step) ≡ 0 = ap (λ (z : ℕ). index_of (tab k then_ t) (slot_of S key z)) e ∙ still_free in let y = m.here in absurd (omega (arith, x, y)))
+      (λ (e : m.step ≡ h.steps).
+      let f = still_free (m.inside h.steps (omega arith)) in
+      let x : index_of (tab k then_ t) (slice_index probe m.step) ≡ 0 = ap (λ (z : ℕ). index_of (tab k then_ t) (slice_index probe z)) e ∙ f in
+      let y = m.here in
+      absurd (omega (arith, x, y)))
       (λ ne.
       dite (dec_lt m.step h.steps)
-      (λ less.
-      left_behind k o key t j low open_.table start h.rest h.window.before loaded.spot (loaded.whom ∙ (top.whom ∙ open_.whom)) (slot_of S key m.step) r.place (slot_low S key m.step some_slot) r.low m.here r.mine r.alive (h.visits m.step less))
-      (λ no. m.before h.steps (omega arith) still_free))
+      (λ less. passed_by k o key t j low keyed open_.table start h.rest h.window.before loaded.spot whom_then (slice_index probe m.step) (m.inside m.step (le_refl m.step)) probe r m.here (h.visits m.step less))
+      (λ no. m.before h.steps (omega arith) (still_free (m.inside h.steps (omega arith)))))
 
   -- the miss
-  pub miss_at : (n ≤ count k es) × (world_at n (history es) o key ≡ 0)
-  miss_at =
-      let names = named_by k then_ loaded.spot.valid o t open_.table loaded.spot.now (loaded.whom ∙ (top.whom ∙ open_.whom)) in
-      let absent : world (history then_) o key ≡ 0 = dite (ℕ_discrete (world (history then_) o key) 0) (λ e. e) (λ there. absurd (never ((sound_at k then_ loaded.spot.valid o low t names).reached key there))) in
-      let s = stamp_then k then_ es loaded.spot.valid valid (under_trans then_ top.spot.es es loaded.under (under_trans top.spot.es open_.spot.es es top.under open_.under)) o n loaded.tells in
-      (s.0, ap (λ (c : ℕ → ℕ). c key) s.1 ∙ absent)
+  pub miss_at : (n ≤ count k es) × (under (kept k.kinds (first_writes n (history es)) o).content key ≡ [])
+  miss_at = absent_at k es valid o t key n low keyed open_.table j start h.rest loaded.spot (under_trans then_ top.spot.es es loaded.under (under_trans top.spot.es open_.spot.es es top.under open_.under)) whom_then loaded.tells never
+
+module _ (k : Shape) (es : List Event) (valid : Valid k es) (o t : ℕ) (key : Key) (n : ℕ) (low : o < containers_in k) (keyed : IsKeyed (kind_in k.kinds o)) (j : ℕ) (u : View) (at : get_elem? (run k es).views j ≡ some u) (h : Full u.log o t (walk_of (kind_in k.kinds o) k.texts (cls t) key) key n) where
+  abbrev begin : List Act
+  begin = h.window.rest
+
+  abbrev opened_at : Opened k es o t j begin h.walk
+  opened_at = open_window k es valid j u at o t low h.walk h.window
+
+  abbrev counted_at : Back k t j begin opened_at.spot.es (ReadCounter n) h.rest
+  counted_at = go k t j begin h.walk opened_at.table h.window.before opened_at.spot h.mid (ReadCounter n) h.rest h.is
+
+  -- the miss where every slot was used
+  pub full_at : (n ≤ count k es) × (under (kept k.kinds (first_writes n (history es)) o).content key ≡ [])
+  full_at =
+      absent_at k es valid o t key n low keyed opened_at.table j begin h.rest counted_at.spot (under_trans counted_at.spot.es opened_at.spot.es es counted_at.under opened_at.under) (counted_at.whom ∙ opened_at.whom) counted_at.tells
+      (λ r.
+      let m = r.met in
+      passed_by k o key t j low keyed opened_at.table begin h.rest h.window.before counted_at.spot (counted_at.whom ∙ opened_at.whom) (slice_index (walk_of (kind_in k.kinds o) k.texts (cls t) key) m.step) (m.inside m.step (le_refl m.step)) (walk_of (kind_in k.kinds o) k.texts (cls t) key) r m.here (h.visits m.step m.low))

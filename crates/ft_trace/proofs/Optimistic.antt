@@ -1,43 +1,45 @@
 -- What was read between two equal even loads of a version is the container's content at each load of the counter between them, also where tables move.
-use Rattle.std.proofs.Common.{◌≡◌, ℕ, suc, ◌%◌, ◌<◌, ◌≤◌, false, List, ◌∷◌, ◌++◌, sym, ap, ◌∙◌, subst, arith, append_assoc}
+use Rattle.std.proofs.Common.{◌≡◌, ℕ, suc, ◌%◌, ◌<◌, ◌≤◌, List, ◌∷◌, ◌++◌, sym, ap, ◌∙◌, subst, arith, append_assoc}
 use Rattle.std.specs.Prelude.{slice_index}
 use mathlib.Core.Option.{some}
-use mathlib.Core.Logic.{dite}
-use native.Mathlib.Decide.{ℕ_discrete}
 use lib.ListN.{get_elem?}
 use Rattle.ft_trace.specs.declared.Shape.{Shape}
 use Rattle.ft_trace.specs.declared.View.{View}
 use Rattle.ft_trace.specs.declared.Act.{Act}
 use Rattle.ft_trace.specs.declared.Act.TheVariants.{Version, ReadBlock, ReadRoot, ReadTable, ReadCounter}
-use Rattle.ft_trace.specs.declared.Call.{Call}
-use Rattle.ft_trace.specs.Worlds.{Content, container, reply_of, writes_of_call, reply, is_write, world, world_at}
-use Rattle.ft_trace.specs.Words.{table_of, inner, Picture, picture, places_by, Stands}
-use Rattle.ft_trace.specs.Reading.{Between, Among, Agrees, Looked}
+use Rattle.ft_model.specs.declared.call.Call.{Call}
+use Rattle.ft_model.specs.declared.reply.Reply.{Reply}
+use Rattle.ft_model.specs.Tables.{StoredWorld, stored_newest}
+use Rattle.ft_trace.specs.Addrs.{containers_in}
+use Rattle.ft_trace.specs.Worlds.{kept_at, kept, first_writes, reply_in}
+use Rattle.ft_trace.specs.Words.{table_of, inner, Picture, root_of, root_in, picture, Stands}
+use Rattle.ft_trace.specs.Reading.{Between, Among, Agrees, IsNothing, Looked}
+use Rattle.ft_trace.proofs.Nothing.{no_table_stands}
 use Rattle.ft_trace.specs.Finding.{Bare}
 use Rattle.ft_trace.specs.Traces.{Event, run, history, Valid}
-use Rattle.ft_trace.proofs.Pieces.{table_at}
+use Rattle.ft_trace.proofs.Pieces.{block_at, table_at}
 use Rattle.ft_trace.proofs.Versions.{version, rises}
 use Rattle.ft_trace.proofs.Places.{root}
 use Rattle.ft_trace.proofs.Contents.{count, Still, stands, quiet}
 use Rattle.ft_trace.proofs.Moments.{Was, was}
 use Rattle.ft_trace.proofs.Spots.{Under, under_trans, stamp_then}
 
-rises_to : (k : Shape) (older es : List Event) → Valid k es → Under older es → (o : ℕ) → o < k.containers → version k older o ≤ version k es o
+rises_to : (k : Shape) (older es : List Event) → Valid k es → Under older es → (o : ℕ) → o < containers_in k → version k older o ≤ version k es o
 rises_to k older es valid p o low = subst (λ (l : List Event). version k older o ≤ version k l o) p.is (rises k p.newer older (subst (Valid k) (sym p.is) valid) o low)
 
-quiet_to : (k : Shape) (older es : List Event) → Valid k es → Under older es → (o : ℕ) → o < k.containers → version k older o % 2 ≡ 0 → version k es o ≡ version k older o → Still k older es o
+quiet_to : (k : Shape) (older es : List Event) → Valid k es → Under older es → (o : ℕ) → o < containers_in k → version k older o % 2 ≡ 0 → version k es o ≡ version k older o → Still k older es o
 quiet_to k older es valid p o low even same =
     subst (λ (l : List Event). Still k older l o) p.is (quiet k p.newer older (subst (Valid k) (sym p.is) valid) o low even (subst (λ (l : List Event). version k l o ≡ version k older o) (sym p.is) same))
 
 -- a version is at least what a pass has found
-pub found_before : (k : Shape) (es : List Event) → Valid k es → (o : ℕ) → o < k.containers → (j : ℕ) (u : View) → get_elem? (run k es).views j ≡ some u → (xs rest : List Act) (n : ℕ) → u.log ≡ xs ++ Version o n ∷ rest → n ≤ version k es o
+pub found_before : (k : Shape) (es : List Event) → Valid k es → (o : ℕ) → o < containers_in k → (j : ℕ) (u : View) → get_elem? (run k es).views j ≡ some u → (xs rest : List Act) (n : ℕ) → u.log ≡ xs ++ Version o n ∷ rest → n ≤ version k es o
 found_before k es valid o low j u at xs rest n is =
     let w = was k es valid j u at xs (Version o n) rest is in
     let here : n ≡ version k w.older o = w.tells in
     let up = rises_to k w.older es valid (record { newer = w.newer; is = w.split }) o low in
     omega (arith, here, up)
 
-module _ (k : Shape) (es : List Event) (valid : Valid k es) (o : ℕ) (low : o < k.containers) (j : ℕ) (u : View) (at : get_elem? (run k es).views j ≡ some u) (mid : List Act) (b : Between u.log o mid) where
+module _ (k : Shape) (es : List Event) (valid : Valid k es) (o : ℕ) (low : o < containers_in k) (j : ℕ) (u : View) (at : get_elem? (run k es).views j ≡ some u) (mid : List Act) (b : Between u.log o mid) where
   abbrev top : Was k es j b.newer (Version o b.version) (mid ++ Version o b.version ∷ b.rest)
   top = was k es valid j u at b.newer (Version o b.version) (mid ++ Version o b.version ∷ b.rest) b.is
 
@@ -65,18 +67,21 @@ module _ (k : Shape) (es : List Event) (valid : Valid k es) (o : ℕ) (low : o <
   still_now a m = quiet_to k (in_now a m).older now top.valid (under_now a m) o low (ap (λ (n : ℕ). n % 2) (same a m) ∙ even_now) (sym (same a m))
 
   -- a load of the counter between them
-  pub at_stamp : (s : ℕ) → Among (ReadCounter s) mid → (s ≤ count k es) × (world_at s (history es) o ≡ world (history now) o)
+  pub at_stamp : (s : ℕ) → Among (ReadCounter s) mid → (s ≤ count k es) × (kept k.kinds (first_writes s (history es)) o ≡ kept k.kinds (history now) o)
   at_stamp s m =
       let w = in_now (ReadCounter s) m in
-      let h = stamp_then k w.older es w.valid valid (under_trans w.older now es (under_now (ReadCounter s) m) (record { newer = top.newer; is = top.split })) o s w.tells in
-      (h.0, h.1 ∙ sym (still_now (ReadCounter s) m).content)
+      let h = stamp_then k w.older es w.valid valid (under_trans w.older now es (under_now (ReadCounter s) m) (record { newer = top.newer; is = top.split })) s w.tells in
+      (h.0, ap (λ (cs : List Call). kept k.kinds cs o) h.1 ∙ sym (still_now (ReadCounter s) m).content)
 
   -- the words of the container between them
   abbrev pub shown : Picture
   shown = picture k o (run k now).words
 
-  root_read : (a : Act) (f : ℕ) (m : Among a mid) → f ≡ root k (in_now a m).older o → f ≡ shown.root
-  root_read a f m e = e ∙ ap (λ (x : Picture). x.root) (sym (still_now a m).picture)
+  root_is : (ws : List ℕ) → root_in (picture k o ws) ≡ root_of k o ws
+  root_is ws = block_at k o ws 0 (omega arith)
+
+  root_read : (a : Act) (f : ℕ) (m : Among a mid) → f ≡ root k (in_now a m).older o → f ≡ root_in shown
+  root_read a f m e = e ∙ (sym (root_is (run k (in_now a m).older).words) ∙ ap root_in (sym (still_now a m).picture))
 
   by_inner : (r : ℕ) (ws : List ℕ) (t i : ℕ) → r ≡ suc t → slice_index (inner k r ws) i ≡ slice_index (table_of k t ws) i
   by_inner r ws t i e = ap (λ (z : ℕ). slice_index (inner k z ws) i) e
@@ -84,34 +89,30 @@ module _ (k : Shape) (es : List Event) (valid : Valid k es) (o : ℕ) (low : o <
   -- what was read between them
   pub agrees : Agrees k o mid shown
   agrees = record {
-    root = λ f m. root_read (ReadBlock o 0 f) f m (in_now (ReadBlock o 0 f) m).tells;
-    found = λ f m. root_read (ReadRoot o f) f m (in_now (ReadRoot o f) m).tells;
-    fill = λ f m. (in_now (ReadBlock o 1 f) m).tells ∙ ap (λ (x : Picture). x.fill) (sym (still_now (ReadBlock o 1 f) m).picture);
+    root = λ f m. root_read (ReadRoot o f) f m (in_now (ReadRoot o f) m).tells;
+    block = λ i f small m.
+        let w = in_now (ReadBlock o i f) m in
+        w.tells ∙ (sym (block_at k o (run k w.older).words i small) ∙ ap (λ (x : Picture). slice_index x.block i) (sym (still_now (ReadBlock o i f) m).picture));
     table = λ t i f table small names m.
         let w = in_now (ReadTable t i f) m in
         let s = still_now (ReadTable t i f) m in
-        let then_ : root k w.older o ≡ suc t = ap (λ (x : Picture). x.root) (sym s.picture) ∙ names in
+        let then_ : root k w.older o ≡ suc t = sym (root_is (run k w.older).words) ∙ (ap root_in (sym s.picture) ∙ names) in
         w.tells ∙ (sym (table_at k t (run k w.older).words i small) ∙ (sym (by_inner (root k w.older o) (run k w.older).words t i then_) ∙ ap (λ (x : Picture). slice_index x.table i) (sym s.picture)));
   }
 
-  -- the optimistic read: what follows from the answers, on whatever words, holds of the content at the load of the counter
-  pub looked : (P : Content → Type 0) → ((x : Picture) (c : Content) → Stands x c → Agrees k o mid x → P c) → (s : ℕ) → Among (ReadCounter s) mid → (s ≤ count k es) × P (world_at s (history es) o)
+  -- the optimistic read: what follows from the answers, on whatever words and whatever else is stored, holds of what was stored at the load of the counter
+  pub looked : (P : StoredWorld → Type 0) → ((x : Picture) (t : StoredWorld) → Stands k.texts x (kept_at t o) → Agrees k o mid x → P t) → (s : ℕ) → Among (ReadCounter s) mid → (s ≤ count k es) × P (stored_newest k.kinds (first_writes s (history es)))
   looked P gives s st =
       let a = at_stamp s st in
-      (a.0, subst P (sym a.1) (gives shown (world (history now) o) (stands k now top.valid o low even_now) agrees))
+      (a.0, gives shown (stored_newest k.kinds (first_writes s (history es))) (subst (Stands k.texts shown) (sym a.1) (stands k now top.valid o low even_now)) agrees)
 
 -- a call may be answered that was looked up so
-pub looked_at : (k : Shape) (es : List Event) (valid : Valid k es) (call : Call) → container call < k.containers → (j : ℕ) (u : View) → get_elem? (run k es).views j ≡ some u → (r n : ℕ) → Looked k call r n u.log → (is_write call (world_at n (history es)) ≡ false) × (n ≤ count k es) × (reply call (world_at n (history es)) ≡ r)
-looked_at k es valid call low j u at r n h =
-    let l = looked k es valid (container call) low j u at h.mid h.between (λ c. (writes_of_call call c ≡ false) × (reply_of call c ≡ r)) h.answers n h.stamp in
-    (l.1.0, l.0, l.1.1)
+pub looked_at : (k : Shape) (es : List Event) (valid : Valid k es) (call : Call) (o : ℕ) → o < containers_in k → (j : ℕ) (u : View) → get_elem? (run k es).views j ≡ some u → (r : Reply) (n : ℕ) → Looked k call o r n u.log → (n ≤ count k es) × (reply_in (stored_newest k.kinds (first_writes n (history es))) call ≡ r)
+looked_at k es valid call o low j u at r n h = looked k es valid o low j u at h.mid h.between (λ t. reply_in t call ≡ r) h.answers n h.stamp
 
--- a root that is 0: no key is there
-pub bare_at : (k : Shape) (es : List Event) (valid : Valid k es) (o n : ℕ) → o < k.containers → (j : ℕ) (u : View) → get_elem? (run k es).views j ≡ some u → Bare u.log o n → (key : ℕ) → (n ≤ count k es) × (world_at n (history es) o key ≡ 0)
-bare_at k es valid o n low j u at h key =
-    looked k es valid o low j u at h.mid h.between (λ c. c key ≡ 0)
-    (λ x c s a.
-    let none : x.root ≡ 0 = sym (a.found 0 h.root) in
-    dite (ℕ_discrete (c key) 0) (λ e. e)
-    (λ there. let got = s.complete key there in let z : places_by x.root ≡ 0 = ap places_by none in let less = got.1 in absurd (omega (arith, z, less))))
+-- a root that is 0: there is no table at the counter that was loaded
+pub bare_at : (k : Shape) (es : List Event) (valid : Valid k es) (o n : ℕ) → o < containers_in k → (j : ℕ) (u : View) → get_elem? (run k es).views j ≡ some u → Bare u.log o n → (n ≤ count k es) × IsNothing (kept k.kinds (first_writes n (history es)) o)
+bare_at k es valid o n low j u at h =
+    looked k es valid o low j u at h.mid h.between (λ t. IsNothing (kept_at t o))
+    (λ x t s a. no_table_stands k.texts x (kept_at t o) (sym (a.root 0 h.root)) s)
     n h.stamp

@@ -1,9 +1,9 @@
 -- The words of a table as a list.
-use Rattle.std.proofs.Common.{◌≡◌, ℕ, zero, suc, ◌+◌, ◌<◌, List, ◌∷◌, length, set, refl, sym, ap, ◌∙◌, arith, get_or-set_other, get_or-set_same}
+use Rattle.std.proofs.Common.{◌≡◌, ℕ, zero, suc, ◌+◌, ◌<◌, List, ◌∷◌, length, set, refl, sym, ap, ◌∙◌, arith, get_or-set_other, get_or-set_same, replicate}
 use Rattle.std.specs.Prelude.{slice_index, slice_set}
 use Rattle.ft_trace.specs.declared.Shape.{Shape}
-use Rattle.ft_trace.specs.Addrs.{cell, cls, size, at}
-use Rattle.ft_trace.specs.Words.{piece, table_of, root_of, fill_of, inner, picture}
+use Rattle.ft_trace.specs.Addrs.{block, cell, cls, size, at}
+use Rattle.ft_trace.specs.Words.{piece, table_of, block_of, root_of, inner, picture}
 
 pub piece_same : (ws zs : List ℕ) (at n : ℕ) → ((i : ℕ) → i < n → slice_index ws (at + i) ≡ slice_index zs (at + i)) → piece ws at n ≡ piece zs at n
 piece_same ws zs at zero same = refl
@@ -53,12 +53,37 @@ pub table_long : (k : Shape) (t : ℕ) (ws : List ℕ) → length (table_of k t 
 unfolding table_of
 table_long k t ws = piece_long ws (at k (cell t 0)) (size (cls t))
 
+block_cell : (k : Shape) (o i : ℕ) → at k (block o 0) + i ≡ at k (block o i)
+block_cell k o i = omega arith
+
+pub block_same : (k : Shape) (o : ℕ) (ws zs : List ℕ) → ((i : ℕ) → i < 6 → slice_index ws (at k (block o i)) ≡ slice_index zs (at k (block o i))) → block_of k o ws ≡ block_of k o zs
+unfolding block_of
+block_same k o ws zs same = piece_same ws zs (at k (block o 0)) 6 (λ i low. ap (λ (z : ℕ). slice_index ws z) (block_cell k o i) ∙ (same i low ∙ ap (λ (z : ℕ). slice_index zs z) (sym (block_cell k o i))))
+
+pub block_at : (k : Shape) (o : ℕ) (ws : List ℕ) (i : ℕ) → i < 6 → slice_index (block_of k o ws) i ≡ slice_index ws (at k (block o i))
+unfolding block_of
+block_at k o ws i low = piece_at ws (at k (block o 0)) 6 i low ∙ ap (λ (z : ℕ). slice_index ws z) (block_cell k o i)
+
+-- the words of a block that are all 0
+pub block_zero : (k : Shape) (o : ℕ) (ws : List ℕ) → ((i : ℕ) → i < 6 → slice_index ws (at k (block o i)) ≡ 0) → block_of k o ws ≡ replicate 6 0
+unfolding block_of
+block_zero k o ws zeros = piece_zero ws (at k (block o 0)) 6 (λ i low. ap (λ (z : ℕ). slice_index ws z) (block_cell k o i) ∙ zeros i low)
+  where
+    piece_zero : (ws : List ℕ) (at n : ℕ) → ((i : ℕ) → i < n → slice_index ws (at + i) ≡ 0) → piece ws at n ≡ replicate n 0
+    piece_zero ws at zero zeros = refl
+    piece_zero ws at (suc n) zeros =
+        let here : slice_index ws at ≡ 0 = ap (λ (z : ℕ). slice_index ws z) (omega arith) ∙ zeros 0 (omega arith) in
+        let rest = piece_zero ws (at + 1) n (λ i low. let e : at + 1 + i ≡ at + suc i = omega arith in ap (λ (z : ℕ). slice_index ws z) e ∙ zeros (suc i) (omega arith)) in
+        λ d. here d ∷ rest d
+
 inner_same : (k : Shape) (r : ℕ) (ws zs : List ℕ) → ((t : ℕ) → r ≡ suc t → table_of k t ws ≡ table_of k t zs) → inner k r ws ≡ inner k r zs
 inner_same k zero ws zs same = refl
 inner_same k (suc t) ws zs same = same t refl
 
 -- what a container's words are is the same where its block is, and the table that its root names
-pub picture_same : (k : Shape) (o : ℕ) (ws zs : List ℕ) → root_of k o ws ≡ root_of k o zs → fill_of k o ws ≡ fill_of k o zs → ((t : ℕ) → root_of k o zs ≡ suc t → table_of k t ws ≡ table_of k t zs) → picture k o ws ≡ picture k o zs
-picture_same k o ws zs root fill tables =
+pub picture_same : (k : Shape) (o : ℕ) (ws zs : List ℕ) → ((i : ℕ) → i < 6 → slice_index ws (at k (block o i)) ≡ slice_index zs (at k (block o i))) → ((t : ℕ) → root_of k o zs ≡ suc t → table_of k t ws ≡ table_of k t zs) → picture k o ws ≡ picture k o zs
+picture_same k o ws zs same tables =
+    let root = same 0 (omega arith) in
+    let words = block_same k o ws zs same in
     let all = ap (λ (r : ℕ). inner k r ws) root ∙ inner_same k (root_of k o zs) ws zs tables in
-    λ d. record { root = root d; fill = fill d; table = all d }
+    λ d. record { block = words d; table = all d }

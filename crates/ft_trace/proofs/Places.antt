@@ -10,7 +10,7 @@ use Rattle.ft_trace.specs.declared.View.{View}
 use Rattle.ft_trace.specs.declared.Act.{Act}
 use Rattle.ft_trace.specs.declared.Act.TheVariants.{PutBlock, PutRoot, ReadBlock, ReadRoot, ReadFree, TakeTable, GiveTable, Retire}
 use Rattle.ft_trace.specs.Bits.{bit}
-use Rattle.ft_trace.specs.Addrs.{Addr, bits, block, IsTable, fw, bt}
+use Rattle.ft_trace.specs.Addrs.{Addr, bits, block, IsTable, fw, bt, containers_in}
 use Rattle.ft_trace.specs.Acts.{place, left, Reports, stage, stage_next, starter, noted, maker, made, both, spent}
 use Rattle.ft_trace.specs.Traces.{Event, did, forked, joined, run, word, history, May, Valid}
 use Rattle.ft_trace.specs.Ages.{aged, age, gone_to, whose}
@@ -18,24 +18,24 @@ use Rattle.ft_trace.proofs.Sizes.{set_views, one_more, one_view}
 use Rattle.ft_trace.proofs.Bits.{off_same, on_same, off_else, on_else, bit_small}
 use Rattle.ft_trace.proofs.Addrs.{fw_low, bt_low, same_bit, bit_first, block_first}
 use Rattle.ft_trace.proofs.Cases.{hit, miss, here, same_or}
-use Rattle.ft_trace.proofs.Words.{stays, moves, kept}
+use Rattle.ft_trace.proofs.Words.{stays, moves, loaded}
 
 abbrev pub root : Shape → List Event → ℕ → ℕ
 root k es o = word k es (block o 0)
 
 -- what the action is to the root of o
-module _ (k : Shape) (es : List Event) (id : ℕ) (v : View) (o : ℕ) (low : o < k.containers) (F : Act → Type 0) (put : (r old : ℕ) → F (PutRoot o r old))
+module _ (k : Shape) (es : List Event) (id : ℕ) (v : View) (o : ℕ) (low : o < containers_in k) (F : Act → Type 0) (put : (r old : ℕ) → F (PutRoot o r old))
     (other : (a : Act) → (May k (run k es) (history es) v a → root k (did id v a ∷ es) o ≡ root k es o) → F a) where
   pub on_root : (a : Act) → F a
   on_root (PutRoot p r old) = same_or (λ (z : ℕ). F (PutRoot z r old)) p o (put r old) (λ ne. other (PutRoot p r old) (λ may. stays k es id v (PutRoot p r old) may (block o 0) (low, omega arith) (λ e. ne (cc))))
   on_root (PutBlock p i x) = other (PutBlock p i x) (λ may. stays k es id v (PutBlock p i x) may (block o 0) (low, omega arith) (λ e. may.3 (cc)))
-  on_root (ReadBlock p i f) = other (ReadBlock p i f) (λ may. kept k es id v (ReadBlock p i f) (λ n. refl) (block o 0))
-  on_root (ReadRoot p f) = other (ReadRoot p f) (λ may. kept k es id v (ReadRoot p f) (λ n. refl) (block o 0))
+  on_root (ReadBlock p i f) = other (ReadBlock p i f) (λ may. loaded k es id v (ReadBlock p i f) (λ n. refl) (block o 0))
+  on_root (ReadRoot p f) = other (ReadRoot p f) (λ may. loaded k es id v (ReadRoot p f) (λ n. refl) (block o 0))
   on_root act = other act (λ may. stays k es id v act may (block o 0) (low, omega arith) (λ e. absurd (cc)))
 
 -- a root names a table of the bank
-pub root_table : (k : Shape) (es : List Event) → Valid k es → (o : ℕ) → o < k.containers → (t : ℕ) → root k es o ≡ suc t → IsTable k t
-root_table k [] valid o low t = λ e. let z : root k [] o ≡ 0 = block_first k _ (omega arith) (omega arith) in absurd (omega (arith, z, e))
+pub root_table : (k : Shape) (es : List Event) → Valid k es → (o : ℕ) → o < containers_in k → (t : ℕ) → root k es o ≡ suc t → IsTable k t
+root_table k [] valid o low t = λ e. let z : root k [] o ≡ 0 = block_first k o 0 low (omega arith) in absurd (omega (arith, z, e))
 root_table k (did id v a ∷ es) valid o low t =
     let F : Act → Type 0 = λ b. May k (run k es) (history es) v b → root k (did id v b ∷ es) o ≡ suc t → IsTable k t in
     on_root k es id v o low F (λ r old may e. (may.3 t (sym (moves k es id v (PutRoot o r old) may) ∙ e)).0) (λ b same may e. root_table k es valid.0 o low t (sym (same may) ∙ e)) a valid.1.3
@@ -48,8 +48,8 @@ pub record Calm (k : Shape) (es : List Event) (id : ℕ) (v : View) (t : ℕ) (a
   pub age : (g : ℕ) → aged a t g ≡ g
   pub whose : (w : ℕ) → gone_to id a t w ≡ w
   pub free : bit (bt t) (word k (did id v a ∷ es) (bits (fw t))) ≡ bit (bt t) (word k es (bits (fw t)))
-  pub roots : (o : ℕ) → o < k.containers → root k (did id v a ∷ es) o ≡ suc t → root k es o ≡ suc t
-  pub roots_back : (o : ℕ) → o < k.containers → root k es o ≡ suc t → root k (did id v a ∷ es) o ≡ suc t
+  pub roots : (o : ℕ) → o < containers_in k → root k (did id v a ∷ es) o ≡ suc t → root k es o ≡ suc t
+  pub roots_back : (o : ℕ) → o < containers_in k → root k es o ≡ suc t → root k (did id v a ∷ es) o ≡ suc t
 
 module _ (k : Shape) (es : List Event) (id : ℕ) (v : View) (t : ℕ) (table : IsTable k t) where
   abbrev After : Act → ℕ
@@ -59,23 +59,23 @@ module _ (k : Shape) (es : List Event) (id : ℕ) (v : View) (t : ℕ) (table : 
   Before = bit (bt t) (word k es (bits (fw t)))
 
   -- an action on no root
-  pub no_root : (a : Act) → May k (run k es) (history es) v a → ((o : ℕ) → place a ≢ block o 0) → (o : ℕ) → o < k.containers → root k (did id v a ∷ es) o ≡ root k es o
+  pub no_root : (a : Act) → May k (run k es) (history es) v a → ((o : ℕ) → place a ≢ block o 0) → (o : ℕ) → o < containers_in k → root k (did id v a ∷ es) o ≡ root k es o
   no_root a may apart o low = stays k es id v a may (block o 0) (low, omega arith) (apart o)
 
-  calm_by : (a : Act) → ((n : ℕ) → stage_next t a n ≡ n) → ((g : ℕ) → aged a t g ≡ g) → ((w : ℕ) → gone_to id a t w ≡ w) → After a ≡ Before → ((o : ℕ) → o < k.containers → root k (did id v a ∷ es) o ≡ root k es o) → Calm k es id v t a
+  calm_by : (a : Act) → ((n : ℕ) → stage_next t a n ≡ n) → ((g : ℕ) → aged a t g ≡ g) → ((w : ℕ) → gone_to id a t w ≡ w) → After a ≡ Before → ((o : ℕ) → o < containers_in k → root k (did id v a ∷ es) o ≡ root k es o) → Calm k es id v t a
   calm_by a s g w b r = record { stage = s; age = g; whose = w; free = b; roots = λ o low e. sym (r o low) ∙ e; roots_back = λ o low e. r o low ∙ e }
 
   pub bit_stays : (a : Act) → May k (run k es) (history es) v a → place a ≢ bits (fw t) → After a ≡ Before
   bit_stays a may ne = ap (bit (bt t)) (stays k es id v a may (bits (fw t)) (fw_low k t table) ne)
 
   -- another table's bit
-  pub other_bit : (q : ℕ) (a : Act) → q ≢ t → place a ≡ bits (fw q) → May k (run k es) (history es) v a → ((n : ℕ) → bt q ≢ bt t → bit (bt t) (left v.number a n) ≡ bit (bt t) n) → After a ≡ Before
-  other_bit q a ne is may does =
+  pub other_bit : (q : ℕ) → IsTable k q → (a : Act) → q ≢ t → place a ≡ bits (fw q) → May k (run k es) (history es) v a → ((n : ℕ) → bt q ≢ bt t → bit (bt t) (left v.number a n) ≡ bit (bt t) n) → After a ≡ Before
+  other_bit q is_q a ne is may does =
       dite (ℕ_discrete (fw q) (fw t))
       (λ (e : fw q ≡ fw t).
       let p : place a ≡ bits (fw t) = is ∙ ap bits e in
       let m : word k (did id v a ∷ es) (bits (fw t)) ≡ left v.number a (word k es (bits (fw t))) = subst (λ (x : Addr). word k (did id v a ∷ es) x ≡ left v.number a (word k es x)) p (moves k es id v a may) in
-      ap (bit (bt t)) m ∙ does (word k es (bits (fw t))) (λ n. ne (same_bit q t e n)))
+      ap (bit (bt t)) m ∙ does (word k es (bits (fw t))) (λ n. ne (same_bit k q t is_q table e n)))
       (λ far. bit_stays a may (λ e. far (let z : bits (fw q) ≡ bits (fw t) = sym is ∙ e in cc)))
 
   module _ (F : Act → Type 0) (take : (f : ℕ) (s : Snap) → bit (bt t) f ≡ 1 → F (TakeTable t f s)) (give : F (GiveTable t)) (put : (o old : ℕ) → F (PutRoot o (suc t) old)) (drop : (o r : ℕ) → r ≢ suc t → F (PutRoot o r (suc t))) (retire : (f : ℕ) → F (Retire t f)) (other : (a : Act) → Calm k es id v t a → F a) where
@@ -97,12 +97,12 @@ module _ (k : Shape) (es : List Event) (id : ℕ) (v : View) (t : ℕ) (table : 
         (λ ne found may.
         let a : Act = TakeTable p f s in
         other a (calm_by a (λ n. miss p t (cond (eqb (bit (bt t) f) 1) 1 n) n ne) (λ g. miss p t (cond (eqb (bit (bt t) f) 1) (g + 1) g) g ne) (λ w. miss p t (cond (eqb (bit (bt t) f) 1) id w) w ne)
-        (other_bit p a ne refl may (λ n apart. off_else (bt p) (bt t) n (bt_low p) (bt_low t) apart)) (no_root a may (λ o e. absurd (cc)))))
+        (other_bit p may.0 a ne refl may (λ n apart. off_else (bt p) (bt t) n (bt_low p) (bt_low t) apart)) (no_root a may (λ o e. absurd (cc)))))
     on_table (GiveTable p) =
         same_or (λ (z : ℕ). G (GiveTable z)) p t (λ found may. give)
         (λ ne found may.
         let a : Act = GiveTable p in
-        other a (calm_by a (λ n. miss p t 0 n ne) (λ g. miss p t (g + 5 - g % 5) g ne) (λ w. refl) (other_bit p a ne refl may (λ n apart. on_else (bt p) (bt t) n (bt_low p) apart)) (no_root a may (λ o e. absurd (cc)))))
+        other a (calm_by a (λ n. miss p t 0 n ne) (λ g. miss p t (g + 5 - g % 5) g ne) (λ w. refl) (other_bit p may.0 a ne refl may (λ n apart. on_else (bt p) (bt t) n (bt_low p) apart)) (no_root a may (λ o e. absurd (cc)))))
     on_table (Retire p f) =
         same_or (λ (z : ℕ). G (Retire z f)) p t (λ found may. retire f)
         (λ ne found may.
@@ -115,7 +115,7 @@ module _ (k : Shape) (es : List Event) (id : ℕ) (v : View) (t : ℕ) (table : 
         (λ far found may.
         let a : Act = PutRoot o r old in
         let now : root k (did id v a ∷ es) o ≡ r = moves k es id v a may in
-        let elsewhere : (q : ℕ) → q < k.containers → q ≢ o → root k (did id v a ∷ es) q ≡ root k es q = λ q low apart. stays k es id v a may (block q 0) (low, omega arith) (λ e. apart (cc)) in
+        let elsewhere : (q : ℕ) → q < containers_in k → q ≢ o → root k (did id v a ∷ es) q ≡ root k es q = λ q low apart. stays k es id v a may (block q 0) (low, omega arith) (λ e. apart (cc)) in
         other a (record {
           stage = λ n. miss r (suc t) 0 (cond (eqb old (suc t)) 3 n) ne ∙ miss old (suc t) 3 n far;
           age = λ g. miss r (suc t) (g + 1) (cond (eqb old (suc t)) (g + 1) g) ne ∙ miss old (suc t) (g + 1) g far;
@@ -125,9 +125,9 @@ module _ (k : Shape) (es : List Event) (id : ℕ) (v : View) (t : ℕ) (table : 
           roots_back = λ q low e. dite (ℕ_discrete q o) (λ (x : q ≡ o). absurd (far (may.2 ∙ (ap (root k es) (sym x) ∙ e)))) (λ apart. elsewhere q low apart ∙ e);
         })))
     on_table (PutBlock p i x) = λ found may. other (PutBlock p i x) (calm_by (PutBlock p i x) (λ n. refl) (λ g. refl) (λ w. refl) (bit_stays (PutBlock p i x) may (λ e. absurd (cc))) (no_root (PutBlock p i x) may (λ o e. may.3 (cc))))
-    on_table (ReadBlock p i f) = λ found may. other (ReadBlock p i f) (calm_by (ReadBlock p i f) (λ n. refl) (λ g. refl) (λ w. refl) (bit_stays (ReadBlock p i f) may (λ e. absurd (cc))) (λ o low. kept k es id v (ReadBlock p i f) (λ n. refl) (block o 0)))
-    on_table (ReadRoot p f) = λ found may. other (ReadRoot p f) (calm_by (ReadRoot p f) (λ n. refl) (λ g. refl) (λ w. refl) (bit_stays (ReadRoot p f) may (λ e. absurd (cc))) (λ o low. kept k es id v (ReadRoot p f) (λ n. refl) (block o 0)))
-    on_table (ReadFree w f) = λ found may. other (ReadFree w f) (calm_by (ReadFree w f) (λ n. refl) (λ g. refl) (λ w. refl) (ap (bit (bt t)) (kept k es id v (ReadFree w f) (λ n. refl) (bits (fw t)))) (no_root (ReadFree w f) may (λ o e. absurd (cc))))
+    on_table (ReadBlock p i f) = λ found may. other (ReadBlock p i f) (calm_by (ReadBlock p i f) (λ n. refl) (λ g. refl) (λ w. refl) (bit_stays (ReadBlock p i f) may (λ e. absurd (cc))) (λ o low. loaded k es id v (ReadBlock p i f) (λ n. refl) (block o 0)))
+    on_table (ReadRoot p f) = λ found may. other (ReadRoot p f) (calm_by (ReadRoot p f) (λ n. refl) (λ g. refl) (λ w. refl) (bit_stays (ReadRoot p f) may (λ e. absurd (cc))) (λ o low. loaded k es id v (ReadRoot p f) (λ n. refl) (block o 0)))
+    on_table (ReadFree w f) = λ found may. other (ReadFree w f) (calm_by (ReadFree w f) (λ n. refl) (λ g. refl) (λ w. refl) (ap (bit (bt t)) (loaded k es id v (ReadFree w f) (λ n. refl) (bits (fw t)))) (no_root (ReadFree w f) may (λ o e. absurd (cc))))
     on_table act = λ found may. other act (calm_by act (λ n. refl) (λ g. refl) (λ w. refl) (bit_stays act may (λ e. absurd (cc))) (no_root act may (λ o e. absurd (cc))))
 
 -- no pass has a table that is current
@@ -154,8 +154,8 @@ pub record Placed (k : Shape) (es : List Event) (t : ℕ) : Type 0 where
   pub free_is : bit (bt t) (word k es (bits (fw t))) ≡ 1 → age es t % 5 ≡ 0
   pub is_free : age es t % 5 ≡ 0 → bit (bt t) (word k es (bits (fw t))) ≡ 1
   pub hands : (j : ℕ) (u : View) → get_elem? (run k es).views j ≡ some u → stage t u.log ≢ 0 → (age es t % 5 ≡ stage t u.log) × (whose es t ≡ j)
-  pub roots : (o : ℕ) → o < k.containers → root k es o ≡ suc t → (age es t % 5 ≡ 2) × (whose es t ≡ o)
-  pub current : age es t % 5 ≡ 2 → (whose es t < k.containers) × (root k es (whose es t) ≡ suc t)
+  pub roots : (o : ℕ) → o < containers_in k → root k es o ≡ suc t → (age es t % 5 ≡ 2) × (whose es t ≡ o)
+  pub current : age es t % 5 ≡ 2 → (whose es t < containers_in k) × (root k es (whose es t) ≡ suc t)
 
 abbrev Hand : List Event → ℕ → ℕ → View → Type 0
 Hand es t j u = stage t u.log ≢ 0 → (age es t % 5 ≡ stage t u.log) × (whose es t ≡ j)
@@ -165,7 +165,7 @@ placed k [] valid t table = record {
   free_is = λ _. refl;
   is_free = λ _. bit_first k t table;
   hands = one_view (Hand [] t) (starter k) (λ no. absurd (no refl));
-  roots = λ o low e. let z : root k [] o ≡ 0 = block_first k _ (omega arith) (omega arith) in absurd (omega (arith, z, e));
+  roots = λ o low e. let z : root k [] o ≡ 0 = block_first k o 0 low (omega arith) in absurd (omega (arith, z, e));
   current = λ e. absurd (omega (arith, e));
 }
 placed k (did id v a ∷ es) valid t table =
@@ -221,7 +221,7 @@ placed k (did id v a ∷ es) valid t table =
       roots = λ q low e.
           dite (ℕ_discrete q o) (λ (same : q ≡ o). (two, whom ∙ sym same))
           (λ ne. let r = (old.roots q low (sym (stays k es id v A may (block q 0) (low, omega arith) (λ x. ne (cc))) ∙ e)).0 in absurd (omega (arith, r, was, mine)));
-      current = λ _. (subst (λ (z : ℕ). z < k.containers) (sym whom) may.0, ap (root k (did id v A ∷ es)) whom ∙ word_now);
+      current = λ _. (subst (λ (z : ℕ). z < containers_in k) (sym whom) may.0, ap (root k (did id v A ∷ es)) whom ∙ word_now);
     })
     (λ o r ne ok.
     let A : Act = PutRoot o r (suc t) in
@@ -269,7 +269,7 @@ placed k (did id v a ∷ es) valid t table =
       roots = λ o low e. let h = old.roots o low (c.roots o low e) in (ap (λ (z : ℕ). z % 5) gs ∙ h.0, ws ∙ h.1);
       current = λ e.
           let h = old.current (ap (λ (z : ℕ). z % 5) (sym gs) ∙ e) in
-          (subst (λ (z : ℕ). z < k.containers) (sym ws) h.0, ap (root k (did id v b ∷ es)) ws ∙ c.roots_back w h.0 h.1);
+          (subst (λ (z : ℕ). z < containers_in k) (sym ws) h.0, ap (root k (did id v b ∷ es)) ws ∙ c.roots_back w h.0 h.1);
     })
     a valid.1.2 valid.1.3 valid
 placed k (forked id v ∷ es) valid t table =

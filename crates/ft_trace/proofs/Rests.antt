@@ -1,23 +1,18 @@
 -- A table that was taken out of a root is written no more until it has been free.
-use Rattle.std.proofs.Common.{◌≡◌, ◌≢◌, ℕ, suc, ◌+◌, ◌%◌, ◌<◌, ◌≤◌, true, List, [], ◌∷◌, ◌++◌, refl, sym, ◌∙◌, subst, arith}
+use Rattle.std.proofs.Common.{◌≡◌, ◌≢◌, ℕ, suc, ◌%◌, ◌<◌, true, List, ◌∷◌, refl, sym, ◌∙◌, arith}
 use mathlib.Core.Option.{some}
 use lib.ListN.{get_elem?}
 use Rattle.ft_trace.specs.declared.Shape.{Shape}
 use Rattle.ft_trace.specs.declared.View.{View}
 use Rattle.ft_trace.specs.declared.Act.{Act}
-use Rattle.ft_trace.specs.Addrs.{IsTable}
+use Rattle.ft_trace.specs.Addrs.{IsTable, containers_in}
 use Rattle.ft_trace.specs.Acts.{reads}
 use Rattle.ft_trace.specs.Ages.{age, seen}
 use Rattle.ft_trace.specs.Traces.{Event, did, forked, joined, run, history, May, Valid}
 use Rattle.ft_trace.proofs.Places.{root, placed}
 use Rattle.ft_trace.proofs.Contents.{tab}
-use Rattle.ft_trace.proofs.Ages.{within, ages_one, ages_rise}
-use Rattle.ft_trace.specs.Addrs.{cls, slots, places}
-use Rattle.ft_trace.proofs.Carefuls.{later_self, later_trans}
-use Rattle.ft_trace.proofs.Sounds.{on_cells, LaterIn, later_one}
-use Rattle.std.proofs.Common.{le_trans}
-use mathlib.Core.Logic.{dite}
-use native.Mathlib.Decide.{ℕ_discrete}
+use Rattle.ft_trace.proofs.Ages.{within}
+use Rattle.ft_trace.proofs.Sounds.{on_cells}
 
 -- a table that is free, taken out of a root or retired
 pub rests : (k : Shape) (es : List Event) (e : Event) → Valid k (e ∷ es) → (t : ℕ) → IsTable k t → age es t % 5 ≢ 1 → age es t % 5 ≢ 2 → tab k (e ∷ es) t ≡ tab k es t
@@ -33,7 +28,7 @@ rests k es (forked id v) valid t table not_one not_two = refl
 rests k es (joined id v other w) valid t table not_one not_two = refl
 
 -- what a pass has found in a root since it last announced is current, taken out of a root or retired, and if it is in a root, it has been there since
-pub announced : (k : Shape) (es : List Event) → Valid k es → (t : ℕ) → IsTable k t → (j : ℕ) (u : View) → get_elem? (run k es).views j ≡ some u → reads t u.log ≡ true → (o : ℕ) → o < k.containers → root k es o ≡ suc t → seen es j t ≡ age es t
+pub announced : (k : Shape) (es : List Event) → Valid k es → (t : ℕ) → IsTable k t → (j : ℕ) (u : View) → get_elem? (run k es).views j ≡ some u → reads t u.log ≡ true → (o : ℕ) → o < containers_in k → root k es o ≡ suc t → seen es j t ≡ age es t
 announced k es valid t table j u at r o low names =
     let w = within k es valid t table j u at r in
     let two = ((placed k es valid t table).roots o low names).0 in
@@ -42,17 +37,6 @@ announced k es valid t table j u at r o low names =
     let c = w.2 in
     omega (arith, two, a, b, c)
 
--- also where the root has changed meanwhile: from the moment at which t was current until it is free
-pub laters_long : (k : Shape) (newer older : List Event) → Valid k (newer ++ older) → (t : ℕ) → IsTable k t → age older t % 5 ≡ 2 → age (newer ++ older) t ≤ age older t + 2 → LaterIn t (tab k older t) (tab k (newer ++ older) t)
-laters_long k [] older valid t table two low = later_self (slots (cls t)) (places (cls t)) (tab k older t)
-laters_long k (e ∷ newer) older valid t table two low =
-    let up = (ages_one e (newer ++ older) t).up in
-    let from = ages_rise newer older t in
-    let before = laters_long k newer older valid.0 t table two (le_trans up low) in
-    dite (ℕ_discrete (age (newer ++ older) t % 5) 2)
-    (λ now. later_trans (slots (cls t)) (places (cls t)) (tab k older t) (tab k (newer ++ older) t) (tab k (e ∷ (newer ++ older)) t) before (later_one k (newer ++ older) e valid t table now))
-    (λ ne. subst (LaterIn t (tab k older t)) (sym (rests k (newer ++ older) e valid t table (λ z. absurd (omega (arith, z, up, from, low, two))) ne)) before)
-
 -- two roots do not name one table
-pub one_root : (k : Shape) (es : List Event) → Valid k es → (t : ℕ) → IsTable k t → (o q : ℕ) → o < k.containers → q < k.containers → root k es o ≡ suc t → root k es q ≡ suc t → o ≡ q
+pub one_root : (k : Shape) (es : List Event) → Valid k es → (t : ℕ) → IsTable k t → (o q : ℕ) → o < containers_in k → q < containers_in k → root k es o ≡ suc t → root k es q ≡ suc t → o ≡ q
 one_root k es valid t table o q low less a b = let p = placed k es valid t table in sym (p.roots o low a).1 ∙ (p.roots q less b).1

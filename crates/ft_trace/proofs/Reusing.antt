@@ -1,5 +1,5 @@
 -- No table that a pass has found in a root since it last announced is free.
-use Rattle.std.proofs.Common.{◌≡◌, ◌≢◌, ◌⊎◌, ℕ, suc, eqb, ltb, ◌+◌, ◌%◌, ◌<◌, ◌≤◌, Bool, true, false, cond, List, [], ◌∷◌, refl, sym, ap, ◌∙◌, subst, inl, inr, ⊎_elim, arith}
+use Rattle.std.proofs.Common.{◌≡◌, ◌≢◌, ◌⊎◌, ℕ, suc, eqb, ltb, ◌+◌, ◌%◌, ◌<◌, ◌≤◌, Bool, true, false, cond, List, [], ◌∷◌, refl, sym, ap, ◌∙◌, subst, inl, inr, ⊎_elim, arith, le_trans}
 use Rattle.std.proofs.lemmas.Bool.{ltb-false, eqb-true}
 use mathlib.Core.Option.{some}
 use mathlib.Core.Logic.{dite}
@@ -16,7 +16,7 @@ use Rattle.ft_trace.specs.Ages.{aged, age, glog}
 use Rattle.ft_trace.specs.Traces.{Event, did, forked, joined, run, word, Valid}
 use Rattle.ft_trace.proofs.Sizes.{set_views, one_more, one_view}
 use Rattle.ft_trace.proofs.Cases.{hit, miss, here, off, same_or}
-use Rattle.ft_trace.proofs.Announcing.{heard}
+use Rattle.ft_trace.proofs.Announcing.{heard, fits}
 use Rattle.ft_trace.proofs.Places.{on_table, placed}
 
 -- what the action is to the goal of t and to those who have passed it
@@ -152,7 +152,7 @@ safe_calm k es id v t table old (ReadAnnounced q f) same ok =
       read_is = o.read_is;
       clear_is = λ four c r.
           let h = o.read_is r in
-          let word_is = (hear j u e).word_is h.4 h.3 in
+          let word_is = (hear j u e).word_is h.4 (le_trans h.3 (fits k es ok.0).passes) in
           let bound = h.1 four in
           let some_ann = h.2 in
           let of : q ≡ u.number → f ≡ ann u.log = λ z. ok.1.2 ∙ (ap (λ (y : ℕ). word k es (announced_of y)) z ∙ word_is) in

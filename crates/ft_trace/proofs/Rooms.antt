@@ -1,10 +1,13 @@
 -- No word wraps.
+use Rattle.ft_trace.specs.Addrs.{containers_in}
 use Rattle.std.proofs.Common.{◌≡◌, ◌≢◌, ℕ, eqb, ◌+◌, ◌*◌, ◌%◌, ◌<◌, ◌≤◌, Bool, true, false, true≢false, cond, List, [], ◌∷◌, length, refl, sym, ap, ◌∙◌, arith}
 use mathlib.Core.Option.{some}
 use mathlib.Core.Logic.{dite}
 use native.Mathlib.Decide.{ℕ_discrete}
 use lib.ListN.{get_elem?}
-use Rattle.ft_trace.specs.declared.Call.{Call}
+use Rattle.ft_model.specs.declared.call.Call.{Call}
+use Rattle.ft_model.specs.declared.reply.Reply.{Reply}
+use Rattle.ft_trace.specs.declared.Snap.{Snap}
 use Rattle.ft_trace.specs.declared.Shape.{Shape}
 use Rattle.ft_trace.specs.declared.View.{View}
 use Rattle.ft_trace.specs.declared.Act.{Act}
@@ -13,7 +16,7 @@ use Rattle.ft_trace.specs.Acts.{has, writes, writes_next, done, done_next, start
 use Rattle.ft_trace.specs.Traces.{Event, did, forked, joined, run, writes_of, history, Valid}
 use Rattle.ft_trace.proofs.Sizes.{set_at, set_views, one_more, one_view}
 use Rattle.ft_trace.proofs.Cases.{hit, off}
-use Rattle.ft_trace.proofs.Addrs.{block_first}
+use Rattle.ft_trace.proofs.Addrs.{version_first}
 use Rattle.ft_trace.proofs.Words.{moves}
 use Rattle.ft_trace.proofs.Locks.{one_holder}
 use Rattle.ft_trace.proofs.Versions.{version, versioned, writer_has, one_up, on_seq}
@@ -30,8 +33,8 @@ pub record Roomy (k : Shape) (es : List Event) (o : ℕ) : Type 0 where
   pub written : (j : ℕ) (u : View) → get_elem? (run k es).views j ≡ some u → writes o u.log ≡ true → done o u.log ≡ true → version k es o + 1 ≤ 2 * count k es
 
 -- a commit, and all else that leaves the version
-commits : (F : Act → Type 0) → ((c : Call) (r f : ℕ) → F (Commit c r f)) → ((a : Act) → ((cs : List Call) → writes_of a cs ≡ cs) → ((o : ℕ) → writes_next o a (writes o []) ≡ writes o [] → (b : Bool) → done_next o a b ≡ b) → F a) → (a : Act) → F a
-commits F commit other (Commit c r f) = commit c r f
+commits : (F : Act → Type 0) → ((c : Call) (r : Reply) (f : ℕ) (s : Snap) → F (Commit c r f s)) → ((a : Act) → ((cs : List Call) → writes_of a cs ≡ cs) → ((o : ℕ) → writes_next o a (writes o []) ≡ writes o [] → (b : Bool) → done_next o a b ≡ b) → F a) → (a : Act) → F a
+commits F commit other (Commit c r f s) = commit c r f s
 commits F commit other (StartWrite p f) = other (StartWrite p f) (λ cs. refl) (λ o same b. by (eqb p o) b same)
   where
     by : (x b : Bool) → cond x true false ≡ false → cond x false b ≡ b
@@ -39,9 +42,9 @@ commits F commit other (StartWrite p f) = other (StartWrite p f) (λ cs. refl) (
     by false b e = refl
 commits F commit other act = other act (λ cs. refl) (λ o same b. refl)
 
-pub roomy : (k : Shape) (es : List Event) → Valid k es → (o : ℕ) → o < k.containers → Roomy k es o
+pub roomy : (k : Shape) (es : List Event) → Valid k es → (o : ℕ) → o < containers_in k → Roomy k es o
 roomy k [] valid o low =
-    let v : version k [] o ≡ 0 = block_first k _ (omega arith) (omega arith) in
+    let v : version k [] o ≡ 0 = version_first k o low in
     record { odd = omega (arith, v); even = λ _. omega (arith, v); written = one_view (λ j u. writes o u.log ≡ true → done o u.log ≡ true → version k [] o + 1 ≤ 2 * count k []) (starter k) (λ e. off e) }
 roomy k (did id v a ∷ es) valid o low =
     let old = roomy k es valid.0 o low in
@@ -80,8 +83,8 @@ roomy k (did id v a ∷ es) valid o low =
     (λ b keeps stay ok.
     let G : Act → Type 0 = λ b. Valid k (did id v b ∷ es) → ((x : Bool) → writes_next o b x ≡ x) → V' b ≡ V → Roomy k (did id v b ∷ es) o in
     commits G
-    (λ c r f ok keeps same.
-    let up : C' (Commit c r f) ≡ C + 1 = moves k es id v (Commit c r f) ok.1.3 ∙ one_up C ok.1.3.2 in
+    (λ c r f s ok keeps same.
+    let up : C' (Commit c r f s) ≡ C + 1 = moves k es id v (Commit c r f s) ok.1.3 ∙ one_up C ok.1.3.2 in
     let h = old.odd in
     record { odd = omega (arith, same, up); even = λ e. let was : V % 2 ≡ 0 = ap (λ (n : ℕ). n % 2) (sym same) ∙ e in let g = old.even was in omega (arith, same, up); written = λ j u e w d. omega (arith, same, up) })
     (λ b past doing ok keeps v_same.
@@ -106,5 +109,5 @@ roomy k (joined id v other w ∷ es) valid o low =
     record { odd = old.odd; even = old.even; written = set_views W _ other spent (λ e. off e) (λ j u _. set_views W _ id (both v w) (old.written id v valid.1.0) (λ j u _ e. old.written j u e) j u) }
 
 -- a version has room for two steps
-pub version_room : (k : Shape) (es : List Event) → Valid k es → (o : ℕ) → o < k.containers → version k es o ≤ 2 * (k.passes * k.calls) + 1
+pub version_room : (k : Shape) (es : List Event) → Valid k es → (o : ℕ) → o < containers_in k → version k es o ≤ 2 * (k.passes * k.calls) + 1
 version_room k es valid o low = let a = (roomy k es valid o low).odd in let b = counter_room k es valid in omega arith

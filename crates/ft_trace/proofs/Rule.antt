@@ -1,43 +1,141 @@
 -- The laws.
-use Rattle.std.proofs.Common.{sym, ◌∙◌}
+use Rattle.std.proofs.Common.{◌≡◌, ℕ, ◌%◌, List, [], ◌∷◌, ◌++◌, sym, ap, ◌∙◌, subst, inl, inr, ⊎_elim, arith, le_trans}
 use mathlib.Core.Logic.{dite}
 use native.Mathlib.Decide.{ℕ_discrete}
 use Rattle.ft_trace.specs.Acts.{stage}
-use Rattle.ft_trace.specs.Laws.{EvenStands, OnePlace, Announced, SoundAlways, HitRight, MissRight, BareRight, LookedRight}
-use Rattle.ft_trace.proofs.Contents.{stands}
-use Rattle.ft_trace.proofs.Places.{placed, not_current}
-use Rattle.ft_trace.proofs.Reusing.{not_free}
-use Rattle.ft_trace.proofs.Rests.{one_root}
-use Rattle.ft_trace.proofs.Sounds.{sound_at}
+use Rattle.std.specs.Prelude.{cond, nat_lt}
+use Rattle.ft_trace.specs.Ages.{age, whose}
+use Rattle.ft_trace.proofs.Moments.{valid_rest}
+use Rattle.ft_trace.specs.Entries.{is_number}
+use Rattle.ft_trace.specs.Words.{picture}
+use Rattle.ft_trace.specs.Traces.{run}
+use Rattle.ft_trace.specs.Laws.{LocksNameHolders, VersionsAreOddInWrites, EvenTablesAreShut, NumbersAreOnce, EntriesAreRight, OneHasAllEntries, EvenWordsStand, ZeroRootsHaveNothing, HoldersKnow, TablesAreSomewhere, TablesAreInOnePlace, CountsStand, TablesAreOwed, EmptyClassesAreEarned, AnnouncedNumbersAreLow, FoundTablesAreKept, GivenUpTablesRest, TablesAreSound, TableWordsStay, HitsAreRight, MissesAreRight, BareRootsAreRight, ItemsAreRight, ListsFitTheirTables, LooksAreRight, ChangedRootsAreNew, NumbersHaveRoom}
+use Rattle.ft_trace.proofs.Locks.{names, holder, one_holder}
+use Rattle.ft_trace.proofs.Versions.{versioned, writer_has, writing_is_odd}
+use Rattle.ft_trace.proofs.Contents.{counted, tab, stands}
+use Rattle.ft_trace.proofs.Totals.{entries_total}
+use Rattle.ft_trace.proofs.Closing.{all_right, once, closes}
+use Rattle.ft_trace.proofs.Announcing.{fits, heard}
+use Rattle.ft_trace.proofs.Pieces.{block_at}
+use Rattle.ft_trace.proofs.Places.{root_table, placed, not_current}
+use Rattle.ft_trace.proofs.Hands.{handed}
+use Rattle.ft_trace.proofs.Reusing.{safe, not_free}
+use Rattle.ft_trace.proofs.Rests.{rests, one_root}
+use Rattle.ft_trace.proofs.Evens.{quiet_shut}
+use Rattle.ft_trace.proofs.Nothing.{no_table_stands}
+use Rattle.ft_trace.proofs.Held.{words_known, content_known, hand_known}
+use Rattle.ft_trace.proofs.Sounds.{LaterIn, sound_at, laters}
+use Rattle.ft_trace.proofs.Ones.{words_stand}
+use Rattle.ft_trace.proofs.Owed as owed_in
 use Rattle.ft_trace.proofs.Hits as hits
 use Rattle.ft_trace.proofs.Misses as misses
+use Rattle.ft_trace.proofs.ItemHits as items
 use Rattle.ft_trace.proofs.Optimistic.{bare_at, looked_at}
+use Rattle.ft_trace.proofs.Anew.{is_new}
+use Rattle.ft_trace.proofs.Rooms.{counter_room, version_room}
+use Rattle.ft_trace.proofs.Budgets.{goals_room}
 
-pub even_stands : EvenStands
-even_stands = stands
+pub locks_name_their_holders : LocksNameHolders
+locks_name_their_holders k es valid o low = (names k es valid o low, holder k es valid o low, one_holder k es valid o low)
 
-pub one_place : OnePlace
-one_place k es valid t table =
+pub versions_are_odd_in_writes : VersionsAreOddInWrites
+versions_are_odd_in_writes k es valid o low = ((versioned k es valid o low).busy, λ j u at w. (writer_has k es valid o j u at w, writing_is_odd k es valid o low j u at w))
+
+pub tables_are_shut_while_versions_are_even : EvenTablesAreShut
+tables_are_shut_while_versions_are_even = quiet_shut
+
+pub numbers_are_of_one_write : NumbersAreOnce
+numbers_are_of_one_write k es valid n = entries_total (is_number n) k es valid ∙ (once k es valid n ∙ ap (λ (z : ℕ). cond (nat_lt n z) 1 0) (sym (counted k es valid)))
+
+pub entries_are_right : EntriesAreRight
+entries_are_right = all_right
+
+pub one_pass_has_all_entries : OneHasAllEntries
+one_pass_has_all_entries k es valid j u at all = closes k es valid (fits k es valid).some_pass j u at all
+
+pub words_stand_while_versions_are_even : EvenWordsStand
+words_stand_while_versions_are_even = stands
+
+pub zero_roots_have_nothing : ZeroRootsHaveNothing
+zero_roots_have_nothing k es valid o low even none = no_table_stands k.texts (picture k o (run k es).words) _ (block_at k o (run k es).words 0 (omega arith) ∙ none) (stands k es valid o low even)
+
+pub holders_know : HoldersKnow
+holders_know v es j knows = (λ o low mine. (words_known v o low mine es j knows, content_known v o mine es j knows), λ t table one. hand_known v t table one es j knows)
+
+pub tables_are_somewhere : TablesAreSomewhere
+tables_are_somewhere k es valid t table =
+    let p = placed k es valid t table in
+    dite (ℕ_discrete (age es t % 5) 0) (λ z. inl (p.is_free z))
+    (λ free. dite (ℕ_discrete (age es t % 5) 2) (λ two. let c = p.current two in inr (inl (whose es t, c.0, c.1)))
+    (λ other. let h = handed k es valid t table free other in inr (inr (whose es t, h.by, h.at, λ z. free (sym h.has ∙ z)))))
+
+pub tables_are_in_one_place : TablesAreInOnePlace
+tables_are_in_one_place k es valid t table =
     let p = placed k es valid t table in (
       one_root k es valid t table,
       λ i j u w at there mine theirs. sym (p.hands i u at mine).1 ∙ (p.hands j w there theirs).1,
       λ o i u low names at. dite (ℕ_discrete (stage t u.log) 0) (λ e. e) (λ ne. absurd (not_current t u.log (sym (p.hands i u at ne).0 ∙ (p.roots o low names).0))),
+      λ free. (
+        λ o low names. let a = p.free_is free in let b = (p.roots o low names).0 in absurd (omega (arith, a, b)),
+        λ i u at. dite (ℕ_discrete (stage t u.log) 0) (λ e. e) (λ ne. absurd (ne (sym (p.hands i u at ne).0 ∙ p.free_is free))),
+      ),
     )
 
-pub announced : Announced
-announced = not_free
+pub counts_stand : CountsStand
+counts_stand = words_stand
 
-pub sound_always : SoundAlways
-sound_always = sound_at
+pub tables_are_owed : TablesAreOwed
+tables_are_owed k es valid c is = let a = owed_in.owed k es valid c is in let b = owed_in.took_low k es valid c in omega (arith, a, b)
 
-pub hit_right : HitRight
-hit_right k es valid o t p key value n low small j u at h = hits.hit_at k es valid o t p key value n low small j u at h
+pub empty_classes_are_earned : EmptyClassesAreEarned
+empty_classes_are_earned k es valid j u at c is newer rest log none = let a = owed_in.earned_since k es valid j u at c is newer rest log none in let b = owed_in.took_low k es valid c in omega (arith, a, b)
 
-pub miss_right : MissRight
-miss_right k es valid o t key n low j u at h = misses.miss_at k es valid o t key n low j u at h
+pub announced_numbers_are_low : AnnouncedNumbersAreLow
+announced_numbers_are_low k es valid j u at live low = let h = heard k es valid j u at in (h.word_is live (le_trans low (fits k es valid).passes), h.low)
 
-pub bare_right : BareRight
-bare_right = bare_at
+pub found_tables_are_kept : FoundTablesAreKept
+found_tables_are_kept k es valid t table j u at =
+    let s = safe k es valid t table j u at in
+    (not_free k es valid t table j u at, λ r. ((s.read_is r).0, (s.read_is r).1), s.clear_is)
 
-pub looked_right : LookedRight
-looked_right = looked_at
+pub given_up_tables_rest : GivenUpTablesRest
+given_up_tables_rest k e es valid t table fresh current = rests k es e valid t table fresh current
+
+pub tables_are_sound : TablesAreSound
+tables_are_sound = sound_at
+
+pub table_words_stay : TableWordsStay
+table_words_stay k newer older valid o low t names same =
+    let was = valid_rest k newer older valid in
+    let table = root_table k older was o low t names in
+    let r = (placed k older was t table).roots o low names in
+    subst (λ (z : ℕ). LaterIn k z t (tab k older t) (tab k (newer ++ older) t)) r.1 (laters k newer older valid t table r.0 same)
+
+pub hits_are_right : HitsAreRight
+hits_are_right k es valid o t p key n low keyed small j u at h =
+    let r = hits.hit_at k es valid o t p key n low keyed small j u at h in
+    (r.0, (λ none. some_words r.1 none), hits.hit_word k es valid o t p key n low keyed small j u at h)
+  where
+    some_words : {x : ℕ} {xs l : List ℕ} → l ≡ x ∷ xs → l ≡ [] → ⊥
+    some_words a b = let z = sym a ∙ b in absurd (cc)
+
+pub misses_are_right : MissesAreRight
+misses_are_right k es valid o t key n low keyed j u at = ⊎_elim (λ h. misses.miss_at k es valid o t key n low keyed j u at h) (λ h. misses.full_at k es valid o t key n low keyed j u at h)
+
+pub bare_roots_are_right : BareRootsAreRight
+bare_roots_are_right = bare_at
+
+pub items_are_right : ItemsAreRight
+items_are_right k es valid o t p n low is small j u at h = ((items.item_hit_at k es valid o t p n low is small j u at h).0, items.item_word k es valid o t p n low is small j u at h)
+
+pub lists_fit_their_tables : ListsFitTheirTables
+lists_fit_their_tables k es valid o t n low is j u at h = items.item_past_at k es valid o t n low is j u at h
+
+pub looks_are_right : LooksAreRight
+looks_are_right = looked_at
+
+pub changed_roots_are_new : ChangedRootsAreNew
+changed_roots_are_new = is_new
+
+pub numbers_have_room : NumbersHaveRoom
+numbers_have_room k es valid = (counter_room k es valid, goals_room k es (fits k es valid).some_pass valid, λ o low. version_room k es valid o low)

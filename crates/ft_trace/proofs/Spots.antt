@@ -7,17 +7,17 @@ use Rattle.ft_trace.specs.declared.Shape.{Shape}
 use Rattle.ft_trace.specs.declared.View.{View}
 use Rattle.ft_trace.specs.declared.Act.{Act}
 use Rattle.ft_trace.specs.declared.Act.TheVariants.{ReadRoot, ReadTable}
-use Rattle.ft_trace.specs.Addrs.{IsTable, cls, size}
+use Rattle.ft_trace.specs.Addrs.{IsTable, cls, size, containers_in}
 use Rattle.ft_trace.specs.Acts.{place, Reports, reads}
 use Rattle.ft_trace.specs.Ages.{age, whose}
 use Rattle.ft_trace.specs.Finding.{Online, Window}
-use Rattle.ft_trace.specs.Worlds.{world, world_at}
+use Rattle.ft_trace.specs.Worlds.{first_writes}
 use Rattle.ft_trace.specs.Traces.{Event, run, word, history, Valid}
 use Rattle.ft_trace.proofs.Moments.{was, still_reads, online_before, online_after, online_rest}
 use Rattle.ft_trace.proofs.Pieces.{table_at}
 use Rattle.ft_trace.proofs.Places.{root, root_table, placed}
 use Rattle.ft_trace.proofs.Contents.{count, counted, tab}
-use Rattle.ft_trace.proofs.Stamps.{world_now, stays, grows}
+use Rattle.ft_trace.proofs.Stamps.{all_writes, stays, grows}
 use Rattle.ft_trace.proofs.Ages.{within, ages_rise, whose_same}
 use Rattle.ft_trace.proofs.Sounds.{LaterIn, laters}
 
@@ -30,14 +30,14 @@ pub under_trans : (a b c : List Event) → Under a b → Under b c → Under a c
 under_trans a b c p q = record { newer = q.newer ++ p.newer; is = append_assoc q.newer p.newer a ∙ (ap (λ (l : List Event). q.newer ++ l) p.is ∙ q.is) }
 
 -- what the counter said then, and the world at that number now
-pub stamp_then : (k : Shape) (older es : List Event) → Valid k older → Valid k es → Under older es → (o n : ℕ) → n ≡ count k older → (n ≤ count k es) × (world_at n (history es) o ≡ world (history older) o)
-stamp_then k older es was valid u o n is =
+pub stamp_then : (k : Shape) (older es : List Event) → Valid k older → Valid k es → Under older es → (n : ℕ) → n ≡ count k older → (n ≤ count k es) × (first_writes n (history es) ≡ history older)
+stamp_then k older es was valid u n is =
     let m = length (history older) in
     let number : n ≡ m = is ∙ counted k older was in
     let a : m ≤ length (history es) = subst (λ (l : List Event). m ≤ length (history l)) u.is (grows u.newer older) in
     let all = counted k es valid in
-    let one : world_at m (history es) o ≡ world_at m (history older) o = subst (λ (l : List Event). world_at m (history l) o ≡ world_at m (history older) o) u.is (stays m u.newer older o (let z : m ≤ m = omega arith in z)) in
-    (omega (arith, number, a, all), ap (λ (z : ℕ). world_at z (history es) o) number ∙ (one ∙ world_now (history older) o))
+    let one : first_writes m (history es) ≡ first_writes m (history older) = subst (λ (l : List Event). first_writes m (history l) ≡ first_writes m (history older)) u.is (stays m u.newer older (let z : m ≤ m = omega arith in z)) in
+    (omega (arith, number, a, all), ap (λ (z : ℕ). first_writes z (history es)) number ∙ (one ∙ all_writes (history older)))
 
 -- a moment at which t is current and the pass at seat j has this log
 pub record Spot (k : Shape) (t j : ℕ) (start walk : List Act) : Type 0 where
@@ -56,7 +56,7 @@ pub record Back (k : Shape) (t j : ℕ) (start : List Act) (es : List Event) (a 
   pub same : age spot.es t ≡ age es t
   pub whom : whose spot.es t ≡ whose es t
   pub tells : Reports a (word k spot.es (place a))
-  pub later : LaterIn t (tab k spot.es t) (tab k es t)
+  pub later : LaterIn k (whose es t) t (tab k spot.es t) (tab k es t)
 
 pub go : (k : Shape) (t j : ℕ) (start walk : List Act) → IsTable k t → reads t start ≡ true → (s : Spot k t j start walk) → (xs : List Act) (a : Act) (rest : List Act) → walk ≡ xs ++ a ∷ rest → Back k t j start s.es a rest
 go k t j start walk table read s xs a rest is =
@@ -76,13 +76,14 @@ go k t j start walk table read s xs a rest is =
     let same : age w.older t ≡ age s.es t = omega (arith, same_seen, up, two, h0, h1, h2, t1) in
     let now : age w.older t % 5 ≡ 2 = ap (λ (z : ℕ). z % 5) same ∙ two in
     let same' : age (w.newer ++ w.older) t ≡ age w.older t = ap (λ (l : List Event). age l t) w.split ∙ sym same in
+    let whom : whose w.older t ≡ whose s.es t = sym (whose_same w.newer w.older t same') ∙ ap (λ (l : List Event). whose l t) w.split in
     record {
       spot = record { es = w.older; valid = w.valid; view = w.view; at = w.at; log = w.log; online = on_rest; now = now };
       under = record { newer = w.newer; is = w.split };
       same = same;
-      whom = sym (whose_same w.newer w.older t same') ∙ ap (λ (l : List Event). whose l t) w.split;
+      whom = whom;
       tells = w.tells;
-      later = subst (λ (l : List Event). LaterIn t (tab k w.older t) (tab k l t)) w.split (laters k w.newer w.older (subst (Valid k) (sym w.split) s.valid) t table now same');
+      later = subst (λ (z : ℕ). LaterIn k z t (tab k w.older t) (tab k s.es t)) whom (subst (λ (l : List Event). LaterIn k (whose w.older t) t (tab k w.older t) (tab k l t)) w.split (laters k w.newer w.older (subst (Valid k) (sym w.split) s.valid) t table now same'));
     }
 
 -- the second read of the root
@@ -92,7 +93,7 @@ pub record Opened (k : Shape) (es : List Event) (o t j : ℕ) (start walk : List
   pub whom : whose spot.es t ≡ o
   pub under : Under spot.es es
 
-pub open_window : (k : Shape) (es : List Event) → Valid k es → (j : ℕ) (u : View) → get_elem? (run k es).views j ≡ some u → (o t : ℕ) → o < k.containers → (walk : List Act) (w : Window u.log o t walk) → Opened k es o t j w.rest walk
+pub open_window : (k : Shape) (es : List Event) → Valid k es → (j : ℕ) (u : View) → get_elem? (run k es).views j ≡ some u → (o t : ℕ) → o < containers_in k → (walk : List Act) (w : Window u.log o t walk) → Opened k es o t j w.rest walk
 open_window k es valid j u at o t low walk win =
     let w = was k es valid j u at win.newer (ReadRoot o (suc t)) (walk ++ win.rest) win.is in
     let names : root k w.older o ≡ suc t = sym w.tells in
@@ -110,7 +111,7 @@ pub named_by : (k : Shape) (es : List Event) → Valid k es → (o t : ℕ) → 
 named_by k es valid o t table two whom = ap (root k es) (sym whom) ∙ ((placed k es valid t table).current two).1
 
 -- at each moment between the two reads the root of o named t
-pub root_again : (k : Shape) (es : List Event) → Valid k es → (j : ℕ) (u : View) → get_elem? (run k es).views j ≡ some u → (o t : ℕ) → o < k.containers → (walk : List Act) → Window u.log o t walk → (xs : List Act) (a : Act) (rest : List Act) → walk ≡ xs ++ a ∷ rest
+pub root_again : (k : Shape) (es : List Event) → Valid k es → (j : ℕ) (u : View) → get_elem? (run k es).views j ≡ some u → (o t : ℕ) → o < containers_in k → (walk : List Act) → Window u.log o t walk → (xs : List Act) (a : Act) (rest : List Act) → walk ≡ xs ++ a ∷ rest
     → (older : List Event) × Under older es × Valid k older × (Reports a (word k older (place a))) × (root k older o ≡ suc t)
 root_again k es valid j u at o t low walk win xs a rest is =
     let s = open_window k es valid j u at o t low walk win in

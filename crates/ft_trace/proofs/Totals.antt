@@ -6,7 +6,7 @@ use Rattle.ft_trace.specs.declared.Shape.{Shape}
 use Rattle.ft_trace.specs.declared.View.{View}
 use Rattle.ft_trace.specs.declared.Act.{Act}
 use Rattle.ft_trace.specs.declared.Act.TheVariants.{Commit, Answer}
-use Rattle.ft_trace.specs.declared.Call.{Call}
+use Rattle.ft_model.specs.declared.call.Call.{Call}
 use Rattle.ft_trace.specs.declared.Entry.{Entry}
 use Rattle.ft_trace.specs.Acts.{noted, entries_next, left_next, maker, made, both, spent}
 use Rattle.ft_trace.specs.Traces.{Moment, Event, did, forked, joined, run, writes_of, history, May, Valid}
@@ -68,7 +68,7 @@ parts_total k (forked id v ∷ es) valid = let may = valid.1.3 in total_forked (
 parts_total k (joined id v other w ∷ es) valid = total_joined (λ (u : View). u.parts) (run k es).views id other v w (both v w) spent valid.1.0 valid.1.1 valid.1.2 (omega arith) ∙ parts_total k es valid.0
 
 left_by : (k : Shape) (m : Moment) (cs : List Call) (v : View) (b : Act) → May k m cs v b → left_next b v.left + length (writes_of b cs) ≡ v.left + length cs
-left_by k m cs v (Commit c r f) may = let room = may.3 in omega arith
+left_by k m cs v (Commit c r f s) may = let room = may.3 in omega arith
 left_by k m cs v act may = refl
 
 -- the writes made and those that are left
@@ -83,7 +83,7 @@ left_total k (forked id v ∷ es) valid = let may = valid.1.4 in ap (λ (n : ℕ
 left_total k (joined id v other w ∷ es) valid = ap (λ (n : ℕ). n + length (history es)) (total_joined (λ (u : View). u.left) (run k es).views id other v w (both v w) spent valid.1.0 valid.1.1 valid.1.2 (omega arith)) ∙ left_total k es valid.0
 
 weight_by : (h : Entry → ℕ) (b : Act) (es fs : List Entry) → total h (entries_next b es) + total h fs ≡ total h (entries_next b fs) + total h es
-weight_by h (Commit c r f) es fs = omega arith
+weight_by h (Commit c r f s) es fs = omega arith
 weight_by h (Answer c x n) es fs = omega arith
 weight_by h act es fs = omega arith
 

@@ -8,14 +8,14 @@ use Rattle.ft_trace.specs.declared.Shape.{Shape}
 use Rattle.ft_trace.specs.declared.View.{View}
 use Rattle.ft_trace.specs.declared.Act.{Act}
 use Rattle.ft_trace.specs.declared.Act.TheVariants.{StartWrite, StopWrite, Version}
-use Rattle.ft_trace.specs.Addrs.{version_of}
+use Rattle.ft_trace.specs.Addrs.{version_of, containers_in}
 use Rattle.ft_trace.specs.Acts.{has, writes, writes_next, starter, noted, maker, made, both, spent}
 use Rattle.ft_trace.specs.Traces.{Moment, Event, did, forked, joined, run, word, history, May, Valid}
 use Rattle.ft_trace.proofs.Sizes.{set_at, set_views, one_more, one_view}
 use Rattle.atomic_table.proofs.Lists.{set_else, at_longer}
 use Rattle.ft_trace.proofs.Cases.{hit, miss, same_or, off, not_true}
-use Rattle.ft_trace.proofs.Addrs.{block_first}
-use Rattle.ft_trace.proofs.Words.{stays, moves, kept}
+use Rattle.ft_trace.proofs.Addrs.{version_first}
+use Rattle.ft_trace.proofs.Words.{stays, moves, loaded}
 use Rattle.ft_trace.proofs.Locks.{on_lock, one_holder}
 
 pub one_up : (n : ℕ) → n + 1 < 2 ^ 64 → (n + 1) % 2 ^ 64 ≡ n + 1
@@ -53,12 +53,12 @@ abbrev pub version : Shape → List Event → ℕ → ℕ
 version k es o = word k es (version_of o)
 
 -- what the action is to the version of o
-module _ (k : Shape) (es : List Event) (id : ℕ) (v : View) (o : ℕ) (low : o < k.containers) (F : Act → Type 0) (start : (f : ℕ) → F (StartWrite o f)) (stop : (f : ℕ) → F (StopWrite o f))
+module _ (k : Shape) (es : List Event) (id : ℕ) (v : View) (o : ℕ) (low : o < containers_in k) (F : Act → Type 0) (start : (f : ℕ) → F (StartWrite o f)) (stop : (f : ℕ) → F (StopWrite o f))
     (other : (a : Act) → ((b : Bool) → writes_next o a b ≡ b) → (May k (run k es) (history es) v a → version k (did id v a ∷ es) o ≡ version k es o) → F a) where
   pub on_seq : (a : Act) → F a
   on_seq (StartWrite p f) = same_or (λ (z : ℕ). F (StartWrite z f)) p o (start f) (λ ne. other (StartWrite p f) (λ b. miss p o true b ne) (λ may. stays k es id v (StartWrite p f) may (version_of o) low (λ e. ne (cc))))
   on_seq (StopWrite p f) = same_or (λ (z : ℕ). F (StopWrite z f)) p o (stop f) (λ ne. other (StopWrite p f) (λ b. miss p o false b ne) (λ may. stays k es id v (StopWrite p f) may (version_of o) low (λ e. ne (cc))))
-  on_seq (Version p f) = other (Version p f) (λ b. refl) (λ may. kept k es id v (Version p f) (λ n. refl) (version_of o))
+  on_seq (Version p f) = other (Version p f) (λ b. refl) (λ may. loaded k es id v (Version p f) (λ n. refl) (version_of o))
   on_seq act = other act (λ b. refl) (λ may. stays k es id v act may (version_of o) low (λ e. absurd (cc)))
 
 abbrev pub Writer : List View → ℕ → Type 0
@@ -77,13 +77,13 @@ pub record Versioned (k : Shape) (es : List Event) (o : ℕ) : Type 0 where
   pub busy : version k es o % 2 ≡ 1 → Writer (run k es).views o
 
 -- the writer is the only one
-one_writer : (k : Shape) (es : List Event) → Valid k es → (o : ℕ) → o < k.containers → (j id : ℕ) (u v : View) → get_elem? (run k es).views j ≡ some u → get_elem? (run k es).views id ≡ some v → writes o u.log ≡ true → has o v.log ≡ true → j ≡ id
+one_writer : (k : Shape) (es : List Event) → Valid k es → (o : ℕ) → o < containers_in k → (j id : ℕ) (u v : View) → get_elem? (run k es).views j ≡ some u → get_elem? (run k es).views id ≡ some v → writes o u.log ≡ true → has o v.log ≡ true → j ≡ id
 one_writer k es valid o low j id u v at there mine theirs = one_holder k es valid o low j id u v at there (writer_has k es valid o j u at mine) theirs
 
-pub versioned : (k : Shape) (es : List Event) → Valid k es → (o : ℕ) → o < k.containers → Versioned k es o
+pub versioned : (k : Shape) (es : List Event) → Valid k es → (o : ℕ) → o < containers_in k → Versioned k es o
 versioned k [] valid o low = record {
   idle = λ _. one_view (λ j u. writes o u.log ≡ false) (starter k) refl;
-  busy = λ odd. let e : version k [] o ≡ 0 = block_first k _ (omega arith) (omega arith) in absurd (omega (arith, odd, ap (λ (n : ℕ). n % 2) e));
+  busy = λ odd. let e : version k [] o ≡ 0 = version_first k o low in absurd (omega (arith, odd, ap (λ (n : ℕ). n % 2) e));
 }
 versioned k (did id v a ∷ es) valid o low =
     let old = versioned k es valid.0 o low in
@@ -138,11 +138,11 @@ versioned k (joined id v other w ∷ es) valid o low =
 writing_is_odd' : (n : ℕ) → n % 2 ≢ 0 → n % 2 ≡ 1
 writing_is_odd' n ne = omega arith
 
-pub writing_is_odd : (k : Shape) (es : List Event) → Valid k es → (o : ℕ) → o < k.containers → (id : ℕ) (v : View) → get_elem? (run k es).views id ≡ some v → writes o v.log ≡ true → version k es o % 2 ≡ 0 → ⊥
+pub writing_is_odd : (k : Shape) (es : List Event) → Valid k es → (o : ℕ) → o < containers_in k → (id : ℕ) (v : View) → get_elem? (run k es).views id ≡ some v → writes o v.log ≡ true → version k es o % 2 ≡ 0 → ⊥
 writing_is_odd k es valid o low id v at mine even = off (sym ((versioned k es valid o low).idle even id v at) ∙ mine)
 
 -- a version never falls
-pub rises_one : (k : Shape) (es : List Event) (e : Event) → Valid k (e ∷ es) → (o : ℕ) → o < k.containers → version k es o ≤ version k (e ∷ es) o
+pub rises_one : (k : Shape) (es : List Event) (e : Event) → Valid k (e ∷ es) → (o : ℕ) → o < containers_in k → version k es o ≤ version k (e ∷ es) o
 rises_one k es (did id v a) valid o low =
     let V = version k es o in
     let F : Act → Type 0 = λ b. May k (run k es) (history es) v b → V ≤ version k (did id v b ∷ es) o in
@@ -154,6 +154,6 @@ rises_one k es (did id v a) valid o low =
 rises_one k es (forked id v) valid o low = le_refl (version k es o)
 rises_one k es (joined id v other w) valid o low = le_refl (version k es o)
 
-pub rises : (k : Shape) (newer older : List Event) → Valid k (newer ++ older) → (o : ℕ) → o < k.containers → version k older o ≤ version k (newer ++ older) o
+pub rises : (k : Shape) (newer older : List Event) → Valid k (newer ++ older) → (o : ℕ) → o < containers_in k → version k older o ≤ version k (newer ++ older) o
 rises k [] older valid o low = le_refl (version k older o)
 rises k (e ∷ newer) older valid o low = le_trans (rises k newer older valid.0 o low) (rises_one k (newer ++ older) e valid o low)

@@ -26,5 +26,5 @@ module _ (k : Shape) (es : List Event) (id : ℕ) (v : View) (a : Act) (may : Ma
   moves = get_or-set_same (run k es).words (at k (place a)) (left v.number a (word k es (place a))) 0 (subst (λ (n : ℕ). at k (place a) < n) (sym (wide k es)) (at_low k (place a) (inside k (run k es) (history es) v a may)))
 
 -- a load
-pub kept : (k : Shape) (es : List Event) (id : ℕ) (v : View) (a : Act) → ((n : ℕ) → left v.number a n ≡ n) → (x : Addr) → word k (did id v a ∷ es) x ≡ word k es x
-kept k es id v a loads x = ap (λ (z : ℕ). get_or (set (run k es).words (at k (place a)) z) (at k x) 0) (loads (word k es (place a))) ∙ ap (λ (l : List ℕ). get_or l (at k x) 0) (set-get_or (run k es).words (at k (place a)) 0)
+pub loaded : (k : Shape) (es : List Event) (id : ℕ) (v : View) (a : Act) → ((n : ℕ) → left v.number a n ≡ n) → (x : Addr) → word k (did id v a ∷ es) x ≡ word k es x
+loaded k es id v a loads x = ap (λ (z : ℕ). get_or (set (run k es).words (at k (place a)) z) (at k x) 0) (loads (word k es (place a))) ∙ ap (λ (l : List ℕ). get_or l (at k x) 0) (set-get_or (run k es).words (at k (place a)) 0)

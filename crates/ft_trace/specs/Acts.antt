@@ -5,10 +5,10 @@ use Rattle.ft_trace.specs.declared.Act.{Act}
 use Rattle.ft_trace.specs.declared.Act.TheVariants.{Lock, Unlock, StartWrite, PutBlock, PutRoot, PutTable, PutFresh, PutHeader, Commit, StopWrite, Version, ReadBlock, ReadRoot, ReadTable, ReadCounter, Answer, LowerCount, RaiseCount, ReadCount, ReadFree, TakeTable, GiveTable, Retire, Announce, ReadAnnounced, WriteNumber}
 use Rattle.ft_trace.specs.declared.Entry.{Entry}
 use Rattle.ft_trace.specs.declared.Shape.{Shape}
-use Rattle.ft_trace.specs.declared.Call.{Call}
+use Rattle.ft_model.specs.declared.call.Call.{Call}
 use Rattle.ft_trace.specs.declared.View.{View}
 use Rattle.ft_trace.specs.Bits.{bit, bit_on, bit_off}
-use Rattle.ft_trace.specs.Addrs.{Addr, counter, write_number, announced_of, count_of, bits, lock_of, version_of, block, header, cell, cls, at, fw, bt}
+use Rattle.ft_trace.specs.Addrs.{Addr, counter, write_number, announced_of, count_of_class, bits, lock_of, version_of, block, header, cell, cls, at, fw, bt}
 
 -- the word of an action
 abbrev pub place : Act → Addr
@@ -20,7 +20,7 @@ place (PutRoot o r old) = block o 0
 place (PutTable o t i x) = cell t i
 place (PutFresh t i x) = cell t i
 place (PutHeader t x) = header t
-place (Commit c r f) = counter
+place (Commit c r f s) = counter
 place (StopWrite o f) = version_of o
 place (Version o f) = version_of o
 place (ReadBlock o i f) = block o i
@@ -28,9 +28,9 @@ place (ReadRoot o f) = block o 0
 place (ReadTable t i f) = cell t i
 place (ReadCounter f) = counter
 place (Answer c r n) = counter
-place (LowerCount c old f) = count_of c
-place (RaiseCount c f) = count_of c
-place (ReadCount c f) = count_of c
+place (LowerCount c old f) = count_of_class c
+place (RaiseCount c f) = count_of_class c
+place (ReadCount c f) = count_of_class c
 place (ReadFree w f) = bits w
 place (TakeTable t f s) = bits (fw t)
 place (GiveTable t) = bits (fw t)
@@ -49,7 +49,7 @@ left by (PutRoot o r old) n = r
 left by (PutTable o t i x) n = x
 left by (PutFresh t i x) n = x
 left by (PutHeader t x) n = x
-left by (Commit c r f) n = (n + 1) % 2 ^ 64
+left by (Commit c r f s) n = (n + 1) % 2 ^ 64
 left by (StopWrite o f) n = (n + 1) % 2 ^ 64
 left by (LowerCount c old f) n = either (n == old) (old - 1) n
 left by (RaiseCount c f) n = (n + 1) % 2 ^ 64
@@ -63,7 +63,7 @@ left by act n = n
 abbrev pub Reports : Act → ℕ → Type 0
 Reports (Lock o f s) n = f ≡ n
 Reports (StartWrite o f) n = f ≡ n
-Reports (Commit c r f) n = f ≡ n
+Reports (Commit c r f s) n = f ≡ n
 Reports (StopWrite o f) n = f ≡ n
 Reports (Version o f) n = f ≡ n
 Reports (ReadBlock o i f) n = f ≡ n
@@ -103,7 +103,7 @@ writes o (a ∷ l) = writes_next o a (writes o l)
 -- the pass has committed since it made the version of o odd
 abbrev pub done_next : ℕ → Act → Bool → Bool
 done_next o (StartWrite p f) b = cond (p == o) false b
-done_next o (Commit c r f) b = true
+done_next o (Commit c r f s) b = true
 done_next o act b = b
 
 abbrev pub done : ℕ → List Act → Bool
@@ -163,7 +163,7 @@ clear t p (a ∷ l) = clear_next t p (goal t l) a (clear t p l)
 -- since its last commit the pass has taken a table out of a root
 abbrev pub used_next : Act → Bool → Bool
 used_next (PutRoot o r old) b = cond (old == 0) b true
-used_next (Commit c r f) b = false
+used_next (Commit c r f s) b = false
 used_next act b = b
 
 abbrev pub used : List Act → Bool
@@ -196,7 +196,7 @@ flight (a ∷ l) = flight_next a (flight l)
 abbrev pub owes_next : Act → ℕ → ℕ
 owes_next (LowerCount c old f) n = cond (f == old) (suc c) n
 owes_next (RaiseCount c f) n = cond (n == suc c) 0 n
-owes_next (Commit c r f) n = 0
+owes_next (Commit c r f s) n = 0
 owes_next act n = n
 
 abbrev pub owes : List Act → ℕ
@@ -204,13 +204,13 @@ owes [] = 0
 owes (a ∷ l) = owes_next a (owes l)
 
 abbrev pub entries_next : Act → List Entry → List Entry
-entries_next (Commit c r f) es = record { call = c; reply = r; stamp = f; wrote = true } ∷ es
+entries_next (Commit c r f s) es = record { call = c; reply = r; stamp = f; wrote = true } ∷ es
 entries_next (Answer c x s) es = record { call = c; reply = x; stamp = s; wrote = false } ∷ es
 entries_next act es = es
 
 -- the writes that are left
 abbrev pub left_next : Act → ℕ → ℕ
-left_next (Commit c r f) n = n - 1
+left_next (Commit c r f s) n = n - 1
 left_next act n = n
 
 abbrev pub noted : Act → View → View
@@ -232,7 +232,7 @@ abbrev pub both : View → View → View
 both v w = record { number = v.number; next = v.next; parts = v.parts + w.parts; left = v.left + w.left; shape = v.shape; log = v.log; entries = w.entries ++ v.entries }
 
 abbrev pub spent : View
-spent = record { number = 0; next = 0; parts = 0; left = 0; shape = record { containers = 0; passes = 0; calls = 0; classes = 0; tables = 0 }; log = []; entries = [] }
+spent = record { number = 0; next = 0; parts = 0; left = 0; shape = record { kinds = []; texts = []; tables = []; heap = 0; passes = 0; calls = 0 }; log = []; entries = [] }
 
 -- the words of the bank, as the pass knows them: right for what it has
 abbrev pub mem_next : Shape → Act → List ℕ → List ℕ
@@ -252,7 +252,7 @@ mem k (a ∷ l) = mem_next k a (mem k l)
 abbrev pub past_next : Act → List Call → List Call
 past_next (Lock o f s) cs = s.calls
 past_next (TakeTable t f s) cs = s.calls
-past_next (Commit c r f) cs = c ∷ cs
+past_next (Commit c r f s) cs = c ∷ s.calls
 past_next act cs = cs
 
 abbrev pub past : List Act → List Call

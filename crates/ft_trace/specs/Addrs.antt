@@ -1,13 +1,20 @@
--- Which words the bank has, and where they lie.
-use Rattle.std.specs.Prelude.{ℕ, zero, suc, ◌+◌, ◌-◌, ◌*◌, ◌/◌, ◌%◌, ◌^◌, ◌<◌, ◌≤◌, Bool, cond, nat_lt, List, [], ◌∷◌, ◌++◌, replicate}
+-- Which words the bank has, and where they lie. (profile)
+use Rattle.std.specs.Prelude.{ℕ, zero, suc, ◌+◌, ◌-◌, ◌*◌, ◌/◌, ◌%◌, ◌^◌, ◌<◌, ◌≤◌, Bool, cond, nat_lt, List, [], ◌∷◌, ◌++◌, length, replicate}
+use Rattle.ft_model.specs.Classes.{IsClass}
+use Rattle.ft_model.specs.Classes.{dict_entries}
+use Rattle.ft_layout.specs.Sizes.{table_size}
+use Rattle.ft_layout.specs.Starts.{count_of, announced_word, free_count_word, block_start, heap_start, words_below}
 use Rattle.ft_trace.specs.declared.Shape.{Shape}
 use Rattle.ft_trace.specs.Bits.{full}
 
+-- A word of the bank: the counter; the write number; the announced number of a pass, by the number that lock words
+-- have for it; the count of a class; a free word, sixteen for each class; of a container's block the lock, the
+-- version, and words 2 to 7; of a table the goal, and the words after its header.
 pub data Addr : Type 0 where
   counter : Addr
   write_number : Addr
   announced_of : ℕ → Addr
-  count_of : ℕ → Addr
+  count_of_class : ℕ → Addr
   bits : ℕ → Addr
   lock_of : ℕ → Addr
   version_of : ℕ → Addr
@@ -15,84 +22,92 @@ pub data Addr : Type 0 where
   header : ℕ → Addr
   cell : ℕ → ℕ → Addr
 
--- a table's class, and its number in the class
+abbrev pub containers_in : Shape → ℕ
+containers_in k = length k.kinds
+
+-- how many tables the bank has of a class
+abbrev pub tables_in : Shape → ℕ → ℕ
+tables_in k c = count_of k.tables c
+
+-- A table is named by its root word less 1: its class, and its number in the class.
 unfoldable pub cls : ℕ → ℕ
-cls t = t / 1024
+cls t = t / 65536
 
 unfoldable pub num : ℕ → ℕ
-num t = t % 1024
+num t = t % 65536
 
--- the free word of the table, sixteen a class, and its bit there
+-- the free word of the table, and its bit there
 unfoldable pub fw : ℕ → ℕ
-fw t = t / 64
+fw t = 16 * (cls t - 3) + num t / 64
 
 unfoldable pub bt : ℕ → ℕ
-bt t = t % 64
+bt t = num t % 64
 
--- index slots and entries of a table of this class
+-- index slots of a table of this class, or items of a list's; and entries
 unfoldable pub slots : ℕ → ℕ
-slots c = 8 * 2 ^ c
+slots c = 2 ^ c
 
 unfoldable pub places : ℕ → ℕ
-places c = 8 * 2 ^ c * 2 / 3
+places c = dict_entries c
 
+-- the words after the header
 abbrev pub size : ℕ → ℕ
-size c = slots c + 4 * places c
+size c = slots c + 8 * places c
 
 abbrev pub IsTable : Shape → ℕ → Type 0
-IsTable k t = (cls t < k.classes) × (num t < k.tables)
+IsTable k t = IsClass (cls t) × (num t < tables_in k (cls t)) × (num t < 1024)
 
--- the words of all tables of the first classes
-unfoldable pub first : ℕ → ℕ → ℕ
-first n zero = 0
-first n (suc c) = first n c + n * (1 + size c)
-
-abbrev pub near : Shape → ℕ
-near k = 3 + k.passes + 17 * k.classes
-
-abbrev pub far : Shape → ℕ
-far k = 3 + k.passes + 17 * k.classes + 4 * k.containers
+-- where the tables begin, where one does, and where they end
+unfoldable pub far : Shape → ℕ
+far k = heap_start (containers_in k) k.heap k.passes
 
 unfoldable pub start_of : Shape → ℕ → ℕ
-start_of k t = far k + first k.tables (cls t) + num t * (1 + size (cls t))
+start_of k t = far k + words_below k.tables (cls t) + num t * table_size (cls t)
 
 unfoldable pub extent : Shape → ℕ
-extent k = far k + first k.tables k.classes
+extent k = far k + words_below k.tables 17
 
 abbrev pub at : Shape → Addr → ℕ
 at k counter = 0
 at k write_number = 1
-at k (announced_of p) = 2 + p
-at k (count_of c) = 3 + k.passes + c
-at k (bits w) = 3 + k.passes + k.classes + w
-at k (lock_of o) = 3 + k.passes + 17 * k.classes + 4 * o
-at k (version_of o) = 4 + k.passes + 17 * k.classes + 4 * o
-at k (block o i) = 5 + k.passes + 17 * k.classes + 4 * o + i
-at k (header t) = start_of k t
-at k (cell t i) = start_of k t + 1 + i
+at k (announced_of p) = announced_word (p - 1)
+at k (count_of_class c) = free_count_word c
+at k (bits w) = 80 + w
+at k (lock_of o) = block_start o
+at k (version_of o) = block_start o + 1
+at k (block o i) = block_start o + 2 + i
+at k (header t) = start_of k t + 1
+at k (cell t i) = start_of k t + 2 + i
 
 abbrev pub Inside : Shape → Addr → Type 0
-Inside k (announced_of p) = p ≤ k.passes
-Inside k (count_of c) = c < k.classes
-Inside k (bits w) = w < 16 * k.classes
-Inside k (lock_of o) = o < k.containers
-Inside k (version_of o) = o < k.containers
-Inside k (block o i) = (o < k.containers) × (i < 2)
+Inside k (announced_of p) = (0 < p) × (p ≤ 64)
+Inside k (count_of_class c) = IsClass c
+Inside k (bits w) = w < 224
+Inside k (lock_of o) = o < containers_in k
+Inside k (version_of o) = o < containers_in k
+Inside k (block o i) = (o < containers_in k) × (i < 6)
 Inside k (header t) = IsTable k t
 Inside k (cell t i) = IsTable k t × (i < size (cls t))
 Inside k a = Unit {0}
+
+-- the counts at the start, from class c on
+abbrev pub free_counts : List ℕ → ℕ → ℕ → List ℕ
+free_counts tables c zero = []
+free_counts tables c (suc n) = count_of tables c ∷ free_counts tables (suc c) n
 
 -- the free words at the start, from word w on
 abbrev pub least : Bool → ℕ → ℕ
 least b n = cond b n 64
 
-abbrev pub free_word : ℕ → ℕ → ℕ
-free_word tables w = full (least (nat_lt (tables - 64 * (w % 16)) 64) (tables - 64 * (w % 16)))
+abbrev pub free_word : List ℕ → ℕ → ℕ
+free_word tables w =
+    full (least (nat_lt (count_of tables (3 + w / 16) - 64 * (w % 16)) 64) (count_of tables (3 + w / 16) - 64 * (w % 16)))
 
-abbrev pub free_words : ℕ → ℕ → ℕ → List ℕ
+abbrev pub free_words : List ℕ → ℕ → ℕ → List ℕ
 free_words tables w zero = []
 free_words tables w (suc n) = free_word tables w ∷ free_words tables (suc w) n
 
--- the words at the start: the write number is 1, and all tables are free
+-- the words at the start: the write number is 1, all passes are offline, and all tables are free
 abbrev pub opening : Shape → List ℕ
-opening k = 0 ∷ 1 ∷ (replicate (k.passes + 1) 0 ++ (replicate k.classes k.tables ++ (free_words k.tables 0 (16 * k.classes) ++ replicate (4 * k.containers + first k.tables k.classes) 0)))
+opening k =
+    0 ∷ 1 ∷ (replicate 64 0 ++ (free_counts k.tables 3 14 ++ (free_words k.tables 0 224 ++ replicate (extent k - 304) 0)))

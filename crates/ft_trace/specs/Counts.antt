@@ -1,11 +1,11 @@
 -- The count word of a class against the bits of its tables, and the takings and givings in flight.
-use Rattle.std.specs.Prelude.{ℕ, zero, suc, ◌+◌, ◌*◌, ◌==◌, cond, List, [], ◌∷◌}
+use Rattle.std.specs.Prelude.{ℕ, zero, suc, ◌+◌, ◌-◌, ◌*◌, ◌==◌, cond, List, [], ◌∷◌}
 use Rattle.ft_trace.specs.declared.Shape.{Shape}
 use Rattle.ft_trace.specs.declared.View.{View}
 use Rattle.ft_trace.specs.declared.Act.{Act}
 use Rattle.ft_trace.specs.declared.Act.TheVariants.{Commit}
 use Rattle.ft_trace.specs.Bits.{bit}
-use Rattle.ft_trace.specs.Addrs.{bits, fw, bt}
+use Rattle.ft_trace.specs.Addrs.{tables_in, bits, fw, bt}
 use Rattle.ft_trace.specs.Acts.{flight, owes}
 use Rattle.ft_trace.specs.Traces.{Event, did, forked, joined, word}
 
@@ -20,14 +20,14 @@ bit_of k es t = bit (bt t) (word k es (bits (fw t)))
 
 -- how many bits of the class are set
 abbrev pub set_bits : Shape → List Event → ℕ → ℕ
-set_bits k es c = sum_to (λ i. bit_of k es (1024 * c + i)) k.tables
+set_bits k es c = sum_to (λ i. bit_of k es (65536 * c + i)) (tables_in k c)
 
 -- how many bits of a word are set, and of the sixteen free words of the class
 abbrev pub ones : ℕ → ℕ
 ones n = sum_to (λ b. bit b n) 64
 
 abbrev pub word_bits : Shape → List Event → ℕ → ℕ
-word_bits k es c = sum_to (λ j. ones (word k es (bits (16 * c + j)))) 16
+word_bits k es c = sum_to (λ j. ones (word k es (bits (16 * (c - 3) + j)))) 16
 
 -- a taking of the class in flight: it has lowered the count, and has neither a bit nor raised it again
 abbrev pub taking : ℕ → View → ℕ
@@ -41,9 +41,9 @@ giving c u = cond (flight u.log == 2 * c + 2) 1 0
 abbrev pub owing : ℕ → View → ℕ
 owing c u = cond (owes u.log == suc c) 1 0
 
--- how many writes took a table of the class
+-- how many commits were of passes that had lowered the count of the class
 abbrev pub took_next : ℕ → View → Act → ℕ → ℕ
-took_next c v (Commit d r f) n = owing c v + n
+took_next c v (Commit d r f s) n = owing c v + n
 took_next c v act n = n
 
 abbrev pub took : ℕ → List Event → ℕ

@@ -1,9 +1,12 @@
--- What is reported of the entries of all passes.
-use Rattle.std.specs.Prelude.{◌≡◌, ◌⊎◌, ℕ, ◌+◌, ◌≤◌, ◌==◌, ◌&&◌, true, false, cond, nat_lt, List, [], ◌∷◌, length}
-use Rattle.ft_trace.specs.declared.Call.{Call}
+-- What is said of the entries of all passes.
+use Rattle.std.specs.Prelude.{◌≡◌, ◌⊎◌, ℕ, ◌+◌, ◌≤◌, ◌==◌, ◌&&◌, true, cond, nat_lt, List, [], ◌∷◌, length}
+use Rattle.ft_model.specs.declared.call.Call.{Call}
+use Rattle.ft_model.specs.declared.script.Kind.{Kind}
+use Rattle.ft_model.specs.Answers.{is_write}
+use Rattle.ft_model.specs.Tables.{stored_newest}
 use Rattle.ft_trace.specs.declared.Entry.{Entry}
 use Rattle.ft_trace.specs.Acts.{entries_next}
-use Rattle.ft_trace.specs.Worlds.{is_write, reply, world_at}
+use Rattle.ft_trace.specs.Worlds.{first_writes, reply_in}
 use Rattle.ft_trace.specs.Traces.{Event, did, forked, joined}
 
 -- a number of each, added up
@@ -23,19 +26,22 @@ abbrev pub IsNumber : List Call → ℕ → Call → Type 0
 IsNumber [] n c = ⊥
 IsNumber (d ∷ cs) n c = ((n ≡ length cs) × (c ≡ d)) ⊎ IsNumber cs n c
 
--- the entry is that of the write with its number, or its reply is the plain container's there
-pub record Right (cs : List Call) (e : Entry) : Type 0 where
+-- the entry is that of the write with its number and has the plain containers' reply before it, or it is no write and has
+-- their reply after as many writes as its stamp says
+pub record Right (kinds : List Kind) (cs : List Call) (e : Entry) : Type 0 where
+  pub wrote : e.wrote ≡ is_write e.call e.reply
   pub write : e.wrote ≡ true → IsNumber cs e.stamp e.call
-  pub read : e.wrote ≡ false → (is_write e.call (world_at e.stamp cs) ≡ false) × (e.stamp ≤ length cs) × (reply e.call (world_at e.stamp cs) ≡ e.reply)
+  pub low : e.stamp ≤ length cs
+  pub reply : reply_in (stored_newest kinds (first_writes e.stamp cs)) e.call ≡ e.reply
 
-abbrev pub AllRight : List Call → List Entry → Type 0
-AllRight cs [] = Unit {0}
-AllRight cs (e ∷ es) = Right cs e × AllRight cs es
+abbrev pub AllRight : List Kind → List Call → List Entry → Type 0
+AllRight kinds cs [] = Unit {0}
+AllRight kinds cs (e ∷ es) = Right kinds cs e × AllRight kinds cs es
 
 abbrev pub is_number : ℕ → Entry → ℕ
 is_number n e = cond (e.wrote && (e.stamp == n)) 1 0
 
 -- there are these writes: each entry is right, and each number stands once
-pub record Legal (cs : List Call) (entries : List Entry) : Type 0 where
-  pub right : AllRight cs entries
+pub record Numbered (kinds : List Kind) (cs : List Call) (entries : List Entry) : Type 0 where
+  pub right : AllRight kinds cs entries
   pub once : (n : ℕ) → total (is_number n) entries ≡ cond (nat_lt n (length cs)) 1 0

@@ -1,10 +1,12 @@
 -- What a log shows of one key that was looked up without the lock, in a table that a root named before and after.
-use Rattle.std.specs.Prelude.{◌≡◌, ◌≢◌, ◌⊎◌, ℕ, zero, suc, ◌+◌, ◌*◌, ◌%◌, ◌<◌, ◌≤◌, true, false, cond, List, [], ◌∷◌, ◌++◌}
+use Rattle.std.specs.Prelude.{◌≡◌, ◌≢◌, ◌⊎◌, ℕ, zero, suc, ◌+◌, ◌%◌, ◌<◌, ◌≤◌, true, false, cond, List, [], ◌∷◌, ◌++◌, length, slice_index}
 use Rattle.ft_trace.specs.declared.Act.{Act}
 use Rattle.ft_trace.specs.declared.Act.TheVariants.{ReadRoot, ReadTable, ReadCounter, Version, Announce}
 use Rattle.ft_trace.specs.Acts.{reads}
 use Rattle.ft_trace.specs.Addrs.{cls, slots, places}
-use Rattle.ft_trace.specs.Words.{slot_of}
+use Rattle.ft_model.specs.declared.data.Key.{Key}
+use Rattle.ft_layout.specs.Words.{key_kind, gone_kind, key_payload}
+use Rattle.ft_trace.specs.Words.{entry_at, item_at}
 use Rattle.ft_trace.specs.Reading.{Among, Between}
 
 -- no announcement is among these
@@ -21,8 +23,9 @@ pub record Window (log : List Act) (o t : ℕ) (walk : List Act) : Type 0 where
   pub online : Online walk
   pub before : reads t rest ≡ true
 
--- the search read that entry p is used, and then its key; later, between two loads of its version that found the same even number, it read it live with this value, and loaded the counter
-pub record Hit (log : List Act) (o t p key value n : ℕ) : Type 0 where
+-- The search read that the entry p has the key, its payload after its kind; later, between two loads of its version that
+-- found the same even number, its kind was read as that of the key, and the counter loaded.
+pub record Hit (log : List Act) (o t p : ℕ) (key : Key) (n : ℕ) : Type 0 where
   pub walk : List Act
   pub window : Window log o t walk
   pub version : ℕ
@@ -30,40 +33,49 @@ pub record Hit (log : List Act) (o t p key value n : ℕ) : Type 0 where
   pub mid : List Act
   pub newer : List Act
   pub rest : List Act
-  pub is : walk ≡ newer ++ ReadTable t (4 * p + 3 + slots (cls t)) version ∷ (mid ++ ReadTable t (4 * p + 3 + slots (cls t)) version ∷ rest)
-  pub live : Among (ReadTable t (4 * p + 0 + slots (cls t)) 1) mid
-  pub read : Among (ReadTable t (4 * p + 2 + slots (cls t)) value) mid
+  pub is : walk ≡ newer ++ ReadTable t (entry_at (slots (cls t)) p 0) version ∷ (mid ++ ReadTable t (entry_at (slots (cls t)) p 0) version ∷ rest)
+  pub live : Among (ReadTable t (entry_at (slots (cls t)) p 2) (key_kind key)) mid
   pub stamp : Among (ReadCounter n) mid
   pub searched : List Act
   pub before : List Act
   pub between : List Act
-  pub key_is : rest ≡ searched ++ ReadTable t (4 * p + 1 + slots (cls t)) key ∷ (between ++ ReadTable t (4 * p + 0 + slots (cls t)) 1 ∷ before)
+  pub key_is : rest ≡ searched ++ ReadTable t (entry_at (slots (cls t)) p 3) (key_payload key) ∷ (between ++ ReadTable t (entry_at (slots (cls t)) p 2) (key_kind key) ∷ before)
 
--- the slot named an entry, whose key was read after it and is another
-pub record Other (walk : List Act) (t slot place key : ℕ) : Type 0 where
+-- the slot named an entry, whose kind was read after it and is that of another key
+pub record OtherKind (walk : List Act) (t slot place : ℕ) (key : Key) : Type 0 where
   pub found : ℕ
-  pub apart : found ≢ key
+  pub live : found ≢ key_kind key
+  pub dead : found ≢ gone_kind key
   pub newer : List Act
   pub mid : List Act
   pub rest : List Act
-  pub is : walk ≡ newer ++ ReadTable t (4 * place + 1 + slots (cls t)) found ∷ (mid ++ ReadTable t slot (suc place) ∷ rest)
+  pub is : walk ≡ newer ++ ReadTable t (entry_at (slots (cls t)) place 2) found ∷ (mid ++ ReadTable t slot (suc place) ∷ rest)
+
+-- the slot named an entry, whose payload was read after it and is another
+pub record OtherPayload (walk : List Act) (t slot place : ℕ) (key : Key) : Type 0 where
+  pub found : ℕ
+  pub apart : found ≢ key_payload key
+  pub newer : List Act
+  pub mid : List Act
+  pub rest : List Act
+  pub is : walk ≡ newer ++ ReadTable t (entry_at (slots (cls t)) place 3) found ∷ (mid ++ ReadTable t slot (suc place) ∷ rest)
 
 -- the slot named an entry that was read deleted, and after that its version was even
-pub record Dead (walk : List Act) (t slot place : ℕ) : Type 0 where
+pub record Dead (walk : List Act) (t slot place : ℕ) (key : Key) : Type 0 where
   pub version : ℕ
   pub even : version % 2 ≡ 0
   pub newer : List Act
   pub mid : List Act
   pub rest : List Act
-  pub is : walk ≡ newer ++ ReadTable t (4 * place + 3 + slots (cls t)) version ∷ (mid ++ ReadTable t (4 * place + 0 + slots (cls t)) 2 ∷ rest)
+  pub is : walk ≡ newer ++ ReadTable t (entry_at (slots (cls t)) place 0) version ∷ (mid ++ ReadTable t (entry_at (slots (cls t)) place 2) (gone_kind key) ∷ rest)
   pub before : List Act
   pub older : List Act
   pub named : walk ≡ before ++ ReadTable t slot (suc place) ∷ older
 
-pub record Visit (walk : List Act) (t slot key : ℕ) : Type 0 where
+pub record Visit (walk : List Act) (t slot : ℕ) (key : Key) : Type 0 where
   pub place : ℕ
   pub low : place < places (cls t)
-  pub how : Other walk t slot place key ⊎ Dead walk t slot place
+  pub how : OtherKind walk t slot place key ⊎ (OtherPayload walk t slot place key ⊎ Dead walk t slot place key)
 
 -- the slot named no entry of the table
 pub record Beyond (walk : List Act) (t slot : ℕ) : Type 0 where
@@ -73,31 +85,48 @@ pub record Beyond (walk : List Act) (t slot : ℕ) : Type 0 where
   pub rest : List Act
   pub is : walk ≡ newer ++ ReadTable t slot (suc place) ∷ rest
 
--- the slot was left past_front by right
-abbrev pub Left : List Act → ℕ → ℕ → ℕ → Type 0
-Left walk t slot key = Visit walk t slot key ⊎ Beyond walk t slot
+-- the slot was passed by right
+abbrev pub Passed : List Act → ℕ → ℕ → Key → Type 0
+Passed walk t slot key = Visit walk t slot key ⊎ Beyond walk t slot
 
--- the walk up to a slot that was read 0 after the counter was loaded
-pub record Miss (log : List Act) (o t key n : ℕ) : Type 0 where
+-- the slots of the key's probe up to one that was read 0 after the counter was loaded
+pub record Miss (log : List Act) (o t : ℕ) (probe : List ℕ) (key : Key) (n : ℕ) : Type 0 where
   pub walk : List Act
   pub window : Window log o t walk
   pub steps : ℕ
-  pub small : steps < slots (cls t)
+  pub small : steps < length probe
   pub newer : List Act
   pub mid : List Act
   pub rest : List Act
-  pub is : walk ≡ newer ++ ReadTable t (slot_of (slots (cls t)) key steps) 0 ∷ (mid ++ ReadCounter n ∷ rest)
-  pub visits : (j : ℕ) → j < steps → Left rest t (slot_of (slots (cls t)) key j) key
+  pub is : walk ≡ newer ++ ReadTable t (slice_index probe steps) 0 ∷ (mid ++ ReadCounter n ∷ rest)
+  pub visits : (j : ℕ) → j < steps → Passed rest t (slice_index probe j) key
 
--- every slot of the walk was left past_front before the counter was loaded
-pub record Full (log : List Act) (o t key n : ℕ) : Type 0 where
+-- every slot of the key's probe was passed before the counter was loaded
+pub record Full (log : List Act) (o t : ℕ) (probe : List ℕ) (key : Key) (n : ℕ) : Type 0 where
   pub walk : List Act
   pub window : Window log o t walk
-  pub some : 0 < slots (cls t)
   pub mid : List Act
   pub rest : List Act
   pub is : walk ≡ mid ++ ReadCounter n ∷ rest
-  pub visits : (j : ℕ) → j < slots (cls t) → Left rest t (slot_of (slots (cls t)) key j) key
+  pub visits : (j : ℕ) → j < length probe → Passed rest t (slice_index probe j) key
+
+-- between two loads of the version of item p that found the same even number the counter was loaded
+pub record ItemHit (log : List Act) (o t p n : ℕ) : Type 0 where
+  pub walk : List Act
+  pub window : Window log o t walk
+  pub version : ℕ
+  pub even : version % 2 ≡ 0
+  pub mid : List Act
+  pub newer : List Act
+  pub rest : List Act
+  pub is : walk ≡ newer ++ ReadTable t (item_at p 0) version ∷ (mid ++ ReadTable t (item_at p 0) version ∷ rest)
+  pub stamp : Among (ReadCounter n) mid
+
+-- the counter was loaded while the root named a table with no item at this index
+pub record ItemPast (log : List Act) (o t n : ℕ) : Type 0 where
+  pub walk : List Act
+  pub window : Window log o t walk
+  pub stamp : Among (ReadCounter n) walk
 
 -- the root was read 0 and the counter loaded, between two loads of the container's version that found the same even number
 pub record Bare (log : List Act) (o n : ℕ) : Type 0 where

@@ -1,8 +1,11 @@
 -- What a pass knows of what it has.
-use Rattle.std.specs.Prelude.{ℕ, List, slice_set}
+use Rattle.std.specs.Prelude.{◌≡◌, ℕ, ◌<◌, true, List}
+use Rattle.ft_model.specs.declared.call.Call.{Call}
+use Rattle.ft_model.specs.Tables.{StoredWorld, after_stored}
 use Rattle.ft_trace.specs.declared.View.{View}
-use Rattle.ft_trace.specs.Acts.{mem, past}
-use Rattle.ft_trace.specs.Worlds.{Content, world}
+use Rattle.ft_trace.specs.Addrs.{containers_in}
+use Rattle.ft_trace.specs.Acts.{has, mem, past}
+use Rattle.ft_trace.specs.Worlds.{Kept, kept_at, kept}
 use Rattle.ft_trace.specs.Words.{Picture, picture, table_of}
 
 -- the words of o, whose lock it has
@@ -10,13 +13,19 @@ abbrev pub held : ℕ → View → Picture
 held o v = picture v.shape o (mem v.shape v.log)
 
 -- what the history makes of o
-abbrev pub content : ℕ → View → Content
-content o v = world (past v.log) o
+abbrev pub known : ℕ → View → Kept
+known o v = kept v.shape.kinds (past v.log) o
 
 -- the words of a table that is fresh in its hand
 abbrev pub in_hand : ℕ → View → List ℕ
 in_hand t v = table_of v.shape t (mem v.shape v.log)
 
--- a word of the table is put
-abbrev pub with_word : Picture → ℕ → ℕ → Picture
-with_word p i x = record { root = p.root; fill = p.fill; table = slice_set p.table i x }
+-- this stored world has what the pass knows of the containers whose locks it has
+abbrev pub AgreesWith : View → StoredWorld → Type 0
+AgreesWith v t = (p : ℕ) → p < containers_in v.shape → has p v.log ≡ true → kept_at t p ≡ known p v
+
+-- what a commit leaves of the stored world that it finds
+pub record Committed (v w : View) (c : Call) : Type 0 where
+  pub found : StoredWorld
+  pub agrees : AgreesWith v found
+  pub left : (p : ℕ) → known p w ≡ kept_at (after_stored found c) p

@@ -1,56 +1,240 @@
--- The parts of the rule.
-use Rattle.std.specs.Prelude.{◌≡◌, ◌≢◌, ℕ, suc, ◌+◌, ◌%◌, ◌<◌, ◌≤◌, true, false, List}
+-- The parts of the bank's rule: what holds of each valid trace, and so between any two steps of any passes.
+use Rattle.std.specs.Prelude.{◌≡◌, ◌≢◌, ◌⊎◌, ℕ, suc, ◌+◌, ◌-◌, ◌*◌, ◌%◌, ◌<◌, ◌≤◌, true, cond, nat_lt, List, [], ◌∷◌, ◌++◌, length, slice_index}
 use mathlib.Core.Option.{some}
 use lib.ListN.{get_elem?}
+use Rattle.ft_model.specs.declared.call.Call.{Call}
+use Rattle.ft_model.specs.declared.reply.Reply.{Reply}
+use Rattle.ft_model.specs.declared.data.Key.{Key}
+use Rattle.ft_model.specs.Classes.{IsClass}
+use Rattle.ft_model.specs.Worlds.{list_of}
+use Rattle.ft_model.specs.Tables.{stored_newest, takes_newest}
+use Rattle.ft_trace.specs.declared.Act.{Act}
+use Rattle.ft_trace.specs.declared.Act.TheVariants.{ReadRoot, ReadTable, ReadCount}
 use Rattle.ft_trace.specs.declared.Shape.{Shape}
 use Rattle.ft_trace.specs.declared.View.{View}
-use Rattle.ft_trace.specs.declared.Call.{Call}
 use Rattle.ft_trace.specs.Bits.{bit}
-use Rattle.ft_trace.specs.Counts.{word_bits, taking, giving, owing, took}
-use Rattle.ft_trace.specs.Entries.{total}
-use Rattle.ft_trace.specs.Addrs.{count_of, counter, bits, block, version_of, cls, places, IsTable, fw, bt}
-use Rattle.ft_trace.specs.Acts.{reads, stage}
-use Rattle.ft_trace.specs.Worlds.{container, is_write, reply, world, world_at}
-use Rattle.ft_trace.specs.Reading.{Looked}
-use Rattle.ft_trace.specs.Finding.{Hit, Miss, Bare}
-use Rattle.ft_trace.specs.Traces.{Event, run, word, history, StandsFor, SoundFor, Valid}
+use Rattle.ft_trace.specs.Counts.{word_bits, taking, giving, owing}
+use Rattle.ft_trace.specs.Entries.{total, is_number, AllRight, Numbered}
+use Rattle.ft_trace.specs.Addrs.{counter, write_number, announced_of, count_of_class, bits, lock_of, version_of, block, containers_in, tables_in, cls, slots, places, IsTable, fw, bt}
+use Rattle.ft_trace.specs.Acts.{has, writes, reads, stage, goal, clear, ann, owes}
+use Rattle.ft_trace.specs.Ages.{age, glog}
+use Rattle.ft_trace.specs.Worlds.{kept, first_writes, kind_in, reply_in}
+use Rattle.ft_trace.specs.Words.{entry_at, item_at, walk_of, table_of, picture}
+use Rattle.ft_trace.specs.Items.{words_at}
+use Rattle.ft_trace.specs.Kinds.{under, LaterAs, IsKeyed, IsItems}
+use Rattle.ft_trace.specs.Holds.{held, known, in_hand}
+use Rattle.ft_trace.specs.Reading.{Among, IsNothing, Looked}
+use Rattle.ft_trace.specs.Finding.{Hit, Miss, Full, Bare, ItemHit, ItemPast, IsNew}
+use Rattle.ft_trace.specs.Traces.{Event, run, word, history, StandsFor, SoundFor, ShutFor, Valid, Knows}
 
--- while the version is even the words stand for the history at the counter
-abbrev pub EvenStands : Type 0
-EvenStands = (k : Shape) (es : List Event) → Valid k es → (o : ℕ) → o < k.containers → word k es (version_of o) % 2 ≡ 0 → StandsFor k (run k es) (history es) o
+-- the pass at seat j knows u
+abbrev pub HasView : Shape → List Event → ℕ → View → Type 0
+HasView k es j u = get_elem? (run k es).views j ≡ some u
 
--- a table is free exactly where its bit is 1; a table in two roots or in a root and a hand, or in two hands, is none
-abbrev pub OnePlace : Type 0
-OnePlace =
+-- ---- locks and versions
+
+-- a lock word is the number of the one pass that has the lock, and 0 where none has it
+abbrev pub LocksNameHolders : Type 0
+LocksNameHolders =
+    (k : Shape) (es : List Event) → Valid k es → (o : ℕ) → o < containers_in k
+    → ((j : ℕ) (u : View) → HasView k es j u → has o u.log ≡ true → word k es (lock_of o) ≡ u.number)
+    × (word k es (lock_of o) ≢ 0 → (j : ℕ) × (u : View) × HasView k es j u × (has o u.log ≡ true))
+    × ((i j : ℕ) (u w : View) → HasView k es i u → HasView k es j w → has o u.log ≡ true → has o w.log ≡ true → i ≡ j)
+
+-- the version of a container is odd exactly while a pass writes it, and that pass has its lock
+abbrev pub VersionsAreOddInWrites : Type 0
+VersionsAreOddInWrites =
+    (k : Shape) (es : List Event) → Valid k es → (o : ℕ) → o < containers_in k
+    → (word k es (version_of o) % 2 ≡ 1 → (j : ℕ) × (u : View) × HasView k es j u × (writes o u.log ≡ true))
+    × ((j : ℕ) (u : View) → HasView k es j u → writes o u.log ≡ true → (has o u.log ≡ true) × (word k es (version_of o) % 2 ≢ 0))
+
+-- a version of an entry or item is odd only where that of the container is whose root names its table
+abbrev pub EvenTablesAreShut : Type 0
+EvenTablesAreShut =
+    (k : Shape) (es : List Event) → Valid k es → (o : ℕ) → o < containers_in k → word k es (version_of o) % 2 ≡ 0
+    → (t : ℕ) → word k es (block o 0) ≡ suc t → ShutFor k (run k es).words o t
+
+-- ---- entries
+
+-- each number below the counter is that of one write in one view, and no other number is that of a write
+abbrev pub NumbersAreOnce : Type 0
+NumbersAreOnce =
+    (k : Shape) (es : List Event) → Valid k es → (n : ℕ)
+    → total (λ (u : View). total (is_number n) u.entries) (run k es).views ≡ cond (nat_lt n (word k es counter)) 1 0
+
+-- each entry has the reply of the plain containers after as many writes as its stamp says
+abbrev pub EntriesAreRight : Type 0
+EntriesAreRight = (k : Shape) (es : List Event) → Valid k es → (j : ℕ) (u : View) → HasView k es j u → AllRight k.kinds (history es) u.entries
+
+-- a pass that stands for all passes has an entry for each write, and each of its entries is right
+abbrev pub OneHasAllEntries : Type 0
+OneHasAllEntries =
+    (k : Shape) (es : List Event) → Valid k es → (j : ℕ) (u : View) → HasView k es j u → u.parts ≡ k.passes
+    → Numbered k.kinds (history es) u.entries
+
+-- ---- what words stand for
+
+-- while the version is even the words stand for the content at the counter, with its class and fill
+abbrev pub EvenWordsStand : Type 0
+EvenWordsStand =
+    (k : Shape) (es : List Event) → Valid k es → (o : ℕ) → o < containers_in k → word k es (version_of o) % 2 ≡ 0
+    → StandsFor k (run k es) (history es) o
+
+-- a root that is 0 while the version is even is that of a container with no table and nothing in it
+abbrev pub ZeroRootsHaveNothing : Type 0
+ZeroRootsHaveNothing =
+    (k : Shape) (es : List Event) → Valid k es → (o : ℕ) → o < containers_in k → word k es (version_of o) % 2 ≡ 0
+    → word k es (block o 0) ≡ 0 → IsNothing (kept k.kinds (history es) o)
+
+-- a pass knows the words and the content of a container whose lock it has, and the words of a table fresh in its hand
+abbrev pub HoldersKnow : Type 0
+HoldersKnow =
+    (v : View) (es : List Event) (j : ℕ) → Knows v es j
+    → ((o : ℕ) → o < containers_in v.shape → has o v.log ≡ true
+    → (held o v ≡ picture v.shape o (run v.shape es).words) × (known o v ≡ kept v.shape.kinds (history es) o))
+    × ((t : ℕ) → IsTable v.shape t → stage t v.log ≡ 1 → in_hand t v ≡ table_of v.shape t (run v.shape es).words)
+
+-- ---- tables
+
+-- each table is free, which its bit says, or current, or in a hand
+abbrev pub TablesAreSomewhere : Type 0
+TablesAreSomewhere =
     (k : Shape) (es : List Event) → Valid k es → (t : ℕ) → IsTable k t
-    → ((o q : ℕ) → o < k.containers → q < k.containers → word k es (block o 0) ≡ suc t → word k es (block q 0) ≡ suc t → o ≡ q)
-    × ((i j : ℕ) (u w : View) → get_elem? (run k es).views i ≡ some u → get_elem? (run k es).views j ≡ some w → stage t u.log ≢ 0 → stage t w.log ≢ 0 → i ≡ j)
-    × ((o i : ℕ) (u : View) → o < k.containers → word k es (block o 0) ≡ suc t → get_elem? (run k es).views i ≡ some u → stage t u.log ≡ 0)
+    → (bit (bt t) (word k es (bits (fw t))) ≡ 1)
+    ⊎ (((o : ℕ) × (o < containers_in k) × (word k es (block o 0) ≡ suc t))
+    ⊎ ((j : ℕ) × (u : View) × HasView k es j u × (stage t u.log ≢ 0)))
 
--- what a pass has found in a root since it last announced is not free
-abbrev pub Announced : Type 0
-Announced = (k : Shape) (es : List Event) → Valid k es → (t : ℕ) → IsTable k t → (j : ℕ) (u : View) → get_elem? (run k es).views j ≡ some u → reads t u.log ≡ true → bit (bt t) (word k es (bits (fw t))) ≢ 1
+-- and in no two of these
+abbrev pub TablesAreInOnePlace : Type 0
+TablesAreInOnePlace =
+    (k : Shape) (es : List Event) → Valid k es → (t : ℕ) → IsTable k t
+    → ((o q : ℕ) → o < containers_in k → q < containers_in k → word k es (block o 0) ≡ suc t → word k es (block q 0) ≡ suc t → o ≡ q)
+    × ((i j : ℕ) (u w : View) → HasView k es i u → HasView k es j w → stage t u.log ≢ 0 → stage t w.log ≢ 0 → i ≡ j)
+    × ((o i : ℕ) (u : View) → o < containers_in k → word k es (block o 0) ≡ suc t → HasView k es i u → stage t u.log ≡ 0)
+    × (bit (bt t) (word k es (bits (fw t))) ≡ 1
+    → ((o : ℕ) → o < containers_in k → word k es (block o 0) ≢ suc t)
+    × ((i : ℕ) (u : View) → HasView k es i u → stage t u.log ≡ 0))
 
--- what holds of a table that a root names at every moment
-abbrev pub SoundAlways : Type 0
-SoundAlways = (k : Shape) (es : List Event) → Valid k es → (o : ℕ) → o < k.containers → (t : ℕ) → word k es (block o 0) ≡ suc t → SoundFor k (run k es).words t (world (history es) o)
-
-abbrev pub HitRight : Type 0
-HitRight = (k : Shape) (es : List Event) → Valid k es → (o t p key value n : ℕ) → o < k.containers → p < places (cls t) → (j : ℕ) (u : View) → get_elem? (run k es).views j ≡ some u → Hit u.log o t p key value n → (n ≤ word k es counter) × (world_at n (history es) o key ≡ suc value)
-
-abbrev pub MissRight : Type 0
-MissRight = (k : Shape) (es : List Event) → Valid k es → (o t key n : ℕ) → o < k.containers → (j : ℕ) (u : View) → get_elem? (run k es).views j ≡ some u → Miss u.log o t key n → (n ≤ word k es counter) × (world_at n (history es) o key ≡ 0)
-
-abbrev pub BareRight : Type 0
-BareRight = (k : Shape) (es : List Event) → Valid k es → (o n : ℕ) → o < k.containers → (j : ℕ) (u : View) → get_elem? (run k es).views j ≡ some u → Bare u.log o n → (key : ℕ) → (n ≤ word k es counter) × (world_at n (history es) o key ≡ 0)
-
-abbrev pub LookedRight : Type 0
-LookedRight = (k : Shape) (es : List Event) → Valid k es → (call : Call) → container call < k.containers → (j : ℕ) (u : View) → get_elem? (run k es).views j ≡ some u → (r n : ℕ) → Looked k call r n u.log → (is_write call (world_at n (history es)) ≡ false) × (n ≤ word k es counter) × (reply call (world_at n (history es)) ≡ r)
-
--- the set bits of a class are as many as its count word says, and one for each taking that has lowered it and has neither a bit nor raised it again, and one for each giving that has set its bit and not raised it
+-- the set bits of a class are as many as its count word says, one more for each taking that has lowered it and has
+-- neither a bit nor raised it again, and one more for each giving that has set its bit and not raised it
 abbrev pub CountsStand : Type 0
-CountsStand = (k : Shape) (es : List Event) → k.tables ≤ 1024 → Valid k es → (c : ℕ) → c < k.classes → word_bits k es c ≡ word k es (count_of c) + total (taking c) (run k es).views + total (giving c) (run k es).views
+CountsStand =
+    (k : Shape) (es : List Event) → Valid k es → (c : ℕ) → IsClass c
+    → word_bits k es c ≡ word k es (count_of_class c) + total (taking c) (run k es).views + total (giving c) (run k es).views
 
--- the tables of a class less its count are at most the writes that took one, and one for each view that has lowered the count since its last commit
-abbrev pub Owed : Type 0
-Owed = (k : Shape) (es : List Event) → k.tables ≤ 1024 → Valid k es → (c : ℕ) → c < k.classes → k.tables ≤ word k es (count_of c) + (took c es + total (owing c) (run k es).views)
+-- the tables of a class less its count are at most the writes that take one by the rule of tables, and one for each view
+-- that has lowered the count since its last commit and not raised it again
+abbrev pub TablesAreOwed : Type 0
+TablesAreOwed =
+    (k : Shape) (es : List Event) → Valid k es → (c : ℕ) → IsClass c
+    → tables_in k c ≤ word k es (count_of_class c) + (takes_newest k.kinds c (history es) + total (owing c) (run k es).views)
+
+-- where a pass that owed none of it found the count of a class 0, writes took its tables, but for one for each other pass
+abbrev pub EmptyClassesAreEarned : Type 0
+EmptyClassesAreEarned =
+    (k : Shape) (es : List Event) → Valid k es → (j : ℕ) (u : View) → HasView k es j u → (c : ℕ) → IsClass c
+    → (newer rest : List Act) → u.log ≡ newer ++ ReadCount c 0 ∷ rest → owes rest ≡ 0
+    → tables_in k c ≤ takes_newest k.kinds c (history es) + (k.passes - 1)
+
+-- ---- announced numbers
+
+-- the announced number of a pass is what it announced last, and at most the write number
+abbrev pub AnnouncedNumbersAreLow : Type 0
+AnnouncedNumbersAreLow =
+    (k : Shape) (es : List Event) → Valid k es → (j : ℕ) (u : View) → HasView k es j u → u.number ≢ 0 → u.number ≤ k.passes
+    → (word k es (announced_of u.number) ≡ ann u.log) × (ann u.log ≤ word k es write_number)
+
+-- A table that a pass has found in a root since it last announced is not free: its age says that it is current, or was
+-- taken out of a root, or is retired with a goal above the number that the pass announced. Where its retirer has found
+-- since then that the pass was offline or at least at the goal, the pass has not found it since it last announced.
+abbrev pub FoundTablesAreKept : Type 0
+FoundTablesAreKept =
+    (k : Shape) (es : List Event) → Valid k es → (t : ℕ) → IsTable k t → (j : ℕ) (u : View) → HasView k es j u
+    → (reads t u.log ≡ true → bit (bt t) (word k es (bits (fw t))) ≢ 1)
+    × (reads t u.log ≡ true → (2 ≤ age es t % 5) × (age es t % 5 ≡ 4 → ann u.log < goal t (glog es)))
+    × (age es t % 5 ≡ 4 → clear t u.number (glog es) ≡ true → reads t u.log ≡ true → ⊥)
+
+-- the words of a table that is free, was taken out of a root or is retired stay as they are
+abbrev pub GivenUpTablesRest : Type 0
+GivenUpTablesRest =
+    (k : Shape) (e : Event) (es : List Event) → Valid k (e ∷ es) → (t : ℕ) → IsTable k t → age es t % 5 ≢ 1 → age es t % 5 ≢ 2
+    → table_of k t (run k (e ∷ es)).words ≡ table_of k t (run k es).words
+
+-- ---- readers without a lock
+
+-- what holds at every moment of the table that a root names, also while the version is odd
+abbrev pub TablesAreSound : Type 0
+TablesAreSound =
+    (k : Shape) (es : List Event) → Valid k es → (o : ℕ) → o < containers_in k → (t : ℕ) → word k es (block o 0) ≡ suc t
+    → SoundFor k (run k es).words o t (kept k.kinds (history es) o).content
+
+-- what stays of it from then on until it is taken out of the root
+abbrev pub TableWordsStay : Type 0
+TableWordsStay =
+    (k : Shape) (newer older : List Event) → Valid k (newer ++ older) → (o : ℕ) → o < containers_in k → (t : ℕ)
+    → word k older (block o 0) ≡ suc t → age (newer ++ older) t ≡ age older t
+    → LaterAs (kind_in k.kinds o) (cls t) (table_of k t (run k older).words) (table_of k t (run k (newer ++ older)).words)
+
+-- a key that was found is there at the stamp, with the words that were read of it
+abbrev pub HitsAreRight : Type 0
+HitsAreRight =
+    (k : Shape) (es : List Event) → Valid k es → (o t p : ℕ) (key : Key) (n : ℕ) → o < containers_in k
+    → IsKeyed (kind_in k.kinds o) → p < places (cls t) → (j : ℕ) (u : View) → HasView k es j u → (h : Hit u.log o t p key n)
+    → (n ≤ word k es counter)
+    × (under (kept k.kinds (first_writes n (history es)) o).content key ≢ [])
+    × ((w f : ℕ) → w < 3 → Among (ReadTable t (entry_at (slots (cls t)) p (4 + w)) f) h.mid
+    → slice_index (under (kept k.kinds (first_writes n (history es)) o).content key) w ≡ f)
+
+-- a key is absent at the stamp that was not found on its probe, up to a slot never used or over all its slots
+abbrev pub MissesAreRight : Type 0
+MissesAreRight =
+    (k : Shape) (es : List Event) → Valid k es → (o t : ℕ) (key : Key) (n : ℕ) → o < containers_in k
+    → IsKeyed (kind_in k.kinds o) → (j : ℕ) (u : View) → HasView k es j u
+    → Miss u.log o t (walk_of (kind_in k.kinds o) k.texts (cls t) key) key n
+    ⊎ Full u.log o t (walk_of (kind_in k.kinds o) k.texts (cls t) key) key n
+    → (n ≤ word k es counter) × (under (kept k.kinds (first_writes n (history es)) o).content key ≡ [])
+
+-- where the root was read 0 there is nothing at the stamp
+abbrev pub BareRootsAreRight : Type 0
+BareRootsAreRight =
+    (k : Shape) (es : List Event) → Valid k es → (o n : ℕ) → o < containers_in k → (j : ℕ) (u : View) → HasView k es j u
+    → Bare u.log o n → (n ≤ word k es counter) × IsNothing (kept k.kinds (first_writes n (history es)) o)
+
+-- an item that was read is the list's at the stamp
+abbrev pub ItemsAreRight : Type 0
+ItemsAreRight =
+    (k : Shape) (es : List Event) → Valid k es → (o t p n : ℕ) → o < containers_in k → IsItems (kind_in k.kinds o)
+    → p < slots (cls t) → (j : ℕ) (u : View) → HasView k es j u → (h : ItemHit u.log o t p n)
+    → (n ≤ word k es counter)
+    × ((w f : ℕ) → w < 2 → Among (ReadTable t (item_at p (1 + w)) f) h.mid
+    → slice_index (words_at (list_of (kept k.kinds (first_writes n (history es)) o).content) p) w ≡ f)
+
+-- at the stamp a list is no longer than the table that its root named
+abbrev pub ListsFitTheirTables : Type 0
+ListsFitTheirTables =
+    (k : Shape) (es : List Event) → Valid k es → (o t n : ℕ) → o < containers_in k → IsItems (kind_in k.kinds o)
+    → (j : ℕ) (u : View) → HasView k es j u → ItemPast u.log o t n
+    → (n ≤ word k es counter) × (length (list_of (kept k.kinds (first_writes n (history es)) o).content) ≤ slots (cls t))
+
+-- what was read between two equal even loads of the version is the reply at the stamp
+abbrev pub LooksAreRight : Type 0
+LooksAreRight =
+    (k : Shape) (es : List Event) → Valid k es → (call : Call) (o : ℕ) → o < containers_in k → (j : ℕ) (u : View) → HasView k es j u
+    → (r : Reply) (n : ℕ) → Looked k call o r n u.log
+    → (n ≤ word k es counter) × (reply_in (stored_newest k.kinds (first_writes n (history es))) call ≡ r)
+
+-- a root that has changed since the pass read it names a table that the pass has not found since it last announced
+abbrev pub ChangedRootsAreNew : Type 0
+ChangedRootsAreNew =
+    (k : Shape) (es : List Event) → Valid k es → (j : ℕ) (u : View) → HasView k es j u → (o r : ℕ) → o < containers_in k
+    → (log : List Act) → u.log ≡ ReadRoot o r ∷ log → IsNew o r log
+
+-- ---- room
+
+-- no counter wraps: the counter, the write number, and the versions of containers and entries stay low
+abbrev pub NumbersHaveRoom : Type 0
+NumbersHaveRoom =
+    (k : Shape) (es : List Event) → Valid k es
+    → (word k es counter ≤ k.passes * k.calls)
+    × (word k es write_number ≤ 1 + k.passes * k.calls + k.passes)
+    × ((o : ℕ) → o < containers_in k → word k es (version_of o) ≤ 2 * (k.passes * k.calls) + 1)

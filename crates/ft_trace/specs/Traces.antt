@@ -1,18 +1,24 @@
 -- A trace is a list of events, newest first. It gives the words and the views, and it is valid where each event's condition held where it stands.
-use Rattle.std.specs.Prelude.{◌≡◌, ◌≢◌, ◌⊎◌, ℕ, suc, ◌+◌, ◌*◌, ◌^◌, ◌<◌, ◌≤◌, true, false, List, [], ◌∷◌, ◌++◌, slice_index, slice_set}
+use Rattle.std.specs.Prelude.{◌≡◌, ◌≢◌, ◌⊎◌, ℕ, suc, ◌+◌, ◌*◌, ◌^◌, ◌<◌, ◌≤◌, Bool, true, false, List, [], ◌∷◌, ◌++◌, slice_index, slice_set}
 use mathlib.Core.Option.{some}
 use lib.ListN.{get_elem?}
-use Rattle.ft_trace.specs.declared.Call.{Call}
+use Rattle.std.specs.Prelude.{Some}
+use Rattle.ft_model.specs.declared.call.Call.{Call}
+use Rattle.ft_model.specs.declared.content.Content.{Content}
+use Rattle.ft_model.specs.Answers.{is_write}
+use Rattle.ft_model.specs.Tables.{stored_newest, takes_in, would_pass}
+use Rattle.ft_model.specs.Classes.{IsClass}
 use Rattle.ft_trace.specs.declared.Act.{Act}
 use Rattle.ft_trace.specs.declared.Act.TheVariants.{Lock, Unlock, StartWrite, PutBlock, PutRoot, PutTable, PutFresh, PutHeader, Commit, StopWrite, Version, ReadBlock, ReadRoot, ReadTable, ReadCounter, Answer, LowerCount, RaiseCount, ReadCount, ReadFree, TakeTable, GiveTable, Retire, Announce, ReadAnnounced, WriteNumber}
 use Rattle.ft_trace.specs.declared.Shape.{Shape}
 use Rattle.ft_trace.specs.declared.Snap.{Snap}
 use Rattle.ft_trace.specs.declared.View.{View}
-use Rattle.ft_trace.specs.Addrs.{Addr, counter, write_number, version_of, cls, slots, places, size, IsTable, at, opening}
+use Rattle.ft_trace.specs.Addrs.{Addr, counter, write_number, version_of, containers_in, tables_in, cls, size, IsTable, at, opening}
 use Rattle.ft_trace.specs.Acts.{place, left, Reports, has, writes, done, stage, ann, clear, used, debt, flight, owes, noted, starter, maker, made, both, spent}
-use Rattle.ft_trace.specs.Worlds.{Content, container, is_write, reply, world, world_at}
+use Rattle.ft_trace.specs.Worlds.{kept, first_writes, kind_in, changes, reply_in}
 use Rattle.ft_trace.specs.Words.{table_of, root_of, picture, Stands}
-use Rattle.ft_trace.specs.Carefuls.{Sound, Careful, Clear, Shut, Timely, Low}
+use Rattle.ft_trace.specs.Kinds.{rows, version_at, SoundAs, CarefulAs, ClearAs}
+use Rattle.ft_trace.specs.Openings.{Shut, Timely, Low}
 
 pub record Moment : Type 0 where
   pub words : List ℕ
@@ -45,7 +51,7 @@ word k es x = slice_index (run k es).words (at k x)
 
 -- the writes, newest first
 abbrev pub writes_of : Act → List Call → List Call
-writes_of (Commit c r f) cs = c ∷ cs
+writes_of (Commit c r f s) cs = c ∷ cs
 writes_of act cs = cs
 
 abbrev pub history : List Event → List Call
@@ -56,51 +62,131 @@ history (joined id v other w ∷ es) = history es
 
 -- the words of o stand for what the history makes of it
 abbrev pub StandsFor : Shape → Moment → List Call → ℕ → Type 0
-StandsFor k m cs o = Stands (picture k o m.words) (world cs o)
+StandsFor k m cs o = Stands k.texts (picture k o m.words) (kept k.kinds cs o)
 
 abbrev pub snap : Moment → List Call → Snap
 snap m cs = record { words = m.words; calls = cs }
 
-abbrev pub SoundFor : Shape → List ℕ → ℕ → Content → Type 0
-SoundFor k ws t c = Sound (slots (cls t)) (places (cls t)) (table_of k t ws) c
+-- of the table t, while it is that of the container o or is to be
+abbrev pub SoundFor : Shape → List ℕ → ℕ → ℕ → Content → Type 0
+SoundFor k ws o t c = SoundAs (kind_in k.kinds o) k.texts (cls t) (table_of k t ws) c
 
-abbrev pub CarefulFor : Shape → List ℕ → ℕ → Content → ℕ → ℕ → Type 0
-CarefulFor k ws t c i x = Careful (slots (cls t)) (places (cls t)) (table_of k t ws) c i x
+abbrev pub CarefulFor : Shape → List ℕ → ℕ → ℕ → Content → ℕ → ℕ → Type 0
+CarefulFor k ws o t c i x = CarefulAs (kind_in k.kinds o) (cls t) (table_of k t ws) c i x
 
-abbrev pub ClearFor : Shape → List ℕ → ℕ → Content → Call → Type 0
-ClearFor k ws t c call = Clear (slots (cls t)) (places (cls t)) (table_of k t ws) c call
+abbrev pub ClearFor : Shape → List ℕ → ℕ → ℕ → Content → Content → Type 0
+ClearFor k ws o t c d = ClearAs (kind_in k.kinds o) k.texts (cls t) (table_of k t ws) c d
 
-abbrev pub ShutFor : Shape → List ℕ → ℕ → Type 0
-ShutFor k ws t = Shut (slots (cls t)) (places (cls t)) (table_of k t ws)
+abbrev pub ShutFor : Shape → List ℕ → ℕ → ℕ → Type 0
+ShutFor k ws o t = Shut (version_at (kind_in k.kinds o) (cls t)) (rows (kind_in k.kinds o) (cls t)) (table_of k t ws)
 
--- what a pass with the view v may do at the moment m, after the history cs
+abbrev pub TimelyFor : Shape → ℕ → ℕ → ℕ → ℕ → Bool → Type 0
+TimelyFor k o t i x committed =
+    Timely (version_at (kind_in k.kinds o) (cls t)) (rows (kind_in k.kinds o) (cls t)) i x committed
+
+abbrev pub LowFor : Shape → List ℕ → ℕ → ℕ → ℕ → Bool → Type 0
+LowFor k ws o t count committed =
+    Low (version_at (kind_in k.kinds o) (cls t)) (rows (kind_in k.kinds o) (cls t)) (table_of k t ws) count committed
+
+-- What a pass with the view v may do at the moment m, after the history cs.
 abbrev pub May : Shape → Moment → List Call → View → Act → Type 0
-May k m cs v (Lock o f s) = (o < k.containers) × (has o v.log ≡ false) × (s ≡ snap m cs)
-May k m cs v (Unlock o) = (o < k.containers) × (has o v.log ≡ true) × (writes o v.log ≡ false)
-May k m cs v (StartWrite o f) = (o < k.containers) × (has o v.log ≡ true) × (writes o v.log ≡ false) × (word_in k m (version_of o) + 1 < 2 ^ 64)
-May k m cs v (PutBlock o i x) = (o < k.containers) × (i < 2) × (writes o v.log ≡ true) × (i ≢ 0)
-May k m cs v (PutRoot o r old) = (o < k.containers) × (writes o v.log ≡ true) × (old ≡ root_of k o m.words) × ((t : ℕ) → r ≡ suc t → IsTable k t × (stage t v.log ≡ 1) × SoundFor k m.words t (world cs o)) × ((q : ℕ) → old ≡ suc q → ShutFor k m.words q) × (old ≢ 0 → used v.log ≡ false) × ((t : ℕ) → r ≡ suc t → Low (slots (cls t)) (places (cls t)) (table_of k t m.words) (word_in k m counter) (done o v.log))
-May k m cs v (PutTable o t i x) = (o < k.containers) × IsTable k t × (i < size (cls t)) × (writes o v.log ≡ true) × (root_of k o m.words ≡ suc t) × CarefulFor k m.words t (world cs o) i x × Timely (slots (cls t)) (places (cls t)) i x (done o v.log)
+-- it doesn't have the lock
+May k m cs v (Lock o f s) = (o < containers_in k) × (has o v.log ≡ false) × (s ≡ snap m cs)
+-- it has the lock, and the version is even
+May k m cs v (Unlock o) = (o < containers_in k) × (has o v.log ≡ true) × (writes o v.log ≡ false)
+May k m cs v (StartWrite o f) =
+    (o < containers_in k) × (has o v.log ≡ true) × (writes o v.log ≡ false) × (word_in k m (version_of o) + 1 < 2 ^ 64)
+-- it has made the version odd
+May k m cs v (PutBlock o i x) = (o < containers_in k) × (i < 6) × (writes o v.log ≡ true) × (i ≢ 0)
+-- Besides: the new root names a table that is fresh in its hand and as it must be for readers, whose versions have room;
+-- no version in the table that the root names now is odd; and no other table was taken out of a root since the last
+-- commit.
+May k m cs v (PutRoot o r old) =
+    (o < containers_in k)
+    × (writes o v.log ≡ true)
+    × (old ≡ root_of k o m.words)
+    × ((t : ℕ) → r ≡ suc t → IsTable k t × (stage t v.log ≡ 1) × SoundFor k m.words o t (kept k.kinds cs o).content)
+    × ((q : ℕ) → old ≡ suc q → ShutFor k m.words o q)
+    × (old ≢ 0 → used v.log ≡ false)
+    × ((t : ℕ) → r ≡ suc t → LowFor k m.words o t (word_in k m counter) (done o v.log))
+-- a word of the table that the root names, put with care; a version is made odd before the commit, and even after it
+May k m cs v (PutTable o t i x) =
+    (o < containers_in k)
+    × IsTable k t
+    × (i < size (cls t))
+    × (writes o v.log ≡ true)
+    × (root_of k o m.words ≡ suc t)
+    × CarefulFor k m.words o t (kept k.kinds cs o).content i x
+    × TimelyFor k o t i x (done o v.log)
+-- a word of a table that it took and that has stood in no root since
 May k m cs v (PutFresh t i x) = IsTable k t × (i < size (cls t)) × (stage t v.log ≡ 1)
+-- the goal of a table that it took out of a root
 May k m cs v (PutHeader t x) = IsTable k t × ((stage t v.log ≡ 3) ⊎ (stage t v.log ≡ 4))
-May k m cs v (Commit c r f) = (is_write c (world cs) ≡ true) × (writes (container c) v.log ≡ true) × (word_in k m counter + 1 < 2 ^ 64) × (0 < v.left) × (reply c (world cs) ≡ r) × ((t : ℕ) → root_of k (container c) m.words ≡ suc t → ClearFor k m.words t (world cs (container c)) c)
-May k m cs v (StopWrite o f) = (o < k.containers) × (writes o v.log ≡ true) × (done o v.log ≡ true) × StandsFor k m cs o × (word_in k m (version_of o) + 1 < 2 ^ 64) × ((t : ℕ) → root_of k o m.words ≡ suc t → ShutFor k m.words t)
-May k m cs v (Version o f) = o < k.containers
-May k m cs v (ReadBlock o i f) = (o < k.containers) × (i < 2)
-May k m cs v (ReadRoot o f) = (o < k.containers) × (0 < ann v.log) × (v.number ≤ k.passes)
+-- The call is a write, the version of what it changes is odd by the pass, the reply is that of the plain containers at
+-- the counter, the pass has a call left and the counter has room. Each entry with an even version says the same of the
+-- content after the call, and each key that is added has its entry. Where the pass has lowered a count and not raised it
+-- again, the call takes a table of that class. No content passes its greatest length.
+May k m cs v (Commit c r f s) =
+    (is_write c r ≡ true)
+    × (writes (changes c) v.log ≡ true)
+    × (word_in k m counter + 1 < 2 ^ 64)
+    × (0 < v.left)
+    × (reply_in (stored_newest k.kinds cs) c ≡ r)
+    × ((t : ℕ) → root_of k (changes c) m.words ≡ suc t
+    → ClearFor k m.words (changes c) t (kept k.kinds cs (changes c)).content (kept k.kinds (c ∷ cs) (changes c)).content)
+    × (changes c < containers_in k)
+    × (s ≡ snap m cs)
+    × ((class : ℕ) → owes v.log ≡ suc class → takes_in (stored_newest k.kinds cs) c ≡ Some class)
+    × (would_pass (stored_newest k.kinds cs).world c ≡ false)
+-- It has made the version odd and has committed since. The words stand for the content at the counter, with its class
+-- and fill, and no version of an entry or item of the container is odd.
+May k m cs v (StopWrite o f) =
+    (o < containers_in k)
+    × (writes o v.log ≡ true)
+    × (done o v.log ≡ true)
+    × StandsFor k m cs o
+    × (word_in k m (version_of o) + 1 < 2 ^ 64)
+    × ((t : ℕ) → root_of k o m.words ≡ suc t → ShutFor k m.words o t)
+-- loads ask nothing but that the word is there
+May k m cs v (Version o f) = o < containers_in k
+May k m cs v (ReadBlock o i f) = (o < containers_in k) × (i < 6)
+-- but for a root that is read to search its table without the lock: the pass is online
+May k m cs v (ReadRoot o f) = (o < containers_in k) × (0 < ann v.log) × (v.number ≤ k.passes)
 May k m cs v (ReadTable t i f) = IsTable k t × (i < size (cls t))
 May k m cs v (ReadCounter f) = Unit {0}
-May k m cs v (Answer c a n) = (is_write c (world_at n cs) ≡ false) × (n ≤ word_in k m counter) × (reply c (world_at n cs) ≡ a)
-May k m cs v (LowerCount c old f) = (c < k.classes) × (0 < old) × (flight v.log ≡ 0) × (owes v.log ≡ 0)
-May k m cs v (RaiseCount c f) = (c < k.classes) × ((flight v.log ≡ 2 * c + 1) ⊎ (flight v.log ≡ 2 * c + 2))
-May k m cs v (ReadCount c f) = c < k.classes
-May k m cs v (ReadFree w f) = w < 16 * k.classes
-May k m cs v (TakeTable t f s) = IsTable k t × (stage t v.log ≡ 0) × (s ≡ snap m cs) × (flight v.log ≡ 2 * cls t + 1)
-May k m cs v (GiveTable t) = IsTable k t × ((stage t v.log ≡ 1) ⊎ ((stage t v.log ≡ 4) × ((p : ℕ) → 0 < p → p ≤ k.passes → clear t p v.log ≡ true))) × (stage t v.log ≡ 1 → ShutFor k m.words t) × (flight v.log ≡ 0)
-May k m cs v (Retire t f) = IsTable k t × (stage t v.log ≡ 3) × (word_in k m write_number + 1 < 2 ^ 64) × (0 < debt v.log)
-May k m cs v (Announce p x) = (p ≡ v.number) × (p ≤ k.passes) × (x ≤ word_in k m write_number)
-May k m cs v (ReadAnnounced p f) = p ≤ k.passes
+-- the call is no write, and the reply is that of the plain containers after the first n writes
+May k m cs v (Answer c r n) =
+    (is_write c r ≡ false) × (n ≤ word_in k m counter) × (reply_in (stored_newest k.kinds (first_writes n cs)) c ≡ r)
+-- from a count above 0, by a pass that is in the midst of no taking or giving and has lowered no count since its last
+-- commit that it hasn't raised again
+May k m cs v (LowerCount c old f) = IsClass c × (0 < old) × (flight v.log ≡ 0) × (owes v.log ≡ 0)
+-- at the end of a giving, or of a taking that found no bit
+May k m cs v (RaiseCount c f) = IsClass c × ((flight v.log ≡ 2 * c + 1) ⊎ (flight v.log ≡ 2 * c + 2))
+May k m cs v (ReadCount c f) = IsClass c
+May k m cs v (ReadFree w f) = w < 224
+-- in the midst of a taking of its class
+May k m cs v (TakeTable t f s) =
+    IsTable k t × (stage t v.log ≡ 0) × (s ≡ snap m cs) × (flight v.log ≡ 2 * cls t + 1)
+-- a table that has stood in no root since it was taken; or one that the pass retired, where it has found each pass
+-- offline or at least at the goal since then
+May k m cs v (GiveTable t) =
+    IsTable k t
+    × ((stage t v.log ≡ 1) ⊎ ((stage t v.log ≡ 4) × ((p : ℕ) → 0 < p → p ≤ k.passes → clear t p v.log ≡ true)))
+    × (flight v.log ≡ 0)
+-- a table that the pass took out of a root; it has retired fewer than it has taken out
+May k m cs v (Retire t f) =
+    IsTable k t × (stage t v.log ≡ 3) × (word_in k m write_number + 1 < 2 ^ 64) × (0 < debt v.log)
+-- its own number, and at most the write number
+May k m cs v (Announce p x) =
+    (p ≡ v.number) × (p ≤ k.passes) × (x ≤ word_in k m write_number) × (0 < p) × (p ≤ 64)
+May k m cs v (ReadAnnounced p f) = (p ≤ k.passes) × (0 < p) × (p ≤ 64)
 May k m cs v (WriteNumber f) = Unit {0}
+
+-- there are at most 64 passes and 1,024 tables of a class
+pub record Fits (k : Shape) : Type 0 where
+  pub some_pass : 0 < k.passes
+  pub passes : k.passes ≤ 64
+  pub tables : (c : ℕ) → IsClass c → tables_in k c ≤ 1024
 
 -- the pass has no lock and no table, and has committed what it began
 abbrev pub IsFree : View → Type 0
@@ -112,7 +198,7 @@ Might k m cs (forked id v) = (get_elem? m.views id ≡ some v) × (v.number ≢ 
 Might k m cs (joined id v other w) = (get_elem? m.views id ≡ some v) × (other ≢ id) × (get_elem? m.views other ≡ some w) × (v.number ≢ 0) × (w.next ≡ 0) × IsFree w
 
 abbrev pub Valid : Shape → List Event → Type 0
-Valid k [] = Unit {0}
+Valid k [] = Fits k
 Valid k (e ∷ es) = Valid k es × Might k (run k es) (history es) e
 
 -- the bank's rule: there is a trace

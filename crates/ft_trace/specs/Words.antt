@@ -1,71 +1,81 @@
--- The words of a table as a list, and what it is for them to stand for a content.
-use Rattle.std.specs.Prelude.{◌≡◌, ◌≢◌, ℕ, zero, suc, ◌+◌, ◌*◌, ◌%◌, ◌<◌, ◌≤◌, List, [], ◌∷◌, slice_index}
+-- The words of a block and of a table as lists, and what it is for them to stand for a content.
+use Rattle.std.specs.Prelude.{◌≡◌, ◌≢◌, ℕ, zero, suc, ◌+◌, ◌*◌, ◌<◌, ◌≤◌, List, [], ◌∷◌, length, slice_index}
+use Rattle.ft_model.specs.declared.data.Key.{Key}
+use Rattle.ft_model.specs.declared.script.Kind.{Kind}
+use Rattle.ft_model.specs.declared.script.Kind.TheVariants as kind
+use Rattle.ft_hash.specs.Probes.{dict_walk, set_walk}
+use Rattle.ft_layout.specs.Tables.{hash_of}
+use Rattle.ft_layout.specs.Containers.{class_mask, StandsAs}
 use Rattle.ft_trace.specs.declared.Shape.{Shape}
-use Rattle.ft_trace.specs.Addrs.{block, cell, cls, slots, places, size, at}
-use Rattle.ft_trace.specs.Worlds.{Content}
+use Rattle.ft_trace.specs.Addrs.{block, cell, cls, size, at}
+use Rattle.ft_trace.specs.Worlds.{Kept}
 
 -- n words from this one on
 abbrev pub piece : List ℕ → ℕ → ℕ → List ℕ
 piece ws at zero = []
 piece ws at (suc n) = slice_index ws at ∷ piece ws (at + 1) n
 
+-- the words of a table after its header
 unfoldable pub table_of : Shape → ℕ → List ℕ → List ℕ
 table_of k t ws = piece ws (at k (cell t 0)) (size (cls t))
+
+-- words 2 to 7 of a container's block
+unfoldable pub block_of : Shape → ℕ → List ℕ → List ℕ
+block_of k o ws = piece ws (at k (block o 0)) 6
 
 abbrev pub root_of : Shape → ℕ → List ℕ → ℕ
 root_of k o ws = slice_index ws (at k (block o 0))
 
-abbrev pub fill_of : Shape → ℕ → List ℕ → ℕ
-fill_of k o ws = slice_index ws (at k (block o 1))
-
--- the words of the table that a root names, and its slots and entries
+-- the words of the table that a root names
 abbrev pub inner : Shape → ℕ → List ℕ → List ℕ
 inner k zero ws = []
 inner k (suc t) ws = table_of k t ws
 
-abbrev pub slots_by : ℕ → ℕ
-slots_by zero = 0
-slots_by (suc t) = slots (cls t)
-
-abbrev pub places_by : ℕ → ℕ
-places_by zero = 0
-places_by (suc t) = places (cls t)
-
--- what a container's words are
+-- what a container's words are: words 2 to 7 of its block, and those of its table
 pub record Picture : Type 0 where
-  pub root : ℕ
-  pub fill : ℕ
+  pub block : List ℕ
   pub table : List ℕ
 
+abbrev pub root_in : Picture → ℕ
+root_in x = slice_index x.block 0
+
 abbrev pub picture : Shape → ℕ → List ℕ → Picture
-picture k o ws = record { root = root_of k o ws; fill = fill_of k o ws; table = inner k (root_of k o ws) ws }
+picture k o ws = record { block = block_of k o ws; table = inner k (root_of k o ws) ws }
+
+-- they stand for a content with this class and fill; the two words of a table's header say nothing of it
+abbrev pub Stands : List ℕ → Picture → Kept → Type 0
+Stands texts x kept = StandsAs texts x.block (0 ∷ 0 ∷ x.table) kept.table kept.content
+
+-- ---- words of a table
 
 abbrev pub index_of : List ℕ → ℕ → ℕ
 index_of ws s = slice_index ws s
 
--- words 0 to 2 are kind, key and value, word 3 the version
+-- where a word of an entry lies after n index slots: word 0 is its version, 1 its hash, 2 the kind of its key, 3 the
+-- key's payload, 4 and 5 its value, 6 its serial
+abbrev pub entry_at : ℕ → ℕ → ℕ → ℕ
+entry_at n p w = 8 * p + w + n
+
 abbrev pub entry_of : ℕ → List ℕ → ℕ → ℕ → ℕ
-entry_of n ws p w = slice_index ws (4 * p + w + n)
+entry_of n ws p w = slice_index ws (entry_at n p w)
 
-unfoldable pub slot_of : ℕ → ℕ → ℕ → ℕ
-slot_of n key i = (key % n + i) % n
+-- and where a word of a list's item lies: word 0 is its version, 1 and 2 are its value
+abbrev pub item_at : ℕ → ℕ → ℕ
+item_at p w = 4 * p + w
 
--- the walk of the key meets this number, and before it no slot never used
-pub record Met (n : ℕ) (ws : List ℕ) (key x : ℕ) : Type 0 where
+abbrev pub item_of : List ℕ → ℕ → ℕ → ℕ
+item_of ws p w = slice_index ws (item_at p w)
+
+-- the slots that are tried for a key in a table of this class
+unfoldable pub walk_of : Kind → List ℕ → ℕ → Key → List ℕ
+walk_of kind.Dict texts class key = dict_walk (hash_of texts key) (class_mask class) (class_mask class + 14)
+walk_of kind.Set texts class key = set_walk (hash_of texts key) (class_mask class) (class_mask class + 14)
+walk_of kind.List texts class key = []
+
+-- the walk meets this number at a slot, and before it no slot never used
+pub record Met (n : ℕ) (ws walk : List ℕ) (x : ℕ) : Type 0 where
   pub step : ℕ
-  pub low : step < n
-  pub here : index_of ws (slot_of n key step) ≡ x
-  pub before : (j : ℕ) → j < step → index_of ws (slot_of n key j) ≢ 0
-
--- n slots, m entries
-pub record StandsIn (n m fill : ℕ) (ws : List ℕ) (c : Content) : Type 0 where
-  pub full : fill ≤ m
-  pub index : (s : ℕ) → s < n → index_of ws s ≤ fill
-  pub unused : (p : ℕ) → p < m → fill ≤ p → entry_of n ws p 0 ≡ 0
-  pub walks : (p : ℕ) → p < m → entry_of n ws p 0 ≢ 0 → Met n ws (entry_of n ws p 1) (suc p)
-  pub distinct : (p q : ℕ) → p < m → q < m → entry_of n ws p 0 ≡ 1 → entry_of n ws q 0 ≡ 1 → entry_of n ws p 1 ≡ entry_of n ws q 1 → p ≡ q
-  pub sound : (p : ℕ) → p < m → entry_of n ws p 0 ≡ 1 → c (entry_of n ws p 1) ≡ suc (entry_of n ws p 2)
-  pub complete : (key : ℕ) → c key ≢ 0 → (p : ℕ) × (p < m) × (entry_of n ws p 0 ≡ 1) × (entry_of n ws p 1 ≡ key)
-
-abbrev pub Stands : Picture → Content → Type 0
-Stands x c = StandsIn (slots_by x.root) (places_by x.root) x.fill x.table c
+  pub low : step < length walk
+  pub inside : (j : ℕ) → j ≤ step → slice_index walk j < n
+  pub here : index_of ws (slice_index walk step) ≡ x
+  pub before : (j : ℕ) → j < step → index_of ws (slice_index walk j) ≢ 0

@@ -1,59 +1,55 @@
--- The plain dicts, and what they have after a history of writes, newest first.
-use Rattle.std.specs.Prelude.{ℕ, suc, ◌==◌, Bool, true, false, not, cond, nat_lt, List, [], ◌∷◌, length}
-use Rattle.ft_trace.specs.declared.Call.{Call}
-use Rattle.ft_trace.specs.declared.Call.TheVariants.{Set, Del, Get, Clear}
+-- What containers have after a history of writes, newest first, and which tables.
+use Rattle.std.specs.Prelude.{ℕ, cond, nat_lt, List, [], ◌∷◌, length, slice_index_or}
+use Rattle.ft_model.specs.declared.call.Call.{Call}
+use Rattle.ft_model.specs.declared.call.Call.TheVariants as call
+use Rattle.ft_model.specs.declared.content.Content.{Content}
+use Rattle.ft_model.specs.declared.content.Content.TheVariants as content
+use Rattle.ft_model.specs.declared.reply.Reply.{Reply}
+use Rattle.ft_model.specs.declared.script.Kind.{Kind}
+use Rattle.ft_model.specs.declared.script.Kind.TheVariants as kind
+use Rattle.ft_model.specs.Worlds.{no_hands}
+use Rattle.ft_model.specs.Answers.{answer}
+use Rattle.ft_model.specs.declared.call.TableChange.{TableChange}
+use Rattle.ft_model.specs.declared.call.TableChange.TheVariants as change
+use Rattle.ft_model.specs.Calls.{dict_change, list_change, set_change}
+use Rattle.ft_model.specs.Tables.{TableUse, StoredWorld, table_at, stored_newest}
 
--- by key: 0, or the value plus 1
-abbrev pub Content : Type 0
-Content = ℕ → ℕ
+-- what a container has, and its table
+pub record Kept : Type 0 where
+  pub content : Content
+  pub table : TableUse
 
-abbrev pub World : Type 0
-World = ℕ → Content
+abbrev pub kept_at : StoredWorld → ℕ → Kept
+kept_at stored o = record { content = slice_index_or stored.world o (content.List []); table = table_at stored.tables o }
 
-abbrev pub with_value : Content → ℕ → ℕ → Content
-with_value c k v q = cond (k == q) v (c q)
+abbrev pub kept : List Kind → List Call → ℕ → Kept
+kept kinds calls o = kept_at (stored_newest kinds calls) o
 
--- the container of the call
-abbrev pub container : Call → ℕ
-container (Set o k v) = o
-container (Del o k) = o
-container (Get o k) = o
-container (Clear o) = o
+-- the first n of these writes, newest first
+abbrev pub first_writes : ℕ → List Call → List Call
+first_writes n [] = []
+first_writes n (called ∷ calls) = cond (nat_lt (length calls) n) (called ∷ calls) (first_writes n calls)
 
--- what the call leaves of its container, and what it answers
-abbrev pub changed : Call → Content → Content
-changed (Set o k v) c = with_value c k (suc v)
-changed (Del o k) c = with_value c k 0
-changed (Get o k) c = c
-changed (Clear o) c = λ q. 0
+-- the kind of a container
+abbrev pub kind_in : List Kind → ℕ → Kind
+kind_in kinds o = slice_index_or kinds o kind.List
 
-abbrev pub reply_of : Call → Content → ℕ
-reply_of (Set o k v) c = 0
-reply_of (Del o k) c = c k
-reply_of (Get o k) c = c k
-reply_of (Clear o) c = 0
+-- the container that a call changes, if it is a write
+abbrev pub changed_by : ℕ → TableChange → ℕ
+changed_by o change.Stays = o
+changed_by o change.Grows = o
+changed_by o (change.CopiesTo other) = other
+changed_by o change.GivesUp = o
 
--- a deletion of an absent key is no write
-abbrev pub writes_of_call : Call → Content → Bool
-writes_of_call (Set o k v) c = true
-writes_of_call (Del o k) c = not (c k == 0)
-writes_of_call (Get o k) c = false
-writes_of_call (Clear o) c = true
+abbrev pub changes : Call → ℕ
+changes (call.Dict o dict_call) = changed_by o (dict_change dict_call)
+changes (call.List o list_call) = changed_by o (list_change list_call)
+changes (call.Set o set_call) = changed_by o (set_change set_call)
+changes (call.Next cursor) = 0
+changes (call.Begin one other) = 0
+changes call.End = 0
+changes call.Quiesce = 0
 
-abbrev pub after : Call → World → World
-after c w p = cond (container c == p) (changed c (w p)) (w p)
-
-abbrev pub reply : Call → World → ℕ
-reply c w = reply_of c (w (container c))
-
-abbrev pub is_write : Call → World → Bool
-is_write c w = writes_of_call c (w (container c))
-
-abbrev pub world : List Call → World
-world [] p = λ q. 0
-world (c ∷ cs) p = after c (world cs) p
-
--- the world after the first n of them
-abbrev pub world_at : ℕ → List Call → World
-world_at n [] p = λ q. 0
-world_at n (c ∷ cs) p = cond (nat_lt (length cs) n) (world (c ∷ cs) p) (world_at n cs p)
+-- what the plain containers reply to a call that asks no cursor
+abbrev pub reply_in : StoredWorld → Call → Reply
+reply_in stored called = (answer stored.world no_hands called).reply

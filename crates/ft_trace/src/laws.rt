@@ -1,52 +1,137 @@
-//! The parts of the bank's rule, as laws of all traces.
-ghost use Rattle.ft_trace.specs.Laws.{EvenStands, OnePlace, Announced, SoundAlways, HitRight, MissRight, BareRight, LookedRight, CountsStand, Owed};
+//! The parts of the bank's rule: what holds of every valid trace, for the bank and all that stands on it.
+ghost use Rattle.ft_trace.specs.Laws.{LocksNameHolders, VersionsAreOddInWrites, EvenTablesAreShut, NumbersAreOnce, EntriesAreRight, OneHasAllEntries, EvenWordsStand, ZeroRootsHaveNothing, HoldersKnow, TablesAreSomewhere, TablesAreInOnePlace, CountsStand, TablesAreOwed, EmptyClassesAreEarned, AnnouncedNumbersAreLow, FoundTablesAreKept, GivenUpTablesRest, TablesAreSound, TableWordsStay, HitsAreRight, MissesAreRight, BareRootsAreRight, ItemsAreRight, ListsFitTheirTables, LooksAreRight, ChangedRootsAreNew, NumbersHaveRoom};
 
-/// While the version is even the words stand for the history at the counter.
-pub fn contents()
-    ensures { EvenStands }
+/// A lock word is the number of the one pass that has the lock.
+pub fn locks_name_their_holders()
+    ensures { LocksNameHolders }
 {}
 
-/// A table is in one root, or in one hand.
-pub fn places()
-    ensures { OnePlace }
+/// The version of a container is odd exactly while a pass writes it.
+pub fn versions_are_odd_in_writes()
+    ensures { VersionsAreOddInWrites }
 {}
 
-/// A table that a pass has found in a root since it last announced is not free.
-pub fn reuse()
-    ensures { Announced }
+/// The version of an entry or item is odd only while its container is written.
+pub fn tables_are_shut_while_versions_are_even()
+    ensures { EvenTablesAreShut }
 {}
 
-/// What holds of a table that a root names, also while its container is written.
-pub fn sound()
-    ensures { SoundAlways }
+/// Each number below the counter is that of one write in one view.
+pub fn numbers_are_of_one_write()
+    ensures { NumbersAreOnce }
 {}
 
-/// A key that was found.
-pub fn hits()
-    ensures { HitRight }
+/// Each entry has the reply of the plain containers at its stamp.
+pub fn entries_are_right()
+    ensures { EntriesAreRight }
 {}
 
-/// A key that was not found.
-pub fn misses()
-    ensures { MissRight }
+/// Who stands for all passes has an entry for each write.
+pub fn one_pass_has_all_entries()
+    ensures { OneHasAllEntries }
 {}
 
-/// A root that was 0.
-pub fn bare()
-    ensures { BareRight }
+/// While the version is even the words stand for the content at the counter.
+pub fn words_stand_while_versions_are_even()
+    ensures { EvenWordsStand }
 {}
 
-/// A look by the container's version.
-pub fn looks()
-    ensures { LookedRight }
+/// A root that is 0 is that of a container with nothing in it.
+pub fn zero_roots_have_nothing()
+    ensures { ZeroRootsHaveNothing }
 {}
 
-/// The count word of a class, its bits, and what is in flight.
-pub fn counts()
+/// A pass knows what it has the lock of, and what it has in hand.
+pub fn holders_know()
+    ensures { HoldersKnow }
+{}
+
+/// Each table is free, current or in a hand.
+pub fn tables_are_somewhere()
+    ensures { TablesAreSomewhere }
+{}
+
+/// No table is in two of these places.
+pub fn tables_are_in_one_place()
+    ensures { TablesAreInOnePlace }
+{}
+
+/// The count word of a class, its bits, and the takings and givings on their way.
+pub fn counts_stand()
     ensures { CountsStand }
 {}
 
-/// The tables that are not counted.
-pub fn owed()
-    ensures { Owed }
+/// The tables that are not counted were taken by writes, but for one for each view.
+pub fn tables_are_owed()
+    ensures { TablesAreOwed }
+{}
+
+/// Where a count was found 0, writes took the tables of the class.
+pub fn empty_classes_are_earned()
+    ensures { EmptyClassesAreEarned }
+{}
+
+/// An announced number is at most the write number.
+pub fn announced_numbers_are_low()
+    ensures { AnnouncedNumbersAreLow }
+{}
+
+/// A table that a pass has found in a root since it last announced is not free.
+pub fn found_tables_are_kept()
+    ensures { FoundTablesAreKept }
+{}
+
+/// A table that was taken out of a root is written no more.
+pub fn given_up_tables_rest()
+    ensures { GivenUpTablesRest }
+{}
+
+/// What holds at every moment of the table that a root names.
+pub fn tables_are_sound()
+    ensures { TablesAreSound }
+{}
+
+/// What stays of it while the root names it.
+pub fn table_words_stay()
+    ensures { TableWordsStay }
+{}
+
+/// A key that was found without the lock.
+pub fn hits_are_right()
+    ensures { HitsAreRight }
+{}
+
+/// A key that was not found without the lock.
+pub fn misses_are_right()
+    ensures { MissesAreRight }
+{}
+
+/// A root that was read 0.
+pub fn bare_roots_are_right()
+    ensures { BareRootsAreRight }
+{}
+
+/// An item that was read without the lock.
+pub fn items_are_right()
+    ensures { ItemsAreRight }
+{}
+
+/// A list is no longer than its table.
+pub fn lists_fit_their_tables()
+    ensures { ListsFitTheirTables }
+{}
+
+/// What was read between two equal even loads of a version.
+pub fn looks_are_right()
+    ensures { LooksAreRight }
+{}
+
+/// A root that changed names a table that was not found before.
+pub fn changed_roots_are_new()
+    ensures { ChangedRootsAreNew }
+{}
+
+/// No number wraps.
+pub fn numbers_have_room()
+    ensures { NumbersHaveRoom }
 {}

@@ -1,96 +1,145 @@
-//! The bank as plain data: what one atomic action is, and what a pass knows.
+//! What passes may do to the words of a bank of containers, as plain data: actions, what a pass
+//! knows, and laws on every order in which passes may act.
+//!
+//! A trace is the list of the events of a bank, newest first. Nothing of it is kept while a program
+//! runs: the bank's rule says that there is a trace which gives the words and what each pass knows.
+//!
+//! ```text
+//!     events, newest first                      what they give
+//!
+//!     did 1 (ReadCounter 7)   ──── run ───▶     words   0      1       2..   66..    80..    304..   then
+//!     did 0 (StopWrite d)                              ┌──────┬───────┬─────┬──────┬───────┬───────┬────────┐
+//!     did 0 (Commit ..)                                │ coun-│ write │ an- │ free │ free  │ block │ tables │
+//!     did 1 (ReadTable ..)                             │ ter  │ number│noun-│ table│ tables│ of a  │ class  │
+//!     did 0 (PutTable ..)                              │      │       │ ced │ count│ by bit│ cont. │ by cl. │
+//!     did 0 (StartWrite d)                             └──────┴───────┴─────┴──────┴───────┴───────┴────────┘
+//!     did 0 (Lock d)
+//!     forked 0                ──── run ───▶     views   of pass 0, of pass 1: number, log of its own actions,
+//!     (the start)                                       entries, how many passes it stands for, writes left
+//! ```
+//!
+//! Each action is one atomic step on one word. An event is valid where its condition (`May`) held at
+//! the moment of the event, and a trace is valid where each of its events was. So what holds of each
+//! valid trace holds of the bank between any two steps of any passes. The conditions are what the
+//! bank asks of its callers; the laws are what it gives them.
+//!
+//! A new kind of step is one more action with the word that it is about, what it leaves there, and
+//! its condition; each law is then proved for it, mostly by the clause for all actions that leave
+//! the words of that law alone.
 #![tactic(auto)]
 
+use ft_model::{Call, Kind, Reply};
 use std::collections::LinkedList;
 
-/// A call on a dict of numbers.
-#[derive(Clone, Copy)]
-pub enum Call {
-    Set(u64, u64, u64),
-    Del(u64, u64),
-    Get(u64, u64),
-    Clear(u64),
-}
-
-/// What stood in the bank at one moment: its words, and the writes so far, newest first.
+/// What stood in the bank at one moment: its words, and the writes before it, newest first.
 pub struct Snap {
+    /// The words, by address.
     pub words: LinkedList<u64>,
+    /// The writes, newest first.
     pub calls: LinkedList<Call>,
 }
 
-/// One atomic action of a pass, with the number that it found where it tells that.
+/// One atomic action of a pass, with the number that it found where it reports that.
 pub enum Act {
+    /// Takes the lock of a container where it is free: the container, what was found.
     Lock(u64, u64, Snap),
+    /// Lets go of the lock of a container.
     Unlock(u64),
+    /// Makes the version of a container odd.
     StartWrite(u64, u64),
-    /// A word of the container's block, but for the root.
+    /// Puts a word of a container's block that isn't its root: the container, the word among words 2
+    /// to 7 of the block, from 0 on, and what it becomes.
     PutBlock(u64, u64, u64),
-    /// The container, its new root and the old one.
+    /// Puts a root: the container, its new root and the old one.
     PutRoot(u64, u64, u64),
-    /// The container, its table, the word and what it becomes.
+    /// Puts a word of the table of a container: the container, its table, the word and what it becomes.
     PutTable(u64, u64, u64, u64),
-    /// A word of a table that stood in no root yet.
+    /// Puts a word of a table that stood in no root yet: the table, the word and what it becomes.
     PutFresh(u64, u64, u64),
-    /// The header of a table that was taken out of a root.
+    /// Puts the goal of a table that was taken out of a root.
     PutHeader(u64, u64),
-    Commit(Call, u64, u64),
+    /// Raises the counter, which is the write: the call, its reply, its number.
+    Commit(Call, Reply, u64, Snap),
+    /// Makes the version of a container even.
     StopWrite(u64, u64),
+    /// Loads the version of a container.
     Version(u64, u64),
+    /// Loads a word of a container's block, as `PutBlock` names it.
     ReadBlock(u64, u64, u64),
-    /// The root, read by a pass that is online.
+    /// Loads a root, by a pass that is online.
     ReadRoot(u64, u64),
+    /// Loads a word of a table.
     ReadTable(u64, u64, u64),
+    /// Loads the counter.
     ReadCounter(u64),
-    Answer(Call, u64, u64),
-    /// The class, the count that it was lowered from, and the one that was found.
+    /// Gives the reply of a call that isn't a write, with its stamp; the load of the counter that
+    /// comes with it tells nothing.
+    Answer(Call, Reply, u64),
+    /// Lowers the count of a class: the class, the count that it is lowered from, and what was found.
     LowerCount(u64, u64, u64),
+    /// Raises the count of a class.
     RaiseCount(u64, u64),
-    /// The count of a class, read.
+    /// Loads the count of a class.
     ReadCount(u64, u64),
-    /// A free word, read.
+    /// Loads a free word.
     ReadFree(u64, u64),
+    /// Clears the bit of a table: the table, the free word that was found.
     TakeTable(u64, u64, Snap),
+    /// Sets the bit of a table.
     GiveTable(u64),
+    /// Raises the write number: the table that is retired, the write number that was found.
     Retire(u64, u64),
-    /// The pass's own number and what it announces, 0 for offline.
+    /// Puts a pass's announced number: the pass, what it announces, 0 for offline.
     Announce(u64, u64),
-    /// Another pass's number and what it announces.
+    /// Loads the announced number of a pass.
     ReadAnnounced(u64, u64),
+    /// Loads the write number.
     WriteNumber(u64),
 }
 
 /// A call with its reply and its stamp.
 pub struct Entry {
+    /// The call.
     pub call: Call,
-    pub reply: u64,
+    /// What it was answered.
+    pub reply: Reply,
+    /// Its own number, if it is a write; else how many writes come before it.
     pub stamp: u64,
+    /// Whether it is a write.
     pub wrote: bool,
 }
 
 /// How large the bank is.
-#[derive(Clone, Copy)]
 pub struct Shape {
-    pub containers: u64,
+    /// The kind of each container.
+    pub kinds: LinkedList<Kind>,
+    /// The hash of each string.
+    pub texts: LinkedList<u64>,
+    /// How many tables there are of each class, the least class first.
+    pub tables: LinkedList<u64>,
+    /// How many places for boxes each pass has.
+    pub heap: u64,
+    /// How many passes there are.
     pub passes: u64,
+    /// How many writes each pass may make.
     pub calls: u64,
-    /// How many classes of tables there are.
-    pub classes: u64,
-    /// How many tables each class has.
-    pub tables: u64,
 }
 
 /// What a pass knows: its actions and its entries, newest first. No value of it is made.
 pub struct View {
-    /// 0 where the pass is spent.
+    /// What a lock word says that the pass holds: its number plus 1; 0 where the pass is spent.
     pub number: u64,
-    /// The number of the next pass, or 0.
+    /// The number of the next pass plus 1, or 0.
     pub next: u64,
     /// How many passes it stands for.
     pub parts: u64,
     /// The writes that it may still make.
     pub left: u64,
+    /// The bank's shape.
     pub shape: Shape,
+    /// What it did, newest first.
     pub log: LinkedList<Act>,
+    /// Its entries, newest first.
     pub entries: LinkedList<Entry>,
 }
 

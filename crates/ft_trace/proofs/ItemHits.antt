@@ -1,0 +1,115 @@
+-- The look-up of one index of a list: what it answers holds at the counter that it loaded, whatever was written meanwhile at other indexes, and also where the table grew.
+use Rattle.std.proofs.Common.{◌≡◌, ℕ, suc, zero, ◌+◌, ◌%◌, ◌<◌, ◌≤◌, List, ◌∷◌, ◌++◌, length, refl, sym, ap, ◌∙◌, subst, arith, append_assoc}
+use Rattle.std.specs.Prelude.{slice_index}
+use mathlib.Core.Option.{some}
+use lib.ListN.{get_elem?}
+use Rattle.ft_model.specs.declared.call.Call.{Call}
+use Rattle.ft_model.specs.Worlds.{list_of}
+use Rattle.ft_trace.specs.declared.Shape.{Shape}
+use Rattle.ft_trace.specs.declared.View.{View}
+use Rattle.ft_trace.specs.declared.Act.{Act}
+use Rattle.ft_trace.specs.declared.Act.TheVariants.{ReadTable, ReadCounter}
+use Rattle.ft_trace.specs.Addrs.{containers_in, cls, slots}
+use Rattle.ft_trace.specs.Ages.{whose}
+use Rattle.ft_trace.specs.Worlds.{kept, first_writes, kind_in}
+use Rattle.ft_trace.specs.Words.{item_at, item_of}
+use Rattle.ft_trace.specs.Items.{said_at, words_at, ItemLater}
+use Rattle.ft_trace.specs.Kinds.{IsItems}
+use Rattle.ft_trace.specs.Reading.{Among}
+use Rattle.ft_trace.specs.Finding.{ItemHit, ItemPast}
+use Rattle.ft_trace.specs.Traces.{Event, run, history, Valid}
+use Rattle.ft_trace.proofs.Contents.{count, tab}
+use Rattle.ft_trace.proofs.ByKind.{items_fit, items_later, items_sound}
+use Rattle.ft_trace.proofs.Sounds.{LaterIn, sound_at}
+use Rattle.ft_trace.proofs.Spots.{under_trans, stamp_then, Spot, Back, go, Opened, open_window, named_by, found}
+
+module _ (k : Shape) (es : List Event) (valid : Valid k es) (o t p n : ℕ) (low : o < containers_in k) (items : IsItems (kind_in k.kinds o)) (small : p < slots (cls t)) (j : ℕ) (u : View) (at : get_elem? (run k es).views j ≡ some u) (h : ItemHit u.log o t p n) where
+  abbrev load : Act
+  load = ReadTable t (item_at p 0) h.version
+
+  abbrev start : List Act
+  start = h.window.rest
+
+  abbrev open_ : Opened k es o t j start h.walk
+  open_ = open_window k es valid j u at o t low h.walk h.window
+
+  pub back : (walk : List Act) (s : Spot k t j start walk) (xs : List Act) (a : Act) (rest : List Act) → walk ≡ xs ++ a ∷ rest → Back k t j start s.es a rest
+  back walk s xs a rest is = go k t j start walk open_.table h.window.before s xs a rest is
+
+  abbrev top : Back k t j start open_.spot.es load (h.mid ++ load ∷ h.rest)
+  top = back h.walk open_.spot h.newer load (h.mid ++ load ∷ h.rest) h.is
+
+  abbrev now : List Event
+  now = top.spot.es
+
+  whom_now : whose now t ≡ o
+  whom_now = top.whom ∙ open_.whom
+
+  later_from : (from : List Event) (a : Act) (rest : List Act) → whose from t ≡ o → (b : Back k t j start from a rest) → ItemLater (slots (cls t)) (tab k b.spot.es t) (tab k from t)
+  later_from from a rest whom b = items_later (kind_in k.kinds o) items (cls t) (tab k b.spot.es t) (tab k from t) (subst (λ (z : ℕ). LaterIn k z t (tab k b.spot.es t) (tab k from t)) whom b.later)
+
+  pub in_now : (a : Act) (m : Among a h.mid) → Back k t j start now a (m.rest ++ load ∷ h.rest)
+  in_now a m = back (h.mid ++ load ∷ h.rest) top.spot m.newer a (m.rest ++ load ∷ h.rest) (ap (λ (l : List Act). l ++ load ∷ h.rest) m.is ∙ append_assoc m.newer (a ∷ m.rest) (load ∷ h.rest))
+
+  whom_in : (a : Act) (m : Among a h.mid) → whose (in_now a m).spot.es t ≡ o
+  whom_in a m = (in_now a m).whom ∙ whom_now
+
+  first : (a : Act) (m : Among a h.mid) → Back k t j start (in_now a m).spot.es load h.rest
+  first a m = back (m.rest ++ load ∷ h.rest) (in_now a m).spot m.rest load h.rest refl
+
+  -- a read of a word of the item
+  read_is : (w f : ℕ) (rest : List Act) (from : List Event) → w < 4 → (b : Back k t j start from (ReadTable t (item_at p w) f) rest) → f ≡ item_of (tab k b.spot.es t) p w
+  read_is w f rest from less b = found k t j (item_at p w) f start rest from (let x = items_fit (cls t) open_.table.0 in omega (arith, x, small, less)) b
+
+  same_version : (a : Act) (m : Among a h.mid) → (item_of (tab k now t) p 0 ≡ h.version) × (item_of (tab k (in_now a m).spot.es t) p 0 ≡ h.version)
+  same_version a m =
+      let w = in_now a m in
+      let f = first a m in
+      let end : h.version ≡ item_of (tab k now t) p 0 = read_is 0 h.version (h.mid ++ load ∷ h.rest) open_.spot.es (omega arith) top in
+      let begin : h.version ≡ item_of (tab k f.spot.es t) p 0 = read_is 0 h.version h.rest w.spot.es (omega arith) f in
+      let up = (later_from now a (m.rest ++ load ∷ h.rest) whom_now w).version p small in
+      let from = (later_from w.spot.es load h.rest (whom_in a m) f).version p small in
+      (sym end, omega (arith, end, begin, up, from))
+
+  same_word : (a : Act) (m : Among a h.mid) → (w : ℕ) → 0 < w → w < 4 → item_of (tab k now t) p w ≡ item_of (tab k (in_now a m).spot.es t) p w
+  same_word a m w up less =
+      let v = same_version a m in
+      (later_from now a (m.rest ++ load ∷ h.rest) whom_now (in_now a m)).same p w small up less (ap (λ (z : ℕ). z % 2) v.1 ∙ h.even) (v.0 ∙ sym v.1)
+
+  abbrev then_ : List Event
+  then_ = (in_now (ReadCounter n) h.stamp).spot.es
+
+  word_then : (w f : ℕ) → 0 < w → w < 4 → Among (ReadTable t (item_at p w) f) h.mid → item_of (tab k then_ t) p w ≡ f
+  word_then w f up less m =
+      let b = in_now (ReadTable t (item_at p w) f) m in
+      sym (same_word (ReadCounter n) h.stamp w up less) ∙ (same_word (ReadTable t (item_at p w) f) m w up less ∙ sym (read_is w f (m.rest ++ load ∷ h.rest) now less b))
+
+  -- the list at the stamp has at the index what the item said then
+  pub item_hit_at : (n ≤ count k es) × (words_at (list_of (kept k.kinds (first_writes n (history es)) o).content) p ≡ said_at (tab k then_ t) p)
+  item_hit_at =
+      let w = in_now (ReadCounter n) h.stamp in
+      let v = same_version (ReadCounter n) h.stamp in
+      let names = named_by k then_ w.spot.valid o t open_.table w.spot.now (whom_in (ReadCounter n) h.stamp) in
+      let sound = items_sound (kind_in k.kinds o) items k.texts (cls t) (tab k then_ t) (kept k.kinds (history then_) o).content (sound_at k then_ w.spot.valid o low t names) in
+      let right = sound.right p small (ap (λ (z : ℕ). z % 2) v.1 ∙ h.even) in
+      let s = stamp_then k then_ es w.spot.valid valid (under_trans then_ now es w.under (under_trans now open_.spot.es es top.under open_.under)) n w.tells in
+      (s.0, ap (λ (cs : List Call). words_at (list_of (kept k.kinds cs o).content) p) s.1 ∙ right)
+
+  -- a word of the item that was read between
+  pub item_word : (w f : ℕ) → w < 2 → Among (ReadTable t (item_at p (1 + w)) f) h.mid → slice_index (words_at (list_of (kept k.kinds (first_writes n (history es)) o).content) p) w ≡ f
+  item_word w f less m = ap (λ (l : List ℕ). slice_index l w) item_hit_at.1 ∙ (by w less ∙ word_then (1 + w) f (omega arith) (omega arith) m)
+    where
+      by : (w : ℕ) → w < 2 → slice_index (said_at (tab k then_ t) p) w ≡ item_of (tab k then_ t) p (1 + w)
+      by zero less = refl
+      by (suc zero) less = refl
+      by (suc (suc w)) less = absurd (omega arith)
+
+-- the list at the stamp is no longer than the table
+pub item_past_at : (k : Shape) (es : List Event) (valid : Valid k es) (o t n : ℕ) (low : o < containers_in k) (items : IsItems (kind_in k.kinds o)) (j : ℕ) (u : View) (at : get_elem? (run k es).views j ≡ some u) → ItemPast u.log o t n → (n ≤ count k es) × (length (list_of (kept k.kinds (first_writes n (history es)) o).content) ≤ slots (cls t))
+item_past_at k es valid o t n low items j u at h =
+    let open_ = open_window k es valid j u at o t low h.walk h.window in
+    let b = go k t j h.window.rest h.walk open_.table h.window.before open_.spot h.stamp.newer (ReadCounter n) h.stamp.rest h.stamp.is in
+    let names = named_by k b.spot.es b.spot.valid o t open_.table b.spot.now (b.whom ∙ open_.whom) in
+    let sound = items_sound (kind_in k.kinds o) items k.texts (cls t) (tab k b.spot.es t) (kept k.kinds (history b.spot.es) o).content (sound_at k b.spot.es b.spot.valid o low t names) in
+    let s = stamp_then k b.spot.es es b.spot.valid valid (under_trans b.spot.es open_.spot.es es b.under open_.under) n b.tells in
+    (s.0, subst (λ (cs : List Call). length (list_of (kept k.kinds cs o).content) ≤ slots (cls t)) (sym s.1) sound.short)

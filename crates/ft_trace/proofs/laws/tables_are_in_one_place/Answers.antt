@@ -1,0 +1,5 @@
+use Rattle.ft_trace.proofs.Rule as rule
+use Rattle.ft_trace.proofs.laws.tables_are_in_one_place.Goals as goal
+
+pub returns : goal.returns
+returns c = rule.tables_are_in_one_place

@@ -2,12 +2,15 @@ mod printing;
 mod reading;
 mod tables;
 
-use crate::{Declaration, Hands, Kind, Sequence, World, apply, has_room, is_declared};
+use crate::{
+    Declaration, Hands, KeptTable, Kind, Sequence, World, apply, dict_class, has_room, is_declared,
+    list_class, set_class, table_of_copy, taken_by_dict, taken_by_list, taken_by_set,
+};
 use printing::{print_content, print_reply};
 use reading::read_call;
 use std::process::Abort;
 use std::test::Fail;
-use tables::{DICTS, KINDS, LISTS, SETS};
+use tables::{CLASSES, DICTS, KINDS, LISTS, SETS};
 
 /// Calls that are made one after the other, what each replies, and what the containers named have
 /// in the end.
@@ -95,6 +98,28 @@ fn calls_change_and_take_locks_by_their_kind(rt: HostRuntime) -> Result<(), Fail
         assert_eq!(rt; call.is_changing(), *changing, "{text}");
         assert_eq!(rt; call.locks(), *locks, "{text}");
     }
+    Ok(())
+}
+
+#[test]
+fn containers_grow_when_they_must(rt: HostRuntime) -> Result<(), Fail> {
+    for (count, dict, set, list) in &CLASSES {
+        assert_eq!(rt; dict_class(*count), *dict, "{count}");
+        assert_eq!(rt; set_class(*count), *set, "{count}");
+        assert_eq!(rt; list_class(*count), *list, "{count}");
+    }
+    let table = KeptTable {
+        class: Some(3),
+        fill: 4,
+    };
+    assert_eq!(rt; taken_by_dict(table, 1, 5), None);
+    assert_eq!(rt; taken_by_dict(table, 2, 6), Some(4));
+    assert_eq!(rt; taken_by_set(table, 0, 4), None);
+    assert_eq!(rt; taken_by_set(table, 1, 5), Some(5));
+    assert_eq!(rt; taken_by_list(table, 8), None);
+    assert_eq!(rt; taken_by_list(table, 9), Some(4));
+    assert_eq!(rt; table_of_copy(0).class, None);
+    assert_eq!(rt; table_of_copy(3).class, Some(3));
     Ok(())
 }
 

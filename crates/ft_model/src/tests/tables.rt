@@ -561,3 +561,15 @@ pub const KINDS: [(&str, bool, u32); 57] = [
     ("clear s", true, 1),
     ("iter s c", false, 1),
 ];
+
+/// A number of pairs, elements or items, and the classes of tables that a dict, a set and a list
+/// take for so much: for a dict the least power of two from 3 * (n - 1) on, for a set the least one
+/// above 4 * (n - 1), for a list the least one from n on; 8 slots at least, 65,536 at most.
+pub const CLASSES: [(u64, u32, u32, u32); 6] = [
+    (1, 3, 3, 3),
+    (5, 4, 5, 3),
+    (9, 5, 6, 4),
+    (1366, 12, 13, 11),
+    (4097, 14, 15, 13),
+    (39_321, 16, 16, 16),
+];

@@ -29,7 +29,7 @@ use Rattle.ft_model.specs.Worlds.{kinds_of}
 use Rattle.ft_model.specs.Answers.{after_write, is_memory}
 use Rattle.ft_model.specs.Tables.{TableUse, no_table, StoredWorld, start_stored, takes_class, leaves_tables, after_stored, stored_after, takings, is_class, takes, IsEarned, IsEarnedReply}
 use Rattle.ft_history.specs.declared.account.TableAccount.{TableAccount}
-use Rattle.ft_history.specs.Accounts.{tables_of, taken_of, IsAccount, CountsCall}
+use Rattle.ft_history.specs.Internal.Accounts.{tables_of, taken_of, IsAccount, CountsCall}
 
 -- ---- one write further
 

@@ -27,9 +27,9 @@ use Rattle.ft_model.specs.Judging.{IsNext, IsStamped, HasRightReply, Holds}
 use Rattle.ft_history.specs.declared.progress.ThreadProgress.{ThreadProgress}
 use Rattle.ft_history.specs.declared.writers.LastWrites.{LastWrites}
 use Rattle.ft_history.specs.declared.state.State.{State}
-use Rattle.ft_history.specs.Accounts.{IsAccount, AreOfKind}
-use Rattle.ft_history.specs.States.{IsAskable, world_before, after_one, IsProgress, AreHandsOf, IsLast}
-use Rattle.ft_history.specs.Steps.{IsState, GoesAfter, HoldsFirst, BreaksFirst, FindsLate, HoldsLate, Finds}
+use Rattle.ft_history.specs.Internal.Accounts.{IsAccount, AreOfKind}
+use Rattle.ft_history.specs.Internal.States.{IsAskable, world_before, after_one, IsProgress, AreHandsOf, IsLast}
+use Rattle.ft_history.specs.Internal.Steps.{IsState, GoesAfter, HoldsFirst, BreaksFirst, FindsLate, HoldsLate, Finds}
 use Rattle.ft_history.proofs.Places.{writes_next, count_next, world_at-before}
 use Rattle.ft_history.proofs.Judged.{holds_more}
 use Rattle.ft_history.proofs.ScriptLemmas.{call_of_thread, calls_of_thread, is_thread, named_within, no_calls}

@@ -11,7 +11,7 @@ use Rattle.ft_model.specs.declared.script.ScriptParts.{ScriptParts}
 use Rattle.ft_model.specs.Scripts.{NamesOf, cursor_of}
 use Rattle.ft_model.specs.Answers.{answer}
 use Rattle.ft_model.specs.Histories.{calls_of}
-use Rattle.ft_history.specs.States.{AreHandsOf}
+use Rattle.ft_history.specs.Internal.States.{AreHandsOf}
 use Rattle.ft_history.proofs.Places.{take_next}
 use Rattle.ft_history.proofs.Leaves.{Leaves}
 

@@ -14,7 +14,7 @@ use Rattle.ft_model.specs.Answers.{is_write}
 use Rattle.ft_model.specs.Histories.{writes, calls_of, entries_of}
 use Rattle.ft_model.specs.Judging.{IsNext, IsStamped, Holds, rank_of}
 use Rattle.ft_history.specs.declared.progress.ThreadProgress.{ThreadProgress}
-use Rattle.ft_history.specs.Steps.{HoldsFirst}
+use Rattle.ft_history.specs.Internal.Steps.{HoldsFirst}
 use Rattle.ft_history.proofs.OneVerdict.{same_rule}
 
 -- ---- one rule more

@@ -10,7 +10,7 @@ use Rattle.ft_model.specs.declared.entry.Entry.{Entry}
 use Rattle.ft_model.specs.Histories.{disturbs, names}
 use Rattle.ft_history.specs.declared.writers.LastWrites.{LastWrites}
 use Rattle.ft_history.specs.declared.writers.Write.{Write}
-use Rattle.ft_history.specs.States.{other_than, after_one, is_from, is_written_since, IsLast}
+use Rattle.ft_history.specs.Internal.States.{other_than, after_one, is_from, is_written_since, IsLast}
 use Rattle.ft_history.proofs.Places.{take_next}
 
 or_false : (b : Bool) → (b || false) ≡ b

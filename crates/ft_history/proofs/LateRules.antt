@@ -22,7 +22,7 @@ use Rattle.ft_model.specs.declared.call.Containers.{Containers}
 use Rattle.ft_model.specs.Calls.{container_list}
 use Rattle.ft_history.specs.declared.progress.ThreadProgress.{ThreadProgress}
 use Rattle.ft_history.specs.declared.writers.LastWrites.{LastWrites}
-use Rattle.ft_history.specs.States.{Begun, is_used, AreUsers, all_begun, after_begun, inner_begun, section_of, IfInnerBegun, IfEndsBegun, IsOpen, IsProgress, IsLast, is_written_since, is_written_on, IsKeptSince}
+use Rattle.ft_history.specs.Internal.States.{Begun, is_used, AreUsers, all_begun, after_begun, inner_begun, section_of, IfInnerBegun, IfEndsBegun, IsOpen, IsProgress, IsLast, is_written_since, is_written_on, IsKeptSince}
 use Rattle.ft_history.proofs.ProgressLemmas.{sections_alike}
 use Rattle.ft_history.proofs.LastWriteLemmas.{any_of_containers}
 

@@ -25,8 +25,8 @@ use Rattle.ft_model.specs.Scripts.{IsDeclaredAs, NamesOf, cursor_of}
 use Rattle.ft_model.specs.Cursors.{CursorStep, dict_next, dict_walk, next_pair, set_next, set_walk, next_element, list_next, list_walk}
 use Rattle.ft_model.specs.Worlds.{IsOfKind, kind_of, cursor_kind, container_of, cursor_at, no_hands, dict_at, list_at, set_at}
 use Rattle.ft_model.specs.Answers.{Answer, answer, cursor_step, is_raised, is_write, shows, moves}
-use Rattle.ft_history.specs.Accounts.{AreOfKind}
-use Rattle.ft_history.specs.States.{IsAskable}
+use Rattle.ft_history.specs.Internal.Accounts.{AreOfKind}
+use Rattle.ft_history.specs.Internal.States.{IsAskable}
 use Rattle.ft_history.proofs.Effects.{Effect, shown, put, moved, effect_dict, effect_list, effect_set}
 
 -- ---- one write into a list

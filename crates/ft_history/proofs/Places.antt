@@ -10,7 +10,7 @@ use Rattle.std.proofs.lemmas.Option.{slice_get_within, get_or_from_slice_get, sl
 use Rattle.ft_model.specs.declared.call.Call.{Call}
 use Rattle.ft_model.specs.declared.entry.Entry.{Entry}
 use Rattle.ft_model.specs.declared.script.ScriptParts.{ScriptParts}
-use Rattle.ft_history.specs.States.{world_before}
+use Rattle.ft_history.specs.Internal.States.{world_before}
 use Rattle.ft_model.specs.Worlds.{start_world}
 use Rattle.ft_model.specs.Answers.{after_write}
 use Rattle.ft_model.specs.Histories.{writes, world_at}

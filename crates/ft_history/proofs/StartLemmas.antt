@@ -16,7 +16,7 @@ use Rattle.ft_model.specs.Scripts.{IsDeclaredAs}
 use Rattle.ft_model.specs.Worlds.{start_world, start_hands, empty_content, kind_of, cursor_at, cursor_kind, container_of}
 use Rattle.ft_model.specs.Histories.{calls_of}
 use Rattle.ft_history.specs.declared.progress.ThreadProgress.{ThreadProgress}
-use Rattle.ft_history.specs.States.{IsFresh, IsProgress, AreHandsOf, IsOpen, all_begun, section_of}
+use Rattle.ft_history.specs.Internal.States.{IsFresh, IsProgress, AreHandsOf, IsOpen, all_begun, section_of}
 
 pub kinds_at_start : (containers : List Declaration) → map kind_of (start_world containers) ≡ map (λ (c : Declaration). c.kind) containers
 kinds_at_start [] = refl

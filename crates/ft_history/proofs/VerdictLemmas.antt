@@ -14,7 +14,7 @@ use Rattle.ft_model.specs.declared.script.ScriptParts.{ScriptParts}
 use Rattle.ft_model.specs.Histories.{entries_of, IsLegal}
 use Rattle.ft_model.specs.Judging.{HoldsAt, HoldsAtEnd, IsComplete, IsFirstBroken, rank_of}
 use Rattle.ft_history.specs.declared.state.State.{State}
-use Rattle.ft_history.specs.Steps.{IsState, IsUnbrokenBefore, Finds, HaveMadeAll}
+use Rattle.ft_history.specs.Internal.Steps.{IsState, IsUnbrokenBefore, Finds, HaveMadeAll}
 use Rattle.ft_history.proofs.Unbroken.{legal_of_unbroken}
 
 module _ (s : Storage) (script : ScriptParts) (entries : List Entry) (place : ℕ) (low : place < length entries) (unbroken : IsUnbrokenBefore s script entries place) where

@@ -1,5 +1,3 @@
 pub mod Verdicts
 pub mod Laws
-pub mod Accounts
-pub mod States
-pub mod Steps
+pub mod Internal

@@ -7,12 +7,12 @@ ghost use Rattle.ft_model.specs.declared.script.ScriptParts.{ScriptParts};
 ghost use Rattle.ft_model.specs.Calls.{containers_of};
 ghost use Rattle.ft_model.specs.Classes.{class_count};
 ghost use Rattle.ft_model.specs.Histories.{writes, world_at, IsEarnedAt};
-ghost use Rattle.ft_history.specs.Accounts.{AreOfKind};
+ghost use Rattle.ft_history.specs.Internal.Accounts.{AreOfKind};
 ghost use Rattle.ft_history.specs.declared.progress.ThreadProgress.{ThreadProgress};
 ghost use Rattle.ft_history.specs.Verdicts.{IsVerdict};
 ghost use Rattle.ft_history.specs.declared.verdict.Verdict.TheVariants as verdict;
-ghost use Rattle.ft_history.specs.States.{AreUsers, IsAskable};
-ghost use Rattle.ft_history.specs.Steps.{IsState, IsUnbrokenBefore, FindsEarly, FindsLate, Finds, GoesAfter, HaveMadeAll};
+ghost use Rattle.ft_history.specs.Internal.States.{AreUsers, IsAskable};
+ghost use Rattle.ft_history.specs.Internal.Steps.{IsState, IsUnbrokenBefore, FindsEarly, FindsLate, Finds, GoesAfter, HaveMadeAll};
 
 use crate::account::note_taking;
 use crate::memory::is_earned;

@@ -7,7 +7,7 @@ ghost use Rattle.ft_model.specs.Calls.{other_dict, other_list, other_set};
 ghost use Rattle.ft_model.specs.Contents.{has_key, has_element, those_not_in, dict_update};
 ghost use Rattle.ft_model.specs.Tables.{would_pass};
 ghost use Rattle.ft_model.specs.Worlds.{IsOfKind};
-ghost use Rattle.ft_history.specs.Accounts.{AreOfKind};
+ghost use Rattle.ft_history.specs.Internal.Accounts.{AreOfKind};
 
 use ft_model::{
     Call, Dict, DictCall, DictPair, Key, ListCall, MOST_ELEMENTS, MOST_ITEMS, MOST_PAIRS, Set,

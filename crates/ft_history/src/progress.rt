@@ -1,7 +1,7 @@
 ghost use Rattle.std.specs.Prelude.{◌≡◌, ◌↔◌, ◌+◌, ◌<◌, ◌^◌, IsTrue, IfOk, OnOk, is_some, if◌then◌else◌};
 ghost use Rattle.ft_model.specs.Answers.{answer, is_memory};
 ghost use Rattle.ft_model.specs.Histories.{IsReplied};
-ghost use Rattle.ft_history.specs.States.{IsAskable, all_begun, after_begun};
+ghost use Rattle.ft_history.specs.Internal.States.{IsAskable, all_begun, after_begun};
 
 use crate::replies::is_replied;
 use ft_model::{Call, Containers, Entry, Hands, World};

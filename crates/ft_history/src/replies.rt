@@ -2,7 +2,7 @@ ghost use Rattle.std.specs.Prelude.{◌≡◌, ◌↔◌, ◌⊎◌, true, IsTru
 ghost use Rattle.ft_model.specs.Worlds.{IsDeclared};
 ghost use Rattle.ft_model.specs.Answers.{answer, is_memory};
 ghost use Rattle.ft_model.specs.Histories.{IsReplied};
-ghost use Rattle.ft_history.specs.States.{IsAskable};
+ghost use Rattle.ft_history.specs.Internal.States.{IsAskable};
 
 use crate::equal::same_reply;
 use crate::rules::is_memory_error;

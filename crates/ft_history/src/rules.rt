@@ -6,7 +6,7 @@ ghost use Rattle.ft_model.specs.Answers.{is_write, is_memory};
 ghost use Rattle.std.specs.Ordering.{is_lt};
 ghost use Rattle.ft_model.specs.Histories.{history_cmp, IsCountedAs};
 ghost use Rattle.ft_model.specs.Judging.{IsAfter};
-ghost use Rattle.ft_history.specs.States.{is_used, all_begun, after_begun, inner_begun, IfEndsBegun, is_written_on, IsKeptSince};
+ghost use Rattle.ft_history.specs.Internal.States.{is_used, all_begun, after_begun, inner_begun, IfEndsBegun, is_written_on, IsKeptSince};
 
 use crate::equal::same_call;
 use crate::merging::history_order;
@@ -163,11 +163,17 @@ fn innermost(sections: &[OpenSection]) -> Containers
 pub fn is_kept_right(containers: &[LastWrites], sections: &[OpenSection], entry: &Entry) -> bool
     ensures { IsTrue result ↔ IfEndsBegun (all_begun sections.now) entry.now.call (λ section. IsKeptSince containers.now entry.now.thread section entry.now.reply) }
 {
-    match (&entry.call, sections, &entry.reply) {
-        (Call::End, [.., section], Reply::Kept) => {
-            !is_disturbed(containers, entry.thread, section)
-        }
-        _ => true,
+    match &entry.call {
+        Call::End => match (sections, &entry.reply) {
+            ([.., section], Reply::Kept) => !is_disturbed(containers, entry.thread, section),
+            _ => true,
+        },
+        Call::Dict { .. }
+        | Call::List { .. }
+        | Call::Set { .. }
+        | Call::Next { .. }
+        | Call::Begin { .. }
+        | Call::Quiesce => true,
     }
 }
 
@@ -199,11 +205,19 @@ fn is_written(containers: &[LastWrites], thread: u32, begun: u64, container: u32
 pub fn is_counted_right(marks: u64, sections: &[OpenSection], entry: &Entry) -> bool
     ensures { IsTrue result ↔ IfEndsBegun (all_begun sections.now) entry.now.call (λ section. IsCountedAs (marks - section.marks) entry.now.reply) }
 {
-    match (&entry.call, sections, &entry.reply) {
-        (Call::End, [.., section], Reply::Kept) => marks.saturating_sub(section.marks) == 0,
-        (Call::End, [.., section], Reply::Suspended(count)) => {
-            *count >= 1 && marks.saturating_sub(section.marks) == u64::from(*count)
-        }
-        _ => true,
+    match &entry.call {
+        Call::End => match (sections, &entry.reply) {
+            ([.., section], Reply::Kept) => marks.saturating_sub(section.marks) == 0,
+            ([.., section], Reply::Suspended(count)) => {
+                *count >= 1 && marks.saturating_sub(section.marks) == u64::from(*count)
+            }
+            _ => true,
+        },
+        Call::Dict { .. }
+        | Call::List { .. }
+        | Call::Set { .. }
+        | Call::Next { .. }
+        | Call::Begin { .. }
+        | Call::Quiesce => true,
     }
 }

@@ -1,6 +1,6 @@
 ghost use Rattle.std.specs.Prelude.{◌≡◌, length};
 ghost use Rattle.ft_model.specs.Worlds.{list_at};
-ghost use Rattle.ft_history.specs.Accounts.{dict_size, set_size, size_at};
+ghost use Rattle.ft_history.specs.Internal.Accounts.{dict_size, set_size, size_at};
 
 use ft_model::{Call, Content, World};
 

@@ -3,8 +3,8 @@ ghost use Rattle.ft_model.specs.declared.entry.Entry.{Entry};
 ghost use Rattle.ft_model.specs.Scripts.{IsScript};
 ghost use Rattle.ft_model.specs.declared.script.Thread.{Thread};
 ghost use Rattle.ft_history.specs.declared.progress.ThreadProgress.{ThreadProgress};
-ghost use Rattle.ft_history.specs.Steps.{IsState};
-ghost use Rattle.ft_history.specs.States.{IsFresh};
+ghost use Rattle.ft_history.specs.Internal.Steps.{IsState};
+ghost use Rattle.ft_history.specs.Internal.States.{IsFresh};
 
 use crate::account::{TableAccount, start_account};
 use crate::progress::ThreadProgress;

@@ -3,7 +3,7 @@ ghost use Rattle.std.specs.List.{list_any};
 ghost use Rattle.ft_model.specs.Calls.{container_list, containers_of};
 ghost use Rattle.ft_model.specs.Histories.{names};
 ghost use Rattle.ft_model.specs.Scripts.{IsScript};
-ghost use Rattle.ft_history.specs.States.{AreUsers};
+ghost use Rattle.ft_history.specs.Internal.States.{AreUsers};
 
 use ft_model::{Call, Containers, ScriptParts};
 use std::alloc::{AllocError, Global};

@@ -2,7 +2,7 @@ ghost use Rattle.std.specs.Prelude.{◌≡◌, ◌+◌, ◌<◌, ◌==◌, ℕ, 
 ghost use Rattle.std.specs.List.{list_any};
 ghost use Rattle.ft_model.specs.Calls.{container_list};
 ghost use Rattle.ft_history.specs.declared.writers.LastWrites.{LastWrites};
-ghost use Rattle.ft_history.specs.States.{after_one, is_written_since};
+ghost use Rattle.ft_history.specs.Internal.States.{after_one, is_written_since};
 
 use ft_model::Containers;
 

@@ -10,14 +10,14 @@ use std::test::Fail;
 
 /// A history, and what has to be said of it.
 #[derive(Clone, Copy)]
-struct Case<'a> {
-    script: &'a str,
-    transcript: &'a str,
-    storage: Storage,
-    verdict: Verdict,
+pub(crate) struct Case<'a> {
+    pub(crate) script: &'a str,
+    pub(crate) transcript: &'a str,
+    pub(crate) storage: Storage,
+    pub(crate) verdict: Verdict,
 }
 
-const CASES: [Case<'static>; 41] = [
+const CASES: [Case<'static>; 42] = [
     // A section that was let go, reported as suspended.
     Case {
         script: "list l\ndict d\nthread A\nbegin d\nbegin l\nappend l 1\nend\nend\nthread B\nbegin l\nappend l 2\nend\norder B A A B B\n",
@@ -221,73 +221,10 @@ const CASES: [Case<'static>; 41] = [
         storage: Storage::Plain,
         verdict: Verdict::Not(1, Rule::Memory),
     },
-    // One table, taken before.
-    Case {
-        script: "tables 3 1\ndict d\ndict e\nthread A\nset d 1 0\nset e 1 0\nlen e\n",
-        transcript: "A.1 w0 set d 1 0 = ok\nA.2 r1 set e 1 0 = MemoryError 3\nA.3 r1 len e = 0\n",
-        storage: Storage::Tables,
-        verdict: Verdict::Legal,
-    },
-    // One table, not taken yet.
-    Case {
-        script: "tables 3 1\ndict d\ndict e\nthread A\nset d 1 0\nset e 1 0\nlen e\n",
-        transcript: "A.1 r0 set d 1 0 = MemoryError 3\n",
-        storage: Storage::Tables,
-        verdict: Verdict::Not(1, Rule::Memory),
-    },
-    // A class of which there are more.
-    Case {
-        script: "tables 3 1\ndict d\ndict e\nthread A\nset d 1 0\nset e 1 0\nlen e\n",
-        transcript: "A.1 w0 set d 1 0 = ok\nA.2 r1 set e 1 0 = MemoryError 4\n",
-        storage: Storage::Tables,
-        verdict: Verdict::Not(2, Rule::Memory),
-    },
-    // No call of the heap.
-    Case {
-        script: "tables 3 1\ndict d\ndict e\nthread A\nset d 1 0\nset e 1 0\nlen e\n",
-        transcript: "A.1 r0 set d 1 0 = MemoryError heap\n",
-        storage: Storage::Tables,
-        verdict: Verdict::Not(1, Rule::Memory),
-    },
-    // A call that adds nothing.
-    Case {
-        script: "tables 3 1\ndict d\ndict e\nthread A\nset d 1 0\nset e 1 0\nlen e\n",
-        transcript: "A.1 w0 set d 1 0 = ok\nA.2 w1 set e 1 0 = ok\nA.3 r2 len e = MemoryError 3\n",
-        storage: Storage::Tables,
-        verdict: Verdict::Not(3, Rule::Memory),
-    },
-    // The call of another thread may have taken it.
-    Case {
-        script: "tables 3 1\ndict d\nthread A\nset d 1 0\nthread B\nset d 2 0\n",
-        transcript: "A.1 r0 set d 1 0 = MemoryError 3\nB.1 w0 set d 2 0 = ok\n",
-        storage: Storage::Tables,
-        verdict: Verdict::Legal,
-    },
-    // The longest list.
-    Case {
-        script: "list l\nthread A\nappend l 1\nextend l l\nextend l l\nextend l l\nextend l l\nextend l l\nextend l l\nextend l l\nextend l l\nextend l l\nextend l l\nextend l l\nextend l l\nappend l 1\nget l 4095\n",
-        transcript: "A.1 w0 append l 1 = ok\nA.2 w1 extend l l = ok\nA.3 w2 extend l l = ok\nA.4 w3 extend l l = ok\nA.5 w4 extend l l = ok\nA.6 w5 extend l l = ok\nA.7 w6 extend l l = ok\nA.8 w7 extend l l = ok\nA.9 w8 extend l l = ok\nA.10 w9 extend l l = ok\nA.11 w10 extend l l = ok\nA.12 w11 extend l l = ok\nA.13 w12 extend l l = ok\nA.14 r13 append l 1 = MemoryError over\nA.15 r13 get l 4095 = 1\n",
-        storage: Storage::Tables,
-        verdict: Verdict::Legal,
-    },
-    // One past it.
-    Case {
-        script: "list l\nthread A\nappend l 1\nextend l l\nextend l l\nextend l l\nextend l l\nextend l l\nextend l l\nextend l l\nextend l l\nextend l l\nextend l l\nextend l l\nextend l l\nappend l 1\nget l 4095\n",
-        transcript: "A.1 w0 append l 1 = ok\nA.2 w1 extend l l = ok\nA.3 w2 extend l l = ok\nA.4 w3 extend l l = ok\nA.5 w4 extend l l = ok\nA.6 w5 extend l l = ok\nA.7 w6 extend l l = ok\nA.8 w7 extend l l = ok\nA.9 w8 extend l l = ok\nA.10 w9 extend l l = ok\nA.11 w10 extend l l = ok\nA.12 w11 extend l l = ok\nA.13 w12 extend l l = ok\nA.14 w13 append l 1 = ok\n",
-        storage: Storage::Tables,
-        verdict: Verdict::Not(14, Rule::Memory),
-    },
-    // Not one past it.
-    Case {
-        script: "list l\nthread A\nappend l 1\nextend l l\nextend l l\nextend l l\nextend l l\nextend l l\nextend l l\nextend l l\nextend l l\nextend l l\nextend l l\nextend l l\nextend l l\nappend l 1\nget l 4095\n",
-        transcript: "A.1 w0 append l 1 = ok\nA.2 w1 extend l l = ok\nA.3 w2 extend l l = ok\nA.4 w3 extend l l = ok\nA.5 w4 extend l l = ok\nA.6 w5 extend l l = ok\nA.7 w6 extend l l = ok\nA.8 w7 extend l l = ok\nA.9 w8 extend l l = ok\nA.10 w9 extend l l = ok\nA.11 w10 extend l l = ok\nA.12 w11 extend l l = ok\nA.13 r12 extend l l = MemoryError over\n",
-        storage: Storage::Tables,
-        verdict: Verdict::Not(13, Rule::Memory),
-    },
     // Plain lists go on.
     Case {
-        script: "list l\nthread A\nappend l 1\nextend l l\nextend l l\nextend l l\nextend l l\nextend l l\nextend l l\nextend l l\nextend l l\nextend l l\nextend l l\nextend l l\nextend l l\nappend l 1\nget l 4095\n",
-        transcript: "A.1 w0 append l 1 = ok\nA.2 w1 extend l l = ok\nA.3 w2 extend l l = ok\nA.4 w3 extend l l = ok\nA.5 w4 extend l l = ok\nA.6 w5 extend l l = ok\nA.7 w6 extend l l = ok\nA.8 w7 extend l l = ok\nA.9 w8 extend l l = ok\nA.10 w9 extend l l = ok\nA.11 w10 extend l l = ok\nA.12 w11 extend l l = ok\nA.13 w12 extend l l = ok\nA.14 w13 append l 1 = ok\nA.15 r14 get l 4095 = 1\n",
+        script: "list l\nthread A\nappend l 1\nextend l l\nextend l l\nextend l l\nextend l l\nextend l l\nextend l l\nextend l l\nextend l l\nextend l l\nextend l l\nextend l l\nextend l l\nextend l l\nextend l l\nextend l l\nextend l l\nappend l 1\nget l 65535\n",
+        transcript: "A.1 w0 append l 1 = ok\nA.2 w1 extend l l = ok\nA.3 w2 extend l l = ok\nA.4 w3 extend l l = ok\nA.5 w4 extend l l = ok\nA.6 w5 extend l l = ok\nA.7 w6 extend l l = ok\nA.8 w7 extend l l = ok\nA.9 w8 extend l l = ok\nA.10 w9 extend l l = ok\nA.11 w10 extend l l = ok\nA.12 w11 extend l l = ok\nA.13 w12 extend l l = ok\nA.14 w13 extend l l = ok\nA.15 w14 extend l l = ok\nA.16 w15 extend l l = ok\nA.17 w16 extend l l = ok\nA.18 w17 append l 1 = ok\nA.19 r18 get l 65535 = 1\n",
         storage: Storage::Plain,
         verdict: Verdict::Legal,
     },
@@ -305,10 +242,80 @@ const CASES: [Case<'static>; 41] = [
         storage: Storage::Plain,
         verdict: Verdict::Not(1, Rule::Missing),
     },
+    // An end takes the locks of the section round it again, and waits for them.
+    Case {
+        script: "dict d\nlist l\nthread A\nbegin d\nbegin l\nend\nend\nthread B\nset d 1 1\nthread C\nappend l 1\n",
+        transcript: "A.1 r0 begin d = entered\nA.2 r0 begin l = entered\nA.3 r0 end = kept waited B\nA.4 r0 end = suspended 1\nB.1 w0 set d 1 1 = ok\nC.1 w1 append l 1 = ok\n",
+        storage: Storage::Plain,
+        verdict: Verdict::Legal,
+    },
+    // There it cannot wait for a thread that has no call on them.
+    Case {
+        script: "dict d\nlist l\nthread A\nbegin d\nbegin l\nend\nend\nthread B\nset d 1 1\nthread C\nappend l 1\n",
+        transcript: "A.1 r0 begin d = entered\nA.2 r0 begin l = entered\nA.3 r0 end = kept waited C\n",
+        storage: Storage::Plain,
+        verdict: Verdict::Not(3, Rule::Mark),
+    },
+    // A begin waits for its own containers alone.
+    Case {
+        script: "dict d\nlist l\nthread A\nbegin d\nbegin l\nend\nend\nthread B\nset d 1 1\nthread C\nappend l 1\n",
+        transcript: "A.1 r0 begin d = entered\nA.2 r0 begin l = entered waited B\n",
+        storage: Storage::Plain,
+        verdict: Verdict::Not(2, Rule::Mark),
+    },
+    // A next waits for the container of its cursor.
+    Case {
+        script: "list l\nthread A\niter l c\nnext c\nthread B\nappend l 1\n",
+        transcript: "A.1 r0 iter l c = ok\nA.2 r0 next c = StopIteration waited B\nB.1 w0 append l 1 = ok\n",
+        storage: Storage::Plain,
+        verdict: Verdict::Legal,
+    },
+    // A copy onto a container of the section is a write on it.
+    Case {
+        script: "dict d\ndict e\ndict f\nthread A\nbegin d e\nend\nthread B\ncopyto f e\n",
+        transcript: "A.1 r0 begin d e = entered\nB.1 w0 copyto f e = ok\nA.2 r1 end = kept\n",
+        storage: Storage::Plain,
+        verdict: Verdict::Not(3, Rule::Kept),
+    },
+    // A write that names a container of the section counts, whatever it changes.
+    Case {
+        script: "dict d\ndict e\ndict f\nthread A\nbegin d e\nend\nthread B\nupdate f e\n",
+        transcript: "A.1 r0 begin d e = entered\nB.1 w0 update f e = ok\nA.2 r1 end = kept\n",
+        storage: Storage::Plain,
+        verdict: Verdict::Not(3, Rule::Kept),
+    },
+    // A copy of a dict onto itself in the middle of a walk: the size is the same, the pairs are new.
+    Case {
+        script: "dict d\nthread A\nset d 1 1\nset d 2 2\niter d c\nnext c\ncopyto d d\nnext c\nnext c\nnext c\n",
+        transcript: "A.1 w0 set d 1 1 = ok\nA.2 w1 set d 2 2 = ok\nA.3 r2 iter d c = ok\nA.4 r2 next c = 1: 1\nA.5 w2 copyto d d = ok\nA.6 r3 next c = 1: 1\nA.7 r3 next c = RuntimeError keys\nA.8 r3 next c = StopIteration\n",
+        storage: Storage::Plain,
+        verdict: Verdict::Legal,
+    },
+    // A clear in the middle of a walk, after which the size comes back.
+    Case {
+        script: "dict d\nthread A\nset d 1 1\nset d 2 2\niter d c\nnext c\nclear d\nset d 3 3\nset d 4 4\nnext c\nnext c\n",
+        transcript: "A.1 w0 set d 1 1 = ok\nA.2 w1 set d 2 2 = ok\nA.3 r2 iter d c = ok\nA.4 r2 next c = 1: 1\nA.5 w2 clear d = ok\nA.6 w3 set d 3 3 = ok\nA.7 w4 set d 4 4 = ok\nA.8 r5 next c = 3: 3\nA.9 r5 next c = RuntimeError keys\n",
+        storage: Storage::Plain,
+        verdict: Verdict::Legal,
+    },
+    // More elements under two live cursors, one of which asks before the size comes back.
+    Case {
+        script: "set s\nset t\nthread A\nadd s 1\nadd s 2\nadd t 2\nadd t 3\niter s c\niter s e\nnext c\nnext e\nor s t\nnext e\ndiscard s 2\nnext c\nnext c\nnext e\n",
+        transcript: "A.1 w0 add s 1 = ok\nA.2 w1 add s 2 = ok\nA.3 w2 add t 2 = ok\nA.4 w3 add t 3 = ok\nA.5 r4 iter s c = ok\nA.6 r4 iter s e = ok\nA.7 r4 next c = 1\nA.8 r4 next e = 1\nA.9 w4 or s t = ok\nA.10 r5 next e = RuntimeError size\nA.11 w5 discard s 2 = ok\nA.12 r6 next c = 3\nA.13 r6 next c = StopIteration\nA.14 r6 next e = RuntimeError size\n",
+        storage: Storage::Plain,
+        verdict: Verdict::Legal,
+    },
+    // An exchange of elements under a live cursor.
+    Case {
+        script: "set s\nset t\nthread A\nadd s 1\nadd s 2\nadd t 2\nadd t 3\niter s c\nnext c\nxor s t\nnext c\nnext c\n",
+        transcript: "A.1 w0 add s 1 = ok\nA.2 w1 add s 2 = ok\nA.3 w2 add t 2 = ok\nA.4 w3 add t 3 = ok\nA.5 r4 iter s c = ok\nA.6 r4 next c = 1\nA.7 w4 xor s t = ok\nA.8 r5 next c = 3\nA.9 r5 next c = StopIteration\n",
+        storage: Storage::Plain,
+        verdict: Verdict::Legal,
+    },
 ];
 
 /// What is said of a case.
-fn judged(alloc: Global, case: Case<'_>) -> Result<Verdict, Fail> {
+pub(crate) fn judged(alloc: Global, case: Case<'_>) -> Result<Verdict, Fail> {
     let Ok(script) = parse(alloc, case.script.as_bytes()) else {
         return Err("no script".into());
     };

@@ -3,3 +3,5 @@
 
 #[cfg(test)]
 mod judging;
+#[cfg(test)]
+mod table_judging;

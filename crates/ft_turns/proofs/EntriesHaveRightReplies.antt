@@ -14,7 +14,7 @@ use Rattle.ft_model.specs.Calls.{containers_of}
 use Rattle.ft_model.specs.Worlds.{containers_used}
 use Rattle.ft_model.specs.Answers.{answer, is_memory}
 use Rattle.ft_model.specs.Histories.{writes, calls_of, hands_at, IsReplied, IsAnswered, Section, after_section, sections_at, IfEnds, marks_between, IsCountedBy, IsCounted}
-use Rattle.ft_history.specs.States.{world_before}
+use Rattle.ft_history.specs.Internal.States.{world_before}
 use Rattle.ft_history.proofs.Places.{slice_get_at}
 use Rattle.ft_turns.specs.Orders.{thread_at, next_call}
 use Rattle.ft_turns.specs.Answering.{Tally, noted_after, tally_after, waited_inside, ended_reply, reply_in, Progress}

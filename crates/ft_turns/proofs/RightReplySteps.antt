@@ -15,7 +15,7 @@ use Rattle.ft_model.specs.Calls.{is_changing}
 use Rattle.ft_model.specs.Worlds.{start_world, start_hands, no_hands, containers_used}
 use Rattle.ft_model.specs.Answers.{answer, after_write, is_raised, is_memory, is_write}
 use Rattle.ft_model.specs.Histories.{writes, world_at, entries_of, calls_of, cursors_of, after_entry, hands_at, IsReplied, Section, after_section, sections_at}
-use Rattle.ft_history.specs.States.{world_before}
+use Rattle.ft_history.specs.Internal.States.{world_before}
 use Rattle.ft_history.proofs.Places.{filter_next, writes_next, world_at-before}
 use Rattle.ft_turns.specs.Orders.{ThreadState, fresh_thread, take_locks, thread_at, next_call, without_locks, waits, sections_after, answers, with_taken, finishes}
 use Rattle.ft_turns.specs.Answering.{Tally, no_tally, tally_after, Progress, start_progress}

@@ -1,6 +1,6 @@
 use Rattle.std.proofs.Common.{◌≡◌, replicate}
 use Rattle.ft_model.specs.Tables.{no_table}
-use Rattle.ft_history.specs.Accounts.{tables_of}
+use Rattle.ft_history.specs.Internal.Accounts.{tables_of}
 use Rattle.ft_history.proofs.account.no_tables.Given as goal
 
 abbrev pub invariant-loop : goal.invariant-loop

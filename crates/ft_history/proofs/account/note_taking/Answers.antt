@@ -1,7 +1,7 @@
 use Rattle.std.proofs.Common.{sym, subst}
 use Rattle.ft_model.specs.declared.call.Call.{Call}
 use Rattle.ft_model.proofs.Places.{on_ok}
-use Rattle.ft_history.specs.Accounts.{CountsCall}
+use Rattle.ft_history.specs.Internal.Accounts.{CountsCall}
 use Rattle.ft_history.proofs.account.note_taking.Goals as goal
 
 pub returns-in-List : goal.returns-in-List

@@ -5,7 +5,7 @@ use Rattle.std.proofs.lemmas.Option.{slice_get_read}
 use Rattle.ft_model.specs.Histories.{names}
 use Rattle.ft_history.specs.declared.progress.ThreadProgress.{ThreadProgress}
 use Rattle.ft_history.specs.declared.writers.LastWrites.{LastWrites}
-use Rattle.ft_history.specs.States.{after_one}
+use Rattle.ft_history.specs.Internal.States.{after_one}
 use Rattle.ft_history.proofs.judging.go_after.Goals as goal
 
 pub returns-in_ok-note_taking : goal.returns-in_ok-note_taking

@@ -7,7 +7,7 @@ use Rattle.ft_model.specs.Histories.{writes, world_at, IsLegal}
 use Rattle.std.proofs.lemmas.List.{take_all}
 use Rattle.ft_history.proofs.Places.{world_at-before}
 use Rattle.ft_model.specs.Judging.{IsFirstBroken}
-use Rattle.ft_history.specs.Steps.{IsState, IsUnbrokenBefore, Finds, HaveMadeAll}
+use Rattle.ft_history.specs.Internal.Steps.{IsState, IsUnbrokenBefore, Finds, HaveMadeAll}
 use Rattle.ft_history.proofs.VerdictLemmas.{goes_on, first_broken, legal_at_end, missing_at_end}
 use Rattle.ft_history.proofs.judging.judge_with_world.Goals as goal
 

@@ -1,4 +1,4 @@
-use Rattle.ft_history.specs.Steps.{IsState, IsUnbrokenBefore}
+use Rattle.ft_history.specs.Internal.Steps.{IsState, IsUnbrokenBefore}
 use Rattle.ft_history.proofs.judging.judge_with_world.Given as goal
 
 abbrev pub invariant-loop-place : goal.invariant-loop-place

@@ -9,8 +9,8 @@ use Rattle.ft_history.specs.declared.progress.ThreadProgress.{ThreadProgress}
 use Rattle.ft_history.specs.declared.progress.OpenSection.{OpenSection}
 use Rattle.ft_history.specs.declared.writers.LastWrites.{LastWrites}
 use Rattle.ft_history.specs.declared.state.State.{State}
-use Rattle.ft_history.specs.States.{all_begun, after_begun, inner_begun, IfEndsBegun, IsKeptSince, IsProgress}
-use Rattle.ft_history.specs.Steps.{IsState}
+use Rattle.ft_history.specs.Internal.States.{all_begun, after_begun, inner_begun, IfEndsBegun, IsKeptSince, IsProgress}
+use Rattle.ft_history.specs.Internal.Steps.{IsState}
 use Rattle.ft_history.proofs.Judged.{holds_more}
 use Rattle.ft_history.proofs.LateRules.{marked_iff, kept_iff, counted_iff}
 use Rattle.ft_history.proofs.judging.late_rule.Goals as goal

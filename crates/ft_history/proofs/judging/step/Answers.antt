@@ -4,7 +4,7 @@ use Rattle.ft_model.specs.Calls.{containers_of}
 use Rattle.std.proofs.lemmas.Option.{slice_get_read, same_Some}
 use Rattle.ft_model.specs.declared.entry.Entry.{Entry}
 use Rattle.ft_model.specs.declared.entry.Rule.TheVariants as rule
-use Rattle.ft_history.specs.Steps.{BreaksFirst, Finds}
+use Rattle.ft_history.specs.Internal.Steps.{BreaksFirst, Finds}
 use Rattle.ft_model.specs.Histories.{writes, entries_of}
 use Rattle.ft_history.proofs.Judged.{few_made}
 use Rattle.ft_history.proofs.AccountLemmas.{earned_no_cursor}

@@ -1,7 +1,7 @@
 use Rattle.std.proofs.Common.{◌≡◌, ◌+◌, ◌-◌, ◌≤◌, List, [], ◌∷◌, ◌++◌, map, reverse, length, take, drop, get_or, sym, ap, ◌∙◌, arith}
 use Rattle.std.proofs.lemmas.List.{take_more, take_all, reverse-append, map-append}
 use Rattle.ft_history.specs.declared.progress.OpenSection.{OpenSection}
-use Rattle.ft_history.specs.States.{begun_of, all_begun, inner_begun}
+use Rattle.ft_history.specs.Internal.States.{begun_of, all_begun, inner_begun}
 use Rattle.ft_history.proofs.rules.innermost_but_one.Goals as goal
 
 -- the last section stands first

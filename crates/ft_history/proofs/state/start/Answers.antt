@@ -6,7 +6,7 @@ use Rattle.ft_model.specs.declared.script.Thread.{Thread}
 use Rattle.ft_model.specs.Worlds.{start_world, kind_of}
 use Rattle.ft_history.specs.declared.progress.ThreadProgress.{ThreadProgress}
 use Rattle.ft_history.specs.declared.writers.LastWrites.{LastWrites}
-use Rattle.ft_history.specs.States.{IsFresh}
+use Rattle.ft_history.specs.Internal.States.{IsFresh}
 use Rattle.ft_history.proofs.LastWriteLemmas.{last_at_start}
 use Rattle.ft_history.proofs.StartLemmas.{kinds_at_start, progress_at_start, hands_at_start}
 use Rattle.ft_history.proofs.state.start.Goals as goal

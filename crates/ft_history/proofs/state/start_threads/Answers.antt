@@ -4,7 +4,7 @@ use Rattle.std.proofs.lemmas.Option.{slice_get_read}
 use Rattle.ft_model.specs.declared.script.Thread.{Thread}
 use Rattle.ft_model.specs.Worlds.{start_hands}
 use Rattle.ft_history.specs.declared.progress.ThreadProgress.{ThreadProgress}
-use Rattle.ft_history.specs.States.{IsFresh}
+use Rattle.ft_history.specs.Internal.States.{IsFresh}
 use Rattle.ft_history.proofs.Places.{slice_get_push}
 use Rattle.ft_history.proofs.state.start_threads.Goals as goal
 

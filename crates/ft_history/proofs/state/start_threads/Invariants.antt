@@ -2,7 +2,7 @@ use Rattle.std.proofs.Common.{◌≡◌, ℕ, Some, vec_len}
 use Rattle.std.specs.Prelude.{slice_get}
 use Rattle.ft_model.specs.declared.script.Thread.{Thread}
 use Rattle.ft_history.specs.declared.progress.ThreadProgress.{ThreadProgress}
-use Rattle.ft_history.specs.States.{IsFresh}
+use Rattle.ft_history.specs.Internal.States.{IsFresh}
 use Rattle.ft_history.proofs.state.start_threads.Given as goal
 
 abbrev pub invariant-loop-thread : goal.invariant-loop-thread

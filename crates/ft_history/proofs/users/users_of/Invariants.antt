@@ -1,6 +1,6 @@
 use Rattle.std.proofs.Common.{◌≡◌, ◌<◌, ℕ, vec_len}
 use Rattle.ft_model.specs.Histories.{has_call_on}
-use Rattle.ft_history.specs.States.{is_used}
+use Rattle.ft_history.specs.Internal.States.{is_used}
 use Rattle.ft_history.proofs.users.users_of.Given as goal
 
 abbrev pub invariant-loop-thread : goal.invariant-loop-thread

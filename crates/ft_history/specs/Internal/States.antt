@@ -1,4 +1,4 @@
--- What the judge keeps of the entries before a place. None of it is needed to say what a legal history is.
+-- What the judge keeps of the entries before a place.
 use Rattle.std.specs.Prelude.{◌≡◌, ℕ, Bool, false, ◌+◌, ◌<◌, nat_le, ◌==◌, List, [], ◌∷◌, map, reverse, take, drop, length, All, Option, Some, None, if◌then◌else◌, IfSome, IsSome, slice_get, slice_index_or}
 use Rattle.std.specs.Option.{option_map_or}
 use Rattle.ft_model.specs.declared.call.Call.{Call}

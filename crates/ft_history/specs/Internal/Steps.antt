@@ -1,4 +1,4 @@
--- What the judge keeps before a place, and what it finds there. None of it is needed to say what a legal history is.
+-- What the judge keeps before a place, and what it finds there.
 use Rattle.std.specs.Prelude.{◌≡◌, ◌↔◌, ℕ, Bool, true, false, IsTrue, ◌&&◌, ◌+◌, ◌<◌, ◌≤◌, List, map, take, length, Option, Some, None, is_some, slice_get, slice_set, slice_index_or, if◌then◌else◌}
 use Rattle.ft_model.specs.declared.entry.Entry.{Entry}
 use Rattle.ft_model.specs.declared.entry.Rule.{Rule}
@@ -13,8 +13,8 @@ use Rattle.ft_model.specs.Judging.{Holds, HoldsAt, rank_of}
 use Rattle.ft_history.specs.declared.progress.ThreadProgress.{ThreadProgress}
 use Rattle.ft_history.specs.declared.writers.LastWrites.{LastWrites}
 use Rattle.ft_history.specs.declared.state.State.{State}
-use Rattle.ft_history.specs.Accounts.{IsAccount, CountsCall}
-use Rattle.ft_history.specs.States.{world_before, all_begun, after_begun, after_one, IsProgress, AreHandsOf, IsLast}
+use Rattle.ft_history.specs.Internal.Accounts.{IsAccount, CountsCall}
+use Rattle.ft_history.specs.Internal.States.{world_before, all_begun, after_begun, after_one, IsProgress, AreHandsOf, IsLast}
 
 -- the state says what the entries before a place come to
 pub record IsState (script : ScriptParts) (entries : List Entry) (place : ℕ) (state : State) : Type 0 where

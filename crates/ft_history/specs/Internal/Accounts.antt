@@ -1,4 +1,4 @@
--- What the judge keeps of tables. None of it is needed to say what a legal history is.
+-- What the judge keeps of tables.
 use Rattle.std.specs.Prelude.{◌≡◌, ℕ, ◌+◌, ◌-◌, List, map, length, Option, IfSome, slice_index_or, if◌then◌else◌}
 use Rattle.ft_model.specs.declared.call.Call.{Call}
 use Rattle.ft_model.specs.declared.call.Call.TheVariants as call

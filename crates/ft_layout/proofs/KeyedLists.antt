@@ -13,7 +13,7 @@ use Rattle.ft_model.proofs.KeyLemmas.{same_key-true, same_key-refl}
 
 -- ---- one element is dropped
 
-filter-all : {X : Type 0} (p : X → Bool) (xs : List X) → All (λ x. p x ≡ true) xs → filter p xs ≡ xs
+pub filter-all : {X : Type 0} (p : X → Bool) (xs : List X) → All (λ x. p x ≡ true) xs → filter p xs ≡ xs
 filter-all p [] all = refl
 filter-all {X} p (x ∷ xs) all = rw (all 0 x (omega arith)) (ap (λ (ys : List X). x ∷ ys) (filter-all p xs (λ k d low. all (suc k) d (omega arith))))
 

@@ -11,3 +11,4 @@ mod FollowLaws
 mod ListTableLaws
 mod Readers
 mod PutLaws
+mod WordsFollow

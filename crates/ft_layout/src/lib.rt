@@ -48,7 +48,9 @@ mod tests;
 mod word;
 
 pub use entry::{entry_of, entry_words};
-pub use follow::{used_entries_follow_a_dict, used_entries_follow_a_set};
+pub use follow::{
+    used_entries_follow_a_dict, used_entries_follow_a_set, words_follow_a_dict, words_follow_a_set,
+};
 pub use ft_model::{dict_entries, list_items, set_entries};
 pub use item::{item_of, item_words};
 pub use items::{changed_words_are_of_a_list, items_are_moved_one_by_one};

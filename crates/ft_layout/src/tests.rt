@@ -223,6 +223,8 @@ fn laws_take_nothing() {
     live_entries_stand_for_contents();
     used_entries_follow_a_dict();
     used_entries_follow_a_set();
+    words_follow_a_dict();
+    words_follow_a_set();
     changed_words_are_of_a_list();
     items_are_moved_one_by_one();
     puts_change_one_entry();

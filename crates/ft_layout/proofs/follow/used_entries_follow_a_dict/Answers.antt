@@ -1,5 +1,6 @@
 use Rattle.std.proofs.Common.{Some, ◌∙◌}
 use Rattle.ft_layout.proofs.FollowLaws.{live_pair, value_at, missing_key, changed_value, added_key, deleted_key}
+use Rattle.ft_layout.proofs.WordsFollow.{live_pairs}
 use Rattle.ft_layout.proofs.follow.used_entries_follow_a_dict.Goals as goal
 
 pub returns-clause-live : goal.returns-clause-live
@@ -18,3 +19,6 @@ returns-clause-added c = λ used dict key value are none. added_key used dict ar
 
 pub returns-clause-deleted : goal.returns-clause-deleted
 returns-clause-deleted c = λ used dict place pair are is at. deleted_key used dict are is place pair at
+
+pub returns-clause-live_alone : goal.returns-clause-live_alone
+returns-clause-live_alone c = live_pairs

@@ -1,5 +1,6 @@
 use Rattle.std.proofs.Common.{Some, ◌∙◌}
 use Rattle.ft_layout.proofs.FollowLaws.{live_element, present_element, kept_element, missing_element, added_element_is, deleted_element}
+use Rattle.ft_layout.proofs.WordsFollow.{live_elements}
 use Rattle.ft_layout.proofs.follow.used_entries_follow_a_set.Goals as goal
 
 pub returns-clause-live : goal.returns-clause-live
@@ -16,3 +17,6 @@ returns-clause-added c = λ used set key are none. added_element_is used set are
 
 pub returns-clause-deleted : goal.returns-clause-deleted
 returns-clause-deleted c = λ used set place element are is at. deleted_element used set are is place element at
+
+pub returns-clause-live_alone : goal.returns-clause-live_alone
+returns-clause-live_alone c = live_elements

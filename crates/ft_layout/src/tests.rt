@@ -11,7 +11,7 @@ use crate::{
     set_words_are_of_one_set, sizes_are_by_class, stored_kind_of, stored_payload_of, table_size,
     table_start, table_words_are_of_one_field, used_entries_follow_a_dict,
     used_entries_follow_a_set, versions_change_nothing, words_are_of_one_content,
-    words_have_their_numbers,
+    words_follow_a_dict, words_follow_a_set, words_have_their_numbers,
 };
 use ft_model::{Key, Sym, Value};
 use std::test::Fail;

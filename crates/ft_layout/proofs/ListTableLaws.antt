@@ -9,6 +9,7 @@ use Rattle.ft_layout.specs.declared.slot.Stored.TheVariants.{Empty, Plain}
 use Rattle.ft_layout.specs.Words.{IsItem}
 use Rattle.ft_layout.specs.Tables.{item_at, item_word, IsListTable}
 use Rattle.ft_layout.specs.Changes.{IsBlankTable, ChangesItem, SaysStored}
+use Rattle.ft_layout.specs.Containers.{class_mask, IsBlock, IsListWords}
 use Rattle.ft_layout.proofs.FollowLaws.{there}
 
 pub item_moves : (f g : ℕ → ℕ) → ((w : ℕ) → 1 ≤ w → w < 3 → g w ≡ f w) → (s : Stored) → IsItem f s → IsItem g s
@@ -138,3 +139,20 @@ module _ (mask : ℕ) (values : List Value) (old new : List ℕ) (place : ℕ) (
       let long = length-insert values place value (omega (arith, low)) in
       let put = put_item mask (insert values place value) old new table place changes item (omega (arith, long, low)) now in
       subst (λ (vs : List Value). IsListTable mask vs new) (insert_down values place item value at ∙ ap (λ (n : ℕ). insert values n item) (sym next)) put
+
+-- ---- blocks and tables of lists
+
+pub item_put : (block words new : List ℕ) (class : ℕ) (values : List Value) (place : ℕ) (value : Value) → IsListWords block words (Some class) values → place < length values → ChangesItem place words new → SaysStored new place (Plain value) → IsListWords block new (Some class) (set values place value)
+item_put block words new class values place value says low changes now = record {
+  head = record { size = says.head.size; root = says.head.root; count_is = says.head.count_is ∙ sym (length-set values place value); fill_is = says.head.fill_is; next_is = says.head.next_is; spare = says.head.spare };
+  table = put_item (class_mask class) values words new says.table place changes value low now;
+}
+
+pub item_appended : (block words other new : List ℕ) (class : ℕ) (values : List Value) (value : Value) → IsListWords block words (Some class) values → length values ≤ class_mask class → IsBlock other (Some class) (length values + 1) 0 0 → ChangesItem (length values) words new → SaysStored new (length values) (Plain value) → IsListWords other new (Some class) (values ++ value ∷ [])
+item_appended block words other new class values value says room head changes now = record {
+  head = record { size = head.size; root = head.root; count_is = head.count_is ∙ sym (length_push values value); fill_is = head.fill_is; next_is = head.next_is; spare = head.spare };
+  table = append_item (class_mask class) values words new says.table (length values) changes value refl room now;
+}
+
+pub item_dropped : (block words other new : List ℕ) (class : ℕ) (values : List Value) (value : Value) → IsListWords block words (Some class) (values ++ value ∷ []) → IsBlock other (Some class) (length values) 0 0 → ChangesItem (length values) words new → SaysStored new (length values) Empty → IsListWords other new (Some class) values
+item_dropped block words other new class values value says head changes now = record { head = head; table = drop_item (class_mask class) values value words new says.table changes now }

@@ -8,8 +8,8 @@ use Rattle.ft_layout.specs.declared.slot.Stored.{Stored}
 use Rattle.ft_layout.specs.declared.slot.Stored.TheVariants.{Empty, Plain}
 use Rattle.ft_layout.specs.declared.slot.Slot.TheVariants.{Never}
 use Rattle.ft_layout.specs.Words.{FitsStored, gone_kind, stored_kind, stored_payload, IsLive, IsEntry}
-use Rattle.ft_layout.specs.Tables.{dict_room, index_at, entry_at, item_at, entry_word, item_word, UsedEntry, is_live, deleted, hash_of, slot_of, IsTable, IsListTable}
-use Rattle.ft_layout.specs.Changes.{ChangesEntry, SaysUsed, KeepsKey, SameEntries, SameItems, with_stored, with_deleted}
+use Rattle.ft_layout.specs.Tables.{table_length, HasNoVersions, HasNoItemVersions, dict_room, index_at, entry_at, item_at, entry_word, item_word, UsedEntry, is_live, deleted, hash_of, slot_of, IsTable, IsListTable}
+use Rattle.ft_layout.specs.Changes.{IsBlankTable, ChangesEntry, ChangesItem, SaysUsed, SaysStored, KeepsKey, with_item, SameEntries, SameItems, with_stored, with_deleted}
 use Rattle.ft_layout.proofs.TableLaws.{entry_moves, meets_moves, changed_table}
 use Rattle.ft_layout.proofs.ListTableLaws.{item_moves}
 use Rattle.ft_layout.proofs.FollowLaws.{there}
@@ -186,3 +186,42 @@ module _ (walk : ℕ → List ℕ) (room : ℕ) (texts : List ℕ) (mask : ℕ) 
         hash = other (entry_at mask place 1) (λ e. omega arith) ∙ was.hash;
         spare = other (entry_at mask place 7) (λ e. omega arith) ∙ spare_word;
       })
+
+-- ---- items
+
+module _ (mask : ℕ) (wide : 7 ≤ mask) (values : List Value) (words : List ℕ) (table : IsListTable mask values words) (place : ℕ) (low : place ≤ mask) (stored : Stored) (fits : FitsStored stored) where
+  abbrev half_item : List ℕ
+  half_item = set words (item_at place 1) (stored_kind stored)
+
+  other_word : (i : ℕ) → i ≢ item_at place 1 → i ≢ item_at place 2 → slice_index (with_item words place stored) i ≡ slice_index words i
+  other_word i a b = get_or-set_other half_item (item_at place 2) i (stored_payload stored) 0 b ∙ get_or-set_other words (item_at place 1) i (stored_kind stored) 0 a
+
+  outside_item : (i : ℕ) → (i < item_at place 0) ⊎ (item_at place 4 ≤ i) → (w : ℕ) → w < 4 → i ≢ item_at place w
+  outside_item i (inl below) w few e = omega (arith, below, few, e)
+  outside_item i (inr above) w few e = omega (arith, above, few, e)
+
+  pub item_changes : ChangesItem place words (with_item words place stored)
+  item_changes = record {
+    size = length-set half_item (item_at place 2) (stored_payload stored) ∙ length-set words (item_at place 1) (stored_kind stored);
+    rest = λ i out. other_word i (outside_item i out 1 (omega arith)) (outside_item i out 2 (omega arith));
+  }
+
+  pub item_says : SaysStored (with_item words place stored) place stored
+  item_says =
+      let long : length words ≡ table_length mask = table.size in
+      record {
+        says = record {
+          fits = fits;
+          kind_is = get_or-set_other half_item (item_at place 2) (item_at place 1) (stored_payload stored) 0 (λ e. omega arith) ∙ get_or-set_same words (item_at place 1) (stored_kind stored) 0 (omega (arith, long));
+          payload_is = get_or-set_same half_item (item_at place 2) (stored_payload stored) 0 (omega (arith, long, length-set words (item_at place 1) (stored_kind stored)));
+        };
+        spare = other_word (item_at place 3) (λ e. omega arith) (λ e. omega arith) ∙ table.spare place low;
+      }
+
+-- ---- blank tables
+
+pub blank_versions : (mask room : ℕ) (words : List ℕ) → IsBlankTable mask words → HasNoVersions room mask words × HasNoItemVersions mask words
+blank_versions mask room words blank = (
+  record { zeros = λ p low. blank.zeros (entry_at mask p 0) (inr (omega arith)) },
+  record { zeros = λ p low. blank.zeros (item_at p 0) (inr (omega arith)) },
+)

@@ -59,6 +59,11 @@ pub record SaysStored (words : List ℕ) (place : ℕ) (stored : Stored) : Type 
   pub says : IsItem (item_word words place) stored
   pub spare : item_word words place 3 ≡ 0
 
+-- the words once an item stores this, whose kind and payload were put
+abbrev pub with_item : List ℕ → ℕ → Stored → List ℕ
+with_item words place stored =
+    slice_set (slice_set words (item_at place 1) (stored_kind stored)) (item_at place 2) (stored_payload stored)
+
 -- Where `of` makes used entries of pairs, or of elements, and the live ones are those: the entry at the place is that
 -- of pair number k. With another pair's entry there, pair number k is that one; with a deleted entry there, it is gone.
 pub record StandsFor {Y : Type 0} (of : Y → UsedEntry) (used : List UsedEntry) (place : ℕ) (pairs : List Y) (k : ℕ)

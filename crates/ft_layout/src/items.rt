@@ -6,6 +6,7 @@ ghost use Rattle.ft_model.specs.declared.data.Value.{Value};
 ghost use Rattle.ft_layout.specs.declared.slot.Stored.TheVariants.{Empty, Plain};
 ghost use Rattle.ft_layout.specs.Tables.{IsListTable};
 ghost use Rattle.ft_layout.specs.Changes.{IsBlankTable, ChangesItem, SaysStored};
+ghost use Rattle.ft_layout.specs.Containers.{class_mask, IsBlock, IsListWords};
 
 /// A blank table holds no items. Where the words of one item change, a list's table holds the changed
 /// item in its place and every other as before; the words of the item after the last add it to the
@@ -43,4 +44,23 @@ pub fn items_are_moved_one_by_one()
         slice_get values place ≡ Some item → IsListTable mask (insert values place value) old →
         ChangesItem place old new → SaysStored new place (Plain item) →
         IsListTable mask (insert values (place + 1) item) new }
+{}
+
+/// Words that stand for a list stand for it with another item at a place once that item's words say so,
+/// and with one item more or fewer at the end once the block counts it too.
+pub fn words_follow_a_list()
+    ensures put { (block words new : List ℕ) (class : ℕ) (values : List Value) (place : ℕ) (value : Value) →
+        IsListWords block words (Some class) values → place < length values →
+        ChangesItem place words new → SaysStored new place (Plain value) →
+        IsListWords block new (Some class) (slice_set values place value) }
+    ensures appended { (block words other new : List ℕ) (class : ℕ) (values : List Value) (value : Value) →
+        IsListWords block words (Some class) values → length values ≤ class_mask class →
+        IsBlock other (Some class) (length values + 1) 0 0 →
+        ChangesItem (length values) words new → SaysStored new (length values) (Plain value) →
+        IsListWords other new (Some class) (values ++ value ∷ []) }
+    ensures dropped { (block words other new : List ℕ) (class : ℕ) (values : List Value) (value : Value) →
+        IsListWords block words (Some class) (values ++ value ∷ []) →
+        IsBlock other (Some class) (length values) 0 0 →
+        ChangesItem (length values) words new → SaysStored new (length values) Empty →
+        IsListWords other new (Some class) values }
 {}

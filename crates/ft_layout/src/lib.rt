@@ -53,7 +53,7 @@ pub use follow::{
 };
 pub use ft_model::{dict_entries, list_items, set_entries};
 pub use item::{item_of, item_words};
-pub use items::{changed_words_are_of_a_list, items_are_moved_one_by_one};
+pub use items::{changed_words_are_of_a_list, items_are_moved_one_by_one, words_follow_a_list};
 pub use key::{gone_kind_of, kind_of, payload_of};
 pub use laws::{
     bank_words_are_of_one_part, changed_words_are_of_a_table, dict_words_are_of_one_dict,
@@ -62,7 +62,7 @@ pub use laws::{
 };
 pub use lock::{lock_of, lock_word};
 pub use numbers::words_have_their_numbers;
-pub use puts::{puts_change_one_entry, versions_change_nothing};
+pub use puts::{puts_change_one_entry, puts_change_one_item, versions_change_nothing};
 pub use root::{root_of, root_word};
 pub use size::{entry_at, index_at, item_at, table_size};
 pub use slot::{Pair, Ref, Slot, Stored};

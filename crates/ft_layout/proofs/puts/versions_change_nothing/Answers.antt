@@ -1,4 +1,4 @@
-use Rattle.ft_layout.proofs.PutLaws.{same_table, same_list, entry_version, item_version, goal_of_entries, goal_of_items}
+use Rattle.ft_layout.proofs.PutLaws.{blank_versions, same_table, same_list, entry_version, item_version, goal_of_entries, goal_of_items}
 use Rattle.ft_layout.proofs.puts.versions_change_nothing.Goals as goal
 
 pub returns-clause-entries : goal.returns-clause-entries
@@ -15,3 +15,6 @@ returns-clause-item c = λ words place version. item_version words version place
 
 pub returns-clause-goal : goal.returns-clause-goal
 returns-clause-goal c = λ mask words number. (goal_of_entries words number mask, goal_of_items words number)
+
+pub returns-clause-blank : goal.returns-clause-blank
+returns-clause-blank c = blank_versions

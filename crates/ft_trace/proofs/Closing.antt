@@ -1,5 +1,5 @@
 -- Each entry is right, each number stands once, and who stands for all passes has all entries.
-use Rattle.std.proofs.Common.{◌≡◌, ◌≢◌, ℕ, zero, suc, ◌+◌, ◌<◌, eqb, ltb, Bool, true≢false, cond, List, [], ◌∷◌, ◌++◌, length, refl, sym, ap, ◌∙◌, inl, inr, arith, le_trans}
+use Rattle.std.proofs.Common.{◌≡◌, ◌≢◌, ℕ, zero, suc, ◌+◌, ◌<◌, eqb, ltb, Bool, true≢false, cond, List, [], ◌∷◌, ◌++◌, length, refl, sym, ap, ◌∙◌, subst, inl, inr, arith, le_trans}
 use Rattle.std.proofs.lemmas.Bool.Decides.{nat_tests}
 use Rattle.std.proofs.lemmas.Bool.{le-ltb}
 use mathlib.Core.Option.{some}
@@ -12,6 +12,7 @@ use Rattle.ft_model.specs.declared.call.Call.{Call}
 use Rattle.ft_trace.specs.declared.Entry.{Entry}
 use Rattle.ft_trace.specs.Acts.{place, Reports, starter, noted, entries_next, maker, made, both, spent}
 use Rattle.ft_model.specs.declared.script.Kind.{Kind}
+use Rattle.ft_model.specs.Histories.{IsReplied}
 use Rattle.ft_model.specs.Tables.{stored_newest}
 use Rattle.ft_trace.specs.Worlds.{first_writes, reply_in}
 use Rattle.ft_trace.specs.Traces.{Event, did, forked, joined, run, word, writes_of, history, May, Valid}
@@ -30,7 +31,7 @@ right_stays kinds b cs e r = record {
   wrote = r.wrote;
   write = λ w. number_stays b cs e.stamp e.call (r.write w);
   low = le_trans r.low (grows_by b cs);
-  reply = ap (λ (l : List Call). reply_in (stored_newest kinds l) e.call) (writes_stay e.stamp b cs r.low) ∙ r.reply;
+  reply = subst (λ (l : List Call). IsReplied e.call e.reply (reply_in (stored_newest kinds l) e.call)) (sym (writes_stay e.stamp b cs r.low)) r.reply;
 }
 
 all_stay : (kinds : List Kind) (b : Act) (cs : List Call) (es : List Entry) → AllRight kinds cs es → AllRight kinds (writes_of b cs) es
@@ -45,7 +46,7 @@ right_next : (k : Shape) (es : List Event) → count k es ≡ length (history es
 right_next k es count v (Commit c r f s) found may fs all =
     let is : f ≡ length (history es) = found ∙ count in
     let all_of : first_writes f (c ∷ history es) ≡ history es = writes_stay f (Commit c r f s) (history es) (omega (arith, is)) ∙ (ap (λ (z : ℕ). first_writes z (history es)) is ∙ all_writes (history es)) in
-    (record { wrote = sym may.0; write = λ _. inl (is, refl); low = omega (arith, is); reply = ap (λ (l : List Call). reply_in (stored_newest k.kinds l) c) all_of ∙ may.4 }, all)
+    (record { wrote = sym may.0; write = λ _. inl (is, refl); low = omega (arith, is); reply = subst (λ (l : List Call). IsReplied c r (reply_in (stored_newest k.kinds l) c)) (sym all_of) may.4 }, all)
 right_next k es count v (Answer c x n) found may fs all = (record { wrote = sym may.0; write = λ no. absurd (true≢false (sym no)); low = (let low = may.1 in omega arith); reply = may.2 }, all)
 right_next k es count v act found may fs all = all
 

@@ -9,11 +9,12 @@ use Rattle.ft_trace.proofs.Moments.{valid_rest}
 use Rattle.ft_trace.specs.Entries.{is_number}
 use Rattle.ft_trace.specs.Words.{picture}
 use Rattle.ft_trace.specs.Traces.{run}
-use Rattle.ft_trace.specs.Laws.{LocksNameHolders, VersionsAreOddInWrites, EvenTablesAreShut, NumbersAreOnce, EntriesAreRight, OneHasAllEntries, EvenWordsStand, ZeroRootsHaveNothing, HoldersKnow, TablesAreSomewhere, TablesAreInOnePlace, CountsStand, TablesAreOwed, EmptyClassesAreEarned, AnnouncedNumbersAreLow, FoundTablesAreKept, GivenUpTablesRest, TablesAreSound, TableWordsStay, HitsAreRight, MissesAreRight, BareRootsAreRight, ItemsAreRight, ListsFitTheirTables, LooksAreRight, ChangedRootsAreNew, NumbersHaveRoom}
+use Rattle.ft_trace.specs.Laws.{StampsRise, MemoryErrorsAreEarned, LocksNameHolders, VersionsAreOddInWrites, EvenTablesAreShut, NumbersAreOnce, EntriesAreRight, OneHasAllEntries, EvenWordsStand, ZeroRootsHaveNothing, HoldersKnow, TablesAreSomewhere, TablesAreInOnePlace, CountsStand, TablesAreOwed, EmptyClassesAreEarned, AnnouncedNumbersAreLow, FoundTablesAreKept, GivenUpTablesRest, TablesAreSound, TableWordsStay, HitsAreRight, MissesAreRight, BareRootsAreRight, ItemsAreRight, ListsFitTheirTables, LooksAreRight, ChangedRootsAreNew, NumbersHaveRoom}
 use Rattle.ft_trace.proofs.Locks.{names, holder, one_holder}
 use Rattle.ft_trace.proofs.Versions.{versioned, writer_has, writing_is_odd}
 use Rattle.ft_trace.proofs.Contents.{counted, tab, stands}
 use Rattle.ft_trace.proofs.Totals.{entries_total}
+use Rattle.ft_trace.proofs.Stamped.{commit_rises, answer_rises, loads_rise, empty_earned}
 use Rattle.ft_trace.proofs.Closing.{all_right, once, closes}
 use Rattle.ft_trace.proofs.Announcing.{fits, heard}
 use Rattle.ft_trace.proofs.Pieces.{block_at}
@@ -50,6 +51,12 @@ numbers_are_of_one_write k es valid n = entries_total (is_number n) k es valid �
 pub entries_are_right : EntriesAreRight
 entries_are_right = all_right
 
+pub stamps_rise : StampsRise
+stamps_rise k es valid j u at newer rest = (commit_rises k es valid j u at newer rest, answer_rises k es valid j u at newer rest, λ mid m n is. loads_rise k es valid j u at newer mid rest m n is)
+
+pub memory_errors_are_earned : MemoryErrorsAreEarned
+memory_errors_are_earned = empty_earned
+
 pub one_pass_has_all_entries : OneHasAllEntries
 one_pass_has_all_entries k es valid j u at all = closes k es valid (fits k es valid).some_pass j u at all
 
@@ -67,7 +74,8 @@ tables_are_somewhere k es valid t table =
     let p = placed k es valid t table in
     dite (ℕ_discrete (age es t % 5) 0) (λ z. inl (p.is_free z))
     (λ free. dite (ℕ_discrete (age es t % 5) 2) (λ two. let c = p.current two in inr (inl (whose es t, c.0, c.1)))
-    (λ other. let h = handed k es valid t table free other in inr (inr (whose es t, h.by, h.at, λ z. free (sym h.has ∙ z)))))
+    (λ other. dite (ℕ_discrete (age es t % 5) 4) (λ four. inr (inr (inr four)))
+    (λ out. let h = handed k es valid t table free other out in inr (inr (inl (whose es t, h.by, h.at, λ z. free (sym h.has ∙ z)))))))
 
 pub tables_are_in_one_place : TablesAreInOnePlace
 tables_are_in_one_place k es valid t table =

@@ -3,6 +3,7 @@ use Rattle.std.specs.Prelude.{◌≡◌, ◌⊎◌, ℕ, ◌+◌, ◌≤◌, ◌
 use Rattle.ft_model.specs.declared.call.Call.{Call}
 use Rattle.ft_model.specs.declared.script.Kind.{Kind}
 use Rattle.ft_model.specs.Answers.{is_write}
+use Rattle.ft_model.specs.Histories.{IsReplied}
 use Rattle.ft_model.specs.Tables.{stored_newest}
 use Rattle.ft_trace.specs.declared.Entry.{Entry}
 use Rattle.ft_trace.specs.Acts.{entries_next}
@@ -26,13 +27,13 @@ abbrev pub IsNumber : List Call → ℕ → Call → Type 0
 IsNumber [] n c = ⊥
 IsNumber (d ∷ cs) n c = ((n ≡ length cs) × (c ≡ d)) ⊎ IsNumber cs n c
 
--- the entry is that of the write with its number and has the plain containers' reply before it, or it is no write and has
--- their reply after as many writes as its stamp says
+-- The entry is that of the write with its number, or is no write. It has the plain containers' reply after as many writes as
+-- its stamp says, or that of a section, or a MemoryError.
 pub record Right (kinds : List Kind) (cs : List Call) (e : Entry) : Type 0 where
   pub wrote : e.wrote ≡ is_write e.call e.reply
   pub write : e.wrote ≡ true → IsNumber cs e.stamp e.call
   pub low : e.stamp ≤ length cs
-  pub reply : reply_in (stored_newest kinds (first_writes e.stamp cs)) e.call ≡ e.reply
+  pub reply : IsReplied e.call e.reply (reply_in (stored_newest kinds (first_writes e.stamp cs)) e.call)
 
 abbrev pub AllRight : List Kind → List Call → List Entry → Type 0
 AllRight kinds cs [] = Unit {0}

@@ -9,7 +9,9 @@ use Rattle.ft_model.specs.Classes.{IsClass}
 use Rattle.ft_model.specs.Worlds.{list_of}
 use Rattle.ft_model.specs.Tables.{stored_newest, takes_newest}
 use Rattle.ft_trace.specs.declared.Act.{Act}
-use Rattle.ft_trace.specs.declared.Act.TheVariants.{ReadRoot, ReadTable, ReadCount}
+use Rattle.ft_trace.specs.declared.Snap.{Snap}
+use Rattle.ft_trace.specs.Causes.{FoundEmpty, least_stamp}
+use Rattle.ft_trace.specs.declared.Act.TheVariants.{Commit, Answer, ReadCounter, ReadRoot, ReadTable, ReadCount}
 use Rattle.ft_trace.specs.declared.Shape.{Shape}
 use Rattle.ft_trace.specs.declared.View.{View}
 use Rattle.ft_trace.specs.Bits.{bit}
@@ -66,6 +68,22 @@ NumbersAreOnce =
 abbrev pub EntriesAreRight : Type 0
 EntriesAreRight = (k : Shape) (es : List Event) → Valid k es → (j : ℕ) (u : View) → HasView k es j u → AllRight k.kinds (history es) u.entries
 
+-- stamps of a pass never fall, and rise after a write; and what its loads of the counter gave never falls
+abbrev pub StampsRise : Type 0
+StampsRise =
+    (k : Shape) (es : List Event) → Valid k es → (j : ℕ) (u : View) → HasView k es j u → (newer rest : List Act)
+    → ((c : Call) (r : Reply) (f : ℕ) (s : Snap) → u.log ≡ newer ++ Commit c r f s ∷ rest → least_stamp rest ≤ f)
+    × ((c : Call) (r : Reply) (n : ℕ) → u.log ≡ newer ++ Answer c r n ∷ rest → least_stamp rest ≤ n)
+    × ((mid : List Act) (m n : ℕ) → u.log ≡ newer ++ ReadCounter m ∷ (mid ++ ReadCounter n ∷ rest) → n ≤ m)
+
+-- where a pass may answer a MemoryError of a class, writes before its stamp took the tables of the class, but for one for
+-- each other pass
+abbrev pub MemoryErrorsAreEarned : Type 0
+MemoryErrorsAreEarned =
+    (k : Shape) (es : List Event) → Valid k es → (j : ℕ) (u : View) → HasView k es j u → (class n : ℕ) → IsClass class
+    → FoundEmpty class n u.log
+    → tables_in k class ≤ takes_newest k.kinds class (first_writes n (history es)) + (k.passes - 1)
+
 -- a pass that stands for all passes has an entry for each write, and each of its entries is right
 abbrev pub OneHasAllEntries : Type 0
 OneHasAllEntries =
@@ -96,13 +114,14 @@ HoldersKnow =
 
 -- ---- tables
 
--- each table is free, which its bit says, or current, or in a hand
+-- each table is free, which its bit says, or current, or in a hand, or retired, which its age says
 abbrev pub TablesAreSomewhere : Type 0
 TablesAreSomewhere =
     (k : Shape) (es : List Event) → Valid k es → (t : ℕ) → IsTable k t
     → (bit (bt t) (word k es (bits (fw t))) ≡ 1)
     ⊎ (((o : ℕ) × (o < containers_in k) × (word k es (block o 0) ≡ suc t))
-    ⊎ ((j : ℕ) × (u : View) × HasView k es j u × (stage t u.log ≢ 0)))
+    ⊎ (((j : ℕ) × (u : View) × HasView k es j u × (stage t u.log ≢ 0))
+    ⊎ (age es t % 5 ≡ 4)))
 
 -- and in no two of these
 abbrev pub TablesAreInOnePlace : Type 0

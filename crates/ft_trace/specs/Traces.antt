@@ -6,6 +6,7 @@ use Rattle.std.specs.Prelude.{Some}
 use Rattle.ft_model.specs.declared.call.Call.{Call}
 use Rattle.ft_model.specs.declared.content.Content.{Content}
 use Rattle.ft_model.specs.Answers.{is_write}
+use Rattle.ft_model.specs.Histories.{IsReplied}
 use Rattle.ft_model.specs.Tables.{stored_newest, takes_in, would_pass}
 use Rattle.ft_model.specs.Classes.{IsClass}
 use Rattle.ft_trace.specs.declared.Act.{Act}
@@ -19,6 +20,7 @@ use Rattle.ft_trace.specs.Worlds.{kept, first_writes, kind_in, changes, reply_in
 use Rattle.ft_trace.specs.Words.{table_of, root_of, picture, Stands}
 use Rattle.ft_trace.specs.Kinds.{rows, version_at, SoundAs, CarefulAs, ClearAs}
 use Rattle.ft_trace.specs.Openings.{Shut, Timely, Low}
+use Rattle.ft_trace.specs.Causes.{Loaded, HasCause}
 
 pub record Moment : Type 0 where
   pub words : List ℕ
@@ -131,7 +133,7 @@ May k m cs v (Commit c r f s) =
     × (writes (changes c) v.log ≡ true)
     × (word_in k m counter + 1 < 2 ^ 64)
     × (0 < v.left)
-    × (reply_in (stored_newest k.kinds cs) c ≡ r)
+    × IsReplied c r (reply_in (stored_newest k.kinds cs) c)
     × ((t : ℕ) → root_of k (changes c) m.words ≡ suc t
     → ClearFor k m.words (changes c) t (kept k.kinds cs (changes c)).content (kept k.kinds (c ∷ cs) (changes c)).content)
     × (changes c < containers_in k)
@@ -154,9 +156,14 @@ May k m cs v (ReadBlock o i f) = (o < containers_in k) × (i < 6)
 May k m cs v (ReadRoot o f) = (o < containers_in k) × (0 < ann v.log) × (v.number ≤ k.passes)
 May k m cs v (ReadTable t i f) = IsTable k t × (i < size (cls t))
 May k m cs v (ReadCounter f) = Unit {0}
--- the call is no write, and the reply is that of the plain containers after the first n writes
+-- The call is no write, and a load of the counter since the last entry gave its stamp. The reply is that of the plain
+-- containers after as many writes, or that of a section, or a MemoryError that has its cause.
 May k m cs v (Answer c r n) =
-    (is_write c r ≡ false) × (n ≤ word_in k m counter) × (reply_in (stored_newest k.kinds (first_writes n cs)) c ≡ r)
+    (is_write c r ≡ false)
+    × (n ≤ word_in k m counter)
+    × IsReplied c r (reply_in (stored_newest k.kinds (first_writes n cs)) c)
+    × Loaded n v.log
+    × HasCause (stored_newest k.kinds (first_writes n cs)) v.log c r n
 -- from a count above 0, by a pass that is in the midst of no taking or giving and has lowered no count since its last
 -- commit that it hasn't raised again
 May k m cs v (LowerCount c old f) = IsClass c × (0 < old) × (flight v.log ≡ 0) × (owes v.log ≡ 0)
@@ -188,9 +195,16 @@ pub record Fits (k : Shape) : Type 0 where
   pub passes : k.passes ≤ 64
   pub tables : (c : ℕ) → IsClass c → tables_in k c ≤ 1024
 
--- the pass has no lock and no table, and has committed what it began
+-- The pass is offline and has no lock. It has no table but such as it retired, which stay retired for good. It has
+-- committed what it began, and is in the midst of no taking or giving.
 abbrev pub IsFree : View → Type 0
-IsFree v = ((o : ℕ) → has o v.log ≡ false) × ((t : ℕ) → stage t v.log ≡ 0) × (used v.log ≡ false) × (flight v.log ≡ 0) × (owes v.log ≡ 0)
+IsFree v =
+    ((o : ℕ) → has o v.log ≡ false)
+    × ((t : ℕ) → (stage t v.log ≡ 0) ⊎ (stage t v.log ≡ 4))
+    × (used v.log ≡ false)
+    × (flight v.log ≡ 0)
+    × (owes v.log ≡ 0)
+    × (ann v.log ≡ 0)
 
 abbrev pub Might : Shape → Moment → List Call → Event → Type 0
 Might k m cs (did id v a) = (get_elem? m.views id ≡ some v) × (v.number ≢ 0) × Reports a (word_in k m (place a)) × May k m cs v a

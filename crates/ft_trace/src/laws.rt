@@ -1,5 +1,5 @@
 //! The parts of the bank's rule: what holds of every valid trace, for the bank and all that stands on it.
-ghost use Rattle.ft_trace.specs.Laws.{LocksNameHolders, VersionsAreOddInWrites, EvenTablesAreShut, NumbersAreOnce, EntriesAreRight, OneHasAllEntries, EvenWordsStand, ZeroRootsHaveNothing, HoldersKnow, TablesAreSomewhere, TablesAreInOnePlace, CountsStand, TablesAreOwed, EmptyClassesAreEarned, AnnouncedNumbersAreLow, FoundTablesAreKept, GivenUpTablesRest, TablesAreSound, TableWordsStay, HitsAreRight, MissesAreRight, BareRootsAreRight, ItemsAreRight, ListsFitTheirTables, LooksAreRight, ChangedRootsAreNew, NumbersHaveRoom};
+ghost use Rattle.ft_trace.specs.Laws.{StampsRise, MemoryErrorsAreEarned, LocksNameHolders, VersionsAreOddInWrites, EvenTablesAreShut, NumbersAreOnce, EntriesAreRight, OneHasAllEntries, EvenWordsStand, ZeroRootsHaveNothing, HoldersKnow, TablesAreSomewhere, TablesAreInOnePlace, CountsStand, TablesAreOwed, EmptyClassesAreEarned, AnnouncedNumbersAreLow, FoundTablesAreKept, GivenUpTablesRest, TablesAreSound, TableWordsStay, HitsAreRight, MissesAreRight, BareRootsAreRight, ItemsAreRight, ListsFitTheirTables, LooksAreRight, ChangedRootsAreNew, NumbersHaveRoom};
 
 /// A lock word is the number of the one pass that has the lock.
 pub fn locks_name_their_holders()
@@ -24,6 +24,16 @@ pub fn numbers_are_of_one_write()
 /// Each entry has the reply of the plain containers at its stamp.
 pub fn entries_are_right()
     ensures { EntriesAreRight }
+{}
+
+/// Stamps of a pass never fall, and rise after a write.
+pub fn stamps_rise()
+    ensures { StampsRise }
+{}
+
+/// A MemoryError of a class has its cause in the writes before its stamp.
+pub fn memory_errors_are_earned()
+    ensures { MemoryErrorsAreEarned }
 {}
 
 /// Who stands for all passes has an entry for each write.

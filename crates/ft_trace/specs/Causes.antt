@@ -1,0 +1,54 @@
+-- What a pass's log shows for the reply of a call that isn't a write.
+use Rattle.std.specs.Prelude.{◌≡◌, ℕ, ◌+◌, true, false, List, [], ◌∷◌, ◌++◌, Some}
+use Rattle.ft_model.specs.declared.call.Call.{Call}
+use Rattle.ft_model.specs.declared.reply.Reply.{Reply}
+use Rattle.ft_model.specs.declared.reply.Reply.TheVariants as reply
+use Rattle.ft_model.specs.declared.reply.Raise.TheVariants as raise
+use Rattle.ft_model.specs.Tables.{StoredWorld, CanLackMemory, takes_in, would_pass}
+use Rattle.ft_trace.specs.declared.Act.{Act}
+use Rattle.ft_trace.specs.declared.Act.TheVariants.{Commit, Answer, ReadCounter, ReadCount}
+use Rattle.ft_trace.specs.Acts.{owes}
+
+-- none of these makes an entry
+abbrev pub AreOfOneCall : List Act → Type 0
+AreOfOneCall [] = Unit {0}
+AreOfOneCall (Commit c r f s ∷ l) = ⊥
+AreOfOneCall (Answer c r n ∷ l) = ⊥
+AreOfOneCall (act ∷ l) = AreOfOneCall l
+
+-- a load of the counter since the last entry gave n
+pub record Loaded (n : ℕ) (log : List Act) : Type 0 where
+  pub newer : List Act
+  pub rest : List Act
+  pub is : log ≡ newer ++ ReadCounter n ∷ rest
+  pub own : AreOfOneCall newer
+
+-- since the last entry the count of the class was found 0, by a pass that had lowered no count since its last commit
+-- that it hadn't raised again, and after that the counter was n
+pub record FoundEmpty (class n : ℕ) (log : List Act) : Type 0 where
+  pub newer : List Act
+  pub mid : List Act
+  pub rest : List Act
+  pub is : log ≡ newer ++ ReadCounter n ∷ (mid ++ ReadCount class 0 ∷ rest)
+  pub own : AreOfOneCall newer × AreOfOneCall mid
+  pub none : owes rest ≡ 0
+
+-- A MemoryError of a class stands on a call that would take a table of it, where its count was found 0; one of a content
+-- past the largest table exactly where the call would leave that; no value is in a heap yet.
+abbrev pub HasCause : StoredWorld → List Act → Call → Reply → ℕ → Type 0
+HasCause stored log call (reply.Raised (raise.Memory class)) n =
+    CanLackMemory stored.world call
+    × (would_pass stored.world call ≡ false)
+    × (takes_in stored call ≡ Some class)
+    × FoundEmpty class n log
+HasCause stored log call (reply.Raised raise.Over) n = CanLackMemory stored.world call × (would_pass stored.world call ≡ true)
+HasCause stored log call (reply.Raised raise.Heap) n = ⊥
+HasCause stored log call said n = would_pass stored.world call ≡ false
+
+-- what the stamp of the next entry is at least: one more than the number of the last entry that is a write, or the stamp
+-- of one that isn't
+abbrev pub least_stamp : List Act → ℕ
+least_stamp [] = 0
+least_stamp (Commit c r f s ∷ l) = f + 1
+least_stamp (Answer c r n ∷ l) = n
+least_stamp (act ∷ l) = least_stamp l

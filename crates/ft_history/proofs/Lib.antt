@@ -36,3 +36,4 @@ pub mod Unbroken
 pub mod UpdatedDicts
 pub mod VerdictLemmas
 pub mod WriteNumbers
+pub mod FewEntries

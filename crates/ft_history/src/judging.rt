@@ -5,6 +5,7 @@ ghost use Rattle.ft_model.specs.declared.entry.Entry.{Entry};
 ghost use Rattle.ft_model.specs.declared.entry.Storage.{Storage};
 ghost use Rattle.ft_model.specs.declared.script.ScriptParts.{ScriptParts};
 ghost use Rattle.ft_model.specs.Calls.{containers_of};
+ghost use Rattle.ft_model.specs.Worlds.{IsDeclared, HasRoom};
 ghost use Rattle.ft_model.specs.Classes.{class_count};
 ghost use Rattle.ft_model.specs.Histories.{writes, world_at, IsEarnedAt};
 ghost use Rattle.ft_history.specs.Internal.Accounts.{AreOfKind};
@@ -31,7 +32,7 @@ use std::alloc::{AllocError, Global};
 
 /// Judges the history of a script whose containers are stored so: that it is legal, or the first
 /// place at which a rule is broken and the first rule that is broken there. It goes through the
-/// entries once. A content that would grow past what memory holds is out of memory.
+/// entries once. An `Err` says that memory ran out.
 pub fn judge(
     alloc: Global,
     storage: Storage,
@@ -177,6 +178,7 @@ fn has_cause(storage: Storage, parts: &ScriptParts, state: &State, entry: &Entry
 fn go_after(alloc: Global, state: &mut State, place: u64, entry: &Entry) -> Result<bool, AllocError>
     requires thread { entry.now.thread < vec_len state.old.threads }
     requires askable { (progress : ThreadProgress) → slice_get state.old.threads.items entry.now.thread ≡ Some progress → IsAskable state.old.world progress.hands entry.now.call }
+    requires room { (progress : ThreadProgress) → slice_get state.old.threads.items entry.now.thread ≡ Some progress → IsDeclared state.old.world progress.hands entry.now.call → HasRoom state.old.world entry.now.call }
     requires few { (progress : ThreadProgress) → slice_get state.old.threads.items entry.now.thread ≡ Some progress → (progress.made < 2 ^ 63) × (progress.marks < 2 ^ 63) }
     requires writes { state.old.writes < 2 ^ 63 }
     requires containers { All (λ container. container < vec_len state.old.containers) (containers_of entry.now.call) }
@@ -213,6 +215,7 @@ fn step(
     requires users { AreUsers parts.now users.now }
     requires place { place < length entries.now }
     requires few { length entries.now < 2 ^ 63 }
+    requires calls { place ≤ 500000 }
     requires state { IsState parts.now entries.now place state.old }
     ensures found { IfOk result (λ found. (entry : Entry) → slice_get entries.now place ≡ Some entry → Finds storage parts.now entries.now place entry found) }
     ensures state { IfOk result (λ found. IfNone found (IsState parts.now entries.now (place + 1) state.new)) }

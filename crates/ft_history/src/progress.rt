@@ -1,4 +1,5 @@
 ghost use Rattle.std.specs.Prelude.{◌≡◌, ◌↔◌, ◌+◌, ◌<◌, ◌^◌, IsTrue, IfOk, OnOk, is_some, if◌then◌else◌};
+ghost use Rattle.ft_model.specs.Worlds.{IsDeclared, HasRoom};
 ghost use Rattle.ft_model.specs.Answers.{answer, is_memory};
 ghost use Rattle.ft_model.specs.Histories.{IsReplied};
 ghost use Rattle.ft_history.specs.Internal.States.{IsAskable, all_begun, after_begun};
@@ -40,6 +41,7 @@ pub fn go_through(
     entry: &Entry,
 ) -> Result<bool, AllocError>
     requires askable { IsAskable world.old progress.old.hands entry.now.call }
+    requires room { IsDeclared world.old progress.old.hands entry.now.call → HasRoom world.old entry.now.call }
     requires made { progress.old.made < 2 ^ 63 }
     requires marks { progress.old.marks < 2 ^ 63 }
     ensures reported { IfOk result (λ reported. IsTrue reported ↔ IsReplied entry.now.call entry.now.reply (answer world.old progress.old.hands entry.now.call).reply) }

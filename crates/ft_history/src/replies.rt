@@ -1,12 +1,12 @@
 ghost use Rattle.std.specs.Prelude.{◌≡◌, ◌↔◌, ◌⊎◌, true, IsTrue, IfOk, OnOk, if◌then◌else◌};
-ghost use Rattle.ft_model.specs.Worlds.{IsDeclared};
+ghost use Rattle.ft_model.specs.Worlds.{IsDeclared, HasRoom};
 ghost use Rattle.ft_model.specs.Answers.{answer, is_memory};
 ghost use Rattle.ft_model.specs.Histories.{IsReplied};
 ghost use Rattle.ft_history.specs.Internal.States.{IsAskable};
 
 use crate::equal::same_reply;
 use crate::rules::is_memory_error;
-use ft_model::{Call, Entry, Hands, Reply, World, apply, has_room};
+use ft_model::{Call, Entry, Hands, Reply, World, apply};
 use std::alloc::{AllocError, Global};
 
 /// Whether the reply is the plain containers', or a MemoryError, or of its section's form. The world
@@ -17,7 +17,8 @@ pub fn is_replied(
     hands: &mut Hands,
     entry: &Entry,
 ) -> Result<bool, AllocError>
-    requires { IsAskable world.old hands.old entry.now.call }
+    requires askable { IsAskable world.old hands.old entry.now.call }
+    requires room { IsDeclared world.old hands.old entry.now.call → HasRoom world.old entry.now.call }
     ensures reported { IfOk result (λ reported. IsTrue reported ↔ IsReplied entry.now.call entry.now.reply (answer world.old hands.old entry.now.call).reply) }
     ensures world { OnOk result (world.new ≡ (if is_memory entry.now.reply then world.old else (answer world.old hands.old entry.now.call).world)) }
     ensures hands { OnOk result (hands.new ≡ (if is_memory entry.now.reply then hands.old else (answer world.old hands.old entry.now.call).hands)) }
@@ -30,24 +31,21 @@ pub fn is_replied(
     }
 }
 
-/// Whether the containers reply so, or the reply is a MemoryError. A content that would grow past what
-/// memory holds is out of memory.
+/// Whether the containers reply so, or the reply is a MemoryError.
 fn is_answered(
     alloc: Global,
     world: &mut World,
     hands: &mut Hands,
     entry: &Entry,
 ) -> Result<bool, AllocError>
-    requires { IsDeclared world.old hands.old entry.now.call }
+    requires declared { IsDeclared world.old hands.old entry.now.call }
+    requires room { HasRoom world.old entry.now.call }
     ensures reported { IfOk result (λ reported. IsTrue reported ↔ ((is_memory entry.now.reply ≡ true) ⊎ (entry.now.reply ≡ (answer world.old hands.old entry.now.call).reply))) }
     ensures world { OnOk result (world.new ≡ (if is_memory entry.now.reply then world.old else (answer world.old hands.old entry.now.call).world)) }
     ensures hands { OnOk result (hands.new ≡ (if is_memory entry.now.reply then hands.old else (answer world.old hands.old entry.now.call).hands)) }
 {
     if is_memory_error(&entry.reply) {
         return Ok(true);
-    }
-    if !has_room(world, &entry.call) {
-        return Err(AllocError);
     }
     let reply = apply(alloc, world, hands, &entry.call)?;
     Ok(same_reply(&entry.reply, &reply))

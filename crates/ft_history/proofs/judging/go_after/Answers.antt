@@ -1,4 +1,5 @@
 use Rattle.std.proofs.Common.{◌≡◌, ℕ, ◌&&◌, ◌<◌, List, length, get_or, refl, sym, ap, ◌∙◌, arith, cond, ◌==◌, ◌+◌}
+use Rattle.std.specs.Prelude.{Some, slice_get}
 use Rattle.std.specs.List.{list_any}
 use Rattle.std.proofs.lemmas.Bool.{false≢true}
 use Rattle.std.proofs.lemmas.Option.{slice_get_read}
@@ -7,6 +8,25 @@ use Rattle.ft_history.specs.declared.progress.ThreadProgress.{ThreadProgress}
 use Rattle.ft_history.specs.declared.writers.LastWrites.{LastWrites}
 use Rattle.ft_history.specs.Internal.States.{after_one}
 use Rattle.ft_history.proofs.judging.go_after.Goals as goal
+
+-- the thread whose call it is
+its_thread : (threads : List ThreadProgress) (thread count : ℕ) (progress : ThreadProgress) → thread < count → count ≡ length threads → progress ≡ get_or threads thread progress → slice_get threads thread ≡ Some progress
+its_thread threads thread count progress low long read = slice_get_read threads _ thread progress refl (omega arith) read
+
+pub go_through-requires-clause-room : goal.go_through-requires-clause-room
+go_through-requires-clause-room c =
+    let threads = c.args.state.now.threads in
+    c.requires.room c.index_mut-progress.result.now (its_thread threads.items c.args.entry.now.thread _ c.index_mut-progress.result.now c.requires.thread threads.ok.0 c.index_mut-progress.ensures.value)
+
+pub go_through-requires-clause-made : goal.go_through-requires-clause-made
+go_through-requires-clause-made c =
+    let threads = c.args.state.now.threads in
+    (c.requires.few c.index_mut-progress.result.now (its_thread threads.items c.args.entry.now.thread _ c.index_mut-progress.result.now c.requires.thread threads.ok.0 c.index_mut-progress.ensures.value)).0
+
+pub go_through-requires-clause-marks : goal.go_through-requires-clause-marks
+go_through-requires-clause-marks c =
+    let threads = c.args.state.now.threads in
+    (c.requires.few c.index_mut-progress.result.now (its_thread threads.items c.args.entry.now.thread _ c.index_mut-progress.result.now c.requires.thread threads.ok.0 c.index_mut-progress.ensures.value)).1
 
 pub returns-in_ok-note_taking : goal.returns-in_ok-note_taking
 returns-in_ok-note_taking c =

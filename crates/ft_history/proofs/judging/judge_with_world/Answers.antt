@@ -3,16 +3,21 @@ use Rattle.std.specs.Prelude.{slice_get, IfNone}
 use Rattle.ft_model.specs.declared.entry.Entry.{Entry}
 use Rattle.ft_model.specs.declared.entry.Rule.TheVariants as rule
 use Rattle.ft_model.specs.declared.script.ScriptParts.{ScriptParts}
+use Rattle.ft_model.specs.Scripts.{IsScript}
 use Rattle.ft_model.specs.Histories.{writes, world_at, IsLegal}
 use Rattle.std.proofs.lemmas.List.{take_all}
 use Rattle.ft_history.proofs.Places.{world_at-before}
 use Rattle.ft_model.specs.Judging.{IsFirstBroken}
 use Rattle.ft_history.specs.Internal.Steps.{IsState, IsUnbrokenBefore, Finds, HaveMadeAll}
+use Rattle.ft_history.proofs.FewEntries.{few_entries}
 use Rattle.ft_history.proofs.VerdictLemmas.{goes_on, first_broken, legal_at_end, missing_at_end}
 use Rattle.ft_history.proofs.judging.judge_with_world.Goals as goal
 
 pub loop-place-init : goal.loop-place-init
 loop-place-init c = record { unbroken = λ before r low. absurd (omega arith); is_state = c.in_ok-state.ensures c.args.entries.now }
+
+pub step-requires-clause-calls : goal.step-requires-clause-calls
+step-requires-clause-calls c = few_entries c.args.storage c.parts-parts.result.now c.args.entries.now c.loop-place.place (subst IsScript (sym c.parts-parts.ensures.parts) c.parts-parts.ensures.rule) c.loop-place.invariant.unbroken (omega (arith, c.loop-place-test.true))
 
 pub returns-in-Some-clause-verdict : goal.returns-in-Some-clause-verdict
 returns-in-Some-clause-verdict c =

@@ -7,6 +7,7 @@ use Rattle.ft_model.specs.declared.entry.Rule.TheVariants as rule
 use Rattle.ft_history.specs.Internal.Steps.{BreaksFirst, Finds}
 use Rattle.ft_model.specs.Histories.{writes, entries_of}
 use Rattle.ft_history.proofs.Judged.{few_made}
+use Rattle.ft_history.proofs.FewEntries.{room_before}
 use Rattle.ft_history.proofs.AccountLemmas.{earned_no_cursor}
 use Rattle.ft_history.proofs.GoesAfterLemmas.{state_after, askable_at, of_kind_at, within_containers, thread_within, few_writes, few_marks, breaks_reply, holds_four, finds_all, where_none}
 use Rattle.ft_history.proofs.judging.step.Goals as goal
@@ -46,6 +47,10 @@ go_after-requires-clause-askable c = λ progress made.
     let at = here c.args.entries.now c.args.place c.index-entries-place.result c.requires.place c.index-entries-place.is in
     let next = c.in_default.ensures c.args.storage rule.Whole (omega arith) in
     askable_at c.args.parts.now c.requires.script c.args.entries.now c.args.place c.index-entries-place.result at next c.args.state.now progress c.requires.state made
+
+pub go_after-requires-clause-room : goal.go_after-requires-clause-room
+go_after-requires-clause-room c = λ progress made.
+    room_before c.args.parts.now c.args.entries.now c.args.place c.args.state.now.world progress.hands c.index-entries-place.result.call (omega (arith, c.requires.place)) c.requires.calls c.requires.state.world
 
 pub go_after-requires-clause-few : goal.go_after-requires-clause-few
 go_after-requires-clause-few c = λ progress made.

@@ -14,9 +14,8 @@ use Rattle.ft_model.specs.Keys.{same_key}
 use Rattle.ft_model.specs.Contents.{DictContent, SetContent, IsDict, IsSet, has_key, dict_get, dict_set, dict_del, has_element, set_add, set_discard}
 use Rattle.ft_model.proofs.Dicts.{set_found}
 use Rattle.ft_layout.specs.Tables.{UsedEntry, is_live, deleted}
-use Rattle.ft_layout.specs.Changes.{StandsFor}
 use Rattle.ft_layout.specs.Containers.{used_pair, used_element, AreDictEntries, AreSetEntries}
-use Rattle.ft_layout.proofs.LiveLaws.{live-stands, live-added}
+use Rattle.ft_layout.proofs.LiveLaws.{IsKth, live-stands, live-added}
 use Rattle.ft_layout.proofs.ContentLaws.{pair_back, element_back}
 use Rattle.ft_layout.proofs.KeyedLists.{none_at, there_at, found_at, find_it, without, length-remove}
 
@@ -66,11 +65,11 @@ module _ (used : List UsedEntry) (dict : DictContent) (are : AreDictEntries used
         )
 
   module _ (is_dict : IsDict dict.next dict.pairs) (place : ℕ) where
-    pair_at : (entry : UsedEntry) (at : slice_get used place ≡ Some entry) (live : IsTrue (is_live entry)) → (k : ℕ) × StandsFor used_pair used place dict.pairs k
+    pair_at : (entry : UsedEntry) (at : slice_get used place ≡ Some entry) (live : IsTrue (is_live entry)) → (k : ℕ) × IsKth used_pair used place dict.pairs k
     pair_at entry at live = live-stands used_pair (λ p. refl) used dict.pairs are.live place (there used place entry at).0 (λ any. subst (λ (u : UsedEntry). IsTrue (is_live u)) (sym ((there used place entry at).1 any)) live)
 
     module _ (pair : DictPair) (at : slice_get used place ≡ Some (used_pair pair)) where
-      stands : (k : ℕ) × StandsFor used_pair used place dict.pairs k
+      stands : (k : ℕ) × IsKth used_pair used place dict.pairs k
       stands = pair_at (used_pair pair) at refl
 
       abbrev k : ℕ
@@ -140,11 +139,11 @@ module _ (used : List UsedEntry) (content : SetContent) (are : AreSetEntries use
         )
 
   module _ (is_set : IsSet content.next content.elements) (place : ℕ) where
-    element_at : (entry : UsedEntry) (at : slice_get used place ≡ Some entry) (live : IsTrue (is_live entry)) → (k : ℕ) × StandsFor used_element used place content.elements k
+    element_at : (entry : UsedEntry) (at : slice_get used place ≡ Some entry) (live : IsTrue (is_live entry)) → (k : ℕ) × IsKth used_element used place content.elements k
     element_at entry at live = live-stands used_element (λ p. refl) used content.elements are.live place (there used place entry at).0 (λ any. subst (λ (u : UsedEntry). IsTrue (is_live u)) (sym ((there used place entry at).1 any)) live)
 
     module _ (element : Element) (at : slice_get used place ≡ Some (used_element element)) where
-      stands_element : (k : ℕ) × StandsFor used_element used place content.elements k
+      stands_element : (k : ℕ) × IsKth used_element used place content.elements k
       stands_element = element_at (used_element element) at refl
 
       abbrev n : ℕ

@@ -1,12 +1,11 @@
 -- Which entries are live after one is added, changed or deleted, and which pairs or elements that makes.
 use Rattle.std.proofs.Common.{◌≡◌, ◌≢◌, ℕ, zero, suc, ◌<◌, Bool, true, false, List, [], ◌∷◌, ◌++◌, length, get_or, set, take, drop, map, filter, None, refl, sym, ap, ◌∙◌, arith, rules}
-use Rattle.std.specs.Prelude.{AllPairs, IsTrue, remove, pos}
+use Rattle.std.specs.Prelude.{AllPairs, IsTrue, remove, slice_set, slice_index_or, pos}
 use Rattle.std.proofs.lemmas.List.{map_push, map-append, map-set, length-map, get_or-map, take-map, drop-map, take-take, get_or-take, length-take-le}
 use Rattle.std.proofs.lemmas.List.Kept.{AllPairs-filter}
 use Rattle.std.proofs.lemmas.List.Elements.{filter-append, filter_passes}
 use Rattle.ft_model.specs.declared.data.Key.TheVariants.{Int}
 use Rattle.ft_layout.specs.Tables.{UsedEntry, is_live}
-use Rattle.ft_layout.specs.Changes.{StandsFor}
 
 -- ---- a list of which some are kept
 
@@ -77,6 +76,16 @@ distinct-used used all i j any less low first second =
 
 -- ---- what the live entries stand for: `of` is `used_pair` or `used_element`
 
+-- Where `of` makes used entries of pairs, or of elements, and the live ones are those: the entry at the place is that
+-- of pair number k. With another pair's entry there, pair number k is that one; with a deleted entry there, it is gone.
+pub record IsKth {Y : Type 0} (of : Y → UsedEntry) (used : List UsedEntry) (place : ℕ) (pairs : List Y) (k : ℕ)
+    : Type 0 where
+  pub low : k < length pairs
+  pub is : (pair : Y) (any : UsedEntry) → of (slice_index_or pairs k pair) ≡ slice_index_or used place any
+  pub changed : (pair : Y) → filter is_live (slice_set used place (of pair)) ≡ map of (slice_set pairs k pair)
+  pub deleted : (gone : UsedEntry) → is_live gone ≡ false
+      → filter is_live (slice_set used place gone) ≡ map of (remove pairs k)
+
 module _ {Y : Type 0} (of : Y → UsedEntry) (there : (y : Y) → is_live (of y) ≡ true) (used : List UsedEntry) (ys : List Y) (live : filter is_live used ≡ map of ys) where
   long : length (filter is_live used) ≡ length ys
   long = ap length live ∙ length-map ys of
@@ -109,7 +118,7 @@ module _ {Y : Type 0} (of : Y → UsedEntry) (there : (y : Y) → is_live (of y)
   nobody = record { key = Int (pos 0); serial = 0; stored = None }
 
   -- what each live entry stands for
-  pub live-stands : (place : ℕ) → place < length used → ((any : UsedEntry) → IsTrue (is_live (get_or used place any))) → (k : ℕ) × StandsFor of used place ys k
+  pub live-stands : (place : ℕ) → place < length used → ((any : UsedEntry) → IsTrue (is_live (get_or used place any))) → (k : ℕ) × IsKth of used place ys k
   live-stands place low is =
       let yes : (any : UsedEntry) → is_live (get_or used place any) ≡ true = λ any. search (rules, is any) in (
         rank is_live used place,

@@ -1,5 +1,5 @@
 -- How one entry or one item of a table changes: its words alone. An entry's key and serial stay. (profile)
-use Rattle.std.specs.Prelude.{◌≡◌, ℕ, ◌<◌, ◌≤◌, false, List, length, map, filter, remove, IsTrue, ◌⊎◌, slice_index, slice_index_or, slice_set}
+use Rattle.std.specs.Prelude.{◌≡◌, ℕ, ◌<◌, ◌≤◌, List, length, IsTrue, ◌⊎◌, slice_index, slice_set}
 use Rattle.ft_model.specs.declared.data.Key.{Key}
 use Rattle.ft_layout.specs.declared.slot.Stored.{Stored}
 use Rattle.ft_layout.specs.Words.{gone_kind, stored_kind, stored_payload, IsEntry, IsItem}
@@ -63,13 +63,3 @@ pub record SaysStored (words : List ℕ) (place : ℕ) (stored : Stored) : Type 
 abbrev pub with_item : List ℕ → ℕ → Stored → List ℕ
 with_item words place stored =
     slice_set (slice_set words (item_at place 1) (stored_kind stored)) (item_at place 2) (stored_payload stored)
-
--- Where `of` makes used entries of pairs, or of elements, and the live ones are those: the entry at the place is that
--- of pair number k. With another pair's entry there, pair number k is that one; with a deleted entry there, it is gone.
-pub record StandsFor {Y : Type 0} (of : Y → UsedEntry) (used : List UsedEntry) (place : ℕ) (pairs : List Y) (k : ℕ)
-    : Type 0 where
-  pub low : k < length pairs
-  pub is : (pair : Y) (any : UsedEntry) → of (slice_index_or pairs k pair) ≡ slice_index_or used place any
-  pub changed : (pair : Y) → filter is_live (slice_set used place (of pair)) ≡ map of (slice_set pairs k pair)
-  pub deleted : (gone : UsedEntry) → is_live gone ≡ false
-      → filter is_live (slice_set used place gone) ≡ map of (remove pairs k)

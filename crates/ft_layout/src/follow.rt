@@ -28,9 +28,11 @@ pub fn used_entries_follow_a_dict()
         AreDictEntries (slice_set used place (used_pair (record pair { value = value }))) (dict_set dict pair.key value)
         × (length (dict_set dict pair.key value).pairs ≡ length dict.pairs)
         × ((dict_set dict pair.key value).next ≡ dict.next) }
-    ensures added { (used : List UsedEntry) (dict : DictContent) (key : Key) (value : Value) → AreDictEntries used dict →
-        All (λ entry. entry.key ≢ key) (filter is_live used) →
-        AreDictEntries (used ++ used_pair (record { serial = dict.next; key = key; value = value }) ∷ []) (dict_set dict key value)
+    ensures added { (used : List UsedEntry) (dict : DictContent) (key : Key) (value : Value) →
+        AreDictEntries used dict → All (λ entry. entry.key ≢ key) (filter is_live used) →
+        AreDictEntries
+        (used ++ used_pair (record { serial = dict.next; key = key; value = value }) ∷ [])
+        (dict_set dict key value)
         × (length (dict_set dict key value).pairs ≡ length dict.pairs + 1)
         × ((dict_set dict key value).next ≡ dict.next + 1) }
     ensures deleted { (used : List UsedEntry) (dict : DictContent) (place : ℕ) (pair : DictPair) →

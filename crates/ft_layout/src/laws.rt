@@ -1,10 +1,8 @@
 //! Laws on the definitions, for the proofs of crates above: words stand for one content at most, each word
 //! of a bank and of a table is of one part or field, and an entry that changes changes nothing else.
 
-ghost use Rattle.std.specs.Prelude.{◌≡◌, ℕ, ◌+◌, ◌<◌, ◌≤◌, List, [], ◌∷◌, ◌++◌, length, map, filter, All, IsTrue, Option, None, slice_index_or, slice_set};
+ghost use Rattle.std.specs.Prelude.{◌≡◌, ℕ, ◌+◌, ◌<◌, ◌≤◌, List, [], length, All, Option, None, slice_index_or, slice_set};
 ghost use Rattle.ft_model.specs.declared.data.Value.{Value};
-ghost use Rattle.ft_model.specs.declared.content.DictPair.{DictPair};
-ghost use Rattle.ft_model.specs.declared.content.Element.{Element};
 ghost use Rattle.ft_model.specs.declared.content.Content.{Content};
 ghost use Rattle.ft_model.specs.declared.script.Kind.{Kind};
 ghost use Rattle.ft_model.specs.Contents.{DictContent, SetContent, IsDict, IsSet};
@@ -13,10 +11,10 @@ ghost use Rattle.ft_model.specs.Worlds.{empty_content, kind_of, length_of, seria
 ghost use Rattle.ft_model.specs.Classes.{IsClass, dict_entries, set_entries, list_items};
 ghost use Rattle.ft_layout.specs.Sizes.{table_size};
 ghost use Rattle.ft_layout.specs.Starts.{BankSizes, Part, HasWord, bank_size};
-ghost use Rattle.ft_layout.specs.Tables.{dict_room, set_room, table_length, UsedEntry, is_live, IsTable};
-ghost use Rattle.ft_layout.specs.Changes.{IsBlankTable, KeepsKey, ChangesEntry, SaysUsed, StandsFor};
+ghost use Rattle.ft_layout.specs.Tables.{dict_room, set_room, table_length, UsedEntry, IsTable};
+ghost use Rattle.ft_layout.specs.Changes.{IsBlankTable, KeepsKey, ChangesEntry, SaysUsed};
 ghost use Rattle.ft_layout.specs.Fields.{Field, IsField, field_at, ItemField, IsItemField, item_field_at};
-ghost use Rattle.ft_layout.specs.Containers.{class_mask, used_pair, used_element, IsBlank, IsBlock, StandsAs, IsDictWords, IsSetWords, IsListWords};
+ghost use Rattle.ft_layout.specs.Containers.{class_mask, IsBlank, IsBlock, StandsAs, IsDictWords, IsSetWords, IsListWords};
 
 /// The words of a block and a table stand for at most one dict, with one class of the table and one
 /// fill; and it is a dict: its keys are distinct, and its serials rise and are below the next one.
@@ -109,19 +107,4 @@ pub fn changed_words_are_of_a_table()
         place < length used → ((any : UsedEntry) → KeepsKey (slice_index_or used place any) entry) →
         ChangesEntry mask place old new → SaysUsed texts mask new place entry →
         IsTable walk room texts mask (slice_set used place entry) new }
-{}
-
-/// The live entries of a table are the pairs of a dict, or the elements of a set. One that is added
-/// is one more at the end; one that changes or is deleted is one pair or element in the same way.
-pub fn live_entries_stand_for_contents()
-    ensures pair_added { (used : List UsedEntry) (pairs : List DictPair) → filter is_live used ≡ map used_pair pairs →
-        (pair : DictPair) → filter is_live (used ++ used_pair pair ∷ []) ≡ map used_pair (pairs ++ pair ∷ []) }
-    ensures pair { (used : List UsedEntry) (pairs : List DictPair) → filter is_live used ≡ map used_pair pairs →
-        (place : ℕ) → place < length used → ((any : UsedEntry) → IsTrue (is_live (slice_index_or used place any))) →
-        (k : ℕ) × StandsFor used_pair used place pairs k }
-    ensures element_added { (used : List UsedEntry) (elements : List Element) → filter is_live used ≡ map used_element elements →
-        (element : Element) → filter is_live (used ++ used_element element ∷ []) ≡ map used_element (elements ++ element ∷ []) }
-    ensures element { (used : List UsedEntry) (elements : List Element) → filter is_live used ≡ map used_element elements →
-        (place : ℕ) → place < length used → ((any : UsedEntry) → IsTrue (is_live (slice_index_or used place any))) →
-        (k : ℕ) × StandsFor used_element used place elements k }
 {}

@@ -57,8 +57,8 @@ pub use items::{changed_words_are_of_a_list, items_are_moved_one_by_one, words_f
 pub use key::{gone_kind_of, kind_of, payload_of};
 pub use laws::{
     bank_words_are_of_one_part, changed_words_are_of_a_table, dict_words_are_of_one_dict,
-    list_words_are_of_one_list, live_entries_stand_for_contents, set_words_are_of_one_set,
-    sizes_are_by_class, table_words_are_of_one_field, words_are_of_one_content,
+    list_words_are_of_one_list, set_words_are_of_one_set, sizes_are_by_class,
+    table_words_are_of_one_field, words_are_of_one_content,
 };
 pub use lock::{lock_of, lock_word};
 pub use numbers::words_have_their_numbers;

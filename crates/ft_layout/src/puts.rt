@@ -13,16 +13,16 @@ ghost use Rattle.ft_layout.specs.Changes.{IsBlankTable, SameEntries, SameItems, 
 /// that value; where the kind of its deleted key is put, it holds the deleted entry. All else is as it
 /// was.
 pub fn puts_change_one_entry()
-    ensures stored { (walk : ℕ → List ℕ) (room : ℕ) (texts : List ℕ) (mask : ℕ) (used : List UsedEntry) (words : List ℕ)
-        (place : ℕ) (key : Key) (serial : ℕ) (before after : Stored) →
+    ensures stored { (walk : ℕ → List ℕ) (room : ℕ) (texts : List ℕ) (mask : ℕ) (used : List UsedEntry)
+        (words : List ℕ) (place : ℕ) (key : Key) (serial : ℕ) (before after : Stored) →
         ((hash : ℕ) → All (λ slot. slot ≤ mask) (walk hash)) → room ≤ dict_room mask →
         IsTable walk room texts mask used words →
         slice_get used place ≡ Some (record { key = key; serial = serial; stored = Some before }) → FitsStored after →
         IsTable walk room texts mask
         (slice_set used place (record { key = key; serial = serial; stored = Some after }))
         (with_stored mask words place after) }
-    ensures deleted { (walk : ℕ → List ℕ) (room : ℕ) (texts : List ℕ) (mask : ℕ) (used : List UsedEntry) (words : List ℕ)
-        (place : ℕ) (key : Key) (serial : ℕ) (before : Stored) →
+    ensures deleted { (walk : ℕ → List ℕ) (room : ℕ) (texts : List ℕ) (mask : ℕ) (used : List UsedEntry)
+        (words : List ℕ) (place : ℕ) (key : Key) (serial : ℕ) (before : Stored) →
         ((hash : ℕ) → All (λ slot. slot ≤ mask) (walk hash)) → room ≤ dict_room mask →
         IsTable walk room texts mask used words →
         slice_get used place ≡ Some (record { key = key; serial = serial; stored = Some before }) →
@@ -45,8 +45,8 @@ pub fn puts_change_one_item()
 pub fn versions_change_nothing()
     ensures blank { (mask room : ℕ) (words : List ℕ) → IsBlankTable mask words →
         HasNoVersions room mask words × HasNoItemVersions mask words }
-    ensures entries { (walk : ℕ → List ℕ) (room : ℕ) (texts : List ℕ) (mask : ℕ) (used : List UsedEntry) (old new : List ℕ) →
-        ((hash : ℕ) → All (λ slot. slot ≤ mask) (walk hash)) → SameEntries mask old new →
+    ensures entries { (walk : ℕ → List ℕ) (room : ℕ) (texts : List ℕ) (mask : ℕ) (used : List UsedEntry)
+        (old new : List ℕ) → ((hash : ℕ) → All (λ slot. slot ≤ mask) (walk hash)) → SameEntries mask old new →
         IsTable walk room texts mask used old → IsTable walk room texts mask used new }
     ensures items { (mask : ℕ) (values : List Value) (old new : List ℕ) → SameItems old new →
         IsListTable mask values old → IsListTable mask values new }

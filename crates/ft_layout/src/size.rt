@@ -1,7 +1,7 @@
 //! How many words tables have and where in a table its fields are, for whoever reads or writes one. No
 //! other crate computes the place of a word.
 
-ghost use Rattle.std.specs.Prelude.{◌≡◌, ℕ, ◌<◌, ◌≤◌, ◌^◌};
+ghost use Rattle.std.specs.Prelude.{◌≡◌, ◌<◌, ◌≤◌, ◌^◌};
 ghost use Rattle.ft_model.specs.Classes.{IsClass};
 ghost use Rattle.ft_layout.specs.Sizes.{table_size};
 ghost use Rattle.ft_layout.specs.Tables.{index_at, entry_at, item_at};

@@ -1,7 +1,7 @@
 //! Where in a bank each of its parts begins, for the bank that makes the list of words and for all who
 //! read or write it. The parts lie one after the other, without a gap.
 
-ghost use Rattle.std.specs.Prelude.{◌≡◌, ℕ, ◌<◌, ◌≤◌};
+ghost use Rattle.std.specs.Prelude.{◌≡◌, ◌<◌, ◌≤◌};
 ghost use Rattle.ft_model.specs.Classes.{IsClass};
 ghost use Rattle.ft_layout.specs.Words.{IsHolder};
 ghost use Rattle.ft_layout.specs.Starts.{IsHeap, AreTables, count_of, announced_word, free_count_word, free_word, block_start, heap_start, box_start, table_start};

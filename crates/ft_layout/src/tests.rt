@@ -6,12 +6,12 @@ use crate::{
     box_start, changed_words_are_of_a_list, changed_words_are_of_a_table,
     dict_words_are_of_one_dict, entry_at, entry_of, entry_words, free_count_word, free_word,
     gone_kind_of, heap_start, index_at, item_at, item_of, item_words, items_are_moved_one_by_one,
-    kind_of, list_words_are_of_one_list, live_entries_stand_for_contents, lock_of, lock_word,
-    payload_of, puts_change_one_entry, puts_change_one_item, read_entry, read_item, root_of,
-    root_word, set_words_are_of_one_set, sizes_are_by_class, stored_kind_of, stored_payload_of,
-    table_size, table_start, table_words_are_of_one_field, used_entries_follow_a_dict,
-    used_entries_follow_a_set, versions_change_nothing, words_are_of_one_content,
-    words_follow_a_dict, words_follow_a_list, words_follow_a_set, words_have_their_numbers,
+    kind_of, list_words_are_of_one_list, lock_of, lock_word, payload_of, puts_change_one_entry,
+    puts_change_one_item, read_entry, read_item, root_of, root_word, set_words_are_of_one_set,
+    sizes_are_by_class, stored_kind_of, stored_payload_of, table_size, table_start,
+    table_words_are_of_one_field, used_entries_follow_a_dict, used_entries_follow_a_set,
+    versions_change_nothing, words_are_of_one_content, words_follow_a_dict, words_follow_a_list,
+    words_follow_a_set, words_have_their_numbers,
 };
 use ft_model::{Key, Sym, Value};
 use std::test::Fail;
@@ -220,7 +220,6 @@ fn laws_take_nothing() {
     table_words_are_of_one_field();
     sizes_are_by_class();
     changed_words_are_of_a_table();
-    live_entries_stand_for_contents();
     used_entries_follow_a_dict();
     used_entries_follow_a_set();
     words_follow_a_dict();
@@ -246,7 +245,8 @@ impl<'a> Take for ListedWords<'a> {
 
     ghost size = { λ list. length list.words.now };
 
-    ghost gave = { λ before at word after. (word ≡ slice_index before.words.now at) × (after.words.now ≡ before.words.now) };
+    ghost gave = { λ before at word after.
+        (word ≡ slice_index before.words.now at) × (after.words.now ≡ before.words.now) };
 
     fn word(&mut self, at: u64) -> u64 {
         self.words[at as usize]

@@ -7,7 +7,7 @@ use Rattle.std.proofs.lemmas.List.{get_or-set_same, get_or_push, length_push}
 use Rattle.ft_model.specs.declared.call.Call.{Call}
 use Rattle.ft_model.specs.declared.script.ScriptParts.{ScriptParts}
 use Rattle.ft_model.specs.Histories.{calls_of}
-use Rattle.ft_turns.specs.Orders.{ThreadState, Machine, Locking, fresh_thread, take_locks, thread_at, next_call, without_locks, waits, sections_after, answers, with_taken, finishes, try_answer, relocked, try_finish}
+use Rattle.ft_turns.specs.Orders.{ThreadState, Machine, Locking, fresh_thread, take_locks, thread_at, next_call, without_locks, waiting_machine, sections_after, answered_machine, with_taken, finished_machine, try_answer, relocked, try_finish}
 use Rattle.ft_turns.specs.Answering.{Progress, has_answered, has_finished, mark_given, with_turn, answered_turn}
 use Rattle.ft_turns.proofs.ProgressWords.{with_answer, with_mark}
 use Rattle.ft_turns.proofs.MachineSteps.{wanted, wanted_again, IsTry, there, same_marks}
@@ -17,13 +17,13 @@ pub record IsKeptByAnswers (script : ScriptParts) (Q : Progress → Type 0) : Ty
   pub threads : (progress : Progress) → Q progress → length progress.machine.threads ≡ length script.threads
   pub waits : (progress : Progress) (thread : ℕ) (called : Call) (fixed : Bool) (containers : List ℕ) (found : ℕ)
       → IsTry script progress.machine thread called fixed containers → (take_locks thread progress.machine.holders containers).found ≡ Some found
-      → Q progress → Q (record progress { machine = waits progress.machine thread (thread_at progress.machine thread) (take_locks thread progress.machine.holders containers) found })
+      → Q progress → Q (record progress { machine = waiting_machine progress.machine thread (thread_at progress.machine thread) (take_locks thread progress.machine.holders containers) found })
   pub answers : (progress : Progress) (thread : ℕ) (called : Call) (containers : List ℕ)
       → IsTry script progress.machine thread called false containers → (take_locks thread progress.machine.holders containers).found ≡ None
-      → Q progress → Q (record (with_answer progress thread called) { machine = answers progress.machine thread (thread_at progress.machine thread) called (take_locks thread progress.machine.holders containers) })
+      → Q progress → Q (record (with_answer progress thread called) { machine = answered_machine progress.machine thread (thread_at progress.machine thread) called (take_locks thread progress.machine.holders containers) })
   pub finishes : (progress : Progress) (thread : ℕ) (called : Call) (containers : List ℕ)
       → IsTry script progress.machine thread called true containers → (take_locks thread progress.machine.holders containers).found ≡ None
-      → Q progress → Q (record (with_mark progress thread called (thread_at progress.machine thread).mark) { machine = finishes progress.machine thread (thread_at progress.machine thread) (take_locks thread progress.machine.holders containers) })
+      → Q progress → Q (record (with_mark progress thread called (thread_at progress.machine thread).mark) { machine = finished_machine progress.machine thread (thread_at progress.machine thread) (take_locks thread progress.machine.holders containers) })
 
 same_length : {X : Type 0} (xs ys : List X) → xs ≡ ys → nat_lt (length ys) (length xs) ≡ false
 same_length xs ys same = le-ltb (length ys) (length xs) (let e : length xs ≡ length ys = ap length same in omega arith)
@@ -45,21 +45,21 @@ module _ (script : ScriptParts) (Q : Progress → Type 0) (keeps : IsKeptByAnswe
   low = omega (arith, there script thread (thread_at progress.machine thread) called next, keeps.threads progress holds)
 
   -- it waits, before its answer is fixed or after it
-  shown_waits : (fixed : Bool) (containers : List ℕ) (found : ℕ) → IsTry script progress.machine thread called fixed containers → (take_locks thread progress.machine.holders containers).found ≡ Some found → Shown (waits progress.machine thread (thread_at progress.machine thread) (take_locks thread progress.machine.holders containers) found)
+  shown_waits : (fixed : Bool) (containers : List ℕ) (found : ℕ) → IsTry script progress.machine thread called fixed containers → (take_locks thread progress.machine.holders containers).found ≡ Some found → Shown (waiting_machine progress.machine thread (thread_at progress.machine thread) (take_locks thread progress.machine.holders containers) found)
   shown_waits fixed containers found try finds =
       let state = thread_at progress.machine thread in
       let locking = take_locks thread progress.machine.holders containers in
-      let after : Machine = waits progress.machine thread state locking found in
+      let after : Machine = waiting_machine progress.machine thread state locking found in
       let marks : (thread_at after thread).marks ≡ state.marks = same_marks progress.machine.threads thread (record state { sections = map without_locks state.sections; own = state.own ++ locking.taken; mark = if is_some state.mark then state.mark else Some found }) refl in
       shown false false (mark_given progress.machine after thread) after (same_length progress.machine.answered progress.machine.answered refl) (same_length (thread_at after thread).marks state.marks marks) refl
       (keeps.waits progress thread called fixed containers found try finds holds)
 
   -- its answer was fixed, and it finishes
-  shown_finishes : (thread_at progress.machine thread).fixed ≡ true → (take_locks thread progress.machine.holders (wanted_again progress.machine thread)).found ≡ None → Shown (finishes progress.machine thread (thread_at progress.machine thread) (take_locks thread progress.machine.holders (wanted_again progress.machine thread)))
+  shown_finishes : (thread_at progress.machine thread).fixed ≡ true → (take_locks thread progress.machine.holders (wanted_again progress.machine thread)).found ≡ None → Shown (finished_machine progress.machine thread (thread_at progress.machine thread) (take_locks thread progress.machine.holders (wanted_again progress.machine thread)))
   shown_finishes fixed finds =
       let state = thread_at progress.machine thread in
       let locking = take_locks thread progress.machine.holders (wanted_again progress.machine thread) in
-      let after : Machine = finishes progress.machine thread state locking in
+      let after : Machine = finished_machine progress.machine thread state locking in
       let finished : ThreadState = record { marks = state.marks ++ state.mark ∷ []; fixed = false; sections = with_taken (state.own ++ locking.taken) state.sections; own = []; mark = None } in
       let is : thread_at after thread ≡ finished = get_or-set_same progress.machine.threads thread finished fresh_thread low in
       let marks : (thread_at after thread).marks ≡ state.marks ++ state.mark ∷ [] = ap (λ (s : ThreadState). s.marks) is in
@@ -72,7 +72,7 @@ module _ (script : ScriptParts) (Q : Progress → Type 0) (keeps : IsKeptByAnswe
       let state = thread_at progress.machine thread in
       let locking = take_locks thread progress.machine.holders (wanted_again progress.machine thread) in
       subst (λ b. Shown (if b then relocked progress.machine thread state locking else progress.machine)) (sym fixed)
-      (elim locking.found as (λ f. locking.found ≡ f → Shown (option_map_or (waits progress.machine thread state locking) f (finishes progress.machine thread state locking))) [
+      (elim locking.found as (λ f. locking.found ≡ f → Shown (option_map_or (waiting_machine progress.machine thread state locking) f (finished_machine progress.machine thread state locking))) [
         | None ↦ λ none. shown_finishes fixed none
         | Some found ↦ λ some. shown_waits true (wanted_again progress.machine thread) found (record { next = next; state = fixed; asks = refl }) some
       ] refl)
@@ -86,7 +86,7 @@ module _ (script : ScriptParts) (Q : Progress → Type 0) (keeps : IsKeptByAnswe
     answered_state = record (thread_at progress.machine thread) { fixed = true; sections = sections_after called ((thread_at progress.machine thread).own ++ taken_now.taken) (thread_at progress.machine thread).sections; own = [] }
 
     abbrev machine_answered : Machine
-    machine_answered = answers progress.machine thread (thread_at progress.machine thread) called taken_now
+    machine_answered = answered_machine progress.machine thread (thread_at progress.machine thread) called taken_now
 
     abbrev progress_answered : Progress
     progress_answered = record (with_answer progress thread called) { machine = machine_answered }
@@ -115,18 +115,18 @@ module _ (script : ScriptParts) (Q : Progress → Type 0) (keeps : IsKeptByAnswe
     more_answered : nat_lt (length progress.machine.answered) (length machine_answered.answered) ≡ true
     more_answered = longer machine_answered.answered progress.machine.answered (thread, length (thread_at progress.machine thread).marks) refl
 
-    then_waits : (found : ℕ) → taken_again.found ≡ Some found → Shown (waits machine_answered thread (thread_at machine_answered thread) taken_again found)
+    then_waits : (found : ℕ) → taken_again.found ≡ Some found → Shown (waiting_machine machine_answered thread (thread_at machine_answered thread) taken_again found)
     then_waits found again =
         let state = thread_at machine_answered thread in
-        let after : Machine = waits machine_answered thread state taken_again found in
+        let after : Machine = waiting_machine machine_answered thread state taken_again found in
         let marks : (thread_at after thread).marks ≡ state.marks = same_marks machine_answered.threads thread (record state { sections = map without_locks state.sections; own = state.own ++ taken_again.taken; mark = if is_some state.mark then state.mark else Some found }) refl in
         shown true false (mark_given progress.machine after thread) after more_answered (same_length (thread_at after thread).marks (thread_at progress.machine thread).marks (marks ∙ same_now)) refl
         (keeps.waits progress_answered thread called true (wanted_again machine_answered thread) found (record { next = next_now; state = fixed_now; asks = refl }) again answered_holds)
 
-    then_finishes : taken_again.found ≡ None → Shown (finishes machine_answered thread (thread_at machine_answered thread) taken_again)
+    then_finishes : taken_again.found ≡ None → Shown (finished_machine machine_answered thread (thread_at machine_answered thread) taken_again)
     then_finishes again =
         let state = thread_at machine_answered thread in
-        let after : Machine = finishes machine_answered thread state taken_again in
+        let after : Machine = finished_machine machine_answered thread state taken_again in
         let finished : ThreadState = record { marks = state.marks ++ state.mark ∷ []; fixed = false; sections = with_taken (state.own ++ taken_again.taken) state.sections; own = []; mark = None } in
         let is : thread_at after thread ≡ finished = get_or-set_same machine_answered.threads thread finished fresh_thread low_now in
         let before = (thread_at progress.machine thread).marks in
@@ -139,7 +139,7 @@ module _ (script : ScriptParts) (Q : Progress → Type 0) (keeps : IsKeptByAnswe
     shown_answers =
         let state = thread_at machine_answered thread in
         subst (λ b. Shown (if b then relocked machine_answered thread state taken_again else machine_answered)) (sym fixed_now)
-        (elim taken_again.found as (λ f. taken_again.found ≡ f → Shown (option_map_or (waits machine_answered thread state taken_again) f (finishes machine_answered thread state taken_again))) [
+        (elim taken_again.found as (λ f. taken_again.found ≡ f → Shown (option_map_or (waiting_machine machine_answered thread state taken_again) f (finished_machine machine_answered thread state taken_again))) [
           | None ↦ λ none. then_finishes none
           | Some found ↦ λ some. then_waits found some
         ] refl)
@@ -148,10 +148,10 @@ module _ (script : ScriptParts) (Q : Progress → Type 0) (keeps : IsKeptByAnswe
   shown_first unfixed =
       let state = thread_at progress.machine thread in
       let locking = take_locks thread progress.machine.holders (wanted script progress.machine thread called) in
-      elim locking.found as (λ f. locking.found ≡ f → Shown (try_finish (option_map_or (waits progress.machine thread state locking) f (answers progress.machine thread state called locking)) thread)) [
+      elim locking.found as (λ f. locking.found ≡ f → Shown (try_finish (option_map_or (waiting_machine progress.machine thread state locking) f (answered_machine progress.machine thread state called locking)) thread)) [
         | None ↦ λ none. shown_answers unfixed none
         | Some found ↦ λ some.
-            (let after : Machine = waits progress.machine thread state locking found in
+            (let after : Machine = waiting_machine progress.machine thread state locking found in
             let waited : ThreadState = record state { sections = map without_locks state.sections; own = state.own ++ locking.taken; mark = if is_some state.mark then state.mark else Some found } in
             let still : (thread_at after thread).fixed ≡ false = ap (λ (s : ThreadState). s.fixed) (get_or-set_same progress.machine.threads thread waited fresh_thread low) ∙ unfixed in
             subst (λ b. Shown (if b then relocked after thread (thread_at after thread) (take_locks thread after.holders (wanted_again after thread)) else after)) (sym still)

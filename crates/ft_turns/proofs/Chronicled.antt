@@ -36,6 +36,7 @@ use Rattle.ft_turns.proofs.Going.{IsBare, IsGoing, CallsOf, going_start}
 use Rattle.ft_turns.proofs.EntriesHaveRightReplies.{marked_by, IsPart, IsDone, HasRightReply}
 use Rattle.ft_turns.proofs.RightReplySteps.{reported_steps, reported_start}
 use Rattle.ft_turns.proofs.Indexed.{IsIndexed, indexed_steps, indexed_start}
+use Rattle.ft_turns.proofs.NoSections.{none_ends}
 
 -- ---- the script's calls
 
@@ -111,7 +112,7 @@ innermost_containers_of (section ∷ sections) = refl
 
 -- an `end` that says kept counted no mark, so nobody wrote
 kept_by_count : (entries : List Entry) (thread place : ℕ) (sections : List Section) (called : Call) (said : Reply) → IfEnds sections called (λ section. IsCountedBy entries thread place section said) → IfEnds sections called (CalmAtEnd entries thread place) → IfEnds sections called (λ section. IsKeptBy entries thread place section said)
-kept_by_count entries thread place [] called said counted calm = tt
+kept_by_count entries thread place [] called said counted calm = none_ends called (λ section. IsKeptBy entries thread place section said)
 kept_by_count entries thread place (section ∷ sections) call.End reply.Kept counted calm = calm counted
 kept_by_count entries thread place (section ∷ sections) call.End other counted calm = tt
 kept_by_count entries thread place (section ∷ sections) (call.Dict container dict_call) said counted calm = tt
@@ -341,7 +342,7 @@ module _ (script : ScriptParts) (rule : IsScript script) (all_finish : AllFinish
   pub chronicled : IsChronicleOfTurns script (answered_turns script) (last_progress script).world
   chronicled =
       record {
-        fair = record {
+        chronicled = record {
           whole = whole;
           answered = λ place entry at. (done_at place entry at).answered;
           marked = marked;

@@ -22,6 +22,7 @@ use Rattle.ft_turns.proofs.ProgressWords.{hands_of, tally_of}
 use Rattle.ft_turns.proofs.Marks.{count_fixed, own_stack, own_containers}
 use Rattle.ft_turns.proofs.Following.{IsFollowed}
 use Rattle.ft_turns.proofs.PlaceSteps.{AllBelow, marks_next, marks_none, other_unmarked, own_marked}
+use Rattle.ft_turns.proofs.NoSections.{none_ends}
 
 -- ---- tallies
 
@@ -81,7 +82,7 @@ ended_counts entries thread place section count is =
 
 pub counted_call : (entries : List Entry) (thread place : ℕ) (world : List Content) (hands : List (Option Cursor)) (tally : Tally) (called : Call) (sections : List Section) (noted : List ℕ) → tally.noted ≡ noted → Tallied entries thread place tally.count sections noted
     → IfEnds sections called (λ section. IsCountedBy entries thread place section (reply_in world hands tally called))
-counted_call entries thread place world hands tally called [] noted is tallied = tt
+counted_call entries thread place world hands tally called [] noted is tallied = none_ends called (λ section. IsCountedBy entries thread place section (reply_in world hands tally called))
 counted_call entries thread place world hands tally called (section ∷ sections) [] is tallied = absurd tallied
 counted_call entries thread place world hands tally call.End (section ∷ sections) (first ∷ noted) is tallied =
     ended_counts entries thread place section (waited_inside tally)

@@ -7,7 +7,7 @@ use Rattle.std.proofs.lemmas.List.{get_or-set_same, get_or-set_other, get_or_app
 use Rattle.ft_model.specs.declared.call.Call.{Call}
 use Rattle.ft_model.specs.declared.script.ScriptParts.{ScriptParts}
 use Rattle.ft_history.proofs.Places.{slice_get_left}
-use Rattle.ft_turns.specs.Orders.{ThreadState, Machine, fresh_thread, take_locks, thread_at, without_locks, waits, sections_after, answers, with_taken, finishes}
+use Rattle.ft_turns.specs.Orders.{ThreadState, Machine, fresh_thread, take_locks, thread_at, without_locks, waiting_machine, sections_after, answered_machine, with_taken, finished_machine}
 use Rattle.ft_turns.proofs.MachineSteps.{IsTry, there}
 use Rattle.ft_turns.proofs.Owned.{IsOwned}
 use Rattle.ft_turns.proofs.Marks.{mark_at, push_none, mark_cases}
@@ -36,7 +36,7 @@ module _ (script : ScriptParts) (events : List (ℕ × ℕ)) (mark_of : ℕ → 
   low : thread < length machine.threads
   low = omega (arith, there script thread (thread_at machine thread) called try.next, inv.threads)
 
-  pub followed_waits : (found : ℕ) → IsFollowed events mark_of (waits machine thread (thread_at machine thread) (take_locks thread machine.holders containers) found) → IsFollowed events mark_of machine
+  pub followed_waits : (found : ℕ) → IsFollowed events mark_of (waiting_machine machine thread (thread_at machine thread) (take_locks thread machine.holders containers) found) → IsFollowed events mark_of machine
   followed_waits found follows =
       let locking = take_locks thread machine.holders containers in
       let now = thread_at machine thread in
@@ -57,7 +57,7 @@ module _ (script : ScriptParts) (events : List (ℕ × ℕ)) (mark_of : ℕ → 
             (λ all index below. below_push now.marks now.mark mark index below ∙ all index below) follows.finished;
       }
 
-  pub followed_answers : IsFollowed events mark_of (answers machine thread (thread_at machine thread) called (take_locks thread machine.holders containers)) → IsFollowed events mark_of machine
+  pub followed_answers : IsFollowed events mark_of (answered_machine machine thread (thread_at machine thread) called (take_locks thread machine.holders containers)) → IsFollowed events mark_of machine
   followed_answers follows =
       let locking = take_locks thread machine.holders containers in
       let now = thread_at machine thread in
@@ -68,7 +68,7 @@ module _ (script : ScriptParts) (events : List (ℕ × ℕ)) (mark_of : ℕ → 
         finished = back (λ u s. (index : ℕ) → index < length s.marks → mark_at s index ≡ mark_of u index) machine.threads thread after low (λ all. all) follows.finished;
       }
 
-  pub followed_finishes : IsFollowed events mark_of (finishes machine thread (thread_at machine thread) (take_locks thread machine.holders containers)) → IsFollowed events mark_of machine
+  pub followed_finishes : IsFollowed events mark_of (finished_machine machine thread (thread_at machine thread) (take_locks thread machine.holders containers)) → IsFollowed events mark_of machine
   followed_finishes follows =
       let locking = take_locks thread machine.holders containers in
       let now = thread_at machine thread in
@@ -82,7 +82,7 @@ module _ (script : ScriptParts) (events : List (ℕ × ℕ)) (mark_of : ℕ → 
       }
 
   -- and of the call that finishes its mark is the one that it has now
-  pub followed_mark : IsFollowed events mark_of (finishes machine thread (thread_at machine thread) (take_locks thread machine.holders containers)) → mark_of thread (length (thread_at machine thread).marks) ≡ (thread_at machine thread).mark
+  pub followed_mark : IsFollowed events mark_of (finished_machine machine thread (thread_at machine thread) (take_locks thread machine.holders containers)) → mark_of thread (length (thread_at machine thread).marks) ≡ (thread_at machine thread).mark
   followed_mark follows =
       let locking = take_locks thread machine.holders containers in
       let now = thread_at machine thread in

@@ -23,11 +23,11 @@ use Rattle.ft_model.specs.declared.content.Element.{Element}
 use Rattle.ft_model.specs.Calls.{containers_of, other_dict, other_list, other_set}
 use Rattle.ft_model.specs.Scripts.{IsKeyOf, IsValueOf, IsCallOf, cursor_of, NamesOf, IsDeclaredAs}
 use Rattle.ft_model.specs.Parts.{IsReplyOf, IsContentOf, IsWorldOf}
-use Rattle.ft_model.specs.Worlds.{start_world, start_hands, no_hands, empty_content, container_of, IsOfKind, kind_of, cursor_at}
+use Rattle.ft_model.specs.Worlds.{kinds_of, start_world, start_hands, no_hands, empty_content, container_of, IsOfKind, kind_of, cursor_at}
 use Rattle.ft_model.specs.Answers.{answer, is_write, is_memory}
 use Rattle.ft_model.specs.Histories.{calls_of, cursors_of}
 use Rattle.ft_history.proofs.Places.{take_next, slice_get_left, slice_get_at}
-use Rattle.ft_turns.specs.Orders.{makes, cursor_containers, ThreadState, take_locks, thread_at, next_call, without_locks, waits, sections_after, answers, with_taken, finishes}
+use Rattle.ft_turns.specs.Orders.{makes, cursor_containers, ThreadState, take_locks, thread_at, next_call, without_locks, waiting_machine, sections_after, answered_machine, with_taken, finished_machine}
 use Rattle.ft_turns.specs.Answering.{Tally, no_tally, ended_reply, waited_inside, reply_in, Progress, start_progress}
 use Rattle.ft_turns.proofs.ProgressWords.{hands_of, tally_of, next_entry, with_answer, with_mark}
 use Rattle.ft_turns.proofs.MachineSteps.{IsTry, there}
@@ -196,8 +196,8 @@ going_start script =
       counts = refl;
       bare = λ place entry at. absurd (none-some entry at);
       world = record {
-        containers = length-map script.containers (λ (c : Declaration). empty_content c.kind);
-        strings = All-map (IsContentOf (length script.strings)) (λ (c : Declaration). empty_content c.kind) script.containers (λ k d low. empty_strings (length script.strings) (get_or script.containers k d).kind);
+        containers = length-map (kinds_of script.containers) empty_content ∙ length-map script.containers (λ (c : Declaration). c.kind);
+        strings = All-map (IsContentOf (length script.strings)) empty_content (kinds_of script.containers) (λ place d low. empty_strings (length script.strings) (get_or (kinds_of script.containers) place d));
       };
       kinds = empty_kinds script.containers;
       fits = λ thread number it at. absurd (none-some it (sym (none_made (cursors_of script thread) number) ∙ ap (λ h. cursor_at h number) (sym (hands_at_start script thread)) ∙ at));
@@ -211,7 +211,7 @@ going_start script =
 
 module _ (script : ScriptParts) (calls_ok : CallsOf script) where
   pub going_waits : (progress : Progress) (thread : ℕ) (called : Call) (fixed : Bool) (asked_containers : List ℕ) (found : ℕ) → IsTry script progress.machine thread called fixed asked_containers → (take_locks thread progress.machine.holders asked_containers).found ≡ Some found
-      → IsGoing script progress → IsGoing script (record progress { machine = waits progress.machine thread (thread_at progress.machine thread) (take_locks thread progress.machine.holders asked_containers) found })
+      → IsGoing script progress → IsGoing script (record progress { machine = waiting_machine progress.machine thread (thread_at progress.machine thread) (take_locks thread progress.machine.holders asked_containers) found })
   going_waits progress thread called fixed asked_containers found try finds inv =
       let machine = progress.machine in
       let state = thread_at machine thread in
@@ -232,7 +232,7 @@ module _ (script : ScriptParts) (calls_ok : CallsOf script) where
       }
 
   pub going_finishes : (progress : Progress) (thread : ℕ) (called : Call) (asked_containers : List ℕ) → IsTry script progress.machine thread called true asked_containers → (take_locks thread progress.machine.holders asked_containers).found ≡ None
-      → IsGoing script progress → IsGoing script (record (with_mark progress thread called (thread_at progress.machine thread).mark) { machine = finishes progress.machine thread (thread_at progress.machine thread) (take_locks thread progress.machine.holders asked_containers) })
+      → IsGoing script progress → IsGoing script (record (with_mark progress thread called (thread_at progress.machine thread).mark) { machine = finished_machine progress.machine thread (thread_at progress.machine thread) (take_locks thread progress.machine.holders asked_containers) })
   going_finishes progress thread called asked_containers try finds inv =
       let machine = progress.machine in
       let state = thread_at machine thread in
@@ -266,7 +266,7 @@ module _ (script : ScriptParts) (calls_ok : CallsOf script) where
         (subst (λ k. IfSome (cursor_of called) (λ one. one < k)) (sym (inv.room thread thread_low)) (cursor_room script.containers (cursors_of script thread) called of.names))
 
   pub going_answers : (progress : Progress) (thread : ℕ) (called : Call) (asked_containers : List ℕ) → IsTry script progress.machine thread called false asked_containers → (take_locks thread progress.machine.holders asked_containers).found ≡ None
-      → IsGoing script progress → IsGoing script (record (with_answer progress thread called) { machine = answers progress.machine thread (thread_at progress.machine thread) called (take_locks thread progress.machine.holders asked_containers) })
+      → IsGoing script progress → IsGoing script (record (with_answer progress thread called) { machine = answered_machine progress.machine thread (thread_at progress.machine thread) called (take_locks thread progress.machine.holders asked_containers) })
   going_answers progress thread called asked_containers try finds inv =
       let machine = progress.machine in
       let state = thread_at machine thread in

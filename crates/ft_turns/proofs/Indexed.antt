@@ -9,7 +9,7 @@ use Rattle.ft_model.specs.declared.call.Call.{Call}
 use Rattle.ft_model.specs.declared.entry.Entry.{Entry}
 use Rattle.ft_model.specs.declared.script.ScriptParts.{ScriptParts}
 use Rattle.ft_model.specs.Histories.{entries_of, calls_of}
-use Rattle.ft_turns.specs.Orders.{ThreadState, take_locks, thread_at, without_locks, waits, sections_after, answers, with_taken, finishes}
+use Rattle.ft_turns.specs.Orders.{ThreadState, take_locks, thread_at, without_locks, waiting_machine, sections_after, answered_machine, with_taken, finished_machine}
 use Rattle.ft_turns.specs.Answering.{Progress, start_progress}
 use Rattle.ft_turns.proofs.ProgressWords.{next_entry, with_answer, with_mark}
 use Rattle.ft_turns.proofs.MachineSteps.{IsTry, there}
@@ -31,7 +31,7 @@ own_more thread entries entry =
 
 module _ (script : ScriptParts) (calls_ok : CallsOf script) where
   indexed_waits : (progress : Progress) (thread : ℕ) (called : Call) (fixed : Bool) (containers : List ℕ) (found : ℕ) → IsTry script progress.machine thread called fixed containers → IsGoing script progress → IsIndexed script progress
-      → IsIndexed script (record progress { machine = waits progress.machine thread (thread_at progress.machine thread) (take_locks thread progress.machine.holders containers) found })
+      → IsIndexed script (record progress { machine = waiting_machine progress.machine thread (thread_at progress.machine thread) (take_locks thread progress.machine.holders containers) found })
   indexed_waits progress thread called fixed containers found try going inv =
       let machine = progress.machine in
       let state = thread_at machine thread in
@@ -45,7 +45,7 @@ module _ (script : ScriptParts) (calls_ok : CallsOf script) where
       }
 
   indexed_finishes : (progress : Progress) (thread : ℕ) (called : Call) (containers : List ℕ) → IsTry script progress.machine thread called true containers → IsGoing script progress → IsIndexed script progress
-      → IsIndexed script (record (with_mark progress thread called (thread_at progress.machine thread).mark) { machine = finishes progress.machine thread (thread_at progress.machine thread) (take_locks thread progress.machine.holders containers) })
+      → IsIndexed script (record (with_mark progress thread called (thread_at progress.machine thread).mark) { machine = finished_machine progress.machine thread (thread_at progress.machine thread) (take_locks thread progress.machine.holders containers) })
   indexed_finishes progress thread called containers try going inv =
       let machine = progress.machine in
       let state = thread_at machine thread in
@@ -60,7 +60,7 @@ module _ (script : ScriptParts) (calls_ok : CallsOf script) where
       }
 
   indexed_answers : (progress : Progress) (thread : ℕ) (called : Call) (containers : List ℕ) → IsTry script progress.machine thread called false containers → IsGoing script progress → IsIndexed script progress
-      → IsIndexed script (record (with_answer progress thread called) { machine = answers progress.machine thread (thread_at progress.machine thread) called (take_locks thread progress.machine.holders containers) })
+      → IsIndexed script (record (with_answer progress thread called) { machine = answered_machine progress.machine thread (thread_at progress.machine thread) called (take_locks thread progress.machine.holders containers) })
   indexed_answers progress thread called containers try going inv =
       let machine = progress.machine in
       let state = thread_at machine thread in

@@ -18,7 +18,7 @@ use Rattle.ft_model.specs.declared.script.ScriptParts.{ScriptParts}
 use Rattle.ft_model.specs.Calls.{is_changing, is_changing_dict, is_changing_list, is_changing_set, is_locked_dict, is_locked_list, is_locked_set, one_or_two, containers_of, other_dict, other_list, other_set}
 use Rattle.ft_model.specs.Histories.{calls_of, Section, after_section, sections_at, IfEnds, names, is_disturbed, marks_between}
 use Rattle.ft_history.proofs.Places.{slice_get_at}
-use Rattle.ft_turns.specs.Orders.{locks_taken, lower_first, OpenSection, ThreadState, Machine, fresh_thread, start_machine, take_locks, holder_of, thread_at, without_locks, waits, sections_after, answers, innermost_containers, with_taken, finishes}
+use Rattle.ft_turns.specs.Orders.{locks_taken, lower_first, OpenSection, ThreadState, Machine, fresh_thread, start_machine, take_locks, holder_of, thread_at, without_locks, waiting_machine, sections_after, answered_machine, innermost_containers, with_taken, finished_machine}
 use Rattle.ft_turns.proofs.LockLemmas.{occ, occ-append, named_occ, occ-lower_first, held, bit_of, bit_same, bit_is, take_all, take_own}
 use Rattle.ft_turns.proofs.MachineSteps.{wanted, wanted_again, IsTry, IsKeptBySteps, there}
 use Rattle.ft_turns.proofs.Owned.{by_thread, flat, taken_mine, taken_others, IsOwned, owned_steps, start_thread}
@@ -26,6 +26,7 @@ use Rattle.ft_turns.proofs.Marks.{mark_at}
 use Rattle.ft_turns.proofs.Following.{IsFollowed, followed_waits, followed_answers, followed_finishes}
 use Rattle.ft_turns.proofs.PlaceSteps.{AllBelow, sections_below, sections_own, sections_other}
 use Rattle.ft_turns.proofs.Secured.{AreHeld, Secured, blocked, finished, quieter, own_next, other_next, secured_after, marked_after, drop_still_marked}
+use Rattle.ft_turns.proofs.NoSections.{none_ends}
 
 -- ---- the calls that take their locks
 
@@ -131,7 +132,7 @@ waits_again entries thread place limit quiet quiet_after (section ∷ sections) 
     (λ none _. unheld (secured.1 none is_quiet).held, no_zero entries thread place quiet_after sections marked)
 
 calm_at_end : (entries : List Entry) (thread place limit : ℕ) (quiet : Type 0) (sections : List Section) (open_sections : List OpenSection) (called : Call) → (called ≡ call.End → quiet) → Secured entries thread place limit quiet sections open_sections → IfEnds sections called (CalmAtEnd entries thread place)
-calm_at_end entries thread place limit quiet [] open_sections called ends secured = tt
+calm_at_end entries thread place limit quiet [] open_sections called ends secured = none_ends called (CalmAtEnd entries thread place)
 calm_at_end entries thread place limit quiet (section ∷ sections) [] called ends secured = absurd secured
 calm_at_end entries thread place limit quiet (section ∷ sections) (open_section ∷ open_sections) call.End ends secured = λ none. (secured.1 none (ends refl)).calm
 calm_at_end entries thread place limit quiet (section ∷ sections) (open_section ∷ open_sections) (call.Dict container dict_call) ends secured = tt
@@ -155,8 +156,8 @@ BeginsLow script = (thread index first : ℕ) (second : Option ℕ) → slice_ge
 
 module _ (script : ScriptParts) (begins_low : BeginsLow script) (mark_of : ℕ → ℕ → Option ℕ) (events : List (ℕ × ℕ)) (entries : List Entry) (reported : AreEntriesFor script mark_of events entries) where
   secured_waits : (machine : Machine) (thread : ℕ) (called : Call) (fixed : Bool) (containers : List ℕ) (found : ℕ) → IsTry script machine thread called fixed containers → (take_locks thread machine.holders containers).found ≡ Some found → IsOwned script machine → IsSecured script entries mark_of machine
-      → IsFollowed events mark_of (waits machine thread (thread_at machine thread) (take_locks thread machine.holders containers) found)
-      → IsSecured script entries mark_of (waits machine thread (thread_at machine thread) (take_locks thread machine.holders containers) found)
+      → IsFollowed events mark_of (waiting_machine machine thread (thread_at machine thread) (take_locks thread machine.holders containers) found)
+      → IsSecured script entries mark_of (waiting_machine machine thread (thread_at machine thread) (take_locks thread machine.holders containers) found)
   secured_waits machine thread called fixed containers found try finds owns inv follows =
       let state = thread_at machine thread in
       let n = length machine.answered in
@@ -190,7 +191,7 @@ module _ (script : ScriptParts) (begins_low : BeginsLow script) (mark_of : ℕ �
       }
 
   secured_finishes : (machine : Machine) (thread : ℕ) (called : Call) (containers : List ℕ) → IsTry script machine thread called true containers → IsOwned script machine → IsSecured script entries mark_of machine
-      → IsSecured script entries mark_of (finishes machine thread (thread_at machine thread) (take_locks thread machine.holders containers))
+      → IsSecured script entries mark_of (finished_machine machine thread (thread_at machine thread) (take_locks thread machine.holders containers))
   secured_finishes machine thread called containers try owns inv =
       let state = thread_at machine thread in
       let n = length machine.answered in
@@ -289,7 +290,7 @@ module _ (script : ScriptParts) (begins_low : BeginsLow script) (mark_of : ℕ �
         (calm_at_end entries thread (length machine.answered) (length script.containers) (Quiet (thread_at machine thread)) (sections_at entries thread (length machine.answered)) (thread_at machine thread).sections here.entry.call
         (λ ends unfixed. (owns.ended thread unfixed (try.next ∙ ap Some (sym call_is ∙ ends))).1) (inv.secured thread))
 
-    secured_answers : IsSecured script entries mark_of (answers machine thread (thread_at machine thread) called (take_locks thread machine.holders containers))
+    secured_answers : IsSecured script entries mark_of (answered_machine machine thread (thread_at machine thread) called (take_locks thread machine.holders containers))
     secured_answers =
         let state = thread_at machine thread in
         let locking = take_locks thread machine.holders containers in

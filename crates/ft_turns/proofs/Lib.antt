@@ -18,6 +18,7 @@ pub mod LockLemmas
 pub mod MachineSoundness
 pub mod MachineSteps
 pub mod Marks
+pub mod NoSections
 pub mod Owned
 pub mod PlaceSteps
 pub mod Progress

@@ -9,7 +9,7 @@ use Rattle.ft_model.specs.declared.script.Thread.{Thread}
 use Rattle.ft_model.specs.declared.call.Call.{Call}
 use Rattle.ft_model.specs.declared.script.ScriptParts.{ScriptParts}
 use Rattle.ft_model.specs.Histories.{calls_of}
-use Rattle.ft_turns.specs.Orders.{locks_taken, sections_after, without_locks, lower_first, ThreadState, Machine, fresh_thread, take_locks, thread_at, next_call, waits, answers, innermost_containers, finishes, try_answer, relocked, try_finish, turn}
+use Rattle.ft_turns.specs.Orders.{locks_taken, sections_after, without_locks, lower_first, ThreadState, Machine, fresh_thread, take_locks, thread_at, next_call, waiting_machine, answered_machine, innermost_containers, finished_machine, try_answer, relocked, try_finish, turn}
 
 -- the containers whose locks the next call of a thread takes, and those that it takes up again
 abbrev pub wanted : ScriptParts → Machine → ℕ → Call → List ℕ
@@ -28,19 +28,19 @@ pub record IsTry (script : ScriptParts) (machine : Machine) (thread : ℕ) (call
 pub record IsKeptBySteps (script : ScriptParts) (P : Machine → Type 0) : Type 0 where
   pub waits : (machine : Machine) (thread : ℕ) (called : Call) (fixed : Bool) (containers : List ℕ) (found : ℕ)
       → IsTry script machine thread called fixed containers → (take_locks thread machine.holders containers).found ≡ Some found
-      → P machine → P (waits machine thread (thread_at machine thread) (take_locks thread machine.holders containers) found)
+      → P machine → P (waiting_machine machine thread (thread_at machine thread) (take_locks thread machine.holders containers) found)
   pub answers : (machine : Machine) (thread : ℕ) (called : Call) (containers : List ℕ)
       → IsTry script machine thread called false containers → (take_locks thread machine.holders containers).found ≡ None
-      → P machine → P (answers machine thread (thread_at machine thread) called (take_locks thread machine.holders containers))
+      → P machine → P (answered_machine machine thread (thread_at machine thread) called (take_locks thread machine.holders containers))
   pub finishes : (machine : Machine) (thread : ℕ) (called : Call) (containers : List ℕ)
       → IsTry script machine thread called true containers → (take_locks thread machine.holders containers).found ≡ None
-      → P machine → P (finishes machine thread (thread_at machine thread) (take_locks thread machine.holders containers))
+      → P machine → P (finished_machine machine thread (thread_at machine thread) (take_locks thread machine.holders containers))
 
 module _ (script : ScriptParts) (P : Machine → Type 0) (keeps : IsKeptBySteps script P) where
   tries : (machine : Machine) (thread : ℕ) (called : Call) → next_call script thread (thread_at machine thread) ≡ Some called → (thread_at machine thread).fixed ≡ false → P machine → P (try_answer script machine thread (thread_at machine thread) called)
   tries machine thread called next unfixed holds =
       let locking = take_locks thread machine.holders (wanted script machine thread called) in
-      elim locking.found as (λ f. locking.found ≡ f → P (option_map_or (waits machine thread (thread_at machine thread) locking) f (answers machine thread (thread_at machine thread) called locking))) [
+      elim locking.found as (λ f. locking.found ≡ f → P (option_map_or (waiting_machine machine thread (thread_at machine thread) locking) f (answered_machine machine thread (thread_at machine thread) called locking))) [
         | None ↦ λ none. keeps.answers machine thread called (wanted script machine thread called) (record { next = next; state = unfixed; asks = refl }) none holds
         | Some found ↦ λ some. keeps.waits machine thread called false (wanted script machine thread called) found (record { next = next; state = unfixed; asks = refl }) some holds
       ] refl
@@ -50,7 +50,7 @@ module _ (script : ScriptParts) (P : Machine → Type 0) (keeps : IsKeptBySteps 
       let locking = take_locks thread machine.holders (wanted_again machine thread) in
       elim (thread_at machine thread).fixed as (λ b. (thread_at machine thread).fixed ≡ b → P (if b then relocked machine thread (thread_at machine thread) locking else machine)) [
         | false ↦ λ unfixed. holds
-        | true ↦ λ fixed. elim locking.found as (λ f. locking.found ≡ f → P (option_map_or (waits machine thread (thread_at machine thread) locking) f (finishes machine thread (thread_at machine thread) locking))) [
+        | true ↦ λ fixed. elim locking.found as (λ f. locking.found ≡ f → P (option_map_or (waiting_machine machine thread (thread_at machine thread) locking) f (finished_machine machine thread (thread_at machine thread) locking))) [
           | None ↦ λ none. keeps.finishes machine thread called (wanted_again machine thread) (record { next = next; state = fixed; asks = refl }) none holds
           | Some found ↦ λ some. keeps.waits machine thread called true (wanted_again machine thread) found (record { next = next; state = fixed; asks = refl }) some holds
         ] refl
@@ -80,7 +80,7 @@ module _ (script : ScriptParts) (P : Machine → Type 0) (keeps : IsKeptBySteps 
   try_same machine thread called =
       let state = thread_at machine thread in
       let locking = take_locks thread machine.holders (wanted script machine thread called) in
-      elim locking.found as (λ f. Same machine thread (option_map_or (waits machine thread state locking) f (answers machine thread state called locking))) [
+      elim locking.found as (λ f. Same machine thread (option_map_or (waiting_machine machine thread state locking) f (answered_machine machine thread state called locking))) [
         | None ↦ same_marks machine.threads thread (record state { fixed = true; sections = sections_after called (state.own ++ locking.taken) state.sections; own = [] }) refl
         | Some found ↦ same_marks machine.threads thread (record state { sections = map without_locks state.sections; own = state.own ++ locking.taken; mark = if is_some state.mark then state.mark else Some found }) refl
       ]

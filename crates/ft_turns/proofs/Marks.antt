@@ -13,7 +13,7 @@ use Rattle.ft_model.specs.declared.script.ScriptParts.{ScriptParts}
 use Rattle.ft_model.specs.Calls.{containers_of, locks_of}
 use Rattle.ft_model.specs.Histories.{calls_of, names, has_call_on}
 use Rattle.ft_history.proofs.Places.{take_next}
-use Rattle.ft_turns.specs.Orders.{makes, cursor_containers, locks_taken, OpenSection, ThreadState, Machine, fresh_thread, start_machine, holder_of, take_locks, let_go, thread_at, without_locks, waits, sections_after, lets_go, answers, innermost_containers, with_taken, finishes}
+use Rattle.ft_turns.specs.Orders.{makes, cursor_containers, locks_taken, OpenSection, ThreadState, Machine, fresh_thread, start_machine, holder_of, take_locks, let_go, thread_at, without_locks, waiting_machine, sections_after, lets_go, answered_machine, innermost_containers, with_taken, finished_machine}
 use Rattle.ft_turns.proofs.LockLemmas.{occ, occ-append, occ-nil, occ-cons, occ_named, occ-lower_first, let_go_less, take_less, take_found}
 use Rattle.ft_turns.proofs.MachineSteps.{IsTry, IsKeptBySteps, there}
 use Rattle.ft_turns.proofs.Owned.{by_thread, flat, owned_steps, IsOwned, start_thread, start_holder}
@@ -212,7 +212,7 @@ module _ (script : ScriptParts) where
         | inr mine ↦ subst (λ t. has_call_on script t which ≡ true) (sym mine.0) (try_backed machine thread called fixed containers try inv which mine.1).0
       ]
 
-  backed_waits : (machine : Machine) (thread : ℕ) (called : Call) (fixed : Bool) (containers : List ℕ) (found : ℕ) → IsTry script machine thread called fixed containers → (take_locks thread machine.holders containers).found ≡ Some found → (IsOwned script machine) × (IsBacked script machine) → IsBacked script (waits machine thread (thread_at machine thread) (take_locks thread machine.holders containers) found)
+  backed_waits : (machine : Machine) (thread : ℕ) (called : Call) (fixed : Bool) (containers : List ℕ) (found : ℕ) → IsTry script machine thread called fixed containers → (take_locks thread machine.holders containers).found ≡ Some found → (IsOwned script machine) × (IsBacked script machine) → IsBacked script (waiting_machine machine thread (thread_at machine thread) (take_locks thread machine.holders containers) found)
   backed_waits machine thread called fixed containers found try finds both =
       let inv : IsBacked script machine = both.1 in
       let state = thread_at machine thread in
@@ -247,7 +247,7 @@ module _ (script : ScriptParts) where
             (λ u differs. inv.marks u);
       }
 
-  backed_answers : (machine : Machine) (thread : ℕ) (called : Call) (containers : List ℕ) → IsTry script machine thread called false containers → (take_locks thread machine.holders containers).found ≡ None → (IsOwned script machine) × (IsBacked script machine) → IsBacked script (answers machine thread (thread_at machine thread) called (take_locks thread machine.holders containers))
+  backed_answers : (machine : Machine) (thread : ℕ) (called : Call) (containers : List ℕ) → IsTry script machine thread called false containers → (take_locks thread machine.holders containers).found ≡ None → (IsOwned script machine) × (IsBacked script machine) → IsBacked script (answered_machine machine thread (thread_at machine thread) called (take_locks thread machine.holders containers))
   backed_answers machine thread called containers try finds both =
       let inv : IsBacked script machine = both.1 in
       let state = thread_at machine thread in
@@ -268,7 +268,7 @@ module _ (script : ScriptParts) where
             (inv.marks thread) (λ u differs. inv.marks u);
       }
 
-  backed_finishes : (machine : Machine) (thread : ℕ) (called : Call) (containers : List ℕ) → IsTry script machine thread called true containers → (take_locks thread machine.holders containers).found ≡ None → (IsOwned script machine) × (IsBacked script machine) → IsBacked script (finishes machine thread (thread_at machine thread) (take_locks thread machine.holders containers))
+  backed_finishes : (machine : Machine) (thread : ℕ) (called : Call) (containers : List ℕ) → IsTry script machine thread called true containers → (take_locks thread machine.holders containers).found ≡ None → (IsOwned script machine) × (IsBacked script machine) → IsBacked script (finished_machine machine thread (thread_at machine thread) (take_locks thread machine.holders containers))
   backed_finishes machine thread called containers try finds both =
       let inv : IsBacked script machine = both.1 in
       let state = thread_at machine thread in

@@ -26,13 +26,13 @@ module _ (script : ScriptParts) (rule : IsScript script) (history : List Entry) 
   of_turns = chronicle_is script rule
 
   pub order_run : IsOrderRun storage.Plain script history
-  order_run = record { chronicle = answered_turns script; same = moved; order = of_turns.order; fair = of_turns.fair }
+  order_run = record { chronicle = answered_turns script; same = moved; order = of_turns.order; chronicled = of_turns.chronicled }
 
   pub entries_stay : All (IsEntryOf script) history
   entries_stay = All-permutation (IsEntryOf script) (answered_turns script) history moved of_turns.entries_of
 
   pub world_stays : IsSorted history_cmp history → (last_progress script).world ≡ world_at script history (length (writes history))
   world_stays sorted =
-      let fair = of_turns.fair in
-      let same = same_written script (answered_turns script) history fair.whole (λ place entry at. (fair.answered place entry at).stamp) moved sorted in
+      let chronicled = of_turns.chronicled in
+      let same = same_written script (answered_turns script) history chronicled.whole (λ place entry at. (chronicled.answered place entry at).stamp) moved sorted in
       of_turns.world_is ∙ ap (λ (es : List Entry). fold after_write (start_world script.containers) (take (length (map (λ (e : Entry). e.call) es)) (map (λ (e : Entry). e.call) es))) same

@@ -10,7 +10,7 @@ use Rattle.ft_model.specs.declared.call.Call.TheVariants as call
 use Rattle.ft_model.specs.declared.script.Declaration.{Declaration}
 use Rattle.ft_model.specs.declared.script.ScriptParts.{ScriptParts}
 use Rattle.ft_model.specs.declared.script.Thread.{Thread}
-use Rattle.ft_turns.specs.Orders.{OpenSection, ThreadState, Machine, Locking, fresh_thread, start_machine, holder_of, take_locks, let_go, thread_at, next_call, without_locks, waits, sections_after, lets_go, answers, innermost_containers, with_taken, finishes, lower_first}
+use Rattle.ft_turns.specs.Orders.{OpenSection, ThreadState, Machine, Locking, fresh_thread, start_machine, holder_of, take_locks, let_go, thread_at, next_call, without_locks, waiting_machine, sections_after, lets_go, answered_machine, innermost_containers, with_taken, finished_machine, lower_first}
 use Rattle.ft_turns.proofs.LockLemmas.{occ, occ-append, occ-nil, bit_of, held, bit_none, bit_same, bit_other, bit_most, bit_one, let_go_at, let_go-length, TookAt, WentAt, take_at, take_length}
 use Rattle.ft_turns.proofs.MachineSteps.{wanted, wanted_again, IsTry, IsKeptBySteps, there}
 
@@ -137,7 +137,7 @@ none_taken : (thread : ℕ) (holders : List (Option ℕ)) (containers : List ℕ
 none_taken thread holders containers none = ap (λ os. (take_locks thread holders os).taken) none
 
 module _ (script : ScriptParts) where
-  owned_waits : (machine : Machine) (thread : ℕ) (called : Call) (fixed : Bool) (containers : List ℕ) (found : ℕ) → IsTry script machine thread called fixed containers → (take_locks thread machine.holders containers).found ≡ Some found → IsOwned script machine → IsOwned script (waits machine thread (thread_at machine thread) (take_locks thread machine.holders containers) found)
+  owned_waits : (machine : Machine) (thread : ℕ) (called : Call) (fixed : Bool) (containers : List ℕ) (found : ℕ) → IsTry script machine thread called fixed containers → (take_locks thread machine.holders containers).found ≡ Some found → IsOwned script machine → IsOwned script (waiting_machine machine thread (thread_at machine thread) (take_locks thread machine.holders containers) found)
   owned_waits machine thread called fixed containers found try finds inv =
       let state = thread_at machine thread in
       let locking = take_locks thread machine.holders containers in
@@ -158,7 +158,7 @@ module _ (script : ScriptParts) where
         bare = by_thread (λ u s. s.fixed ≡ true → s.sections ≡ [] → s.own ≡ []) machine.threads thread after low (λ is_fixed none. absurd (none_found thread machine.holders containers found (bare_asks_none script machine thread called fixed containers try (sym try.state ∙ is_fixed) (map_nil without_locks state.sections none)) finds)) (λ u differs. inv.bare u);
       }
 
-  owned_answers : (machine : Machine) (thread : ℕ) (called : Call) (containers : List ℕ) → IsTry script machine thread called false containers → (take_locks thread machine.holders containers).found ≡ None → IsOwned script machine → IsOwned script (answers machine thread (thread_at machine thread) called (take_locks thread machine.holders containers))
+  owned_answers : (machine : Machine) (thread : ℕ) (called : Call) (containers : List ℕ) → IsTry script machine thread called false containers → (take_locks thread machine.holders containers).found ≡ None → IsOwned script machine → IsOwned script (answered_machine machine thread (thread_at machine thread) called (take_locks thread machine.holders containers))
   owned_answers machine thread called containers try finds inv =
       let state = thread_at machine thread in
       let locking = take_locks thread machine.holders containers in
@@ -181,7 +181,7 @@ module _ (script : ScriptParts) where
         bare = by_thread (λ u s. s.fixed ≡ true → s.sections ≡ [] → s.own ≡ []) machine.threads thread after low (λ is_fixed none. refl) (λ u differs. inv.bare u);
       }
 
-  owned_finishes : (machine : Machine) (thread : ℕ) (called : Call) (containers : List ℕ) → IsTry script machine thread called true containers → (take_locks thread machine.holders containers).found ≡ None → IsOwned script machine → IsOwned script (finishes machine thread (thread_at machine thread) (take_locks thread machine.holders containers))
+  owned_finishes : (machine : Machine) (thread : ℕ) (called : Call) (containers : List ℕ) → IsTry script machine thread called true containers → (take_locks thread machine.holders containers).found ≡ None → IsOwned script machine → IsOwned script (finished_machine machine thread (thread_at machine thread) (take_locks thread machine.holders containers))
   owned_finishes machine thread called containers try finds inv =
       let state = thread_at machine thread in
       let locking = take_locks thread machine.holders containers in

@@ -17,7 +17,7 @@ use Rattle.ft_model.specs.Answers.{answer, after_write, is_raised, is_memory, is
 use Rattle.ft_model.specs.Histories.{writes, world_at, entries_of, calls_of, cursors_of, after_entry, hands_at, IsReplied, Section, after_section, sections_at}
 use Rattle.ft_history.specs.Internal.States.{world_before}
 use Rattle.ft_history.proofs.Places.{filter_next, writes_next, world_at-before}
-use Rattle.ft_turns.specs.Orders.{ThreadState, fresh_thread, take_locks, thread_at, next_call, without_locks, waits, sections_after, answers, with_taken, finishes}
+use Rattle.ft_turns.specs.Orders.{ThreadState, fresh_thread, take_locks, thread_at, next_call, without_locks, waiting_machine, sections_after, answered_machine, with_taken, finished_machine}
 use Rattle.ft_turns.specs.Answering.{Tally, no_tally, tally_after, Progress, start_progress}
 use Rattle.ft_turns.proofs.ProgressWords.{hands_of, tally_of, next_reply, next_entry, with_answer, with_mark}
 use Rattle.ft_turns.proofs.MachineSteps.{IsTry, there}
@@ -61,7 +61,7 @@ writes_changing false raised h = absurd (false≢true h)
 
 module _ (script : ScriptParts) (calls_ok : CallsOf script) (events : List (ℕ × ℕ)) (mark_of : ℕ → ℕ → Option ℕ) (entries : List Entry) where
   reported_waits : (progress : Progress) (thread : ℕ) (called : Call) (fixed : Bool) (containers : List ℕ) (found : ℕ) → IsTry script progress.machine thread called fixed containers → IsGoing script progress → HasRightReply script mark_of entries progress
-      → HasRightReply script mark_of entries (record progress { machine = waits progress.machine thread (thread_at progress.machine thread) (take_locks thread progress.machine.holders containers) found })
+      → HasRightReply script mark_of entries (record progress { machine = waiting_machine progress.machine thread (thread_at progress.machine thread) (take_locks thread progress.machine.holders containers) found })
   reported_waits progress thread called fixed containers found try going reported =
       let machine = progress.machine in
       let state = thread_at machine thread in
@@ -80,7 +80,7 @@ module _ (script : ScriptParts) (calls_ok : CallsOf script) (events : List (ℕ 
 
   reported_finishes : (progress : Progress) (thread : ℕ) (called : Call) (containers : List ℕ) → IsTry script progress.machine thread called true containers → IsGoing script progress → HasRightReply script mark_of entries progress
       → mark_of thread (length (thread_at progress.machine thread).marks) ≡ (thread_at progress.machine thread).mark
-      → HasRightReply script mark_of entries (record (with_mark progress thread called (thread_at progress.machine thread).mark) { machine = finishes progress.machine thread (thread_at progress.machine thread) (take_locks thread progress.machine.holders containers) })
+      → HasRightReply script mark_of entries (record (with_mark progress thread called (thread_at progress.machine thread).mark) { machine = finished_machine progress.machine thread (thread_at progress.machine thread) (take_locks thread progress.machine.holders containers) })
   reported_finishes progress thread called containers try going reported mark_is =
       let machine = progress.machine in
       let state = thread_at machine thread in
@@ -232,7 +232,7 @@ module _ (script : ScriptParts) (calls_ok : CallsOf script) (events : List (ℕ 
           stack = subst (λ k. map (λ section. section.containers) (after_section n called (sections_at entries thread n)) ≡ own_stack (take (k + 1) calls)) (sym index_is) stack_later;
         }
 
-    reported_answers : HasRightReply script mark_of entries (record (with_answer progress thread called) { machine = answers progress.machine thread (thread_at progress.machine thread) called (take_locks thread progress.machine.holders containers) })
+    reported_answers : HasRightReply script mark_of entries (record (with_answer progress thread called) { machine = answered_machine progress.machine thread (thread_at progress.machine thread) called (take_locks thread progress.machine.holders containers) })
     reported_answers =
         let machine = progress.machine in
         let state = thread_at machine thread in

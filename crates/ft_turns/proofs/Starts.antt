@@ -8,10 +8,10 @@ use Rattle.ft_model.specs.declared.script.Thread.{Thread}
 use Rattle.ft_model.specs.declared.script.ScriptParts.{ScriptParts}
 use Rattle.ft_model.specs.Histories.{calls_of, cursors_of}
 use Rattle.ft_model.specs.Calls.{container_list}
-use Rattle.ft_turns.specs.declared.machine.Standing.{Standing}
+use Rattle.ft_turns.specs.declared.machine.ThreadState.{ThreadState as StoredThread}
 use Rattle.ft_turns.specs.Cursors.{AreCursors, no_containers}
 use Rattle.ft_turns.specs.Orders.{fresh_thread}
-use Rattle.ft_turns.specs.Standings.{state_of, IsReady, IsReadyThread, AreFresh}
+use Rattle.ft_turns.specs.ThreadStates.{state_of, IsReady, IsReadyThread, AreFresh}
 
 -- no holders
 pub none_held : {X : Type 0} (xs : List X) → replicate (length xs) None ≡ map (λ x. let none : Option ℕ = None in none) xs
@@ -32,23 +32,23 @@ all_fresh [] k = refl
 all_fresh (thread ∷ threads) zero = refl
 all_fresh (thread ∷ threads) (suc k) = all_fresh threads k
 
-pub fresh_ready : (script : ScriptParts) (standings : List Standing) → AreFresh script.threads standings → IsReady script standings
-fresh_ready script standings fresh =
-    let count : length standings ≡ length script.threads = sym (length-map standings state_of) ∙ (ap length fresh.states ∙ length-map script.threads (λ thread. fresh_thread)) in
+pub fresh_ready : (script : ScriptParts) (thread_states : List StoredThread) → AreFresh script.threads thread_states → IsReady script thread_states
+fresh_ready script thread_states fresh =
+    let count : length thread_states ≡ length script.threads = sym (length-map thread_states state_of) ∙ (ap length fresh.states ∙ length-map script.threads (λ thread. fresh_thread)) in
     record {
       threads = count;
       each = λ k default within.
           let in_script : k < length script.threads = omega arith in
-          let standing = get_or standings k default in
-          let state : state_of standing ≡ fresh_thread =
-          sym (get_or-map state_of standings k default fresh_thread within)
+          let thread_state = get_or thread_states k default in
+          let state : state_of thread_state ≡ fresh_thread =
+          sym (get_or-map state_of thread_states k default fresh_thread within)
           ∙ (ap (λ states. get_or states k fresh_thread) fresh.states ∙ all_fresh script.threads k) in
-          let marks : standing.marks.items ≡ [] = ap (λ s. s.marks) state in
+          let marks : thread_state.marks.items ≡ [] = ap (λ s. s.marks) state in
           ⊎_elim
           (λ (found : (t : Thread) × (k < length script.threads) × (slice_get script.threads k ≡ Some t) × (get_or script.threads k t ≡ t)).
-          let cursors : standing.cursors.items ≡ replicate (length found.0.cursors) no_containers = fresh.cursors k found.0 default within ∙ ap (λ (t : Thread). replicate (length t.cursors) no_containers) found.3 in
+          let cursors : thread_state.cursors.items ≡ replicate (length found.0.cursors) no_containers = fresh.cursors k found.0 default within ∙ ap (λ (t : Thread). replicate (length t.cursors) no_containers) found.3 in
           let room : cursors_of script k ≡ length found.0.cursors = ap (λ one. option_map_or (λ (t : Thread). length t.cursors) one 0) found.2 in
-          let ready : IsReadyThread (calls_of script k) (cursors_of script k) standing = record {
+          let ready : IsReadyThread (calls_of script k) (cursors_of script k) thread_state = record {
             made = rw marks (omega arith);
             cursors = rw (marks, cursors) (fresh_cursors (length found.0.cursors));
             room = rw (cursors, room) (length-replicate (length found.0.cursors) no_containers);

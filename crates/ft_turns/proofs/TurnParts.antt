@@ -6,8 +6,8 @@ use Rattle.std.proofs.lemmas.List.{append-nil, set-get_or, set-set, get_or-set_s
 use Rattle.ft_model.specs.declared.call.Call.{Call}
 use Rattle.ft_model.specs.declared.script.ScriptParts.{ScriptParts}
 use Rattle.ft_model.specs.Histories.{calls_of}
-use Rattle.ft_turns.specs.Orders.{ThreadState, Machine, Locking, fresh_thread, lower_first, locks_taken, take_locks, thread_at, next_call, waits, answers, finishes, locked, relocked, try_answer, try_finish, innermost_containers, turn}
-use Rattle.ft_turns.specs.Standings.{Tried, not_tried, tried_in_vain, answer_tried, finish_tried, answer_part, finish_part, newly_answered, placed}
+use Rattle.ft_turns.specs.Orders.{ThreadState, Machine, Locking, fresh_thread, lower_first, locks_taken, take_locks, thread_at, next_call, waiting_machine, answered_machine, finished_machine, locked, relocked, try_answer, try_finish, innermost_containers, turn}
+use Rattle.ft_turns.specs.ThreadStates.{Tried, not_tried, tried_in_vain, answer_tried, finish_tried, answer_part, finish_part, newly_answered, placed}
 
 same_answered : (machine : Machine) (thread : ℕ) (tried : Tried) → record machine { holders = tried.holders; threads = set machine.threads thread tried.state } ≡ placed machine thread tried []
 same_answered machine thread tried =
@@ -16,7 +16,7 @@ same_answered machine thread tried =
 
 locked_is : (machine : Machine) (thread : ℕ) (state : ThreadState) (called : Call) (locking : Locking) → locked machine thread state called locking ≡ placed machine thread (answer_tried state called locking) (newly_answered thread (length state.marks) (answer_tried state called locking).done)
 locked_is machine thread state called locking =
-    elim locking.found as (λ found. option_map_or (waits machine thread state locking) found (answers machine thread state called locking) ≡ placed machine thread (answer_tried state called (record locking { found = found })) (newly_answered thread (length state.marks) (answer_tried state called (record locking { found = found })).done)) [
+    elim locking.found as (λ found. option_map_or (waiting_machine machine thread state locking) found (answered_machine machine thread state called locking) ≡ placed machine thread (answer_tried state called (record locking { found = found })) (newly_answered thread (length state.marks) (answer_tried state called (record locking { found = found })).done)) [
       | None ↦ refl
       | Some found ↦ same_answered machine thread (tried_in_vain state locking found)
     ]
@@ -38,7 +38,7 @@ first_part script machine thread state called is = first_at state.fixed machine 
 relocked_is : (machine : Machine) (thread : ℕ) (tried : Tried) (more : List (ℕ × ℕ)) (state : ThreadState) (locking : Locking) → relocked (placed machine thread tried more) thread state locking ≡ placed machine thread (finish_tried state locking) more
 relocked_is machine thread tried more state locking =
     let m : List (Option ℕ) → List ThreadState → Machine = λ h l. record { holders = h; threads = l; answered = machine.answered ++ more } in
-    elim locking.found as (λ found. option_map_or (waits (placed machine thread tried more) thread state locking) found (finishes (placed machine thread tried more) thread state locking) ≡ placed machine thread (finish_tried state (record locking { found = found })) more) [
+    elim locking.found as (λ found. option_map_or (waiting_machine (placed machine thread tried more) thread state locking) found (finished_machine (placed machine thread tried more) thread state locking) ≡ placed machine thread (finish_tried state (record locking { found = found })) more) [
       | None ↦ ap (m _) (set-set machine.threads thread tried.state _)
       | Some found ↦ ap (m _) (set-set machine.threads thread tried.state _)
     ]

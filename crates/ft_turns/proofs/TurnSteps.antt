@@ -11,11 +11,11 @@ use Rattle.ft_model.specs.declared.script.Thread.{Thread}
 use Rattle.ft_model.specs.declared.call.Call.{Call}
 use Rattle.ft_model.specs.declared.script.ScriptParts.{ScriptParts}
 use Rattle.ft_model.specs.Histories.{calls_of, cursors_of}
-use Rattle.ft_turns.specs.declared.machine.Standing.{Standing}
+use Rattle.ft_turns.specs.declared.machine.ThreadState.{ThreadState as StoredThread}
 use Rattle.ft_turns.specs.declared.machine.Turned.{Turned}
 use Rattle.ft_turns.specs.Cursors.{AreCursors}
 use Rattle.ft_turns.specs.Orders.{ThreadState, Machine, Locking, fresh_thread, thread_at, next_call, take_locks, lower_first, locks_taken, innermost_containers, turn}
-use Rattle.ft_turns.specs.Standings.{state_of, machine_with, Tried, not_tried, answer_tried, finish_tried, answer_part, finish_part, newly_answered, placed, turned_of, marks_made, IsTried, IsReady, IsReadyThread}
+use Rattle.ft_turns.specs.ThreadStates.{state_of, machine_with, Tried, not_tried, answer_tried, finish_tried, answer_part, finish_part, newly_answered, placed, turned_of, marks_made, IsTried, IsReady, IsReadyThread}
 use Rattle.ft_turns.proofs.TurnParts.{turn_is, idle_turn}
 
 -- ---- marks
@@ -49,10 +49,10 @@ one_if false thread place = refl
 -- ---- the machine
 
 -- the thread of a place, as the machine has it
-at_place : (holders : List (Option ℕ)) (threads : List Standing) (answered : List (ℕ × ℕ)) (thread : ℕ) (d : Standing) → thread < length threads → state_of (get_or threads thread d) ≡ thread_at (machine_with holders threads answered) thread
+at_place : (holders : List (Option ℕ)) (threads : List StoredThread) (answered : List (ℕ × ℕ)) (thread : ℕ) (d : StoredThread) → thread < length threads → state_of (get_or threads thread d) ≡ thread_at (machine_with holders threads answered) thread
 at_place holders threads answered thread d within = sym (get_or-map state_of threads thread d fresh_thread within)
 
-pub step_machine : (script : ScriptParts) (holders holders_after : List (Option ℕ)) (threads : List Standing) (thread : ℕ) (d after : Standing) (called : Call) (turned : Turned) (answered : List (ℕ × ℕ))
+pub step_machine : (script : ScriptParts) (holders holders_after : List (Option ℕ)) (threads : List StoredThread) (thread : ℕ) (d after : StoredThread) (called : Call) (turned : Turned) (answered : List (ℕ × ℕ))
     → thread < length threads
     → next_call script thread (state_of (get_or threads thread d)) ≡ Some called
     → IsTried thread (take (length (get_or threads thread d).marks.items) (calls_of script thread)) called holders (state_of (get_or threads thread d)) turned holders_after (state_of after)
@@ -90,7 +90,7 @@ step_turned_at script machine thread called turned state none within is next pla
     ∙ (ap (one (length state.marks) turned.answered) (ended ∙ sym finished) ∙ ap (λ p. one p turned.answered turned.finished) (sym place)) in
     sym (of_state ∙ (of_call ∙ (of_turn ∙ whole)))
 
-pub step_turned : (script : ScriptParts) (holders holders_after : List (Option ℕ)) (threads : List Standing) (thread : ℕ) (d after : Standing) (called : Call) (turned : Turned)
+pub step_turned : (script : ScriptParts) (holders holders_after : List (Option ℕ)) (threads : List StoredThread) (thread : ℕ) (d after : StoredThread) (called : Call) (turned : Turned)
     → thread < length threads
     → next_call script thread (state_of (get_or threads thread d)) ≡ Some called
     → IsTried thread (take (length (get_or threads thread d).marks.items) (calls_of script thread)) called holders (state_of (get_or threads thread d)) turned holders_after (state_of after)
@@ -110,7 +110,7 @@ at_most_one : (b : Bool) → (if b then 1 else 0) ≤ 1
 at_most_one true = omega arith
 at_most_one false = omega arith
 
-pub step_ready : (script : ScriptParts) (threads : List Standing) (thread : ℕ) (d after : Standing) (called : Call) (turned : Turned) (holders holders_after : List (Option ℕ))
+pub step_ready : (script : ScriptParts) (threads : List StoredThread) (thread : ℕ) (d after : StoredThread) (called : Call) (turned : Turned) (holders holders_after : List (Option ℕ))
     → IsReady script threads
     → thread < length threads
     → next_call script thread (state_of (get_or threads thread d)) ≡ Some called
@@ -143,7 +143,7 @@ step_ready script threads thread d after called turned holders holders_after rea
     }
 
 -- how many calls have finished then
-pub step_marks : (script : ScriptParts) (threads : List Standing) (thread : ℕ) (d after : Standing) (called : Call) (turned : Turned) (holders holders_after : List (Option ℕ)) (before : List Call)
+pub step_marks : (script : ScriptParts) (threads : List StoredThread) (thread : ℕ) (d after : StoredThread) (called : Call) (turned : Turned) (holders holders_after : List (Option ℕ)) (before : List Call)
     → thread < length threads
     → IsTried thread before called holders (state_of (get_or threads thread d)) turned holders_after (state_of after)
     → marks_made (set threads thread after) ≡ marks_made threads + (if turned.finished then 1 else 0)
@@ -153,19 +153,19 @@ step_marks script threads thread d after called turned holders holders_after bef
     let second = finish_part thread first in
     let marks : length after.marks.items ≡ length state.marks + (if turned.finished then 1 else 0) =
     ap (λ s. length s.marks) tried.state ∙ (finish_adds_mark thread first ∙ (ap (λ ms. length ms + (if second.done then 1 else 0)) (answer_keeps_marks thread before called holders state) ∙ ap (λ f. length state.marks + (if f then 1 else 0)) (sym tried.finished))) in
-    let sums = sum_by-set (λ (standing : Standing). length standing.marks.items) threads thread after d within in
+    let sums = sum_by-set (λ (thread_state : StoredThread). length thread_state.marks.items) threads thread after d within in
     omega (arith, marks, sums)
 
 -- ---- a turn of a thread without calls
 
-pub idle_machine : (script : ScriptParts) (holders : List (Option ℕ)) (threads : List Standing) (thread : ℕ) (d : Standing) (answered : List (ℕ × ℕ))
+pub idle_machine : (script : ScriptParts) (holders : List (Option ℕ)) (threads : List StoredThread) (thread : ℕ) (d : StoredThread) (answered : List (ℕ × ℕ))
     → thread < length threads
     → next_call script thread (state_of (get_or threads thread d)) ≡ None
     → machine_with holders (set threads thread (get_or threads thread d)) (answered ++ []) ≡ turn script (machine_with holders threads answered) thread
 idle_machine script holders threads thread d answered within next =
     rw (set-get_or threads thread d, append-nil answered) (sym (idle_turn script (machine_with holders threads answered) thread (state_of (get_or threads thread d)) (at_place holders threads answered thread d within) next))
 
-pub idle_turned : (script : ScriptParts) (holders : List (Option ℕ)) (threads : List Standing) (thread : ℕ) (d : Standing)
+pub idle_turned : (script : ScriptParts) (holders : List (Option ℕ)) (threads : List StoredThread) (thread : ℕ) (d : StoredThread)
     → thread < length threads
     → next_call script thread (state_of (get_or threads thread d)) ≡ None
     → None ≡ turned_of script (machine_with holders threads []) thread

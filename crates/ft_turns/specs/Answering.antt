@@ -28,7 +28,11 @@ no_tally = record { count = 0; noted = [] }
 abbrev pub noted_after : Call → List ℕ → ℕ → Tally
 noted_after (call.Begin first second) noted count = record { count = count; noted = count ∷ noted }
 noted_after call.End noted count = record { count = count; noted = drop 1 noted }
-noted_after other noted count = record { count = count; noted = noted }
+noted_after (call.Dict container dict_call) noted count = record { count = count; noted = noted }
+noted_after (call.List container list_call) noted count = record { count = count; noted = noted }
+noted_after (call.Set container set_call) noted count = record { count = count; noted = noted }
+noted_after (call.Next cursor) noted count = record { count = count; noted = noted }
+noted_after call.Quiesce noted count = record { count = count; noted = noted }
 
 abbrev pub tally_after : Tally → Call → Option ℕ → Tally
 tally_after tally called waited = noted_after called tally.noted (tally.count + (if is_some waited then 1 else 0))
@@ -48,13 +52,20 @@ abbrev pub asks_container : Call → Bool
 asks_container (call.Begin first second) = false
 asks_container call.End = false
 asks_container call.Quiesce = false
-asks_container other = true
+asks_container (call.Dict container dict_call) = true
+asks_container (call.List container list_call) = true
+asks_container (call.Set container set_call) = true
+asks_container (call.Next cursor) = true
 
 -- the reply to a call of a thread with these hands, in this world
 abbrev pub reply_in : List Content → List (Option Cursor) → Tally → Call → Reply
 reply_in world hands tally (call.Begin first second) = reply.Entered
 reply_in world hands tally call.End = ended_reply (waited_inside tally)
-reply_in world hands tally called = (answer world hands called).reply
+reply_in world hands tally (call.Dict container dict_call) = (answer world hands (call.Dict container dict_call)).reply
+reply_in world hands tally (call.List container list_call) = (answer world hands (call.List container list_call)).reply
+reply_in world hands tally (call.Set container set_call) = (answer world hands (call.Set container set_call)).reply
+reply_in world hands tally (call.Next cursor) = (answer world hands (call.Next cursor)).reply
+reply_in world hands tally call.Quiesce = (answer world hands call.Quiesce).reply
 
 -- ---- what has been answered
 

@@ -5,9 +5,8 @@ use Rattle.ft_model.specs.declared.content.Content.{Content}
 use Rattle.ft_model.specs.declared.entry.Entry.{Entry}
 use Rattle.ft_model.specs.declared.entry.Storage.TheVariants as storage
 use Rattle.ft_model.specs.declared.script.ScriptParts.{ScriptParts}
-use Rattle.ft_model.specs.Histories.{writes, world_at, calls_of}
+use Rattle.ft_model.specs.Histories.{writes, world_at, calls_of, IsChronicle}
 use Rattle.ft_model.specs.Worlds.{IsDeclared}
-use Rattle.ft_model.specs.Chronicles.{IsChronicle}
 use Rattle.ft_model.specs.Parts.{IsEntryOf, IsWorldOf}
 use Rattle.ft_turns.specs.Answering.{asks_container, hands_in, tally_in, Progress, next_index}
 use Rattle.ft_turns.specs.Orders.{thread_at, last_machine, order_of, ordered_entry}
@@ -18,7 +17,7 @@ AllFinish script = (thread : ℕ) → length (thread_at (last_machine script) th
 
 -- these entries and this world come of the script's turns: the entries are a chronicle of the script in the order of the turns, with the marks that the turns give, and the world is the one that they leave
 pub record IsChronicleOfTurns (script : ScriptParts) (entries : List Entry) (world : List Content) : Type 0 where
-  pub fair : IsChronicle storage.Plain script entries
+  pub chronicled : IsChronicle storage.Plain script entries
   pub order : map ordered_entry entries ≡ order_of script
   pub entries_of : All (IsEntryOf script) entries
   pub world_is : world ≡ world_at script entries (length (writes entries))

@@ -4,7 +4,7 @@ pub mod Cursors
 pub mod Ends
 pub mod Orders
 pub mod Schedules
-pub mod Standings
+pub mod ThreadStates
 pub mod Turning
 pub mod Wants
 pub mod Runs

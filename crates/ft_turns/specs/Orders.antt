@@ -10,8 +10,7 @@ use Rattle.ft_model.specs.declared.entry.Storage.{Storage}
 use Rattle.ft_model.specs.declared.script.ScriptParts.{ScriptParts}
 use Rattle.ft_model.specs.Calls.{containers_of, locks_of}
 use Rattle.ft_model.specs.Scripts.{cursor_of}
-use Rattle.ft_model.specs.Histories.{calls_of}
-use Rattle.ft_model.specs.Chronicles.{IsChronicle}
+use Rattle.ft_model.specs.Histories.{calls_of, IsChronicle}
 
 -- ---- what a call needs
 
@@ -26,7 +25,12 @@ cursor_containers calls number = fold (λ containers called. if makes number cal
 -- the containers whose locks a call takes, after these calls of its thread; a call that is tried without a lock takes none here
 abbrev pub locks_taken : List Call → Call → List ℕ
 locks_taken before (call.Next number) = cursor_containers before number
-locks_taken before other = if locks_of other == 0 then [] else containers_of other
+locks_taken before (call.Dict container dict_call) = if locks_of (call.Dict container dict_call) == 0 then [] else containers_of (call.Dict container dict_call)
+locks_taken before (call.List container list_call) = if locks_of (call.List container list_call) == 0 then [] else containers_of (call.List container list_call)
+locks_taken before (call.Set container set_call) = if locks_of (call.Set container set_call) == 0 then [] else containers_of (call.Set container set_call)
+locks_taken before (call.Begin first second) = if locks_of (call.Begin first second) == 0 then [] else containers_of (call.Begin first second)
+locks_taken before call.End = if locks_of call.End == 0 then [] else containers_of call.End
+locks_taken before call.Quiesce = if locks_of call.Quiesce == 0 then [] else containers_of call.Quiesce
 
 -- the lower number first
 abbrev pub lower_first : List ℕ → List ℕ
@@ -115,26 +119,30 @@ abbrev pub section_locks : List OpenSection → List ℕ
 section_locks sections = flat_map (λ section. section.taken) sections
 
 -- a thread that waits: the first thread that it found is its call's mark
-abbrev pub waiting : ThreadState → ℕ → ThreadState
-waiting state found =
+abbrev pub waiting_thread : ThreadState → ℕ → ThreadState
+waiting_thread state found =
     record state {
       sections = map without_locks state.sections;
       mark = if is_some state.mark then state.mark else Some found;
     }
 
 -- a call that finds a lock with another thread: the locks of all sections of its thread are let go; the lock that it took itself before that one is kept
-abbrev pub waits : Machine → ℕ → ThreadState → Locking → ℕ → Machine
-waits machine thread state locking found =
+abbrev pub waiting_machine : Machine → ℕ → ThreadState → Locking → ℕ → Machine
+waiting_machine machine thread state locking found =
     record machine {
       holders = let_go locking.holders (section_locks state.sections);
-      threads = slice_set machine.threads thread (waiting (with_own state locking) found);
+      threads = slice_set machine.threads thread (waiting_thread (with_own state locking) found);
     }
 
 -- the sections of a thread when the answer of a call is fixed, and the locks that are let go then: a `begin` enters a section, which took what the call took; an `end` lets go what its section took; any other call lets go what it took itself
 abbrev pub sections_after : Call → List ℕ → List OpenSection → List OpenSection
 sections_after (call.Begin first second) own sections = record { containers = containers_of (call.Begin first second); taken = own } ∷ sections
 sections_after call.End own sections = drop 1 sections
-sections_after other own sections = sections
+sections_after (call.Dict container dict_call) own sections = sections
+sections_after (call.List container list_call) own sections = sections
+sections_after (call.Set container set_call) own sections = sections
+sections_after (call.Next cursor) own sections = sections
+sections_after call.Quiesce own sections = sections
 
 abbrev pub innermost_taken : List OpenSection → List ℕ
 innermost_taken [] = []
@@ -143,11 +151,15 @@ innermost_taken (section ∷ sections) = section.taken
 abbrev pub lets_go : Call → List ℕ → List OpenSection → List ℕ
 lets_go (call.Begin first second) own sections = []
 lets_go call.End own sections = innermost_taken sections
-lets_go other own sections = own
+lets_go (call.Dict container dict_call) own sections = own
+lets_go (call.List container list_call) own sections = own
+lets_go (call.Set container set_call) own sections = own
+lets_go (call.Next cursor) own sections = own
+lets_go call.Quiesce own sections = own
 
 -- a thread when the answer of its call is fixed
-abbrev pub answering : ThreadState → Call → ThreadState
-answering state called =
+abbrev pub answered_thread : ThreadState → Call → ThreadState
+answered_thread state called =
     record state {
       fixed = true;
       sections = sections_after called state.own state.sections;
@@ -155,11 +167,11 @@ answering state called =
     }
 
 -- a call that has its locks: its answer is fixed
-abbrev pub answers : Machine → ℕ → ThreadState → Call → Locking → Machine
-answers machine thread state called locking =
+abbrev pub answered_machine : Machine → ℕ → ThreadState → Call → Locking → Machine
+answered_machine machine thread state called locking =
     record {
       holders = let_go locking.holders (lets_go called (state.own ++ locking.taken) state.sections);
-      threads = slice_set machine.threads thread (answering (with_own state locking) called);
+      threads = slice_set machine.threads thread (answered_thread (with_own state locking) called);
       answered = machine.answered ++ (thread, length state.marks) ∷ [];
     }
 
@@ -173,8 +185,8 @@ with_taken taken [] = []
 with_taken taken (section ∷ sections) = record section { taken = section.taken ++ taken } ∷ sections
 
 -- a thread when its call has finished
-abbrev pub finishing : ThreadState → ThreadState
-finishing state =
+abbrev pub finished_thread : ThreadState → ThreadState
+finished_thread state =
     record {
       marks = state.marks ++ state.mark ∷ [];
       fixed = false;
@@ -184,22 +196,22 @@ finishing state =
     }
 
 -- a call whose thread has the locks of its innermost section: it has finished
-abbrev pub finishes : Machine → ℕ → ThreadState → Locking → Machine
-finishes machine thread state locking =
+abbrev pub finished_machine : Machine → ℕ → ThreadState → Locking → Machine
+finished_machine machine thread state locking =
     record machine {
       holders = locking.holders;
-      threads = slice_set machine.threads thread (finishing (with_own state locking));
+      threads = slice_set machine.threads thread (finished_thread (with_own state locking));
     }
 
 -- a step of a thread whose answer is not fixed, and of one whose answer is
 abbrev pub locked : Machine → ℕ → ThreadState → Call → Locking → Machine
-locked machine thread state called locking = option_map_or (waits machine thread state locking) locking.found (answers machine thread state called locking)
+locked machine thread state called locking = option_map_or (waiting_machine machine thread state locking) locking.found (answered_machine machine thread state called locking)
 
 abbrev pub try_answer : ScriptParts → Machine → ℕ → ThreadState → Call → Machine
 try_answer script machine thread state called = locked machine thread state called (take_locks thread machine.holders (lower_first (locks_taken (take (length state.marks) (calls_of script thread)) called)))
 
 abbrev pub relocked : Machine → ℕ → ThreadState → Locking → Machine
-relocked machine thread state locking = option_map_or (waits machine thread state locking) locking.found (finishes machine thread state locking)
+relocked machine thread state locking = option_map_or (waiting_machine machine thread state locking) locking.found (finished_machine machine thread state locking)
 
 abbrev pub try_finish : Machine → ℕ → Machine
 try_finish machine thread =
@@ -249,4 +261,4 @@ pub record IsOrderRun (storage : Storage) (script : ScriptParts) (entries : List
   pub chronicle : List Entry
   pub same : IsPermutation chronicle entries
   pub order : map ordered_entry chronicle ≡ order_of script
-  pub fair : IsChronicle storage script chronicle
+  pub chronicled : IsChronicle storage script chronicle

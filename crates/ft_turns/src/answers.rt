@@ -65,7 +65,11 @@ impl Tally {
             Call::End => {
                 self.noted.pop_front();
             }
-            _ => (),
+            Call::Dict { .. }
+            | Call::List { .. }
+            | Call::Set { .. }
+            | Call::Next { .. }
+            | Call::Quiesce => (),
         }
         Ok(())
     }

@@ -3,9 +3,9 @@
 ghost use Rattle.std.specs.Prelude.{◌≡◌, ℕ, ◌+◌, ◌<◌, slice_index_or, List, [], ◌∷◌, ◌++◌, map, take, length, IfOk, OnOk, IfSome, if◌then◌else◌};
 ghost use Rattle.ft_model.specs.declared.call.Call.{Call};
 ghost use Rattle.ft_model.specs.Scripts.{cursor_of, IsScript};
-ghost use Rattle.ft_turns.specs.Orders.{without_locks, section_locks, let_go, lets_go, waiting, answering, finishing, take_locks, lower_first, locks_taken, innermost_containers, turn};
+ghost use Rattle.ft_turns.specs.Orders.{without_locks, section_locks, let_go, lets_go, waiting_thread, answered_thread, finished_thread, take_locks, lower_first, locks_taken, innermost_containers, turn};
 ghost use Rattle.ft_turns.specs.Cursors.{AreCursors};
-ghost use Rattle.ft_turns.specs.Standings.{section_of, state_of, answer_tried, finish_tried, machine_with, machine_of, turned_of, fixed_by, IsTried, IsReady, AreFresh, marks_made, finishes_of};
+ghost use Rattle.ft_turns.specs.ThreadStates.{section_of, state_of, answer_tried, finish_tried, machine_with, machine_of, turned_of, fixed_by, IsTried, IsReady, AreFresh, marks_made, finishes_of};
 
 use crate::locks::{cursor_made, in_order, let_all_go, locks_needed, take_all};
 use ft_model::{Call, Containers, ScriptParts, Thread};
@@ -14,7 +14,7 @@ use std::collections::VecDeque;
 
 /// A section that is open (C API, critical sections).
 #[derive(Debug, Drop)]
-pub(crate) struct Section {
+pub(crate) struct OpenSection {
     /// Its containers.
     pub(crate) containers: Containers,
     /// The locks that it took itself and has not let go.
@@ -23,14 +23,14 @@ pub(crate) struct Section {
 
 /// A thread between two turns.
 #[derive(Debug, Drop)]
-pub(crate) struct Standing {
+pub(crate) struct ThreadState {
     /// The marks of its calls that have finished, in order: the thread that each waited for first,
     /// where it waited.
     pub(crate) marks: Vec<Option<u32>>,
     /// Whether the answer of its next call is fixed.
     pub(crate) fixed: bool,
     /// Its open sections, the innermost first.
-    pub(crate) sections: VecDeque<Section>,
+    pub(crate) sections: VecDeque<OpenSection>,
     /// The locks that its next call has taken itself and keeps: at most the lower of two.
     pub(crate) own: Vec<u32>,
     /// The thread that its next call waited for first, where it has waited.
@@ -45,7 +45,7 @@ pub(crate) struct Machine {
     /// The thread that has the lock of each container, where one has it.
     pub(crate) holders: Vec<Option<u32>>,
     /// The threads, in the order of declaration.
-    pub(crate) threads: Vec<Standing>,
+    pub(crate) threads: Vec<ThreadState>,
 }
 
 /// What came of a turn of a thread that has a call left.
@@ -60,7 +60,7 @@ pub(crate) struct Turned {
 }
 
 /// Sections let their locks go.
-fn suspend(holders: &mut [Option<u32>], sections: &mut [Section])
+fn suspend(holders: &mut [Option<u32>], sections: &mut [OpenSection])
     ensures holders { holders.new ≡ let_go holders.old (section_locks (map section_of sections.old)) }
     ensures sections { map section_of sections.new ≡ map without_locks (map section_of sections.old) }
 {
@@ -72,14 +72,14 @@ fn suspend(holders: &mut [Option<u32>], sections: &mut [Section])
 
 /// A thread has found another one with a lock: it lets go of the locks of its sections, and its call
 /// is marked with the thread that it found first.
-fn wait(holders: &mut [Option<u32>], standing: &mut Standing, found: u32)
-    ensures holders { holders.new ≡ let_go holders.old (section_locks (state_of standing.old).sections) }
-    ensures state { state_of standing.new ≡ waiting (state_of standing.old) found }
-    ensures cursors { standing.new.cursors ≡ standing.old.cursors }
+fn wait(holders: &mut [Option<u32>], thread_state: &mut ThreadState, found: u32)
+    ensures holders { holders.new ≡ let_go holders.old (section_locks (state_of thread_state.old).sections) }
+    ensures state { state_of thread_state.new ≡ waiting_thread (state_of thread_state.old) found }
+    ensures cursors { thread_state.new.cursors ≡ thread_state.old.cursors }
 {
-    suspend(holders, standing.sections.make_contiguous());
-    if standing.mark.is_none() {
-        standing.mark = Some(found);
+    suspend(holders, thread_state.sections.make_contiguous());
+    if thread_state.mark.is_none() {
+        thread_state.mark = Some(found);
     }
 }
 
@@ -88,49 +88,53 @@ fn wait(holders: &mut [Option<u32>], standing: &mut Standing, found: u32)
 fn answer(
     alloc: Global,
     holders: &mut [Option<u32>],
-    standing: &mut Standing,
+    thread_state: &mut ThreadState,
     call: &Call,
 ) -> Result<(), AllocError>
-    ensures holders { OnOk result (holders.new ≡ let_go holders.old (lets_go call.now standing.old.own.items (state_of standing.old).sections)) }
-    ensures state { OnOk result (state_of standing.new ≡ answering (state_of standing.old) call.now) }
-    ensures cursors { OnOk result (standing.new.cursors ≡ standing.old.cursors) }
+    ensures holders { OnOk result (holders.new ≡ let_go holders.old (lets_go call.now thread_state.old.own.items (state_of thread_state.old).sections)) }
+    ensures state { OnOk result (state_of thread_state.new ≡ answered_thread (state_of thread_state.old) call.now) }
+    ensures cursors { OnOk result (thread_state.new.cursors ≡ thread_state.old.cursors) }
 {
     match call {
         Call::Begin { .. } => {
-            let taken = std::mem::replace(&mut standing.own, Vec::new(alloc));
-            standing.sections.push_front(Section {
+            let taken = std::mem::replace(&mut thread_state.own, Vec::new(alloc));
+            thread_state.sections.push_front(OpenSection {
                 containers: call.containers(),
                 taken,
             })?;
         }
         Call::End => {
-            if let Some(section) = standing.sections.pop_front() {
+            if let Some(section) = thread_state.sections.pop_front() {
                 let_all_go(holders, &section.taken);
             }
         }
-        _ => let_all_go(holders, &standing.own),
+        Call::Dict { .. }
+        | Call::List { .. }
+        | Call::Set { .. }
+        | Call::Next { .. }
+        | Call::Quiesce => let_all_go(holders, &thread_state.own),
     }
-    standing.own.clear();
-    standing.fixed = true;
+    thread_state.own.clear();
+    thread_state.fixed = true;
     Ok(())
 }
 
 /// A thread has the locks of its innermost section, and its call has finished.
-fn finish(standing: &mut Standing, call: &Call) -> Result<(), AllocError>
-    requires { IfSome (cursor_of call.now) (λ number. number < length standing.old.cursors.items) }
-    ensures state { OnOk result (state_of standing.new ≡ finishing (state_of standing.old)) }
-    ensures cursors { OnOk result ((before : List Call) → AreCursors before standing.old.cursors.items → AreCursors (before ++ call.now ∷ []) standing.new.cursors.items) }
-    ensures room { length standing.new.cursors.items ≡ length standing.old.cursors.items }
+fn finish(thread_state: &mut ThreadState, call: &Call) -> Result<(), AllocError>
+    requires { IfSome (cursor_of call.now) (λ number. number < length thread_state.old.cursors.items) }
+    ensures state { OnOk result (state_of thread_state.new ≡ finished_thread (state_of thread_state.old)) }
+    ensures cursors { OnOk result ((before : List Call) → AreCursors before thread_state.old.cursors.items → AreCursors (before ++ call.now ∷ []) thread_state.new.cursors.items) }
+    ensures room { length thread_state.new.cursors.items ≡ length thread_state.old.cursors.items }
 {
-    if let Some(section) = standing.sections.front_mut() {
-        section.taken.extend_from_slice(&standing.own)?;
+    if let Some(section) = thread_state.sections.front_mut() {
+        section.taken.extend_from_slice(&thread_state.own)?;
     }
-    standing.own.clear();
-    standing.marks.push(standing.mark)?;
-    standing.mark = None;
-    standing.fixed = false;
+    thread_state.own.clear();
+    thread_state.marks.push(thread_state.mark)?;
+    thread_state.mark = None;
+    thread_state.fixed = false;
     if let Some(number) = cursor_made(call) {
-        standing.cursors[number as usize] = call.containers();
+        thread_state.cursors[number as usize] = call.containers();
     }
     Ok(())
 }
@@ -140,22 +144,22 @@ fn finish(standing: &mut Standing, call: &Call) -> Result<(), AllocError>
 fn try_answer(
     alloc: Global,
     holders: &mut [Option<u32>],
-    standing: &mut Standing,
+    thread_state: &mut ThreadState,
     thread: u32,
     call: &Call,
 ) -> Result<bool, AllocError>
-    ensures tried { IfOk result (λ done. (before : List Call) → AreCursors before standing.old.cursors.items → record { holders = holders.new; state = state_of standing.new; done = done }
-        ≡ answer_tried (state_of standing.old) call.now (take_locks thread holders.old (lower_first (locks_taken before call.now)))) }
-    ensures cursors { OnOk result (standing.new.cursors ≡ standing.old.cursors) }
+    ensures tried { IfOk result (λ done. (before : List Call) → AreCursors before thread_state.old.cursors.items → record { holders = holders.new; state = state_of thread_state.new; done = done }
+        ≡ answer_tried (state_of thread_state.old) call.now (take_locks thread holders.old (lower_first (locks_taken before call.now)))) }
+    ensures cursors { OnOk result (thread_state.new.cursors ≡ thread_state.old.cursors) }
 {
-    let containers = locks_needed(&standing.cursors, call);
-    match take_all(holders, &mut standing.own, thread, containers)? {
+    let containers = locks_needed(&thread_state.cursors, call);
+    match take_all(holders, &mut thread_state.own, thread, containers)? {
         Some(found) => {
-            wait(holders, standing, found);
+            wait(holders, thread_state, found);
             Ok(false)
         }
         None => {
-            answer(alloc, holders, standing, call)?;
+            answer(alloc, holders, thread_state, call)?;
             Ok(true)
         }
     }
@@ -165,27 +169,27 @@ fn try_answer(
 /// finished. It answers whether it has.
 fn try_finish(
     holders: &mut [Option<u32>],
-    standing: &mut Standing,
+    thread_state: &mut ThreadState,
     thread: u32,
     call: &Call,
 ) -> Result<bool, AllocError>
-    requires { IfSome (cursor_of call.now) (λ number. number < length standing.old.cursors.items) }
-    ensures tried { IfOk result (λ done. record { holders = holders.new; state = state_of standing.new; done = done }
-        ≡ finish_tried (state_of standing.old) (take_locks thread holders.old (lower_first (innermost_containers (state_of standing.old).sections)))) }
-    ensures cursors { IfOk result (λ done. (before : List Call) → AreCursors before standing.old.cursors.items → AreCursors (if done then before ++ call.now ∷ [] else before) standing.new.cursors.items) }
-    ensures room { length standing.new.cursors.items ≡ length standing.old.cursors.items }
+    requires { IfSome (cursor_of call.now) (λ number. number < length thread_state.old.cursors.items) }
+    ensures tried { IfOk result (λ done. record { holders = holders.new; state = state_of thread_state.new; done = done }
+        ≡ finish_tried (state_of thread_state.old) (take_locks thread holders.old (lower_first (innermost_containers (state_of thread_state.old).sections)))) }
+    ensures cursors { IfOk result (λ done. (before : List Call) → AreCursors before thread_state.old.cursors.items → AreCursors (if done then before ++ call.now ∷ [] else before) thread_state.new.cursors.items) }
+    ensures room { length thread_state.new.cursors.items ≡ length thread_state.old.cursors.items }
 {
-    let containers = match standing.sections.front() {
+    let containers = match thread_state.sections.front() {
         Some(section) => in_order(section.containers),
         None => Containers::None,
     };
-    match take_all(holders, &mut standing.own, thread, containers)? {
+    match take_all(holders, &mut thread_state.own, thread, containers)? {
         Some(found) => {
-            wait(holders, standing, found);
+            wait(holders, thread_state, found);
             Ok(false)
         }
         None => {
-            finish(standing, call)?;
+            finish(thread_state, call)?;
             Ok(true)
         }
     }
@@ -196,18 +200,18 @@ fn try_finish(
 pub(crate) fn try_call(
     alloc: Global,
     holders: &mut [Option<u32>],
-    standing: &mut Standing,
+    thread_state: &mut ThreadState,
     thread: u32,
     call: &Call,
 ) -> Result<Turned, AllocError>
-    requires { IfSome (cursor_of call.now) (λ number. number < length standing.old.cursors.items) }
-    ensures tried { IfOk result (λ turned. (before : List Call) → AreCursors before standing.old.cursors.items → IsTried thread before call.now holders.old (state_of standing.old) turned holders.new (state_of standing.new)) }
-    ensures cursors { IfOk result (λ turned. (before : List Call) → AreCursors before standing.old.cursors.items → AreCursors (if turned.finished then before ++ call.now ∷ [] else before) standing.new.cursors.items) }
-    ensures room { OnOk result (length standing.new.cursors.items ≡ length standing.old.cursors.items) }
+    requires { IfSome (cursor_of call.now) (λ number. number < length thread_state.old.cursors.items) }
+    ensures tried { IfOk result (λ turned. (before : List Call) → AreCursors before thread_state.old.cursors.items → IsTried thread before call.now holders.old (state_of thread_state.old) turned holders.new (state_of thread_state.new)) }
+    ensures cursors { IfOk result (λ turned. (before : List Call) → AreCursors before thread_state.old.cursors.items → AreCursors (if turned.finished then before ++ call.now ∷ [] else before) thread_state.new.cursors.items) }
+    ensures room { OnOk result (length thread_state.new.cursors.items ≡ length thread_state.old.cursors.items) }
 {
-    let place = standing.marks.len();
-    let answered = !standing.fixed && try_answer(alloc, holders, standing, thread, call)?;
-    let finished = standing.fixed && try_finish(holders, standing, thread, call)?;
+    let place = thread_state.marks.len();
+    let answered = !thread_state.fixed && try_answer(alloc, holders, thread_state, thread, call)?;
+    let finished = thread_state.fixed && try_finish(holders, thread_state, thread, call)?;
     Ok(Turned {
         place,
         answered,
@@ -219,7 +223,7 @@ pub(crate) fn try_call(
 fn turn(
     alloc: Global,
     holders: &mut [Option<u32>],
-    threads: &mut [Standing],
+    threads: &mut [ThreadState],
     script: &ScriptParts,
     thread: u32,
 ) -> Result<Option<Turned>, AllocError>
@@ -232,27 +236,27 @@ fn turn(
     ensures marks { IfOk result (λ turned. marks_made threads.new ≡ marks_made threads.old + finishes_of turned) }
 {
     let calls = script.threads.as_slice()[thread as usize].calls.as_slice();
-    let standing = &mut threads[thread as usize];
-    match calls.get(standing.marks.len()) {
+    let thread_state = &mut threads[thread as usize];
+    match calls.get(thread_state.marks.len()) {
         Some(call) => {
-            let turned = try_call(alloc, holders, standing, thread, call)?;
+            let turned = try_call(alloc, holders, thread_state, thread, call)?;
             Ok(Some(turned))
         }
         None => Ok(None),
     }
 }
 
-impl Standing {
+impl ThreadState {
     ghost use Rattle.std.specs.Prelude.{replicate};
     ghost use Rattle.ft_turns.specs.Orders.{fresh_thread};
     ghost use Rattle.ft_turns.specs.Cursors.{no_containers};
 
     /// A thread before its first turn, with room for that many cursors.
-    pub(crate) fn start(alloc: Global, cursors: usize) -> Result<Standing, AllocError>
-        ensures state { IfOk result (λ standing. state_of standing ≡ fresh_thread) }
-        ensures cursors { IfOk result (λ standing. standing.cursors.items ≡ replicate cursors no_containers) }
+    pub(crate) fn start(alloc: Global, cursors: usize) -> Result<ThreadState, AllocError>
+        ensures state { IfOk result (λ thread_state. state_of thread_state ≡ fresh_thread) }
+        ensures cursors { IfOk result (λ thread_state. thread_state.cursors.items ≡ replicate cursors no_containers) }
     {
-        Ok(Standing {
+        Ok(ThreadState {
             marks: Vec::new(alloc),
             fixed: false,
             sections: VecDeque::new(alloc),
@@ -264,14 +268,14 @@ impl Standing {
 }
 
 /// Threads before their first turns.
-fn fresh_threads(alloc: Global, threads: &[Thread]) -> Result<Vec<Standing>, AllocError>
-    ensures { IfOk result (λ standings. AreFresh threads.now standings.items) }
+fn fresh_threads(alloc: Global, threads: &[Thread]) -> Result<Vec<ThreadState>, AllocError>
+    ensures { IfOk result (λ thread_states. AreFresh threads.now thread_states.items) }
 {
-    let mut standings = Vec::new(alloc);
+    let mut thread_states = Vec::new(alloc);
     for thread in threads {
-        standings.push(Standing::start(alloc, thread.cursors.len())?)?;
+        thread_states.push(ThreadState::start(alloc, thread.cursors.len())?)?;
     }
-    Ok(standings)
+    Ok(thread_states)
 }
 
 impl Machine {
@@ -313,7 +317,7 @@ impl Machine {
         ensures { result ≡ slice_index_or (thread_at (machine_of self.now []) thread).marks place None }
     {
         match self.threads.get(thread as usize) {
-            Some(standing) => mark_at(&standing.marks, place),
+            Some(thread_state) => mark_at(&thread_state.marks, place),
             None => None,
         }
     }

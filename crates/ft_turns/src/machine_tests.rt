@@ -4,7 +4,7 @@ ghost use Rattle.std.specs.Prelude.{◌≡◌, ◌<◌, true, IfSome};
 ghost use Rattle.ft_model.specs.Scripts.{cursor_of};
 
 use crate::locks::cursor_made;
-use crate::machine::{Standing, try_call};
+use crate::machine::{ThreadState, try_call};
 use ft_model::{Call, DictCall};
 use std::alloc::{AllocError, Global};
 use std::process::Abort;
@@ -80,24 +80,24 @@ fn has_cursor(cursors: usize, call: &Call) -> bool
 fn turn(
     alloc: Global,
     holders: &mut [Option<u32>],
-    standings: &mut [Standing],
+    thread_states: &mut [ThreadState],
     threads: &[Vec<Call>],
     thread: u32,
     answered: &mut Vec<(u32, usize)>,
 ) -> Result<(), Fail> {
     let at = thread as usize;
-    if at >= threads.len() || at >= standings.len() {
+    if at >= threads.len() || at >= thread_states.len() {
         return Err("no such thread".into());
     }
     let calls = threads[at].as_slice();
-    let standing = &mut standings[at];
-    let Some(call) = calls.get(standing.marks.len()) else {
+    let thread_state = &mut thread_states[at];
+    let Some(call) = calls.get(thread_state.marks.len()) else {
         return Ok(());
     };
-    if !has_cursor(standing.cursors.len(), call) {
+    if !has_cursor(thread_state.cursors.len(), call) {
         return Err("no such cursor".into());
     }
-    let turned = try_call(alloc, holders, standing, thread, call)?;
+    let turned = try_call(alloc, holders, thread_state, thread, call)?;
     if turned.answered {
         answered.push((thread, turned.place))?;
     }
@@ -105,18 +105,22 @@ fn turn(
 }
 
 /// The mark of a call.
-fn mark(standings: &[Standing], thread: u32, place: usize) -> Option<u32> {
-    let standing = standings.get(thread as usize)?;
-    *standing.marks.get(place)?
+fn mark(thread_states: &[ThreadState], thread: u32, place: usize) -> Option<u32> {
+    let thread_state = thread_states.get(thread as usize)?;
+    *thread_state.marks.get(place)?
 }
 
 /// The calls whose answers are fixed, in that order.
-fn shown(alloc: Global, standings: &[Standing], answered: &[(u32, usize)]) -> Result<String, Fail> {
+fn shown(
+    alloc: Global,
+    thread_states: &[ThreadState],
+    answered: &[(u32, usize)],
+) -> Result<String, Fail> {
     let mut text = String::new(alloc);
     for call in answered {
         let (thread, place) = *call;
         let index = place.wrapping_add(1);
-        let part = match mark(standings, thread, place) {
+        let part = match mark(thread_states, thread, place) {
             Some(other) => format!(in alloc; " {thread}.{index}<{other}")?,
             None => format!(in alloc; " {thread}.{index}")?,
         };
@@ -129,9 +133,9 @@ fn check<R: Abort + AllocGlobal>(rt: &R, case: &Case) -> Result<(), Fail> {
     let alloc = rt.alloc();
     let threads = threads_of(alloc, case.threads)?;
     let mut holders = vec![in alloc; None; 3]?;
-    let mut standings = Vec::new(alloc);
+    let mut thread_states = Vec::new(alloc);
     for _ in &threads {
-        standings.push(Standing::start(alloc, 1)?)?;
+        thread_states.push(ThreadState::start(alloc, 1)?)?;
     }
     let mut answered = Vec::new(alloc);
     for byte in case.order.bytes() {
@@ -139,7 +143,7 @@ fn check<R: Abort + AllocGlobal>(rt: &R, case: &Case) -> Result<(), Fail> {
         turn(
             alloc,
             &mut holders,
-            &mut standings,
+            &mut thread_states,
             &threads,
             thread,
             &mut answered,
@@ -151,7 +155,7 @@ fn check<R: Abort + AllocGlobal>(rt: &R, case: &Case) -> Result<(), Fail> {
                 turn(
                     alloc,
                     &mut holders,
-                    &mut standings,
+                    &mut thread_states,
                     &threads,
                     thread as u32,
                     &mut answered,
@@ -159,7 +163,7 @@ fn check<R: Abort + AllocGlobal>(rt: &R, case: &Case) -> Result<(), Fail> {
             }
         }
     }
-    let text = shown(alloc, &standings, &answered)?;
+    let text = shown(alloc, &thread_states, &answered)?;
     assert_eq!(rt; text.as_str(), case.answers, "at {:?}", case.threads);
     Ok(())
 }

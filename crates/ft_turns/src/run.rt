@@ -7,7 +7,7 @@ ghost use Rattle.ft_model.specs.Parts.{IsEntryOf, IsWorldOf};
 ghost use Rattle.ft_model.specs.Scripts.{IsScript};
 ghost use Rattle.ft_turns.specs.Orders.{thread_at, IsOrderRun};
 ghost use Rattle.ft_turns.specs.Answering.{last_progress, marked_entry, answered_turns};
-ghost use Rattle.ft_turns.specs.Standings.{machine_of};
+ghost use Rattle.ft_turns.specs.ThreadStates.{machine_of};
 ghost use Rattle.ft_turns.specs.Runs.{followed, IsAskedTurn};
 
 use crate::answers::Answers;

@@ -29,7 +29,7 @@ returns-in_ok-turned-in-Some-clause-ready c =
     let within : c.args.thread < length c.args.threads.now = omega (arith, c.requires.ready.threads) in
     let before = take (length (get_or c.args.threads.now c.args.thread d).marks.items) (calls_of c.args.script.now c.args.thread) in
     let cursors = (c.requires.ready.each c.args.thread d within).cursors in
-    step_ready c.args.script.now c.args.threads.now c.args.thread d c.try_call.new.standing c.in-Some.call.now c.in_ok-turned-in-Some.turned c.args.holders.now c.try_call.new.holders c.requires.ready within (next_is c) (c.in_ok-turned-in-Some.ensures.tried before cursors) (c.in_ok-turned-in-Some.ensures.cursors before cursors) c.in_ok-turned-in-Some.ensures.room
+    step_ready c.args.script.now c.args.threads.now c.args.thread d c.try_call.new.thread_state c.in-Some.call.now c.in_ok-turned-in-Some.turned c.args.holders.now c.try_call.new.holders c.requires.ready within (next_is c) (c.in_ok-turned-in-Some.ensures.tried before cursors) (c.in_ok-turned-in-Some.ensures.cursors before cursors) c.in_ok-turned-in-Some.ensures.room
 
 pub returns-in_ok-turned-in-Some-clause-machine : goal.returns-in_ok-turned-in-Some-clause-machine
 returns-in_ok-turned-in-Some-clause-machine c = λ answered.
@@ -37,7 +37,7 @@ returns-in_ok-turned-in-Some-clause-machine c = λ answered.
     let within : c.args.thread < length c.args.threads.now = omega (arith, c.requires.ready.threads) in
     let before = take (length (get_or c.args.threads.now c.args.thread d).marks.items) (calls_of c.args.script.now c.args.thread) in
     let cursors = (c.requires.ready.each c.args.thread d within).cursors in
-    step_machine c.args.script.now c.args.holders.now c.try_call.new.holders c.args.threads.now c.args.thread d c.try_call.new.standing c.in-Some.call.now c.in_ok-turned-in-Some.turned answered within (next_is c) (c.in_ok-turned-in-Some.ensures.tried before cursors)
+    step_machine c.args.script.now c.args.holders.now c.try_call.new.holders c.args.threads.now c.args.thread d c.try_call.new.thread_state c.in-Some.call.now c.in_ok-turned-in-Some.turned answered within (next_is c) (c.in_ok-turned-in-Some.ensures.tried before cursors)
 
 pub returns-in_ok-turned-in-Some-clause-turned : goal.returns-in_ok-turned-in-Some-clause-turned
 returns-in_ok-turned-in-Some-clause-turned c =
@@ -45,7 +45,7 @@ returns-in_ok-turned-in-Some-clause-turned c =
     let within : c.args.thread < length c.args.threads.now = omega (arith, c.requires.ready.threads) in
     let before = take (length (get_or c.args.threads.now c.args.thread d).marks.items) (calls_of c.args.script.now c.args.thread) in
     let cursors = (c.requires.ready.each c.args.thread d within).cursors in
-    step_turned c.args.script.now c.args.holders.now c.try_call.new.holders c.args.threads.now c.args.thread d c.try_call.new.standing c.in-Some.call.now c.in_ok-turned-in-Some.turned within (next_is c) (c.in_ok-turned-in-Some.ensures.tried before cursors)
+    step_turned c.args.script.now c.args.holders.now c.try_call.new.holders c.args.threads.now c.args.thread d c.try_call.new.thread_state c.in-Some.call.now c.in_ok-turned-in-Some.turned within (next_is c) (c.in_ok-turned-in-Some.ensures.tried before cursors)
 
 pub returns-in_ok-turned-in-Some-clause-marks : goal.returns-in_ok-turned-in-Some-clause-marks
 returns-in_ok-turned-in-Some-clause-marks c =
@@ -53,7 +53,7 @@ returns-in_ok-turned-in-Some-clause-marks c =
     let within : c.args.thread < length c.args.threads.now = omega (arith, c.requires.ready.threads) in
     let before = take (length (get_or c.args.threads.now c.args.thread d).marks.items) (calls_of c.args.script.now c.args.thread) in
     let cursors = (c.requires.ready.each c.args.thread d within).cursors in
-    step_marks c.args.script.now c.args.threads.now c.args.thread d c.try_call.new.standing c.in-Some.call.now c.in_ok-turned-in-Some.turned c.args.holders.now c.try_call.new.holders before within (c.in_ok-turned-in-Some.ensures.tried before cursors)
+    step_marks c.args.script.now c.args.threads.now c.args.thread d c.try_call.new.thread_state c.in-Some.call.now c.in_ok-turned-in-Some.turned c.args.holders.now c.try_call.new.holders before within (c.in_ok-turned-in-Some.ensures.tried before cursors)
 
 pub returns-in-None-clause-machine : goal.returns-in-None-clause-machine
 returns-in-None-clause-machine c = λ answered.

@@ -2,7 +2,7 @@ use Rattle.std.proofs.Common.{List, sym, subst, ◌∙◌}
 use Rattle.std.specs.List.Sorted.{IsPermutation}
 use Rattle.ft_model.specs.declared.entry.Entry.{Entry}
 use Rattle.ft_model.specs.declared.entry.Storage.TheVariants as storage
-use Rattle.ft_model.specs.Chronicles.{IsChronicle}
+use Rattle.ft_model.specs.Histories.{IsChronicle}
 use Rattle.ft_model.specs.Parts.{IsWorldOf}
 use Rattle.ft_turns.specs.Answering.{answered_turns}
 use Rattle.ft_turns.proofs.OrderRuns.{chronicle_is, order_run, entries_stay, world_stays}
@@ -18,8 +18,8 @@ returns-clause-order c = order_run c.args.script.now c.requires c.in_ok-entries.
 pub returns-clause-legal : goal.returns-clause-legal
 returns-clause-legal c =
     let script = c.args.script.now in
-    let fair = (chronicle_is script c.requires).fair in
-    c.in_ok-entries.ensures.legal storage.Plain script (subst (IsChronicle storage.Plain script) (sym c.in_ok-run.ensures.entries) fair)
+    let chronicled = (chronicle_is script c.requires).chronicled in
+    c.in_ok-entries.ensures.legal storage.Plain script (subst (IsChronicle storage.Plain script) (sym c.in_ok-run.ensures.entries) chronicled)
 
 pub returns-clause-world : goal.returns-clause-world
 returns-clause-world c = c.in_ok-run.ensures.world ∙ world_stays c.args.script.now c.requires c.in_ok-entries.entries.items (moved c) c.in_ok-entries.ensures.order

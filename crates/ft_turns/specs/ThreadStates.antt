@@ -7,30 +7,30 @@ use Rattle.ft_model.specs.declared.script.ScriptParts.{ScriptParts}
 use Rattle.ft_model.specs.Histories.{calls_of, cursors_of}
 use Rattle.ft_model.specs.Calls.{container_list}
 use Rattle.ft_turns.specs.declared.machine.Machine.{Machine as LockMachine}
-use Rattle.ft_turns.specs.declared.machine.Section.{Section}
-use Rattle.ft_turns.specs.declared.machine.Standing.{Standing}
+use Rattle.ft_turns.specs.declared.machine.OpenSection.{OpenSection as StoredSection}
+use Rattle.ft_turns.specs.declared.machine.ThreadState.{ThreadState as StoredThread}
 use Rattle.ft_turns.specs.declared.machine.Turned.{Turned}
 use Rattle.ft_model.specs.declared.script.Thread.{Thread}
 use Rattle.ft_turns.specs.Cursors.{AreCursors, no_containers}
-use Rattle.ft_turns.specs.Orders.{OpenSection, ThreadState, Machine, Locking, fresh_thread, lower_first, locks_taken, take_locks, let_go, with_own, section_locks, waiting, answering, finishing, lets_go, innermost_containers, thread_at, next_call, turn}
+use Rattle.ft_turns.specs.Orders.{OpenSection, ThreadState, Machine, Locking, fresh_thread, lower_first, locks_taken, take_locks, let_go, with_own, section_locks, waiting_thread, answered_thread, finished_thread, lets_go, innermost_containers, thread_at, next_call, turn}
 
 -- ---- what is kept in memory
 
-abbrev pub section_of : Section → OpenSection
+abbrev pub section_of : StoredSection → OpenSection
 section_of section = record { containers = container_list section.containers; taken = section.taken.items }
 
-abbrev pub state_of : Standing → ThreadState
-state_of standing =
+abbrev pub state_of : StoredThread → ThreadState
+state_of thread_state =
     record {
-      marks = standing.marks.items;
-      fixed = standing.fixed;
-      sections = map section_of standing.sections.items;
-      own = standing.own.items;
-      mark = standing.mark;
+      marks = thread_state.marks.items;
+      fixed = thread_state.fixed;
+      sections = map section_of thread_state.sections.items;
+      own = thread_state.own.items;
+      mark = thread_state.mark;
     }
 
 -- the machine, where these are the calls whose answers are fixed
-abbrev pub machine_with : List (Option ℕ) → List Standing → List (ℕ × ℕ) → Machine
+abbrev pub machine_with : List (Option ℕ) → List StoredThread → List (ℕ × ℕ) → Machine
 machine_with holders threads answered = record { holders = holders; threads = map state_of threads; answered = answered }
 
 abbrev pub machine_of : LockMachine → List (ℕ × ℕ) → Machine
@@ -52,7 +52,7 @@ abbrev pub tried_in_vain : ThreadState → Locking → ℕ → Tried
 tried_in_vain state locking found =
     record {
       holders = let_go locking.holders (section_locks state.sections);
-      state = waiting (with_own state locking) found;
+      state = waiting_thread (with_own state locking) found;
       done = false;
     }
 
@@ -62,7 +62,7 @@ answer_tried state called locking =
     option_map_or (tried_in_vain state locking) locking.found
     (record {
       holders = let_go locking.holders (lets_go called (state.own ++ locking.taken) state.sections);
-      state = answering (with_own state locking) called;
+      state = answered_thread (with_own state locking) called;
       done = true;
     })
 
@@ -70,7 +70,7 @@ answer_tried state called locking =
 abbrev pub finish_tried : ThreadState → Locking → Tried
 finish_tried state locking =
     option_map_or (tried_in_vain state locking) locking.found
-    (record { holders = locking.holders; state = finishing (with_own state locking); done = true })
+    (record { holders = locking.holders; state = finished_thread (with_own state locking); done = true })
 
 -- the first part of a turn, after these calls of the thread
 abbrev pub answer_part : ℕ → List Call → Call → List (Option ℕ) → ThreadState → Tried
@@ -97,15 +97,15 @@ placed machine thread tried more = record { holders = tried.holders; threads = s
 -- ---- what the machine rests on
 
 -- a thread has finished some of its calls; its cursors are those that these made, and there is room for all that it may make
-pub record IsReadyThread (calls : List Call) (count : ℕ) (standing : Standing) : Type 0 where
-  pub made : length standing.marks.items ≤ length calls
-  pub cursors : AreCursors (take (length standing.marks.items) calls) standing.cursors.items
-  pub room : length standing.cursors.items ≡ count
+pub record IsReadyThread (calls : List Call) (count : ℕ) (thread_state : StoredThread) : Type 0 where
+  pub made : length thread_state.marks.items ≤ length calls
+  pub cursors : AreCursors (take (length thread_state.marks.items) calls) thread_state.cursors.items
+  pub room : length thread_state.cursors.items ≡ count
 
 -- the threads are those of this script
-pub record IsReady (script : ScriptParts) (standings : List Standing) : Type 0 where
-  pub threads : length standings ≡ length script.threads
-  pub each : (thread : ℕ) (default : Standing) → thread < length standings → IsReadyThread (calls_of script thread) (cursors_of script thread) (slice_index_or standings thread default)
+pub record IsReady (script : ScriptParts) (thread_states : List StoredThread) : Type 0 where
+  pub threads : length thread_states ≡ length script.threads
+  pub each : (thread : ℕ) (default : StoredThread) → thread < length thread_states → IsReadyThread (calls_of script thread) (cursors_of script thread) (slice_index_or thread_states thread default)
 
 -- ---- what a turn tells
 
@@ -129,8 +129,8 @@ abbrev pub finishes_of : Option Turned → ℕ
 finishes_of turned = option_map_or (λ one. if one.finished then 1 else 0) turned 0
 
 -- how many calls have finished
-abbrev pub marks_made : List Standing → ℕ
-marks_made standings = sum_by (λ standing. length standing.marks.items) standings
+abbrev pub marks_made : List StoredThread → ℕ
+marks_made thread_states = sum_by (λ thread_state. length thread_state.marks.items) thread_states
 
 -- what a try of a call comes to, after these calls of its thread
 pub record IsTried (thread : ℕ) (before : List Call) (called : Call) (holders_before : List (Option ℕ)) (state_before : ThreadState) (turned : Turned) (holders_after : List (Option ℕ)) (state_after : ThreadState) : Type 0 where
@@ -141,6 +141,6 @@ pub record IsTried (thread : ℕ) (before : List Call) (called : Call) (holders_
   pub state : state_after ≡ (finish_part thread (answer_part thread before called holders_before state_before)).state
 
 -- threads before their first turns
-pub record AreFresh (threads : List Thread) (standings : List Standing) : Type 0 where
-  pub states : map state_of standings ≡ map (λ thread. fresh_thread) threads
-  pub cursors : (place : ℕ) (thread : Thread) (standing : Standing) → place < length standings → (slice_index_or standings place standing).cursors.items ≡ replicate (length (slice_index_or threads place thread).cursors) no_containers
+pub record AreFresh (threads : List Thread) (thread_states : List StoredThread) : Type 0 where
+  pub states : map state_of thread_states ≡ map (λ thread. fresh_thread) threads
+  pub cursors : (place : ℕ) (thread : Thread) (thread_state : StoredThread) → place < length thread_states → (slice_index_or thread_states place thread_state).cursors.items ≡ replicate (length (slice_index_or threads place thread).cursors) no_containers

@@ -1,5 +1,6 @@
--- In which order the slots of a table are tried for a hash. A table has a power of two of slots, numbered from 0 on, and its mask is the last one.
--- (CPython's dictobject.c and setobject.c, their comments on probing: i*5 + perturb + 1, perturb shifted by 5, runs of 9 more; from where on and in what words: profile)
+-- In which order the slots of a table are tried for a hash. A table has a power of two of slots, numbered from 0 on, and
+-- its mask is the last one. (CPython's dictobject.c and setobject.c, their comments on probing: i*5 + perturb + 1,
+-- perturb shifted by 5, runs of 9 more; from where on and in what words: profile)
 use Rattle.std.specs.Prelude.{◌≡◌, ℕ, zero, suc, ◌+◌, ◌*◌, ◌/◌, ◌%◌, ◌^◌, ◌<◌, ◌≤◌, List, [], ◌∷◌, map, flat_map, nat_le, if◌then◌else◌}
 use Rattle.std.specs.List.{range_with_len}
 use Rattle.std.specs.Int.{IsPowerOfTwo}
@@ -14,7 +15,8 @@ pub record IsMask (mask : ℕ) : Type 0 where
 unfoldable pub perturb : ℕ → ℕ → ℕ
 perturb hash n = hash / 32 ^ n
 
--- position n of the hash's probe: first the hash's low bits, then five times the position before, plus what is left of the hash, plus 1
+-- position n of the hash's probe: first the hash's low bits, then five times the position before, plus what is left of
+-- the hash, plus 1
 unfoldable pub position : ℕ → ℕ → ℕ → ℕ
 position hash mask zero = hash % (mask + 1)
 position hash mask (suc n) = (position hash mask n * 5 + perturb hash (suc n) + 1) % (mask + 1)

@@ -67,9 +67,9 @@ pub use root::{root_of, root_word};
 pub use size::{entry_at, index_at, item_at, table_size};
 pub use slot::{Pair, Ref, Slot, Stored};
 pub use start::{
-    COUNTER, WRITE_NUMBER, announced_word, block_start, box_start, free_count_word, free_word,
-    heap_start, table_start,
+    COUNTER, WRITE_NUMBER, announced_word, bank_size, block_start, box_start, free_count_word,
+    free_word, heap_start, table_start,
 };
 pub use stored::{stored_kind_of, stored_payload_of};
 pub use take::{Take, read_entry, read_item};
-pub use word::{block_word, entry_word, item_word};
+pub use word::{block_word, entry_word, item_word, table_word};

@@ -13,12 +13,14 @@ use crate::word::entry_word::{
 use crate::word::item_word::{
     VALUE as ITEM_VALUE, VALUE_KIND as ITEM_VALUE_KIND, VERSION as ITEM_VERSION,
 };
+use crate::word::table_word::GOAL;
 
-/// Each word of a bank, a block, an entry and an item has the number by which the definitions name it,
+/// Each word of a bank, a block, a table, an entry and an item has the number by which the definitions name it,
 /// and each limit is theirs.
 pub fn words_have_their_numbers()
     ensures bank { (COUNTER ≡ 0) × (WRITE_NUMBER ≡ 1) }
     ensures block { (LOCK ≡ 0) × (BLOCK_VERSION ≡ 1) × (ROOT ≡ 2) × (USED ≡ 3) × (FILL ≡ 4) × (NEXT ≡ 5) }
+    ensures table { GOAL ≡ 1 }
     ensures entry { (ENTRY_VERSION ≡ 0) × (HASH ≡ 1) × (KEY_KIND ≡ 2) × (KEY ≡ 3)
         × (ENTRY_VALUE_KIND ≡ 4) × (ENTRY_VALUE ≡ 5) × (SERIAL ≡ 6) }
     ensures limits { (TABLES ≡ 1024) × (CONTAINERS ≡ 256) × (PASSES ≡ 64) × (PLACES ≡ 4096) }

@@ -1,14 +1,15 @@
 //! Where in a bank each of its parts begins, for the bank that makes the list of words and for all who
 //! read or write it. The parts lie one after the other, without a gap.
 
-ghost use Rattle.std.specs.Prelude.{◌≡◌, ◌<◌, ◌≤◌};
+ghost use Rattle.std.specs.Prelude.{◌≡◌, ◌+◌, ◌^◌, ◌<◌, ◌≤◌};
+ghost use Rattle.ft_layout.specs.Sizes.{table_size};
 ghost use Rattle.ft_model.specs.Classes.{IsClass};
 ghost use Rattle.ft_layout.specs.Words.{IsHolder};
-ghost use Rattle.ft_layout.specs.Starts.{IsHeap, AreTables, count_of, announced_word, free_count_word, free_word, block_start, heap_start, box_start, table_start};
+ghost use Rattle.ft_layout.specs.Starts.{IsHeap, AreTables, count_of, announced_word, free_count_word, free_word, block_start, heap_start, box_start, table_start, bank_size};
 
 use crate::limit::{CONTAINERS, PASSES};
 use crate::size::table_size;
-use ft_model::LEAST_CLASS;
+use ft_model::{GREATEST_CLASS, LEAST_CLASS};
 
 /// The word that counts the writes.
 pub const COUNTER: u64 = 0;
@@ -105,11 +106,27 @@ pub fn table_start(
     requires tables { AreTables tables.now }
     requires class { IsClass class }
     requires number { number < count_of tables.now class }
-    ensures { result ≡ table_start containers heap passes tables.now class number }
+    ensures is { result ≡ table_start containers heap passes tables.now class number }
+    ensures within { result + table_size class < 2 ^ 33 }
 {
     let mut start = heap_start(containers, heap, passes);
     for below in LEAST_CLASS..class {
         start += u64::from(tables[(below - LEAST_CLASS) as usize]) * table_size(below);
     }
     start + u64::from(number) * table_size(class)
+}
+
+/// How many words a bank has: all up to the end of the last table of the greatest class.
+pub fn bank_size(containers: u32, heap: u32, passes: u32, tables: &[u32]) -> u64
+    requires containers { containers ≤ CONTAINERS }
+    requires heap { IsHeap heap }
+    requires passes { passes ≤ PASSES }
+    requires tables { AreTables tables.now }
+    ensures is { result ≡ bank_size
+        (record { containers = containers; heap = heap; passes = passes; tables = tables.now }) }
+    ensures most { result < 2 ^ 33 }
+{
+    let last = tables[(GREATEST_CLASS - LEAST_CLASS) as usize] - 1;
+    let start = table_start(containers, heap, passes, tables, GREATEST_CLASS, last);
+    start + table_size(GREATEST_CLASS)
 }

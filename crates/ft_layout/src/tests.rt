@@ -2,8 +2,8 @@
 //! and payloads.
 
 use crate::{
-    Pair, Ref, Slot, Stored, Take, announced_word, bank_words_are_of_one_part, block_start,
-    box_start, changed_words_are_of_a_list, changed_words_are_of_a_table,
+    Pair, Ref, Slot, Stored, Take, announced_word, bank_size, bank_words_are_of_one_part,
+    block_start, box_start, changed_words_are_of_a_list, changed_words_are_of_a_table,
     dict_words_are_of_one_dict, entry_at, entry_of, entry_words, free_count_word, free_word,
     gone_kind_of, heap_start, index_at, item_at, item_of, item_words, items_are_moved_one_by_one,
     kind_of, list_words_are_of_one_list, lock_of, lock_word, payload_of, puts_change_one_entry,
@@ -70,6 +70,7 @@ fn parts_of_a_small_bank_begin_where_the_last_ended(rt: HostRuntime) -> Result<(
     assert_eq!(rt; table_start(2, 64, 2, &tables, 4, 0), 806);
     assert_eq!(rt; table_start(2, 64, 2, &tables, 5, 0), 904);
     assert_eq!(rt; table_start(2, 64, 2, &tables, 16, 0), 415742);
+    assert_eq!(rt; bank_size(2, 64, 2, &tables), 830800);
     Ok(())
 }
 

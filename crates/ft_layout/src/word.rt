@@ -1,4 +1,4 @@
-//! The numbers of words in a block, an entry and an item, by name. Whoever reads or writes a single word
+//! The numbers of words in a block, a table's header, an entry and an item, by name. Whoever reads or writes a single word
 //! names it so.
 
 /// Which word of a container's block is which.
@@ -15,6 +15,12 @@ pub mod block_word {
     pub const FILL: u64 = 4;
     /// The serial that is drawn next.
     pub const NEXT: u64 = 5;
+}
+
+/// Which word of a table's header is which; the other is 0.
+pub mod table_word {
+    /// The goal: the write number that a table that was given up waits for.
+    pub const GOAL: u64 = 1;
 }
 
 /// Which word of an entry is which.

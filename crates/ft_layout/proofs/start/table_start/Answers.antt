@@ -1,4 +1,4 @@
-use Rattle.std.proofs.Common.{◌≡◌, ℕ, ◌-◌, ◌*◌, ◌≤◌, ap, ◌∙◌, arith}
+use Rattle.std.proofs.Common.{◌≡◌, ℕ, ◌+◌, ◌-◌, ◌*◌, ◌≤◌, ap, ◌∙◌, arith}
 use Rattle.std.proofs.lemmas.Nat.{mul-le}
 use Rattle.ft_layout.specs.Sizes.{table_size}
 use Rattle.ft_layout.specs.Starts.{count_of}
@@ -22,3 +22,16 @@ loop-below-preserved c =
       is = omega arith;
       most = omega arith;
     }
+
+pub returns-clause-within : goal.returns-clause-within
+returns-clause-within c =
+    let number = c.args.number in
+    let size : c.table_size-2.result ≡ table_size c.args.class = c.table_size-2.ensures.is in
+    let least = c.requires.class.least in
+    let most = c.requires.class.greatest in
+    let few : number + 1 ≤ 1024 = let h = (c.requires.tables.counts (c.args.class - 3) 0 (let k = c.requires.tables.classes in omega arith)).1 in let n = c.requires.number in omega arith in
+    let product : (number + 1) * c.table_size-2.result ≤ 1024 * 415058 = mul-le (number + 1) c.table_size-2.result 1024 415058 few c.table_size-2.ensures.most in
+    let same : c.from-2.result * c.table_size-2.result ≡ number * c.table_size-2.result = ap (λ (n : ℕ). n * c.table_size-2.result) c.from-2.ensures in
+    let start = c.loop-below.invariant.most in
+    let below = c.loop-below.auto.below-end least in
+    omega (arith, product, same, size, start, below)

@@ -1,0 +1,213 @@
+-- That a list with a table can be cleared, step by step, from whatever a pass with its lock knows.
+use Rattle.std.proofs.Common.{◌≡◌, ◌≢◌, ℕ, zero, suc, ◌+◌, ◌*◌, ◌^◌, ◌<◌, ◌≤◌, true, false, List, [], ◌∷◌, length, refl, sym, ap, ◌∙◌, subst, inl, inr, arith, length-set, get_or-set_same, get_or-set_other}
+use Rattle.std.specs.Prelude.{slice_index, slice_index_or, slice_set, replicate}
+use Rattle.ft_model.specs.declared.call.Call.{Call}
+use Rattle.ft_model.specs.declared.call.Call.TheVariants as call
+use Rattle.ft_model.specs.declared.call.ListCall.TheVariants as list
+use Rattle.ft_model.specs.declared.content.Content.{Content}
+use Rattle.ft_model.specs.declared.content.Content.TheVariants as content
+use Rattle.ft_model.specs.declared.data.Value.{Value}
+use Rattle.ft_model.specs.declared.reply.Reply.TheVariants as reply
+use Rattle.ft_model.specs.declared.script.Kind.TheVariants as kind
+use Rattle.ft_model.specs.Tables.{TableUse, no_table}
+use Rattle.ft_layout.specs.Containers.{IsBlock, StandsAs}
+use Rattle.ft_trace.specs.declared.Shape.{Shape}
+use Rattle.ft_trace.specs.declared.Snap.{Snap}
+use Rattle.ft_trace.specs.declared.View.{View}
+use Rattle.ft_trace.specs.declared.Act.{Act}
+use Rattle.ft_trace.specs.declared.Act.TheVariants.{StartWrite, PutRoot, PutBlock, Commit, StopWrite, Unlock}
+use Rattle.ft_trace.specs.Addrs.{Addr, containers_in, counter, version_of, lock_of, block, cls, at, extent, Inside}
+use Rattle.ft_trace.specs.Acts.{place, Reports, has, writes, used, owes, mem, noted}
+use Rattle.ft_trace.specs.Worlds.{Kept, kept, kind_in}
+use Rattle.ft_trace.specs.Words.{root_of, inner, Picture, root_in, picture, Stands}
+use Rattle.ft_trace.specs.Kinds.{rows, version_at}
+use Rattle.ft_trace.specs.Openings.{Shut}
+use Rattle.ft_trace.specs.Holds.{held, known}
+use Rattle.ft_trace.specs.Traces.{did, run, word, history, snap, May, Valid, Possible, Sure}
+use Rattle.ft_trace.proofs.Sizes.{set_at}
+use Rattle.ft_trace.proofs.Cases.{hit}
+use Rattle.ft_trace.proofs.Addrs.{at_low, at_apart}
+use Rattle.ft_trace.proofs.Pieces.{block_zero, block_at}
+use Rattle.ft_trace.proofs.Evens.{holder_shut}
+use Rattle.ft_trace.proofs.Images.{imaged}
+use Rattle.ft_trace.proofs.Rooms.{counter_room, version_room}
+use Rattle.ft_trace.proofs.Held.{root_known, table_known, held_stands, stop_sure}
+use Rattle.ft_trace.proofs.Nexts.{next_possible}
+use Rattle.ft_trace.proofs.Contents.{empty_stands}
+
+-- one more action with a snapshot
+pub snap_possible : (v : View) → v.number ≢ 0 → Possible v → (act : ℕ → Snap → Act) (x : Addr) → ((n : ℕ) (s : Snap) → place (act n s) ≡ x) → ((n : ℕ) (s : Snap) → Reports (act n s) n) → Sure v (λ es. May v.shape (run v.shape es) (history es) v (act (word v.shape es x) (snap (run v.shape es) (history es)))) → (n : ℕ) × (s : Snap) × Possible (noted (act n s) v)
+snap_possible v live p act x is tells may =
+    let k = v.shape in
+    let es = p.0 in
+    let n = word k es x in
+    let s = snap (run k es) (history es) in
+    let a = act n s in
+    let found : Reports a (word k es (place a)) = subst (λ (z : Addr). Reports a (word k es z)) (sym (is n s)) (tells n s) in
+    (n, s, (did p.1 v a ∷ es, p.1, ((p.2.0, (p.2.1, live, found, may es p.1 p.2)), set_at (run k es).views p.1 v (noted a v) p.2.1)))
+
+-- two words of the bank
+other_word : (k : Shape) (ws : List ℕ) (x y : Addr) (z : ℕ) → Inside k x → Inside k y → y ≢ x → slice_index (slice_set ws (at k x) z) (at k y) ≡ slice_index ws (at k y)
+other_word k ws x y z a b ne = get_or-set_other ws (at k x) (at k y) z 0 (λ e. ne (at_apart k y x b a e))
+
+one_word : (o i j : ℕ) → block o i ≡ block o j → i ≡ j
+one_word o i j e = cc
+
+-- what is put where nothing else is reported, is there in any case
+put_default : {A : Type 0} (l : List A) (i : ℕ) (d : A) → slice_index_or (slice_set l i d) i d ≡ d
+put_default [] i d = refl
+put_default (x ∷ xs) zero d = refl
+put_default (x ∷ xs) (suc i) d = put_default xs i d
+
+-- who has the lock and does not write knows a table none of whose versions is odd
+pub held_shut : (v : View) (o q : ℕ) → o < containers_in v.shape → Possible v → has o v.log ≡ true → writes o v.log ≡ false → root_in (held o v) ≡ suc q → Shut (version_at (kind_in v.shape.kinds o) (cls q)) (rows (kind_in v.shape.kinds o) (cls q)) (held o v).table
+held_shut v o q low p mine quiet names =
+    let w = table_known v o low q mine names p.0 p.1 p.2 in
+    subst (Shut (version_at (kind_in v.shape.kinds o) (cls q)) (rows (kind_in v.shape.kinds o) (cls q))) (sym w.0) (holder_shut v.shape p.0 p.2.0 o low p.1 v p.2.1 mine quiet q w.1)
+
+-- start, root 0, length 0, commit, stop, unlock
+module _ (v : View) (o : ℕ) (values : List Value) (live : v.number ≢ 0) (possible : Possible v) (small : v.shape.passes * v.shape.calls < 2 ^ 62) (low : o < containers_in v.shape) (mine : has o v.log ≡ true) (quiet : writes o v.log ≡ false) (spare : used v.log ≡ false) (none : owes v.log ≡ 0) (room : 0 < v.left) (is_list : (known o v).content ≡ content.List values) where
+  abbrev k : Shape
+  k = v.shape
+
+  abbrev old : ℕ
+  old = root_in (held o v)
+
+  abbrev clears : Call
+  clears = call.List o list.Clear
+
+  version_up : (u : View) → u.shape ≡ k → Sure u (λ es. word k es (version_of o) + 1 < 2 ^ 64)
+  version_up u is es id knows = let r = version_room k es (subst (λ (z : Shape). Valid z es) is knows.0) o low in omega (arith, r, small)
+
+  abbrev c1 : ℕ → View
+  c1 n = noted (StartWrite o n) v
+
+  abbrev c2 : ℕ → View
+  c2 n = noted (PutRoot o 0 old) (c1 n)
+
+  abbrev c3 : ℕ → View
+  c3 n = noted (PutBlock o 1 0) (c2 n)
+
+  abbrev c4 : ℕ → ℕ → Snap → View
+  c4 n m s = noted (Commit clears reply.Done m s) (c3 n)
+
+  abbrev c5 : ℕ → ℕ → Snap → ℕ → View
+  c5 n m s f = noted (StopWrite o f) (c4 n m s)
+
+  odd : writes o (c1 0).log ≡ true
+  odd = hit o true (writes o v.log)
+
+  -- the block that is known at first is that of a list
+  head : IsBlock (held o v).block (known o v).table.class (length values) 0 0
+  head = subst (λ (z : Content). StandsAs k.texts (held o v).block (0 ∷ 0 ∷ (held o v).table) (known o v).table z → IsBlock (held o v).block (known o v).table.class (length values) 0 0) (sym is_list) (λ s. s.0.head) (held_stands v o low possible mine quiet)
+
+  abbrev ws : List ℕ
+  ws = mem k v.log
+
+  abbrev ys : List ℕ
+  ys = slice_set (slice_set ws (at k (block o 0)) 0) (at k (block o 1)) 0
+
+  long : length ws ≡ extent k
+  long = (imaged k possible.0 possible.2.0 possible.1 v possible.2.1).wide (inl (o, mine))
+
+  in_block : (i : ℕ) → i < 6 → Inside k (block o i)
+  in_block i less = (low, less)
+
+  -- a word that is not put
+  else : (i : ℕ) → 2 ≤ i → i < 6 → slice_index (held o v).block i ≡ 0 → slice_index ys (at k (block o i)) ≡ 0
+  else i up less zero_is =
+      other_word k (slice_set ws (at k (block o 0)) 0) (block o 1) (block o i) 0 (in_block 1 (omega arith)) (in_block i less) (λ e. let z = one_word o i 1 e in omega (arith, z, up))
+      ∙ (other_word k ws (block o 0) (block o i) 0 (in_block 0 (omega arith)) (in_block i less) (λ e. let z = one_word o i 0 e in omega (arith, z, up))
+      ∙ (sym (block_at k o ws i less) ∙ zero_is))
+
+  zeros : (i : ℕ) → i < 6 → slice_index ys (at k (block o i)) ≡ 0
+  zeros zero less =
+      let l = at_low k (block o 0) (in_block 0 (omega arith)) in
+      other_word k (slice_set ws (at k (block o 0)) 0) (block o 1) (block o 0) 0 (in_block 1 (omega arith)) (in_block 0 (omega arith)) (λ e. let z = one_word o 0 1 e in omega (arith, z))
+      ∙ get_or-set_same ws (at k (block o 0)) 0 0 (omega (arith, l, long))
+  zeros (suc zero) less =
+      let l = at_low k (block o 1) (in_block 1 (omega arith)) in
+      let long1 : length (slice_set ws (at k (block o 0)) 0) ≡ extent k = length-set ws (at k (block o 0)) 0 ∙ long in
+      get_or-set_same (slice_set ws (at k (block o 0)) 0) (at k (block o 1)) 0 0 (omega (arith, l, long1))
+  zeros (suc (suc zero)) less = else 2 (omega arith) (omega arith) head.fill_is
+  zeros (suc (suc (suc zero))) less = else 3 (omega arith) (omega arith) head.next_is
+  zeros (suc (suc (suc (suc zero)))) less = else 4 (omega arith) (omega arith) head.spare.0
+  zeros (suc (suc (suc (suc (suc zero))))) less = else 5 (omega arith) (omega arith) head.spare.1
+  zeros (suc (suc (suc (suc (suc (suc i)))))) less = absurd (omega arith)
+
+  shown : picture k o ys ≡ record { block = replicate 6 0; table = [] }
+  shown =
+      let b = block_zero k o ys zeros in
+      let r : root_of k o ys ≡ 0 = zeros 0 (omega arith) in
+      λ d. record { block = b d; table = inner k (r d) ys }
+
+  root_now : root_in (picture k o ys) ≡ 0
+  root_now = ap root_in shown
+
+  after_clear : (n m : ℕ) (s : Snap) → known o (c4 n m s) ≡ record { content = content.List []; table = no_table }
+  after_clear n m s =
+      let c = put_default _ o (content.List []) in
+      let t = put_default _ o no_table in
+      λ d. record { content = c d; table = t d }
+
+  step1 : (n : ℕ) × Possible (c1 n)
+  step1 = next_possible v live possible (λ n. StartWrite o n) (version_of o) (λ n. refl) (λ n. refl) (λ es id knows. (low, mine, quiet, version_up v refl es id knows))
+
+  step2 : (n : ℕ) → Possible (c1 n) → (n2 : ℕ) × Possible (c2 n)
+  step2 n q =
+      next_possible (c1 n) live q (λ _. PutRoot o 0 old) (block o 0) (λ _. refl) (λ _. tt)
+      (λ es id knows. (
+        low,
+        odd,
+        root_known (c1 n) o low mine es id knows,
+        (λ t' (e : 0 ≡ suc t'). absurd (omega (arith, e))),
+        (λ q names. subst (Shut (version_at (kind_in k.kinds o) (cls q)) (rows (kind_in k.kinds o) (cls q))) (table_known (c1 n) o low q mine names es id knows).0 (held_shut v o q low possible mine quiet names)),
+        (λ _. spare),
+        (λ t' (e : 0 ≡ suc t'). absurd (omega (arith, e))),
+      ))
+
+  step3 : (n : ℕ) → Possible (c2 n) → (n2 : ℕ) × Possible (c3 n)
+  step3 n q = next_possible (c2 n) live q (λ _. PutBlock o 1 0) (block o 1) (λ _. refl) (λ _. tt) (λ es id knows. (low, omega arith, odd, λ (e : 1 ≡ 0). absurd (omega (arith, e))))
+
+  step4 : (n : ℕ) → Possible (c3 n) → (m : ℕ) × (s : Snap) × Possible (c4 n m s)
+  step4 n q =
+      snap_possible (c3 n) live q (λ m s. Commit clears reply.Done m s) counter (λ m s. refl) (λ m s. refl)
+      (λ es id knows.
+      let r = counter_room k es knows.0 in
+      let root = root_known (c3 n) o low mine es id knows in (
+        refl,
+        odd,
+        omega (arith, r, small),
+        room,
+        inr refl,
+        (λ t names. absurd (omega (arith, names, root, root_now))),
+        low,
+        refl,
+        (λ class e. absurd (omega (arith, e, none))),
+        refl,
+      ))
+
+  step5 : (n m : ℕ) (s : Snap) → Possible (c4 n m s) → (f : ℕ) × Possible (c5 n m s f)
+  step5 n m s q =
+      next_possible (c4 n m s) live q (λ f. StopWrite o f) (version_of o) (λ f. refl) (λ f. refl)
+      (λ es id knows.
+      let root = root_known (c4 n m s) o low mine es id knows in (
+        low,
+        odd,
+        refl,
+        stop_sure (c4 n m s) o low mine (subst (λ (z : Picture × Kept). Stands k.texts z.0 z.1) (λ d. (sym shown d, sym (after_clear n m s) d)) (empty_stands k.texts kind.List)) es id knows,
+        version_up (c4 n m s) refl es id knows,
+        (λ t names. absurd (omega (arith, names, root, root_now))),
+      ))
+
+  step6 : (n m : ℕ) (s : Snap) (f : ℕ) → Possible (c5 n m s f) → (n2 : ℕ) × Possible (noted (Unlock o) (c5 n m s f))
+  step6 n m s f q = next_possible (c5 n m s f) live q (λ _. Unlock o) (lock_of o) (λ _. refl) (λ _. tt) (λ es id knows. (low, mine, hit o false (writes o (c4 n m s).log)))
+
+  pub clear_possible : (n m : ℕ) × (s : Snap) × (f : ℕ) × Possible (noted (Unlock o) (c5 n m s f))
+  clear_possible =
+      let a = step1 in
+      let b = step2 a.0 a.1 in
+      let d = step3 a.0 b.1 in
+      let e = step4 a.0 d.1 in
+      let h = step5 a.0 e.0 e.1 e.2 in
+      (a.0, e.0, e.1, h.0, (step6 a.0 e.0 e.1 h.0 h.1).1)

@@ -3,7 +3,7 @@ use Rattle.std.proofs.Common.{◌≡◌, ◌≢◌, ℕ, ◌^◌, ◌<◌, List,
 use Rattle.std.specs.Prelude.{slice_index, slice_set}
 use Rattle.ft_trace.specs.declared.View.{View}
 use Rattle.ft_trace.specs.declared.Act.{Act}
-use Rattle.ft_trace.specs.Acts.{left, Reports, noted}
+use Rattle.ft_trace.specs.Acts.{word_after, Reports, noted}
 use Rattle.ft_trace.specs.declared.Snap.{Snap}
 use Rattle.ft_trace.specs.Traces.{Event, did, run, history, snap, Valid, Knows, Possible, ReadyAs, DoesAs}
 use Rattle.ft_trace.proofs.Sizes.{set_at}
@@ -27,7 +27,7 @@ module _ (v : View) (id i : ℕ) (f : ℕ → ℕ) (act : ℕ → Snap → Act) 
   one_more_words =
       let n = slice_index words i in
       let s = snap (run v.shape es) (history es) in
-      ap (λ (j : ℕ). slice_set words j (left v.number it (slice_index words j))) (does n s).0 ∙ ap (λ (x : ℕ). slice_set words i x) ((does n s).1 n)
+      ap (λ (j : ℕ). slice_set words j (word_after v.number it (slice_index words j))) (does n s).0 ∙ ap (λ (x : ℕ). slice_set words i x) ((does n s).1 n)
 
   pub one_more_possible : Possible (noted it v)
   one_more_possible = (did id v it ∷ es, id, (one_more_valid, set_at (run v.shape es).views id v (noted it v) knows.1))

@@ -12,7 +12,7 @@ use Rattle.ft_layout.proofs.Powers.{words_below-more}
 use Rattle.ft_trace.specs.declared.Shape.{Shape}
 use Rattle.ft_trace.specs.Bits.{bit}
 use Rattle.ft_trace.proofs.Bits.{bit_full}
-use Rattle.ft_trace.specs.Addrs.{Addr, counter, write_number, announced_of, count_of_class, bits, lock_of, version_of, block, header, cell, containers_in, tables_in, cls, num, fw, bt, slots, places, size, IsTable, far, start_of, extent, at, Inside, free_counts, least, free_word, free_words, opening}
+use Rattle.ft_trace.specs.Addrs.{Addr, counter, write_number, announced_of, count_of_class, bits, lock_of, version_of, block, header, cell, containers_in, tables_in, class_of, number_of, free_word_of, free_bit_of, slots, places, size, IsTable, far, start_of, extent, at, Inside, free_counts, least, free_word, free_words, opening}
 
 pub up_mul : (n a b : ℕ) → a ≤ b → a * n ≤ b * n
 up_mul n zero b low = omega arith
@@ -40,9 +40,9 @@ first_up tables (suc a) (suc b) up low =
     let p : 0 ≤ count_of tables b * (2 + size b) = omega arith in
     omega (arith, h, n, p))
 
-pub start_is : (k : Shape) (t : ℕ) → start_of k t ≡ far k + words_below k.tables (cls t) + num t * (2 + size (cls t))
+pub start_is : (k : Shape) (t : ℕ) → start_of k t ≡ far k + words_below k.tables (class_of t) + number_of t * (2 + size (class_of t))
 unfolding start_of
-start_is k t = ap (λ (z : ℕ). far k + words_below k.tables (cls t) + num t * z) (table_size_is (cls t))
+start_is k t = ap (λ (z : ℕ). far k + words_below k.tables (class_of t) + number_of t * z) (table_size_is (class_of t))
 
 pub extent_is : (k : Shape) → extent k ≡ far k + words_below k.tables 17
 unfolding extent
@@ -56,61 +56,61 @@ far_up k = let p : 0 ≤ k.passes * heap_size k.heap = omega arith in omega (ari
 pub far_low : (k : Shape) → far k ≤ extent k
 far_low k = let e = extent_is k in let p : 0 ≤ words_below k.tables 17 = omega arith in omega (arith, e, p)
 
-pub same_table : (t q : ℕ) → cls t ≡ cls q → num t ≡ num q → t ≡ q
-unfolding cls num
+pub same_table : (t q : ℕ) → class_of t ≡ class_of q → number_of t ≡ number_of q → t ≡ q
+unfolding class_of number_of
 same_table t q c n = omega arith
 
 pub start_low : (k : Shape) (t : ℕ) → 304 + 8 * containers_in k ≤ start_of k t
 start_low k t =
     let e = start_is k t in
     let f = far_up k in
-    let p : 0 ≤ words_below k.tables (cls t) = omega arith in
-    let q : 0 ≤ num t * (2 + size (cls t)) = omega arith in
+    let p : 0 ≤ words_below k.tables (class_of t) = omega arith in
+    let q : 0 ≤ number_of t * (2 + size (class_of t)) = omega arith in
     omega (arith, e, f, p, q)
 
 -- where the tables of its class, and it, end
-end_class : (k : Shape) (t : ℕ) → IsTable k t → start_of k t + 2 + size (cls t) ≤ far k + words_below k.tables (suc (cls t))
+end_class : (k : Shape) (t : ℕ) → IsTable k t → start_of k t + 2 + size (class_of t) ≤ far k + words_below k.tables (suc (class_of t))
 end_class k t is =
     let e = start_is k t in
-    let f = first_next k.tables (cls t) is.0.least in
+    let f = first_next k.tables (class_of t) is.0.least in
     let low = is.1 in
-    let m = up_mul (2 + size (cls t)) (suc (num t)) (tables_in k (cls t)) (omega arith) in
+    let m = up_mul (2 + size (class_of t)) (suc (number_of t)) (tables_in k (class_of t)) (omega arith) in
     omega (arith, e, f, m)
 
-pub start_high : (k : Shape) (t : ℕ) → IsTable k t → start_of k t + 2 + size (cls t) ≤ extent k
+pub start_high : (k : Shape) (t : ℕ) → IsTable k t → start_of k t + 2 + size (class_of t) ≤ extent k
 start_high k t is =
     let a = end_class k t is in
     let l = is.0.least in
     let h = is.0.greatest in
-    let b = first_up k.tables (suc (cls t)) 17 (omega arith) (omega arith) in
+    let b = first_up k.tables (suc (class_of t)) 17 (omega arith) (omega arith) in
     let e = extent_is k in
     omega (arith, a, b, e)
 
-before : (k : Shape) (t q : ℕ) → IsTable k t → IsTable k q → cls t < cls q → start_of k t + 2 + size (cls t) ≤ start_of k q
+before : (k : Shape) (t q : ℕ) → IsTable k t → IsTable k q → class_of t < class_of q → start_of k t + 2 + size (class_of t) ≤ start_of k q
 before k t q is it less =
     let a = end_class k t is in
     let l = is.0.least in
-    let b = first_up k.tables (suc (cls t)) (cls q) (omega arith) (omega arith) in
+    let b = first_up k.tables (suc (class_of t)) (class_of q) (omega arith) (omega arith) in
     let e = start_is k q in
-    let p : 0 ≤ num q * (2 + size (cls q)) = omega arith in
+    let p : 0 ≤ number_of q * (2 + size (class_of q)) = omega arith in
     omega (arith, a, b, e, p)
 
-beside : (k : Shape) (t q : ℕ) → cls t ≡ cls q → num t < num q → start_of k t + 2 + size (cls t) ≤ start_of k q
+beside : (k : Shape) (t q : ℕ) → class_of t ≡ class_of q → number_of t < number_of q → start_of k t + 2 + size (class_of t) ≤ start_of k q
 beside k t q same less =
     let e = start_is k t in
-    let f : start_of k q ≡ far k + words_below k.tables (cls t) + num q * (2 + size (cls t)) = start_is k q ∙ ap (λ (c : ℕ). far k + words_below k.tables c + num q * (2 + size c)) (sym same) in
-    let m = up_mul (2 + size (cls t)) (suc (num t)) (num q) (omega arith) in
+    let f : start_of k q ≡ far k + words_below k.tables (class_of t) + number_of q * (2 + size (class_of t)) = start_is k q ∙ ap (λ (c : ℕ). far k + words_below k.tables c + number_of q * (2 + size c)) (sym same) in
+    let m = up_mul (2 + size (class_of t)) (suc (number_of t)) (number_of q) (omega arith) in
     omega (arith, e, f, m)
 
 -- two tables that meet are one
-pub start_apart : (k : Shape) (t q : ℕ) → IsTable k t → IsTable k q → start_of k q < start_of k t + 2 + size (cls t) → start_of k t < start_of k q + 2 + size (cls q) → t ≡ q
+pub start_apart : (k : Shape) (t q : ℕ) → IsTable k t → IsTable k q → start_of k q < start_of k t + 2 + size (class_of t) → start_of k t < start_of k q + 2 + size (class_of q) → t ≡ q
 start_apart k t q is it a b =
-    dite (dec_lt (cls t) (cls q)) (λ less. let h = before k t q is it less in absurd (omega arith))
-    (λ no. dite (dec_lt (cls q) (cls t)) (λ less. let h = before k q t it is less in absurd (omega arith))
+    dite (dec_lt (class_of t) (class_of q)) (λ less. let h = before k t q is it less in absurd (omega arith))
+    (λ no. dite (dec_lt (class_of q) (class_of t)) (λ less. let h = before k q t it is less in absurd (omega arith))
     (λ no1.
-    let same : cls t ≡ cls q = omega arith in
-    dite (dec_lt (num t) (num q)) (λ less. let h = beside k t q same less in absurd (omega arith))
-    (λ no2. dite (dec_lt (num q) (num t)) (λ less. let h = beside k q t (sym same) less in absurd (omega arith))
+    let same : class_of t ≡ class_of q = omega arith in
+    dite (dec_lt (number_of t) (number_of q)) (λ less. let h = beside k t q same less in absurd (omega arith))
+    (λ no2. dite (dec_lt (number_of q) (number_of t)) (λ less. let h = beside k q t (sym same) less in absurd (omega arith))
     (λ no3. same_table t q same (omega arith)))))
 
 pub at_low : (k : Shape) (x : Addr) → Inside k x → at k x < extent k
@@ -220,16 +220,16 @@ past_front (x ∷ xs) ys i zero d is = absurd (omega arith)
 past_front (x ∷ xs) ys i (suc n) d is = past_front xs ys i n d (omega arith)
 
 -- which table is which bit of which word
-pub fw_low : (k : Shape) (t : ℕ) → IsTable k t → fw t < 224
-unfolding fw
+pub fw_low : (k : Shape) (t : ℕ) → IsTable k t → free_word_of t < 224
+unfolding free_word_of
 fw_low k t is = let l = is.0.least in let h = is.0.greatest in let n = is.2 in omega (arith, l, h, n)
 
-pub bt_low : (t : ℕ) → bt t < 64
-unfolding bt
+pub bt_low : (t : ℕ) → free_bit_of t < 64
+unfolding free_bit_of
 bt_low t = omega arith
 
-pub same_bit : (k : Shape) (t q : ℕ) → IsTable k t → IsTable k q → fw t ≡ fw q → bt t ≡ bt q → t ≡ q
-unfolding fw bt
+pub same_bit : (k : Shape) (t q : ℕ) → IsTable k t → IsTable k q → free_word_of t ≡ free_word_of q → free_bit_of t ≡ free_bit_of q → t ≡ q
+unfolding free_word_of free_bit_of
 same_bit k t q is it c n =
     let a = is.0.least in
     let b = it.0.least in
@@ -237,21 +237,21 @@ same_bit k t q is it c n =
     let f = it.2 in
     same_table t q (omega (arith, a, b, e, f, c)) (omega (arith, a, b, e, f, c, n))
 
-pub num_is : (k : Shape) (t : ℕ) → IsTable k t → (num t ≡ 64 * (fw t % 16) + bt t) × (3 + fw t / 16 ≡ cls t)
-unfolding fw bt
+pub num_is : (k : Shape) (t : ℕ) → IsTable k t → (number_of t ≡ 64 * (free_word_of t % 16) + free_bit_of t) × (3 + free_word_of t / 16 ≡ class_of t)
+unfolding free_word_of free_bit_of
 num_is k t is = let a = is.0.least in let n = is.2 in (omega (arith, a, n), omega (arith, a, n))
 
 -- the table with this number in its class
-pub cls_of : (c i : ℕ) → i < 1024 → cls (65536 * c + i) ≡ c
-unfolding cls
-cls_of c i low = omega arith
+pub class_of_number : (c i : ℕ) → i < 1024 → class_of (65536 * c + i) ≡ c
+unfolding class_of
+class_of_number c i low = omega arith
 
-pub num_of : (c i : ℕ) → i < 1024 → num (65536 * c + i) ≡ i
-unfolding num
-num_of c i low = omega arith
+pub number_of_number : (c i : ℕ) → i < 1024 → number_of (65536 * c + i) ≡ i
+unfolding number_of
+number_of_number c i low = omega arith
 
-pub table_is : (t : ℕ) → 65536 * cls t + num t ≡ t
-unfolding cls num
+pub table_is : (t : ℕ) → 65536 * class_of t + number_of t ≡ t
+unfolding class_of number_of
 table_is t = omega arith
 
 counts_long : (tables : List ℕ) (c n : ℕ) → length (free_counts tables c n) ≡ n
@@ -343,15 +343,15 @@ module _ (k : Shape) where
   bits_first w low = part_frees Anns Counts Frees Rest w long_anns long_counts long_frees low ∙ (free_at k.tables 0 224 w low ∙ ap (free_word k.tables) (omega arith))
 
   -- all tables are free
-  pub bit_first : (t : ℕ) → IsTable k t → bit (bt t) (slice_index (opening k) (at k (bits (fw t)))) ≡ 1
+  pub bit_first : (t : ℕ) → IsTable k t → bit (free_bit_of t) (slice_index (opening k) (at k (bits (free_word_of t)))) ≡ 1
   bit_first t is =
       let n = num_is k t is in
       let n0 = n.0 in
       let l = is.1 in
       let low = bt_low t in
-      let d = count_of k.tables (3 + fw t / 16) - 64 * (fw t % 16) in
-      let same : count_of k.tables (3 + fw t / 16) ≡ tables_in k (cls t) = ap (count_of k.tables) n.1 in
-      ap (bit (bt t)) (bits_first (fw t) (fw_low k t is)) ∙ bit_full (least (ltb d 64) d) (bt t) (least_up (ltb d 64) (bt t) d low (omega (arith, n0, l, same)))
+      let d = count_of k.tables (3 + free_word_of t / 16) - 64 * (free_word_of t % 16) in
+      let same : count_of k.tables (3 + free_word_of t / 16) ≡ tables_in k (class_of t) = ap (count_of k.tables) n.1 in
+      ap (bit (free_bit_of t)) (bits_first (free_word_of t) (fw_low k t is)) ∙ bit_full (least (ltb d 64) d) (free_bit_of t) (least_up (ltb d 64) (free_bit_of t) d low (omega (arith, n0, l, same)))
 
   pub ann_first : (p : ℕ) → 0 < p → p ≤ 64 → slice_index (opening k) (at k (announced_of p)) ≡ 0
   ann_first p up low = part_anns Anns (Counts ++ (Frees ++ Rest)) (p - 1) long_anns (omega arith) ∙ get_or-replicate {A = ℕ} 64 (p - 1) 0 0 (omega arith)
@@ -373,5 +373,5 @@ version_first k o low = low_first k (at k (version_of o)) (omega arith) (omega a
 pub block_first : (k : Shape) (o i : ℕ) → o < containers_in k → i < 6 → slice_index (opening k) (at k (block o i)) ≡ 0
 block_first k o i low small = low_first k (at k (block o i)) (omega arith) (omega arith)
 
-pub cell_first : (k : Shape) (t i : ℕ) → IsTable k t → i < size (cls t) → slice_index (opening k) (at k (cell t i)) ≡ 0
+pub cell_first : (k : Shape) (t i : ℕ) → IsTable k t → i < size (class_of t) → slice_index (opening k) (at k (cell t i)) ≡ 0
 cell_first k t i table small = rest_first k (at k (cell t i)) (let l = start_low k t in omega (arith, l)) (at_low k (cell t i) (table, small))

@@ -9,7 +9,7 @@ use Rattle.ft_trace.specs.declared.View.{View}
 use Rattle.ft_trace.specs.declared.Act.{Act}
 use Rattle.ft_trace.specs.declared.Act.TheVariants.{TakeTable, GiveTable, PutRoot, Retire, ReadRoot, Announce}
 use Rattle.ft_trace.specs.Bits.{bit}
-use Rattle.ft_trace.specs.Addrs.{IsTable, bt}
+use Rattle.ft_trace.specs.Addrs.{IsTable, free_bit_of}
 use Rattle.ft_trace.specs.Acts.{reads, starter, noted, maker, made, both, spent}
 use Rattle.ft_trace.specs.Ages.{aged, age, gone_to, whose, seen, seen_next}
 use Rattle.ft_trace.specs.Traces.{Event, did, forked, joined, run, Valid}
@@ -35,7 +35,7 @@ either_step true g x y p q = p
 either_step false g x y p q = q
 
 pub ages_by : (a : Act) (t g : ℕ) → Step g (aged a t g)
-ages_by (TakeTable p f s) t g = either_step (eqb p t) g (cond (eqb (bit (bt t) f) 1) (g + 1) g) g (either_step (eqb (bit (bt t) f) 1) g (g + 1) g (step_one g) (step_same g)) (step_same g)
+ages_by (TakeTable p f s) t g = either_step (eqb p t) g (cond (eqb (bit (free_bit_of t) f) 1) (g + 1) g) g (either_step (eqb (bit (free_bit_of t) f) 1) g (g + 1) g (step_one g) (step_same g)) (step_same g)
 ages_by (GiveTable p) t g = either_step (eqb p t) g (g + 5 - g % 5) g (record { up = omega arith; small = inr (omega arith) }) (step_same g)
 ages_by (PutRoot o r old) t g = either_step (eqb r (suc t)) g (g + 1) (cond (eqb old (suc t)) (g + 1) g) (step_one g) (either_step (eqb old (suc t)) g (g + 1) g (step_one g) (step_same g))
 ages_by (Retire p f) t g = either_step (eqb p t) g (g + 1) g (step_one g) (step_same g)
@@ -62,7 +62,7 @@ same_three false true g x y w e = absurd (omega (arith, e))
 same_three false false g x y w e = refl
 
 whose_by : (a : Act) (id t g w : ℕ) → aged a t g ≡ g → gone_to id a t w ≡ w
-whose_by (TakeTable p f s) id t g w e = same_two (eqb p t) (eqb (bit (bt t) f) 1) g id w e
+whose_by (TakeTable p f s) id t g w e = same_two (eqb p t) (eqb (bit (free_bit_of t) f) 1) g id w e
 whose_by (PutRoot o r old) id t g w e = same_three (eqb r (suc t)) (eqb old (suc t)) g o id w e
 whose_by act id t g w e = refl
 

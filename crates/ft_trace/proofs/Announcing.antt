@@ -7,7 +7,7 @@ use Rattle.ft_trace.specs.declared.View.{View}
 use Rattle.ft_trace.specs.declared.Act.{Act}
 use Rattle.ft_trace.specs.declared.Act.TheVariants.{Retire, Announce, ReadAnnounced, WriteNumber}
 use Rattle.ft_trace.specs.Addrs.{write_number, announced_of}
-use Rattle.ft_trace.specs.Acts.{ann, ann_next, starter, noted, maker, made, both, spent}
+use Rattle.ft_trace.specs.Acts.{announces, announces_next, starter, noted, maker, made, both, spent}
 use Rattle.ft_trace.specs.Seats.{top}
 use Rattle.ft_trace.specs.Traces.{Fits, Event, did, forked, joined, run, word, history, May, Valid}
 use Rattle.ft_trace.proofs.Sizes.{set_views, one_more, one_view}
@@ -18,7 +18,7 @@ use Rattle.ft_trace.proofs.Seats.{seated, same_seat}
 
 -- what the action is to the announced words and the write number
 pub record Aside (k : Shape) (es : List Event) (id : ℕ) (v : View) (a : Act) : Type 0 where
-  pub ann : (n : ℕ) → ann_next a n ≡ n
+  pub ann : (n : ℕ) → announces_next a n ≡ n
   pub said : (p : ℕ) → 0 < p → p ≤ 64 → word k (did id v a ∷ es) (announced_of p) ≡ word k es (announced_of p)
   pub drawn : word k (did id v a ∷ es) write_number ≡ word k es write_number
 
@@ -31,8 +31,8 @@ module _ (k : Shape) (es : List Event) (id : ℕ) (v : View) (F : Act → Type 0
   on_write_number act = other act (λ may. record { ann = λ n. refl; said = λ q up low. stays k es id v act may (announced_of q) (up, low) (λ e. absurd (cc)); drawn = stays k es id v act may write_number tt (λ e. absurd (cc)) })
 
 pub record Heard (k : Shape) (es : List Event) (j : ℕ) (u : View) : Type 0 where
-  pub word_is : u.number ≢ 0 → u.number ≤ 64 → word k es (announced_of u.number) ≡ ann u.log
-  pub low : ann u.log ≤ word k es write_number
+  pub word_is : u.number ≢ 0 → u.number ≤ 64 → word k es (announced_of u.number) ≡ announces u.log
+  pub low : announces u.log ≤ word k es write_number
 
 -- a number that no pass has yet has announced nothing
 pub record Quiet (k : Shape) (es : List Event) : Type 0 where
@@ -93,7 +93,7 @@ heard k (did id v a ∷ es) valid =
     let aside = by ok.1.3 in
     let W = aside.drawn in
     let l = mine.low in
-    let same_ann = aside.ann (ann v.log) in
+    let same_ann = aside.ann (announces v.log) in
     set_views (Heard k (did id v b ∷ es)) _ id (noted b v) (record { word_is = λ live low. aside.said v.number (omega arith) low ∙ (mine.word_is live low ∙ sym same_ann); low = omega (arith, W, l, same_ann) })
     (λ j u ne e. let o = old j u e in let m = o.low in record { word_is = λ live low. aside.said u.number (omega arith) low ∙ o.word_is live low; low = omega (arith, W, m) }))
     a valid

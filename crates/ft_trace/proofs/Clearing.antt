@@ -9,16 +9,16 @@ use Rattle.ft_model.specs.declared.content.Content.TheVariants as content
 use Rattle.ft_model.specs.declared.data.Value.{Value}
 use Rattle.ft_model.specs.declared.reply.Reply.TheVariants as reply
 use Rattle.ft_model.specs.declared.script.Kind.TheVariants as kind
-use Rattle.ft_model.specs.Tables.{TableUse, no_table}
+use Rattle.ft_model.specs.Tables.{no_table}
 use Rattle.ft_layout.specs.Containers.{IsBlock, StandsAs}
 use Rattle.ft_trace.specs.declared.Shape.{Shape}
 use Rattle.ft_trace.specs.declared.Snap.{Snap}
 use Rattle.ft_trace.specs.declared.View.{View}
 use Rattle.ft_trace.specs.declared.Act.{Act}
 use Rattle.ft_trace.specs.declared.Act.TheVariants.{StartWrite, PutRoot, PutBlock, Commit, StopWrite, Unlock}
-use Rattle.ft_trace.specs.Addrs.{Addr, containers_in, counter, version_of, lock_of, block, cls, at, extent, Inside}
-use Rattle.ft_trace.specs.Acts.{place, Reports, has, writes, used, owes, mem, noted}
-use Rattle.ft_trace.specs.Worlds.{Kept, kept, kind_in}
+use Rattle.ft_trace.specs.Addrs.{Addr, containers_in, counter, version_of, lock_of, block, class_of, at, extent, Inside}
+use Rattle.ft_trace.specs.Acts.{place, Reports, has_lock, is_writing, used, owes, mem, noted}
+use Rattle.ft_trace.specs.Worlds.{Kept, kind_in}
 use Rattle.ft_trace.specs.Words.{root_of, inner, Picture, root_in, picture, Stands}
 use Rattle.ft_trace.specs.Kinds.{rows, version_at}
 use Rattle.ft_trace.specs.Openings.{Shut}
@@ -60,13 +60,13 @@ put_default (x ∷ xs) zero d = refl
 put_default (x ∷ xs) (suc i) d = put_default xs i d
 
 -- who has the lock and does not write knows a table none of whose versions is odd
-pub held_shut : (v : View) (o q : ℕ) → o < containers_in v.shape → Possible v → has o v.log ≡ true → writes o v.log ≡ false → root_in (held o v) ≡ suc q → Shut (version_at (kind_in v.shape.kinds o) (cls q)) (rows (kind_in v.shape.kinds o) (cls q)) (held o v).table
+pub held_shut : (v : View) (o q : ℕ) → o < containers_in v.shape → Possible v → has_lock o v.log ≡ true → is_writing o v.log ≡ false → root_in (held o v) ≡ suc q → Shut (version_at (kind_in v.shape.kinds o) (class_of q)) (rows (kind_in v.shape.kinds o) (class_of q)) (held o v).table
 held_shut v o q low p mine quiet names =
     let w = table_known v o low q mine names p.0 p.1 p.2 in
-    subst (Shut (version_at (kind_in v.shape.kinds o) (cls q)) (rows (kind_in v.shape.kinds o) (cls q))) (sym w.0) (holder_shut v.shape p.0 p.2.0 o low p.1 v p.2.1 mine quiet q w.1)
+    subst (Shut (version_at (kind_in v.shape.kinds o) (class_of q)) (rows (kind_in v.shape.kinds o) (class_of q))) (sym w.0) (holder_shut v.shape p.0 p.2.0 o low p.1 v p.2.1 mine quiet q w.1)
 
 -- start, root 0, length 0, commit, stop, unlock
-module _ (v : View) (o : ℕ) (values : List Value) (live : v.number ≢ 0) (possible : Possible v) (small : v.shape.passes * v.shape.calls < 2 ^ 62) (low : o < containers_in v.shape) (mine : has o v.log ≡ true) (quiet : writes o v.log ≡ false) (spare : used v.log ≡ false) (none : owes v.log ≡ 0) (room : 0 < v.left) (is_list : (known o v).content ≡ content.List values) where
+module _ (v : View) (o : ℕ) (values : List Value) (live : v.number ≢ 0) (possible : Possible v) (small : v.shape.passes * v.shape.calls < 2 ^ 62) (low : o < containers_in v.shape) (mine : has_lock o v.log ≡ true) (quiet : is_writing o v.log ≡ false) (spare : used v.log ≡ false) (none : owes v.log ≡ 0) (room : 0 < v.left) (is_list : (known o v).content ≡ content.List values) where
   abbrev k : Shape
   k = v.shape
 
@@ -94,8 +94,8 @@ module _ (v : View) (o : ℕ) (values : List Value) (live : v.number ≢ 0) (pos
   abbrev c5 : ℕ → ℕ → Snap → ℕ → View
   c5 n m s f = noted (StopWrite o f) (c4 n m s)
 
-  odd : writes o (c1 0).log ≡ true
-  odd = hit o true (writes o v.log)
+  odd : is_writing o (c1 0).log ≡ true
+  odd = hit o true (is_writing o v.log)
 
   -- the block that is known at first is that of a list
   head : IsBlock (held o v).block (known o v).table.class (length values) 0 0
@@ -161,7 +161,7 @@ module _ (v : View) (o : ℕ) (values : List Value) (live : v.number ≢ 0) (pos
         odd,
         root_known (c1 n) o low mine es id knows,
         (λ t' (e : 0 ≡ suc t'). absurd (omega (arith, e))),
-        (λ q names. subst (Shut (version_at (kind_in k.kinds o) (cls q)) (rows (kind_in k.kinds o) (cls q))) (table_known (c1 n) o low q mine names es id knows).0 (held_shut v o q low possible mine quiet names)),
+        (λ q names. subst (Shut (version_at (kind_in k.kinds o) (class_of q)) (rows (kind_in k.kinds o) (class_of q))) (table_known (c1 n) o low q mine names es id knows).0 (held_shut v o q low possible mine quiet names)),
         (λ _. spare),
         (λ t' (e : 0 ≡ suc t'). absurd (omega (arith, e))),
       ))
@@ -201,7 +201,7 @@ module _ (v : View) (o : ℕ) (values : List Value) (live : v.number ≢ 0) (pos
       ))
 
   step6 : (n m : ℕ) (s : Snap) (f : ℕ) → Possible (c5 n m s f) → (n2 : ℕ) × Possible (noted (Unlock o) (c5 n m s f))
-  step6 n m s f q = next_possible (c5 n m s f) live q (λ _. Unlock o) (lock_of o) (λ _. refl) (λ _. tt) (λ es id knows. (low, mine, hit o false (writes o (c4 n m s).log)))
+  step6 n m s f q = next_possible (c5 n m s f) live q (λ _. Unlock o) (lock_of o) (λ _. refl) (λ _. tt) (λ es id knows. (low, mine, hit o false (is_writing o (c4 n m s).log)))
 
   pub clear_possible : (n m : ℕ) × (s : Snap) × (f : ℕ) × Possible (noted (Unlock o) (c5 n m s f))
   clear_possible =

@@ -10,7 +10,7 @@ use Rattle.ft_trace.specs.declared.View.{View}
 use Rattle.ft_trace.specs.declared.Act.{Act}
 use Rattle.ft_trace.specs.declared.Act.TheVariants.{StartWrite, PutBlock, PutRoot, PutTable, PutFresh, Commit, StopWrite, ReadBlock, ReadRoot, ReadTable, ReadCounter, Answer}
 use Rattle.ft_trace.specs.Addrs.{Addr, counter, block, cell, Inside, containers_in}
-use Rattle.ft_trace.specs.Acts.{writes, noted}
+use Rattle.ft_trace.specs.Acts.{is_writing, noted}
 use Rattle.ft_model.specs.declared.script.Kind.{Kind}
 use Rattle.ft_model.specs.declared.script.Kind.TheVariants as kind
 use Rattle.ft_model.specs.Worlds.{empty_content}
@@ -53,16 +53,16 @@ Of k es o (cell t i) = root k es o ≡ suc t
 Of k es o x = ⊥
 
 -- only who writes o changes a word of o
-pub alters : (k : Shape) (es : List Event) → Valid k es → (id : ℕ) (v : View) → get_elem? (run k es).views id ≡ some v → (o : ℕ) → o < containers_in k → (writes o v.log ≡ true → ⊥) → (x : Addr) → Inside k x → Of k es o x → (a : Act) → May k (run k es) (history es) v a → word k (did id v a ∷ es) x ≡ word k es x
-alters k es valid id v at o low never x in_it of (PutBlock p i y) may = stays k es id v (PutBlock p i y) may x in_it (λ e. never (subst (λ (z : ℕ). writes z v.log ≡ true) (subst (Of k es o) (sym e) of) may.2))
-alters k es valid id v at o low never x in_it of (PutRoot p r old) may = stays k es id v (PutRoot p r old) may x in_it (λ e. never (subst (λ (z : ℕ). writes z v.log ≡ true) (subst (Of k es o) (sym e) of) may.1))
+pub alters : (k : Shape) (es : List Event) → Valid k es → (id : ℕ) (v : View) → get_elem? (run k es).views id ≡ some v → (o : ℕ) → o < containers_in k → (is_writing o v.log ≡ true → ⊥) → (x : Addr) → Inside k x → Of k es o x → (a : Act) → May k (run k es) (history es) v a → word k (did id v a ∷ es) x ≡ word k es x
+alters k es valid id v at o low never x in_it of (PutBlock p i y) may = stays k es id v (PutBlock p i y) may x in_it (λ e. never (subst (λ (z : ℕ). is_writing z v.log ≡ true) (subst (Of k es o) (sym e) of) may.2))
+alters k es valid id v at o low never x in_it of (PutRoot p r old) may = stays k es id v (PutRoot p r old) may x in_it (λ e. never (subst (λ (z : ℕ). is_writing z v.log ≡ true) (subst (Of k es o) (sym e) of) may.1))
 alters k es valid id v at o low never x in_it of (PutTable p t i y) may =
     stays k es id v (PutTable p t i y) may x in_it
     (λ e.
     let mine : root k es o ≡ suc t = subst (Of k es o) (sym e) of in
     let its = placed k es valid t may.1 in
     let same : p ≡ o = sym (its.roots p may.0 may.4).1 ∙ (its.roots o low mine).1 in
-    never (subst (λ (z : ℕ). writes z v.log ≡ true) same may.3))
+    never (subst (λ (z : ℕ). is_writing z v.log ≡ true) same may.3))
 alters k es valid id v at o low never x in_it of (PutFresh t i y) may =
     stays k es id v (PutFresh t i y) may x in_it
     (λ e.
@@ -90,12 +90,12 @@ still_of k es now valid o low words content = record {
   content = content;
 }
 
-pub content_by : (k : Shape) (es : List Event) (v : View) (o : ℕ) → (writes o v.log ≡ true → ⊥) → (a : Act) → May k (run k es) (history es) v a → kept k.kinds (writes_of a (history es)) o ≡ kept k.kinds (history es) o
-content_by k es v o never (Commit c r f s) may = untouched k.kinds c (history es) o (λ e. never (subst (λ (z : ℕ). writes z v.log ≡ true) e may.1))
+pub content_by : (k : Shape) (es : List Event) (v : View) (o : ℕ) → (is_writing o v.log ≡ true → ⊥) → (a : Act) → May k (run k es) (history es) v a → kept k.kinds (writes_of a (history es)) o ≡ kept k.kinds (history es) o
+content_by k es v o never (Commit c r f s) may = untouched k.kinds c (history es) o (λ e. never (subst (λ (z : ℕ). is_writing z v.log ≡ true) e may.1))
 content_by k es v o never act may = refl
 
 -- an action of a pass that does not write o
-pub unwritten : (k : Shape) (es : List Event) (id : ℕ) (v : View) (a : Act) → Valid k (did id v a ∷ es) → (o : ℕ) → o < containers_in k → (writes o v.log ≡ true → ⊥) → Still k es (did id v a ∷ es) o
+pub unwritten : (k : Shape) (es : List Event) (id : ℕ) (v : View) (a : Act) → Valid k (did id v a ∷ es) → (o : ℕ) → o < containers_in k → (is_writing o v.log ≡ true → ⊥) → Still k es (did id v a ∷ es) o
 unwritten k es id v a valid o low never =
     still_of k es (did id v a ∷ es) valid.0 o low (λ x in_it of. alters k es valid.0 id v valid.1.0 o low never x in_it of a valid.1.3) (content_by k es v o never a valid.1.3)
 
@@ -150,7 +150,7 @@ stands k (did id v a ∷ es) valid o low even =
     (λ (odd : version k es o % 2 ≡ 0 → ⊥).
     let F : Act → Type 0 = λ b. Valid k (did id v b ∷ es) → version k (did id v b ∷ es) o % 2 ≡ 0 → StandsFor k (run k (did id v b ∷ es)) (writes_of b (history es)) o in
     on_seq k es id v o low F
-    (λ f ok now. off (sym ((versioned k (did id v (StartWrite o f) ∷ es) ok o low).idle now id (noted (StartWrite o f) v) (set_at (run k es).views id v (noted (StartWrite o f) v) ok.1.0)) ∙ hit o true (writes o v.log)))
+    (λ f ok now. off (sym ((versioned k (did id v (StartWrite o f) ∷ es) ok o low).idle now id (noted (StartWrite o f) v) (set_at (run k es).views id v (noted (StartWrite o f) v) ok.1.0)) ∙ hit o true (is_writing o v.log)))
     (λ f ok now.
     let same = still_of k es (did id v (StopWrite o f) ∷ es) ok.0 o low (λ x in_it of. stays k es id v (StopWrite o f) ok.1.3 x in_it (λ e. subst (Of k es o) (sym e) of)) refl in
     stands_for k es (did id v (StopWrite o f) ∷ es) o same ok.1.3.3)

@@ -10,7 +10,7 @@ use Rattle.ft_trace.specs.declared.View.{View}
 use Rattle.ft_trace.specs.declared.Act.{Act}
 use Rattle.ft_trace.specs.declared.Act.TheVariants.{LowerCount, RaiseCount, ReadCount, ReadFree, TakeTable, GiveTable}
 use Rattle.ft_trace.specs.Bits.{bit}
-use Rattle.ft_trace.specs.Addrs.{tables_in, count_of_class, bits, cls, num, fw, bt, IsTable}
+use Rattle.ft_trace.specs.Addrs.{tables_in, count_of_class, bits, class_of, number_of, free_word_of, free_bit_of, IsTable}
 use Rattle.ft_trace.specs.Acts.{place, stage, flight, flight_next, noted, maker, made, both, spent}
 use Rattle.ft_trace.specs.Entries.{total}
 use Rattle.ft_trace.specs.Counts.{sum_to, bit_of, set_bits, taking, giving}
@@ -18,7 +18,7 @@ use Rattle.ft_trace.specs.Traces.{Event, did, forked, joined, run, word, history
 use Rattle.ft_model.specs.Classes.{IsClass}
 use Rattle.ft_trace.proofs.Announcing.{fits}
 use Rattle.ft_trace.proofs.Cases.{miss, here, same_or}
-use Rattle.ft_trace.proofs.Addrs.{bt_low, cls_of, num_of, table_is, bit_first, count_first}
+use Rattle.ft_trace.proofs.Addrs.{bt_low, class_of_number, number_of_number, table_is, bit_first, count_first}
 use Rattle.ft_trace.proofs.Bits.{off_same, on_same, off_else, on_else, bit_small}
 use Rattle.ft_trace.proofs.Words.{stays, moves, loaded}
 use Rattle.ft_trace.proofs.Versions.{one_up}
@@ -82,9 +82,9 @@ busy_in c u = busy c (flight u.log)
 -- a table of the class
 pub of_class : (k : Shape) (c i : ℕ) → tables_in k c ≤ 1024 → IsClass c → i < tables_in k c → IsTable k (65536 * c + i)
 of_class k c i small low less =
-    let a = cls_of c i (omega arith) in
-    let b = num_of c i (omega arith) in
-    let room : i < tables_in k (cls (65536 * c + i)) = subst (λ (z : ℕ). i < tables_in k z) (sym a) less in
+    let a = class_of_number c i (omega arith) in
+    let b = number_of_number c i (omega arith) in
+    let room : i < tables_in k (class_of (65536 * c + i)) = subst (λ (z : ℕ). i < tables_in k z) (sym a) less in
     (subst IsClass (sym a) low, omega (arith, b, room), omega (arith, b, less, small))
 
 module _ (k : Shape) (es : List Event) (id : ℕ) (v : View) (c : ℕ) (small : tables_in k c ≤ 1024) (low : IsClass c) where
@@ -115,28 +115,28 @@ module _ (k : Shape) (es : List Event) (id : ℕ) (v : View) (c : ℕ) (small : 
 
   -- on no free word
   no_bit : (a : Act) → May k (run k es) (history es) v a → ((w : ℕ) → place a ≢ bits w) → S' a ≡ S
-  no_bit a may apart = sum_same (λ i. bit_of k (did id v a ∷ es) (65536 * c + i)) (λ i. bit_of k es (65536 * c + i)) (tables_in k c) (λ i less. bit_stays k es id v (65536 * c + i) (of_class k c i small low less) a may (apart (fw (65536 * c + i))))
+  no_bit a may apart = sum_same (λ i. bit_of k (did id v a ∷ es) (65536 * c + i)) (λ i. bit_of k es (65536 * c + i)) (tables_in k c) (λ i less. bit_stays k es id v (65536 * c + i) (of_class k c i small low less) a may (apart (free_word_of (65536 * c + i))))
 
   -- on the bit of the table p
-  one_bit : (a : Act) (p : ℕ) → IsTable k p → ((t : ℕ) → IsTable k t → p ≢ t → bit_of k (did id v a ∷ es) t ≡ bit_of k es t) → ((cls p ≡ c) × (S' a + bit_of k es p ≡ S + bit_of k (did id v a ∷ es) p)) ⊎ ((cls p ≢ c) × (S' a ≡ S))
+  one_bit : (a : Act) (p : ℕ) → IsTable k p → ((t : ℕ) → IsTable k t → p ≢ t → bit_of k (did id v a ∷ es) t ≡ bit_of k es t) → ((class_of p ≡ c) × (S' a + bit_of k es p ≡ S + bit_of k (did id v a ∷ es) p)) ⊎ ((class_of p ≢ c) × (S' a ≡ S))
   one_bit a p is else =
       let f : ℕ → ℕ = λ i. bit_of k (did id v a ∷ es) (65536 * c + i) in
       let g : ℕ → ℕ = λ i. bit_of k es (65536 * c + i) in
       let split = table_is p in
-      dite (ℕ_discrete (cls p) c)
-      (λ (e : cls p ≡ c).
-      let j : 65536 * c + num p ≡ p = omega (arith, split, e) in
-      let s = sum_one f g (tables_in k c) (num p) (subst (λ (z : ℕ). num p < tables_in k z) e is.1) (λ i less ne. else (65536 * c + i) (of_class k c i small low less) (λ z. ne (omega (arith, z, j)))) in
-      let x : f (num p) ≡ bit_of k (did id v a ∷ es) p = ap (bit_of k (did id v a ∷ es)) j in
-      let y : g (num p) ≡ bit_of k es p = ap (bit_of k es) j in
+      dite (ℕ_discrete (class_of p) c)
+      (λ (e : class_of p ≡ c).
+      let j : 65536 * c + number_of p ≡ p = omega (arith, split, e) in
+      let s = sum_one f g (tables_in k c) (number_of p) (subst (λ (z : ℕ). number_of p < tables_in k z) e is.1) (λ i less ne. else (65536 * c + i) (of_class k c i small low less) (λ z. ne (omega (arith, z, j)))) in
+      let x : f (number_of p) ≡ bit_of k (did id v a ∷ es) p = ap (bit_of k (did id v a ∷ es)) j in
+      let y : g (number_of p) ≡ bit_of k es p = ap (bit_of k es) j in
       inl (e, omega (arith, s, x, y)))
-      (λ far. inr (far, sum_same f g (tables_in k c) (λ i less. else (65536 * c + i) (of_class k c i small low less) (λ z. far (ap cls z ∙ cls_of c i (omega arith))))))
+      (λ far. inr (far, sum_same f g (tables_in k c) (λ i less. else (65536 * c + i) (of_class k c i small low less) (λ z. far (ap class_of z ∙ class_of_number c i (omega arith))))))
 
   take_else : (p f : ℕ) (s : _) → May k (run k es) (history es) v (TakeTable p f s) → (t : ℕ) → IsTable k t → p ≢ t → bit_of k (did id v (TakeTable p f s) ∷ es) t ≡ bit_of k es t
-  take_else p f s may t is ne = other_bit k es id v t is p may.0 (TakeTable p f s) ne refl may (λ n apart. off_else (bt p) (bt t) n (bt_low p) (bt_low t) apart)
+  take_else p f s may t is ne = other_bit k es id v t is p may.0 (TakeTable p f s) ne refl may (λ n apart. off_else (free_bit_of p) (free_bit_of t) n (bt_low p) (bt_low t) apart)
 
   give_else : (p : ℕ) → May k (run k es) (history es) v (GiveTable p) → (t : ℕ) → IsTable k t → p ≢ t → bit_of k (did id v (GiveTable p) ∷ es) t ≡ bit_of k es t
-  give_else p may t is ne = other_bit k es id v t is p may.0 (GiveTable p) ne refl may (λ n apart. on_else (bt p) (bt t) n (bt_low p) apart)
+  give_else p may t is ne = other_bit k es id v t is p may.0 (GiveTable p) ne refl may (λ n apart. on_else (free_bit_of p) (free_bit_of t) n (bt_low p) apart)
 
   by_lower : (d old f : ℕ) → Step (LowerCount d old f)
   by_lower d old f ok room =
@@ -203,31 +203,31 @@ module _ (k : Shape) (es : List Event) (id : ℕ) (v : View) (c : ℕ) (small : 
       let A : Act = TakeTable p f s in
       let may = ok.1.3 in
       let stay = stays k es id v A may (count_of_class c) low (λ z. absurd (cc)) in
-      let was : bit (bt p) f ≡ bit_of k es p = ap (bit (bt p)) ok.1.2 in
-      let now : bit_of k (did id v A ∷ es) p ≡ 0 = ap (bit (bt p)) (moves k es id v A may) ∙ off_same (bt p) (word k es (bits (fw p))) (bt_low p) in
-      let small_bit = bit_small (bt p) f in
-      let fl : flight v.log ≡ 2 * cls p + 1 = may.3 in
-      dite (ℕ_discrete (bit (bt p) f) 1)
-      (λ (one : bit (bt p) f ≡ 1).
-      let b' : B' A ≡ 0 = ap (busy c) (here (bit (bt p) f) 1 0 (flight v.log) one) ∙ busy_not c 0 (λ z. omega arith) (λ z. omega arith) in
+      let was : bit (free_bit_of p) f ≡ bit_of k es p = ap (bit (free_bit_of p)) ok.1.2 in
+      let now : bit_of k (did id v A ∷ es) p ≡ 0 = ap (bit (free_bit_of p)) (moves k es id v A may) ∙ off_same (free_bit_of p) (word k es (bits (free_word_of p))) (bt_low p) in
+      let small_bit = bit_small (free_bit_of p) f in
+      let fl : flight v.log ≡ 2 * class_of p + 1 = may.3 in
+      dite (ℕ_discrete (bit (free_bit_of p) f) 1)
+      (λ (one : bit (free_bit_of p) f ≡ 1).
+      let b' : B' A ≡ 0 = ap (busy c) (here (bit (free_bit_of p) f) 1 0 (flight v.log) one) ∙ busy_not c 0 (λ z. omega arith) (λ z. omega arith) in
       ⊎_elim
-      (λ (h : (cls p ≡ c) × (S' A + bit_of k es p ≡ S + bit_of k (did id v A ∷ es) p)).
+      (λ (h : (class_of p ≡ c) × (S' A + bit_of k es p ≡ S + bit_of k (did id v A ∷ es) p)).
       let b : B ≡ 1 = busy_is c (flight v.log) (inl (fl ∙ ap (λ (z : ℕ). 2 * z + 1) h.0)) in
       let x = h.1 in
       omega (arith, stay, was, now, one, b', b, x))
-      (λ (h : (cls p ≢ c) × (S' A ≡ S)).
+      (λ (h : (class_of p ≢ c) × (S' A ≡ S)).
       let b : B ≡ 0 = busy_not c (flight v.log) (λ z. h.0 (omega (arith, fl, z))) (λ z. omega (arith, fl, z)) in
       let x = h.1 in
       omega (arith, stay, b', b, x))
       (one_bit A p may.0 (take_else p f s may)))
       (λ no.
-      let b' : B' A ≡ B = ap (busy c) (miss (bit (bt p) f) 1 0 (flight v.log) no) in
+      let b' : B' A ≡ B = ap (busy c) (miss (bit (free_bit_of p) f) 1 0 (flight v.log) no) in
       ⊎_elim
-      (λ (h : (cls p ≡ c) × (S' A + bit_of k es p ≡ S + bit_of k (did id v A ∷ es) p)).
+      (λ (h : (class_of p ≡ c) × (S' A + bit_of k es p ≡ S + bit_of k (did id v A ∷ es) p)).
       let x = h.1 in
-      let zero_is : bit (bt p) f ≡ 0 = omega (arith, small_bit, no) in
+      let zero_is : bit (free_bit_of p) f ≡ 0 = omega (arith, small_bit, no) in
       omega (arith, stay, was, now, zero_is, b', x))
-      (λ (h : (cls p ≢ c) × (S' A ≡ S)). let x = h.1 in omega (arith, stay, b', x))
+      (λ (h : (class_of p ≢ c) × (S' A ≡ S)). let x = h.1 in omega (arith, stay, b', x))
       (one_bit A p may.0 (take_else p f s may)))
 
   by_give : (p : ℕ) → Step (GiveTable p)
@@ -238,19 +238,19 @@ module _ (k : Shape) (es : List Event) (id : ℕ) (v : View) (c : ℕ) (small : 
       let stay = stays k es id v A may (count_of_class c) low (λ z. absurd (cc)) in
       let some_stage : stage p v.log ≢ 0 = ⊎_elim (λ (x : stage p v.log ≡ 1). λ z. absurd (omega (arith, x, z))) (λ (x : (stage p v.log ≡ 4) × _). λ z. let y = x.0 in absurd (omega (arith, y, z))) may.1 in
       let mine = its.hands id v ok.1.0 some_stage in
-      let small_bit = bit_small (bt p) (word k es (bits (fw p))) in
+      let small_bit = bit_small (free_bit_of p) (word k es (bits (free_word_of p))) in
       let not_one : bit_of k es p ≢ 1 = λ b. some_stage (sym mine.0 ∙ its.free_is b) in
       let was : bit_of k es p ≡ 0 = omega (arith, small_bit, not_one) in
-      let now : bit_of k (did id v A ∷ es) p ≡ 1 = ap (bit (bt p)) (moves k es id v A may) ∙ on_same (bt p) (word k es (bits (fw p))) (bt_low p) in
+      let now : bit_of k (did id v A ∷ es) p ≡ 1 = ap (bit (free_bit_of p)) (moves k es id v A may) ∙ on_same (free_bit_of p) (word k es (bits (free_word_of p))) (bt_low p) in
       let idle = may.2 in
       let b : B ≡ 0 = busy_not c (flight v.log) (λ z. omega (arith, idle, z)) (λ z. omega (arith, idle, z)) in
       ⊎_elim
-      (λ (h : (cls p ≡ c) × (S' A + bit_of k es p ≡ S + bit_of k (did id v A ∷ es) p)).
-      let b' : B' A ≡ 1 = busy_is c (2 * cls p + 2) (inr (ap (λ (z : ℕ). 2 * z + 2) h.0)) in
+      (λ (h : (class_of p ≡ c) × (S' A + bit_of k es p ≡ S + bit_of k (did id v A ∷ es) p)).
+      let b' : B' A ≡ 1 = busy_is c (2 * class_of p + 2) (inr (ap (λ (z : ℕ). 2 * z + 2) h.0)) in
       let x = h.1 in
       omega (arith, stay, was, now, b, b', x))
-      (λ (h : (cls p ≢ c) × (S' A ≡ S)).
-      let b' : B' A ≡ 0 = busy_not c (2 * cls p + 2) (λ z. omega (arith, z)) (λ z. h.0 (omega (arith, z))) in
+      (λ (h : (class_of p ≢ c) × (S' A ≡ S)).
+      let b' : B' A ≡ 0 = busy_not c (2 * class_of p + 2) (λ z. omega (arith, z)) (λ z. h.0 (omega (arith, z))) in
       let x = h.1 in
       omega (arith, stay, b, b', x))
       (one_bit A p may.0 (give_else p may))
@@ -265,7 +265,7 @@ module _ (k : Shape) (es : List Event) (id : ℕ) (v : View) (c : ℕ) (small : 
       let m = loaded k es id v (ReadCount d f) (λ n. refl) (count_of_class c) in
       omega (arith, s, m)
   evenly (ReadFree w f) = λ ok room.
-      let s : S' (ReadFree w f) ≡ S = sum_same (λ i. bit_of k (did id v (ReadFree w f) ∷ es) (65536 * c + i)) (λ i. bit_of k es (65536 * c + i)) (tables_in k c) (λ i less. ap (bit (bt (65536 * c + i))) (loaded k es id v (ReadFree w f) (λ n. refl) (bits (fw (65536 * c + i))))) in
+      let s : S' (ReadFree w f) ≡ S = sum_same (λ i. bit_of k (did id v (ReadFree w f) ∷ es) (65536 * c + i)) (λ i. bit_of k es (65536 * c + i)) (tables_in k c) (λ i less. ap (bit (free_bit_of (65536 * c + i))) (loaded k es id v (ReadFree w f) (λ n. refl) (bits (free_word_of (65536 * c + i))))) in
       let m = stays k es id v (ReadFree w f) ok.1.3 (count_of_class c) low (λ e. absurd (cc)) in
       omega (arith, s, m)
   evenly act = λ ok room.
@@ -279,7 +279,7 @@ total_at f (x ∷ xs) zero v e = let same : f x ≡ f v = ap f (some-injective x
 total_at f (x ∷ xs) (suc i) v e = let t = total_at f xs i v e in omega (arith, t)
 
 pub bits_low : (k : Shape) (es : List Event) (c : ℕ) → set_bits k es c ≤ tables_in k c
-bits_low k es c = sum_low (λ i. bit_of k es (65536 * c + i)) (tables_in k c) (λ i less. bit_small (bt (65536 * c + i)) (word k es (bits (fw (65536 * c + i)))))
+bits_low k es c = sum_low (λ i. bit_of k es (65536 * c + i)) (tables_in k c) (λ i less. bit_small (free_bit_of (65536 * c + i)) (word k es (bits (free_word_of (65536 * c + i)))))
 
 few : (k : Shape) (es : List Event) → Valid k es → (c : ℕ) → IsClass c → tables_in k c ≤ 1024
 few k es valid c low = (fits k es valid).tables c low

@@ -3,7 +3,7 @@ use Rattle.std.proofs.Common.{◌≡◌, ◌≢◌, ℕ, eqb, eq-eqb, ltb, ◌*�
 use Rattle.ft_trace.specs.declared.Shape.{Shape}
 use Rattle.ft_trace.specs.declared.View.{View}
 use Rattle.ft_trace.specs.declared.Act.TheVariants.{Retire, Announce, ReadAnnounced, GiveTable}
-use Rattle.ft_trace.specs.Addrs.{write_number, announced_of, bits, IsTable, fw}
+use Rattle.ft_trace.specs.Addrs.{write_number, announced_of, bits, IsTable, free_word_of}
 use Rattle.ft_trace.specs.Acts.{stage, debt, flight, clear, goal, noted}
 use Rattle.ft_trace.specs.Traces.{Possible}
 use Rattle.ft_trace.proofs.Cases.{hit}
@@ -62,6 +62,6 @@ module _ (v : View) (t : ℕ) (first : v.number ≡ 1) (possible : Possible v) (
       let four : stage t (r3 f h).log ≡ 4 = hit t 4 (stage t v.log) in (
         f,
         h,
-        (next_possible (r3 f h) live d.1.0 (λ _. GiveTable t) (bits (fw t)) (λ _. refl) (λ _. tt)
+        (next_possible (r3 f h) live d.1.0 (λ _. GiveTable t) (bits (free_word_of t)) (λ _. refl) (λ _. tt)
             (λ es id knows. (table, inr (four, passed f h d.1.1), idle))).1,
       )

@@ -9,8 +9,8 @@ use Rattle.ft_trace.specs.declared.View.{View}
 use Rattle.ft_trace.specs.declared.Act.{Act}
 use Rattle.ft_trace.specs.declared.Act.TheVariants.{TakeTable, GiveTable, PutRoot, Retire, StopWrite}
 use Rattle.ft_trace.specs.Bits.{bit}
-use Rattle.ft_trace.specs.Addrs.{containers_in, version_of, cell, cls, IsTable, bt}
-use Rattle.ft_trace.specs.Acts.{place, has, writes, stage}
+use Rattle.ft_trace.specs.Addrs.{containers_in, version_of, cell, class_of, IsTable, free_bit_of}
+use Rattle.ft_trace.specs.Acts.{place, has_lock, is_writing, stage}
 use Rattle.ft_trace.specs.Worlds.{kind_in}
 use Rattle.ft_trace.specs.Kinds.{rows, version_at}
 use Rattle.ft_trace.specs.Openings.{Shut}
@@ -32,8 +32,8 @@ ShutAt k es o t = ShutFor k (run k es).words o t
 abbrev pub Evens : Shape → List Event → ℕ → Type 0
 Evens k es t = age es t % 5 ≡ 2 → version k es (whose es t) % 2 ≡ 0 → ShutAt k es (whose es t) t
 
-shut_same : (k : Shape) (o t : ℕ) (ws zs : List ℕ) → zs ≡ ws → Shut (version_at (kind_in k.kinds o) (cls t)) (rows (kind_in k.kinds o) (cls t)) ws → Shut (version_at (kind_in k.kinds o) (cls t)) (rows (kind_in k.kinds o) (cls t)) zs
-shut_same k o t ws zs e h = subst (Shut (version_at (kind_in k.kinds o) (cls t)) (rows (kind_in k.kinds o) (cls t))) (sym e) h
+shut_same : (k : Shape) (o t : ℕ) (ws zs : List ℕ) → zs ≡ ws → Shut (version_at (kind_in k.kinds o) (class_of t)) (rows (kind_in k.kinds o) (class_of t)) ws → Shut (version_at (kind_in k.kinds o) (class_of t)) (rows (kind_in k.kinds o) (class_of t)) zs
+shut_same k o t ws zs e h = subst (Shut (version_at (kind_in k.kinds o) (class_of t)) (rows (kind_in k.kinds o) (class_of t))) (sym e) h
 
 -- an action that leaves the words of t
 left_alone : (k : Shape) (es : List Event) (id : ℕ) (v : View) (t : ℕ) (table : IsTable k t) (a : Act) → May k (run k es) (history es) v a → ((i : ℕ) → place a ≢ cell t i) → tab k (did id v a ∷ es) t ≡ tab k es t
@@ -82,8 +82,8 @@ evens k (did id v a ∷ es) valid t table =
     on_table k es id v t table F
     (λ f s one ok two _.
     let A : Act = TakeTable t f s in
-    let was : g % 5 ≡ 0 = its.free_is (ap (bit (bt t)) (sym ok.1.2) ∙ one) in
-    let now : aged A t g ≡ g + 1 = hit t (cond (eqb (bit (bt t) f) 1) (g + 1) g) g ∙ here (bit (bt t) f) 1 (g + 1) g one in
+    let was : g % 5 ≡ 0 = its.free_is (ap (bit (free_bit_of t)) (sym ok.1.2) ∙ one) in
+    let now : aged A t g ≡ g + 1 = hit t (cond (eqb (bit (free_bit_of t) f) 1) (g + 1) g) g ∙ here (bit (free_bit_of t) f) 1 (g + 1) g one in
     absurd (omega (arith, two, now, was)))
     (λ ok two _. let now : aged (GiveTable t) t g ≡ g + 5 - g % 5 = hit t (g + 5 - g % 5) g in absurd (omega (arith, two, now)))
     (λ o past ok _ even.
@@ -114,5 +114,5 @@ quiet_shut k es valid o low even t names =
     subst (λ (z : ℕ). ShutAt k es z t) r.1 (evens k es valid t table r.0 (ap (λ (z : ℕ). version k es z % 2) r.1 ∙ even))
 
 -- who has the lock and does not write finds every entry closed
-pub holder_shut : (k : Shape) (es : List Event) (valid : Valid k es) (o : ℕ) (low : o < containers_in k) (j : ℕ) (u : View) → get_elem? (run k es).views j ≡ some u → has o u.log ≡ true → writes o u.log ≡ false → (t : ℕ) → root k es o ≡ suc t → ShutAt k es o t
+pub holder_shut : (k : Shape) (es : List Event) (valid : Valid k es) (o : ℕ) (low : o < containers_in k) (j : ℕ) (u : View) → get_elem? (run k es).views j ≡ some u → has_lock o u.log ≡ true → is_writing o u.log ≡ false → (t : ℕ) → root k es o ≡ suc t → ShutAt k es o t
 holder_shut k es valid o low j u at mine quiet t names = quiet_shut k es valid o low (holder_even k es valid o low j u at mine quiet) t names

@@ -9,7 +9,7 @@ use Rattle.ft_trace.specs.declared.View.{View}
 use Rattle.ft_trace.specs.declared.Act.{Act}
 use Rattle.ft_trace.specs.declared.Act.TheVariants.{TakeTable, GiveTable, PutRoot, Retire, Announce}
 use Rattle.ft_trace.specs.Bits.{bit}
-use Rattle.ft_trace.specs.Addrs.{write_number, IsTable, bt}
+use Rattle.ft_trace.specs.Addrs.{write_number, IsTable, free_bit_of}
 use Rattle.ft_trace.specs.Acts.{stage, stage_next, noted, maker, made, both, spent}
 use Rattle.ft_trace.specs.Ages.{aged, age, gone_to, whose}
 use Rattle.ft_trace.specs.Traces.{Event, did, forked, joined, run, word, history, May, Valid}
@@ -37,10 +37,10 @@ handed k (did id v a ∷ es) valid t table free current out =
     let mine : (b : Act) → Valid k (did id v b ∷ es) → gone_to id b t w ≡ id → stage_next t b n ≡ aged b t g % 5 → Kept k (did id v b ∷ es) t = λ b ok whom is. record { by = noted b v; at = ap (get_elem? (run k (did id v b ∷ es)).views) whom ∙ set_at (run k es).views id v (noted b v) ok.1.0; has = is } in
     on_table k es id v t table F
     (λ f s one ok _ _ _.
-    let was : g % 5 ≡ 0 = its.free_is (ap (bit (bt t)) (sym ok.1.2) ∙ one) in
-    let now : aged (TakeTable t f s) t g ≡ g + 1 = hit t (cond (eqb (bit (bt t) f) 1) (g + 1) g) g ∙ here (bit (bt t) f) 1 (g + 1) g one in
-    let one_is : stage_next t (TakeTable t f s) n ≡ 1 = hit t (cond (eqb (bit (bt t) f) 1) 1 n) n ∙ here (bit (bt t) f) 1 1 n one in
-    mine (TakeTable t f s) ok (hit t (cond (eqb (bit (bt t) f) 1) id w) w ∙ here (bit (bt t) f) 1 id w one) (omega (arith, now, was, one_is)))
+    let was : g % 5 ≡ 0 = its.free_is (ap (bit (free_bit_of t)) (sym ok.1.2) ∙ one) in
+    let now : aged (TakeTable t f s) t g ≡ g + 1 = hit t (cond (eqb (bit (free_bit_of t) f) 1) (g + 1) g) g ∙ here (bit (free_bit_of t) f) 1 (g + 1) g one in
+    let one_is : stage_next t (TakeTable t f s) n ≡ 1 = hit t (cond (eqb (bit (free_bit_of t) f) 1) 1 n) n ∙ here (bit (free_bit_of t) f) 1 1 n one in
+    mine (TakeTable t f s) ok (hit t (cond (eqb (bit (free_bit_of t) f) 1) id w) w ∙ here (bit (free_bit_of t) f) 1 id w one) (omega (arith, now, was, one_is)))
     (λ ok free _ _. let now : aged (GiveTable t) t g ≡ g + 5 - g % 5 = hit t (g + 5 - g % 5) g in absurd (free (omega (arith, now))))
     (λ o past ok _ current _.
     let one = (ok.1.3.3 t refl).1 in

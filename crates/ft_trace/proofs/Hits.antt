@@ -9,7 +9,7 @@ use Rattle.ft_trace.specs.declared.Shape.{Shape}
 use Rattle.ft_trace.specs.declared.View.{View}
 use Rattle.ft_trace.specs.declared.Act.{Act}
 use Rattle.ft_trace.specs.declared.Act.TheVariants.{ReadTable, ReadCounter}
-use Rattle.ft_trace.specs.Addrs.{containers_in, cls, slots, places}
+use Rattle.ft_trace.specs.Addrs.{containers_in, class_of, slots, places}
 use Rattle.ft_trace.specs.Worlds.{kept, first_writes, kind_in}
 use Rattle.ft_trace.specs.Words.{entry_at, entry_of}
 use Rattle.ft_trace.specs.Carefuls.{said_of, Later}
@@ -25,9 +25,9 @@ use Rattle.ft_trace.proofs.ByKind.{keyed_later, keyed_sound}
 use Rattle.ft_trace.proofs.Sounds.{LaterIn, sound_at}
 use Rattle.ft_trace.proofs.Spots.{under_trans, stamp_then, Spot, Back, go, Opened, open_window, named_by, found}
 
-module _ (k : Shape) (es : List Event) (valid : Valid k es) (o t p : ℕ) (key : Key) (n : ℕ) (low : o < containers_in k) (keyed : IsKeyed (kind_in k.kinds o)) (small : p < places (cls t)) (j : ℕ) (u : View) (at : get_elem? (run k es).views j ≡ some u) (h : Hit u.log o t p key n) where
+module _ (k : Shape) (es : List Event) (valid : Valid k es) (o t p : ℕ) (key : Key) (n : ℕ) (low : o < containers_in k) (keyed : IsKeyed (kind_in k.kinds o)) (small : p < places (class_of t)) (j : ℕ) (u : View) (at : get_elem? (run k es).views j ≡ some u) (h : Hit u.log o t p key n) where
   abbrev N : ℕ
-  N = slots (cls t)
+  N = slots (class_of t)
 
   abbrev load : Act
   load = ReadTable t (entry_at N p 0) h.version
@@ -51,8 +51,8 @@ module _ (k : Shape) (es : List Event) (valid : Valid k es) (o t p : ℕ) (key :
   whom_now = top.whom ∙ open_.whom
 
   -- what stays of the table, which is that of o all the while
-  later_from : (from : List Event) (a : Act) (rest : List Act) → whose from t ≡ o → (b : Back k t j start from a rest) → Later N (places (cls t)) (tab k b.spot.es t) (tab k from t)
-  later_from from a rest whom b = keyed_later (kind_in k.kinds o) keyed (cls t) (tab k b.spot.es t) (tab k from t) (subst (λ (z : ℕ). LaterIn k z t (tab k b.spot.es t) (tab k from t)) whom b.later)
+  later_from : (from : List Event) (a : Act) (rest : List Act) → whose from t ≡ o → (b : Back k t j start from a rest) → Later N (places (class_of t)) (tab k b.spot.es t) (tab k from t)
+  later_from from a rest whom b = keyed_later (kind_in k.kinds o) keyed (class_of t) (tab k b.spot.es t) (tab k from t) (subst (λ (z : ℕ). LaterIn k z t (tab k b.spot.es t) (tab k from t)) whom b.later)
 
   pub in_now : (a : Act) (m : Among a h.mid) → Back k t j start now a (m.rest ++ load ∷ h.rest)
   in_now a m = back (h.mid ++ load ∷ h.rest) top.spot m.newer a (m.rest ++ load ∷ h.rest) (ap (λ (l : List Act). l ++ load ∷ h.rest) m.is ∙ append_assoc m.newer (a ∷ m.rest) (load ∷ h.rest))
@@ -110,8 +110,8 @@ module _ (k : Shape) (es : List Event) (valid : Valid k es) (o t p : ℕ) (key :
       let l2 = later_from f.spot.es ka (h.between ++ ua ∷ h.before) f_whom kw in
       let l3 = later_from then_ load h.rest (whom_in (ReadCounter n) h.stamp) f in
       let used0 : entry_of N (tab k uw.spot.es t) p 2 ≢ 0 = λ none. omega (arith, none, use_read, some_kind) in
-      let used = later_used N (places (cls t)) (tab k uw.spot.es t) (tab k kw.spot.es t) l1 p small used0 in
-      l3.key p small (later_used N (places (cls t)) (tab k kw.spot.es t) (tab k f.spot.es t) l2 p small used) ∙ (l2.key p small used ∙ sym key_read)
+      let used = later_used N (places (class_of t)) (tab k uw.spot.es t) (tab k kw.spot.es t) l1 p small used0 in
+      l3.key p small (later_used N (places (class_of t)) (tab k kw.spot.es t) (tab k f.spot.es t) l2 p small used) ∙ (l2.key p small used ∙ sym key_read)
 
   -- the content at the stamp has under the key what the entry said then
   pub hit_at : (n ≤ count k es) × (under (kept k.kinds (first_writes n (history es)) o).content key ≡ said_of N (tab k then_ t) p)
@@ -119,7 +119,7 @@ module _ (k : Shape) (es : List Event) (valid : Valid k es) (o t p : ℕ) (key :
       let w = in_now (ReadCounter n) h.stamp in
       let v = same_version (ReadCounter n) h.stamp in
       let names = named_by k then_ w.spot.valid o t open_.table w.spot.now (whom_in (ReadCounter n) h.stamp) in
-      let sound = keyed_sound (kind_in k.kinds o) keyed k.texts (cls t) (tab k then_ t) (kept k.kinds (history then_) o).content (sound_at k then_ w.spot.valid o low t names) in
+      let sound = keyed_sound (kind_in k.kinds o) keyed k.texts (class_of t) (tab k then_ t) (kept k.kinds (history then_) o).content (sound_at k then_ w.spot.valid o low t names) in
       let right = sound.right p key small (ap (λ (z : ℕ). z % 2) v.1 ∙ h.even) (kind_then, key_then) in
       let s = stamp_then k then_ es w.spot.valid valid (under_trans then_ now es w.under (under_trans now open_.spot.es es top.under open_.under)) n w.tells in
       (s.0, ap (λ (cs : List Call). under (kept k.kinds cs o).content key) s.1 ∙ right)

@@ -12,7 +12,7 @@ use Rattle.ft_trace.specs.declared.View.{View}
 use Rattle.ft_trace.specs.declared.Act.{Act}
 use Rattle.ft_trace.specs.declared.Act.TheVariants.{Lock, Unlock, PutBlock, PutRoot, PutTable, PutFresh, Commit, ReadBlock, ReadRoot, ReadTable, TakeTable, GiveTable, Retire}
 use Rattle.ft_trace.specs.Addrs.{Addr, counter, write_number, announced_of, bits, count_of_class, lock_of, version_of, block, header, cell, Inside, at, extent}
-use Rattle.ft_trace.specs.Acts.{place, left, has, writes, stage, stage_next, mem, past, starter, noted, maker, made, both, spent}
+use Rattle.ft_trace.specs.Acts.{place, word_after, has_lock, is_writing, stage, stage_next, mem, past, starter, noted, maker, made, both, spent}
 use Rattle.ft_trace.specs.Worlds.{kept}
 use Rattle.ft_trace.specs.Addrs.{containers_in}
 use Rattle.ft_trace.specs.Traces.{Event, did, forked, joined, run, word, history, snap, May, Valid}
@@ -27,17 +27,17 @@ use Rattle.ft_trace.proofs.Contents.{alters, content_by}
 
 -- the words that a pass has to itself
 abbrev pub Owns : Shape → List Event → View → Addr → Type 0
-Owns k es u (block o i) = has o u.log ≡ true
-Owns k es u (cell t i) = (stage t u.log ≡ 1) ⊎ ((o : ℕ) × (o < containers_in k) × (has o u.log ≡ true) × (root k es o ≡ suc t))
+Owns k es u (block o i) = has_lock o u.log ≡ true
+Owns k es u (cell t i) = (stage t u.log ≡ 1) ⊎ ((o : ℕ) × (o < containers_in k) × (has_lock o u.log ≡ true) × (root k es o ≡ suc t))
 Owns k es u x = ⊥
 
 abbrev pub Owner : View → Type 0
-Owner u = ((o : ℕ) × (has o u.log ≡ true)) ⊎ ((t : ℕ) × (stage t u.log ≡ 1))
+Owner u = ((o : ℕ) × (has_lock o u.log ≡ true)) ⊎ ((t : ℕ) × (stage t u.log ≡ 1))
 
 pub record Imaged (k : Shape) (es : List Event) (u : View) : Type 0 where
   pub wide : Owner u → length (mem k u.log) ≡ extent k
   pub words : (x : Addr) → Inside k x → Owns k es u x → slice_index (mem k u.log) (at k x) ≡ word k es x
-  pub content : (o : ℕ) → has o u.log ≡ true → kept k.kinds (past u.log) o ≡ kept k.kinds (history es) o
+  pub content : (o : ℕ) → has_lock o u.log ≡ true → kept k.kinds (past u.log) o ≡ kept k.kinds (history es) o
 
 -- a word that no action but a put may change
 abbrev IsData : Addr → Type 0
@@ -77,10 +77,10 @@ fresh_stays k es valid id v at j u ne there t i in_it mine (PutFresh q d y) may 
 fresh_stays k es valid id v at j u ne there t i in_it mine (ReadTable q d f) may = loaded k es id v (ReadTable q d f) (λ n. refl) (cell t i)
 fresh_stays k es valid id v at j u ne there t i in_it mine act may = stays k es id v act may (cell t i) in_it (λ e. absurd (cc))
 
-other : (k : Shape) (es : List Event) (id : ℕ) (v : View) (a : Act) → Valid k (did id v a ∷ es) → (j : ℕ) (u : View) → j ≢ id → get_elem? (run k es).views j ≡ some u → Imaged k es u → (low : (o : ℕ) → has o u.log ≡ true → o < containers_in k) → Imaged k (did id v a ∷ es) u
+other : (k : Shape) (es : List Event) (id : ℕ) (v : View) (a : Act) → Valid k (did id v a ∷ es) → (j : ℕ) (u : View) → j ≢ id → get_elem? (run k es).views j ≡ some u → Imaged k es u → (low : (o : ℕ) → has_lock o u.log ≡ true → o < containers_in k) → Imaged k (did id v a ∷ es) u
 other k es id v a valid j u ne there old low = record { wide = old.wide; words = by; content = λ o mine. old.content o mine ∙ sym (content_by k es v o (not_writing o mine) a valid.1.3) }
   where
-    not_writing : (o : ℕ) → has o u.log ≡ true → writes o v.log ≡ true → ⊥
+    not_writing : (o : ℕ) → has_lock o u.log ≡ true → is_writing o v.log ≡ true → ⊥
     not_writing o mine w = ne (one_holder k es valid.0 o (low o mine) j id u v there valid.1.0 mine (writer_has k es valid.0 o id v valid.1.0 w))
 
     by : (x : Addr) → Inside k x → Owns k (did id v a ∷ es) u x → slice_index (mem k u.log) (at k x) ≡ word k (did id v a ∷ es) x
@@ -88,7 +88,7 @@ other k es id v a valid j u ne there old low = record { wide = old.wide; words =
     by (cell t i) in_it mine =
         ⊎_elim
         (λ (one : stage t u.log ≡ 1). old.words (cell t i) in_it (inl one) ∙ sym (fresh_stays k es valid.0 id v valid.1.0 j u ne there t i in_it one a valid.1.3))
-        (λ (h : (o : ℕ) × (o < containers_in k) × (has o u.log ≡ true) × (root k (did id v a ∷ es) o ≡ suc t)).
+        (λ (h : (o : ℕ) × (o < containers_in k) × (has_lock o u.log ≡ true) × (root k (did id v a ∷ es) o ≡ suc t)).
         let never = not_writing h.0 h.2 in
         let same = alters k es valid.0 id v valid.1.0 h.0 h.1 never (block h.0 0) (h.1, omega arith) refl a valid.1.3 in
         let names : root k es h.0 ≡ suc t = sym same ∙ h.3 in
@@ -117,10 +117,10 @@ abbrev Backward : Shape → List Event → List Event → View → View → Type
 Backward k es now v w = (x : Addr) → Inside k x → Owns k now w x → Owns k es v x
 
 -- an action that leaves what is known
-calm : (k : Shape) (es : List Event) (id : ℕ) (v : View) (a : Act) → Imaged k es v → mem k (a ∷ v.log) ≡ mem k v.log → past (a ∷ v.log) ≡ past v.log → history (did id v a ∷ es) ≡ history es → ((o : ℕ) → has o (a ∷ v.log) ≡ true → has o v.log ≡ true) → ((t : ℕ) → stage t (a ∷ v.log) ≡ 1 → stage t v.log ≡ 1)
+calm : (k : Shape) (es : List Event) (id : ℕ) (v : View) (a : Act) → Imaged k es v → mem k (a ∷ v.log) ≡ mem k v.log → past (a ∷ v.log) ≡ past v.log → history (did id v a ∷ es) ≡ history es → ((o : ℕ) → has_lock o (a ∷ v.log) ≡ true → has_lock o v.log ≡ true) → ((t : ℕ) → stage t (a ∷ v.log) ≡ 1 → stage t v.log ≡ 1)
     → ((x : Addr) → Inside k x → IsData x → word k (did id v a ∷ es) x ≡ word k es x) → Imaged k (did id v a ∷ es) (noted a v)
 calm k es id v a old m p h has_before stage_before same = record {
-  wide = λ e. ap (λ (l : List ℕ). length l) m ∙ old.wide (⊎_elim (λ (x : (o : ℕ) × (has o (a ∷ v.log) ≡ true)). inl (x.0, has_before x.0 x.1)) (λ (x : (t : ℕ) × (stage t (a ∷ v.log) ≡ 1)). inr (x.0, stage_before x.0 x.1)) e);
+  wide = λ e. ap (λ (l : List ℕ). length l) m ∙ old.wide (⊎_elim (λ (x : (o : ℕ) × (has_lock o (a ∷ v.log) ≡ true)). inl (x.0, has_before x.0 x.1)) (λ (x : (t : ℕ) × (stage t (a ∷ v.log) ≡ 1)). inr (x.0, stage_before x.0 x.1)) e);
   words = λ x in_it owns. ap (λ (l : List ℕ). slice_index l (at k x)) m ∙ (old.words x in_it (backward x in_it owns) ∙ sym (same x in_it (data_of k (did id v a ∷ es) (noted a v) x owns)));
   content = λ o mine. ap (λ (cs : List Call). kept k.kinds cs o) p ∙ (old.content o (has_before o mine) ∙ ap (λ (cs : List Call). kept k.kinds cs o) (sym h));
 }
@@ -129,7 +129,7 @@ calm k es id v a old m p h has_before stage_before same = record {
     backward (block o i) in_it mine = has_before o mine
     backward (cell t i) in_it mine =
         ⊎_elim (λ (x : stage t (a ∷ v.log) ≡ 1). inl (stage_before t x))
-        (λ (x : (o : ℕ) × (o < containers_in k) × (has o (a ∷ v.log) ≡ true) × (root k (did id v a ∷ es) o ≡ suc t)). inr (x.0, x.1, has_before x.0 x.2, sym (same (block x.0 0) (x.1, omega arith) tt) ∙ x.3))
+        (λ (x : (o : ℕ) × (o < containers_in k) × (has_lock o (a ∷ v.log) ≡ true) × (root k (did id v a ∷ es) o ≡ suc t)). inr (x.0, x.1, has_before x.0 x.2, sym (same (block x.0 0) (x.1, omega arith) tt) ∙ x.3))
         mine
     backward counter in_it mine = absurd mine
     backward write_number in_it mine = absurd mine
@@ -141,7 +141,7 @@ calm k es id v a old m p h has_before stage_before same = record {
     backward (header t) in_it mine = absurd mine
 
 -- a put into what the pass has
-stored : (k : Shape) (es : List Event) (id : ℕ) (v : View) (a : Act) (y : ℕ) → Valid k es → May k (run k es) (history es) v a → Imaged k es v → Inside k (place a) → mem k (a ∷ v.log) ≡ slice_set (mem k v.log) (at k (place a)) y → left v.number a (word k es (place a)) ≡ y → past (a ∷ v.log) ≡ past v.log → history (did id v a ∷ es) ≡ history es → ((o : ℕ) → has o (a ∷ v.log) ≡ has o v.log) → length (mem k v.log) ≡ extent k
+stored : (k : Shape) (es : List Event) (id : ℕ) (v : View) (a : Act) (y : ℕ) → Valid k es → May k (run k es) (history es) v a → Imaged k es v → Inside k (place a) → mem k (a ∷ v.log) ≡ slice_set (mem k v.log) (at k (place a)) y → word_after v.number a (word k es (place a)) ≡ y → past (a ∷ v.log) ≡ past v.log → history (did id v a ∷ es) ≡ history es → ((o : ℕ) → has_lock o (a ∷ v.log) ≡ has_lock o v.log) → length (mem k v.log) ≡ extent k
     → Backward k es (did id v a ∷ es) v (noted a v) → Imaged k (did id v a ∷ es) (noted a v)
 stored k es id v a y valid may old in_place m l p h same_has long backward = record {
   wide = λ _. ap (λ (l : List ℕ). length l) m ∙ (length-set (mem k v.log) (at k (place a)) y ∙ long);
@@ -162,9 +162,9 @@ stored k es id v a y valid may old in_place m l p h same_has long backward = rec
 }
 
 -- where roots and what the pass has are as before
-same_back : (k : Shape) (es : List Event) (id : ℕ) (v : View) (a : Act) → ((o : ℕ) → has o (a ∷ v.log) ≡ has o v.log) → ((t : ℕ) → stage t (a ∷ v.log) ≡ stage t v.log) → ((o : ℕ) → o < containers_in k → root k (did id v a ∷ es) o ≡ root k es o) → Backward k es (did id v a ∷ es) v (noted a v)
+same_back : (k : Shape) (es : List Event) (id : ℕ) (v : View) (a : Act) → ((o : ℕ) → has_lock o (a ∷ v.log) ≡ has_lock o v.log) → ((t : ℕ) → stage t (a ∷ v.log) ≡ stage t v.log) → ((o : ℕ) → o < containers_in k → root k (did id v a ∷ es) o ≡ root k es o) → Backward k es (did id v a ∷ es) v (noted a v)
 same_back k es id v a h s r (block o i) in_it mine = sym (h o) ∙ mine
-same_back k es id v a h s r (cell t i) in_it mine = ⊎_elim (λ (x : stage t (a ∷ v.log) ≡ 1). inl (sym (s t) ∙ x)) (λ (x : (o : ℕ) × (o < containers_in k) × (has o (a ∷ v.log) ≡ true) × (root k (did id v a ∷ es) o ≡ suc t)). inr (x.0, x.1, sym (h x.0) ∙ x.2, sym (r x.0 x.1) ∙ x.3)) mine
+same_back k es id v a h s r (cell t i) in_it mine = ⊎_elim (λ (x : stage t (a ∷ v.log) ≡ 1). inl (sym (s t) ∙ x)) (λ (x : (o : ℕ) × (o < containers_in k) × (has_lock o (a ∷ v.log) ≡ true) × (root k (did id v a ∷ es) o ≡ suc t)). inr (x.0, x.1, sym (h x.0) ∙ x.2, sym (r x.0 x.1) ∙ x.3)) mine
 same_back k es id v a h s r counter in_it mine = absurd mine
 same_back k es id v a h s r write_number in_it mine = absurd mine
 same_back k es id v a h s r (announced_of p) in_it mine = absurd mine
@@ -179,7 +179,7 @@ root_back k es id v p r past may (block o i) in_it mine = mine
 root_back k es id v p r past may (cell t i) in_it mine =
     ⊎_elim
     (λ (x : stage_next t (PutRoot p r past) (stage t v.log) ≡ 1). inl (two_ways (eqb r (suc t)) (eqb past (suc t)) (stage t v.log) x))
-    (λ (x : (o : ℕ) × (o < containers_in k) × (has o v.log ≡ true) × (root k (did id v (PutRoot p r past) ∷ es) o ≡ suc t)).
+    (λ (x : (o : ℕ) × (o < containers_in k) × (has_lock o v.log ≡ true) × (root k (did id v (PutRoot p r past) ∷ es) o ≡ suc t)).
     dite (ℕ_discrete x.0 p)
     (λ (e : x.0 ≡ p). inl (may.3 t (sym (moves k es id v (PutRoot p r past) may) ∙ (ap (root k (did id v (PutRoot p r past) ∷ es)) (sym e) ∙ x.3))).1)
     (λ ne. inr (x.0, x.1, x.2, sym (stays k es id v (PutRoot p r past) may (block x.0 0) (x.1, omega arith) (λ e. ne (cc))) ∙ x.3)))
@@ -210,7 +210,7 @@ own : (k : Shape) (es : List Event) (id : ℕ) (v : View) → Valid k es → get
 own k es id v valid here_ old (Lock p f s) may = fresh k es id v (Lock p f s) s may.2 refl refl refl (apart k es id v (Lock p f s) may (λ d. d))
 own k es id v valid here_ old (TakeTable p f s) may = fresh k es id v (TakeTable p f s) s may.2 refl refl refl (apart k es id v (TakeTable p f s) may (λ d. d))
 own k es id v valid here_ old (Unlock p) may =
-    calm k es id v (Unlock p) old refl refl refl (λ o mine. same_or (λ (z : ℕ). cond (eqb z o) false (has o v.log) ≡ true → has o v.log ≡ true) p o (λ e. off (sym (hit o false (has o v.log)) ∙ e)) (λ ne e. sym (miss p o false (has o v.log) ne) ∙ e) mine) (λ t m. m)
+    calm k es id v (Unlock p) old refl refl refl (λ o mine. same_or (λ (z : ℕ). cond (eqb z o) false (has_lock o v.log) ≡ true → has_lock o v.log ≡ true) p o (λ e. off (sym (hit o false (has_lock o v.log)) ∙ e)) (λ ne e. sym (miss p o false (has_lock o v.log) ne) ∙ e) mine) (λ t m. m)
     (apart k es id v (Unlock p) may (λ d. d))
 own k es id v valid here_ old (GiveTable p) may = calm k es id v (GiveTable p) old refl refl refl (λ o m. m) (λ t m. not_one (eqb p t) 0 (stage t v.log) (λ z. absurd (omega (arith, z))) m) (apart k es id v (GiveTable p) may (λ d. d))
 own k es id v valid here_ old (Retire p f) may = calm k es id v (Retire p f) old refl refl refl (λ o m. m) (λ t m. not_one (eqb p t) 4 (stage t v.log) (λ z. absurd (omega (arith, z))) m) (apart k es id v (Retire p f) may (λ d. d))
@@ -239,11 +239,11 @@ own k es id v valid here_ old act may = calm k es id v act old refl refl refl (�
 
 -- a lock is that of an container of the bank
 abbrev Low : Shape → ℕ → View → Type 0
-Low k j u = (o : ℕ) → has o u.log ≡ true → o < containers_in k
+Low k j u = (o : ℕ) → has_lock o u.log ≡ true → o < containers_in k
 
-low_next : (k : Shape) (es : List Event) (v : View) (b : Act) → May k (run k es) (history es) v b → ((o : ℕ) → has o v.log ≡ true → o < containers_in k) → (o : ℕ) → has o (b ∷ v.log) ≡ true → o < containers_in k
-low_next k es v (Lock p f s) may old o mine = same_or (λ (z : ℕ). z < containers_in k → cond (eqb z o) (cond (eqb f 0) true (has o v.log)) (has o v.log) ≡ true → o < containers_in k) p o (λ low _. low) (λ ne _ e. old o (sym (miss p o (cond (eqb f 0) true (has o v.log)) (has o v.log) ne) ∙ e)) may.0 mine
-low_next k es v (Unlock p) may old o mine = same_or (λ (z : ℕ). cond (eqb z o) false (has o v.log) ≡ true → o < containers_in k) p o (λ e. off (sym (hit o false (has o v.log)) ∙ e)) (λ ne e. old o (sym (miss p o false (has o v.log) ne) ∙ e)) mine
+low_next : (k : Shape) (es : List Event) (v : View) (b : Act) → May k (run k es) (history es) v b → ((o : ℕ) → has_lock o v.log ≡ true → o < containers_in k) → (o : ℕ) → has_lock o (b ∷ v.log) ≡ true → o < containers_in k
+low_next k es v (Lock p f s) may old o mine = same_or (λ (z : ℕ). z < containers_in k → cond (eqb z o) (cond (eqb f 0) true (has_lock o v.log)) (has_lock o v.log) ≡ true → o < containers_in k) p o (λ low _. low) (λ ne _ e. old o (sym (miss p o (cond (eqb f 0) true (has_lock o v.log)) (has_lock o v.log) ne) ∙ e)) may.0 mine
+low_next k es v (Unlock p) may old o mine = same_or (λ (z : ℕ). cond (eqb z o) false (has_lock o v.log) ≡ true → o < containers_in k) p o (λ e. off (sym (hit o false (has_lock o v.log)) ∙ e)) (λ ne e. old o (sym (miss p o false (has_lock o v.log) ne) ∙ e)) mine
 low_next k es v act may old o mine = old o mine
 
 pub has_low : (k : Shape) (es : List Event) → Valid k es → (j : ℕ) (u : View) → get_elem? (run k es).views j ≡ some u → Low k j u
@@ -255,17 +255,17 @@ has_low k (joined id v third w ∷ es) valid = let old = has_low k es valid.0 in
 -- a pass that has nothing
 nothing : (k : Shape) (es : List Event) (u : View) → u.log ≡ [] → Imaged k es u
 nothing k es u e =
-    let no_lock : (o : ℕ) → has o u.log ≡ false = λ o. ap (has o) e in
+    let no_lock : (o : ℕ) → has_lock o u.log ≡ false = λ o. ap (has_lock o) e in
     let no_table : (t : ℕ) → stage t u.log ≡ 0 = λ t. ap (stage t) e in
     record {
-      wide = λ h. ⊎_elim (λ (x : (o : ℕ) × (has o u.log ≡ true)). off (sym (no_lock x.0) ∙ x.1)) (λ (x : (t : ℕ) × (stage t u.log ≡ 1)). let z = no_table x.0 in let y = x.1 in absurd (omega (arith, y, z))) h;
+      wide = λ h. ⊎_elim (λ (x : (o : ℕ) × (has_lock o u.log ≡ true)). off (sym (no_lock x.0) ∙ x.1)) (λ (x : (t : ℕ) × (stage t u.log ≡ 1)). let z = no_table x.0 in let y = x.1 in absurd (omega (arith, y, z))) h;
       words = λ x in_it owns. never x owns;
       content = λ o mine. off (sym (no_lock o) ∙ mine);
     }
   where
     never : {A : Type 0} (x : Addr) → Owns k es u x → A
-    never (block o i) mine = off (sym (ap (has o) e) ∙ mine)
-    never (cell t i) mine = ⊎_elim (λ (x : stage t u.log ≡ 1). let z : stage t u.log ≡ 0 = ap (stage t) e in absurd (omega (arith, x, z))) (λ (x : (o : ℕ) × (o < containers_in k) × (has o u.log ≡ true) × (root k es o ≡ suc t)). off (sym (ap (has x.0) e) ∙ x.2)) mine
+    never (block o i) mine = off (sym (ap (has_lock o) e) ∙ mine)
+    never (cell t i) mine = ⊎_elim (λ (x : stage t u.log ≡ 1). let z : stage t u.log ≡ 0 = ap (stage t) e in absurd (omega (arith, x, z))) (λ (x : (o : ℕ) × (o < containers_in k) × (has_lock o u.log ≡ true) × (root k es o ≡ suc t)). off (sym (ap (has_lock x.0) e) ∙ x.2)) mine
     never counter mine = absurd mine
     never write_number mine = absurd mine
     never (announced_of p) mine = absurd mine

@@ -9,7 +9,7 @@ use Rattle.ft_trace.specs.declared.Shape.{Shape}
 use Rattle.ft_trace.specs.declared.View.{View}
 use Rattle.ft_trace.specs.declared.Act.{Act}
 use Rattle.ft_trace.specs.declared.Act.TheVariants.{ReadTable, ReadCounter}
-use Rattle.ft_trace.specs.Addrs.{containers_in, cls, slots}
+use Rattle.ft_trace.specs.Addrs.{containers_in, class_of, slots}
 use Rattle.ft_trace.specs.Ages.{whose}
 use Rattle.ft_trace.specs.Worlds.{kept, first_writes, kind_in}
 use Rattle.ft_trace.specs.Words.{item_at, item_of}
@@ -23,7 +23,7 @@ use Rattle.ft_trace.proofs.ByKind.{items_fit, items_later, items_sound}
 use Rattle.ft_trace.proofs.Sounds.{LaterIn, sound_at}
 use Rattle.ft_trace.proofs.Spots.{under_trans, stamp_then, Spot, Back, go, Opened, open_window, named_by, found}
 
-module _ (k : Shape) (es : List Event) (valid : Valid k es) (o t p n : ℕ) (low : o < containers_in k) (items : IsItems (kind_in k.kinds o)) (small : p < slots (cls t)) (j : ℕ) (u : View) (at : get_elem? (run k es).views j ≡ some u) (h : ItemHit u.log o t p n) where
+module _ (k : Shape) (es : List Event) (valid : Valid k es) (o t p n : ℕ) (low : o < containers_in k) (items : IsItems (kind_in k.kinds o)) (small : p < slots (class_of t)) (j : ℕ) (u : View) (at : get_elem? (run k es).views j ≡ some u) (h : ItemHit u.log o t p n) where
   abbrev load : Act
   load = ReadTable t (item_at p 0) h.version
 
@@ -45,8 +45,8 @@ module _ (k : Shape) (es : List Event) (valid : Valid k es) (o t p n : ℕ) (low
   whom_now : whose now t ≡ o
   whom_now = top.whom ∙ open_.whom
 
-  later_from : (from : List Event) (a : Act) (rest : List Act) → whose from t ≡ o → (b : Back k t j start from a rest) → ItemLater (slots (cls t)) (tab k b.spot.es t) (tab k from t)
-  later_from from a rest whom b = items_later (kind_in k.kinds o) items (cls t) (tab k b.spot.es t) (tab k from t) (subst (λ (z : ℕ). LaterIn k z t (tab k b.spot.es t) (tab k from t)) whom b.later)
+  later_from : (from : List Event) (a : Act) (rest : List Act) → whose from t ≡ o → (b : Back k t j start from a rest) → ItemLater (slots (class_of t)) (tab k b.spot.es t) (tab k from t)
+  later_from from a rest whom b = items_later (kind_in k.kinds o) items (class_of t) (tab k b.spot.es t) (tab k from t) (subst (λ (z : ℕ). LaterIn k z t (tab k b.spot.es t) (tab k from t)) whom b.later)
 
   pub in_now : (a : Act) (m : Among a h.mid) → Back k t j start now a (m.rest ++ load ∷ h.rest)
   in_now a m = back (h.mid ++ load ∷ h.rest) top.spot m.newer a (m.rest ++ load ∷ h.rest) (ap (λ (l : List Act). l ++ load ∷ h.rest) m.is ∙ append_assoc m.newer (a ∷ m.rest) (load ∷ h.rest))
@@ -59,7 +59,7 @@ module _ (k : Shape) (es : List Event) (valid : Valid k es) (o t p n : ℕ) (low
 
   -- a read of a word of the item
   read_is : (w f : ℕ) (rest : List Act) (from : List Event) → w < 4 → (b : Back k t j start from (ReadTable t (item_at p w) f) rest) → f ≡ item_of (tab k b.spot.es t) p w
-  read_is w f rest from less b = found k t j (item_at p w) f start rest from (let x = items_fit (cls t) open_.table.0 in omega (arith, x, small, less)) b
+  read_is w f rest from less b = found k t j (item_at p w) f start rest from (let x = items_fit (class_of t) open_.table.0 in omega (arith, x, small, less)) b
 
   same_version : (a : Act) (m : Among a h.mid) → (item_of (tab k now t) p 0 ≡ h.version) × (item_of (tab k (in_now a m).spot.es t) p 0 ≡ h.version)
   same_version a m =
@@ -90,7 +90,7 @@ module _ (k : Shape) (es : List Event) (valid : Valid k es) (o t p n : ℕ) (low
       let w = in_now (ReadCounter n) h.stamp in
       let v = same_version (ReadCounter n) h.stamp in
       let names = named_by k then_ w.spot.valid o t open_.table w.spot.now (whom_in (ReadCounter n) h.stamp) in
-      let sound = items_sound (kind_in k.kinds o) items k.texts (cls t) (tab k then_ t) (kept k.kinds (history then_) o).content (sound_at k then_ w.spot.valid o low t names) in
+      let sound = items_sound (kind_in k.kinds o) items k.texts (class_of t) (tab k then_ t) (kept k.kinds (history then_) o).content (sound_at k then_ w.spot.valid o low t names) in
       let right = sound.right p small (ap (λ (z : ℕ). z % 2) v.1 ∙ h.even) in
       let s = stamp_then k then_ es w.spot.valid valid (under_trans then_ now es w.under (under_trans now open_.spot.es es top.under open_.under)) n w.tells in
       (s.0, ap (λ (cs : List Call). words_at (list_of (kept k.kinds cs o).content) p) s.1 ∙ right)
@@ -105,11 +105,11 @@ module _ (k : Shape) (es : List Event) (valid : Valid k es) (o t p n : ℕ) (low
       by (suc (suc w)) less = absurd (omega arith)
 
 -- the list at the stamp is no longer than the table
-pub item_past_at : (k : Shape) (es : List Event) (valid : Valid k es) (o t n : ℕ) (low : o < containers_in k) (items : IsItems (kind_in k.kinds o)) (j : ℕ) (u : View) (at : get_elem? (run k es).views j ≡ some u) → ItemPast u.log o t n → (n ≤ count k es) × (length (list_of (kept k.kinds (first_writes n (history es)) o).content) ≤ slots (cls t))
+pub item_past_at : (k : Shape) (es : List Event) (valid : Valid k es) (o t n : ℕ) (low : o < containers_in k) (items : IsItems (kind_in k.kinds o)) (j : ℕ) (u : View) (at : get_elem? (run k es).views j ≡ some u) → ItemPast u.log o t n → (n ≤ count k es) × (length (list_of (kept k.kinds (first_writes n (history es)) o).content) ≤ slots (class_of t))
 item_past_at k es valid o t n low items j u at h =
     let open_ = open_window k es valid j u at o t low h.walk h.window in
     let b = go k t j h.window.rest h.walk open_.table h.window.before open_.spot h.stamp.newer (ReadCounter n) h.stamp.rest h.stamp.is in
     let names = named_by k b.spot.es b.spot.valid o t open_.table b.spot.now (b.whom ∙ open_.whom) in
-    let sound = items_sound (kind_in k.kinds o) items k.texts (cls t) (tab k b.spot.es t) (kept k.kinds (history b.spot.es) o).content (sound_at k b.spot.es b.spot.valid o low t names) in
+    let sound = items_sound (kind_in k.kinds o) items k.texts (class_of t) (tab k b.spot.es t) (kept k.kinds (history b.spot.es) o).content (sound_at k b.spot.es b.spot.valid o low t names) in
     let s = stamp_then k b.spot.es es b.spot.valid valid (under_trans b.spot.es open_.spot.es es b.under open_.under) n b.tells in
-    (s.0, subst (λ (cs : List Call). length (list_of (kept k.kinds cs o).content) ≤ slots (cls t)) (sym s.1) sound.short)
+    (s.0, subst (λ (cs : List Call). length (list_of (kept k.kinds cs o).content) ≤ slots (class_of t)) (sym s.1) sound.short)

@@ -10,7 +10,7 @@ use Rattle.ft_trace.specs.declared.View.{View}
 use Rattle.ft_trace.specs.declared.Act.{Act}
 use Rattle.ft_trace.specs.declared.Act.TheVariants.{Lock, Unlock}
 use Rattle.ft_trace.specs.Addrs.{lock_of, containers_in}
-use Rattle.ft_trace.specs.Acts.{place, Reports, has, has_next, starter, noted, maker, made, both, spent}
+use Rattle.ft_trace.specs.Acts.{place, Reports, has_lock, has_lock_next, starter, noted, maker, made, both, spent}
 use Rattle.ft_trace.specs.Traces.{Event, did, forked, joined, run, word, history, May, Valid}
 use Rattle.ft_trace.proofs.Sizes.{set_at, set_views, one_more, one_view}
 use Rattle.atomic_table.proofs.Lists.{set_else, at_longer}
@@ -20,7 +20,7 @@ use Rattle.ft_trace.proofs.Words.{stays, moves}
 use Rattle.ft_trace.proofs.Seats.{same_seat, holder_lives}
 
 -- what the action is to the lock of o
-module _ (o : ℕ) (F : Act → Type 0) (lock : (f : ℕ) (s : _) → F (Lock o f s)) (unlock : F (Unlock o)) (other : (a : Act) → ((b : Bool) → has_next o a b ≡ b) → place a ≢ lock_of o → F a) where
+module _ (o : ℕ) (F : Act → Type 0) (lock : (f : ℕ) (s : _) → F (Lock o f s)) (unlock : F (Unlock o)) (other : (a : Act) → ((b : Bool) → has_lock_next o a b ≡ b) → place a ≢ lock_of o → F a) where
   pub on_lock : (a : Act) → F a
   on_lock (Lock p f s) = same_or (λ (z : ℕ). F (Lock z f s)) p o (lock f s) (λ ne. other (Lock p f s) (λ b. miss p o _ b ne) (λ e. ne (cc)))
   on_lock (Unlock p) = same_or (λ (z : ℕ). F (Unlock z)) p o unlock (λ ne. other (Unlock p) (λ b. miss p o _ b ne) (λ e. ne (cc)))
@@ -28,7 +28,7 @@ module _ (o : ℕ) (F : Act → Type 0) (lock : (f : ℕ) (s : _) → F (Lock o 
 
 -- the pass has the lock only where the word is its number
 abbrev pub Names : Shape → List Event → ℕ → ℕ → View → Type 0
-Names k es o j u = has o u.log ≡ true → word k es (lock_of o) ≡ u.number
+Names k es o j u = has_lock o u.log ≡ true → word k es (lock_of o) ≡ u.number
 
 pub names : (k : Shape) (es : List Event) → Valid k es → (o : ℕ) → o < containers_in k → (j : ℕ) (u : View) → get_elem? (run k es).views j ≡ some u → Names k es o j u
 names k [] valid o low = one_view (Names k [] o) (starter k) (λ no. off no)
@@ -44,15 +44,15 @@ names k (did id v a ∷ es) valid o low =
     (λ j u apart e mine. absurd (holder_lives k es valid.0 j u e o mine (sym (old j u e mine) ∙ free))))
     (λ (taken : at ≢ 0).
     set_views (Names k (did id v (Lock o f s) ∷ es) o) _ id (noted (Lock o f s) v)
-    (λ mine. let b = has o v.log in off (sym (hit o (cond (eqb f 0) true b) b ∙ (miss f 0 true b (λ e. taken (sym found ∙ e)) ∙ may.1)) ∙ mine))
+    (λ mine. let b = has_lock o v.log in off (sym (hit o (cond (eqb f 0) true b) b ∙ (miss f 0 true b (λ e. taken (sym found ∙ e)) ∙ may.1)) ∙ mine))
     (λ j u apart e mine. moved ∙ (ap (λ (b : Bool). either b v.number at) (ne_eqb at 0 taken) ∙ old j u e mine))))
     (λ found may.
     set_views (Names k (did id v (Unlock o) ∷ es) o) _ id (noted (Unlock o) v)
-    (λ mine. off (sym (hit o false (has o v.log)) ∙ mine))
+    (λ mine. off (sym (hit o false (has_lock o v.log)) ∙ mine))
     (λ j u apart e mine. absurd (apart (same_seat k es valid.0 j id u v e valid.1.0 (holder_lives k es valid.0 j u e o mine) (sym (old j u e mine) ∙ old id v valid.1.0 may.1)))))
     (λ b same apart found may.
     let stay = stays k es id v b may (lock_of o) low apart in
-    set_views (Names k (did id v b ∷ es) o) _ id (noted b v) (λ mine. stay ∙ old id v valid.1.0 (sym (same (has o v.log)) ∙ mine)) (λ j u _ e mine. stay ∙ old j u e mine))
+    set_views (Names k (did id v b ∷ es) o) _ id (noted b v) (λ mine. stay ∙ old id v valid.1.0 (sym (same (has_lock o v.log)) ∙ mine)) (λ j u _ e mine. stay ∙ old j u e mine))
     a valid.1.2 valid.1.3
 names k (forked id v ∷ es) valid o low =
     let old = names k es valid.0 o low in
@@ -64,15 +64,15 @@ names k (joined id v other w ∷ es) valid o low =
 
 -- where the word is not 0, a pass has the lock
 abbrev pub Holder : List View → ℕ → Type 0
-Holder views o = (j : ℕ) × (u : View) × (get_elem? views j ≡ some u) × (has o u.log ≡ true)
+Holder views o = (j : ℕ) × (u : View) × (get_elem? views j ≡ some u) × (has_lock o u.log ≡ true)
 
 -- a holder other than the pass that acts stays
-pub other_holds : (views : List View) (o id : ℕ) (w v : View) → get_elem? views id ≡ some v → (has o v.log ≡ true → has o w.log ≡ true) → Holder views o → Holder (set views id w) o
+pub other_holds : (views : List View) (o id : ℕ) (w v : View) → get_elem? views id ≡ some v → (has_lock o v.log ≡ true → has_lock o w.log ≡ true) → Holder views o → Holder (set views id w) o
 other_holds views o id w v at keeps h =
     dite (ℕ_discrete h.0 id)
     (λ (e : h.0 ≡ id).
     let u : h.1 ≡ v = some-injective h.1 v (sym h.2 ∙ (ap (get_elem? views) e ∙ at)) in
-    (id, w, set_at views id v w at, keeps (subst (λ (z : View). has o z.log ≡ true) u h.3)))
+    (id, w, set_at views id v w at, keeps (subst (λ (z : View). has_lock o z.log ≡ true) u h.3)))
     (λ ne. (h.0, h.1, set_else views id h.0 w ne ∙ h.2, h.3))
 
 pub holder : (k : Shape) (es : List Event) → Valid k es → (o : ℕ) → o < containers_in k → word k es (lock_of o) ≢ 0 → Holder (run k es).views o
@@ -85,12 +85,12 @@ holder k (did id v a ∷ es) valid o low here =
     (λ f s found may some_one.
     dite (ℕ_discrete at 0)
     (λ (free : at ≡ 0).
-    let b = has o v.log in
+    let b = has_lock o v.log in
     (id, noted (Lock o f s) v, set_at (run k es).views id v (noted (Lock o f s) v) valid.1.0, hit o (cond (eqb f 0) true b) b ∙ ap (λ (z : Bool). cond z true b) (eq-eqb f 0 (found ∙ free))))
     (λ (taken : at ≢ 0). other_holds (run k es).views o id (noted (Lock o f s) v) v valid.1.0 (λ mine. off (sym may.1 ∙ mine)) (old taken)))
     (λ found may some_one. absurd (some_one (moves k es id v (Unlock o) may)))
     (λ b same apart found may some_one.
-    other_holds (run k es).views o id (noted b v) v valid.1.0 (λ mine. same (has o v.log) ∙ mine) (old (λ e. some_one (stays k es id v b may (lock_of o) low apart ∙ e))))
+    other_holds (run k es).views o id (noted b v) v valid.1.0 (λ mine. same (has_lock o v.log) ∙ mine) (old (λ e. some_one (stays k es id v b may (lock_of o) low apart ∙ e))))
     a valid.1.2 valid.1.3 here
 holder k (forked id v ∷ es) valid o low some_one =
     let h = other_holds (run k es).views o id (maker v) v valid.1.0 (λ mine. mine) (holder k es valid.0 o low some_one) in
@@ -100,6 +100,6 @@ holder k (joined id v other w ∷ es) valid o low some_one =
     other_holds (set (run k es).views id (both v w)) o other spent w (set_else (run k es).views id other (both v w) valid.1.1 ∙ valid.1.2) (λ mine. off (sym (valid.1.5.0 o) ∙ mine)) h
 
 -- one pass at most has a lock
-pub one_holder : (k : Shape) (es : List Event) → Valid k es → (o : ℕ) → o < containers_in k → (i j : ℕ) (u w : View) → get_elem? (run k es).views i ≡ some u → get_elem? (run k es).views j ≡ some w → has o u.log ≡ true → has o w.log ≡ true → i ≡ j
+pub one_holder : (k : Shape) (es : List Event) → Valid k es → (o : ℕ) → o < containers_in k → (i j : ℕ) (u w : View) → get_elem? (run k es).views i ≡ some u → get_elem? (run k es).views j ≡ some w → has_lock o u.log ≡ true → has_lock o w.log ≡ true → i ≡ j
 one_holder k es valid o low i j u w at there mine theirs =
     same_seat k es valid i j u w at there (holder_lives k es valid i u at o mine) (sym (names k es valid o low i u at mine) ∙ names k es valid o low j w there theirs)

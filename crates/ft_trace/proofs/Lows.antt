@@ -10,8 +10,8 @@ use Rattle.ft_trace.specs.declared.Shape.{Shape}
 use Rattle.ft_trace.specs.declared.View.{View}
 use Rattle.ft_trace.specs.declared.Act.{Act}
 use Rattle.ft_trace.specs.declared.Act.TheVariants.{PutRoot, PutTable, Commit, StartWrite, StopWrite}
-use Rattle.ft_trace.specs.Addrs.{counter, cell, cls}
-use Rattle.ft_trace.specs.Acts.{writes, writes_next, done, done_next, noted, maker, made, both, spent}
+use Rattle.ft_trace.specs.Addrs.{counter, cell, class_of}
+use Rattle.ft_trace.specs.Acts.{is_writing, is_writing_next, has_committed, has_committed_next, noted, maker, made, both, spent}
 use Rattle.ft_trace.specs.Worlds.{kind_in}
 use Rattle.ft_trace.specs.Kinds.{rows, version_at}
 use Rattle.ft_trace.specs.Addrs.{containers_in}
@@ -31,26 +31,26 @@ use Rattle.ft_trace.proofs.Sounds.{content, on_cells, put_tab}
 use Rattle.ft_trace.proofs.Rooms.{counter_room}
 
 abbrev V : Shape → ℕ → ℕ → ℕ → ℕ
-V k o t p = version_at (kind_in k.kinds o) (cls t) p
+V k o t p = version_at (kind_in k.kinds o) (class_of t) p
 
 abbrev R : Shape → ℕ → ℕ → ℕ
-R k o t = rows (kind_in k.kinds o) (cls t)
+R k o t = rows (kind_in k.kinds o) (class_of t)
 
 -- what holds of the versions, as far as the pass that writes o has come
 pub record Lows (k : Shape) (es : List Event) (o t : ℕ) : Type 0 where
   pub even : (p : ℕ) → p < R k o t → slice_index (tab k es t) (V k o t p) % 2 ≡ 0 → slice_index (tab k es t) (V k o t p) ≤ 2 * count k es
   pub odd : (p : ℕ) → p < R k o t → slice_index (tab k es t) (V k o t p) ≤ 2 * count k es + 1
-  pub written : (j : ℕ) (u : View) → get_elem? (run k es).views j ≡ some u → writes o u.log ≡ true → done o u.log ≡ true → (p : ℕ) → p < R k o t → slice_index (tab k es t) (V k o t p) ≤ 2 * count k es
+  pub written : (j : ℕ) (u : View) → get_elem? (run k es).views j ≡ some u → is_writing o u.log ≡ true → has_committed o u.log ≡ true → (p : ℕ) → p < R k o t → slice_index (tab k es t) (V k o t p) ≤ 2 * count k es
 
 -- a pass that has just committed or is as far as before
-come : (o : ℕ) (b : Act) (v : View) → writes_next o b (writes o v.log) ≡ true → done_next o b (done o v.log) ≡ true → ((writes o v.log ≡ true) × (done o v.log ≡ true)) ⊎ ((cs : List Call) → length (writes_of b cs) ≡ suc (length cs))
+come : (o : ℕ) (b : Act) (v : View) → is_writing_next o b (is_writing o v.log) ≡ true → has_committed_next o b (has_committed o v.log) ≡ true → ((is_writing o v.log ≡ true) × (has_committed o v.log ≡ true)) ⊎ ((cs : List Call) → length (writes_of b cs) ≡ suc (length cs))
 come o (Commit c r f s) v w d = inr (λ cs. refl)
 come o (StartWrite p f) v w d =
-    same_or (λ (z : ℕ). cond (eqb z o) true (writes o v.log) ≡ true → cond (eqb z o) false (done o v.log) ≡ true → ((writes o v.log ≡ true) × (done o v.log ≡ true)) ⊎ ((cs : List Call) → length (writes_of (StartWrite z f) cs) ≡ suc (length cs))) p o
-    (λ _ d. off (sym (hit o false (done o v.log)) ∙ d)) (λ ne w d. inl (sym (miss p o true (writes o v.log) ne) ∙ w, sym (miss p o false (done o v.log) ne) ∙ d)) w d
+    same_or (λ (z : ℕ). cond (eqb z o) true (is_writing o v.log) ≡ true → cond (eqb z o) false (has_committed o v.log) ≡ true → ((is_writing o v.log ≡ true) × (has_committed o v.log ≡ true)) ⊎ ((cs : List Call) → length (writes_of (StartWrite z f) cs) ≡ suc (length cs))) p o
+    (λ _ d. off (sym (hit o false (has_committed o v.log)) ∙ d)) (λ ne w d. inl (sym (miss p o true (is_writing o v.log) ne) ∙ w, sym (miss p o false (has_committed o v.log) ne) ∙ d)) w d
 come o (StopWrite p f) v w d =
-    same_or (λ (z : ℕ). cond (eqb z o) false (writes o v.log) ≡ true → ((writes o v.log ≡ true) × (done o v.log ≡ true)) ⊎ ((cs : List Call) → length (writes_of (StopWrite z f) cs) ≡ suc (length cs))) p o
-    (λ w. off (sym (hit o false (writes o v.log)) ∙ w)) (λ ne w. inl (sym (miss p o false (writes o v.log) ne) ∙ w, d)) w
+    same_or (λ (z : ℕ). cond (eqb z o) false (is_writing o v.log) ≡ true → ((is_writing o v.log ≡ true) × (has_committed o v.log ≡ true)) ⊎ ((cs : List Call) → length (writes_of (StopWrite z f) cs) ≡ suc (length cs))) p o
+    (λ w. off (sym (hit o false (is_writing o v.log)) ∙ w)) (λ ne w. inl (sym (miss p o false (is_writing o v.log) ne) ∙ w, d)) w
 come o act v w d = inl (w, d)
 
 pub lows : (k : Shape) (es : List Event) → Valid k es → (o : ℕ) → o < containers_in k → (t : ℕ) → root k es o ≡ suc t → Lows k es o t
@@ -62,7 +62,7 @@ lows k (did id v a ∷ es) valid o low t e =
     let up : (b : Act) → Valid k (did id v b ∷ es) → C ≤ C' b = λ b ok. let x = counted k (did id v b ∷ es) ok in let y = counted k es ok.0 in let z = grows_by b (history es) in omega arith in
     let F : Act → Type 0 = λ b. Valid k (did id v b ∷ es) → root k (did id v b ∷ es) o ≡ suc t → Lows k (did id v b ∷ es) o t in
     -- no other pass writes o
-    let alone : (j : ℕ) (u : View) → j ≢ id → get_elem? (run k es).views j ≡ some u → writes o v.log ≡ true → writes o u.log ≡ true → ⊥ = λ j u ne at mine theirs. ne (one_holder k es valid.0 o low j id u v at valid.1.0 (writer_has k es valid.0 o j u at theirs) (writer_has k es valid.0 o id v valid.1.0 mine)) in
+    let alone : (j : ℕ) (u : View) → j ≢ id → get_elem? (run k es).views j ≡ some u → is_writing o v.log ≡ true → is_writing o u.log ≡ true → ⊥ = λ j u ne at mine theirs. ne (one_holder k es valid.0 o low j id u v at valid.1.0 (writer_has k es valid.0 o j u at theirs) (writer_has k es valid.0 o id v valid.1.0 mine)) in
     on_root k es id v o low F
     (λ r old ok now.
     let A : Act = PutRoot o r old in
@@ -74,7 +74,7 @@ lows k (did id v a ∷ es) valid o low t e =
     record {
       even = λ p less two. let s = at p in let h = l.even p less (ap (λ (z : ℕ). z % 2) (sym s) ∙ two) in omega (arith, s, h, c);
       odd = λ p less. let s = at p in let h = l.odd p less in omega (arith, s, h, c);
-      written = set_views (λ j u. writes o u.log ≡ true → done o u.log ≡ true → (p : ℕ) → p < R k o t → slice_index (tab k (did id v A ∷ es) t) (V k o t p) ≤ 2 * C' A) _ id (noted A v)
+      written = set_views (λ j u. is_writing o u.log ≡ true → has_committed o u.log ≡ true → (p : ℕ) → p < R k o t → slice_index (tab k (did id v A ∷ es) t) (V k o t p) ≤ 2 * C' A) _ id (noted A v)
           (λ _ d p less. let s = at p in let h = l.written d p less in omega (arith, s, h, c))
           (λ j u ne at w. absurd (alone j u ne at ok.1.3.1 w));
     })
@@ -88,8 +88,8 @@ lows k (did id v a ∷ es) valid o low t e =
     let may = ok.1.3 in
     let its = placed k es ok.0 t table in
     let same : q ≡ o = sym (its.roots q may.0 may.4).1 ∙ (its.roots o low names).1 in
-    let writing : writes o v.log ≡ true = subst (λ (z : ℕ). writes z v.log ≡ true) same may.3 in
-    let timely : TimelyFor k o t i x (done o v.log) = subst (λ (z : ℕ). TimelyFor k z t i x (done z v.log)) same may.6 in
+    let writing : is_writing o v.log ≡ true = subst (λ (z : ℕ). is_writing z v.log ≡ true) same may.3 in
+    let timely : TimelyFor k o t i x (has_committed o v.log) = subst (λ (z : ℕ). TimelyFor k z t i x (has_committed z v.log)) same may.6 in
     let care = subst (λ (z : ℕ). CarefulFor k (run k es).words z t (content k es z) i x) same may.5 in
     let c = stays k es id v A may counter tt (λ e. absurd (cc)) in
     let ws = tab k es t in
@@ -97,7 +97,7 @@ lows k (did id v a ∷ es) valid o low t e =
     let is : zs ≡ slice_set ws i x = put_tab k es id v q t i x table may.2 in
     let long = table_long k t (run k es).words in
     let else : (p : ℕ) → i ≢ V k o t p → slice_index zs (V k o t p) ≡ slice_index ws (V k o t p) = λ p ne. ap (λ (z : List ℕ). slice_index z (V k o t p)) is ∙ get_or-set_other ws i (V k o t p) x 0 (λ e. ne (sym e)) in
-    let there : (p : ℕ) → p < R k o t → i ≡ V k o t p → (slice_index zs (V k o t p) ≡ x) × (x ≡ slice_index ws (V k o t p) + 1) = λ p less e. (ap (λ (z : List ℕ). slice_index z (V k o t p)) is ∙ (ap (λ (z : ℕ). slice_index (slice_set ws z x) (V k o t p)) e ∙ get_or-set_same ws (V k o t p) x 0 (subst (λ (z : ℕ). V k o t p < z) (sym long) (row_low (kind_in k.kinds o) (cls t) p table.0 less))), as_version (kind_in k.kinds o) (cls t) ws (content k es o) i x care p less e) in
+    let there : (p : ℕ) → p < R k o t → i ≡ V k o t p → (slice_index zs (V k o t p) ≡ x) × (x ≡ slice_index ws (V k o t p) + 1) = λ p less e. (ap (λ (z : List ℕ). slice_index z (V k o t p)) is ∙ (ap (λ (z : ℕ). slice_index (slice_set ws z x) (V k o t p)) e ∙ get_or-set_same ws (V k o t p) x 0 (subst (λ (z : ℕ). V k o t p < z) (sym long) (row_low (kind_in k.kinds o) (class_of t) p table.0 less))), as_version (kind_in k.kinds o) (class_of t) ws (content k es o) i x care p less e) in
     record {
       even = λ p less two.
           dite (ℕ_discrete i (V k o t p))
@@ -119,7 +119,7 @@ lows k (did id v a ∷ es) valid o low t e =
           (λ (two : x % 2 ≡ 0). let b = old.written id v ok.1.0 writing (timely.later p less e two) p less in omega (arith, h0, h1, b, c))
           (λ one. let b = old.even p less (omega (arith, h1, one)) in omega (arith, h0, h1, b, c)))
           (λ ne. let s = else p ne in let h = old.odd p less in omega (arith, s, h, c));
-      written = set_views (λ j u. writes o u.log ≡ true → done o u.log ≡ true → (p : ℕ) → p < R k o t → slice_index zs (V k o t p) ≤ 2 * C' A) _ id (noted A v)
+      written = set_views (λ j u. is_writing o u.log ≡ true → has_committed o u.log ≡ true → (p : ℕ) → p < R k o t → slice_index zs (V k o t p) ≤ 2 * C' A) _ id (noted A v)
           (λ w d p less.
           let b = old.written id v ok.1.0 w d p less in
           dite (ℕ_discrete i (V k o t p))
@@ -140,11 +140,11 @@ lows k (did id v a ∷ es) valid o low t e =
     record {
       even = λ p less two. let s = at p in let h = old.even p less (ap (λ (z : ℕ). z % 2) (sym s) ∙ two) in omega (arith, s, h, c);
       odd = λ p less. let s = at p in let h = old.odd p less in omega (arith, s, h, c);
-      written = set_views (λ j u. writes o u.log ≡ true → done o u.log ≡ true → (p : ℕ) → p < R k o t → slice_index (tab k (did id v b ∷ es) t) (V k o t p) ≤ 2 * C' b) _ id (noted b v)
+      written = set_views (λ j u. is_writing o u.log ≡ true → has_committed o u.log ≡ true → (p : ℕ) → p < R k o t → slice_index (tab k (did id v b ∷ es) t) (V k o t p) ≤ 2 * C' b) _ id (noted b v)
           (λ w d p less.
           let s = at p in
           ⊎_elim
-          (λ (x : (writes o v.log ≡ true) × (done o v.log ≡ true)). let h = old.written id v ok.1.0 x.0 x.1 p less in omega (arith, s, h, c))
+          (λ (x : (is_writing o v.log ≡ true) × (has_committed o v.log ≡ true)). let h = old.written id v ok.1.0 x.0 x.1 p less in omega (arith, s, h, c))
           (λ (x : (cs : List Call) → length (writes_of b cs) ≡ suc (length cs)). let h = old.odd p less in let y = counted k (did id v b ∷ es) ok in let z = counted k es ok.0 in let l = x (history es) in omega (arith, s, h, y, z, l))
           (come o b v w d))
           (λ j u ne there w d p less. let s = at p in let h = old.written j u there w d p less in omega (arith, s, h, c));
@@ -153,11 +153,11 @@ lows k (did id v a ∷ es) valid o low t e =
     a valid e
 lows k (forked id v ∷ es) valid o low t e =
     let old = lows k es valid.0 o low t e in
-    let W : ℕ → View → Type 0 = λ j u. writes o u.log ≡ true → done o u.log ≡ true → (p : ℕ) → p < R k o t → slice_index (tab k es t) (V k o t p) ≤ 2 * count k es in
+    let W : ℕ → View → Type 0 = λ j u. is_writing o u.log ≡ true → has_committed o u.log ≡ true → (p : ℕ) → p < R k o t → slice_index (tab k es t) (V k o t p) ≤ 2 * count k es in
     record { even = old.even; odd = old.odd; written = one_more W _ (made v) (λ no. off no) (set_views W _ id (maker v) (old.written id v valid.1.0) (λ j u _ at. old.written j u at)) }
 lows k (joined id v other w ∷ es) valid o low t e =
     let old = lows k es valid.0 o low t e in
-    let W : ℕ → View → Type 0 = λ j u. writes o u.log ≡ true → done o u.log ≡ true → (p : ℕ) → p < R k o t → slice_index (tab k es t) (V k o t p) ≤ 2 * count k es in
+    let W : ℕ → View → Type 0 = λ j u. is_writing o u.log ≡ true → has_committed o u.log ≡ true → (p : ℕ) → p < R k o t → slice_index (tab k es t) (V k o t p) ≤ 2 * count k es in
     record { even = old.even; odd = old.odd; written = set_views W _ other spent (λ no. off no) (λ j u _. set_views W _ id (both v w) (old.written id v valid.1.0) (λ j u _ at. old.written j u at) j u) }
 
 -- an entry's version has room for two steps

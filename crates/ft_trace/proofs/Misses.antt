@@ -13,7 +13,7 @@ use Rattle.ft_trace.specs.declared.Shape.{Shape}
 use Rattle.ft_trace.specs.declared.View.{View}
 use Rattle.ft_trace.specs.declared.Act.{Act}
 use Rattle.ft_trace.specs.declared.Act.TheVariants.{ReadTable, ReadCounter}
-use Rattle.ft_trace.specs.Addrs.{containers_in, IsTable, cls, slots, places}
+use Rattle.ft_trace.specs.Addrs.{containers_in, IsTable, class_of, slots, places}
 use Rattle.ft_trace.specs.Acts.{reads}
 use Rattle.ft_trace.specs.Ages.{whose}
 use Rattle.ft_trace.specs.Worlds.{kept, first_writes, kind_in}
@@ -29,19 +29,19 @@ use Rattle.ft_trace.proofs.Sounds.{LaterIn, sound_at}
 use Rattle.ft_trace.proofs.Spots.{Under, under_trans, stamp_then, Spot, Back, go, Opened, open_window, named_by, found}
 
 -- an entry that was passed on the walk is not one that the key's walk meets
-module _ (k : Shape) (o : ℕ) (key : Key) (t j : ℕ) (low : o < containers_in k) (keyed : IsKeyed (kind_in k.kinds o)) (table : IsTable k t) (start walk : List Act) (read : reads t start ≡ true) (s : Spot k t j start walk) (whom : whose s.es t ≡ o) (slot place p : ℕ) (in_table : slot < slots (cls t)) (low_place : place < places (cls t)) (low_p : p < places (cls t))
-    (here : index_of (tab k s.es t) slot ≡ suc p) (mine : IsLive (slots (cls t)) (tab k s.es t) p key ⊎ IsDead (slots (cls t)) (tab k s.es t) p key) (alive : (entry_of (slots (cls t)) (tab k s.es t) p 2 ≡ key_kind key) ⊎ (entry_of (slots (cls t)) (tab k s.es t) p 0 % 2 ≡ 1)) where
+module _ (k : Shape) (o : ℕ) (key : Key) (t j : ℕ) (low : o < containers_in k) (keyed : IsKeyed (kind_in k.kinds o)) (table : IsTable k t) (start walk : List Act) (read : reads t start ≡ true) (s : Spot k t j start walk) (whom : whose s.es t ≡ o) (slot place p : ℕ) (in_table : slot < slots (class_of t)) (low_place : place < places (class_of t)) (low_p : p < places (class_of t))
+    (here : index_of (tab k s.es t) slot ≡ suc p) (mine : IsLive (slots (class_of t)) (tab k s.es t) p key ⊎ IsDead (slots (class_of t)) (tab k s.es t) p key) (alive : (entry_of (slots (class_of t)) (tab k s.es t) p 2 ≡ key_kind key) ⊎ (entry_of (slots (class_of t)) (tab k s.es t) p 0 % 2 ≡ 1)) where
   abbrev N : ℕ
-  N = slots (cls t)
+  N = slots (class_of t)
 
   abbrev M : ℕ
-  M = places (cls t)
+  M = places (class_of t)
 
   back : (walk : List Act) (s : Spot k t j start walk) (xs : List Act) (a : Act) (rest : List Act) → walk ≡ xs ++ a ∷ rest → Back k t j start s.es a rest
   back walk s xs a rest is = go k t j start walk table read s xs a rest is
 
   later_from : (from : List Event) (a : Act) (rest : List Act) → whose from t ≡ o → (b : Back k t j start from a rest) → Later N M (tab k b.spot.es t) (tab k from t)
-  later_from from a rest whom b = keyed_later (kind_in k.kinds o) keyed (cls t) (tab k b.spot.es t) (tab k from t) (subst (λ (z : ℕ). LaterIn k z t (tab k b.spot.es t) (tab k from t)) whom b.later)
+  later_from from a rest whom b = keyed_later (kind_in k.kinds o) keyed (class_of t) (tab k b.spot.es t) (tab k from t) (subst (λ (z : ℕ). LaterIn k z t (tab k b.spot.es t) (tab k from t)) whom b.later)
 
   pub beyond_table : Beyond walk t slot → ⊥
   beyond_table h =
@@ -81,7 +81,7 @@ module _ (k : Shape) (o : ℕ) (key : Key) (t j : ℕ) (low : o < containers_in 
     used : entry_of N (tab k kw.spot.es t) place 2 ≢ 0
     used =
         let names = named_by k iw.spot.es iw.spot.valid o t table iw.spot.now (iw.whom ∙ (kw.whom ∙ whom)) in
-        let sound = keyed_sound (kind_in k.kinds o) keyed k.texts (cls t) (tab k iw.spot.es t) (kept k.kinds (history iw.spot.es) o).content (sound_at k iw.spot.es iw.spot.valid o low t names) in
+        let sound = keyed_sound (kind_in k.kinds o) keyed k.texts (class_of t) (tab k iw.spot.es t) (kept k.kinds (history iw.spot.es) o).content (sound_at k iw.spot.es iw.spot.valid o low t names) in
         later_used N M (tab k iw.spot.es t) (tab k kw.spot.es t) i_later place low_place (sound.named slot place in_table low_place (sym index_read))
 
     same : place ≡ p
@@ -155,8 +155,8 @@ module _ (k : Shape) (o : ℕ) (key : Key) (t j : ℕ) (low : o < containers_in 
       ⊎_elim (λ (live : entry_of N (tab k s.es t) p 2 ≡ key_kind key). absurd (omega (arith, live, kind_p, now_dead, high1, k1))) (λ (odd : entry_of N (tab k s.es t) p 0 % 2 ≡ 1). absurd (omega (arith, odd, version_p, now_even))) alive
 
 -- a slot that was passed is not one that the key's walk meets
-pub passed_by : (k : Shape) (o : ℕ) (key : Key) (t j : ℕ) (low : o < containers_in k) (keyed : IsKeyed (kind_in k.kinds o)) (table : IsTable k t) (start walk : List Act) (read : reads t start ≡ true) (s : Spot k t j start walk) (whom : whose s.es t ≡ o) (slot : ℕ) (in_table : slot < slots (cls t)) (probe : List ℕ)
-    (r : Reached (slots (cls t)) (places (cls t)) (tab k s.es t) probe key) → index_of (tab k s.es t) slot ≡ suc r.place → Passed walk t slot key → ⊥
+pub passed_by : (k : Shape) (o : ℕ) (key : Key) (t j : ℕ) (low : o < containers_in k) (keyed : IsKeyed (kind_in k.kinds o)) (table : IsTable k t) (start walk : List Act) (read : reads t start ≡ true) (s : Spot k t j start walk) (whom : whose s.es t ≡ o) (slot : ℕ) (in_table : slot < slots (class_of t)) (probe : List ℕ)
+    (r : Reached (slots (class_of t)) (places (class_of t)) (tab k s.es t) probe key) → index_of (tab k s.es t) slot ≡ suc r.place → Passed walk t slot key → ⊥
 passed_by k o key t j low keyed table start walk read s whom slot in_table probe r here =
     ⊎_elim
     (λ (v : Visit walk t slot key).
@@ -170,17 +170,17 @@ passed_by k o key t j low keyed table start walk read s whom slot in_table probe
 
 -- from a moment at which no entry of the key is met
 absent_at : (k : Shape) (es : List Event) (valid : Valid k es) (o t : ℕ) (key : Key) (n : ℕ) (low : o < containers_in k) (keyed : IsKeyed (kind_in k.kinds o)) (table : IsTable k t) (j : ℕ) (start rest : List Act) (s : Spot k t j start rest) → Under s.es es → whose s.es t ≡ o → n ≡ count k s.es
-    → (Reached (slots (cls t)) (places (cls t)) (tab k s.es t) (walk_of (kind_in k.kinds o) k.texts (cls t) key) key → ⊥) → (n ≤ count k es) × (under (kept k.kinds (first_writes n (history es)) o).content key ≡ [])
+    → (Reached (slots (class_of t)) (places (class_of t)) (tab k s.es t) (walk_of (kind_in k.kinds o) k.texts (class_of t) key) key → ⊥) → (n ≤ count k es) × (under (kept k.kinds (first_writes n (history es)) o).content key ≡ [])
 absent_at k es valid o t key n low keyed table j start rest s below whom is never =
     let names = named_by k s.es s.valid o t table s.now whom in
-    let sound = keyed_sound (kind_in k.kinds o) keyed k.texts (cls t) (tab k s.es t) (kept k.kinds (history s.es) o).content (sound_at k s.es s.valid o low t names) in
+    let sound = keyed_sound (kind_in k.kinds o) keyed k.texts (class_of t) (tab k s.es t) (kept k.kinds (history s.es) o).content (sound_at k s.es s.valid o low t names) in
     let none : under (kept k.kinds (history s.es) o).content key ≡ [] = ⊎_elim (λ e. e) (λ there. absurd (never (sound.reached key there))) (none_or (under (kept k.kinds (history s.es) o).content key)) in
     let c = stamp_then k s.es es s.valid valid below n is in
     (c.0, ap (λ (cs : List Call). under (kept k.kinds cs o).content key) c.1 ∙ none)
 
-module _ (k : Shape) (es : List Event) (valid : Valid k es) (o t : ℕ) (key : Key) (n : ℕ) (low : o < containers_in k) (keyed : IsKeyed (kind_in k.kinds o)) (j : ℕ) (u : View) (at : get_elem? (run k es).views j ≡ some u) (h : Miss u.log o t (walk_of (kind_in k.kinds o) k.texts (cls t) key) key n) where
+module _ (k : Shape) (es : List Event) (valid : Valid k es) (o t : ℕ) (key : Key) (n : ℕ) (low : o < containers_in k) (keyed : IsKeyed (kind_in k.kinds o)) (j : ℕ) (u : View) (at : get_elem? (run k es).views j ≡ some u) (h : Miss u.log o t (walk_of (kind_in k.kinds o) k.texts (class_of t) key) key n) where
   abbrev probe : List ℕ
-  probe = walk_of (kind_in k.kinds o) k.texts (cls t) key
+  probe = walk_of (kind_in k.kinds o) k.texts (class_of t) key
 
   abbrev last : Act
   last = ReadTable t (slice_index probe h.steps) 0
@@ -203,14 +203,14 @@ module _ (k : Shape) (es : List Event) (valid : Valid k es) (o t : ℕ) (key : K
   whom_then : whose then_ t ≡ o
   whom_then = loaded.whom ∙ (top.whom ∙ open_.whom)
 
-  still_free : slice_index probe h.steps < slots (cls t) → index_of (tab k then_ t) (slice_index probe h.steps) ≡ 0
+  still_free : slice_index probe h.steps < slots (class_of t) → index_of (tab k then_ t) (slice_index probe h.steps) ≡ 0
   still_free less =
       let free : 0 ≡ index_of (tab k top.spot.es t) (slice_index probe h.steps) = found k t j (slice_index probe h.steps) 0 start (h.mid ++ ReadCounter n ∷ h.rest) open_.spot.es (omega arith) top in
-      let l = keyed_later (kind_in k.kinds o) keyed (cls t) (tab k then_ t) (tab k top.spot.es t) (subst (λ (z : ℕ). LaterIn k z t (tab k then_ t) (tab k top.spot.es t)) (top.whom ∙ open_.whom) loaded.later) in
+      let l = keyed_later (kind_in k.kinds o) keyed (class_of t) (tab k then_ t) (tab k top.spot.es t) (subst (λ (z : ℕ). LaterIn k z t (tab k then_ t) (tab k top.spot.es t)) (top.whom ∙ open_.whom) loaded.later) in
       dite (ℕ_discrete (index_of (tab k then_ t) (slice_index probe h.steps)) 0) (λ e. e)
       (λ used. absurd (used (sym (l.index (slice_index probe h.steps) less used) ∙ sym free)))
 
-  never : Reached (slots (cls t)) (places (cls t)) (tab k then_ t) probe key → ⊥
+  never : Reached (slots (class_of t)) (places (class_of t)) (tab k then_ t) probe key → ⊥
   never r =
       let m = r.met in
       dite (ℕ_discrete m.step h.steps)
@@ -228,7 +228,7 @@ module _ (k : Shape) (es : List Event) (valid : Valid k es) (o t : ℕ) (key : K
   pub miss_at : (n ≤ count k es) × (under (kept k.kinds (first_writes n (history es)) o).content key ≡ [])
   miss_at = absent_at k es valid o t key n low keyed open_.table j start h.rest loaded.spot (under_trans then_ top.spot.es es loaded.under (under_trans top.spot.es open_.spot.es es top.under open_.under)) whom_then loaded.tells never
 
-module _ (k : Shape) (es : List Event) (valid : Valid k es) (o t : ℕ) (key : Key) (n : ℕ) (low : o < containers_in k) (keyed : IsKeyed (kind_in k.kinds o)) (j : ℕ) (u : View) (at : get_elem? (run k es).views j ≡ some u) (h : Full u.log o t (walk_of (kind_in k.kinds o) k.texts (cls t) key) key n) where
+module _ (k : Shape) (es : List Event) (valid : Valid k es) (o t : ℕ) (key : Key) (n : ℕ) (low : o < containers_in k) (keyed : IsKeyed (kind_in k.kinds o)) (j : ℕ) (u : View) (at : get_elem? (run k es).views j ≡ some u) (h : Full u.log o t (walk_of (kind_in k.kinds o) k.texts (class_of t) key) key n) where
   abbrev begin : List Act
   begin = h.window.rest
 
@@ -244,4 +244,4 @@ module _ (k : Shape) (es : List Event) (valid : Valid k es) (o t : ℕ) (key : K
       absent_at k es valid o t key n low keyed opened_at.table j begin h.rest counted_at.spot (under_trans counted_at.spot.es opened_at.spot.es es counted_at.under opened_at.under) (counted_at.whom ∙ opened_at.whom) counted_at.tells
       (λ r.
       let m = r.met in
-      passed_by k o key t j low keyed opened_at.table begin h.rest h.window.before counted_at.spot (counted_at.whom ∙ opened_at.whom) (slice_index (walk_of (kind_in k.kinds o) k.texts (cls t) key) m.step) (m.inside m.step (le_refl m.step)) (walk_of (kind_in k.kinds o) k.texts (cls t) key) r m.here (h.visits m.step m.low))
+      passed_by k o key t j low keyed opened_at.table begin h.rest h.window.before counted_at.spot (counted_at.whom ∙ opened_at.whom) (slice_index (walk_of (kind_in k.kinds o) k.texts (class_of t) key) m.step) (m.inside m.step (le_refl m.step)) (walk_of (kind_in k.kinds o) k.texts (class_of t) key) r m.here (h.visits m.step m.low))

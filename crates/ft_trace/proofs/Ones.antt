@@ -11,13 +11,13 @@ use Rattle.ft_trace.specs.declared.Act.TheVariants.{ReadFree, TakeTable, GiveTab
 use Rattle.ft_trace.specs.Bits.{bit, full}
 use Rattle.ft_model.specs.Classes.{IsClass}
 use Rattle.ft_layout.specs.Starts.{count_of}
-use Rattle.ft_trace.specs.Addrs.{Addr, tables_in, count_of_class, bits, cls, num, fw, bt, least, IsTable}
+use Rattle.ft_trace.specs.Addrs.{Addr, tables_in, count_of_class, bits, class_of, number_of, free_word_of, free_bit_of, least, IsTable}
 use Rattle.ft_trace.proofs.Announcing.{fits}
-use Rattle.ft_trace.specs.Acts.{place, left}
+use Rattle.ft_trace.specs.Acts.{place, word_after}
 use Rattle.ft_trace.specs.Entries.{total}
 use Rattle.ft_trace.specs.Counts.{sum_to, bit_of, set_bits, ones, word_bits, taking, giving}
 use Rattle.ft_trace.specs.Traces.{Event, did, forked, joined, run, word, history, May, Valid}
-use Rattle.ft_trace.proofs.Addrs.{bt_low, num_is, cls_of, num_of, bits_first}
+use Rattle.ft_trace.proofs.Addrs.{bt_low, num_is, class_of_number, number_of_number, bits_first}
 use Rattle.ft_trace.proofs.Bits.{off_else, on_else}
 use Rattle.ft_trace.proofs.Words.{stays, moves, loaded}
 use Rattle.ft_trace.proofs.Counts.{sum_same, counts_stand}
@@ -34,48 +34,48 @@ full_off (suc n) (suc b) low =
 
 -- a bit of a free word that is of no table
 pub record IsNone (k : Shape) (t : ℕ) : Type 0 where
-  pub class : IsClass (cls t)
-  pub number : num t < 1024
-  pub none : tables_in k (cls t) ≤ num t
+  pub class : IsClass (class_of t)
+  pub number : number_of t < 1024
+  pub none : tables_in k (class_of t) ≤ number_of t
 
-none_low : (k : Shape) (t : ℕ) → IsNone k t → fw t < 224
-unfolding fw
+none_low : (k : Shape) (t : ℕ) → IsNone k t → free_word_of t < 224
+unfolding free_word_of
 none_low k t is = let l = is.class.least in let h = is.class.greatest in let n = is.number in omega (arith, l, h, n)
 
-none_is : (k : Shape) (t : ℕ) → IsNone k t → (num t ≡ 64 * (fw t % 16) + bt t) × (3 + fw t / 16 ≡ cls t)
-unfolding fw bt
+none_is : (k : Shape) (t : ℕ) → IsNone k t → (number_of t ≡ 64 * (free_word_of t % 16) + free_bit_of t) × (3 + free_word_of t / 16 ≡ class_of t)
+unfolding free_word_of free_bit_of
 none_is k t is = let l = is.class.least in let n = is.number in (omega (arith, l, n), omega (arith, l, n))
 
-none_apart : (k : Shape) (q t : ℕ) → IsTable k q → IsNone k t → fw q ≡ fw t → bt q ≡ bt t → ⊥
+none_apart : (k : Shape) (q t : ℕ) → IsTable k q → IsNone k t → free_word_of q ≡ free_word_of t → free_bit_of q ≡ free_bit_of t → ⊥
 none_apart k q t is it same bit_same =
     let a = num_is k q is in
     let b = none_is k t it in
     let a0 = a.0 in
     let b0 = b.0 in
-    let n : num q ≡ num t = omega (arith, a0, b0, same, bit_same) in
-    let c : cls q ≡ cls t = sym a.1 ∙ (ap (λ (z : ℕ). 3 + z / 16) same ∙ b.1) in
-    let count : tables_in k (cls q) ≡ tables_in k (cls t) = ap (tables_in k) c in
+    let n : number_of q ≡ number_of t = omega (arith, a0, b0, same, bit_same) in
+    let c : class_of q ≡ class_of t = sym a.1 ∙ (ap (λ (z : ℕ). 3 + z / 16) same ∙ b.1) in
+    let count : tables_in k (class_of q) ≡ tables_in k (class_of t) = ap (tables_in k) c in
     let low = is.1 in
     let none = it.none in
     absurd (omega (arith, n, count, low, none))
 
 module _ (k : Shape) (es : List Event) (id : ℕ) (v : View) (t : ℕ) (none : IsNone k t) where
-  far : (a : Act) → May k (run k es) (history es) v a → place a ≢ bits (fw t) → bit_of k (did id v a ∷ es) t ≡ bit_of k es t
-  far a may ne = ap (bit (bt t)) (stays k es id v a may (bits (fw t)) (none_low k t none) ne)
+  far : (a : Act) → May k (run k es) (history es) v a → place a ≢ bits (free_word_of t) → bit_of k (did id v a ∷ es) t ≡ bit_of k es t
+  far a may ne = ap (bit (free_bit_of t)) (stays k es id v a may (bits (free_word_of t)) (none_low k t none) ne)
 
-  near_ : (q : ℕ) (a : Act) → IsTable k q → place a ≡ bits (fw q) → May k (run k es) (history es) v a → ((n : ℕ) → bt q ≢ bt t → bit (bt t) (left v.number a n) ≡ bit (bt t) n) → bit_of k (did id v a ∷ es) t ≡ bit_of k es t
+  near_ : (q : ℕ) (a : Act) → IsTable k q → place a ≡ bits (free_word_of q) → May k (run k es) (history es) v a → ((n : ℕ) → free_bit_of q ≢ free_bit_of t → bit (free_bit_of t) (word_after v.number a n) ≡ bit (free_bit_of t) n) → bit_of k (did id v a ∷ es) t ≡ bit_of k es t
   near_ q a table is may does =
-      dite (ℕ_discrete (fw q) (fw t))
-      (λ (e : fw q ≡ fw t).
-      let p : place a ≡ bits (fw t) = is ∙ ap bits e in
-      let m : word k (did id v a ∷ es) (bits (fw t)) ≡ left v.number a (word k es (bits (fw t))) = subst (λ (x : Addr). word k (did id v a ∷ es) x ≡ left v.number a (word k es x)) p (moves k es id v a may) in
-      ap (bit (bt t)) m ∙ does (word k es (bits (fw t))) (λ n. none_apart k q t table none e n))
-      (λ apart. far a may (λ e. apart (let z : bits (fw q) ≡ bits (fw t) = sym is ∙ e in cc)))
+      dite (ℕ_discrete (free_word_of q) (free_word_of t))
+      (λ (e : free_word_of q ≡ free_word_of t).
+      let p : place a ≡ bits (free_word_of t) = is ∙ ap bits e in
+      let m : word k (did id v a ∷ es) (bits (free_word_of t)) ≡ word_after v.number a (word k es (bits (free_word_of t))) = subst (λ (x : Addr). word k (did id v a ∷ es) x ≡ word_after v.number a (word k es x)) p (moves k es id v a may) in
+      ap (bit (free_bit_of t)) m ∙ does (word k es (bits (free_word_of t))) (λ n. none_apart k q t table none e n))
+      (λ apart. far a may (λ e. apart (let z : bits (free_word_of q) ≡ bits (free_word_of t) = sym is ∙ e in cc)))
 
   unused_by : (a : Act) → May k (run k es) (history es) v a → bit_of k (did id v a ∷ es) t ≡ bit_of k es t
-  unused_by (TakeTable p f s) may = near_ p (TakeTable p f s) may.0 refl may (λ n apart. off_else (bt p) (bt t) n (bt_low p) (bt_low t) apart)
-  unused_by (GiveTable p) may = near_ p (GiveTable p) may.0 refl may (λ n apart. on_else (bt p) (bt t) n (bt_low p) apart)
-  unused_by (ReadFree w f) may = ap (bit (bt t)) (loaded k es id v (ReadFree w f) (λ n. refl) (bits (fw t)))
+  unused_by (TakeTable p f s) may = near_ p (TakeTable p f s) may.0 refl may (λ n apart. off_else (free_bit_of p) (free_bit_of t) n (bt_low p) (bt_low t) apart)
+  unused_by (GiveTable p) may = near_ p (GiveTable p) may.0 refl may (λ n apart. on_else (free_bit_of p) (free_bit_of t) n (bt_low p) apart)
+  unused_by (ReadFree w f) may = ap (bit (free_bit_of t)) (loaded k es id v (ReadFree w f) (λ n. refl) (bits (free_word_of t)))
   unused_by act may = far act may (λ e. absurd (cc))
 
 pub unused : (k : Shape) (es : List Event) → Valid k es → (t : ℕ) → IsNone k t → bit_of k es t ≡ 0
@@ -84,11 +84,11 @@ unused k [] valid t none =
     let n0 = n.0 in
     let b = bt_low t in
     let few = none.none in
-    let same : count_of k.tables (3 + fw t / 16) ≡ tables_in k (cls t) = ap (count_of k.tables) n.1 in
-    let d = count_of k.tables (3 + fw t / 16) - 64 * (fw t % 16) in
-    let small : d ≤ bt t = omega (arith, n0, few, same) in
+    let same : count_of k.tables (3 + free_word_of t / 16) ≡ tables_in k (class_of t) = ap (count_of k.tables) n.1 in
+    let d = count_of k.tables (3 + free_word_of t / 16) - 64 * (free_word_of t % 16) in
+    let small : d ≤ free_bit_of t = omega (arith, n0, few, same) in
     let is : least (ltb d 64) d ≡ d = ap (λ (z : Bool). least z d) (lt-ltb d 64 (omega (arith, small, b))) in
-    ap (bit (bt t)) (bits_first k (fw t) (none_low k t none)) ∙ (ap (λ (z : ℕ). bit (bt t) (full z)) is ∙ full_off d (bt t) small)
+    ap (bit (free_bit_of t)) (bits_first k (free_word_of t) (none_low k t none)) ∙ (ap (λ (z : ℕ). bit (free_bit_of t) (full z)) is ∙ full_off d (free_bit_of t) small)
 unused k (did id v a ∷ es) valid t none = unused_by k es id v t none a valid.1.3 ∙ unused k es valid.0 t none
 unused k (forked id v ∷ es) valid t none = unused k es valid.0 t none
 unused k (joined id v other w ∷ es) valid t none = unused k es valid.0 t none
@@ -117,23 +117,23 @@ sum_cut f a (suc n) low none =
     let z = none n (omega (arith, low, ne)) (omega arith) in
     omega (arith, h, z))
 
-word_of : (c j b : ℕ) → IsClass c → j < 16 → b < 64 → fw (65536 * c + (64 * j + b)) ≡ 16 * (c - 3) + j
-unfolding fw
+word_of : (c j b : ℕ) → IsClass c → j < 16 → b < 64 → free_word_of (65536 * c + (64 * j + b)) ≡ 16 * (c - 3) + j
+unfolding free_word_of
 word_of c j b is less low =
-    let a = cls_of c (64 * j + b) (omega arith) in
-    let n = num_of c (64 * j + b) (omega arith) in
+    let a = class_of_number c (64 * j + b) (omega arith) in
+    let n = number_of_number c (64 * j + b) (omega arith) in
     let l = is.least in
     omega (arith, a, n, l, less, low)
 
-bit_is : (c j b : ℕ) → j < 16 → b < 64 → bt (65536 * c + (64 * j + b)) ≡ b
-unfolding bt
-bit_is c j b less low = let n = num_of c (64 * j + b) (omega arith) in omega (arith, n, less, low)
+bit_is : (c j b : ℕ) → j < 16 → b < 64 → free_bit_of (65536 * c + (64 * j + b)) ≡ b
+unfolding free_bit_of
+bit_is c j b less low = let n = number_of_number c (64 * j + b) (omega arith) in omega (arith, n, less, low)
 
 none_in : (k : Shape) (c i : ℕ) → IsClass c → tables_in k c ≤ i → i < 1024 → IsNone k (65536 * c + i)
 none_in k c i is up low =
-    let a = cls_of c i low in
-    let n = num_of c i low in
-    let count : tables_in k (cls (65536 * c + i)) ≡ tables_in k c = ap (tables_in k) a in
+    let a = class_of_number c i low in
+    let n = number_of_number c i low in
+    let count : tables_in k (class_of (65536 * c + i)) ≡ tables_in k c = ap (tables_in k) a in
     record { class = subst IsClass (sym a) is; number = omega (arith, n, low); none = omega (arith, n, count, up) }
 
 pub words_are : (k : Shape) (es : List Event) → Valid k es → (c : ℕ) → IsClass c → word_bits k es c ≡ set_bits k es c
@@ -141,7 +141,7 @@ words_are k es valid c low =
     let F : ℕ → ℕ = λ i. bit_of k es (65536 * c + i) in
     let G : ℕ → ℕ = λ j. ones (word k es (bits (16 * (c - 3) + j))) in
     let H : ℕ → ℕ = λ j. sum_to (λ b. F (64 * j + b)) 64 in
-    let each : sum_to G 16 ≡ sum_to H 16 = sum_same G H 16 (λ j in_class. sum_same (λ b. bit b (word k es (bits (16 * (c - 3) + j)))) (λ b. F (64 * j + b)) 64 (λ b less. ap (λ (z : ℕ). bit z (word k es (bits (16 * (c - 3) + j)))) (sym (bit_is c j b in_class less)) ∙ ap (λ (z : ℕ). bit (bt (65536 * c + (64 * j + b))) (word k es (bits z))) (sym (word_of c j b low in_class less)))) in
+    let each : sum_to G 16 ≡ sum_to H 16 = sum_same G H 16 (λ j in_class. sum_same (λ b. bit b (word k es (bits (16 * (c - 3) + j)))) (λ b. F (64 * j + b)) 64 (λ b less. ap (λ (z : ℕ). bit z (word k es (bits (16 * (c - 3) + j)))) (sym (bit_is c j b in_class less)) ∙ ap (λ (z : ℕ). bit (free_bit_of (65536 * c + (64 * j + b))) (word k es (bits z))) (sym (word_of c j b low in_class less)))) in
     each
     ∙ (sum_parts F 16
     ∙ sum_cut F (tables_in k c) (64 * 16) ((fits k es valid).tables c low) (λ i up less. unused k es valid (65536 * c + i) (none_in k c i low up less)))

@@ -2,7 +2,7 @@
 use Rattle.std.proofs.Common.{◌≡◌, ℕ, zero, suc, ◌+◌, ◌<◌, List, ◌∷◌, length, set, refl, sym, ap, ◌∙◌, arith, get_or-set_other, get_or-set_same, replicate}
 use Rattle.std.specs.Prelude.{slice_index, slice_set}
 use Rattle.ft_trace.specs.declared.Shape.{Shape}
-use Rattle.ft_trace.specs.Addrs.{block, cell, cls, size, at}
+use Rattle.ft_trace.specs.Addrs.{block, cell, class_of, size, at}
 use Rattle.ft_trace.specs.Words.{piece, table_of, block_of, root_of, inner, picture}
 
 pub piece_same : (ws zs : List ℕ) (at n : ℕ) → ((i : ℕ) → i < n → slice_index ws (at + i) ≡ slice_index zs (at + i)) → piece ws at n ≡ piece zs at n
@@ -37,21 +37,21 @@ piece_long ws at (suc n) = ap suc (piece_long ws (at + 1) n)
 cell_is : (k : Shape) (t i : ℕ) → at k (cell t 0) + i ≡ at k (cell t i)
 cell_is k t i = omega arith
 
-pub table_same : (k : Shape) (t : ℕ) (ws zs : List ℕ) → ((i : ℕ) → i < size (cls t) → slice_index ws (at k (cell t i)) ≡ slice_index zs (at k (cell t i))) → table_of k t ws ≡ table_of k t zs
+pub table_same : (k : Shape) (t : ℕ) (ws zs : List ℕ) → ((i : ℕ) → i < size (class_of t) → slice_index ws (at k (cell t i)) ≡ slice_index zs (at k (cell t i))) → table_of k t ws ≡ table_of k t zs
 unfolding table_of
-table_same k t ws zs same = piece_same ws zs (at k (cell t 0)) (size (cls t)) (λ i low. ap (λ (z : ℕ). slice_index ws z) (cell_is k t i) ∙ (same i low ∙ ap (λ (z : ℕ). slice_index zs z) (sym (cell_is k t i))))
+table_same k t ws zs same = piece_same ws zs (at k (cell t 0)) (size (class_of t)) (λ i low. ap (λ (z : ℕ). slice_index ws z) (cell_is k t i) ∙ (same i low ∙ ap (λ (z : ℕ). slice_index zs z) (sym (cell_is k t i))))
 
-pub table_at : (k : Shape) (t : ℕ) (ws : List ℕ) (i : ℕ) → i < size (cls t) → slice_index (table_of k t ws) i ≡ slice_index ws (at k (cell t i))
+pub table_at : (k : Shape) (t : ℕ) (ws : List ℕ) (i : ℕ) → i < size (class_of t) → slice_index (table_of k t ws) i ≡ slice_index ws (at k (cell t i))
 unfolding table_of
-table_at k t ws i low = piece_at ws (at k (cell t 0)) (size (cls t)) i low ∙ ap (λ (z : ℕ). slice_index ws z) (cell_is k t i)
+table_at k t ws i low = piece_at ws (at k (cell t 0)) (size (class_of t)) i low ∙ ap (λ (z : ℕ). slice_index ws z) (cell_is k t i)
 
-pub table_set : (k : Shape) (t : ℕ) (ws : List ℕ) (i x : ℕ) → i < size (cls t) → at k (cell t i) < length ws → table_of k t (slice_set ws (at k (cell t i)) x) ≡ slice_set (table_of k t ws) i x
+pub table_set : (k : Shape) (t : ℕ) (ws : List ℕ) (i x : ℕ) → i < size (class_of t) → at k (cell t i) < length ws → table_of k t (slice_set ws (at k (cell t i)) x) ≡ slice_set (table_of k t ws) i x
 unfolding table_of
-table_set k t ws i x low in_it = ap (λ (z : ℕ). table_of k t (set ws z x)) (sym (cell_is k t i)) ∙ piece_set ws (at k (cell t 0)) (size (cls t)) i x low (omega arith)
+table_set k t ws i x low in_it = ap (λ (z : ℕ). table_of k t (set ws z x)) (sym (cell_is k t i)) ∙ piece_set ws (at k (cell t 0)) (size (class_of t)) i x low (omega arith)
 
-pub table_long : (k : Shape) (t : ℕ) (ws : List ℕ) → length (table_of k t ws) ≡ size (cls t)
+pub table_long : (k : Shape) (t : ℕ) (ws : List ℕ) → length (table_of k t ws) ≡ size (class_of t)
 unfolding table_of
-table_long k t ws = piece_long ws (at k (cell t 0)) (size (cls t))
+table_long k t ws = piece_long ws (at k (cell t 0)) (size (class_of t))
 
 block_cell : (k : Shape) (o i : ℕ) → at k (block o 0) + i ≡ at k (block o i)
 block_cell k o i = omega arith

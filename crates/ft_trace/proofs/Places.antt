@@ -10,8 +10,8 @@ use Rattle.ft_trace.specs.declared.View.{View}
 use Rattle.ft_trace.specs.declared.Act.{Act}
 use Rattle.ft_trace.specs.declared.Act.TheVariants.{PutBlock, PutRoot, ReadBlock, ReadRoot, ReadFree, TakeTable, GiveTable, Retire}
 use Rattle.ft_trace.specs.Bits.{bit}
-use Rattle.ft_trace.specs.Addrs.{Addr, bits, block, IsTable, fw, bt, containers_in}
-use Rattle.ft_trace.specs.Acts.{place, left, Reports, stage, stage_next, starter, noted, maker, made, both, spent}
+use Rattle.ft_trace.specs.Addrs.{Addr, bits, block, IsTable, free_word_of, free_bit_of, containers_in}
+use Rattle.ft_trace.specs.Acts.{place, word_after, Reports, stage, stage_next, starter, noted, maker, made, both, spent}
 use Rattle.ft_trace.specs.Traces.{Event, did, forked, joined, run, word, history, May, Valid}
 use Rattle.ft_trace.specs.Ages.{aged, age, gone_to, whose}
 use Rattle.ft_trace.proofs.Sizes.{set_views, one_more, one_view}
@@ -47,16 +47,16 @@ pub record Calm (k : Shape) (es : List Event) (id : ℕ) (v : View) (t : ℕ) (a
   pub stage : (n : ℕ) → stage_next t a n ≡ n
   pub age : (g : ℕ) → aged a t g ≡ g
   pub whose : (w : ℕ) → gone_to id a t w ≡ w
-  pub free : bit (bt t) (word k (did id v a ∷ es) (bits (fw t))) ≡ bit (bt t) (word k es (bits (fw t)))
+  pub free : bit (free_bit_of t) (word k (did id v a ∷ es) (bits (free_word_of t))) ≡ bit (free_bit_of t) (word k es (bits (free_word_of t)))
   pub roots : (o : ℕ) → o < containers_in k → root k (did id v a ∷ es) o ≡ suc t → root k es o ≡ suc t
   pub roots_back : (o : ℕ) → o < containers_in k → root k es o ≡ suc t → root k (did id v a ∷ es) o ≡ suc t
 
 module _ (k : Shape) (es : List Event) (id : ℕ) (v : View) (t : ℕ) (table : IsTable k t) where
   abbrev After : Act → ℕ
-  After a = bit (bt t) (word k (did id v a ∷ es) (bits (fw t)))
+  After a = bit (free_bit_of t) (word k (did id v a ∷ es) (bits (free_word_of t)))
 
   abbrev Before : ℕ
-  Before = bit (bt t) (word k es (bits (fw t)))
+  Before = bit (free_bit_of t) (word k es (bits (free_word_of t)))
 
   -- an action on no root
   pub no_root : (a : Act) → May k (run k es) (history es) v a → ((o : ℕ) → place a ≢ block o 0) → (o : ℕ) → o < containers_in k → root k (did id v a ∷ es) o ≡ root k es o
@@ -65,44 +65,44 @@ module _ (k : Shape) (es : List Event) (id : ℕ) (v : View) (t : ℕ) (table : 
   calm_by : (a : Act) → ((n : ℕ) → stage_next t a n ≡ n) → ((g : ℕ) → aged a t g ≡ g) → ((w : ℕ) → gone_to id a t w ≡ w) → After a ≡ Before → ((o : ℕ) → o < containers_in k → root k (did id v a ∷ es) o ≡ root k es o) → Calm k es id v t a
   calm_by a s g w b r = record { stage = s; age = g; whose = w; free = b; roots = λ o low e. sym (r o low) ∙ e; roots_back = λ o low e. r o low ∙ e }
 
-  pub bit_stays : (a : Act) → May k (run k es) (history es) v a → place a ≢ bits (fw t) → After a ≡ Before
-  bit_stays a may ne = ap (bit (bt t)) (stays k es id v a may (bits (fw t)) (fw_low k t table) ne)
+  pub bit_stays : (a : Act) → May k (run k es) (history es) v a → place a ≢ bits (free_word_of t) → After a ≡ Before
+  bit_stays a may ne = ap (bit (free_bit_of t)) (stays k es id v a may (bits (free_word_of t)) (fw_low k t table) ne)
 
   -- another table's bit
-  pub other_bit : (q : ℕ) → IsTable k q → (a : Act) → q ≢ t → place a ≡ bits (fw q) → May k (run k es) (history es) v a → ((n : ℕ) → bt q ≢ bt t → bit (bt t) (left v.number a n) ≡ bit (bt t) n) → After a ≡ Before
+  pub other_bit : (q : ℕ) → IsTable k q → (a : Act) → q ≢ t → place a ≡ bits (free_word_of q) → May k (run k es) (history es) v a → ((n : ℕ) → free_bit_of q ≢ free_bit_of t → bit (free_bit_of t) (word_after v.number a n) ≡ bit (free_bit_of t) n) → After a ≡ Before
   other_bit q is_q a ne is may does =
-      dite (ℕ_discrete (fw q) (fw t))
-      (λ (e : fw q ≡ fw t).
-      let p : place a ≡ bits (fw t) = is ∙ ap bits e in
-      let m : word k (did id v a ∷ es) (bits (fw t)) ≡ left v.number a (word k es (bits (fw t))) = subst (λ (x : Addr). word k (did id v a ∷ es) x ≡ left v.number a (word k es x)) p (moves k es id v a may) in
-      ap (bit (bt t)) m ∙ does (word k es (bits (fw t))) (λ n. ne (same_bit k q t is_q table e n)))
-      (λ far. bit_stays a may (λ e. far (let z : bits (fw q) ≡ bits (fw t) = sym is ∙ e in cc)))
+      dite (ℕ_discrete (free_word_of q) (free_word_of t))
+      (λ (e : free_word_of q ≡ free_word_of t).
+      let p : place a ≡ bits (free_word_of t) = is ∙ ap bits e in
+      let m : word k (did id v a ∷ es) (bits (free_word_of t)) ≡ word_after v.number a (word k es (bits (free_word_of t))) = subst (λ (x : Addr). word k (did id v a ∷ es) x ≡ word_after v.number a (word k es x)) p (moves k es id v a may) in
+      ap (bit (free_bit_of t)) m ∙ does (word k es (bits (free_word_of t))) (λ n. ne (same_bit k q t is_q table e n)))
+      (λ far. bit_stays a may (λ e. far (let z : bits (free_word_of q) ≡ bits (free_word_of t) = sym is ∙ e in cc)))
 
-  module _ (F : Act → Type 0) (take : (f : ℕ) (s : Snap) → bit (bt t) f ≡ 1 → F (TakeTable t f s)) (give : F (GiveTable t)) (put : (o old : ℕ) → F (PutRoot o (suc t) old)) (drop : (o r : ℕ) → r ≢ suc t → F (PutRoot o r (suc t))) (retire : (f : ℕ) → F (Retire t f)) (other : (a : Act) → Calm k es id v t a → F a) where
+  module _ (F : Act → Type 0) (take : (f : ℕ) (s : Snap) → bit (free_bit_of t) f ≡ 1 → F (TakeTable t f s)) (give : F (GiveTable t)) (put : (o old : ℕ) → F (PutRoot o (suc t) old)) (drop : (o r : ℕ) → r ≢ suc t → F (PutRoot o r (suc t))) (retire : (f : ℕ) → F (Retire t f)) (other : (a : Act) → Calm k es id v t a → F a) where
     abbrev G : Act → Type 0
     G a = Reports a (word k es (place a)) → May k (run k es) (history es) v a → F a
 
     by_take : (f : ℕ) (s : Snap) → G (TakeTable t f s)
     by_take f s found may =
         let a : Act = TakeTable t f s in
-        dite (ℕ_discrete (bit (bt t) f) 1) (take f s)
+        dite (ℕ_discrete (bit (free_bit_of t) f) 1) (take f s)
         (λ ne.
-        let zero : bit (bt t) (word k es (bits (fw t))) ≡ 0 = (let z : bit (bt t) f ≡ bit (bt t) (word k es (bits (fw t))) = ap (bit (bt t)) found in let s = bit_small (bt t) f in omega arith) in
-        other a (calm_by a (λ n. hit t (cond (eqb (bit (bt t) f) 1) 1 n) n ∙ miss (bit (bt t) f) 1 1 n ne) (λ g. hit t (cond (eqb (bit (bt t) f) 1) (g + 1) g) g ∙ miss (bit (bt t) f) 1 (g + 1) g ne) (λ w. hit t (cond (eqb (bit (bt t) f) 1) id w) w ∙ miss (bit (bt t) f) 1 id w ne)
-        (ap (bit (bt t)) (moves k es id v a may) ∙ (off_same (bt t) (word k es (bits (fw t))) (bt_low t) ∙ sym zero)) (no_root a may (λ o e. absurd (cc)))))
+        let zero : bit (free_bit_of t) (word k es (bits (free_word_of t))) ≡ 0 = (let z : bit (free_bit_of t) f ≡ bit (free_bit_of t) (word k es (bits (free_word_of t))) = ap (bit (free_bit_of t)) found in let s = bit_small (free_bit_of t) f in omega arith) in
+        other a (calm_by a (λ n. hit t (cond (eqb (bit (free_bit_of t) f) 1) 1 n) n ∙ miss (bit (free_bit_of t) f) 1 1 n ne) (λ g. hit t (cond (eqb (bit (free_bit_of t) f) 1) (g + 1) g) g ∙ miss (bit (free_bit_of t) f) 1 (g + 1) g ne) (λ w. hit t (cond (eqb (bit (free_bit_of t) f) 1) id w) w ∙ miss (bit (free_bit_of t) f) 1 id w ne)
+        (ap (bit (free_bit_of t)) (moves k es id v a may) ∙ (off_same (free_bit_of t) (word k es (bits (free_word_of t))) (bt_low t) ∙ sym zero)) (no_root a may (λ o e. absurd (cc)))))
 
     pub on_table : (a : Act) → G a
     on_table (TakeTable p f s) =
         same_or (λ (z : ℕ). G (TakeTable z f s)) p t (by_take f s)
         (λ ne found may.
         let a : Act = TakeTable p f s in
-        other a (calm_by a (λ n. miss p t (cond (eqb (bit (bt t) f) 1) 1 n) n ne) (λ g. miss p t (cond (eqb (bit (bt t) f) 1) (g + 1) g) g ne) (λ w. miss p t (cond (eqb (bit (bt t) f) 1) id w) w ne)
-        (other_bit p may.0 a ne refl may (λ n apart. off_else (bt p) (bt t) n (bt_low p) (bt_low t) apart)) (no_root a may (λ o e. absurd (cc)))))
+        other a (calm_by a (λ n. miss p t (cond (eqb (bit (free_bit_of t) f) 1) 1 n) n ne) (λ g. miss p t (cond (eqb (bit (free_bit_of t) f) 1) (g + 1) g) g ne) (λ w. miss p t (cond (eqb (bit (free_bit_of t) f) 1) id w) w ne)
+        (other_bit p may.0 a ne refl may (λ n apart. off_else (free_bit_of p) (free_bit_of t) n (bt_low p) (bt_low t) apart)) (no_root a may (λ o e. absurd (cc)))))
     on_table (GiveTable p) =
         same_or (λ (z : ℕ). G (GiveTable z)) p t (λ found may. give)
         (λ ne found may.
         let a : Act = GiveTable p in
-        other a (calm_by a (λ n. miss p t 0 n ne) (λ g. miss p t (g + 5 - g % 5) g ne) (λ w. refl) (other_bit p may.0 a ne refl may (λ n apart. on_else (bt p) (bt t) n (bt_low p) apart)) (no_root a may (λ o e. absurd (cc)))))
+        other a (calm_by a (λ n. miss p t 0 n ne) (λ g. miss p t (g + 5 - g % 5) g ne) (λ w. refl) (other_bit p may.0 a ne refl may (λ n apart. on_else (free_bit_of p) (free_bit_of t) n (bt_low p) apart)) (no_root a may (λ o e. absurd (cc)))))
     on_table (Retire p f) =
         same_or (λ (z : ℕ). G (Retire z f)) p t (λ found may. retire f)
         (λ ne found may.
@@ -127,16 +127,16 @@ module _ (k : Shape) (es : List Event) (id : ℕ) (v : View) (t : ℕ) (table : 
     on_table (PutBlock p i x) = λ found may. other (PutBlock p i x) (calm_by (PutBlock p i x) (λ n. refl) (λ g. refl) (λ w. refl) (bit_stays (PutBlock p i x) may (λ e. absurd (cc))) (no_root (PutBlock p i x) may (λ o e. may.3 (cc))))
     on_table (ReadBlock p i f) = λ found may. other (ReadBlock p i f) (calm_by (ReadBlock p i f) (λ n. refl) (λ g. refl) (λ w. refl) (bit_stays (ReadBlock p i f) may (λ e. absurd (cc))) (λ o low. loaded k es id v (ReadBlock p i f) (λ n. refl) (block o 0)))
     on_table (ReadRoot p f) = λ found may. other (ReadRoot p f) (calm_by (ReadRoot p f) (λ n. refl) (λ g. refl) (λ w. refl) (bit_stays (ReadRoot p f) may (λ e. absurd (cc))) (λ o low. loaded k es id v (ReadRoot p f) (λ n. refl) (block o 0)))
-    on_table (ReadFree w f) = λ found may. other (ReadFree w f) (calm_by (ReadFree w f) (λ n. refl) (λ g. refl) (λ w. refl) (ap (bit (bt t)) (loaded k es id v (ReadFree w f) (λ n. refl) (bits (fw t)))) (no_root (ReadFree w f) may (λ o e. absurd (cc))))
+    on_table (ReadFree w f) = λ found may. other (ReadFree w f) (calm_by (ReadFree w f) (λ n. refl) (λ g. refl) (λ w. refl) (ap (bit (free_bit_of t)) (loaded k es id v (ReadFree w f) (λ n. refl) (bits (free_word_of t)))) (no_root (ReadFree w f) may (λ o e. absurd (cc))))
     on_table act = λ found may. other act (calm_by act (λ n. refl) (λ g. refl) (λ w. refl) (bit_stays act may (λ e. absurd (cc))) (no_root act may (λ o e. absurd (cc))))
 
 -- no pass has a table that is current
 stage_by : (t : ℕ) (a : Act) (n : ℕ) → n ≢ 2 → stage_next t a n ≢ 2
 stage_by t (TakeTable p f s) n ne =
     dite (ℕ_discrete p t)
-    (λ (e : p ≡ t) z. dite (ℕ_discrete (bit (bt t) f) 1) (λ (b : bit (bt t) f ≡ 1). let x : 1 ≡ 2 = sym (here p t (cond (eqb (bit (bt t) f) 1) 1 n) n e ∙ here (bit (bt t) f) 1 1 n b) ∙ z in absurd (omega (arith, x)))
-    (λ b. ne (sym (here p t (cond (eqb (bit (bt t) f) 1) 1 n) n e ∙ miss (bit (bt t) f) 1 1 n b) ∙ z)))
-    (λ far z. ne (sym (miss p t (cond (eqb (bit (bt t) f) 1) 1 n) n far) ∙ z))
+    (λ (e : p ≡ t) z. dite (ℕ_discrete (bit (free_bit_of t) f) 1) (λ (b : bit (free_bit_of t) f ≡ 1). let x : 1 ≡ 2 = sym (here p t (cond (eqb (bit (free_bit_of t) f) 1) 1 n) n e ∙ here (bit (free_bit_of t) f) 1 1 n b) ∙ z in absurd (omega (arith, x)))
+    (λ b. ne (sym (here p t (cond (eqb (bit (free_bit_of t) f) 1) 1 n) n e ∙ miss (bit (free_bit_of t) f) 1 1 n b) ∙ z)))
+    (λ far z. ne (sym (miss p t (cond (eqb (bit (free_bit_of t) f) 1) 1 n) n far) ∙ z))
 stage_by t (GiveTable p) n ne = dite (ℕ_discrete p t) (λ (e : p ≡ t) z. let x : 0 ≡ 2 = sym (here p t 0 n e) ∙ z in absurd (omega (arith, x))) (λ far z. ne (sym (miss p t 0 n far) ∙ z))
 stage_by t (Retire p f) n ne = dite (ℕ_discrete p t) (λ (e : p ≡ t) z. let x : 4 ≡ 2 = sym (here p t 4 n e) ∙ z in absurd (omega (arith, x))) (λ far z. ne (sym (miss p t 4 n far) ∙ z))
 stage_by t (PutRoot o r old) n ne =
@@ -151,8 +151,8 @@ not_current t [] = λ e. absurd (omega (arith, e))
 not_current t (a ∷ l) = stage_by t a (stage t l) (not_current t l)
 
 pub record Placed (k : Shape) (es : List Event) (t : ℕ) : Type 0 where
-  pub free_is : bit (bt t) (word k es (bits (fw t))) ≡ 1 → age es t % 5 ≡ 0
-  pub is_free : age es t % 5 ≡ 0 → bit (bt t) (word k es (bits (fw t))) ≡ 1
+  pub free_is : bit (free_bit_of t) (word k es (bits (free_word_of t))) ≡ 1 → age es t % 5 ≡ 0
+  pub is_free : age es t % 5 ≡ 0 → bit (free_bit_of t) (word k es (bits (free_word_of t))) ≡ 1
   pub hands : (j : ℕ) (u : View) → get_elem? (run k es).views j ≡ some u → stage t u.log ≢ 0 → (age es t % 5 ≡ stage t u.log) × (whose es t ≡ j)
   pub roots : (o : ℕ) → o < containers_in k → root k es o ≡ suc t → (age es t % 5 ≡ 2) × (whose es t ≡ o)
   pub current : age es t % 5 ≡ 2 → (whose es t < containers_in k) × (root k es (whose es t) ≡ suc t)
@@ -177,12 +177,12 @@ placed k (did id v a ∷ es) valid t table =
     on_table k es id v t table F
     (λ f s one ok.
     let A : Act = TakeTable t f s in
-    let was : g % 5 ≡ 0 = old.free_is (ap (bit (bt t)) (sym ok.1.2) ∙ one) in
-    let now : aged A t g ≡ g + 1 = hit t (cond (eqb (bit (bt t) f) 1) (g + 1) g) g ∙ here (bit (bt t) f) 1 (g + 1) g one in
-    let whom : gone_to id A t w ≡ id = hit t (cond (eqb (bit (bt t) f) 1) id w) w ∙ here (bit (bt t) f) 1 id w one in
-    let mine : stage_next t A n ≡ 1 = hit t (cond (eqb (bit (bt t) f) 1) 1 n) n ∙ here (bit (bt t) f) 1 1 n one in
+    let was : g % 5 ≡ 0 = old.free_is (ap (bit (free_bit_of t)) (sym ok.1.2) ∙ one) in
+    let now : aged A t g ≡ g + 1 = hit t (cond (eqb (bit (free_bit_of t) f) 1) (g + 1) g) g ∙ here (bit (free_bit_of t) f) 1 (g + 1) g one in
+    let whom : gone_to id A t w ≡ id = hit t (cond (eqb (bit (free_bit_of t) f) 1) id w) w ∙ here (bit (free_bit_of t) f) 1 id w one in
+    let mine : stage_next t A n ≡ 1 = hit t (cond (eqb (bit (free_bit_of t) f) 1) 1 n) n ∙ here (bit (free_bit_of t) f) 1 1 n one in
     record {
-      free_is = λ b. absurd (let z : bit (bt t) (word k (did id v A ∷ es) (bits (fw t))) ≡ 0 = ap (bit (bt t)) (moves k es id v A ok.1.3) ∙ off_same (bt t) (word k es (bits (fw t))) (bt_low t) in omega (arith, z, b));
+      free_is = λ b. absurd (let z : bit (free_bit_of t) (word k (did id v A ∷ es) (bits (free_word_of t))) ≡ 0 = ap (bit (free_bit_of t)) (moves k es id v A ok.1.3) ∙ off_same (free_bit_of t) (word k es (bits (free_word_of t))) (bt_low t) in omega (arith, z, b));
       is_free = λ z. absurd (omega (arith, z, now, was));
       hands = set_views (Hand (did id v A ∷ es) t) _ id (noted A v) (λ _. (omega (arith, now, was, mine), whom)) (λ j u _ e some_one. absurd (some_one (let h = (old.hands j u e some_one).0 in omega (arith, h, was))));
       roots = λ o low e. let h = (old.roots o low (sym (no_root k es id v t table A ok.1.3 (λ p x. absurd (cc)) o low) ∙ e)).0 in absurd (omega (arith, h, was));
@@ -198,7 +198,7 @@ placed k (did id v a ∷ es) valid t table =
     let zero : aged A t g % 5 ≡ 0 = omega (arith, now) in
     record {
       free_is = λ _. zero;
-      is_free = λ _. ap (bit (bt t)) (moves k es id v A may) ∙ on_same (bt t) (word k es (bits (fw t))) (bt_low t);
+      is_free = λ _. ap (bit (free_bit_of t)) (moves k es id v A may) ∙ on_same (free_bit_of t) (word k es (bits (free_word_of t))) (bt_low t);
       hands = set_views (Hand (did id v A ∷ es) t) _ id (noted A v) (λ no. absurd (no (hit t 0 n))) (λ j u ne e theirs. absurd (ne (sym (old.hands j u e theirs).1 ∙ h.1)));
       roots = λ o low e. let r = (old.roots o low (sym (no_root k es id v t table A may (λ p x. absurd (cc)) o low) ∙ e)).0 in absurd (not_two (sym h.0 ∙ r));
       current = λ z. absurd (omega (arith, z, zero));
@@ -212,10 +212,10 @@ placed k (did id v a ∷ es) valid t table =
     let now : aged A t g ≡ g + 1 = hit (suc t) (g + 1) (cond (eqb past (suc t)) (g + 1) g) in
     let whom : gone_to id A t w ≡ o = hit (suc t) o (cond (eqb past (suc t)) id w) in
     let word_now : root k (did id v A ∷ es) o ≡ suc t = moves k es id v A may in
-    let stay : word k (did id v A ∷ es) (bits (fw t)) ≡ word k es (bits (fw t)) = stays k es id v A may (bits (fw t)) (fw_low k t table) (λ e. absurd (cc)) in
+    let stay : word k (did id v A ∷ es) (bits (free_word_of t)) ≡ word k es (bits (free_word_of t)) = stays k es id v A may (bits (free_word_of t)) (fw_low k t table) (λ e. absurd (cc)) in
     let two : aged A t g % 5 ≡ 2 = omega (arith, now, was, mine) in
     record {
-      free_is = λ b. absurd (let z = old.free_is (ap (bit (bt t)) (sym stay) ∙ b) in omega (arith, z, was, mine));
+      free_is = λ b. absurd (let z = old.free_is (ap (bit (free_bit_of t)) (sym stay) ∙ b) in omega (arith, z, was, mine));
       is_free = λ z. absurd (omega (arith, z, two));
       hands = set_views (Hand (did id v A ∷ es) t) _ id (noted A v) (λ no. absurd (no (hit (suc t) 0 (cond (eqb past (suc t)) 3 n)))) (λ j u ne e theirs. absurd (ne (sym (old.hands j u e theirs).1 ∙ h.1)));
       roots = λ q low e.
@@ -231,9 +231,9 @@ placed k (did id v a ∷ es) valid t table =
     let now : aged A t g ≡ g + 1 = miss r (suc t) (g + 1) (cond (eqb (suc t) (suc t)) (g + 1) g) ne ∙ hit (suc t) (g + 1) g in
     let whom : gone_to id A t w ≡ id = miss r (suc t) o (cond (eqb (suc t) (suc t)) id w) ne ∙ hit (suc t) id w in
     let mine : stage_next t A n ≡ 3 = miss r (suc t) 0 (cond (eqb (suc t) (suc t)) 3 n) ne ∙ hit (suc t) 3 n in
-    let stay : word k (did id v A ∷ es) (bits (fw t)) ≡ word k es (bits (fw t)) = stays k es id v A may (bits (fw t)) (fw_low k t table) (λ e. absurd (cc)) in
+    let stay : word k (did id v A ∷ es) (bits (free_word_of t)) ≡ word k es (bits (free_word_of t)) = stays k es id v A may (bits (free_word_of t)) (fw_low k t table) (λ e. absurd (cc)) in
     record {
-      free_is = λ b. absurd (let z = old.free_is (ap (bit (bt t)) (sym stay) ∙ b) in omega (arith, z, was));
+      free_is = λ b. absurd (let z = old.free_is (ap (bit (free_bit_of t)) (sym stay) ∙ b) in omega (arith, z, was));
       is_free = λ z. absurd (omega (arith, z, now, was));
       hands = set_views (Hand (did id v A ∷ es) t) _ id (noted A v) (λ _. (omega (arith, now, was, mine), whom)) (λ j u _ e theirs. absurd (not_current t u.log (sym (old.hands j u e theirs).0 ∙ was)));
       roots = λ q low e.
@@ -249,9 +249,9 @@ placed k (did id v a ∷ es) valid t table =
     let was = h.0 in
     let now : aged A t g ≡ g + 1 = hit t (g + 1) g in
     let mine : stage_next t A n ≡ 4 = hit t 4 n in
-    let stay : word k (did id v A ∷ es) (bits (fw t)) ≡ word k es (bits (fw t)) = stays k es id v A may (bits (fw t)) (fw_low k t table) (λ e. absurd (cc)) in
+    let stay : word k (did id v A ∷ es) (bits (free_word_of t)) ≡ word k es (bits (free_word_of t)) = stays k es id v A may (bits (free_word_of t)) (fw_low k t table) (λ e. absurd (cc)) in
     record {
-      free_is = λ b. absurd (let z = old.free_is (ap (bit (bt t)) (sym stay) ∙ b) in omega (arith, z, was, three));
+      free_is = λ b. absurd (let z = old.free_is (ap (bit (free_bit_of t)) (sym stay) ∙ b) in omega (arith, z, was, three));
       is_free = λ z. absurd (omega (arith, z, now, was, three));
       hands = set_views (Hand (did id v A ∷ es) t) _ id (noted A v) (λ _. (omega (arith, now, was, three, mine), h.1)) (λ j u ne e theirs. absurd (ne (sym (old.hands j u e theirs).1 ∙ h.1)));
       roots = λ o low e. let r = (old.roots o low (sym (no_root k es id v t table A may (λ p x. absurd (cc)) o low) ∙ e)).0 in absurd (omega (arith, r, was, three));

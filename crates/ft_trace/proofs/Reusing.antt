@@ -10,9 +10,9 @@ use Rattle.ft_trace.specs.declared.View.{View}
 use Rattle.ft_trace.specs.declared.Act.{Act}
 use Rattle.ft_trace.specs.declared.Act.TheVariants.{TakeTable, GiveTable, PutRoot, Retire, ReadAnnounced, ReadRoot, Announce}
 use Rattle.ft_trace.specs.Bits.{bit}
-use Rattle.ft_trace.specs.Addrs.{write_number, announced_of, bits, IsTable, fw, bt}
-use Rattle.ft_trace.specs.Acts.{stage, stage_next, goal, goal_next, ann, reads, reads_next, clear, clear_next, starter, noted, maker, made, both, spent}
-use Rattle.ft_trace.specs.Ages.{aged, age, glog}
+use Rattle.ft_trace.specs.Addrs.{write_number, announced_of, bits, IsTable, free_word_of, free_bit_of}
+use Rattle.ft_trace.specs.Acts.{stage, stage_next, goal, goal_next, announces, reads, reads_next, clear, clear_next, starter, noted, maker, made, both, spent}
+use Rattle.ft_trace.specs.Ages.{aged, age, all_acts}
 use Rattle.ft_trace.specs.Traces.{Event, did, forked, joined, run, word, Valid}
 use Rattle.ft_trace.proofs.Sizes.{set_views, one_more, one_view}
 use Rattle.ft_trace.proofs.Cases.{hit, miss, here, off, same_or}
@@ -42,15 +42,15 @@ one false x n ne e = e
 on_goal : (t : ℕ) (F : Act → Type 0) → ((f : ℕ) → F (Retire t f)) → ((q f : ℕ) → F (ReadAnnounced q f)) → ((a : Act) → Mild t a → F a) → (a : Act) → F a
 on_goal t F retire hear other (Retire p f) = same_or (λ (z : ℕ). F (Retire z f)) p t (retire f) (λ ne. other (Retire p f) (record { stage = λ n e. sym (miss p t 4 n ne) ∙ e; goal = λ g. miss p t (f + 1) g ne; clear = λ q g b. miss p t false b ne }))
 on_goal t F retire hear other (ReadAnnounced q f) = hear q f
-on_goal t F retire hear other (TakeTable p f s) = other (TakeTable p f s) (record { stage = λ n e. three (eqb p t) (eqb (bit (bt t) f) 1) 1 n (λ z. absurd (omega (arith, z))) e; goal = λ g. refl; clear = λ p g b. refl })
+on_goal t F retire hear other (TakeTable p f s) = other (TakeTable p f s) (record { stage = λ n e. three (eqb p t) (eqb (bit (free_bit_of t) f) 1) 1 n (λ z. absurd (omega (arith, z))) e; goal = λ g. refl; clear = λ p g b. refl })
 on_goal t F retire hear other (GiveTable p) = other (GiveTable p) (record { stage = λ n e. one (eqb p t) 0 n (λ z. absurd (omega (arith, z))) e; goal = λ g. refl; clear = λ p g b. refl })
 on_goal t F retire hear other (PutRoot o r old) = other (PutRoot o r old) (record { stage = λ n e. two (eqb r (suc t)) (eqb old (suc t)) 0 3 n (λ z. absurd (omega (arith, z))) (λ z. absurd (omega (arith, z))) e; goal = λ g. refl; clear = λ p g b. refl })
 on_goal t F retire hear other act = other act (record { stage = λ n e. e; goal = λ g. refl; clear = λ p g b. refl })
 
 -- what the log of the pass that has retired t says of it stands in the log of all
 pub record Linked (t : ℕ) (es : List Event) (u : View) : Type 0 where
-  pub goal_is : stage t u.log ≡ 4 → goal t (glog es) ≡ goal t u.log
-  pub clear_is : stage t u.log ≡ 4 → (p : ℕ) → clear t p u.log ≡ true → clear t p (glog es) ≡ true
+  pub goal_is : stage t u.log ≡ 4 → goal t (all_acts es) ≡ goal t u.log
+  pub clear_is : stage t u.log ≡ 4 → (p : ℕ) → clear t p u.log ≡ true → clear t p (all_acts es) ≡ true
 
 more : (a b c x y : Bool) → (x ≡ true → y ≡ true) → cond a (cond b true (cond c x true)) x ≡ true → cond a (cond b true (cond c y true)) y ≡ true
 more true true c x y up e = refl
@@ -73,7 +73,7 @@ linked k (did id v a ∷ es) valid t table =
     let old = linked k es valid.0 t table in
     let m = old id v valid.1.0 in
     let its = placed k es valid.0 t table in
-    let G = glog es in
+    let G = all_acts es in
     let F : Act → Type 0 = λ b. Valid k (did id v b ∷ es) → (j : ℕ) (u : View) → get_elem? (run k (did id v b ∷ es)).views j ≡ some u → Linked t (did id v b ∷ es) u in
     on_goal t F
     (λ f ok.
@@ -115,7 +115,7 @@ pub record Safe (k : Shape) (t : ℕ) (G : List Act) (g : ℕ) (r : Bool) (a num
   pub clear_is : g % 5 ≡ 4 → clear t number G ≡ true → r ≡ true → ⊥
 
 abbrev pub SafeAt : Shape → ℕ → List Event → View → Type 0
-SafeAt k t es u = Safe k t (glog es) (age es t) (reads t u.log) (ann u.log) u.number
+SafeAt k t es u = Safe k t (all_acts es) (age es t) (reads t u.log) (announces u.log) u.number
 
 loaded : (a b c x : Bool) → cond a (cond b true (cond c x true)) x ≡ true → ((a ≡ true) × (b ≡ true)) ⊎ ((a ≡ true) × (c ≡ false)) ⊎ (x ≡ true)
 loaded true true c x e = inl (refl, refl)
@@ -144,9 +144,9 @@ safe_calm k es id v t table old (Announce p x) same ok =
     (λ j u _ e. let o = old j u e in record { read_is = o.read_is; clear_is = o.clear_is })
 safe_calm k es id v t table old (ReadAnnounced q f) same ok =
     let A : Act = ReadAnnounced q f in
-    let G = glog es in
+    let G = all_acts es in
     let hear = heard k es ok.0 in
-    let lift : (j : ℕ) (u : View) → get_elem? (run k es).views j ≡ some u → Safe k t (A ∷ G) (age es t) (reads t u.log) (ann u.log) u.number = λ j u e.
+    let lift : (j : ℕ) (u : View) → get_elem? (run k es).views j ≡ some u → Safe k t (A ∷ G) (age es t) (reads t u.log) (announces u.log) u.number = λ j u e.
     let o = old j u e in
     record {
       read_is = o.read_is;
@@ -155,7 +155,7 @@ safe_calm k es id v t table old (ReadAnnounced q f) same ok =
           let word_is = (hear j u e).word_is h.4 (le_trans h.3 (fits k es ok.0).passes) in
           let bound = h.1 four in
           let some_ann = h.2 in
-          let of : q ≡ u.number → f ≡ ann u.log = λ z. ok.1.2 ∙ (ap (λ (y : ℕ). word k es (announced_of y)) z ∙ word_is) in
+          let of : q ≡ u.number → f ≡ announces u.log = λ z. ok.1.2 ∙ (ap (λ (y : ℕ). word k es (announced_of y)) z ∙ word_is) in
           ⊎_elim
           (λ (x : (eqb q u.number ≡ true) × (eqb f 0 ≡ true)). let z : f ≡ 0 = eqb-true f 0 x.1 in let y = of (eqb-true q u.number x.0) in absurd (omega arith))
           (λ rest. ⊎_elim
@@ -167,19 +167,19 @@ safe_calm k es id v t table old (ReadAnnounced q f) same ok =
     set_views (λ j u. SafeAt k t (did id v A ∷ es) u) _ id (noted A v) (lift id v ok.1.0) (λ j u _ e. lift j u e)
 safe_calm k es id v t table old (Retire q f) same ok =
     let A : Act = Retire q f in
-    let G = glog es in
+    let G = all_acts es in
     let ne : q ≢ t = λ (e : q ≡ t). let z : age es t + 1 ≡ age es t = sym (here q t (age es t + 1) (age es t) e) ∙ same in absurd (omega (arith, z)) in
     let gl : goal t (A ∷ G) ≡ goal t G = miss q t (f + 1) (goal t G) ne in
     let cl : (p : ℕ) → clear t p (A ∷ G) ≡ clear t p G = λ p. miss q t false (clear t p G) ne in
-    let lift : (j : ℕ) (u : View) → get_elem? (run k es).views j ≡ some u → Safe k t (A ∷ G) (aged A t (age es t)) (reads t u.log) (ann u.log) u.number = λ j u e.
+    let lift : (j : ℕ) (u : View) → get_elem? (run k es).views j ≡ some u → Safe k t (A ∷ G) (aged A t (age es t)) (reads t u.log) (announces u.log) u.number = λ j u e.
     let o = old j u e in
-    subst (λ (z : ℕ). Safe k t (A ∷ G) z (reads t u.log) (ann u.log) u.number) (sym same)
+    subst (λ (z : ℕ). Safe k t (A ∷ G) z (reads t u.log) (announces u.log) u.number) (sym same)
     (record { read_is = λ r. let h = o.read_is r in (h.0, (λ four. let x = h.1 four in omega (arith, x, gl)), h.2, h.3, h.4); clear_is = λ four c r. o.clear_is four (sym (cl u.number) ∙ c) r }) in
     set_views (λ j u. SafeAt k t (did id v A ∷ es) u) _ id (noted A v) (lift id v ok.1.0) (λ j u _ e. lift j u e)
 safe_calm k es id v t table old act same ok =
-    let lift : (j : ℕ) (u : View) → get_elem? (run k es).views j ≡ some u → Safe k t (act ∷ glog es) (aged act t (age es t)) (reads t u.log) (ann u.log) u.number = λ j u e.
+    let lift : (j : ℕ) (u : View) → get_elem? (run k es).views j ≡ some u → Safe k t (act ∷ all_acts es) (aged act t (age es t)) (reads t u.log) (announces u.log) u.number = λ j u e.
     let o = old j u e in
-    subst (λ (z : ℕ). Safe k t (act ∷ glog es) z (reads t u.log) (ann u.log) u.number) (sym same) (record { read_is = o.read_is; clear_is = o.clear_is }) in
+    subst (λ (z : ℕ). Safe k t (act ∷ all_acts es) z (reads t u.log) (announces u.log) u.number) (sym same) (record { read_is = o.read_is; clear_is = o.clear_is }) in
     set_views (λ j u. SafeAt k t (did id v act ∷ es) u) _ id (noted act v) (lift id v ok.1.0) (λ j u _ e. lift j u e)
 
 pub safe : (k : Shape) (es : List Event) → Valid k es → (t : ℕ) → IsTable k t → (j : ℕ) (u : View) → get_elem? (run k es).views j ≡ some u → SafeAt k t es u
@@ -189,16 +189,16 @@ safe k (did id v a ∷ es) valid t table =
     let its = placed k es valid.0 t table in
     let link = linked k es valid.0 t table id v valid.1.0 in
     let hear = heard k es valid.0 in
-    let G = glog es in
+    let G = all_acts es in
     let g = age es t in
     let n = stage t v.log in
     let F : Act → Type 0 = λ b. Valid k (did id v b ∷ es) → (j : ℕ) (u : View) → get_elem? (run k (did id v b ∷ es)).views j ≡ some u → SafeAt k t (did id v b ∷ es) u in
     -- where no pass can have read t
     let none : (b : Act) → Valid k (did id v b ∷ es) → ((r : Bool) → reads_next t b r ≡ r) → ((j : ℕ) (u : View) → get_elem? (run k es).views j ≡ some u → reads t u.log ≡ true → ⊥) → (j : ℕ) (u : View) → get_elem? (run k (did id v b ∷ es)).views j ≡ some u → SafeAt k t (did id v b ∷ es) u = λ b ok same never.
-    set_views (λ j u. SafeAt k t (did id v b ∷ es) u) _ id (noted b v) (not_read k t (b ∷ G) (aged b t g) (reads t (b ∷ v.log)) (ann (b ∷ v.log)) v.number (λ r. never id v ok.1.0 (sym (same (reads t v.log)) ∙ r))) (λ j u _ e. not_read k t (b ∷ G) (aged b t g) (reads t u.log) (ann u.log) u.number (never j u e)) in
+    set_views (λ j u. SafeAt k t (did id v b ∷ es) u) _ id (noted b v) (not_read k t (b ∷ G) (aged b t g) (reads t (b ∷ v.log)) (announces (b ∷ v.log)) v.number (λ r. never id v ok.1.0 (sym (same (reads t v.log)) ∙ r))) (λ j u _ e. not_read k t (b ∷ G) (aged b t g) (reads t u.log) (announces u.log) u.number (never j u e)) in
     on_table k es id v t table F
     (λ f s one ok.
-    let was : g % 5 ≡ 0 = its.free_is (ap (bit (bt t)) (sym ok.1.2) ∙ one) in
+    let was : g % 5 ≡ 0 = its.free_is (ap (bit (free_bit_of t)) (sym ok.1.2) ∙ one) in
     none (TakeTable t f s) ok (λ r. refl) (λ j u e r. let h = ((old j u e).read_is r).0 in absurd (omega (arith, h, was))))
     (λ ok.
     none (GiveTable t) ok (λ r. refl)
@@ -220,7 +220,7 @@ safe k (did id v a ∷ es) valid t table =
     let A : Act = PutRoot o r (suc t) in
     let was = (its.roots o ok.1.3.0 (sym ok.1.3.2)).0 in
     let now : aged A t g ≡ g + 1 = miss r (suc t) (g + 1) (cond (eqb (suc t) (suc t)) (g + 1) g) ne ∙ hit (suc t) (g + 1) g in
-    let lift : (j : ℕ) (u : View) → get_elem? (run k es).views j ≡ some u → Safe k t (A ∷ G) (aged A t g) (reads t u.log) (ann u.log) u.number = λ j u e.
+    let lift : (j : ℕ) (u : View) → get_elem? (run k es).views j ≡ some u → Safe k t (A ∷ G) (aged A t g) (reads t u.log) (announces u.log) u.number = λ j u e.
     let o = old j u e in
     record { read_is = λ r. let h = o.read_is r in (omega (arith, now, was), (λ z. absurd (omega (arith, z, now, was))), h.2, h.3, h.4); clear_is = λ z. absurd (omega (arith, z, now, was)) } in
     set_views (λ j u. SafeAt k t (did id v A ∷ es) u) _ id (noted A v) (lift id v ok.1.0) (λ j u _ e. lift j u e))
@@ -231,7 +231,7 @@ safe k (did id v a ∷ es) valid t table =
     let now : aged A t g ≡ g + 1 = hit t (g + 1) g in
     let found : f ≡ word k es write_number = ok.1.2 in
     let goal_is : goal t (A ∷ G) ≡ f + 1 = hit t (f + 1) (goal t G) in
-    let lift : (j : ℕ) (u : View) → get_elem? (run k es).views j ≡ some u → Safe k t (A ∷ G) (aged A t g) (reads t u.log) (ann u.log) u.number = λ j u e.
+    let lift : (j : ℕ) (u : View) → get_elem? (run k es).views j ≡ some u → Safe k t (A ∷ G) (aged A t g) (reads t u.log) (announces u.log) u.number = λ j u e.
     let o = old j u e in
     let bound = (hear j u e).low in
     record { read_is = λ r. let h = o.read_is r in (omega (arith, now, was, three), (λ _. omega (arith, goal_is, found, bound)), h.2, h.3, h.4); clear_is = λ z c. off (sym (hit t false (clear t u.number G)) ∙ c) } in
@@ -249,7 +249,7 @@ safe k (joined id v other w ∷ es) valid t table =
     (λ j u _. set_views (λ j u. SafeAt k t (joined id v other w ∷ es) u) _ id (both v w) (record { read_is = m.read_is; clear_is = m.clear_is }) (λ j u _ e. let o = old j u e in record { read_is = o.read_is; clear_is = o.clear_is }) j u)
 
 -- a table that a pass has found in a root since it last announced is not free
-pub not_free : (k : Shape) (es : List Event) → Valid k es → (t : ℕ) → IsTable k t → (j : ℕ) (u : View) → get_elem? (run k es).views j ≡ some u → reads t u.log ≡ true → bit (bt t) (word k es (bits (fw t))) ≢ 1
+pub not_free : (k : Shape) (es : List Event) → Valid k es → (t : ℕ) → IsTable k t → (j : ℕ) (u : View) → get_elem? (run k es).views j ≡ some u → reads t u.log ≡ true → bit (free_bit_of t) (word k es (bits (free_word_of t))) ≢ 1
 not_free k es valid t table j u at r free =
     let a = ((safe k es valid t table j u at).read_is r).0 in
     let b = (placed k es valid t table).free_is free in

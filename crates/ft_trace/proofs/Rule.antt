@@ -1,5 +1,5 @@
 -- The laws.
-use Rattle.std.proofs.Common.{◌≡◌, ℕ, ◌%◌, List, [], ◌∷◌, ◌++◌, sym, ap, ◌∙◌, subst, inl, inr, ⊎_elim, arith, le_trans}
+use Rattle.std.proofs.Common.{◌≡◌, ℕ, ◌%◌, List, [], ◌∷◌, ◌++◌, sym, ap, ◌∙◌, subst, inl, inr, ⊎_elim, arith, le_trans, suc}
 use mathlib.Core.Logic.{dite}
 use native.Mathlib.Decide.{ℕ_discrete}
 use Rattle.ft_trace.specs.Acts.{stage}
@@ -24,7 +24,7 @@ use Rattle.ft_trace.proofs.Reusing.{safe, not_free}
 use Rattle.ft_trace.proofs.Rests.{rests, one_root}
 use Rattle.ft_trace.proofs.Evens.{quiet_shut}
 use Rattle.ft_trace.proofs.Nothing.{no_table_stands}
-use Rattle.ft_trace.proofs.Held.{words_known, content_known, hand_known}
+use Rattle.ft_trace.proofs.Held.{root_known, words_known, content_known, hand_known}
 use Rattle.ft_trace.proofs.Sounds.{LaterIn, sound_at, laters}
 use Rattle.ft_trace.proofs.Ones.{words_stand}
 use Rattle.ft_trace.proofs.Owed as owed_in
@@ -35,6 +35,15 @@ use Rattle.ft_trace.proofs.Optimistic.{bare_at, looked_at}
 use Rattle.ft_trace.proofs.Anew.{is_new}
 use Rattle.ft_trace.proofs.Rooms.{counter_room, version_room}
 use Rattle.ft_trace.proofs.Budgets.{goals_room}
+use Rattle.std.proofs.Common.{eqb, ◌+◌, ◌%◌}
+use Rattle.ft_trace.specs.Acts.{debt}
+use Rattle.ft_trace.specs.Words.{root_in}
+use Rattle.ft_trace.specs.Holds.{held}
+use Rattle.ft_trace.specs.Grants.{after_clear, ListsMayBeCleared, ClearedTablesMayBeGivenBack, TakingsEnd}
+use Rattle.ft_trace.proofs.Cases.{miss, here}
+use Rattle.ft_trace.proofs.Clearing.{clear_possible}
+use Rattle.ft_trace.proofs.Cycles.{cycle_possible}
+use Rattle.ft_trace.proofs.Grants.{taking_ends}
 
 pub locks_name_their_holders : LocksNameHolders
 locks_name_their_holders k es valid o low = (names k es valid o low, holder k es valid o low, one_holder k es valid o low)
@@ -147,3 +156,20 @@ changed_roots_are_new = is_new
 
 pub numbers_have_room : NumbersHaveRoom
 numbers_have_room k es valid = (counter_room k es valid, goals_room k es (fits k es valid).some_pass valid, λ o low. version_room k es valid o low)
+
+pub lists_may_be_cleared : ListsMayBeCleared
+lists_may_be_cleared v o values m is = clear_possible v o values m.live m.possible m.few m.low m.mine m.quiet m.spare m.none m.room is
+
+pub cleared_tables_may_be_given_back : ClearedTablesMayBeGivenBack
+cleared_tables_may_be_given_back v o t values m is first one idle names =
+    let a = clear_possible v o values m.live m.possible m.few m.low m.mine m.quiet m.spare m.none m.room is in
+    let w = after_clear v o a.0 a.1 a.2 a.3 in
+    let n = stage t v.log in
+    let three : stage t w.log ≡ 3 = miss 0 (suc t) 0 (cond (eqb (root_in (held o v)) (suc t)) 3 n) (λ e. omega (arith, e)) ∙ here (root_in (held o v)) (suc t) 3 n names in
+    let more : debt w.log ≡ debt v.log + 1 = miss (root_in (held o v)) 0 (debt v.log) (debt v.log + 1) (λ e. omega (arith, e, names)) in
+    let table = root_table v.shape m.possible.0 m.possible.2.0 o m.low t (sym (root_known v o m.low m.mine m.possible.0 m.possible.1 m.possible.2) ∙ names) in
+    let c = cycle_possible w t first a.4 one m.few table three (omega (arith, more)) idle in
+    (a.0, a.1, a.2, a.3, c.0, c.1, c.2)
+
+pub takings_end : TakingsEnd
+takings_end = taking_ends

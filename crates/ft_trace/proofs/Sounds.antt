@@ -9,7 +9,7 @@ use Rattle.ft_trace.specs.declared.Shape.{Shape}
 use Rattle.ft_trace.specs.declared.View.{View}
 use Rattle.ft_trace.specs.declared.Act.{Act}
 use Rattle.ft_trace.specs.declared.Act.TheVariants.{PutRoot, PutTable, PutFresh, Commit, ReadTable}
-use Rattle.ft_trace.specs.Addrs.{containers_in, cell, cls, size, IsTable, at}
+use Rattle.ft_trace.specs.Addrs.{containers_in, cell, class_of, size, IsTable, at}
 use Rattle.ft_trace.specs.Acts.{place}
 use Rattle.ft_model.specs.declared.content.Content.{Content}
 use Rattle.ft_trace.specs.Worlds.{Kept, kept, kind_in, changes}
@@ -28,19 +28,19 @@ use Rattle.ft_trace.proofs.ByKind.{as_self, as_trans, as_later, as_sound, as_cle
 
 -- what stays of t while it is the table of o, and what holds of it
 abbrev pub LaterIn : Shape → ℕ → ℕ → List ℕ → List ℕ → Type 0
-LaterIn k o t ws zs = LaterAs (kind_in k.kinds o) (cls t) ws zs
+LaterIn k o t ws zs = LaterAs (kind_in k.kinds o) (class_of t) ws zs
 
 abbrev pub SoundIn : Shape → ℕ → ℕ → List ℕ → Content → Type 0
-SoundIn k o t ws c = SoundAs (kind_in k.kinds o) k.texts (cls t) ws c
+SoundIn k o t ws c = SoundAs (kind_in k.kinds o) k.texts (class_of t) ws c
 
 abbrev pub content : Shape → List Event → ℕ → Content
 content k es o = (kept k.kinds (history es) o).content
 
 pub in_self : (k : Shape) (o t : ℕ) (ws : List ℕ) → LaterIn k o t ws ws
-in_self k o t ws = as_self (kind_in k.kinds o) (cls t) ws
+in_self k o t ws = as_self (kind_in k.kinds o) (class_of t) ws
 
 pub in_trans : (k : Shape) (o t : ℕ) (ws ys zs : List ℕ) → LaterIn k o t ws ys → LaterIn k o t ys zs → LaterIn k o t ws zs
-in_trans k o t ws ys zs a b = as_trans (kind_in k.kinds o) (cls t) ws ys zs a b
+in_trans k o t ws ys zs a b = as_trans (kind_in k.kinds o) (class_of t) ws ys zs a b
 
 -- what the action is to the words of t
 module _ (k : Shape) (es : List Event) (id : ℕ) (v : View) (t : ℕ) (table : IsTable k t) (F : Act → Type 0) (put : (o i x : ℕ) → F (PutTable o t i x)) (fill : (i x : ℕ) → F (PutFresh t i x)) (other : (a : Act) → (May k (run k es) (history es) v a → tab k (did id v a ∷ es) t ≡ tab k es t) → F a) where
@@ -53,7 +53,7 @@ module _ (k : Shape) (es : List Event) (id : ℕ) (v : View) (t : ℕ) (table : 
   on_cells (ReadTable q i f) = other (ReadTable q i f) (λ may. table_same k t (run k (did id v (ReadTable q i f) ∷ es)).words (run k es).words (λ j low. loaded k es id v (ReadTable q i f) (λ n. refl) (cell t j)))
   on_cells act = other act (apart_from act (λ j e. absurd (cc)))
 
-pub put_tab : (k : Shape) (es : List Event) (id : ℕ) (v : View) (o t i x : ℕ) → IsTable k t → i < size (cls t) → tab k (did id v (PutTable o t i x) ∷ es) t ≡ slice_set (tab k es t) i x
+pub put_tab : (k : Shape) (es : List Event) (id : ℕ) (v : View) (o t i x : ℕ) → IsTable k t → i < size (class_of t) → tab k (did id v (PutTable o t i x) ∷ es) t ≡ slice_set (tab k es t) i x
 put_tab k es id v o t i x table small = table_set k t (run k es).words i x small (subst (λ (n : ℕ). at k (cell t i) < n) (sym (wide k es)) (at_low k (cell t i) (table, small)))
 
 -- a fresh table is not current
@@ -72,7 +72,7 @@ later_one k es (did id v a) valid t table two =
     (λ p i x may.
     let same : p ≡ o = sym ((placed k es valid.0 t table).roots p may.0 may.4).1 in
     let care = subst (λ (z : ℕ). CarefulFor k (run k es).words z t (content k es z) i x) same may.5 in
-    subst (LaterIn k o t ws) (sym (put_tab k es id v p t i x table may.2)) (as_later (kind_in k.kinds o) (cls t) ws (content k es o) i x (table_long k t (run k es).words) may.2 care))
+    subst (LaterIn k o t ws) (sym (put_tab k es id v p t i x table may.2)) (as_later (kind_in k.kinds o) (class_of t) ws (content k es o) i x (table_long k t (run k es).words) may.2 care))
     (λ i x may. absurd (not_fresh k es valid.0 id v valid.1.0 t i x two may))
     (λ b same may. subst (LaterIn k o t ws) (sym (same may)) (in_self k o t ws))
     a valid.1.3
@@ -98,7 +98,7 @@ sound_content k es v o t names old (Commit call r f s) may =
     dite (ℕ_discrete (changes call) o)
     (λ (e : changes call ≡ o).
     let clear : ClearFor k (run k es).words o t (kept k.kinds cs o).content (kept k.kinds (call ∷ cs) o).content = subst (λ (z : ℕ). (q : ℕ) → root k es z ≡ suc q → ClearFor k (run k es).words z q (kept k.kinds cs z).content (kept k.kinds (call ∷ cs) z).content) e may.5 t names in
-    as_clear (kind_in k.kinds o) k.texts (cls t) ws (kept k.kinds cs o).content (kept k.kinds (call ∷ cs) o).content clear old)
+    as_clear (kind_in k.kinds o) k.texts (class_of t) ws (kept k.kinds cs o).content (kept k.kinds (call ∷ cs) o).content clear old)
     (λ ne. subst (λ (z : Kept). SoundIn k o t ws z.content) (sym (untouched k.kinds call cs o ne)) old)
 sound_content k es v o t names old act may = old
 
@@ -122,7 +122,7 @@ sound_at k (did id v a ∷ es) valid o low t e =
     (λ p i x may old.
     let same : p ≡ o = sym ((placed k es ok.0 t table).roots p may.0 may.4).1 ∙ two.1 in
     let care = subst (λ (z : ℕ). CarefulFor k (run k es).words z t (content k es z) i x) same may.5 in
-    subst (λ (z : List ℕ). SoundIn k o t z (content k es o)) (sym (put_tab k es id v p t i x table may.2)) (as_sound (kind_in k.kinds o) k.texts (cls t) (tab k es t) (content k es o) i x (table_long k t (run k es).words) may.2 care old))
+    subst (λ (z : List ℕ). SoundIn k o t z (content k es o)) (sym (put_tab k es id v p t i x table may.2)) (as_sound (kind_in k.kinds o) k.texts (class_of t) (tab k es t) (content k es o) i x (table_long k t (run k es).words) may.2 care old))
     (λ i x may old. absurd (not_fresh k es ok.0 id v ok.1.0 t i x two.0 may))
     (λ b same may old. subst (λ (z : List ℕ). SoundIn k o t z (kept k.kinds (writes_of b (history es)) o).content) (sym (same may)) old)
     b ok.1.3 then_)

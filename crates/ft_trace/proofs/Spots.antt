@@ -7,7 +7,7 @@ use Rattle.ft_trace.specs.declared.Shape.{Shape}
 use Rattle.ft_trace.specs.declared.View.{View}
 use Rattle.ft_trace.specs.declared.Act.{Act}
 use Rattle.ft_trace.specs.declared.Act.TheVariants.{ReadRoot, ReadTable}
-use Rattle.ft_trace.specs.Addrs.{IsTable, cls, size, containers_in}
+use Rattle.ft_trace.specs.Addrs.{IsTable, class_of, size, containers_in}
 use Rattle.ft_trace.specs.Acts.{place, Reports, reads}
 use Rattle.ft_trace.specs.Ages.{age, whose}
 use Rattle.ft_trace.specs.Finding.{Online, Window}
@@ -119,5 +119,5 @@ root_again k es valid j u at o t low walk win xs a rest is =
     (b.spot.es, under_trans b.spot.es s.spot.es es b.under s.under, b.spot.valid, b.tells, named_by k b.spot.es b.spot.valid o t s.table b.spot.now (b.whom ∙ s.whom))
 
 -- what a read of the table found
-pub found : (k : Shape) (t j i f : ℕ) (start rest : List Act) (es : List Event) → i < size (cls t) → (b : Back k t j start es (ReadTable t i f) rest) → f ≡ slice_index (tab k b.spot.es t) i
+pub found : (k : Shape) (t j i f : ℕ) (start rest : List Act) (es : List Event) → i < size (class_of t) → (b : Back k t j start es (ReadTable t i f) rest) → f ≡ slice_index (tab k b.spot.es t) i
 found k t j i f start rest es small b = b.tells ∙ sym (table_at k t (run k b.spot.es).words i small)

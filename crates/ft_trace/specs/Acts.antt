@@ -8,7 +8,7 @@ use Rattle.ft_trace.specs.declared.Shape.{Shape}
 use Rattle.ft_model.specs.declared.call.Call.{Call}
 use Rattle.ft_trace.specs.declared.View.{View}
 use Rattle.ft_trace.specs.Bits.{bit, bit_on, bit_off}
-use Rattle.ft_trace.specs.Addrs.{Addr, counter, write_number, announced_of, count_of_class, bits, lock_of, version_of, block, header, cell, cls, at, fw, bt}
+use Rattle.ft_trace.specs.Addrs.{Addr, counter, write_number, announced_of, count_of_class, bits, lock_of, version_of, block, header, cell, class_of, at, free_word_of, free_bit_of}
 
 -- the word of an action
 abbrev pub place : Act → Addr
@@ -32,32 +32,32 @@ place (LowerCount c old f) = count_of_class c
 place (RaiseCount c f) = count_of_class c
 place (ReadCount c f) = count_of_class c
 place (ReadFree w f) = bits w
-place (TakeTable t f s) = bits (fw t)
-place (GiveTable t) = bits (fw t)
+place (TakeTable t f s) = bits (free_word_of t)
+place (GiveTable t) = bits (free_word_of t)
 place (Retire t f) = write_number
 place (Announce p x) = announced_of p
 place (ReadAnnounced p f) = announced_of p
 place (WriteNumber f) = write_number
 
 -- what the word becomes, by the pass of this number, where n was there
-abbrev pub left : ℕ → Act → ℕ → ℕ
-left by (Lock o f s) n = either (n == 0) by n
-left by (Unlock o) n = 0
-left by (StartWrite o f) n = (n + 1) % 2 ^ 64
-left by (PutBlock o i x) n = x
-left by (PutRoot o r old) n = r
-left by (PutTable o t i x) n = x
-left by (PutFresh t i x) n = x
-left by (PutHeader t x) n = x
-left by (Commit c r f s) n = (n + 1) % 2 ^ 64
-left by (StopWrite o f) n = (n + 1) % 2 ^ 64
-left by (LowerCount c old f) n = either (n == old) (old - 1) n
-left by (RaiseCount c f) n = (n + 1) % 2 ^ 64
-left by (TakeTable t f s) n = bit_off (bt t) n
-left by (GiveTable t) n = bit_on (bt t) n
-left by (Retire t f) n = (n + 1) % 2 ^ 64
-left by (Announce p x) n = x
-left by act n = n
+abbrev pub word_after : ℕ → Act → ℕ → ℕ
+word_after by (Lock o f s) n = either (n == 0) by n
+word_after by (Unlock o) n = 0
+word_after by (StartWrite o f) n = (n + 1) % 2 ^ 64
+word_after by (PutBlock o i x) n = x
+word_after by (PutRoot o r old) n = r
+word_after by (PutTable o t i x) n = x
+word_after by (PutFresh t i x) n = x
+word_after by (PutHeader t x) n = x
+word_after by (Commit c r f s) n = (n + 1) % 2 ^ 64
+word_after by (StopWrite o f) n = (n + 1) % 2 ^ 64
+word_after by (LowerCount c old f) n = either (n == old) (old - 1) n
+word_after by (RaiseCount c f) n = (n + 1) % 2 ^ 64
+word_after by (TakeTable t f s) n = bit_off (free_bit_of t) n
+word_after by (GiveTable t) n = bit_on (free_bit_of t) n
+word_after by (Retire t f) n = (n + 1) % 2 ^ 64
+word_after by (Announce p x) n = x
+word_after by act n = n
 
 -- the number that the action says it found was there
 abbrev pub Reports : Act → ℕ → Type 0
@@ -81,38 +81,38 @@ Reports (WriteNumber f) n = f ≡ n
 Reports act n = Unit {0}
 
 -- the pass has the lock of o
-abbrev pub has_next : ℕ → Act → Bool → Bool
-has_next o (Lock p f s) b = cond (p == o) (cond (f == 0) true b) b
-has_next o (Unlock p) b = cond (p == o) false b
-has_next o act b = b
+abbrev pub has_lock_next : ℕ → Act → Bool → Bool
+has_lock_next o (Lock p f s) b = cond (p == o) (cond (f == 0) true b) b
+has_lock_next o (Unlock p) b = cond (p == o) false b
+has_lock_next o act b = b
 
-abbrev pub has : ℕ → List Act → Bool
-has o [] = false
-has o (a ∷ l) = has_next o a (has o l)
+abbrev pub has_lock : ℕ → List Act → Bool
+has_lock o [] = false
+has_lock o (a ∷ l) = has_lock_next o a (has_lock o l)
 
 -- the pass has made the version of o odd
-abbrev pub writes_next : ℕ → Act → Bool → Bool
-writes_next o (StartWrite p f) b = cond (p == o) true b
-writes_next o (StopWrite p f) b = cond (p == o) false b
-writes_next o act b = b
+abbrev pub is_writing_next : ℕ → Act → Bool → Bool
+is_writing_next o (StartWrite p f) b = cond (p == o) true b
+is_writing_next o (StopWrite p f) b = cond (p == o) false b
+is_writing_next o act b = b
 
-abbrev pub writes : ℕ → List Act → Bool
-writes o [] = false
-writes o (a ∷ l) = writes_next o a (writes o l)
+abbrev pub is_writing : ℕ → List Act → Bool
+is_writing o [] = false
+is_writing o (a ∷ l) = is_writing_next o a (is_writing o l)
 
 -- the pass has committed since it made the version of o odd
-abbrev pub done_next : ℕ → Act → Bool → Bool
-done_next o (StartWrite p f) b = cond (p == o) false b
-done_next o (Commit c r f s) b = true
-done_next o act b = b
+abbrev pub has_committed_next : ℕ → Act → Bool → Bool
+has_committed_next o (StartWrite p f) b = cond (p == o) false b
+has_committed_next o (Commit c r f s) b = true
+has_committed_next o act b = b
 
-abbrev pub done : ℕ → List Act → Bool
-done o [] = false
-done o (a ∷ l) = done_next o a (done o l)
+abbrev pub has_committed : ℕ → List Act → Bool
+has_committed o [] = false
+has_committed o (a ∷ l) = has_committed_next o a (has_committed o l)
 
 -- the pass has the table t: 1 fresh, 3 taken out of a root, 4 retired, and 0 where it has it not
 abbrev pub stage_next : ℕ → Act → ℕ → ℕ
-stage_next t (TakeTable p f s) n = cond (p == t) (cond (bit (bt t) f == 1) 1 n) n
+stage_next t (TakeTable p f s) n = cond (p == t) (cond (bit (free_bit_of t) f == 1) 1 n) n
 stage_next t (GiveTable p) n = cond (p == t) 0 n
 stage_next t (PutRoot o r old) n = cond (r == suc t) 0 (cond (old == suc t) 3 n)
 stage_next t (Retire p f) n = cond (p == t) 4 n
@@ -132,13 +132,13 @@ goal t [] = 0
 goal t (a ∷ l) = goal_next t a (goal t l)
 
 -- what the pass announces, 0 for offline
-abbrev pub ann_next : Act → ℕ → ℕ
-ann_next (Announce p x) n = x
-ann_next act n = n
+abbrev pub announces_next : Act → ℕ → ℕ
+announces_next (Announce p x) n = x
+announces_next act n = n
 
-abbrev pub ann : List Act → ℕ
-ann [] = 0
-ann (a ∷ l) = ann_next a (ann l)
+abbrev pub announces : List Act → ℕ
+announces [] = 0
+announces (a ∷ l) = announces_next a (announces l)
 
 -- the pass has found t in a root since it last announced
 abbrev pub reads_next : ℕ → Act → Bool → Bool
@@ -180,12 +180,13 @@ abbrev pub debt : List Act → ℕ
 debt [] = 0
 debt (a ∷ l) = debt_next a (debt l)
 
--- what the pass is in the midst of: 0 nothing, 2 c + 1 it has lowered the count of class c and has neither a bit nor raised it again, 2 c + 2 it has set a bit of class c and not yet raised the count
+-- what the pass is in the midst of: 0 nothing, 2 c + 1 it has lowered the count of class c and has neither a bit nor
+-- raised it again, 2 c + 2 it has set a bit of class c and not yet raised the count
 abbrev pub flight_next : Act → ℕ → ℕ
 flight_next (LowerCount c old f) n = cond (f == old) (2 * c + 1) n
 flight_next (RaiseCount c f) n = 0
-flight_next (TakeTable t f s) n = cond (bit (bt t) f == 1) 0 n
-flight_next (GiveTable t) n = 2 * cls t + 2
+flight_next (TakeTable t f s) n = cond (bit (free_bit_of t) f == 1) 0 n
+flight_next (GiveTable t) n = 2 * class_of t + 2
 flight_next act n = n
 
 abbrev pub flight : List Act → ℕ
@@ -213,26 +214,75 @@ abbrev pub left_next : Act → ℕ → ℕ
 left_next (Commit c r f s) n = n - 1
 left_next act n = n
 
+-- what a pass knows after one more action
 abbrev pub noted : Act → View → View
-noted a v = record { number = v.number; next = v.next; parts = v.parts; left = left_next a v.left; shape = v.shape; log = a ∷ v.log; entries = entries_next a v.entries }
+noted a v =
+    record {
+      number = v.number;
+      next = v.next;
+      parts = v.parts;
+      left = left_next a v.left;
+      shape = v.shape;
+      log = a ∷ v.log;
+      entries = entries_next a v.entries;
+    }
 
 -- the first pass
 abbrev pub starter : Shape → View
-starter k = record { number = 1; next = 2; parts = k.passes; left = k.passes * k.calls; shape = k; log = []; entries = [] }
+starter k =
+    record {
+      number = 1;
+      next = 2;
+      parts = k.passes;
+      left = k.passes * k.calls;
+      shape = k;
+      log = [];
+      entries = [];
+    }
 
 -- the pass that makes another, and the one that it makes
 abbrev pub maker : View → View
-maker v = record { number = v.number; next = suc v.next; parts = v.parts - 1; left = v.left - v.shape.calls; shape = v.shape; log = v.log; entries = v.entries }
+maker v =
+    record {
+      number = v.number;
+      next = suc v.next;
+      parts = v.parts - 1;
+      left = v.left - v.shape.calls;
+      shape = v.shape;
+      log = v.log;
+      entries = v.entries;
+    }
 
 abbrev pub made : View → View
-made v = record { number = v.next; next = 0; parts = 1; left = v.shape.calls; shape = v.shape; log = []; entries = [] }
+made v =
+    record {
+      number = v.next;
+      next = 0;
+      parts = 1;
+      left = v.shape.calls;
+      shape = v.shape;
+      log = [];
+      entries = [];
+    }
 
 -- what two passes know, in the first one's place, and the second afterwards
 abbrev pub both : View → View → View
-both v w = record { number = v.number; next = v.next; parts = v.parts + w.parts; left = v.left + w.left; shape = v.shape; log = v.log; entries = w.entries ++ v.entries }
+both v w =
+    record {
+      number = v.number;
+      next = v.next;
+      parts = v.parts + w.parts;
+      left = v.left + w.left;
+      shape = v.shape;
+      log = v.log;
+      entries = w.entries ++ v.entries;
+    }
+
+abbrev pub no_shape : Shape
+no_shape = record { kinds = []; texts = []; tables = []; heap = 0; passes = 0; calls = 0 }
 
 abbrev pub spent : View
-spent = record { number = 0; next = 0; parts = 0; left = 0; shape = record { kinds = []; texts = []; tables = []; heap = 0; passes = 0; calls = 0 }; log = []; entries = [] }
+spent = record { number = 0; next = 0; parts = 0; left = 0; shape = no_shape; log = []; entries = [] }
 
 -- the words of the bank, as the pass knows them: right for what it has
 abbrev pub mem_next : Shape → Act → List ℕ → List ℕ

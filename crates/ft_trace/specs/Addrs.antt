@@ -30,18 +30,18 @@ abbrev pub tables_in : Shape → ℕ → ℕ
 tables_in k c = count_of k.tables c
 
 -- A table is named by its root word less 1: its class, and its number in the class.
-unfoldable pub cls : ℕ → ℕ
-cls t = t / 65536
+unfoldable pub class_of : ℕ → ℕ
+class_of t = t / 65536
 
-unfoldable pub num : ℕ → ℕ
-num t = t % 65536
+unfoldable pub number_of : ℕ → ℕ
+number_of t = t % 65536
 
 -- the free word of the table, and its bit there
-unfoldable pub fw : ℕ → ℕ
-fw t = 16 * (cls t - 3) + num t / 64
+unfoldable pub free_word_of : ℕ → ℕ
+free_word_of t = 16 * (class_of t - 3) + number_of t / 64
 
-unfoldable pub bt : ℕ → ℕ
-bt t = num t % 64
+unfoldable pub free_bit_of : ℕ → ℕ
+free_bit_of t = number_of t % 64
 
 -- index slots of a table of this class, or items of a list's; and entries
 unfoldable pub slots : ℕ → ℕ
@@ -55,14 +55,14 @@ abbrev pub size : ℕ → ℕ
 size c = slots c + 8 * places c
 
 abbrev pub IsTable : Shape → ℕ → Type 0
-IsTable k t = IsClass (cls t) × (num t < tables_in k (cls t)) × (num t < 1024)
+IsTable k t = IsClass (class_of t) × (number_of t < tables_in k (class_of t)) × (number_of t < 1024)
 
 -- where the tables begin, where one does, and where they end
 unfoldable pub far : Shape → ℕ
 far k = heap_start (containers_in k) k.heap k.passes
 
 unfoldable pub start_of : Shape → ℕ → ℕ
-start_of k t = far k + words_below k.tables (cls t) + num t * table_size (cls t)
+start_of k t = far k + words_below k.tables (class_of t) + number_of t * table_size (class_of t)
 
 unfoldable pub extent : Shape → ℕ
 extent k = far k + words_below k.tables 17
@@ -87,7 +87,7 @@ Inside k (lock_of o) = o < containers_in k
 Inside k (version_of o) = o < containers_in k
 Inside k (block o i) = (o < containers_in k) × (i < 6)
 Inside k (header t) = IsTable k t
-Inside k (cell t i) = IsTable k t × (i < size (cls t))
+Inside k (cell t i) = IsTable k t × (i < size (class_of t))
 Inside k a = Unit {0}
 
 -- the counts at the start, from class c on
@@ -101,7 +101,8 @@ least b n = cond b n 64
 
 abbrev pub free_word : List ℕ → ℕ → ℕ
 free_word tables w =
-    full (least (nat_lt (count_of tables (3 + w / 16) - 64 * (w % 16)) 64) (count_of tables (3 + w / 16) - 64 * (w % 16)))
+    full (least (nat_lt (count_of tables (3 + w / 16) - 64 * (w % 16)) 64) (count_of tables (3
+    + w / 16) - 64 * (w % 16)))
 
 abbrev pub free_words : List ℕ → ℕ → ℕ → List ℕ
 free_words tables w zero = []
@@ -110,4 +111,5 @@ free_words tables w (suc n) = free_word tables w ∷ free_words tables (suc w) n
 -- the words at the start: the write number is 1, all passes are offline, and all tables are free
 abbrev pub opening : Shape → List ℕ
 opening k =
-    0 ∷ 1 ∷ (replicate 64 0 ++ (free_counts k.tables 3 14 ++ (free_words k.tables 0 224 ++ replicate (extent k - 304) 0)))
+    0 ∷ 1 ∷ (replicate 64 0 ++ (free_counts k.tables 3 14 ++ (free_words k.tables 0 224
+    ++ replicate (extent k - 304) 0)))

@@ -1,14 +1,15 @@
--- Where each table is, and how often it was taken, as one number that never falls: 0 free, 1 fresh in a hand, 2 current, 3 taken out of a root, 4 retired, 5 free again, and so on.
+-- Where each table is, and how often it was taken, as one number that never falls: 0 free, 1 fresh in a hand, 2
+-- current, 3 taken out of a root, 4 retired, 5 free again, and so on.
 use Rattle.std.specs.Prelude.{ℕ, suc, ◌+◌, ◌-◌, ◌%◌, ◌==◌, Bool, cond, List, [], ◌∷◌}
 use Rattle.ft_trace.specs.declared.Act.{Act}
 use Rattle.ft_trace.specs.declared.Act.TheVariants.{TakeTable, GiveTable, PutRoot, Retire, ReadRoot}
 use Rattle.ft_trace.specs.Bits.{bit}
-use Rattle.ft_trace.specs.Addrs.{bt}
+use Rattle.ft_trace.specs.Addrs.{free_bit_of}
 use Rattle.ft_trace.specs.Acts.{reads}
 use Rattle.ft_trace.specs.Traces.{Event, did, forked, joined}
 
 abbrev pub aged : Act → ℕ → ℕ → ℕ
-aged (TakeTable p f s) t g = cond (p == t) (cond (bit (bt t) f == 1) (g + 1) g) g
+aged (TakeTable p f s) t g = cond (p == t) (cond (bit (free_bit_of t) f == 1) (g + 1) g) g
 aged (GiveTable p) t g = cond (p == t) (g + 5 - g % 5) g
 aged (PutRoot o r old) t g = cond (r == suc t) (g + 1) (cond (old == suc t) (g + 1) g)
 aged (Retire p f) t g = cond (p == t) (g + 1) g
@@ -22,7 +23,7 @@ age (joined id v other w ∷ es) t = age es t
 
 -- the seat that has it, or the container whose root names it
 abbrev pub gone_to : ℕ → Act → ℕ → ℕ → ℕ
-gone_to id (TakeTable p f s) t w = cond (p == t) (cond (bit (bt t) f == 1) id w) w
+gone_to id (TakeTable p f s) t w = cond (p == t) (cond (bit (free_bit_of t) f == 1) id w) w
 gone_to id (PutRoot o r old) t w = cond (r == suc t) o (cond (old == suc t) id w)
 gone_to id act t w = w
 
@@ -44,8 +45,8 @@ seen (forked id v ∷ es) j t = seen es j t
 seen (joined id v other w ∷ es) j t = seen es j t
 
 -- all actions, newest first
-abbrev pub glog : List Event → List Act
-glog [] = []
-glog (did id v a ∷ es) = a ∷ glog es
-glog (forked id v ∷ es) = glog es
-glog (joined id v other w ∷ es) = glog es
+abbrev pub all_acts : List Event → List Act
+all_acts [] = []
+all_acts (did id v a ∷ es) = a ∷ all_acts es
+all_acts (forked id v ∷ es) = all_acts es
+all_acts (joined id v other w ∷ es) = all_acts es

@@ -47,7 +47,8 @@ pub record Careful (n m : ℕ) (ws : List ℕ) (c : Pairs) (i x : ℕ) : Type 0 
   pub key : (p w : ℕ) → p < m → (w ≡ 1) ⊎ (w ≡ 3) → i ≡ entry_at n p w → entry_of n ws p 2 ≡ 0
   -- a kind is put last, and changes from live to deleted alone
   pub kind : (p : ℕ) → p < m → i ≡ entry_at n p 2 → x ≢ 0
-  pub dies : (p : ℕ) → p < m → i ≡ entry_at n p 2 → entry_of n ws p 2 ≢ 0 → (entry_of n ws p 2 < 3) × (x ≡ entry_of n ws p 2 + 2)
+  pub dies : (p : ℕ) → p < m → i ≡ entry_at n p 2 → entry_of n ws p 2 ≢ 0 → (entry_of n ws p 2 < 3)
+      × (x ≡ entry_of n ws p 2 + 2)
   -- versions go up by one; that of a deleted entry stays even
   pub version : (p : ℕ) → p < m → i ≡ entry_at n p 0 → x ≡ suc (entry_of n ws p 0)
   pub opens : (p : ℕ) → p < m → i ≡ entry_at n p 0 → x % 2 ≡ 1 → entry_of n ws p 2 < 3
@@ -65,8 +66,10 @@ pub record Clear (walk : Key → List ℕ) (n m : ℕ) (ws : List ℕ) (c d : Pa
 pub record Later (n m : ℕ) (ws zs : List ℕ) : Type 0 where
   pub index : (s : ℕ) → s < n → index_of ws s ≢ 0 → index_of zs s ≡ index_of ws s
   pub kind : (p : ℕ) → p < m → entry_of n ws p 2 ≢ 0
-      → (entry_of n zs p 2 ≡ entry_of n ws p 2) ⊎ ((entry_of n ws p 2 < 3) × (entry_of n zs p 2 ≡ entry_of n ws p 2 + 2))
+      → (entry_of n zs p 2 ≡ entry_of n ws p 2) ⊎ ((entry_of n ws p 2 < 3)
+      × (entry_of n zs p 2 ≡ entry_of n ws p 2 + 2))
   pub key : (p : ℕ) → p < m → entry_of n ws p 2 ≢ 0 → entry_of n zs p 3 ≡ entry_of n ws p 3
   pub version : (p : ℕ) → p < m → entry_of n ws p 0 ≤ entry_of n zs p 0
-  pub same : (p w : ℕ) → p < m → 0 < w → w < 8 → entry_of n ws p 0 % 2 ≡ 0 → entry_of n zs p 0 ≡ entry_of n ws p 0 → entry_of n zs p w ≡ entry_of n ws p w
+  pub same : (p w : ℕ) → p < m → 0 < w → w < 8 → entry_of n ws p 0 % 2 ≡ 0 → entry_of n zs p 0 ≡ entry_of n ws p 0
+      → entry_of n zs p w ≡ entry_of n ws p w
   pub gone : (p : ℕ) → p < m → 3 ≤ entry_of n ws p 2 → entry_of n ws p 0 % 2 ≡ 0 → entry_of n zs p 0 ≡ entry_of n ws p 0

@@ -3,7 +3,7 @@ use Rattle.std.specs.Prelude.{◌≡◌, ◌≢◌, ◌⊎◌, ℕ, zero, suc, �
 use Rattle.ft_trace.specs.declared.Act.{Act}
 use Rattle.ft_trace.specs.declared.Act.TheVariants.{ReadRoot, ReadTable, ReadCounter, Version, Announce}
 use Rattle.ft_trace.specs.Acts.{reads}
-use Rattle.ft_trace.specs.Addrs.{cls, slots, places}
+use Rattle.ft_trace.specs.Addrs.{class_of, slots, places}
 use Rattle.ft_model.specs.declared.data.Key.{Key}
 use Rattle.ft_layout.specs.Words.{key_kind, gone_kind, key_payload}
 use Rattle.ft_trace.specs.Words.{entry_at, item_at}
@@ -23,7 +23,8 @@ pub record Window (log : List Act) (o t : ℕ) (walk : List Act) : Type 0 where
   pub online : Online walk
   pub before : reads t rest ≡ true
 
--- The search read that the entry p has the key, its payload after its kind; later, between two loads of its version that
+-- The search read that the entry p has the key, its payload after its kind; later, between two loads of its version
+-- that
 -- found the same even number, its kind was read as that of the key, and the counter loaded.
 pub record Hit (log : List Act) (o t p : ℕ) (key : Key) (n : ℕ) : Type 0 where
   pub walk : List Act
@@ -33,13 +34,15 @@ pub record Hit (log : List Act) (o t p : ℕ) (key : Key) (n : ℕ) : Type 0 whe
   pub mid : List Act
   pub newer : List Act
   pub rest : List Act
-  pub is : walk ≡ newer ++ ReadTable t (entry_at (slots (cls t)) p 0) version ∷ (mid ++ ReadTable t (entry_at (slots (cls t)) p 0) version ∷ rest)
-  pub live : Among (ReadTable t (entry_at (slots (cls t)) p 2) (key_kind key)) mid
+  pub is : walk ≡ newer ++ ReadTable t (entry_at (slots (class_of t)) p 0) version ∷ (mid
+      ++ ReadTable t (entry_at (slots (class_of t)) p 0) version ∷ rest)
+  pub live : Among (ReadTable t (entry_at (slots (class_of t)) p 2) (key_kind key)) mid
   pub stamp : Among (ReadCounter n) mid
   pub searched : List Act
   pub before : List Act
   pub between : List Act
-  pub key_is : rest ≡ searched ++ ReadTable t (entry_at (slots (cls t)) p 3) (key_payload key) ∷ (between ++ ReadTable t (entry_at (slots (cls t)) p 2) (key_kind key) ∷ before)
+  pub key_is : rest ≡ searched ++ ReadTable t (entry_at (slots (class_of t)) p 3) (key_payload key) ∷ (between
+      ++ ReadTable t (entry_at (slots (class_of t)) p 2) (key_kind key) ∷ before)
 
 -- the slot named an entry, whose kind was read after it and is that of another key
 pub record OtherKind (walk : List Act) (t slot place : ℕ) (key : Key) : Type 0 where
@@ -49,7 +52,8 @@ pub record OtherKind (walk : List Act) (t slot place : ℕ) (key : Key) : Type 0
   pub newer : List Act
   pub mid : List Act
   pub rest : List Act
-  pub is : walk ≡ newer ++ ReadTable t (entry_at (slots (cls t)) place 2) found ∷ (mid ++ ReadTable t slot (suc place) ∷ rest)
+  pub is : walk ≡ newer ++ ReadTable t (entry_at (slots (class_of t)) place 2) found ∷ (mid
+      ++ ReadTable t slot (suc place) ∷ rest)
 
 -- the slot named an entry, whose payload was read after it and is another
 pub record OtherPayload (walk : List Act) (t slot place : ℕ) (key : Key) : Type 0 where
@@ -58,7 +62,8 @@ pub record OtherPayload (walk : List Act) (t slot place : ℕ) (key : Key) : Typ
   pub newer : List Act
   pub mid : List Act
   pub rest : List Act
-  pub is : walk ≡ newer ++ ReadTable t (entry_at (slots (cls t)) place 3) found ∷ (mid ++ ReadTable t slot (suc place) ∷ rest)
+  pub is : walk ≡ newer ++ ReadTable t (entry_at (slots (class_of t)) place 3) found ∷ (mid
+      ++ ReadTable t slot (suc place) ∷ rest)
 
 -- the slot named an entry that was read deleted, and after that its version was even
 pub record Dead (walk : List Act) (t slot place : ℕ) (key : Key) : Type 0 where
@@ -67,20 +72,21 @@ pub record Dead (walk : List Act) (t slot place : ℕ) (key : Key) : Type 0 wher
   pub newer : List Act
   pub mid : List Act
   pub rest : List Act
-  pub is : walk ≡ newer ++ ReadTable t (entry_at (slots (cls t)) place 0) version ∷ (mid ++ ReadTable t (entry_at (slots (cls t)) place 2) (gone_kind key) ∷ rest)
+  pub is : walk ≡ newer ++ ReadTable t (entry_at (slots (class_of t)) place 0) version ∷ (mid
+      ++ ReadTable t (entry_at (slots (class_of t)) place 2) (gone_kind key) ∷ rest)
   pub before : List Act
   pub older : List Act
   pub named : walk ≡ before ++ ReadTable t slot (suc place) ∷ older
 
 pub record Visit (walk : List Act) (t slot : ℕ) (key : Key) : Type 0 where
   pub place : ℕ
-  pub low : place < places (cls t)
+  pub low : place < places (class_of t)
   pub how : OtherKind walk t slot place key ⊎ (OtherPayload walk t slot place key ⊎ Dead walk t slot place key)
 
 -- the slot named no entry of the table
 pub record Beyond (walk : List Act) (t slot : ℕ) : Type 0 where
   pub place : ℕ
-  pub high : places (cls t) ≤ place
+  pub high : places (class_of t) ≤ place
   pub newer : List Act
   pub rest : List Act
   pub is : walk ≡ newer ++ ReadTable t slot (suc place) ∷ rest
@@ -128,7 +134,8 @@ pub record ItemPast (log : List Act) (o t n : ℕ) : Type 0 where
   pub window : Window log o t walk
   pub stamp : Among (ReadCounter n) walk
 
--- the root was read 0 and the counter loaded, between two loads of the container's version that found the same even number
+-- the root was read 0 and the counter loaded, between two loads of the container's version that found the same even
+-- number
 pub record Bare (log : List Act) (o n : ℕ) : Type 0 where
   pub mid : List Act
   pub between : Between log o mid
@@ -148,6 +155,8 @@ abbrev pub unread : ℕ → List Act → ℕ
 unread zero l = 0
 unread (suc t) l = cond (reads t l) 0 1 + unread t l
 
--- a root that has changed since the pass read it names a table that the pass hasn't found in a root since it last announced
+-- a root that has changed since the pass read it names a table that the pass hasn't found in a root since it last
+-- announced
 abbrev pub IsNew : ℕ → ℕ → List Act → Type 0
-IsNew o r l = (t f : ℕ) (mid rest : List Act) → r ≡ suc t → f ≢ r → l ≡ mid ++ ReadRoot o f ∷ rest → Inner mid → reads t l ≡ false
+IsNew o r l =
+    (t f : ℕ) (mid rest : List Act) → r ≡ suc t → f ≢ r → l ≡ mid ++ ReadRoot o f ∷ rest → Inner mid → reads t l ≡ false

@@ -4,7 +4,7 @@ use Rattle.ft_model.specs.declared.call.Call.{Call}
 use Rattle.ft_model.specs.Tables.{StoredWorld, after_stored}
 use Rattle.ft_trace.specs.declared.View.{View}
 use Rattle.ft_trace.specs.Addrs.{containers_in}
-use Rattle.ft_trace.specs.Acts.{has, mem, past}
+use Rattle.ft_trace.specs.Acts.{has_lock, mem, past}
 use Rattle.ft_trace.specs.Worlds.{Kept, kept_at, kept}
 use Rattle.ft_trace.specs.Words.{Picture, picture, table_of}
 
@@ -22,7 +22,7 @@ in_hand t v = table_of v.shape t (mem v.shape v.log)
 
 -- this stored world has what the pass knows of the containers whose locks it has
 abbrev pub AgreesWith : View → StoredWorld → Type 0
-AgreesWith v t = (p : ℕ) → p < containers_in v.shape → has p v.log ≡ true → kept_at t p ≡ known p v
+AgreesWith v t = (p : ℕ) → p < containers_in v.shape → has_lock p v.log ≡ true → kept_at t p ≡ known p v
 
 -- what a commit leaves of the stored world that it finds
 pub record Committed (v w : View) (c : Call) : Type 0 where

@@ -1,4 +1,5 @@
--- What a writer may do to a table of a list while others read it without the lock. Items have versions; one is odd while
+-- What a writer may do to a table of a list while others read it without the lock. Items have versions; one is odd
+-- while
 -- its item is being written. (profile)
 use Rattle.std.specs.Prelude.{◌≡◌, ℕ, suc, ◌%◌, ◌<◌, ◌≤◌, List, [], ◌∷◌, length, slice_get}
 use Rattle.std.specs.Option.{option_map_or}
@@ -40,4 +41,5 @@ pub record ItemClear (n : ℕ) (ws : List ℕ) (old new : List Value) : Type 0 w
 -- what stays between two moments in which one root names the table
 pub record ItemLater (n : ℕ) (ws zs : List ℕ) : Type 0 where
   pub version : (p : ℕ) → p < n → item_of ws p 0 ≤ item_of zs p 0
-  pub same : (p w : ℕ) → p < n → 0 < w → w < 4 → item_of ws p 0 % 2 ≡ 0 → item_of zs p 0 ≡ item_of ws p 0 → item_of zs p w ≡ item_of ws p w
+  pub same : (p w : ℕ) → p < n → 0 < w → w < 4 → item_of ws p 0 % 2 ≡ 0 → item_of zs p 0 ≡ item_of ws p 0
+      → item_of zs p w ≡ item_of ws p w

@@ -56,8 +56,10 @@ CarefulAs kind.Set class ws c i x = Careful (slots class) (places class) ws (und
 
 abbrev pub ClearAs : Kind → List ℕ → ℕ → List ℕ → Content → Content → Type 0
 ClearAs kind.List texts class ws c d = ItemClear (slots class) ws (list_of c) (list_of d)
-ClearAs kind.Dict texts class ws c d = Clear (walk_of kind.Dict texts class) (slots class) (places class) ws (under c) (under d)
-ClearAs kind.Set texts class ws c d = Clear (walk_of kind.Set texts class) (slots class) (places class) ws (under c) (under d)
+ClearAs kind.Dict texts class ws c d =
+    Clear (walk_of kind.Dict texts class) (slots class) (places class) ws (under c) (under d)
+ClearAs kind.Set texts class ws c d =
+    Clear (walk_of kind.Set texts class) (slots class) (places class) ws (under c) (under d)
 
 abbrev pub LaterAs : Kind → ℕ → List ℕ → List ℕ → Type 0
 LaterAs kind.List class ws zs = ItemLater (slots class) ws zs

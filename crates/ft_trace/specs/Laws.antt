@@ -17,9 +17,9 @@ use Rattle.ft_trace.specs.declared.View.{View}
 use Rattle.ft_trace.specs.Bits.{bit}
 use Rattle.ft_trace.specs.Counts.{word_bits, taking, giving, owing}
 use Rattle.ft_trace.specs.Entries.{total, is_number, AllRight, Numbered}
-use Rattle.ft_trace.specs.Addrs.{counter, write_number, announced_of, count_of_class, bits, lock_of, version_of, block, containers_in, tables_in, cls, slots, places, IsTable, fw, bt}
-use Rattle.ft_trace.specs.Acts.{has, writes, reads, stage, goal, clear, ann, owes}
-use Rattle.ft_trace.specs.Ages.{age, glog}
+use Rattle.ft_trace.specs.Addrs.{counter, write_number, announced_of, count_of_class, bits, lock_of, version_of, block, containers_in, tables_in, class_of, slots, places, IsTable, free_word_of, free_bit_of}
+use Rattle.ft_trace.specs.Acts.{has_lock, is_writing, reads, stage, goal, clear, announces, owes}
+use Rattle.ft_trace.specs.Ages.{age, all_acts}
 use Rattle.ft_trace.specs.Worlds.{kept, first_writes, kind_in, reply_in}
 use Rattle.ft_trace.specs.Words.{entry_at, item_at, walk_of, table_of, picture}
 use Rattle.ft_trace.specs.Items.{words_at}
@@ -39,16 +39,18 @@ HasView k es j u = get_elem? (run k es).views j ≡ some u
 abbrev pub LocksNameHolders : Type 0
 LocksNameHolders =
     (k : Shape) (es : List Event) → Valid k es → (o : ℕ) → o < containers_in k
-    → ((j : ℕ) (u : View) → HasView k es j u → has o u.log ≡ true → word k es (lock_of o) ≡ u.number)
-    × (word k es (lock_of o) ≢ 0 → (j : ℕ) × (u : View) × HasView k es j u × (has o u.log ≡ true))
-    × ((i j : ℕ) (u w : View) → HasView k es i u → HasView k es j w → has o u.log ≡ true → has o w.log ≡ true → i ≡ j)
+    → ((j : ℕ) (u : View) → HasView k es j u → has_lock o u.log ≡ true → word k es (lock_of o) ≡ u.number)
+    × (word k es (lock_of o) ≢ 0 → (j : ℕ) × (u : View) × HasView k es j u × (has_lock o u.log ≡ true))
+    × ((i j : ℕ) (u w : View) → HasView k es i u → HasView k es j w → has_lock o u.log ≡ true
+    → has_lock o w.log ≡ true → i ≡ j)
 
 -- the version of a container is odd exactly while a pass writes it, and that pass has its lock
 abbrev pub VersionsAreOddInWrites : Type 0
 VersionsAreOddInWrites =
     (k : Shape) (es : List Event) → Valid k es → (o : ℕ) → o < containers_in k
-    → (word k es (version_of o) % 2 ≡ 1 → (j : ℕ) × (u : View) × HasView k es j u × (writes o u.log ≡ true))
-    × ((j : ℕ) (u : View) → HasView k es j u → writes o u.log ≡ true → (has o u.log ≡ true) × (word k es (version_of o) % 2 ≢ 0))
+    → (word k es (version_of o) % 2 ≡ 1 → (j : ℕ) × (u : View) × HasView k es j u × (is_writing o u.log ≡ true))
+    × ((j : ℕ) (u : View) → HasView k es j u → is_writing o u.log ≡ true → (has_lock o u.log ≡ true)
+    × (word k es (version_of o) % 2 ≢ 0))
 
 -- a version of an entry or item is odd only where that of the container is whose root names its table
 abbrev pub EvenTablesAreShut : Type 0
@@ -66,7 +68,9 @@ NumbersAreOnce =
 
 -- each entry has the reply of the plain containers after as many writes as its stamp says
 abbrev pub EntriesAreRight : Type 0
-EntriesAreRight = (k : Shape) (es : List Event) → Valid k es → (j : ℕ) (u : View) → HasView k es j u → AllRight k.kinds (history es) u.entries
+EntriesAreRight =
+    (k : Shape) (es : List Event) → Valid k es → (j : ℕ) (u : View) → HasView k es j u
+    → AllRight k.kinds (history es) u.entries
 
 -- stamps of a pass never fall, and rise after a write; and what its loads of the counter gave never falls
 abbrev pub StampsRise : Type 0
@@ -76,7 +80,8 @@ StampsRise =
     × ((c : Call) (r : Reply) (n : ℕ) → u.log ≡ newer ++ Answer c r n ∷ rest → least_stamp rest ≤ n)
     × ((mid : List Act) (m n : ℕ) → u.log ≡ newer ++ ReadCounter m ∷ (mid ++ ReadCounter n ∷ rest) → n ≤ m)
 
--- where a pass may answer a MemoryError of a class, writes before its stamp took the tables of the class, but for one for
+-- where a pass may answer a MemoryError of a class, writes before its stamp took the tables of the class, but for one
+-- for
 -- each other pass
 abbrev pub MemoryErrorsAreEarned : Type 0
 MemoryErrorsAreEarned =
@@ -108,7 +113,7 @@ ZeroRootsHaveNothing =
 abbrev pub HoldersKnow : Type 0
 HoldersKnow =
     (v : View) (es : List Event) (j : ℕ) → Knows v es j
-    → ((o : ℕ) → o < containers_in v.shape → has o v.log ≡ true
+    → ((o : ℕ) → o < containers_in v.shape → has_lock o v.log ≡ true
     → (held o v ≡ picture v.shape o (run v.shape es).words) × (known o v ≡ kept v.shape.kinds (history es) o))
     × ((t : ℕ) → IsTable v.shape t → stage t v.log ≡ 1 → in_hand t v ≡ table_of v.shape t (run v.shape es).words)
 
@@ -118,7 +123,7 @@ HoldersKnow =
 abbrev pub TablesAreSomewhere : Type 0
 TablesAreSomewhere =
     (k : Shape) (es : List Event) → Valid k es → (t : ℕ) → IsTable k t
-    → (bit (bt t) (word k es (bits (fw t))) ≡ 1)
+    → (bit (free_bit_of t) (word k es (bits (free_word_of t))) ≡ 1)
     ⊎ (((o : ℕ) × (o < containers_in k) × (word k es (block o 0) ≡ suc t))
     ⊎ (((j : ℕ) × (u : View) × HasView k es j u × (stage t u.log ≢ 0))
     ⊎ (age es t % 5 ≡ 4)))
@@ -127,10 +132,12 @@ TablesAreSomewhere =
 abbrev pub TablesAreInOnePlace : Type 0
 TablesAreInOnePlace =
     (k : Shape) (es : List Event) → Valid k es → (t : ℕ) → IsTable k t
-    → ((o q : ℕ) → o < containers_in k → q < containers_in k → word k es (block o 0) ≡ suc t → word k es (block q 0) ≡ suc t → o ≡ q)
+    → ((o q : ℕ) → o < containers_in k → q < containers_in k → word k es (block o 0) ≡ suc t
+    → word k es (block q 0) ≡ suc t → o ≡ q)
     × ((i j : ℕ) (u w : View) → HasView k es i u → HasView k es j w → stage t u.log ≢ 0 → stage t w.log ≢ 0 → i ≡ j)
-    × ((o i : ℕ) (u : View) → o < containers_in k → word k es (block o 0) ≡ suc t → HasView k es i u → stage t u.log ≡ 0)
-    × (bit (bt t) (word k es (bits (fw t))) ≡ 1
+    × ((o i : ℕ) (u : View) → o < containers_in k → word k es (block o 0) ≡ suc t → HasView k es i u
+    → stage t u.log ≡ 0)
+    × (bit (free_bit_of t) (word k es (bits (free_word_of t))) ≡ 1
     → ((o : ℕ) → o < containers_in k → word k es (block o 0) ≢ suc t)
     × ((i : ℕ) (u : View) → HasView k es i u → stage t u.log ≡ 0))
 
@@ -139,16 +146,20 @@ TablesAreInOnePlace =
 abbrev pub CountsStand : Type 0
 CountsStand =
     (k : Shape) (es : List Event) → Valid k es → (c : ℕ) → IsClass c
-    → word_bits k es c ≡ word k es (count_of_class c) + total (taking c) (run k es).views + total (giving c) (run k es).views
+    → word_bits k es c ≡ word k es (count_of_class c) + total (taking c) (run k es).views
+    + total (giving c) (run k es).views
 
--- the tables of a class less its count are at most the writes that take one by the rule of tables, and one for each view
+-- the tables of a class less its count are at most the writes that take one by the rule of tables, and one for each
+-- view
 -- that has lowered the count since its last commit and not raised it again
 abbrev pub TablesAreOwed : Type 0
 TablesAreOwed =
     (k : Shape) (es : List Event) → Valid k es → (c : ℕ) → IsClass c
-    → tables_in k c ≤ word k es (count_of_class c) + (takes_newest k.kinds c (history es) + total (owing c) (run k es).views)
+    → tables_in k c ≤ word k es (count_of_class c) + (takes_newest k.kinds c (history es)
+    + total (owing c) (run k es).views)
 
--- where a pass that owed none of it found the count of a class 0, writes took its tables, but for one for each other pass
+-- where a pass that owed none of it found the count of a class 0, writes took its tables, but for one for each other
+-- pass
 abbrev pub EmptyClassesAreEarned : Type 0
 EmptyClassesAreEarned =
     (k : Shape) (es : List Event) → Valid k es → (j : ℕ) (u : View) → HasView k es j u → (c : ℕ) → IsClass c
@@ -160,8 +171,9 @@ EmptyClassesAreEarned =
 -- the announced number of a pass is what it announced last, and at most the write number
 abbrev pub AnnouncedNumbersAreLow : Type 0
 AnnouncedNumbersAreLow =
-    (k : Shape) (es : List Event) → Valid k es → (j : ℕ) (u : View) → HasView k es j u → u.number ≢ 0 → u.number ≤ k.passes
-    → (word k es (announced_of u.number) ≡ ann u.log) × (ann u.log ≤ word k es write_number)
+    (k : Shape) (es : List Event) → Valid k es → (j : ℕ) (u : View) → HasView k es j u → u.number ≢ 0
+    → u.number ≤ k.passes
+    → (word k es (announced_of u.number) ≡ announces u.log) × (announces u.log ≤ word k es write_number)
 
 -- A table that a pass has found in a root since it last announced is not free: its age says that it is current, or was
 -- taken out of a root, or is retired with a goal above the number that the pass announced. Where its retirer has found
@@ -169,14 +181,15 @@ AnnouncedNumbersAreLow =
 abbrev pub FoundTablesAreKept : Type 0
 FoundTablesAreKept =
     (k : Shape) (es : List Event) → Valid k es → (t : ℕ) → IsTable k t → (j : ℕ) (u : View) → HasView k es j u
-    → (reads t u.log ≡ true → bit (bt t) (word k es (bits (fw t))) ≢ 1)
-    × (reads t u.log ≡ true → (2 ≤ age es t % 5) × (age es t % 5 ≡ 4 → ann u.log < goal t (glog es)))
-    × (age es t % 5 ≡ 4 → clear t u.number (glog es) ≡ true → reads t u.log ≡ true → ⊥)
+    → (reads t u.log ≡ true → bit (free_bit_of t) (word k es (bits (free_word_of t))) ≢ 1)
+    × (reads t u.log ≡ true → (2 ≤ age es t % 5) × (age es t % 5 ≡ 4 → announces u.log < goal t (all_acts es)))
+    × (age es t % 5 ≡ 4 → clear t u.number (all_acts es) ≡ true → reads t u.log ≡ true → ⊥)
 
 -- the words of a table that is free, was taken out of a root or is retired stay as they are
 abbrev pub GivenUpTablesRest : Type 0
 GivenUpTablesRest =
-    (k : Shape) (e : Event) (es : List Event) → Valid k (e ∷ es) → (t : ℕ) → IsTable k t → age es t % 5 ≢ 1 → age es t % 5 ≢ 2
+    (k : Shape) (e : Event) (es : List Event) → Valid k (e ∷ es) → (t : ℕ) → IsTable k t → age es t % 5 ≢ 1
+    → age es t % 5 ≢ 2
     → table_of k t (run k (e ∷ es)).words ≡ table_of k t (run k es).words
 
 -- ---- readers without a lock
@@ -192,16 +205,18 @@ abbrev pub TableWordsStay : Type 0
 TableWordsStay =
     (k : Shape) (newer older : List Event) → Valid k (newer ++ older) → (o : ℕ) → o < containers_in k → (t : ℕ)
     → word k older (block o 0) ≡ suc t → age (newer ++ older) t ≡ age older t
-    → LaterAs (kind_in k.kinds o) (cls t) (table_of k t (run k older).words) (table_of k t (run k (newer ++ older)).words)
+    → LaterAs (kind_in k.kinds o) (class_of t) (table_of k t (run k older).words) (table_of k t (run k (newer
+    ++ older)).words)
 
 -- a key that was found is there at the stamp, with the words that were read of it
 abbrev pub HitsAreRight : Type 0
 HitsAreRight =
     (k : Shape) (es : List Event) → Valid k es → (o t p : ℕ) (key : Key) (n : ℕ) → o < containers_in k
-    → IsKeyed (kind_in k.kinds o) → p < places (cls t) → (j : ℕ) (u : View) → HasView k es j u → (h : Hit u.log o t p key n)
+    → IsKeyed (kind_in k.kinds o) → p < places (class_of t) → (j : ℕ) (u : View) → HasView k es j u
+    → (h : Hit u.log o t p key n)
     → (n ≤ word k es counter)
     × (under (kept k.kinds (first_writes n (history es)) o).content key ≢ [])
-    × ((w f : ℕ) → w < 3 → Among (ReadTable t (entry_at (slots (cls t)) p (4 + w)) f) h.mid
+    × ((w f : ℕ) → w < 3 → Among (ReadTable t (entry_at (slots (class_of t)) p (4 + w)) f) h.mid
     → slice_index (under (kept k.kinds (first_writes n (history es)) o).content key) w ≡ f)
 
 -- a key is absent at the stamp that was not found on its probe, up to a slot never used or over all its slots
@@ -209,8 +224,8 @@ abbrev pub MissesAreRight : Type 0
 MissesAreRight =
     (k : Shape) (es : List Event) → Valid k es → (o t : ℕ) (key : Key) (n : ℕ) → o < containers_in k
     → IsKeyed (kind_in k.kinds o) → (j : ℕ) (u : View) → HasView k es j u
-    → Miss u.log o t (walk_of (kind_in k.kinds o) k.texts (cls t) key) key n
-    ⊎ Full u.log o t (walk_of (kind_in k.kinds o) k.texts (cls t) key) key n
+    → Miss u.log o t (walk_of (kind_in k.kinds o) k.texts (class_of t) key) key n
+    ⊎ Full u.log o t (walk_of (kind_in k.kinds o) k.texts (class_of t) key) key n
     → (n ≤ word k es counter) × (under (kept k.kinds (first_writes n (history es)) o).content key ≡ [])
 
 -- where the root was read 0 there is nothing at the stamp
@@ -223,7 +238,7 @@ BareRootsAreRight =
 abbrev pub ItemsAreRight : Type 0
 ItemsAreRight =
     (k : Shape) (es : List Event) → Valid k es → (o t p n : ℕ) → o < containers_in k → IsItems (kind_in k.kinds o)
-    → p < slots (cls t) → (j : ℕ) (u : View) → HasView k es j u → (h : ItemHit u.log o t p n)
+    → p < slots (class_of t) → (j : ℕ) (u : View) → HasView k es j u → (h : ItemHit u.log o t p n)
     → (n ≤ word k es counter)
     × ((w f : ℕ) → w < 2 → Among (ReadTable t (item_at p (1 + w)) f) h.mid
     → slice_index (words_at (list_of (kept k.kinds (first_writes n (history es)) o).content) p) w ≡ f)
@@ -233,12 +248,13 @@ abbrev pub ListsFitTheirTables : Type 0
 ListsFitTheirTables =
     (k : Shape) (es : List Event) → Valid k es → (o t n : ℕ) → o < containers_in k → IsItems (kind_in k.kinds o)
     → (j : ℕ) (u : View) → HasView k es j u → ItemPast u.log o t n
-    → (n ≤ word k es counter) × (length (list_of (kept k.kinds (first_writes n (history es)) o).content) ≤ slots (cls t))
+    → (n ≤ word k es counter) × (length (list_of (kept k.kinds (first_writes n (history es)) o).content) ≤ slots (class_of t))
 
 -- what was read between two equal even loads of the version is the reply at the stamp
 abbrev pub LooksAreRight : Type 0
 LooksAreRight =
-    (k : Shape) (es : List Event) → Valid k es → (call : Call) (o : ℕ) → o < containers_in k → (j : ℕ) (u : View) → HasView k es j u
+    (k : Shape) (es : List Event) → Valid k es → (call : Call) (o : ℕ) → o < containers_in k → (j : ℕ) (u : View)
+    → HasView k es j u
     → (r : Reply) (n : ℕ) → Looked k call o r n u.log
     → (n ≤ word k es counter) × (reply_in (stored_newest k.kinds (first_writes n (history es))) call ≡ r)
 

@@ -6,7 +6,7 @@ use Rattle.ft_model.specs.Tables.{StoredWorld}
 use Rattle.ft_trace.specs.declared.Act.{Act}
 use Rattle.ft_trace.specs.declared.Act.TheVariants.{Version, ReadBlock, ReadRoot, ReadTable, ReadCounter}
 use Rattle.ft_trace.specs.declared.Shape.{Shape}
-use Rattle.ft_trace.specs.Addrs.{IsTable, cls, size}
+use Rattle.ft_trace.specs.Addrs.{IsTable, class_of, size}
 use Rattle.std.specs.Prelude.{None}
 use Rattle.ft_model.specs.Worlds.{length_of}
 use Rattle.ft_trace.specs.Worlds.{Kept, kept_at, reply_in}
@@ -30,7 +30,8 @@ pub record Among (a : Act) (mid : List Act) : Type 0 where
 pub record Agrees (k : Shape) (o : ℕ) (mid : List Act) (x : Picture) : Type 0 where
   pub root : (f : ℕ) → Among (ReadRoot o f) mid → f ≡ root_in x
   pub block : (i f : ℕ) → i < 6 → Among (ReadBlock o i f) mid → f ≡ slice_index x.block i
-  pub table : (t i f : ℕ) → IsTable k t → i < size (cls t) → root_in x ≡ suc t → Among (ReadTable t i f) mid → f ≡ slice_index x.table i
+  pub table : (t i f : ℕ) → IsTable k t → i < size (class_of t) → root_in x ≡ suc t → Among (ReadTable t i f) mid
+      → f ≡ slice_index x.table i
 
 -- there is no table and nothing in the container
 abbrev pub IsNothing : Kept → Type 0
@@ -38,7 +39,8 @@ IsNothing kept = (kept.table.class ≡ None) × (length_of kept.content ≡ 0)
 
 -- the call has this reply wherever o has words that answer as the reads of mid did
 abbrev pub AnswersOn : Shape → Call → ℕ → Reply → List Act → Type 0
-AnswersOn k call o r mid = (x : Picture) (t : StoredWorld) → Stands k.texts x (kept_at t o) → Agrees k o mid x → reply_in t call ≡ r
+AnswersOn k call o r mid =
+    (x : Picture) (t : StoredWorld) → Stands k.texts x (kept_at t o) → Agrees k o mid x → reply_in t call ≡ r
 
 -- the reply to a call about o was read between two equal even loads of its version, and the counter loaded between them
 pub record Looked (k : Shape) (call : Call) (o : ℕ) (r : Reply) (number : ℕ) (log : List Act) : Type 0 where

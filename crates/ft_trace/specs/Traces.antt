@@ -1,4 +1,5 @@
--- A trace is a list of events, newest first. It gives the words and the views, and it is valid where each event's condition held where it stands.
+-- A trace is a list of events, newest first. It gives the words and the views, and it is valid where each event's
+-- condition held where it stands.
 use Rattle.std.specs.Prelude.{◌≡◌, ◌≢◌, ◌⊎◌, ℕ, suc, ◌+◌, ◌*◌, ◌^◌, ◌<◌, ◌≤◌, Bool, true, false, List, [], ◌∷◌, ◌++◌, slice_index, slice_set}
 use mathlib.Core.Option.{some}
 use lib.ListN.{get_elem?}
@@ -14,8 +15,8 @@ use Rattle.ft_trace.specs.declared.Act.TheVariants.{Lock, Unlock, StartWrite, Pu
 use Rattle.ft_trace.specs.declared.Shape.{Shape}
 use Rattle.ft_trace.specs.declared.Snap.{Snap}
 use Rattle.ft_trace.specs.declared.View.{View}
-use Rattle.ft_trace.specs.Addrs.{Addr, counter, write_number, version_of, containers_in, tables_in, cls, size, IsTable, at, opening}
-use Rattle.ft_trace.specs.Acts.{place, left, Reports, has, writes, done, stage, ann, clear, used, debt, flight, owes, noted, starter, maker, made, both, spent}
+use Rattle.ft_trace.specs.Addrs.{Addr, counter, write_number, version_of, containers_in, tables_in, class_of, size, IsTable, at, opening}
+use Rattle.ft_trace.specs.Acts.{place, word_after, Reports, has_lock, is_writing, has_committed, stage, announces, clear, used, debt, flight, owes, noted, starter, maker, made, both, spent}
 use Rattle.ft_trace.specs.Worlds.{kept, first_writes, kind_in, changes, reply_in}
 use Rattle.ft_trace.specs.Words.{table_of, root_of, picture, Stands}
 use Rattle.ft_trace.specs.Kinds.{rows, version_at, SoundAs, CarefulAs, ClearAs}
@@ -35,10 +36,17 @@ pub data Event : Type 0 where
   forked : ℕ → View → Event
   joined : ℕ → View → ℕ → View → Event
 
+-- what an event leaves: an action changes one word and the view of its pass, a fork splits a view, a join puts two
+-- into one
 abbrev pub happens : Shape → Event → Moment → Moment
-happens k (did id v a) m = record { words = slice_set m.words (at k (place a)) (left v.number a (word_in k m (place a))); views = slice_set m.views id (noted a v) }
+happens k (did id v a) m =
+    record {
+      words = slice_set m.words (at k (place a)) (word_after v.number a (word_in k m (place a)));
+      views = slice_set m.views id (noted a v);
+    }
 happens k (forked id v) m = record { words = m.words; views = slice_set m.views id (maker v) ++ made v ∷ [] }
-happens k (joined id v other w) m = record { words = m.words; views = slice_set (slice_set m.views id (both v w)) other spent }
+happens k (joined id v other w) m =
+    record { words = m.words; views = slice_set (slice_set m.views id (both v w)) other spent }
 
 -- the bank at the start
 abbrev pub opened : Shape → Moment
@@ -71,71 +79,76 @@ snap m cs = record { words = m.words; calls = cs }
 
 -- of the table t, while it is that of the container o or is to be
 abbrev pub SoundFor : Shape → List ℕ → ℕ → ℕ → Content → Type 0
-SoundFor k ws o t c = SoundAs (kind_in k.kinds o) k.texts (cls t) (table_of k t ws) c
+SoundFor k ws o t c = SoundAs (kind_in k.kinds o) k.texts (class_of t) (table_of k t ws) c
 
 abbrev pub CarefulFor : Shape → List ℕ → ℕ → ℕ → Content → ℕ → ℕ → Type 0
-CarefulFor k ws o t c i x = CarefulAs (kind_in k.kinds o) (cls t) (table_of k t ws) c i x
+CarefulFor k ws o t c i x = CarefulAs (kind_in k.kinds o) (class_of t) (table_of k t ws) c i x
 
 abbrev pub ClearFor : Shape → List ℕ → ℕ → ℕ → Content → Content → Type 0
-ClearFor k ws o t c d = ClearAs (kind_in k.kinds o) k.texts (cls t) (table_of k t ws) c d
+ClearFor k ws o t c d = ClearAs (kind_in k.kinds o) k.texts (class_of t) (table_of k t ws) c d
 
 abbrev pub ShutFor : Shape → List ℕ → ℕ → ℕ → Type 0
-ShutFor k ws o t = Shut (version_at (kind_in k.kinds o) (cls t)) (rows (kind_in k.kinds o) (cls t)) (table_of k t ws)
+ShutFor k ws o t =
+    Shut (version_at (kind_in k.kinds o) (class_of t)) (rows (kind_in k.kinds o) (class_of t)) (table_of k t ws)
 
 abbrev pub TimelyFor : Shape → ℕ → ℕ → ℕ → ℕ → Bool → Type 0
 TimelyFor k o t i x committed =
-    Timely (version_at (kind_in k.kinds o) (cls t)) (rows (kind_in k.kinds o) (cls t)) i x committed
+    Timely (version_at (kind_in k.kinds o) (class_of t)) (rows (kind_in k.kinds o) (class_of t)) i x committed
 
 abbrev pub LowFor : Shape → List ℕ → ℕ → ℕ → ℕ → Bool → Type 0
 LowFor k ws o t count committed =
-    Low (version_at (kind_in k.kinds o) (cls t)) (rows (kind_in k.kinds o) (cls t)) (table_of k t ws) count committed
+    Low (version_at (kind_in k.kinds o) (class_of t)) (rows (kind_in k.kinds o) (class_of t)) (table_of k t ws) count committed
 
 -- What a pass with the view v may do at the moment m, after the history cs.
 abbrev pub May : Shape → Moment → List Call → View → Act → Type 0
 -- it doesn't have the lock
-May k m cs v (Lock o f s) = (o < containers_in k) × (has o v.log ≡ false) × (s ≡ snap m cs)
+May k m cs v (Lock o f s) = (o < containers_in k) × (has_lock o v.log ≡ false) × (s ≡ snap m cs)
 -- it has the lock, and the version is even
-May k m cs v (Unlock o) = (o < containers_in k) × (has o v.log ≡ true) × (writes o v.log ≡ false)
+May k m cs v (Unlock o) = (o < containers_in k) × (has_lock o v.log ≡ true) × (is_writing o v.log ≡ false)
 May k m cs v (StartWrite o f) =
-    (o < containers_in k) × (has o v.log ≡ true) × (writes o v.log ≡ false) × (word_in k m (version_of o) + 1 < 2 ^ 64)
+    (o < containers_in k) × (has_lock o v.log ≡ true) × (is_writing o v.log ≡ false)
+    × (word_in k m (version_of o) + 1 < 2 ^ 64)
 -- it has made the version odd
-May k m cs v (PutBlock o i x) = (o < containers_in k) × (i < 6) × (writes o v.log ≡ true) × (i ≢ 0)
--- Besides: the new root names a table that is fresh in its hand and as it must be for readers, whose versions have room;
+May k m cs v (PutBlock o i x) = (o < containers_in k) × (i < 6) × (is_writing o v.log ≡ true) × (i ≢ 0)
+-- Besides: the new root names a table that is fresh in its hand and as it must be for readers, whose versions have
+-- room;
 -- no version in the table that the root names now is odd; and no other table was taken out of a root since the last
 -- commit.
 May k m cs v (PutRoot o r old) =
     (o < containers_in k)
-    × (writes o v.log ≡ true)
+    × (is_writing o v.log ≡ true)
     × (old ≡ root_of k o m.words)
     × ((t : ℕ) → r ≡ suc t → IsTable k t × (stage t v.log ≡ 1) × SoundFor k m.words o t (kept k.kinds cs o).content)
     × ((q : ℕ) → old ≡ suc q → ShutFor k m.words o q)
     × (old ≢ 0 → used v.log ≡ false)
-    × ((t : ℕ) → r ≡ suc t → LowFor k m.words o t (word_in k m counter) (done o v.log))
+    × ((t : ℕ) → r ≡ suc t → LowFor k m.words o t (word_in k m counter) (has_committed o v.log))
 -- a word of the table that the root names, put with care; a version is made odd before the commit, and even after it
 May k m cs v (PutTable o t i x) =
     (o < containers_in k)
     × IsTable k t
-    × (i < size (cls t))
-    × (writes o v.log ≡ true)
+    × (i < size (class_of t))
+    × (is_writing o v.log ≡ true)
     × (root_of k o m.words ≡ suc t)
     × CarefulFor k m.words o t (kept k.kinds cs o).content i x
-    × TimelyFor k o t i x (done o v.log)
+    × TimelyFor k o t i x (has_committed o v.log)
 -- a word of a table that it took and that has stood in no root since
-May k m cs v (PutFresh t i x) = IsTable k t × (i < size (cls t)) × (stage t v.log ≡ 1)
+May k m cs v (PutFresh t i x) = IsTable k t × (i < size (class_of t)) × (stage t v.log ≡ 1)
 -- the goal of a table that it took out of a root
 May k m cs v (PutHeader t x) = IsTable k t × ((stage t v.log ≡ 3) ⊎ (stage t v.log ≡ 4))
 -- The call is a write, the version of what it changes is odd by the pass, the reply is that of the plain containers at
 -- the counter, the pass has a call left and the counter has room. Each entry with an even version says the same of the
--- content after the call, and each key that is added has its entry. Where the pass has lowered a count and not raised it
+-- content after the call, and each key that is added has its entry. Where the pass has lowered a count and not raised
+-- it
 -- again, the call takes a table of that class. No content passes its greatest length.
 May k m cs v (Commit c r f s) =
     (is_write c r ≡ true)
-    × (writes (changes c) v.log ≡ true)
+    × (is_writing (changes c) v.log ≡ true)
     × (word_in k m counter + 1 < 2 ^ 64)
     × (0 < v.left)
     × IsReplied c r (reply_in (stored_newest k.kinds cs) c)
     × ((t : ℕ) → root_of k (changes c) m.words ≡ suc t
-    → ClearFor k m.words (changes c) t (kept k.kinds cs (changes c)).content (kept k.kinds (c ∷ cs) (changes c)).content)
+    → ClearFor k m.words (changes c) t (kept k.kinds cs (changes c)).content (kept k.kinds (c
+    ∷ cs) (changes c)).content)
     × (changes c < containers_in k)
     × (s ≡ snap m cs)
     × ((class : ℕ) → owes v.log ≡ suc class → takes_in (stored_newest k.kinds cs) c ≡ Some class)
@@ -144,8 +157,8 @@ May k m cs v (Commit c r f s) =
 -- and fill, and no version of an entry or item of the container is odd.
 May k m cs v (StopWrite o f) =
     (o < containers_in k)
-    × (writes o v.log ≡ true)
-    × (done o v.log ≡ true)
+    × (is_writing o v.log ≡ true)
+    × (has_committed o v.log ≡ true)
     × StandsFor k m cs o
     × (word_in k m (version_of o) + 1 < 2 ^ 64)
     × ((t : ℕ) → root_of k o m.words ≡ suc t → ShutFor k m.words o t)
@@ -153,8 +166,8 @@ May k m cs v (StopWrite o f) =
 May k m cs v (Version o f) = o < containers_in k
 May k m cs v (ReadBlock o i f) = (o < containers_in k) × (i < 6)
 -- but for a root that is read to search its table without the lock: the pass is online
-May k m cs v (ReadRoot o f) = (o < containers_in k) × (0 < ann v.log) × (v.number ≤ k.passes)
-May k m cs v (ReadTable t i f) = IsTable k t × (i < size (cls t))
+May k m cs v (ReadRoot o f) = (o < containers_in k) × (0 < announces v.log) × (v.number ≤ k.passes)
+May k m cs v (ReadTable t i f) = IsTable k t × (i < size (class_of t))
 May k m cs v (ReadCounter f) = Unit {0}
 -- The call is no write, and a load of the counter since the last entry gave its stamp. The reply is that of the plain
 -- containers after as many writes, or that of a section, or a MemoryError that has its cause.
@@ -173,7 +186,7 @@ May k m cs v (ReadCount c f) = IsClass c
 May k m cs v (ReadFree w f) = w < 224
 -- in the midst of a taking of its class
 May k m cs v (TakeTable t f s) =
-    IsTable k t × (stage t v.log ≡ 0) × (s ≡ snap m cs) × (flight v.log ≡ 2 * cls t + 1)
+    IsTable k t × (stage t v.log ≡ 0) × (s ≡ snap m cs) × (flight v.log ≡ 2 * class_of t + 1)
 -- a table that has stood in no root since it was taken; or one that the pass retired, where it has found each pass
 -- offline or at least at the goal since then
 May k m cs v (GiveTable t) =
@@ -199,17 +212,24 @@ pub record Fits (k : Shape) : Type 0 where
 -- committed what it began, and is in the midst of no taking or giving.
 abbrev pub IsFree : View → Type 0
 IsFree v =
-    ((o : ℕ) → has o v.log ≡ false)
+    ((o : ℕ) → has_lock o v.log ≡ false)
     × ((t : ℕ) → (stage t v.log ≡ 0) ⊎ (stage t v.log ≡ 4))
     × (used v.log ≡ false)
     × (flight v.log ≡ 0)
     × (owes v.log ≡ 0)
-    × (ann v.log ≡ 0)
+    × (announces v.log ≡ 0)
 
+-- An event of a view that stands where the event says it does: an action that reports what was there, and that the pass
+-- may do; a fork by the first pass, which has parts and calls for another; a join of a pass that is free.
 abbrev pub Might : Shape → Moment → List Call → Event → Type 0
-Might k m cs (did id v a) = (get_elem? m.views id ≡ some v) × (v.number ≢ 0) × Reports a (word_in k m (place a)) × May k m cs v a
-Might k m cs (forked id v) = (get_elem? m.views id ≡ some v) × (v.number ≢ 0) × (v.next ≢ 0) × (1 < v.parts) × (v.shape.calls ≤ v.left) × (v.next ≤ k.passes)
-Might k m cs (joined id v other w) = (get_elem? m.views id ≡ some v) × (other ≢ id) × (get_elem? m.views other ≡ some w) × (v.number ≢ 0) × (w.next ≡ 0) × IsFree w
+Might k m cs (did id v a) =
+    (get_elem? m.views id ≡ some v) × (v.number ≢ 0) × Reports a (word_in k m (place a)) × May k m cs v a
+Might k m cs (forked id v) =
+    (get_elem? m.views id ≡ some v) × (v.number ≢ 0) × (v.next ≢ 0) × (1 < v.parts) × (v.shape.calls ≤ v.left)
+    × (v.next ≤ k.passes)
+Might k m cs (joined id v other w) =
+    (get_elem? m.views id ≡ some v) × (other ≢ id) × (get_elem? m.views other ≡ some w) × (v.number ≢ 0)
+    × (w.next ≡ 0) × IsFree w
 
 abbrev pub Valid : Shape → List Event → Type 0
 Valid k [] = Fits k
@@ -234,13 +254,17 @@ Sure v F = (es : List Event) (id : ℕ) → Knows v es id → F es
 -- at whatever the bank has, the pass may do this
 abbrev pub ReadyAs : View → ℕ → (ℕ → Snap → Act) → Type 0
 ReadyAs v i act =
-    Sure v (λ es. let n = slice_index (run v.shape es).words i in let s = snap (run v.shape es) (history es) in n < 2 ^ 64 → Reports (act n s) n × May v.shape (run v.shape es) (history es) v (act n s))
+    Sure v (λ es.
+    let n = slice_index (run v.shape es).words i in
+    let s = snap (run v.shape es) (history es) in
+    n < 2 ^ 64 → Reports (act n s) n × May v.shape (run v.shape es) (history es) v (act n s))
 
 abbrev pub Ready : View → ℕ → (ℕ → Act) → Type 0
 Ready v i act = ReadyAs v i (λ n _. act n)
 
 abbrev pub DoesAs : View → ℕ → (ℕ → ℕ) → (ℕ → Snap → Act) → Type 0
-DoesAs v i f act = (n : ℕ) (s : Snap) → (at v.shape (place (act n s)) ≡ i) × ((m : ℕ) → left v.number (act n s) m ≡ f m)
+DoesAs v i f act =
+    (n : ℕ) (s : Snap) → (at v.shape (place (act n s)) ≡ i) × ((m : ℕ) → word_after v.number (act n s) m ≡ f m)
 
 -- the actions are on this word, which becomes f of what it was
 abbrev pub Does : View → ℕ → (ℕ → ℕ) → (ℕ → Act) → Type 0

@@ -7,7 +7,7 @@ use Rattle.ft_hash.specs.Probes.{dict_walk, set_walk}
 use Rattle.ft_layout.specs.Tables.{hash_of}
 use Rattle.ft_layout.specs.Containers.{class_mask, StandsAs}
 use Rattle.ft_trace.specs.declared.Shape.{Shape}
-use Rattle.ft_trace.specs.Addrs.{block, cell, cls, size, at}
+use Rattle.ft_trace.specs.Addrs.{block, cell, class_of, size, at}
 use Rattle.ft_trace.specs.Worlds.{Kept}
 
 -- n words from this one on
@@ -17,7 +17,7 @@ piece ws at (suc n) = slice_index ws at ∷ piece ws (at + 1) n
 
 -- the words of a table after its header
 unfoldable pub table_of : Shape → ℕ → List ℕ → List ℕ
-table_of k t ws = piece ws (at k (cell t 0)) (size (cls t))
+table_of k t ws = piece ws (at k (cell t 0)) (size (class_of t))
 
 -- words 2 to 7 of a container's block
 unfoldable pub block_of : Shape → ℕ → List ℕ → List ℕ

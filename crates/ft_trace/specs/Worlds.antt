@@ -20,7 +20,8 @@ pub record Kept : Type 0 where
   pub table : TableUse
 
 abbrev pub kept_at : StoredWorld → ℕ → Kept
-kept_at stored o = record { content = slice_index_or stored.world o (content.List []); table = table_at stored.tables o }
+kept_at stored o =
+    record { content = slice_index_or stored.world o (content.List []); table = table_at stored.tables o }
 
 abbrev pub kept : List Kind → List Call → ℕ → Kept
 kept kinds calls o = kept_at (stored_newest kinds calls) o

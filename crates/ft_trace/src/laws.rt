@@ -1,4 +1,5 @@
 //! The parts of the bank's rule: what holds of every valid trace, for the bank and all that stands on it.
+ghost use Rattle.ft_trace.specs.Grants.{ListsMayBeCleared, ClearedTablesMayBeGivenBack, TakingsEnd};
 ghost use Rattle.ft_trace.specs.Laws.{StampsRise, MemoryErrorsAreEarned, LocksNameHolders, VersionsAreOddInWrites, EvenTablesAreShut, NumbersAreOnce, EntriesAreRight, OneHasAllEntries, EvenWordsStand, ZeroRootsHaveNothing, HoldersKnow, TablesAreSomewhere, TablesAreInOnePlace, CountsStand, TablesAreOwed, EmptyClassesAreEarned, AnnouncedNumbersAreLow, FoundTablesAreKept, GivenUpTablesRest, TablesAreSound, TableWordsStay, HitsAreRight, MissesAreRight, BareRootsAreRight, ItemsAreRight, ListsFitTheirTables, LooksAreRight, ChangedRootsAreNew, NumbersHaveRoom};
 
 /// A lock word is the number of the one pass that has the lock.
@@ -144,4 +145,19 @@ pub fn changed_roots_are_new()
 /// No number wraps.
 pub fn numbers_have_room()
     ensures { NumbersHaveRoom }
+{}
+
+/// A pass with the lock of a list may clear it, in each of its steps.
+pub fn lists_may_be_cleared()
+    ensures { ListsMayBeCleared }
+{}
+
+/// The table that a clear took out of the root may be retired and given back.
+pub fn cleared_tables_may_be_given_back()
+    ensures { ClearedTablesMayBeGivenBack }
+{}
+
+/// A taking may be begun, and ends.
+pub fn takings_end()
+    ensures { TakingsEnd }
 {}

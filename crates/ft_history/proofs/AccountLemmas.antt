@@ -1,7 +1,8 @@
 -- What is kept of tables, one write further.
-use Rattle.std.proofs.Common.{◌≡◌, ℕ, ◌+◌, ◌-◌, true, List, [], ◌∷◌, ◌++◌, map, length, None, refl, sym, ap, ◌∙◌, arith, cond, replicate}
+use Rattle.std.proofs.Common.{◌≡◌, ℕ, ◌+◌, ◌-◌, ◌<◌, true, List, [], ◌∷◌, ◌++◌, map, length, get_or, None, refl, sym, ap, ◌∙◌, arith, cond, replicate}
+use Rattle.std.specs.Prelude.{All, ◌^◌}
 use Rattle.std.proofs.lemmas.Bool.{false≢true}
-use Rattle.std.proofs.lemmas.List.{get_or-replicate}
+use Rattle.std.proofs.lemmas.List.{get_or-replicate, get_or_default}
 use Rattle.std.proofs.lemmas.List.Sums.{fold_push}
 use Rattle.ft_model.specs.declared.call.Call.{Call}
 use Rattle.ft_model.specs.declared.call.Call.TheVariants as call
@@ -23,6 +24,7 @@ use Rattle.ft_model.specs.declared.script.ScriptParts.{ScriptParts}
 use Rattle.ft_model.specs.Calls.{cursor_of_dict, cursor_of_list, cursor_of_set, dict_change, list_change, set_change, adds, can_add}
 use Rattle.ft_model.specs.Classes.{least_class, class_count}
 use Rattle.ft_model.proofs.StoredLaws.{takes_push}
+use Rattle.ft_model.proofs.Takings.{takes_class_few}
 use Rattle.ft_model.specs.declared.script.Kind.{Kind}
 use Rattle.ft_model.specs.Scripts.{cursor_of}
 use Rattle.ft_model.specs.Worlds.{kinds_of}
@@ -54,6 +56,15 @@ module _ (script : ScriptParts) (calls : List Call) (called : Call) (old new : L
             ∙ ap (λ n. takes script class calls + n) (same_for_stored (λ o n ts. cond (is_class class (takes_class o n ts called)) 1 0))
             ∙ sym (takes_push (kinds_of script.containers) class calls called);
       }
+
+-- no class is taken more often than there are writes
+pub few_takings : (script : ScriptParts) (calls : List Call) (account : TableAccount) → IsAccount script calls account → length calls < 2 ^ 63 → All (λ taken. taken < 2 ^ 63) account.takings.items
+few_takings script calls account is few k d low =
+    let items = account.takings.items in
+    let within : k < 14 = omega (arith, is.classes) in
+    let same : k ≡ (k + 3) - 3 = omega arith in
+    let counted : get_or items k 0 ≡ takes script (k + 3) calls = ap (λ n. get_or items n 0) same ∙ is.takings (k + 3) (record { least = omega arith; greatest = omega arith }) in
+    omega (arith, get_or_default items k d 0 low, counted, takes_class_few (kinds_of script.containers) (k + 3) calls, few)
 
 -- ---- a call that can add makes no cursor
 

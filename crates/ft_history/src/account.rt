@@ -1,7 +1,7 @@
 //! The account of tables: which table each container would have, and how many of each class were
 //! taken. After each write it is what the writes so far come to, for whoever asks whether a
 //! MemoryError has its cause.
-ghost use Rattle.std.specs.Prelude.{◌≡◌, ◌+◌, ℕ, List, map, length, replicate, None, [], IfSome, IfOk, OnOk, slice_set, slice_index_or, vec_len};
+ghost use Rattle.std.specs.Prelude.{◌≡◌, ◌+◌, ◌<◌, ◌^◌, ℕ, List, All, map, length, replicate, None, [], IfSome, IfNone, IfOk, slice_set, slice_index_or, vec_len};
 ghost use Rattle.ft_model.specs.declared.content.Content.{Content};
 ghost use Rattle.ft_model.specs.declared.call.Call.{Call};
 ghost use Rattle.ft_model.specs.declared.call.Call.TheVariants as call_of;
@@ -47,125 +47,99 @@ fn no_tables(alloc: Global, count: usize) -> Result<Vec<KeptTable>, AllocError>
     Ok(all)
 }
 
-/// Goes on after a call, before which its container was of a size. A count past 2^64 is out of
-/// memory.
-pub fn note_taking(
-    account: &mut TableAccount,
-    world: &World,
-    call: &Call,
-    before: Size,
-) -> Result<(), AllocError>
-    requires { vec_len account.old.takings ≡ class_count }
-    ensures { OnOk result ((old : List Content) → before ≡ size_at old call.now → CountsCall old world.now call.now account.old account.new) }
+/// Goes on after a call, before which its container was of a size.
+pub fn note_taking(account: &mut TableAccount, world: &World, call: &Call, before: Size)
+    requires classes { vec_len account.old.takings ≡ class_count }
+    requires few { All (λ taken. taken < 2 ^ 63) account.old.takings.items }
+    ensures { (old : List Content) → before ≡ size_at old call.now → CountsCall old world.now call.now account.old account.new }
 {
     match call {
         Call::Dict { container, call } => note_dict(account, world, *container, call, before),
         Call::List { container, call } => note_list(account, world, *container, call),
         Call::Set { container, call } => note_set(account, world, *container, call, before),
-        Call::Next { .. } | Call::Begin { .. } | Call::End | Call::Quiesce => Ok(()),
+        Call::Next { .. } | Call::Begin { .. } | Call::End | Call::Quiesce => {}
     }
 }
 
-fn note_dict(
-    account: &mut TableAccount,
-    world: &World,
-    place: u32,
-    call: &DictCall,
-    before: Size,
-) -> Result<(), AllocError>
-    requires { vec_len account.old.takings ≡ class_count }
-    ensures { OnOk result ((old : List Content) → before ≡ size_at old (call_of.Dict place call.now) → CountsCall old world.now (call_of.Dict place call.now) account.old account.new) }
+fn note_dict(account: &mut TableAccount, world: &World, place: u32, call: &DictCall, before: Size)
+    requires classes { vec_len account.old.takings ≡ class_count }
+    requires few { All (λ taken. taken < 2 ^ 63) account.old.takings.items }
+    ensures { (old : List Content) → before ≡ size_at old (call_of.Dict place call.now) → CountsCall old world.now (call_of.Dict place call.now) account.old account.new }
 {
     match call.table_change() {
-        TableChange::Stays => Ok(()),
+        TableChange::Stays => {}
         TableChange::Grows => {
             let after = size_of_dict(world, place);
             let added = after.next.saturating_sub(before.next);
             let table = table_at(&account.tables, place);
             let taking = taken_by_dict(table, added, after.count);
-            grow(account, place, taking, added, after.count)
+            grow(account, place, taking, added, after.count);
         }
         TableChange::CopiesTo(other) => {
             put(&mut account.tables, other, table_of_copy(before.count));
-            count_taking(&mut account.takings, taken_by_copy(before.count))
+            count_taking(&mut account.takings, taken_by_copy(before.count));
         }
         TableChange::GivesUp => {
             put(&mut account.tables, place, none_kept());
-            Ok(())
         }
     }
 }
 
-fn note_list(
-    account: &mut TableAccount,
-    world: &World,
-    place: u32,
-    call: &ListCall,
-) -> Result<(), AllocError>
-    requires { vec_len account.old.takings ≡ class_count }
-    ensures { OnOk result ((old : List Content) → CountsCall old world.now (call_of.List place call.now) account.old account.new) }
+fn note_list(account: &mut TableAccount, world: &World, place: u32, call: &ListCall)
+    requires classes { vec_len account.old.takings ≡ class_count }
+    requires few { All (λ taken. taken < 2 ^ 63) account.old.takings.items }
+    ensures { (old : List Content) → CountsCall old world.now (call_of.List place call.now) account.old account.new }
 {
     match call.table_change() {
-        TableChange::Stays | TableChange::CopiesTo(_) => Ok(()),
+        TableChange::Stays | TableChange::CopiesTo(_) => {}
         TableChange::Grows => {
             let table = table_at(&account.tables, place);
             let taking = taken_by_list(table, length_of_list(world, place));
-            grow(account, place, taking, 0, 0)
+            grow(account, place, taking, 0, 0);
         }
         TableChange::GivesUp => {
             put(&mut account.tables, place, none_kept());
-            Ok(())
         }
     }
 }
 
-fn note_set(
-    account: &mut TableAccount,
-    world: &World,
-    place: u32,
-    call: &SetCall,
-    before: Size,
-) -> Result<(), AllocError>
-    requires { vec_len account.old.takings ≡ class_count }
-    ensures { OnOk result ((old : List Content) → before ≡ size_at old (call_of.Set place call.now) → CountsCall old world.now (call_of.Set place call.now) account.old account.new) }
+fn note_set(account: &mut TableAccount, world: &World, place: u32, call: &SetCall, before: Size)
+    requires classes { vec_len account.old.takings ≡ class_count }
+    requires few { All (λ taken. taken < 2 ^ 63) account.old.takings.items }
+    ensures { (old : List Content) → before ≡ size_at old (call_of.Set place call.now) → CountsCall old world.now (call_of.Set place call.now) account.old account.new }
 {
     match call.table_change() {
-        TableChange::Stays | TableChange::CopiesTo(_) => Ok(()),
+        TableChange::Stays | TableChange::CopiesTo(_) => {}
         TableChange::Grows => {
             let after = size_of_set(world, place);
             let added = after.next.saturating_sub(before.next);
             let table = table_at(&account.tables, place);
             let taking = taken_by_set(table, added, after.count);
-            grow(account, place, taking, added, after.count)
+            grow(account, place, taking, added, after.count);
         }
         TableChange::GivesUp => {
             put(&mut account.tables, place, none_kept());
-            Ok(())
         }
     }
 }
 
 /// A container takes a table of this class for all that it then has, if it takes one, and else has
 /// that many entries more in use.
-fn grow(
-    account: &mut TableAccount,
-    place: u32,
-    taking: Option<u32>,
-    added: u64,
-    count: u64,
-) -> Result<(), AllocError>
+fn grow(account: &mut TableAccount, place: u32, taking: Option<u32>, added: u64, count: u64)
     requires taking { IfSome taking (λ class. IsClass class) }
     requires classes { vec_len account.old.takings ≡ class_count }
-    ensures tables { OnOk result (tables_of account.new.tables.items ≡ slice_set (tables_of account.old.tables.items) place (grown_table (slice_index_or (tables_of account.old.tables.items) place no_table) taking added count)) }
-    ensures takings { OnOk result (CountsTaking taking account.old.takings.items account.new.takings.items) }
+    requires few { All (λ taken. taken < 2 ^ 63) account.old.takings.items }
+    requires fits { IfNone taking ((slice_index_or (tables_of account.old.tables.items) place no_table).fill + added < 2 ^ 64) }
+    ensures tables { tables_of account.new.tables.items ≡ slice_set (tables_of account.old.tables.items) place (grown_table (slice_index_or (tables_of account.old.tables.items) place no_table) taking added count) }
+    ensures takings { CountsTaking taking account.old.takings.items account.new.takings.items }
 {
     let table = table_at(&account.tables, place);
     put(
         &mut account.tables,
         place,
-        grown(table, taking, added, count)?,
+        grown(table, taking, added, count),
     );
-    count_taking(&mut account.takings, taking)
+    count_taking(&mut account.takings, taking);
 }
 
 /// What is kept of a container without a table.
@@ -179,24 +153,20 @@ fn none_kept() -> KeptTable
 }
 
 /// The table that is taken for that many, or the old one with that many entries more in use.
-fn grown(
-    table: KeptTable,
-    taking: Option<u32>,
-    added: u64,
-    count: u64,
-) -> Result<KeptTable, AllocError>
-    requires { IfSome taking (λ class. IsClass class) }
-    ensures { IfOk result (λ grown. table_of grown ≡ grown_table (table_of table) taking added count) }
+fn grown(table: KeptTable, taking: Option<u32>, added: u64, count: u64) -> KeptTable
+    requires taking { IfSome taking (λ class. IsClass class) }
+    requires fits { IfNone taking (table.fill + added < 2 ^ 64) }
+    ensures { table_of result ≡ grown_table (table_of table) taking added count }
 {
     match taking {
-        Some(class) => Ok(KeptTable {
+        Some(class) => KeptTable {
             class: Some(class),
             fill: count,
-        }),
-        None => Ok(KeptTable {
+        },
+        None => KeptTable {
             class: table.class,
-            fill: table.fill.checked_add(added).ok_or(AllocError)?,
-        }),
+            fill: table.fill + added,
+        },
     }
 }
 
@@ -221,14 +191,13 @@ fn put(tables: &mut Vec<KeptTable>, place: u32, table: KeptTable)
 }
 
 /// Counts a table that is taken, if one is.
-fn count_taking(takings: &mut Vec<u64>, taking: Option<u32>) -> Result<(), AllocError>
+fn count_taking(takings: &mut Vec<u64>, taking: Option<u32>)
     requires taking { IfSome taking (λ class. IsClass class) }
     requires classes { vec_len takings.old ≡ class_count }
-    ensures { OnOk result (CountsTaking taking takings.old.items takings.new.items) }
+    requires few { All (λ taken. taken < 2 ^ 63) takings.old.items }
+    ensures { CountsTaking taking takings.old.items takings.new.items }
 {
     if let Some(class) = taking {
-        let place = (class - LEAST_CLASS) as usize;
-        takings[place] = takings[place].checked_add(1).ok_or(AllocError)?;
+        takings[(class - LEAST_CLASS) as usize] += 1;
     }
-    Ok(())
 }

@@ -183,6 +183,7 @@ fn go_after(alloc: Global, state: &mut State, place: u64, entry: &Entry) -> Resu
     requires writes { state.old.writes < 2 ^ 63 }
     requires containers { All (λ container. container < vec_len state.old.containers) (containers_of entry.now.call) }
     requires account { vec_len state.old.account.takings ≡ class_count }
+    requires takings { All (λ taken. taken < 2 ^ 63) state.old.account.takings.items }
     ensures { IfOk result (λ reported. (before : ThreadProgress) × (after : ThreadProgress) × GoesAfter place entry.now reported before after state.old state.new) }
 {
     let size = size_of_own(&state.world, &entry.call);
@@ -196,7 +197,7 @@ fn go_after(alloc: Global, state: &mut State, place: u64, entry: &Entry) -> Resu
             entry.thread,
             place,
         );
-        note_taking(&mut state.account, &state.world, &entry.call, size)?;
+        note_taking(&mut state.account, &state.world, &entry.call, size);
     }
     Ok(reported)
 }

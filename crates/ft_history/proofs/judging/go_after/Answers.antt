@@ -28,8 +28,8 @@ go_through-requires-clause-marks c =
     let threads = c.args.state.now.threads in
     (c.requires.few c.index_mut-progress.result.now (its_thread threads.items c.args.entry.now.thread _ c.index_mut-progress.result.now c.requires.thread threads.ok.0 c.index_mut-progress.ensures.value)).1
 
-pub returns-in_ok-note_taking : goal.returns-in_ok-note_taking
-returns-in_ok-note_taking c =
+pub returns-then-entry : goal.returns-then-entry
+returns-then-entry c =
     let threads = c.args.state.now.threads in
     let entry = c.args.entry.now in
     let before : ThreadProgress = c.index_mut-progress.result.now in
@@ -53,7 +53,7 @@ returns-in_ok-note_taking c =
             c.note_write.ensures.noted container other
             ∙ ap (λ (ns : List ℕ). cond (list_any (λ n. n == container) ns) (after_one old entry.thread c.args.place) old) c.containers.ensures
             ∙ ap (λ b. cond (b && names container entry.call) (after_one old entry.thread c.args.place) old) (sym c.if-entry.true);
-        taking = λ wrote. c.in_ok-note_taking.ensures c.args.state.now.world c.size_of_own-size.ensures;
+        taking = λ wrote. c.note_taking.ensures c.args.state.now.world c.size_of_own-size.ensures;
         same = λ quiet. absurd (false≢true (sym quiet ∙ c.if-entry.true));
       },
     )

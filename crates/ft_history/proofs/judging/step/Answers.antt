@@ -8,7 +8,7 @@ use Rattle.ft_history.specs.Internal.Steps.{BreaksFirst, Finds}
 use Rattle.ft_model.specs.Histories.{writes, entries_of}
 use Rattle.ft_history.proofs.Judged.{few_made}
 use Rattle.ft_history.proofs.FewEntries.{room_before}
-use Rattle.ft_history.proofs.AccountLemmas.{earned_no_cursor}
+use Rattle.ft_history.proofs.AccountLemmas.{earned_no_cursor, few_takings}
 use Rattle.ft_history.proofs.GoesAfterLemmas.{state_after, askable_at, of_kind_at, within_containers, thread_within, few_writes, few_marks, breaks_reply, holds_four, finds_all, where_none}
 use Rattle.ft_history.proofs.judging.step.Goals as goal
 
@@ -35,6 +35,11 @@ late_rule-late-requires-clause-kinds c =
 
 pub go_after-requires-clause-account : goal.go_after-requires-clause-account
 go_after-requires-clause-account c = omega (arith, c.args.state.now.account.takings.ok.0, c.requires.state.account.classes)
+
+pub go_after-requires-clause-takings : goal.go_after-requires-clause-takings
+go_after-requires-clause-takings c =
+    few_takings c.args.parts.now (writes (take c.args.place c.args.entries.now)) c.args.state.now.account c.requires.state.account
+    (omega (arith, few_writes c.args.entries.now c.args.place (omega (arith, c.requires.place)), c.requires.few, c.requires.place))
 
 pub go_after-requires-clause-thread : goal.go_after-requires-clause-thread
 go_after-requires-clause-thread c =

@@ -1,6 +1,6 @@
 -- What the words of a dict and a set stand for after one of their entries changed.
-use Rattle.std.proofs.Common.{◌≡◌, ◌≢◌, ℕ, ◌+◌, ◌<◌, List, [], ◌∷◌, ◌++◌, length, set, filter, All, Some, sym, ap, ◌∙◌, arith}
-use Rattle.std.specs.Prelude.{slice_get}
+use Rattle.std.proofs.Common.{◌≡◌, ◌≢◌, Bool, true, false, cond, find, map, refl, Option, ℕ, ◌+◌, ◌<◌, List, [], ◌∷◌, ◌++◌, length, set, filter, All, Some, sym, ap, ◌∙◌, arith}
+use Rattle.std.specs.Prelude.{◌&&◌, slice_get, option_map}
 use Rattle.std.proofs.lemmas.List.{length-map, length-set, length_push}
 use Rattle.std.proofs.lemmas.List.Elements.{All-filter, filter_passes}
 use Rattle.ft_model.specs.declared.data.Key.{Key}
@@ -37,6 +37,35 @@ live_elements used content are = (
   record { live = live_again used ∙ are.live; below = All-filter is_live (λ (u : UsedEntry). u.serial < content.next) used are.below },
   ap length are.live ∙ length-map content.elements used_element,
 )
+
+-- ---- the first live entry that passes a test
+
+find-filter : {X : Type 0} (p q : X → Bool) (xs : List X) → find (λ x. p x && q x) xs ≡ find q (filter p xs)
+find-filter p q [] = refl
+find-filter {X} p q (x ∷ xs) =
+    let rest = find-filter p q xs in
+    elim (p x) as (λ b. p x ≡ b → find (λ y. p y && q y) (x ∷ xs) ≡ find q (filter p (x ∷ xs))) [
+      | true ↦ λ yes. rw yes (ap (λ (o : Option X). cond (q x) (Some x) o) rest)
+      | false ↦ λ no. rw no rest
+    ] refl
+
+find-map : {X Y : Type 0} (of : Y → X) (q : X → Bool) (ys : List Y) → find q (map of ys) ≡ option_map of (find (λ y. q (of y)) ys)
+find-map of q [] = refl
+find-map of q (y ∷ ys) =
+    let rest = find-map of q ys in
+    elim (q (of y)) as (λ b. q (of y) ≡ b → find q (map of (y ∷ ys)) ≡ option_map of (find (λ z. q (of z)) (y ∷ ys))) [
+      | true ↦ λ yes. rw yes refl
+      | false ↦ λ no. rw no rest
+    ] refl
+
+first_live : {Y : Type 0} (of : Y → UsedEntry) (used : List UsedEntry) (ys : List Y) (test : UsedEntry → Bool) → filter is_live used ≡ map of ys → find (λ entry. is_live entry && test entry) used ≡ option_map of (find (λ y. test (of y)) ys)
+first_live of used ys test live = find-filter is_live test used ∙ (ap (find test) live ∙ find-map of test ys)
+
+pub first_pair : (used : List UsedEntry) (dict : DictContent) (test : UsedEntry → Bool) → AreDictEntries used dict → find (λ entry. is_live entry && test entry) used ≡ option_map used_pair (find (λ pair. test (used_pair pair)) dict.pairs)
+first_pair used dict test are = first_live used_pair used dict.pairs test are.live
+
+pub first_element : (used : List UsedEntry) (content : SetContent) (test : UsedEntry → Bool) → AreSetEntries used content → find (λ entry. is_live entry && test entry) used ≡ option_map used_element (find (λ element. test (used_element element)) content.elements)
+first_element used content test are = first_live used_element used content.elements test are.live
 
 -- ---- dicts
 

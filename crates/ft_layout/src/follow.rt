@@ -1,7 +1,8 @@
 //! Laws from the used entries of a table to what its dict or set has: what one change of an entry does
 //! to the pairs or elements. Whoever writes a table shows with them what its words stand for then.
 
-ghost use Rattle.std.specs.Prelude.{◌≡◌, ◌≢◌, ℕ, ◌+◌, true, false, List, [], ◌∷◌, ◌++◌, length, filter, All, IsTrue, Some, slice_get, slice_set};
+ghost use Rattle.std.specs.List.{find};
+ghost use Rattle.std.specs.Prelude.{Bool, ◌&&◌, option_map, ◌≡◌, ◌≢◌, ℕ, ◌+◌, true, false, List, [], ◌∷◌, ◌++◌, length, filter, All, IsTrue, Some, slice_get, slice_set};
 ghost use Rattle.ft_model.specs.declared.data.Key.{Key};
 ghost use Rattle.ft_model.specs.declared.data.Value.{Value};
 ghost use Rattle.ft_model.specs.declared.content.DictPair.{DictPair};
@@ -15,7 +16,8 @@ ghost use Rattle.ft_layout.specs.Containers.{class_mask, used_pair, used_element
 
 /// A live entry of a dict is that of a pair, whose value is the one at its key. Another value there is
 /// `dict_set`, and the entry's deletion is `dict_del`. A key that no live entry has is missing, and its
-/// entry at the end is `dict_set` with the next serial. The live entries alone are those of the same dict.
+/// entry at the end is `dict_set` with the next serial. The live entries alone are those of the same
+/// dict. The first live entry that passes a test, as to come after a serial, is the first such pair's.
 pub fn used_entries_follow_a_dict()
     ensures live { (used : List UsedEntry) (dict : DictContent) (place : ℕ) (entry : UsedEntry) →
         AreDictEntries used dict → IsDict dict.next dict.pairs → slice_get used place ≡ Some entry →
@@ -39,13 +41,17 @@ pub fn used_entries_follow_a_dict()
         AreDictEntries used dict → IsDict dict.next dict.pairs → slice_get used place ≡ Some (used_pair pair) →
         AreDictEntries (slice_set used place (deleted (used_pair pair))) (dict_del dict pair.key)
         × (length (dict_del dict pair.key).pairs + 1 ≡ length dict.pairs) }
+    ensures first { (used : List UsedEntry) (dict : DictContent) (test : UsedEntry → Bool) → AreDictEntries used dict →
+        find (λ entry. is_live entry && test entry) used
+        ≡ option_map used_pair (find (λ pair. test (used_pair pair)) dict.pairs) }
     ensures live_alone { (used : List UsedEntry) (dict : DictContent) → AreDictEntries used dict →
         AreDictEntries (filter is_live used) dict × (length (filter is_live used) ≡ length dict.pairs) }
 {}
 
 /// A live entry of a set is that of an element, and a set with the element is the same after
 /// `set_add`. The entry's deletion is `set_discard`. A key that no live entry has is missing, and its
-/// entry at the end is `set_add` with the next serial. The live entries alone are those of the same set.
+/// entry at the end is `set_add` with the next serial. The live entries alone are those of the same
+/// set. The first live entry that passes a test is the first such element's.
 pub fn used_entries_follow_a_set()
     ensures live { (used : List UsedEntry) (set : SetContent) (place : ℕ) (entry : UsedEntry) →
         AreSetEntries used set → IsSet set.next set.elements → slice_get used place ≡ Some entry →
@@ -62,6 +68,9 @@ pub fn used_entries_follow_a_set()
         AreSetEntries used set → IsSet set.next set.elements → slice_get used place ≡ Some (used_element element) →
         AreSetEntries (slice_set used place (deleted (used_element element))) (set_discard set element.key)
         × (length (set_discard set element.key).elements + 1 ≡ length set.elements) }
+    ensures first { (used : List UsedEntry) (set : SetContent) (test : UsedEntry → Bool) → AreSetEntries used set →
+        find (λ entry. is_live entry && test entry) used
+        ≡ option_map used_element (find (λ element. test (used_element element)) set.elements) }
     ensures live_alone { (used : List UsedEntry) (set : SetContent) → AreSetEntries used set →
         AreSetEntries (filter is_live used) set × (length (filter is_live used) ≡ length set.elements) }
 {}

@@ -1,6 +1,6 @@
 use Rattle.std.proofs.Common.{Some, ◌∙◌}
 use Rattle.ft_layout.proofs.FollowLaws.{live_pair, value_at, missing_key, changed_value, added_key, deleted_key}
-use Rattle.ft_layout.proofs.WordsFollow.{live_pairs}
+use Rattle.ft_layout.proofs.WordsFollow.{first_pair, live_pairs}
 use Rattle.ft_layout.proofs.follow.used_entries_follow_a_dict.Goals as goal
 
 pub returns-clause-live : goal.returns-clause-live
@@ -22,3 +22,6 @@ returns-clause-deleted c = λ used dict place pair are is at. deleted_key used d
 
 pub returns-clause-live_alone : goal.returns-clause-live_alone
 returns-clause-live_alone c = live_pairs
+
+pub returns-clause-first : goal.returns-clause-first
+returns-clause-first c = first_pair

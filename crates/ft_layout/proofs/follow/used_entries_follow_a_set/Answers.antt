@@ -1,6 +1,6 @@
 use Rattle.std.proofs.Common.{Some, ◌∙◌}
 use Rattle.ft_layout.proofs.FollowLaws.{live_element, present_element, kept_element, missing_element, added_element_is, deleted_element}
-use Rattle.ft_layout.proofs.WordsFollow.{live_elements}
+use Rattle.ft_layout.proofs.WordsFollow.{first_element, live_elements}
 use Rattle.ft_layout.proofs.follow.used_entries_follow_a_set.Goals as goal
 
 pub returns-clause-live : goal.returns-clause-live
@@ -20,3 +20,6 @@ returns-clause-deleted c = λ used set place element are is at. deleted_element 
 
 pub returns-clause-live_alone : goal.returns-clause-live_alone
 returns-clause-live_alone c = live_elements
+
+pub returns-clause-first : goal.returns-clause-first
+returns-clause-first c = first_element

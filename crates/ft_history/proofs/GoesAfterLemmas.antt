@@ -52,9 +52,9 @@ set_cases xs i k x y low at =
 
 -- a reply that isn't a MemoryError makes a write exactly where the plain container's does
 write_alike : (called : Call) (said plain : Reply) → IsReplied called said plain → is_memory said ≡ false → is_write called plain ≡ is_write called said
-write_alike (call.Begin first second) said plain reported none = refl
-write_alike call.End said plain reported none = refl
-write_alike call.Quiesce said plain reported none = refl
+write_alike (call.Begin first second) said plain right none = refl
+write_alike call.End said plain right none = refl
+write_alike call.Quiesce said plain right none = refl
 write_alike (call.Dict container dict_call) said plain (inl memory) none = absurd (false≢true (sym none ∙ memory))
 write_alike (call.Dict container dict_call) said plain (inr same) none = ap (is_write (call.Dict container dict_call)) (sym same)
 write_alike (call.List container list_call) said plain (inl memory) none = absurd (false≢true (sym none ∙ memory))
@@ -81,7 +81,7 @@ module _ (script : ScriptParts) (is_script : IsScript script) (entries : List En
   pub its_call : IsCallOf script (cursors_of script entry.thread) entry.call
   its_call = call_of_thread script is_script entry.thread thread_found.0 thread_found.1 _ entry.call next.call
 
-  module _ (stamped : IsStamped entries place entry) (no_cursor : is_memory entry.reply ≡ true → cursor_of entry.call ≡ None) (said : Bool) (before after : ThreadProgress) (old new : State) (is_state : IsState script entries place old) (goes : GoesAfter place entry said before after old new) (reported : IsTrue said) where
+  module _ (stamped : IsStamped entries place entry) (no_cursor : is_memory entry.reply ≡ true → cursor_of entry.call ≡ None) (said : Bool) (before after : ThreadProgress) (old new : State) (is_state : IsState script entries place old) (goes : GoesAfter place entry said before after old new) (right : IsTrue said) where
     so_far : IsProgress script entries entry.thread place before
     so_far = is_state.progress entry.thread before goes.at
 
@@ -92,7 +92,7 @@ module _ (script : ScriptParts) (is_script : IsScript script) (entries : List En
     left = leaves_of script.containers old.world is_state.kinds before.hands (cursors_of script entry.thread) entry.call its_call.names its_hands.kinds
 
     replied : IsReplied entry.call entry.reply (answer old.world before.hands entry.call).reply
-    replied = goes.reported.0 reported
+    replied = goes.right.0 right
 
     module _ (plain : is_memory entry.reply ≡ false) where
       world_is : new.world ≡ (answer old.world before.hands entry.call).world
@@ -246,17 +246,17 @@ module _ (s : Storage) (script : ScriptParts) (entries : List Entry) (place : �
   same_hands : before.hands ≡ hands_at script entries entry.thread place
   same_hands = (is_state.progress entry.thread before goes.at).hands
 
-  pub reported_there : IsReplied entry.call entry.reply (answer old.world before.hands entry.call).reply → HasRightReply script entries place entry
-  reported_there replied = subst (λ (hs : List (Option Cursor)). IsReplied entry.call entry.reply (answer (world_at script entries (length (writes (take place entries)))) hs entry.call).reply) same_hands (subst (λ (w : List Content). IsReplied entry.call entry.reply (answer w before.hands entry.call).reply) same_world replied)
+  pub right_there : IsReplied entry.call entry.reply (answer old.world before.hands entry.call).reply → HasRightReply script entries place entry
+  right_there replied = subst (λ (hs : List (Option Cursor)). IsReplied entry.call entry.reply (answer (world_at script entries (length (writes (take place entries)))) hs entry.call).reply) same_hands (subst (λ (w : List Content). IsReplied entry.call entry.reply (answer w before.hands entry.call).reply) same_world replied)
 
-  pub reported_here : HasRightReply script entries place entry → IsReplied entry.call entry.reply (answer old.world before.hands entry.call).reply
-  reported_here reported = subst (λ (w : List Content). IsReplied entry.call entry.reply (answer w before.hands entry.call).reply) (sym same_world) (subst (λ (hs : List (Option Cursor)). IsReplied entry.call entry.reply (answer (world_at script entries (length (writes (take place entries)))) hs entry.call).reply) (sym same_hands) reported)
+  pub right_here : HasRightReply script entries place entry → IsReplied entry.call entry.reply (answer old.world before.hands entry.call).reply
+  right_here right = subst (λ (w : List Content). IsReplied entry.call entry.reply (answer w before.hands entry.call).reply) (sym same_world) (subst (λ (hs : List (Option Cursor)). IsReplied entry.call entry.reply (answer (world_at script entries (length (writes (take place entries)))) hs entry.call).reply) (sym same_hands) right)
 
   pub breaks_reply : HoldsFirst s script entries place entry 3 → said ≡ false → BreaksFirst s script entries place entry rule.Reply
-  breaks_reply first off = record { before = first; broken = λ reported. false≢true (sym off ∙ goes.reported.1 (reported_here reported)) }
+  breaks_reply first off = record { before = first; broken = λ right. false≢true (sym off ∙ goes.right.1 (right_here right)) }
 
   pub holds_four : HoldsFirst s script entries place entry 3 → said ≡ true → HoldsFirst s script entries place entry 4
-  holds_four first on = holds_more s script entries place entry 3 rule.Reply refl first (reported_there (goes.reported.0 on))
+  holds_four first on = holds_more s script entries place entry 3 rule.Reply refl first (right_there (goes.right.0 on))
 
 pub finds_all : (s : Storage) (script : ScriptParts) (entries : List Entry) (place : ℕ) (entry : Entry) (found : Option Rule) → HoldsFirst s script entries place entry 4 → FindsLate s script entries place entry found → Finds s script entries place entry found
 finds_all s script entries place entry (Some r) first late = late first

@@ -69,25 +69,25 @@ or_absorbs : (a b : Bool) → (a ≡ true → b ≡ true) → (a || b) ≡ b
 or_absorbs true b so = sym (so refl)
 or_absorbs false b so = refl
 
--- what is reported to be written from a place on is written before the place where the telling ends
-reported_before : (since place : ℕ) (at : Option ℕ) → IfSome at (λ p. p < place) → is_from since at ≡ true → leb since place ≡ true
-reported_before since place None within reported = absurd (false≢true reported)
-reported_before since place (Some p) within reported = le-leb since place (let low = leb-true since p reported in omega arith)
+-- what is said to be written from a place on is written before the place up to which it is said
+said_before : (since place : ℕ) (at : Option ℕ) → IfSome at (λ p. p < place) → is_from since at ≡ true → leb since place ≡ true
+said_before since place None within said = absurd (false≢true said)
+said_before since place (Some p) within said = le-leb since place (let low = leb-true since p said in omega arith)
 
 said_some : (last : Write) (other : Option ℕ) (writer place thread since : ℕ) → last.place < place → IfSome other (λ p. p < place)
     → is_written_since (after_one (record { last = Some last; other = other }) writer place) thread since ≡ (is_written_since (record { last = Some last; other = other }) thread since || (leb since place && not (eqb writer thread)))
 said_some last other writer place thread since last_before other_before =
-    let reported : Bool = cond (eqb last.thread thread) (is_from since other) (leb since last.place) in
-    elim (eqb writer thread) as (λ b. eqb writer thread ≡ b → cond b (is_from since (cond (eqb last.thread writer) other (Some last.place))) (leb since place) ≡ (reported || (leb since place && not b))) [
+    let said : Bool = cond (eqb last.thread thread) (is_from since other) (leb since last.place) in
+    elim (eqb writer thread) as (λ b. eqb writer thread ≡ b → cond b (is_from since (cond (eqb last.thread writer) other (Some last.place))) (leb since place) ≡ (said || (leb since place && not b))) [
       | true ↦ λ mine.
           let same : writer ≡ thread = eqb-true writer thread mine in
           ap (λ w. is_from since (cond (eqb last.thread w) other (Some last.place))) same
           ∙ elim (eqb last.thread thread) as (λ b. is_from since (cond b other (Some last.place)) ≡ cond b (is_from since other) (leb since last.place)) [ true ↦ refl | false ↦ refl ]
-          ∙ sym (ap (λ b. reported || b) (and_false (leb since place)) ∙ or_false reported)
+          ∙ sym (ap (λ b. said || b) (and_false (leb since place)) ∙ or_false said)
       | false ↦ λ others.
-          sym (ap (λ b. reported || b) (and_true (leb since place)) ∙ or_absorbs reported (leb since place) (λ yes.
+          sym (ap (λ b. said || b) (and_true (leb since place)) ∙ or_absorbs said (leb since place) (λ yes.
           elim (eqb last.thread thread) as (λ b. cond b (is_from since other) (leb since last.place) ≡ true → leb since place ≡ true) [
-            | true ↦ λ from. reported_before since place other other_before from
+            | true ↦ λ from. said_before since place other other_before from
             | false ↦ λ from. le-leb since place (let low = leb-true since last.place from in omega arith)
           ] yes))
     ] refl

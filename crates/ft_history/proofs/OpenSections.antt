@@ -1,4 +1,4 @@
--- The open sections of a thread, by the entries that began them: where these stand, the list says.
+-- The open sections of a thread, given by the entries that began them: where these stand, the list says.
 use Rattle.std.proofs.Common.{◌≡◌, ℕ, ◌+◌, ◌<◌, ◌≤◌, true, false, List, [], ◌∷◌, ◌++◌, length, take, drop, Some, refl, sym, ap, subst, ◌∙◌, arith, cond, ◌==◌}
 use Rattle.std.specs.Prelude.{slice_get}
 use Rattle.std.proofs.lemmas.Bool.{eqb-true}

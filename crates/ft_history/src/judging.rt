@@ -184,11 +184,11 @@ fn go_after(alloc: Global, state: &mut State, place: u64, entry: &Entry) -> Resu
     requires containers { All (λ container. container < vec_len state.old.containers) (containers_of entry.now.call) }
     requires account { vec_len state.old.account.takings ≡ class_count }
     requires takings { All (λ taken. taken < 2 ^ 63) state.old.account.takings.items }
-    ensures { IfOk result (λ reported. (before : ThreadProgress) × (after : ThreadProgress) × GoesAfter place entry.now reported before after state.old state.new) }
+    ensures { IfOk result (λ right. (before : ThreadProgress) × (after : ThreadProgress) × GoesAfter place entry.now right before after state.old state.new) }
 {
     let size = size_of_own(&state.world, &entry.call);
     let progress = &mut state.threads[entry.thread as usize];
-    let reported = go_through(alloc, &mut state.world, progress, place, entry)?;
+    let right = go_through(alloc, &mut state.world, progress, place, entry)?;
     if entry.wrote {
         state.writes += 1;
         note_write(
@@ -199,7 +199,7 @@ fn go_after(alloc: Global, state: &mut State, place: u64, entry: &Entry) -> Resu
         );
         note_taking(&mut state.account, &state.world, &entry.call, size);
     }
-    Ok(reported)
+    Ok(right)
 }
 
 /// The first rule that the entry breaks, or none, and then the state is the one after it.
@@ -226,6 +226,6 @@ fn step(
         return Ok(Some(rule));
     }
     let late = late_rule(storage, parts, users, state, entry);
-    let reported = go_after(alloc, state, place as u64, entry)?;
-    Ok(if reported { late } else { Some(Rule::Reply) })
+    let right = go_after(alloc, state, place as u64, entry)?;
+    Ok(if right { late } else { Some(Rule::Reply) })
 }

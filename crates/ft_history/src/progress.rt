@@ -44,16 +44,16 @@ pub fn go_through(
     requires room { IsDeclared world.old progress.old.hands entry.now.call → HasRoom world.old entry.now.call }
     requires made { progress.old.made < 2 ^ 63 }
     requires marks { progress.old.marks < 2 ^ 63 }
-    ensures reported { IfOk result (λ reported. IsTrue reported ↔ IsReplied entry.now.call entry.now.reply (answer world.old progress.old.hands entry.now.call).reply) }
+    ensures right { IfOk result (λ right. IsTrue right ↔ IsReplied entry.now.call entry.now.reply (answer world.old progress.old.hands entry.now.call).reply) }
     ensures world { OnOk result (world.new ≡ (if is_memory entry.now.reply then world.old else (answer world.old progress.old.hands entry.now.call).world)) }
     ensures hands { OnOk result (progress.new.hands ≡ (if is_memory entry.now.reply then progress.old.hands else (answer world.old progress.old.hands entry.now.call).hands)) }
     ensures made { OnOk result (progress.new.made ≡ progress.old.made + 1) }
     ensures marks { OnOk result (progress.new.marks ≡ progress.old.marks + (if is_some entry.now.waited then 1 else 0)) }
     ensures sections { OnOk result (all_begun progress.new.sections.items ≡ after_begun place progress.new.marks entry.now.call (all_begun progress.old.sections.items)) }
 {
-    let reported = is_replied(alloc, world, &mut progress.hands, entry)?;
+    let right = is_replied(alloc, world, &mut progress.hands, entry)?;
     go_on(progress, place, entry)?;
-    Ok(reported)
+    Ok(right)
 }
 
 /// Goes on after an entry of the thread, but for what its call does to the cursors.

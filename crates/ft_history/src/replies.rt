@@ -19,7 +19,7 @@ pub fn is_replied(
 ) -> Result<bool, AllocError>
     requires askable { IsAskable world.old hands.old entry.now.call }
     requires room { IsDeclared world.old hands.old entry.now.call → HasRoom world.old entry.now.call }
-    ensures reported { IfOk result (λ reported. IsTrue reported ↔ IsReplied entry.now.call entry.now.reply (answer world.old hands.old entry.now.call).reply) }
+    ensures right { IfOk result (λ right. IsTrue right ↔ IsReplied entry.now.call entry.now.reply (answer world.old hands.old entry.now.call).reply) }
     ensures world { OnOk result (world.new ≡ (if is_memory entry.now.reply then world.old else (answer world.old hands.old entry.now.call).world)) }
     ensures hands { OnOk result (hands.new ≡ (if is_memory entry.now.reply then hands.old else (answer world.old hands.old entry.now.call).hands)) }
 {
@@ -40,7 +40,7 @@ fn is_answered(
 ) -> Result<bool, AllocError>
     requires declared { IsDeclared world.old hands.old entry.now.call }
     requires room { HasRoom world.old entry.now.call }
-    ensures reported { IfOk result (λ reported. IsTrue reported ↔ ((is_memory entry.now.reply ≡ true) ⊎ (entry.now.reply ≡ (answer world.old hands.old entry.now.call).reply))) }
+    ensures right { IfOk result (λ right. IsTrue right ↔ ((is_memory entry.now.reply ≡ true) ⊎ (entry.now.reply ≡ (answer world.old hands.old entry.now.call).reply))) }
     ensures world { OnOk result (world.new ≡ (if is_memory entry.now.reply then world.old else (answer world.old hands.old entry.now.call).world)) }
     ensures hands { OnOk result (hands.new ≡ (if is_memory entry.now.reply then hands.old else (answer world.old hands.old entry.now.call).hands)) }
 {

@@ -32,7 +32,7 @@ pub record IsState (script : ScriptParts) (entries : List Entry) (place : ℕ) (
 pub record GoesAfter (place : ℕ) (entry : Entry) (said : Bool) (before after : ThreadProgress) (old new : State) : Type 0 where
   pub at : slice_get old.threads.items entry.thread ≡ Some before
   pub threads : new.threads.items ≡ slice_set old.threads.items entry.thread after
-  pub reported : IsTrue said ↔ IsReplied entry.call entry.reply (answer old.world before.hands entry.call).reply
+  pub right : IsTrue said ↔ IsReplied entry.call entry.reply (answer old.world before.hands entry.call).reply
   pub world : new.world ≡ (if is_memory entry.reply then old.world else (answer old.world before.hands entry.call).world)
   pub hands : after.hands ≡ (if is_memory entry.reply then before.hands else (answer old.world before.hands entry.call).hands)
   pub made : after.made ≡ before.made + 1

@@ -40,12 +40,12 @@ returns-then-entry c =
       record {
         at = slice_get_read threads.items _ entry.thread before refl low c.index_mut-progress.ensures.value;
         threads = refl;
-        reported = c.in_ok-reported.ensures.reported;
-        world = c.in_ok-reported.ensures.world;
-        hands = c.in_ok-reported.ensures.hands;
-        made = c.in_ok-reported.ensures.made;
-        marks = c.in_ok-reported.ensures.marks;
-        sections = c.in_ok-reported.ensures.sections;
+        right = c.in_ok-right.ensures.right;
+        world = c.in_ok-right.ensures.world;
+        hands = c.in_ok-right.ensures.hands;
+        made = c.in_ok-right.ensures.made;
+        marks = c.in_ok-right.ensures.marks;
+        sections = c.in_ok-right.ensures.sections;
         writes = ap (λ b. c.args.state.now.writes + cond b 1 0) (sym c.if-entry.true);
         containers = sym c.note_write.new.containers.ok.0 ∙ c.note_write.ensures.length ∙ c.args.state.now.containers.ok.0;
         lasts = λ container other.
@@ -70,12 +70,12 @@ returns-else-entry c =
       record {
         at = slice_get_read threads.items _ entry.thread before refl low c.index_mut-progress.ensures.value;
         threads = refl;
-        reported = c.in_ok-reported.ensures.reported;
-        world = c.in_ok-reported.ensures.world;
-        hands = c.in_ok-reported.ensures.hands;
-        made = c.in_ok-reported.ensures.made;
-        marks = c.in_ok-reported.ensures.marks;
-        sections = c.in_ok-reported.ensures.sections;
+        right = c.in_ok-right.ensures.right;
+        world = c.in_ok-right.ensures.world;
+        hands = c.in_ok-right.ensures.hands;
+        made = c.in_ok-right.ensures.made;
+        marks = c.in_ok-right.ensures.marks;
+        sections = c.in_ok-right.ensures.sections;
         writes = let none : c.args.state.now.writes ≡ c.args.state.now.writes + 0 = omega arith in none ∙ ap (λ b. c.args.state.now.writes + cond b 1 0) (sym c.if-entry.false);
         containers = refl;
         lasts = λ container other. ap (λ b. cond (b && names container entry.call) (after_one (get_or c.args.state.now.containers.items container other) entry.thread c.args.place) (get_or c.args.state.now.containers.items container other)) (sym c.if-entry.false);

@@ -75,25 +75,25 @@ go_after-requires-clause-containers c =
     subst (λ n. All (λ container. container < n) (containers_of c.index-entries-place.result.call)) (sym c.args.state.now.containers.ok.0)
     (within_containers c.args.parts.now c.requires.script c.args.entries.now c.args.place c.index-entries-place.result at next c.args.state.now c.requires.state)
 
-pub returns-then-reported-clause-found : goal.returns-then-reported-clause-found
-returns-then-reported-clause-found c = λ entry at'.
+pub returns-then-right-clause-found : goal.returns-then-right-clause-found
+returns-then-right-clause-found c = λ entry at'.
     let at = here c.args.entries.now c.args.place c.index-entries-place.result c.requires.place c.index-entries-place.is in
-    let goes = c.in_ok-reported.ensures in
-    let first = holds_four c.args.storage c.args.parts.now c.args.entries.now c.args.place c.index-entries-place.result c.in_ok-reported.reported goes.0 goes.1 c.args.state.now c.go_after.new.state c.requires.state goes.2 (c.in_default.ensures c.args.storage) c.if-reported.true in
+    let goes = c.in_ok-right.ensures in
+    let first = holds_four c.args.storage c.args.parts.now c.args.entries.now c.args.place c.index-entries-place.result c.in_ok-right.right goes.0 goes.1 c.args.state.now c.go_after.new.state c.requires.state goes.2 (c.in_default.ensures c.args.storage) c.if-right.true in
     subst (λ e. Finds c.args.storage c.args.parts.now c.args.entries.now c.args.place e c.late_rule-late.result) (same_Some _ _ (sym at ∙ at'))
     (finds_all c.args.storage c.args.parts.now c.args.entries.now c.args.place c.index-entries-place.result c.late_rule-late.result first (c.late_rule-late.ensures c.args.entries.now c.args.place at c.requires.users c.requires.state))
 
-pub returns-then-reported-clause-state : goal.returns-then-reported-clause-state
-returns-then-reported-clause-state c =
+pub returns-then-right-clause-state : goal.returns-then-right-clause-state
+returns-then-right-clause-state c =
     let at = here c.args.entries.now c.args.place c.index-entries-place.result c.requires.place c.index-entries-place.is in
-    let goes = c.in_ok-reported.ensures in
+    let goes = c.in_ok-right.ensures in
     let first = c.in_default.ensures c.args.storage in
     where_none c.args.storage c.args.parts.now c.args.entries.now c.args.place c.index-entries-place.result _ c.late_rule-late.result (c.late_rule-late.ensures c.args.entries.now c.args.place at c.requires.users c.requires.state)
-    (λ late. state_after c.args.parts.now c.requires.script c.args.entries.now c.args.place c.index-entries-place.result at (first rule.Whole (omega arith)) (first rule.Stamp (omega arith)) (earned_no_cursor c.args.storage c.args.parts.now (writes (take c.args.place c.args.entries.now)) (entries_of c.index-entries-place.result.thread (take c.args.place c.args.entries.now)) c.index-entries-place.result late.memory) c.in_ok-reported.reported goes.0 goes.1 c.args.state.now c.go_after.new.state c.requires.state goes.2 c.if-reported.true)
+    (λ late. state_after c.args.parts.now c.requires.script c.args.entries.now c.args.place c.index-entries-place.result at (first rule.Whole (omega arith)) (first rule.Stamp (omega arith)) (earned_no_cursor c.args.storage c.args.parts.now (writes (take c.args.place c.args.entries.now)) (entries_of c.index-entries-place.result.thread (take c.args.place c.args.entries.now)) c.index-entries-place.result late.memory) c.in_ok-right.right goes.0 goes.1 c.args.state.now c.go_after.new.state c.requires.state goes.2 c.if-right.true)
 
-pub returns-else-reported-clause-found : goal.returns-else-reported-clause-found
-returns-else-reported-clause-found c = λ entry at'.
+pub returns-else-right-clause-found : goal.returns-else-right-clause-found
+returns-else-right-clause-found c = λ entry at'.
     let at = here c.args.entries.now c.args.place c.index-entries-place.result c.requires.place c.index-entries-place.is in
-    let goes = c.in_ok-reported.ensures in
+    let goes = c.in_ok-right.ensures in
     subst (λ e. BreaksFirst c.args.storage c.args.parts.now c.args.entries.now c.args.place e rule.Reply) (same_Some _ _ (sym at ∙ at'))
-    (breaks_reply c.args.storage c.args.parts.now c.args.entries.now c.args.place c.index-entries-place.result c.in_ok-reported.reported goes.0 goes.1 c.args.state.now c.go_after.new.state c.requires.state goes.2 (c.in_default.ensures c.args.storage) c.if-reported.false)
+    (breaks_reply c.args.storage c.args.parts.now c.args.entries.now c.args.place c.index-entries-place.result c.in_ok-right.right goes.0 goes.1 c.args.state.now c.go_after.new.state c.requires.state goes.2 (c.in_default.ensures c.args.storage) c.if-right.false)

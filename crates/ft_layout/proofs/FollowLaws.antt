@@ -1,9 +1,9 @@
 -- What becomes of a dict's pairs and a set's elements as used entries are added, change and are deleted.
-use Rattle.std.proofs.Common.{◌≡◌, ◌≢◌, ℕ, zero, suc, ◌+◌, ◌<◌, true, false, not, List, [], ◌∷◌, ◌++◌, length, get_or, set, map, filter, Option, Some, refl, sym, ap, ◌∙◌, subst, arith}
+use Rattle.std.proofs.Common.{◌≡◌, ◌≢◌, ℕ, zero, suc, ◌+◌, ◌-◌, ◌<◌, take, drop, true, false, not, List, [], ◌∷◌, ◌++◌, length, get_or, set, map, filter, Option, Some, refl, sym, ap, ◌∙◌, subst, arith}
 use Rattle.std.specs.Prelude.{All, IsTrue, remove, slice_get}
 use Rattle.std.specs.Option.{option_map}
-use Rattle.std.proofs.lemmas.Option.{get_or_from_slice_get}
-use Rattle.std.proofs.lemmas.List.{length-map, length-set, length_push, get_or-map}
+use Rattle.std.proofs.lemmas.Option.{get_or_from_slice_get, slice_get-get_or}
+use Rattle.std.proofs.lemmas.List.{append-nil, drop_all, length-map, length-set, length_push, get_or-map}
 use Rattle.std.proofs.lemmas.List.Elements.{All-set, All-push}
 use Rattle.ft_model.specs.declared.data.Key.{Key}
 use Rattle.ft_model.specs.declared.data.Value.{Value}
@@ -11,11 +11,12 @@ use Rattle.ft_model.specs.declared.content.DictPair.{DictPair}
 use Rattle.ft_model.specs.declared.content.Element.{Element}
 use Rattle.ft_model.specs.declared.data.Value.TheVariants.{Nothing}
 use Rattle.ft_model.specs.Keys.{same_key}
+use Rattle.ft_model.specs.Answers.{without_last, without_first}
 use Rattle.ft_model.specs.Contents.{DictContent, SetContent, IsDict, IsSet, has_key, dict_get, dict_set, dict_del, has_element, set_add, set_discard}
 use Rattle.ft_model.proofs.Dicts.{set_found}
 use Rattle.ft_layout.specs.Tables.{UsedEntry, is_live, deleted}
 use Rattle.ft_layout.specs.Containers.{used_pair, used_element, AreDictEntries, AreSetEntries}
-use Rattle.ft_layout.proofs.LiveLaws.{IsKth, live-stands, live-added}
+use Rattle.ft_layout.proofs.LiveLaws.{IsKth, rank-first, rank-last, live-stands, live-added}
 use Rattle.ft_layout.proofs.ContentLaws.{pair_back, element_back}
 use Rattle.ft_layout.proofs.KeyedLists.{none_at, there_at, found_at, find_it, without, length-remove}
 
@@ -106,6 +107,20 @@ module _ (used : List UsedEntry) (dict : DictContent) (are : AreDictEntries used
             ap (λ (ps : List DictPair). length ps + 1) is ∙ length-remove dict.pairs k stands.1.low,
           )
 
+      -- the last live entry is the last pair's
+      pub last_pair : ((j : ℕ) (any : UsedEntry) → place < j → j < length used → is_live (get_or used j any) ≡ false) → (slice_get dict.pairs (length dict.pairs - 1) ≡ Some pair) × (dict_del dict pair.key ≡ without_last dict)
+      last_pair none =
+          let entry : is_live (get_or used place (used_pair pair)) ≡ true = ap is_live ((there used place (used_pair pair) at).1 (used_pair pair)) in
+          let long : length (filter is_live used) ≡ k + 1 = rank-last is_live used place (used_pair pair) (there used place (used_pair pair) at).0 entry none ∙ ap (λ (i : ℕ). i + 1) (sym stands.1.before) in
+          let count : length (filter is_live used) ≡ length dict.pairs = ap length are.live ∙ length-map dict.pairs used_pair in
+          let end : k ≡ length dict.pairs - 1 = omega (arith, long, count) in
+          let is : filter (λ (p : DictPair). not (same_key p.key pair.key)) dict.pairs ≡ remove dict.pairs k = without (λ (p : DictPair). p.key) dict.pairs pair.key is_dict.distinct k stands.1.low here_key in
+          let past : drop (suc k) dict.pairs ≡ [] = drop_all (suc k) dict.pairs (omega (arith, long, count)) in
+          let cut : remove dict.pairs k ≡ take (length dict.pairs - 1) dict.pairs = ap (λ (ps : List DictPair). take k dict.pairs ++ ps) past ∙ (append-nil (take k dict.pairs) ∙ ap (λ (n : ℕ). take n dict.pairs) end) in (
+            ap (λ (n : ℕ). slice_get dict.pairs n) (sym end) ∙ (slice_get-get_or dict.pairs k pair stands.1.low ∙ ap Some (here pair)),
+            ap (with_pairs dict.next) (is ∙ cut),
+          )
+
     pub live_pair : (entry : UsedEntry) → slice_get used place ≡ Some entry → IsTrue (is_live entry) → (pair : DictPair) × (entry ≡ used_pair pair)
     live_pair entry at live =
         let s = pair_at entry at live in
@@ -170,6 +185,15 @@ module _ (used : List UsedEntry) (content : SetContent) (are : AreSetEntries use
               below = All-set (λ (u : UsedEntry). u.serial < content.next) used place (deleted (used_element element)) low are.below;
             },
             ap (λ (es : List Element). length es + 1) is ∙ length-remove content.elements n stands_element.1.low,
+          )
+
+      -- the first live entry is the first element's
+      pub first_out : ((j : ℕ) (any : UsedEntry) → j < place → is_live (get_or used j any) ≡ false) → (slice_get content.elements 0 ≡ Some element) × (set_discard content element.key ≡ without_first content)
+      first_out none =
+          let zero_th : n ≡ 0 = stands_element.1.before ∙ rank-first is_live used place (there used place (used_element element) at).0 none in
+          let is : filter (λ (e : Element). not (same_key e.key element.key)) content.elements ≡ remove content.elements n = without (λ (e : Element). e.key) content.elements element.key is_set.distinct n stands_element.1.low here_element_key in (
+            ap (λ (i : ℕ). slice_get content.elements i) (sym zero_th) ∙ (slice_get-get_or content.elements n element stands_element.1.low ∙ ap Some (here_element element)),
+            ap (with_elements content.next) (is ∙ ap (remove content.elements) zero_th),
           )
 
     pub live_element : (entry : UsedEntry) → slice_get used place ≡ Some entry → IsTrue (is_live entry) → (element : Element) × (entry ≡ used_element element)

@@ -1,5 +1,5 @@
 -- Which entries are live after one is added, changed or deleted, and which pairs or elements that makes.
-use Rattle.std.proofs.Common.{◌≡◌, ◌≢◌, ℕ, zero, suc, ◌<◌, Bool, true, false, List, [], ◌∷◌, ◌++◌, length, get_or, set, take, drop, map, filter, None, refl, sym, ap, ◌∙◌, arith, rules}
+use Rattle.std.proofs.Common.{◌≡◌, ◌≢◌, ℕ, zero, suc, ◌+◌, ◌<◌, Bool, true, false, List, [], ◌∷◌, ◌++◌, length, get_or, set, take, drop, map, filter, None, refl, sym, ap, ◌∙◌, arith, rules}
 use Rattle.std.specs.Prelude.{AllPairs, IsTrue, remove, slice_set, slice_index_or, pos}
 use Rattle.std.proofs.lemmas.List.{map_push, map-append, map-set, length-map, get_or-map, take-map, drop-map, take-take, get_or-take, length-take-le}
 use Rattle.std.proofs.lemmas.List.Kept.{AllPairs-filter}
@@ -55,6 +55,30 @@ module _ {X : Type 0} (p : X → Bool) where
       let short : take i (take j xs) ≡ take i xs = take-take i j xs (omega arith) in
       omega (arith, at.0, ap (λ (ys : List X). length (filter p ys)) short)
 
+-- ---- the first and the last that are kept
+
+module _ {X : Type 0} (p : X → Bool) where
+  filter-none : (xs : List X) → ((j : ℕ) (d : X) → j < length xs → p (get_or xs j d) ≡ false) → filter p xs ≡ []
+  filter-none [] none = refl
+  filter-none (x ∷ xs) none = rw (none 0 x (omega arith)) (filter-none xs (λ j d low. none (suc j) d (omega arith)))
+
+  -- where none is kept before
+  pub rank-first : (xs : List X) (i : ℕ) → i < length xs → ((j : ℕ) (d : X) → j < i → p (get_or xs j d) ≡ false) → rank p xs i ≡ 0
+  rank-first [] i low none = absurd (omega arith)
+  rank-first (x ∷ xs) zero low none = refl
+  rank-first (x ∷ xs) (suc i) low none = rw (none 0 x (omega arith)) (rank-first xs i (omega arith) (λ j d less. none (suc j) d (omega arith)))
+
+  -- where none is kept after
+  pub rank-last : (xs : List X) (i : ℕ) (d : X) → i < length xs → p (get_or xs i d) ≡ true → ((j : ℕ) (e : X) → i < j → j < length xs → p (get_or xs j e) ≡ false) → length (filter p xs) ≡ rank p xs i + 1
+  rank-last [] i d low kept none = absurd (omega arith)
+  rank-last (x ∷ xs) zero d low kept none = rw (kept, filter-none xs (λ j e less. none (suc j) e (omega arith) (omega arith))) refl
+  rank-last (x ∷ xs) (suc i) d low kept none =
+      let rest = rank-last xs i d (omega arith) kept (λ j e more less. none (suc j) e (omega arith) (omega arith)) in
+      elim (p x) as (λ b. p x ≡ b → length (filter p (x ∷ xs)) ≡ rank p (x ∷ xs) (suc i) + 1) [
+        | true ↦ λ yes. rw yes (omega (arith, rest))
+        | false ↦ λ no. rw no rest
+      ] refl
+
 -- ---- keys of live entries differ, said of each two entries and of the live ones
 
 abbrev pub Differ : UsedEntry → UsedEntry → Type 0
@@ -81,6 +105,7 @@ distinct-used used all i j any less low first second =
 pub record IsKth {Y : Type 0} (of : Y → UsedEntry) (used : List UsedEntry) (place : ℕ) (pairs : List Y) (k : ℕ)
     : Type 0 where
   pub low : k < length pairs
+  pub before : k ≡ length (filter is_live (take place used))
   pub is : (pair : Y) (any : UsedEntry) → of (slice_index_or pairs k pair) ≡ slice_index_or used place any
   pub changed : (pair : Y) → filter is_live (slice_set used place (of pair)) ≡ map of (slice_set pairs k pair)
   pub deleted : (gone : UsedEntry) → is_live gone ≡ false
@@ -124,6 +149,7 @@ module _ {Y : Type 0} (of : Y → UsedEntry) (there : (y : Y) → is_live (of y)
         rank is_live used place,
         record {
           low = live-low place nobody low (yes nobody);
+          before = refl;
           is = λ y any. live-is place any y low (yes any);
           changed = λ y. live-changed place (of y) y low (yes (of y));
           deleted = λ gone dead. live-deleted place gone gone low (yes gone) dead;

@@ -2,7 +2,8 @@
 //! to the pairs or elements. Whoever writes a table shows with them what its words stand for then.
 
 ghost use Rattle.std.specs.List.{find};
-ghost use Rattle.std.specs.Prelude.{Bool, ◌&&◌, option_map, ◌≡◌, ◌≢◌, ℕ, ◌+◌, true, false, List, [], ◌∷◌, ◌++◌, length, filter, All, IsTrue, Some, slice_get, slice_set};
+ghost use Rattle.ft_model.specs.Answers.{without_last, without_first};
+ghost use Rattle.std.specs.Prelude.{Bool, ◌&&◌, ◌-◌, ◌<◌, slice_index_or, option_map, ◌≡◌, ◌≢◌, ℕ, ◌+◌, true, false, List, [], ◌∷◌, ◌++◌, length, filter, All, IsTrue, Some, slice_get, slice_set};
 ghost use Rattle.ft_model.specs.declared.data.Key.{Key};
 ghost use Rattle.ft_model.specs.declared.data.Value.{Value};
 ghost use Rattle.ft_model.specs.declared.content.DictPair.{DictPair};
@@ -17,7 +18,8 @@ ghost use Rattle.ft_layout.specs.Containers.{class_mask, used_pair, used_element
 /// A live entry of a dict is that of a pair, whose value is the one at its key. Another value there is
 /// `dict_set`, and the entry's deletion is `dict_del`. A key that no live entry has is missing, and its
 /// entry at the end is `dict_set` with the next serial. The live entries alone are those of the same
-/// dict. The first live entry that passes a test, as to come after a serial, is the first such pair's.
+/// dict. The first live entry that passes a test, as to come after a serial, is the first such pair's,
+/// and the last live entry is the last pair's.
 pub fn used_entries_follow_a_dict()
     ensures live { (used : List UsedEntry) (dict : DictContent) (place : ℕ) (entry : UsedEntry) →
         AreDictEntries used dict → IsDict dict.next dict.pairs → slice_get used place ≡ Some entry →
@@ -44,6 +46,11 @@ pub fn used_entries_follow_a_dict()
     ensures first { (used : List UsedEntry) (dict : DictContent) (test : UsedEntry → Bool) → AreDictEntries used dict →
         find (λ entry. is_live entry && test entry) used
         ≡ option_map used_pair (find (λ pair. test (used_pair pair)) dict.pairs) }
+    ensures last { (used : List UsedEntry) (dict : DictContent) (place : ℕ) (pair : DictPair) →
+        AreDictEntries used dict → IsDict dict.next dict.pairs → slice_get used place ≡ Some (used_pair pair) →
+        ((later : ℕ) (any : UsedEntry) → place < later → later < length used →
+        is_live (slice_index_or used later any) ≡ false) →
+        (slice_get dict.pairs (length dict.pairs - 1) ≡ Some pair) × (dict_del dict pair.key ≡ without_last dict) }
     ensures live_alone { (used : List UsedEntry) (dict : DictContent) → AreDictEntries used dict →
         AreDictEntries (filter is_live used) dict × (length (filter is_live used) ≡ length dict.pairs) }
 {}
@@ -51,7 +58,8 @@ pub fn used_entries_follow_a_dict()
 /// A live entry of a set is that of an element, and a set with the element is the same after
 /// `set_add`. The entry's deletion is `set_discard`. A key that no live entry has is missing, and its
 /// entry at the end is `set_add` with the next serial. The live entries alone are those of the same
-/// set. The first live entry that passes a test is the first such element's.
+/// set. The first live entry that passes a test is the first such element's, and the first live entry
+/// of all is the first element's.
 pub fn used_entries_follow_a_set()
     ensures live { (used : List UsedEntry) (set : SetContent) (place : ℕ) (entry : UsedEntry) →
         AreSetEntries used set → IsSet set.next set.elements → slice_get used place ≡ Some entry →
@@ -71,6 +79,10 @@ pub fn used_entries_follow_a_set()
     ensures first { (used : List UsedEntry) (set : SetContent) (test : UsedEntry → Bool) → AreSetEntries used set →
         find (λ entry. is_live entry && test entry) used
         ≡ option_map used_element (find (λ element. test (used_element element)) set.elements) }
+    ensures first_of_all { (used : List UsedEntry) (set : SetContent) (place : ℕ) (element : Element) →
+        AreSetEntries used set → IsSet set.next set.elements → slice_get used place ≡ Some (used_element element) →
+        ((earlier : ℕ) (any : UsedEntry) → earlier < place → is_live (slice_index_or used earlier any) ≡ false) →
+        (slice_get set.elements 0 ≡ Some element) × (set_discard set element.key ≡ without_first set) }
     ensures live_alone { (used : List UsedEntry) (set : SetContent) → AreSetEntries used set →
         AreSetEntries (filter is_live used) set × (length (filter is_live used) ≡ length set.elements) }
 {}

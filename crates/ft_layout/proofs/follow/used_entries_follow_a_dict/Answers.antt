@@ -1,5 +1,5 @@
 use Rattle.std.proofs.Common.{Some, ◌∙◌}
-use Rattle.ft_layout.proofs.FollowLaws.{live_pair, value_at, missing_key, changed_value, added_key, deleted_key}
+use Rattle.ft_layout.proofs.FollowLaws.{last_pair, live_pair, value_at, missing_key, changed_value, added_key, deleted_key}
 use Rattle.ft_layout.proofs.WordsFollow.{first_pair, live_pairs}
 use Rattle.ft_layout.proofs.follow.used_entries_follow_a_dict.Goals as goal
 
@@ -25,3 +25,6 @@ returns-clause-live_alone c = live_pairs
 
 pub returns-clause-first : goal.returns-clause-first
 returns-clause-first c = first_pair
+
+pub returns-clause-last : goal.returns-clause-last
+returns-clause-last c = λ used dict place pair are is at none. last_pair used dict are is place pair at none

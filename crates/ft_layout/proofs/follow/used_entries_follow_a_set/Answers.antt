@@ -1,5 +1,5 @@
 use Rattle.std.proofs.Common.{Some, ◌∙◌}
-use Rattle.ft_layout.proofs.FollowLaws.{live_element, present_element, kept_element, missing_element, added_element_is, deleted_element}
+use Rattle.ft_layout.proofs.FollowLaws.{first_out, live_element, present_element, kept_element, missing_element, added_element_is, deleted_element}
 use Rattle.ft_layout.proofs.WordsFollow.{first_element, live_elements}
 use Rattle.ft_layout.proofs.follow.used_entries_follow_a_set.Goals as goal
 
@@ -23,3 +23,6 @@ returns-clause-live_alone c = live_elements
 
 pub returns-clause-first : goal.returns-clause-first
 returns-clause-first c = first_element
+
+pub returns-clause-first_of_all : goal.returns-clause-first_of_all
+returns-clause-first_of_all c = λ used set place element are is at none. first_out used set are is place element at none

@@ -26,6 +26,7 @@ use Rattle.ft_model.specs.declared.script.ScriptParts.{ScriptParts}
 use Rattle.ft_model.specs.Histories.{cursors_of}
 use Rattle.ft_model.specs.Names.{is_container_name, IsString}
 use Rattle.ft_model.specs.Scripts.{IsKeyOf, IsValueOf, IsDeclaredAs, IsCallOf}
+use Rattle.ft_model.specs.Keys.{as_value}
 use Rattle.ft_script.specs.declared.call_words.CallWord.{CallWord}
 use Rattle.ft_script.specs.declared.call_words.CallWord.TheVariants.{Next, Begin, End, Quiesce, On}
 use Rattle.ft_script.specs.declared.call_words.Operation.{Operation}
@@ -34,7 +35,7 @@ use Rattle.ft_script.specs.declared.draft.Draft.{Draft}
 use Rattle.ft_script.specs.declared.fault.Fault.{Fault}
 use Rattle.ft_script.specs.declared.forms.Argument.{Argument}
 use Rattle.ft_script.specs.declared.forms.Argument.TheVariants as argument
-use Rattle.ft_script.specs.Arguments.{symbol_of, index_of, key_of, as_value, value_of, container_of, same_kind, other_of, cursor_of, made_cursor_of, nothing_in, key_in, key_and_value_of, key_and_value_in, value_in, index_in, some_index_in, two_indices_of, two_indices_in, index_and_value_of, index_and_value_in, other_in, made_cursor_in, cursor_in, two_containers_of, section_in}
+use Rattle.ft_script.specs.Arguments.{symbol_of, index_of, key_of, value_of, container_of, same_kind, other_of, cursor_of, made_cursor_of, nothing_in, key_in, key_and_value_of, key_and_value_in, value_in, index_in, some_index_in, two_indices_of, two_indices_in, index_and_value_of, index_and_value_in, other_in, made_cursor_in, cursor_in, two_containers_of, section_in}
 use Rattle.ft_script.specs.CallWords.{call_word_of, call_word_text, operation_text}
 use Rattle.ft_script.specs.Drafts.{◌>>=◌, container_place, draft_at, text_place}
 use Rattle.ft_script.specs.Forms.{IsArgumentOf, call_form}

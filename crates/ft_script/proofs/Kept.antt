@@ -13,11 +13,12 @@ use Rattle.ft_model.specs.declared.script.Kind.{Kind}
 use Rattle.ft_model.specs.declared.script.Kind.TheVariants as kind
 use Rattle.ft_model.specs.Names.{is_container_name, is_text_byte, IsString}
 use Rattle.ft_model.specs.Scripts.{IsKeyOf, IsValueOf, IsDeclaredAs}
+use Rattle.ft_model.specs.Keys.{as_value}
 use Rattle.ft_script.specs.declared.draft.Draft.{Draft}
 use Rattle.ft_script.specs.declared.fault.Fault.{Fault}
 use Rattle.ft_script.specs.Words.{is_string, text_of}
 use Rattle.ft_script.specs.Drafts.{◌>>=◌, or_fault, container_place, text_place}
-use Rattle.ft_script.specs.Arguments.{symbol_of, index_of, key_of, as_value, value_of, container_of, kind_at, is_of_kind, other_of, made_cursor_of, key_in, key_and_value_of, key_and_value_in, value_in, index_in, some_index_in, two_indices_in, index_and_value_of, index_and_value_in, other_in, made_cursor_in, cursor_in, section_in, two_containers_of, nothing_in}
+use Rattle.ft_script.specs.Arguments.{symbol_of, index_of, key_of, value_of, container_of, kind_at, is_of_kind, other_of, made_cursor_of, key_in, key_and_value_of, key_and_value_in, value_in, index_in, some_index_in, two_indices_in, index_and_value_of, index_and_value_in, other_in, made_cursor_in, cursor_in, section_in, two_containers_of, nothing_in}
 use Rattle.ft_script.specs.Arguments as arguments
 use Rattle.ft_script.proofs.Growing.{key_grows}
 use Rattle.ft_script.proofs.Tables.{absent_text, differ_push, place_within}

@@ -11,6 +11,7 @@ use Rattle.ft_model.specs.declared.script.Thread.{Thread}
 use Rattle.ft_model.specs.declared.script.ScriptParts.{ScriptParts}
 use Rattle.ft_model.specs.Names.{is_container_name, is_thread_name}
 use Rattle.ft_model.specs.Scripts.{AreMade, IsCallOf, IsThread, cursor_of}
+use Rattle.ft_model.specs.Classes.{class_count}
 use Rattle.ft_script.specs.declared.draft.Draft.{Draft}
 use Rattle.ft_script.specs.declared.fault.Fault.{Fault}
 use Rattle.ft_script.specs.Drafts.{script_of, end_thread, thread_place}
@@ -44,8 +45,8 @@ pub record IsDraft (d : Draft) : Type 0 where
   pub few_calls : d.called ≤ 500000
   pub counted : calls_in d.threads + length d.calls ≡ d.called
   pub table : IsTable d.strings
-  pub classes : length d.tables ≡ 10
-  pub counts : All (λ count. IfSome count (λ n. (1 ≤ n) × (n ≤ 64))) d.tables
+  pub classes : length d.tables ≡ class_count
+  pub counts : All (λ count. IfSome count (λ n. (1 ≤ n) × (n ≤ 1024))) d.tables
   pub places : IfSome d.heap (λ n. (64 ≤ n) × (n ≤ 4096) × (n % 64 ≡ 0))
   pub few_turns : length d.order ≤ 1000000
   pub turns : All (λ thread. thread < length d.threads) d.order

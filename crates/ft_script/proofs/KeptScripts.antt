@@ -1,13 +1,14 @@
 -- The lines of a text make a draft that becomes a script.
-use Rattle.std.proofs.Common.{◌≡◌, ◌⊎◌, ℕ, ◌+◌, ◌%◌, ◌<◌, ◌≤◌, true, false, eqb, List, [], ◌∷◌, length, Option, Some, None, Result, Ok, Err, refl, sym, ◌∙◌, subst, inl, inr, arith}
-use Rattle.std.specs.Prelude.{IfSome, IfOk}
+use Rattle.std.proofs.Common.{◌≡◌, ◌⊎◌, ℕ, ◌+◌, ◌%◌, ◌<◌, ◌≤◌, true, false, eqb, List, [], ◌∷◌, length, Option, Some, None, Result, Ok, Err, refl, sym, ◌∙◌, subst, inl, inr, arith, zip, map, replicate, suc, ap}
+use Rattle.std.specs.Prelude.{IfSome, IfOk, All, min}
 use Rattle.std.specs.Option.{unwrap_or}
 use Rattle.std.specs.Str.{IsUtf8}
 use Rattle.std.proofs.lemmas.List.{length-map}
-use Rattle.std.proofs.lemmas.List.Elements.{All-map, All-nil, All-replicate, All-weaker}
+use Rattle.std.proofs.lemmas.List.Elements.{All-map, All-nil, All-replicate, All-weaker, All-append, All-cons}
 use Rattle.ft_model.specs.declared.script.ScriptParts.{ScriptParts}
 use Rattle.ft_model.specs.Names.{IsString, is_container_name}
-use Rattle.ft_model.specs.Scripts.{IsCallOf, IsScript, IsThread}
+use Rattle.ft_model.specs.Scripts.{IsCallOf, IsScript, IsThread, default_tables}
+use Rattle.ft_model.specs.Classes.{class_count}
 use Rattle.ft_script.specs.declared.draft.Draft.{Draft}
 use Rattle.ft_script.specs.declared.fault.Fault.{Fault}
 use Rattle.ft_script.specs.declared.fault.ScriptFault.{ScriptFault}
@@ -19,6 +20,7 @@ use Rattle.ft_script.proofs.Encoded.{AreEncoded, BeginsNoThread, begins_no_threa
 use Rattle.ft_script.proofs.Kept.{AreGoodWords, IsTable, bind_holds, cond_holds, or_holds, some_holds}
 use Rattle.ft_script.proofs.KeptDrafts.{IsDraft, calls_in, end_thread_keeps, no_names, none_made}
 use Rattle.ft_script.proofs.KeptStatements.{statement_keeps}
+use Rattle.std.proofs.lemmas.Slice.Zip.{length-zip}
 
 -- ---- lines
 
@@ -84,7 +86,7 @@ empty_is_draft =
       counted = omega arith;
       table = no_strings_yet;
       classes = refl;
-      counts = All-replicate (λ count. IfSome count (λ n. (1 ≤ n) × (n ≤ 64))) 10 None tt;
+      counts = All-replicate (λ count. IfSome count (λ n. (1 ≤ n) × (n ≤ 1024))) class_count None tt;
       places = tt;
       few_turns = omega arith;
       turns = All-nil (λ thread. thread < 0);
@@ -97,9 +99,27 @@ empty_is_draft =
       nested = refl;
     }
 
-count_or_four : (count : Option ℕ) → IfSome count (λ n. (1 ≤ n) × (n ≤ 64)) → (1 ≤ unwrap_or count 4) × (unwrap_or count 4 ≤ 64)
-count_or_four None h = (omega arith, omega arith)
-count_or_four (Some n) h = h
+abbrev IsCount : ℕ → Type 0
+IsCount n = (1 ≤ n) × (n ≤ 1024)
+
+count_or_default : (count : Option ℕ) (default : ℕ) → IfSome count IsCount → IsCount default → IsCount (unwrap_or count default)
+count_or_default None default h fine = fine
+count_or_default (Some n) default h fine = h
+
+defaults_are_counts : All IsCount default_tables
+defaults_are_counts = All-append IsCount (replicate 10 4) (replicate 4 1) (All-replicate IsCount 10 4 (omega arith, omega arith)) (All-replicate IsCount 4 1 (omega arith, omega arith))
+
+abbrev counted_or : Option ℕ × ℕ → ℕ
+counted_or both = unwrap_or both.0 both.1
+
+-- the counts that lines name, and the others as they are without a line
+counts_are : (counts : List (Option ℕ)) (defaults : List ℕ) → All (λ count. IfSome count IsCount) counts → All IsCount defaults → All IsCount (map counted_or (zip counts defaults))
+counts_are [] defaults h fine = All-nil IsCount
+counts_are (count ∷ counts) [] h fine = All-nil IsCount
+counts_are (count ∷ counts) (default ∷ defaults) h fine =
+    All-cons IsCount (unwrap_or count default) (map counted_or (zip counts defaults))
+    (count_or_default count default (h 0 count (omega arith)) (fine 0 default (omega arith)))
+    (counts_are counts defaults (λ k d low. h (suc k) d (omega arith)) (λ k d low. fine (suc k) d (omega arith)))
 
 heap_or_least : (heap : Option ℕ) → IfSome heap (λ n. (64 ≤ n) × (n ≤ 4096) × (n % 64 ≡ 0)) → (64 ≤ unwrap_or heap 64) × (unwrap_or heap 64 ≤ 4096) × (unwrap_or heap 64 % 64 ≡ 0)
 heap_or_least None h = (omega arith, omega arith, refl)
@@ -121,8 +141,8 @@ script_is d h =
       few_strings = h.table.few;
       strings = h.table.strings;
       strings_differ = h.table.differ;
-      classes = length-map d.tables (λ count. unwrap_or count 4) ∙ h.classes;
-      tables = All-map (λ count. (1 ≤ count) × (count ≤ 64)) (λ count. unwrap_or count 4) d.tables (All-weaker (λ count. IfSome count (λ n. (1 ≤ n) × (n ≤ 64))) (λ count. (1 ≤ unwrap_or count 4) × (unwrap_or count 4 ≤ 64)) count_or_four d.tables h.counts);
+      classes = length-map (zip d.tables default_tables) counted_or ∙ length-zip d.tables default_tables ∙ ap (λ (n : ℕ). min n 14) h.classes;
+      tables = counts_are d.tables default_tables h.counts defaults_are_counts;
       least_heap = heap.0;
       greatest_heap = heap.1;
       heap_steps = heap.2;

@@ -86,9 +86,9 @@ between low high (pos n) h = let parts = and_parts _ _ h in (leb-true _ _ parts.
 between low high (negsuc n) h = absurd cc
 
 abbrev IsCount : Option ℕ → Type 0
-IsCount count = IfSome count (λ n. (1 ≤ n) × (n ≤ 64))
+IsCount count = IfSome count (λ n. (1 ≤ n) × (n ≤ 1024))
 
-tables_reported : (d : Draft) (place count : ℕ) → IsDraft d → 1 ≤ count → count ≤ 64 → IsDraft (record d { tables = set d.tables place (Some count) })
+tables_reported : (d : Draft) (place count : ℕ) → IsDraft d → 1 ≤ count → count ≤ 1024 → IsDraft (record d { tables = set d.tables place (Some count) })
 tables_reported d place count h least greatest =
     let next : Draft = record d { tables = set d.tables place (Some count) } in
     record {
@@ -120,7 +120,7 @@ unfolding tables_at
 tables_at_keeps d place count h =
     cond_holds (is_reported (slice_get d.tables place)) _ _ IsDraft (λ _. tt) (λ _.
     bind_holds (index_of count) _ (λ _. Unit {0}) IsDraft (anything (index_of count)) (λ n _.
-    cond_holds (int_le (pos 1) n && int_le n (pos 64)) _ _ IsDraft (λ is. let limits = between 1 64 n is in tables_reported d place (natural_of n) h limits.0 limits.1) (λ _. tt)))
+    cond_holds (int_le (pos 1) n && int_le n (pos 1024)) _ _ IsDraft (λ is. let limits = between 1 1024 n is in tables_reported d place (natural_of n) h limits.0 limits.1) (λ _. tt)))
 
 tables_of_keeps : (d : Draft) (class count : List ℕ) → IsDraft d → IfOk (tables_of d class count) IsDraft
 unfolding tables_of

@@ -16,9 +16,10 @@ use Rattle.ft_model.specs.declared.data.Value.{Value}
 use Rattle.ft_model.specs.declared.data.Value.TheVariants as value
 use Rattle.ft_model.specs.Names.{is_digit, is_lower, is_upper, is_container_byte, is_container_name, is_thread_byte, is_thread_name}
 use Rattle.ft_model.specs.Scripts.{IsKeyOf, IsValueOf}
+use Rattle.ft_model.specs.Keys.{as_value}
 use Rattle.ft_script.specs.declared.fault.Fault.{Fault}
 use Rattle.ft_script.specs.declared.fault.Fault.TheVariants as fault
-use Rattle.ft_script.specs.Arguments.{index_of, as_value}
+use Rattle.ft_script.specs.Arguments.{index_of}
 use Rattle.ft_script.specs.Candidates.{is_decimal, natural_in, u64_of, u32_of, known_key, known_value, known_pair}
 use Rattle.ft_script.specs.Drafts.{◌>>=◌, or_fault, text_place}
 use Rattle.ft_script.specs.Texts.{quoted, key_text, value_text}

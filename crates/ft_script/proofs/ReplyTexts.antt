@@ -18,6 +18,7 @@ use Rattle.ft_model.specs.declared.reply.Reply.{Reply}
 use Rattle.ft_model.specs.declared.reply.Reply.TheVariants as reply
 use Rattle.ft_model.specs.Parts.{IsReplyOf}
 use Rattle.ft_model.specs.Scripts.{IsKeyOf, IsValueOf}
+use Rattle.ft_model.specs.Classes.{least_class, greatest_class}
 use Rattle.ft_script.specs.declared.fault.Fault.{Fault}
 use Rattle.ft_script.specs.declared.reply_words.ReplyWord.{ReplyWord}
 use Rattle.ft_script.specs.declared.reply_words.ReplyWord.TheVariants as word
@@ -109,7 +110,7 @@ raise_is_cut counted raise.NoIndex h = word_is_cut (codes "IndexError") (refl, r
 raise_is_cut counted raise.NoValue h = word_is_cut (codes "ValueError") (refl, refl)
 raise_is_cut counted raise.Size h = two_words (codes "RuntimeError") (codes "size") (word_is_cut (codes "RuntimeError") (refl, refl)) (word_is_cut (codes "size") (refl, refl))
 raise_is_cut counted raise.Keys h = two_words (codes "RuntimeError") (codes "keys") (word_is_cut (codes "RuntimeError") (refl, refl)) (word_is_cut (codes "keys") (refl, refl))
-raise_is_cut counted (raise.Memory class) h = let high : class ≤ 12 = h.1 in two_words (codes "MemoryError") (decimal class) (word_is_cut (codes "MemoryError") (refl, refl)) (decimal_is_cut class (omega arith))
+raise_is_cut counted (raise.Memory class) h = let high : class ≤ greatest_class = h.1 in two_words (codes "MemoryError") (decimal class) (word_is_cut (codes "MemoryError") (refl, refl)) (decimal_is_cut class (omega arith))
 raise_is_cut counted raise.Over h = two_words (codes "MemoryError") (codes "over") (word_is_cut (codes "MemoryError") (refl, refl)) (word_is_cut (codes "over") (refl, refl))
 raise_is_cut counted raise.Heap h = two_words (codes "MemoryError") (codes "heap") (word_is_cut (codes "MemoryError") (refl, refl)) (word_is_cut (codes "heap") (refl, refl))
 
@@ -292,11 +293,11 @@ no_heap : (token : List ℕ) → BeginsNumber token → bytes_eq token (codes "h
 no_heap [] h = absurd h
 no_heap (b ∷ bytes) h = let high : b ≤ 57 = h.1 in rw (ne_eqb b 104 (λ e. omega arith)) refl
 
-class_back : (class : ℕ) → 3 ≤ class → class ≤ 12 → class_error_of (decimal class) ≡ Ok (raise.Memory class)
+class_back : (class : ℕ) → least_class ≤ class → class ≤ greatest_class → class_error_of (decimal class) ≡ Ok (raise.Memory class)
 unfolding class_error_of
-class_back class low high = rw (u32_decimal class (omega arith), le-leb 3 class low, le-leb class 12 high) refl
+class_back class low high = rw (u32_decimal class (omega arith), le-leb least_class class low, le-leb class greatest_class high) refl
 
-memory_back : (class : ℕ) → 3 ≤ class → class ≤ 12 → memory_error_of (decimal class ∷ []) ≡ Ok (raise.Memory class)
+memory_back : (class : ℕ) → least_class ≤ class → class ≤ greatest_class → memory_error_of (decimal class ∷ []) ≡ Ok (raise.Memory class)
 unfolding memory_error_of
 memory_back class low high =
     let begins : BeginsNumber (decimal class) = (decimal_word class (omega arith)).1 in
@@ -405,7 +406,7 @@ raise_other counted raise.NoIndex h = refl
 raise_other counted raise.NoValue h = refl
 raise_other counted raise.Size h = refl
 raise_other counted raise.Keys h = refl
-raise_other counted (raise.Memory class) h = let high : class ≤ 12 = h.1 in and_from (is_other (decimal class)) true (number_other class (omega arith)) refl
+raise_other counted (raise.Memory class) h = let high : class ≤ greatest_class = h.1 in and_from (is_other (decimal class)) true (number_other class (omega arith)) refl
 raise_other counted raise.Over h = refl
 raise_other counted raise.Heap h = refl
 

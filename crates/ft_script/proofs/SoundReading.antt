@@ -17,11 +17,13 @@ use Rattle.ft_model.specs.declared.reply.Reply.TheVariants as reply
 use Rattle.ft_model.specs.declared.script.ScriptParts.{ScriptParts}
 use Rattle.ft_model.specs.Parts.{IsReplyOf}
 use Rattle.ft_model.specs.Scripts.{IsKeyOf, IsValueOf}
+use Rattle.ft_model.specs.Keys.{as_value}
+use Rattle.ft_model.specs.Classes.{least_class, greatest_class}
 use Rattle.ft_script.specs.declared.fault.Fault.{Fault}
 use Rattle.ft_script.specs.declared.fault.Fault.TheVariants as fault
 use Rattle.ft_script.specs.declared.reply_words.ReplyWord.{ReplyWord}
 use Rattle.ft_script.specs.declared.reply_words.ReplyWord.TheVariants as word
-use Rattle.ft_script.specs.Arguments.{index_of, as_value}
+use Rattle.ft_script.specs.Arguments.{index_of}
 use Rattle.ft_script.specs.Candidates.{is_decimal, natural_in, u64_of, u32_of, known_key, known_value, known_pair, each_of, pairs_of, reply_word_of, suspended_of, runtime_error_of, class_error_of, memory_error_of, has_pairs, braced_of, but_last, worded_reply, counted_reply, shown_reply, first_reply, reply_of, thread_of, numbered_of, stamp_of, waited_of, thread_call, entry_of, content_of}
 use Rattle.ft_script.specs.Drafts.{or_fault, text_place, thread_place, container_place}
 use Rattle.ft_script.specs.Transcripts.{counts, IsWideKey, IsWideValue, IsWideReply, IsReadableReply}
@@ -122,7 +124,7 @@ pub record ReplyFits (strings : List (List ℕ)) (counted : Bool) (said : Reply)
   pub readable : IsReadableReply counted said
 
 abbrev RaiseFits : Raise → Type 0
-RaiseFits (raise.Memory class) = (3 ≤ class) × (class ≤ 12)
+RaiseFits (raise.Memory class) = (least_class ≤ class) × (class ≤ greatest_class)
 RaiseFits other = Unit {0}
 
 runtime_sound : (tokens : List (List ℕ)) → IfOk (runtime_error_of tokens) RaiseFits
@@ -134,7 +136,7 @@ class_sound : (token : List ℕ) → IfOk (class_error_of token) RaiseFits
 unfolding class_error_of
 class_sound token =
     bind_holds (u32_of token) _ (λ n. n < 2 ^ 32) RaiseFits (u32_sound token) (λ class _.
-    cond_holds (leb 3 class && leb class 12) _ _ RaiseFits (λ within. let both = and_parts (leb 3 class) (leb class 12) within in (leb-true 3 class both.0, leb-true class 12 both.1)) (λ _. tt))
+    cond_holds (leb least_class class && leb class greatest_class) _ _ RaiseFits (λ within. let both = and_parts (leb least_class class) (leb class greatest_class) within in (leb-true least_class class both.0, leb-true class greatest_class both.1)) (λ _. tt))
 
 memory_sound : (tokens : List (List ℕ)) → IfOk (memory_error_of tokens) RaiseFits
 unfolding memory_error_of

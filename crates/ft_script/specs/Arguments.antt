@@ -7,6 +7,7 @@ use Rattle.ft_model.specs.declared.data.Value.{Value}
 use Rattle.ft_model.specs.declared.data.Value.TheVariants as value
 use Rattle.ft_model.specs.declared.script.Kind.{Kind}
 use Rattle.ft_model.specs.declared.script.Kind.TheVariants as kind
+use Rattle.ft_model.specs.Keys.{as_value}
 use Rattle.ft_model.specs.Names.{is_container_name}
 use Rattle.ft_script.specs.declared.draft.Draft.{Draft}
 use Rattle.ft_script.specs.declared.fault.Fault.{Fault}
@@ -36,10 +37,6 @@ unfoldable pub key_of : Draft → List ℕ → Result (Key × Draft) Fault
 key_of draft word =
     if is_string word then (symbol_of draft (text_of word) >>= λ symbol. Ok (key.Text (record { 0 = symbol.0 }), symbol.1))
     else (index_of word >>= λ n. Ok (key.Int n, draft))
-
-abbrev pub as_value : Key → Value
-as_value (key.Int n) = value.Int n
-as_value (key.Text symbol) = value.Text symbol
 
 -- a value: a key, or `None`
 unfoldable pub value_of : Draft → List ℕ → Result (Value × Draft) Fault

@@ -15,12 +15,14 @@ use Rattle.ft_model.specs.declared.reply.Reply.{Reply}
 use Rattle.ft_model.specs.declared.reply.Reply.TheVariants as reply
 use Rattle.ft_model.specs.declared.script.ScriptParts.{ScriptParts}
 use Rattle.ft_model.specs.Names.{is_digit}
+use Rattle.ft_model.specs.Keys.{as_value}
+use Rattle.ft_model.specs.Classes.{least_class, greatest_class}
 use Rattle.ft_script.specs.declared.draft.Draft.{Draft}
 use Rattle.ft_script.specs.declared.fault.Fault.{Fault}
 use Rattle.ft_script.specs.declared.fault.Fault.TheVariants as fault
 use Rattle.ft_script.specs.declared.reply_words.ReplyWord.{ReplyWord}
 use Rattle.ft_script.specs.declared.reply_words.ReplyWord.TheVariants as word
-use Rattle.ft_script.specs.Arguments.{index_of, as_value}
+use Rattle.ft_script.specs.Arguments.{index_of}
 use Rattle.ft_script.specs.Drafts.{◌>>=◌, or_fault, container_place, thread_place, text_place, draft_at}
 use Rattle.ft_script.specs.Reading.{call_in}
 use Rattle.ft_script.specs.Transcripts.{counts}
@@ -113,9 +115,9 @@ unfoldable pub runtime_error_of : List (List ℕ) → Result Raise Fault
 runtime_error_of [] = Err fault.WordCount
 runtime_error_of (cause ∷ more) = if bytes_eq cause (codes "size") then Ok raise.Size else (if bytes_eq cause (codes "keys") then Ok raise.Keys else Err fault.UnknownWord)
 
--- the classes are those from 3 to 12
+-- the classes are those from 3 to 16
 unfoldable pub class_error_of : List ℕ → Result Raise Fault
-class_error_of token = u32_of token >>= λ class. if nat_le 3 class && nat_le class 12 then Ok (raise.Memory class) else Err fault.Number
+class_error_of token = u32_of token >>= λ class. if nat_le least_class class && nat_le class greatest_class then Ok (raise.Memory class) else Err fault.Number
 
 unfoldable pub memory_error_of : List (List ℕ) → Result Raise Fault
 memory_error_of [] = Err fault.WordCount

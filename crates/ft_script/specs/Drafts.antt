@@ -1,7 +1,10 @@
 -- What the lines above a place say, and what names and strings stand for there. (profile)
 use Rattle.std.specs.Prelude.{◌≡◌, ℕ, ◌==◌, List, [], ◌∷◌, ◌++◌, map, replicate, position, slice_get, Option, Some, None, Result, Ok, Err, if◌then◌else◌}
 use Rattle.std.specs.Option.{unwrap_or, option_map_or}
+use Rattle.std.specs.List.{zip}
 use Rattle.std.specs.Str.{bytes_eq}
+use Rattle.ft_model.specs.Classes.{class_count}
+use Rattle.ft_model.specs.Scripts.{default_tables}
 use Rattle.ft_model.specs.declared.script.Declaration.{Declaration}
 use Rattle.ft_model.specs.declared.script.Thread.{Thread}
 use Rattle.ft_model.specs.declared.script.ScriptParts.{ScriptParts}
@@ -60,7 +63,7 @@ text_place texts text = position (λ other. bytes_eq text other) texts
 abbrev pub empty_draft : Draft
 empty_draft = record {
   containers = [];
-  tables = replicate 10 None;
+  tables = replicate class_count None;
   heap = None;
   threads = [];
   name = None;
@@ -76,13 +79,13 @@ empty_draft = record {
 abbrev pub draft_at : ScriptParts → ℕ → Draft
 draft_at script thread = record empty_draft { containers = script.containers; strings = script.strings; cursors = option_map_or (λ found. found.cursors) (slice_get script.threads thread) [] }
 
--- the script of all lines: where none says otherwise there are 4 tables of each class, and 64 places in each heap
+-- the script of all lines: where none says otherwise there are as many tables of a class as a script has without a line for it, and 64 places in each heap
 abbrev pub script_of : Draft → ScriptParts
 script_of draft = record {
   containers = draft.containers;
   threads = draft.threads;
   strings = draft.strings;
-  tables = map (λ count. unwrap_or count 4) draft.tables;
+  tables = map (λ both. unwrap_or both.0 both.1) (zip draft.tables default_tables);
   heap = unwrap_or draft.heap 64;
   order = draft.order;
 }

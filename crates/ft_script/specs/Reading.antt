@@ -13,6 +13,7 @@ use Rattle.ft_model.specs.declared.call.SetCall.TheVariants as set
 use Rattle.ft_model.specs.declared.script.Kind.{Kind}
 use Rattle.ft_model.specs.declared.script.Kind.TheVariants as kind
 use Rattle.ft_model.specs.Names.{is_container_name, is_thread_name}
+use Rattle.ft_model.specs.Classes.{least_class, greatest_class}
 use Rattle.ft_script.specs.declared.call_words.CallWord.{CallWord}
 use Rattle.ft_script.specs.declared.call_words.CallWord.TheVariants.{Next, Begin, End, Quiesce, On}
 use Rattle.ft_script.specs.declared.call_words.Operation.{Operation}
@@ -49,7 +50,22 @@ dict_call draft of.Clear words = nothing_in words >>= λ _. Ok (dict.Clear, draf
 dict_call draft of.CopyTo words = other_in draft kind.Dict words >>= λ other. Ok (dict.CopyTo other, draft)
 dict_call draft of.Eq words = other_in draft kind.Dict words >>= λ other. Ok (dict.Eq other, draft)
 dict_call draft of.Iter words = made_cursor_in draft words >>= λ read. Ok (dict.Iter read.0, read.1)
-dict_call draft other words = Err fault.WrongKind
+dict_call draft of.Append words = Err fault.WrongKind
+dict_call draft of.Insert words = Err fault.WrongKind
+dict_call draft of.Remove words = Err fault.WrongKind
+dict_call draft of.Index words = Err fault.WrongKind
+dict_call draft of.Count words = Err fault.WrongKind
+dict_call draft of.Reverse words = Err fault.WrongKind
+dict_call draft of.Extend words = Err fault.WrongKind
+dict_call draft of.Slice words = Err fault.WrongKind
+dict_call draft of.Add words = Err fault.WrongKind
+dict_call draft of.Discard words = Err fault.WrongKind
+dict_call draft of.Or words = Err fault.WrongKind
+dict_call draft of.And words = Err fault.WrongKind
+dict_call draft of.Sub words = Err fault.WrongKind
+dict_call draft of.Xor words = Err fault.WrongKind
+dict_call draft of.Subset words = Err fault.WrongKind
+dict_call draft of.Disjoint words = Err fault.WrongKind
 
 -- and of a list
 unfoldable pub list_call : Draft → Operation → List (List ℕ) → Result (ListCall × Draft) Fault
@@ -71,7 +87,20 @@ list_call draft of.Len words = nothing_in words >>= λ _. Ok (list.Len, draft)
 list_call draft of.Items words = nothing_in words >>= λ _. Ok (list.Items, draft)
 list_call draft of.Eq words = other_in draft kind.List words >>= λ other. Ok (list.Eq other, draft)
 list_call draft of.Iter words = made_cursor_in draft words >>= λ read. Ok (list.Iter read.0, read.1)
-list_call draft other words = Err fault.WrongKind
+list_call draft of.GetOr words = Err fault.WrongKind
+list_call draft of.PopOr words = Err fault.WrongKind
+list_call draft of.PopItem words = Err fault.WrongKind
+list_call draft of.SetDefault words = Err fault.WrongKind
+list_call draft of.Update words = Err fault.WrongKind
+list_call draft of.CopyTo words = Err fault.WrongKind
+list_call draft of.Add words = Err fault.WrongKind
+list_call draft of.Discard words = Err fault.WrongKind
+list_call draft of.Or words = Err fault.WrongKind
+list_call draft of.And words = Err fault.WrongKind
+list_call draft of.Sub words = Err fault.WrongKind
+list_call draft of.Xor words = Err fault.WrongKind
+list_call draft of.Subset words = Err fault.WrongKind
+list_call draft of.Disjoint words = Err fault.WrongKind
 
 -- and of a set
 unfoldable pub set_call : Draft → Operation → List (List ℕ) → Result (SetCall × Draft) Fault
@@ -91,7 +120,22 @@ set_call draft of.Subset words = other_in draft kind.Set words >>= λ other. Ok 
 set_call draft of.Disjoint words = other_in draft kind.Set words >>= λ other. Ok (set.Disjoint other, draft)
 set_call draft of.Clear words = nothing_in words >>= λ _. Ok (set.Clear, draft)
 set_call draft of.Iter words = made_cursor_in draft words >>= λ read. Ok (set.Iter read.0, read.1)
-set_call draft other words = Err fault.WrongKind
+set_call draft of.Get words = Err fault.WrongKind
+set_call draft of.GetOr words = Err fault.WrongKind
+set_call draft of.Set words = Err fault.WrongKind
+set_call draft of.Del words = Err fault.WrongKind
+set_call draft of.PopOr words = Err fault.WrongKind
+set_call draft of.PopItem words = Err fault.WrongKind
+set_call draft of.SetDefault words = Err fault.WrongKind
+set_call draft of.Update words = Err fault.WrongKind
+set_call draft of.CopyTo words = Err fault.WrongKind
+set_call draft of.Append words = Err fault.WrongKind
+set_call draft of.Insert words = Err fault.WrongKind
+set_call draft of.Index words = Err fault.WrongKind
+set_call draft of.Count words = Err fault.WrongKind
+set_call draft of.Reverse words = Err fault.WrongKind
+set_call draft of.Extend words = Err fault.WrongKind
+set_call draft of.Slice words = Err fault.WrongKind
 
 -- a call of the container at a place, which is of a kind
 unfoldable pub call_at : Draft → ℕ → Operation → List (List ℕ) → Option Kind → Result (Call × Draft) Fault
@@ -122,7 +166,11 @@ call_in draft (word ∷ words) = or_fault fault.UnknownWord (call_word_of word) 
 unfoldable pub depth_after : ℕ → Call → Result ℕ Fault
 depth_after depth (call.Begin first second) = if nat_lt depth 16 then Ok (depth + 1) else Err fault.TooDeep
 depth_after depth call.End = if depth == 0 then Err fault.EndWithoutBegin else Ok (depth - 1)
-depth_after depth other = Ok depth
+depth_after depth (call.Dict container dict_call) = Ok depth
+depth_after depth (call.List container list_call) = Ok depth
+depth_after depth (call.Set container set_call) = Ok depth
+depth_after depth (call.Next cursor) = Ok depth
+depth_after depth call.Quiesce = Ok depth
 
 -- the line of a call that isn't one too many
 unfoldable pub counted_call : Draft → CallWord → List (List ℕ) → Result Draft Fault
@@ -160,9 +208,9 @@ container_line draft kind (name ∷ []) =
     else Err (fault.Limit which.Containers)))
 container_line draft kind others = Err fault.WordCount
 
--- the place of a class among those from 3 to 12
+-- the place of a class among those from 3 to 16
 abbrev pub class_place : ℤ → Option ℕ
-class_place n = if int_le (pos 3) n && int_le n (pos 12) then Some (natural_of n - 3) else None
+class_place n = if int_le (pos least_class) n && int_le n (pos greatest_class) then Some (natural_of n - least_class) else None
 
 -- whether a line names the number of tables of the class
 abbrev pub is_reported : Option (Option ℕ) → Bool
@@ -175,7 +223,7 @@ class_of word = index_of word >>= λ n. or_fault (fault.Limit which.Class) (clas
 unfoldable pub tables_at : Draft → ℕ → List ℕ → Result Draft Fault
 tables_at draft place count =
     if is_reported (slice_get draft.tables place) then Err fault.NameTwice else (index_of count >>= λ n.
-    if int_le (pos 1) n && int_le n (pos 64) then Ok (record draft { tables = slice_set draft.tables place (Some (natural_of n)) }) else Err (fault.Limit which.Tables))
+    if int_le (pos 1) n && int_le n (pos 1024) then Ok (record draft { tables = slice_set draft.tables place (Some (natural_of n)) }) else Err (fault.Limit which.Tables))
 
 unfoldable pub tables_of : Draft → List ℕ → List ℕ → Result Draft Fault
 tables_of draft class count = class_of class >>= λ place. tables_at draft place count

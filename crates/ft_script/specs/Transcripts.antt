@@ -7,8 +7,11 @@ use Rattle.ft_model.specs.declared.data.Value.{Value}
 use Rattle.ft_model.specs.declared.data.Value.TheVariants as value
 use Rattle.ft_model.specs.declared.call.Call.{Call}
 use Rattle.ft_model.specs.declared.call.Call.TheVariants as call
+use Rattle.ft_model.specs.declared.call.DictCall.{DictCall}
 use Rattle.ft_model.specs.declared.call.DictCall.TheVariants as dict
+use Rattle.ft_model.specs.declared.call.ListCall.{ListCall}
 use Rattle.ft_model.specs.declared.call.ListCall.TheVariants as list
+use Rattle.ft_model.specs.declared.call.SetCall.{SetCall}
 use Rattle.ft_model.specs.declared.call.SetCall.TheVariants as set
 use Rattle.ft_model.specs.declared.entry.Entry.{Entry}
 use Rattle.ft_model.specs.declared.reply.Reply.{Reply}
@@ -16,6 +19,7 @@ use Rattle.ft_model.specs.declared.reply.Reply.TheVariants as reply
 use Rattle.ft_model.specs.declared.reply.Raise.TheVariants as raise
 use Rattle.ft_model.specs.declared.script.ScriptParts.{ScriptParts}
 use Rattle.ft_model.specs.Parts.{IsEntryOf, IsReplyOf}
+use Rattle.ft_model.specs.Classes.{least_class, greatest_class}
 use Rattle.ft_script.specs.declared.forms.Argument.{Argument}
 use Rattle.ft_script.specs.declared.forms.Argument.TheVariants as argument
 use Rattle.ft_script.specs.Forms.{call_form}
@@ -24,20 +28,78 @@ use Rattle.ft_script.specs.Words.{is_wide}
 
 -- ---- entries
 
+-- the calls of a dict whose reply is a count, and of a list, and of a set
+abbrev pub counts_dict : DictCall → Bool
+counts_dict (dict.Get key) = false
+counts_dict (dict.GetOr key default) = false
+counts_dict (dict.Set key value) = false
+counts_dict (dict.Del key) = false
+counts_dict (dict.Pop key) = false
+counts_dict (dict.PopOr key default) = false
+counts_dict dict.PopItem = false
+counts_dict (dict.SetDefault key default) = false
+counts_dict (dict.Has key) = false
+counts_dict dict.Len = true
+counts_dict dict.Items = false
+counts_dict (dict.Update other) = false
+counts_dict dict.Clear = false
+counts_dict (dict.CopyTo other) = false
+counts_dict (dict.Eq other) = false
+counts_dict (dict.Iter cursor) = false
+
+abbrev pub counts_list : ListCall → Bool
+counts_list (list.Append value) = false
+counts_list (list.Insert index value) = false
+counts_list (list.Get index) = false
+counts_list (list.Set index value) = false
+counts_list (list.Del index) = false
+counts_list (list.Pop index) = false
+counts_list (list.Remove value) = false
+counts_list (list.Index value) = true
+counts_list (list.Count value) = true
+counts_list (list.Has value) = false
+counts_list list.Reverse = false
+counts_list (list.Extend other) = false
+counts_list (list.Slice start end) = false
+counts_list list.Clear = false
+counts_list list.Len = true
+counts_list list.Items = false
+counts_list (list.Eq other) = false
+counts_list (list.Iter cursor) = false
+
+abbrev pub counts_set : SetCall → Bool
+counts_set (set.Add key) = false
+counts_set (set.Discard key) = false
+counts_set (set.Remove key) = false
+counts_set set.Pop = false
+counts_set (set.Has key) = false
+counts_set set.Len = true
+counts_set set.Items = false
+counts_set (set.Eq other) = false
+counts_set (set.Or other) = false
+counts_set (set.And other) = false
+counts_set (set.Sub other) = false
+counts_set (set.Xor other) = false
+counts_set (set.Subset other) = false
+counts_set (set.Disjoint other) = false
+counts_set set.Clear = false
+counts_set (set.Iter cursor) = false
+
 -- the calls whose reply is a count
 abbrev pub counts : Call → Bool
-counts (call.Dict place dict.Len) = true
-counts (call.List place list.Len) = true
-counts (call.List place (list.Index value)) = true
-counts (call.List place (list.Count value)) = true
-counts (call.Set place set.Len) = true
-counts other = false
+counts (call.Dict place dict_call) = counts_dict dict_call
+counts (call.List place list_call) = counts_list list_call
+counts (call.Set place set_call) = counts_set set_call
+counts (call.Next cursor) = false
+counts (call.Begin first second) = false
+counts call.End = false
+counts call.Quiesce = false
 
--- an integer stands for a count where the call counts and it isn't negative, and else for a value; a count, too, is within 64 signed bits; MemoryError has a class from 3 to 12
+-- an integer stands for a count where the call counts and it isn't negative, and else for a value; a count, too, is within 64 signed bits; MemoryError has a class from 3 to 16
 abbrev pub IsReadableReply : Bool → Reply → Type 0
 IsReadableReply counted (reply.Count count) = (counted ≡ true) × (count < 2 ^ 63)
 IsReadableReply counted (reply.Value (value.Int n)) = (count : ℕ) → n ≡ pos count → counted ≡ false
-IsReadableReply counted (reply.Raised (raise.Memory class)) = (3 ≤ class) × (class ≤ 12)
+IsReadableReply counted (reply.Raised (raise.Memory class)) = (least_class ≤ class) × (class ≤ greatest_class)
 IsReadableReply counted other = Unit {0}
 
 -- an integer of 64 bits, if it is one

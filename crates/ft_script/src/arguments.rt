@@ -1,23 +1,19 @@
 //! Reads the words after the word of a call.
 ghost use Rattle.ft_model.specs.Names.{is_container_name};
-ghost use Rattle.ft_script.specs.Arguments.{as_value, container_of, cursor_in, cursor_of, index_and_value_in, index_and_value_of, index_in, index_of, is_of_kind, key_and_value_in, key_and_value_of, key_in, key_of, kind_at, made_cursor_in, made_cursor_of, nothing_in, other_in, other_of, same_kind, section_in, some_index_in, symbol_of, two_containers_of, two_indices_in, two_indices_of, value_in, value_of};
-ghost use Rattle.ft_script.specs.Drafts.{Gives, Leaves, Reads};
+ghost use Rattle.ft_script.specs.Arguments.{container_of, cursor_in, cursor_of, index_and_value_in, index_and_value_of, index_in, index_of, is_of_kind, key_and_value_in, key_and_value_of, key_in, key_of, kind_at, made_cursor_in, made_cursor_of, nothing_in, other_in, other_of, same_kind, section_in, some_index_in, symbol_of, two_containers_of, two_indices_in, two_indices_of, value_in, value_of};
+ghost use Rattle.ft_script.specs.Drafts.{Gives, Reads};
 ghost use Rattle.std.specs.Prelude.{◌≡◌, Ok, map};
 
+use crate::declarations::CURSOR_LIMIT;
 use crate::draft::Draft;
 use crate::fault::{Fault, LineError, Which};
+use crate::strings::STRING_LIMIT;
 use crate::words::{integer_of, is_container_name, is_string, text_of};
 use ft_model::{Key, Kind, Sequence, Sym, Value};
 use std::alloc::Global;
 
-/// The most distinct strings that a script may have.
-const STRING_LIMIT: usize = 65_536;
-
 /// The most bytes that a string may have.
 const STRING_BYTES_LIMIT: usize = 255;
-
-/// The most cursors that a thread may have.
-const CURSOR_LIMIT: usize = 256;
 
 /// A place as a number of 32 bits, which each place has, since there are few: the other answer
 /// doesn't come.
@@ -29,10 +25,10 @@ pub(crate) fn number_of(place: usize) -> Result<u32, LineError>
 
 /// The integer that a word is.
 #[tactic(auto, unfolding(crate::specs::Arguments::index_of))]
-pub(crate) fn index_of(word: &[u8]) -> Result<i64, LineError>
-    ensures { Gives (λ n. n) result (index_of word.now) }
+pub(crate) fn index_of(word: &[u8]) -> Result<i64, Fault>
+    ensures { result ≡ index_of word.now }
 {
-    Ok(integer_of(word).ok_or(Fault::Number)?)
+    integer_of(word).ok_or(Fault::Number)
 }
 
 fn same_kind(one: Kind, other: Kind) -> bool
@@ -42,15 +38,6 @@ fn same_kind(one: Kind, other: Kind) -> bool
         (one, other),
         (Kind::Dict, Kind::Dict) | (Kind::List, Kind::List) | (Kind::Set, Kind::Set)
     )
-}
-
-fn as_value(key: Key) -> Value
-    ensures { result ≡ as_value key }
-{
-    match key {
-        Key::Int(number) => Value::Int(number),
-        Key::Text(symbol) => Value::Text(symbol),
-    }
 }
 
 impl Draft {
@@ -63,7 +50,7 @@ impl Draft {
             return Err(Fault::Limit(Which::StringBytes).into());
         }
         if let Some(place) = self.strings.place_of(text) {
-            return number_of(place);
+            return Ok(place);
         }
         let number = self.strings.len();
         if number >= STRING_LIMIT {
@@ -94,27 +81,26 @@ impl Draft {
         if word == b"None".as_slice() {
             return Ok(Value::Nothing);
         }
-        Ok(as_value(self.key_of(alloc, word)?))
+        Ok(self.key_of(alloc, word)?.into_value())
     }
 
     /// The place of a container that stands above.
     #[tactic(auto, unfolding(crate::specs::Arguments::container_of))]
-    pub(crate) fn container_of(&self, name: &[u8]) -> Result<u32, LineError>
-        ensures { Gives (λ place. place) result (container_of self.now name.now) }
+    pub(crate) fn container_of(&self, name: &[u8]) -> Result<u32, Fault>
+        ensures { result ≡ container_of self.now name.now }
     {
-        let place = self.container_place(name).ok_or(Fault::Name)?;
-        number_of(place)
+        self.containers.place_of(name).ok_or(Fault::Name)
     }
 
     /// The place of a second container.
     #[tactic(auto, unfolding(crate::specs::Arguments::other_of))]
-    fn other_of(&self, kind: Kind, name: &[u8]) -> Result<u32, LineError>
-        ensures { Gives (λ place. place) result (other_of self.now kind name.now) }
+    fn other_of(&self, kind: Kind, name: &[u8]) -> Result<u32, Fault>
+        ensures { result ≡ other_of self.now kind name.now }
     {
         let place = self.container_of(name)?;
         match self.kind_at(place) {
             Some(found) if same_kind(found, kind) => Ok(place),
-            _ => Err(Fault::WrongKind.into()),
+            _ => Err(Fault::WrongKind),
         }
     }
 
@@ -129,11 +115,10 @@ impl Draft {
 
     /// The number of a cursor that stands above in the thread.
     #[tactic(auto, unfolding(crate::specs::Arguments::cursor_of))]
-    fn cursor_of(&self, name: &[u8]) -> Result<u32, LineError>
-        ensures { Gives (λ number. number) result (cursor_of self.now name.now) }
+    fn cursor_of(&self, name: &[u8]) -> Result<u32, Fault>
+        ensures { result ≡ cursor_of self.now name.now }
     {
-        let place = self.cursor_place(name).ok_or(Fault::Name)?;
-        number_of(place)
+        self.cursors.place_of(name).ok_or(Fault::Name)
     }
 
     /// The number of a cursor that is made, or made anew.
@@ -144,8 +129,8 @@ impl Draft {
         if !is_container_name(name) {
             return Err(Fault::Name.into());
         }
-        if let Some(place) = self.cursor_place(name) {
-            return number_of(place);
+        if let Some(number) = self.cursors.place_of(name) {
+            return Ok(number);
         }
         let number = self.cursors.len();
         if number >= CURSOR_LIMIT {
@@ -233,12 +218,12 @@ impl Draft {
     }
 
     #[tactic(auto, unfolding(crate::specs::Arguments::other_in))]
-    pub(crate) fn other_in(&self, kind: Kind, words: &[&[u8]]) -> Result<u32, LineError>
-        ensures { Gives (λ place. place) result (other_in self.now kind (map (λ word. word.now) words.now)) }
+    pub(crate) fn other_in(&self, kind: Kind, words: &[&[u8]]) -> Result<u32, Fault>
+        ensures { result ≡ other_in self.now kind (map (λ word. word.now) words.now) }
     {
         match words {
             [name] => self.other_of(kind, name),
-            _ => Err(Fault::WordCount.into()),
+            _ => Err(Fault::WordCount),
         }
     }
 
@@ -257,29 +242,29 @@ impl Draft {
     }
 
     #[tactic(auto, unfolding(crate::specs::Arguments::cursor_in))]
-    pub(crate) fn cursor_in(&self, words: &[&[u8]]) -> Result<u32, LineError>
-        ensures { Gives (λ number. number) result (cursor_in self.now (map (λ word. word.now) words.now)) }
+    pub(crate) fn cursor_in(&self, words: &[&[u8]]) -> Result<u32, Fault>
+        ensures { result ≡ cursor_in self.now (map (λ word. word.now) words.now) }
     {
         match words {
             [name] => self.cursor_of(name),
-            _ => Err(Fault::WordCount.into()),
+            _ => Err(Fault::WordCount),
         }
     }
 
     #[tactic(auto, unfolding(crate::specs::Arguments::section_in))]
-    pub(crate) fn section_in(&self, words: &[&[u8]]) -> Result<(u32, Option<u32>), LineError>
-        ensures { Gives (λ both. both) result (section_in self.now (map (λ word. word.now) words.now)) }
+    pub(crate) fn section_in(&self, words: &[&[u8]]) -> Result<(u32, Option<u32>), Fault>
+        ensures { result ≡ section_in self.now (map (λ word. word.now) words.now) }
     {
         match words {
             [name] => Ok((self.container_of(name)?, None)),
             [name, other] => self.two_containers_of(name, other),
-            _ => Err(Fault::WordCount.into()),
+            _ => Err(Fault::WordCount),
         }
     }
 
     #[tactic(auto, unfolding(crate::specs::Arguments::two_containers_of))]
-    fn two_containers_of(&self, name: &[u8], other: &[u8]) -> Result<(u32, Option<u32>), LineError>
-        ensures { Gives (λ both. both) result (two_containers_of self.now name.now other.now) }
+    fn two_containers_of(&self, name: &[u8], other: &[u8]) -> Result<(u32, Option<u32>), Fault>
+        ensures { result ≡ two_containers_of self.now name.now other.now }
     {
         let first = self.container_of(name)?;
         let second = self.container_of(other)?;
@@ -288,49 +273,49 @@ impl Draft {
 }
 
 #[tactic(auto, unfolding(crate::specs::Arguments::nothing_in))]
-pub(crate) fn nothing_in(words: &[&[u8]]) -> Result<(), LineError>
-    ensures { Gives (λ read. read) result (nothing_in (map (λ word. word.now) words.now)) }
+pub(crate) fn nothing_in(words: &[&[u8]]) -> Result<(), Fault>
+    ensures { result ≡ nothing_in (map (λ word. word.now) words.now) }
 {
     match words {
         [] => Ok(()),
-        _ => Err(Fault::WordCount.into()),
+        _ => Err(Fault::WordCount),
     }
 }
 
 #[tactic(auto, unfolding(crate::specs::Arguments::index_in))]
-pub(crate) fn index_in(words: &[&[u8]]) -> Result<i64, LineError>
-    ensures { Gives (λ n. n) result (index_in (map (λ word. word.now) words.now)) }
+pub(crate) fn index_in(words: &[&[u8]]) -> Result<i64, Fault>
+    ensures { result ≡ index_in (map (λ word. word.now) words.now) }
 {
     match words {
         [word] => index_of(word),
-        _ => Err(Fault::WordCount.into()),
+        _ => Err(Fault::WordCount),
     }
 }
 
 #[tactic(auto, unfolding(crate::specs::Arguments::some_index_in))]
-pub(crate) fn some_index_in(words: &[&[u8]]) -> Result<Option<i64>, LineError>
-    ensures { Gives (λ n. n) result (some_index_in (map (λ word. word.now) words.now)) }
+pub(crate) fn some_index_in(words: &[&[u8]]) -> Result<Option<i64>, Fault>
+    ensures { result ≡ some_index_in (map (λ word. word.now) words.now) }
 {
     match words {
         [] => Ok(None),
         [word] => Ok(Some(index_of(word)?)),
-        _ => Err(Fault::WordCount.into()),
+        _ => Err(Fault::WordCount),
     }
 }
 
 #[tactic(auto, unfolding(crate::specs::Arguments::two_indices_in))]
-pub(crate) fn two_indices_in(words: &[&[u8]]) -> Result<(i64, i64), LineError>
-    ensures { Gives (λ ends. ends) result (two_indices_in (map (λ word. word.now) words.now)) }
+pub(crate) fn two_indices_in(words: &[&[u8]]) -> Result<(i64, i64), Fault>
+    ensures { result ≡ two_indices_in (map (λ word. word.now) words.now) }
 {
     match words {
         [first, second] => two_indices_of(first, second),
-        _ => Err(Fault::WordCount.into()),
+        _ => Err(Fault::WordCount),
     }
 }
 
 #[tactic(auto, unfolding(crate::specs::Arguments::two_indices_of))]
-fn two_indices_of(first: &[u8], second: &[u8]) -> Result<(i64, i64), LineError>
-    ensures { Gives (λ ends. ends) result (two_indices_of first.now second.now) }
+fn two_indices_of(first: &[u8], second: &[u8]) -> Result<(i64, i64), Fault>
+    ensures { result ≡ two_indices_of first.now second.now }
 {
     let start = index_of(first)?;
     let end = index_of(second)?;

@@ -1,22 +1,30 @@
 //! What the lines above a place say.
-ghost use Rattle.ft_script.specs.Drafts.{Leaves, container_place, thread_place, text_place, empty_draft, script_of, end_thread};
-ghost use Rattle.std.specs.Prelude.{◌≡◌, IfOk};
+ghost use Rattle.ft_script.specs.Drafts.{Leaves, thread_place, empty_draft, script_of, end_thread};
+ghost use Rattle.ft_model.specs.Scripts.{default_tables};
+ghost use Rattle.std.specs.List.{zip};
+ghost use Rattle.std.specs.Option.{unwrap_or};
+ghost use Rattle.std.specs.Prelude.{◌≡◌, IfOk, map};
 
+use crate::declarations::{CursorNames, Declarations};
 use crate::fault::{Fault, LineError};
 use crate::strings::Strings;
-use ft_model::{Call, Declaration, ScriptParts, Sequence, Text, Thread};
+use ft_model::{CLASS_COUNT, Call, ScriptParts, Sequence, Text, Thread};
 use std::alloc::{AllocError, Global};
 
 /// The most calls that a script may have.
 pub(crate) const CALL_LIMIT: u32 = 500_000;
 
+/// How many tables a class has where no line names their number: 4 of each class to 12, 1 of each
+/// above.
+const DEFAULT_TABLES: [u32; CLASS_COUNT] = [4, 4, 4, 4, 4, 4, 4, 4, 4, 4, 1, 1, 1, 1];
+
 /// What the lines above a place say.
 #[derive(Drop)]
 pub(crate) struct Draft {
     /// The containers that are declared.
-    pub containers: Sequence<Declaration>,
+    pub containers: Declarations,
     /// The numbers of tables that lines name, from class 3 on.
-    pub tables: [Option<u32>; 10],
+    pub tables: [Option<u32>; CLASS_COUNT],
     /// The number of heap places that a line names.
     pub heap: Option<u32>,
     /// The threads whose calls have ended.
@@ -24,7 +32,7 @@ pub(crate) struct Draft {
     /// The name of the thread whose calls stand here.
     pub name: Option<Text>,
     /// Its cursors.
-    pub cursors: Sequence<Text>,
+    pub cursors: CursorNames,
     /// Its calls.
     pub calls: Sequence<Call>,
     /// How many of its sections are open.
@@ -43,28 +51,18 @@ impl Draft {
         ensures { result ≡ empty_draft }
     {
         Draft {
-            containers: Sequence::new(alloc),
-            tables: [None; 10],
+            containers: Declarations::new(alloc),
+            tables: [None; CLASS_COUNT],
             heap: None,
             threads: Sequence::new(alloc),
             name: None,
-            cursors: Sequence::new(alloc),
+            cursors: CursorNames::new(alloc),
             calls: Sequence::new(alloc),
             depth: 0,
             called: 0,
             strings: Strings::new(alloc),
             order: Sequence::new(alloc),
         }
-    }
-
-    /// Where the container stands among those declared.
-    pub(crate) fn container_place(&self, name: &[u8]) -> Option<usize>
-        ensures { result ≡ container_place self.now.containers name.now }
-    {
-        let containers = self.containers.as_slice();
-        containers
-            .iter()
-            .position(|container| container.name.as_slice() == name)
     }
 
     /// Where the thread stands among those that have ended.
@@ -75,14 +73,6 @@ impl Draft {
         threads
             .iter()
             .position(|thread| thread.name.as_slice() == name)
-    }
-
-    /// Where the cursor stands among those of the thread.
-    pub(crate) fn cursor_place(&self, name: &[u8]) -> Option<usize>
-        ensures { result ≡ text_place self.now.cursors name.now }
-    {
-        let cursors = self.cursors.as_slice();
-        cursors.iter().position(|cursor| name == cursor.as_slice())
     }
 
     /// Ends the calls of the thread, if one's calls stand here.
@@ -96,11 +86,11 @@ impl Draft {
         if self.depth != 0 {
             return Err(Fault::BeginWithoutEnd.into());
         }
-        let cursors = std::mem::replace(&mut self.cursors, Sequence::new(alloc));
+        let cursors = std::mem::replace(&mut self.cursors, CursorNames::new(alloc));
         let calls = std::mem::replace(&mut self.calls, Sequence::new(alloc));
         self.threads.push(Thread {
             name,
-            cursors,
+            cursors: cursors.into_sequence(),
             calls,
         })?;
         Ok(())
@@ -110,13 +100,9 @@ impl Draft {
     pub(crate) fn into_parts(self, alloc: Global) -> Result<ScriptParts, AllocError>
         ensures { IfOk result (λ parts. parts ≡ script_of self) }
     {
-        let tables = self
-            .tables
-            .iter()
-            .map(|count| count.unwrap_or(4))
-            .collect(alloc)?;
+        let tables = table_counts(alloc, &self.tables)?;
         Ok(ScriptParts {
-            containers: self.containers,
+            containers: self.containers.into_sequence(),
             threads: self.threads,
             strings: Sequence::from_vec(self.strings.into_texts()?),
             tables: Sequence::from_vec(tables),
@@ -124,4 +110,15 @@ impl Draft {
             order: self.order,
         })
     }
+}
+
+/// How many tables each class has, where these are the numbers that lines name.
+fn table_counts(alloc: Global, named: &[Option<u32>]) -> Result<Vec<u32>, AllocError>
+    ensures { IfOk result (λ counts. counts.items ≡ map (λ both. unwrap_or both.0 both.1) (zip named.now default_tables)) }
+{
+    named
+        .iter()
+        .zip(DEFAULT_TABLES.iter())
+        .map(|(count, default)| count.unwrap_or(*default))
+        .collect(alloc)
 }

@@ -1,16 +1,17 @@
 //! Reads the lines of entries and contents.
 ghost use Rattle.ft_script.specs.declared.fault.Fault.TheVariants as fault;
 ghost use Rattle.ft_script.specs.Candidates.{content_of, entry_of, numbered_of, only_call, stamp_of, thread_call, thread_of, waited_of};
+ghost use Rattle.ft_model.specs.Scripts.{IsScript};
 ghost use Rattle.ft_script.specs.Drafts.{Gives, container_place, draft_at, or_fault, thread_place};
 ghost use Rattle.ft_script.specs.Reading.{call_of};
 ghost use Rattle.ft_script.specs.Readers.{AddsNothing, IsReaderOf, IsUnchanged};
 ghost use Rattle.ft_script.specs.Tokens.{before_word};
-ghost use Rattle.ft_script.specs.Transcripts.{counts};
+ghost use Rattle.ft_script.specs.Transcripts.{counts, counts_dict, counts_list, counts_set};
 ghost use Rattle.std.specs.List.{after_first, before_first};
-ghost use Rattle.std.specs.Prelude.{◌≡◌, ◌≢◌, ◌==◌, ◌<◌, AllPairs, IfOk, OnOk, codes, drop, length, map};
+ghost use Rattle.std.specs.Prelude.{◌≡◌, ◌≢◌, ◌==◌, ◌<◌, ◌≤◌, All, AllPairs, IfOk, IfSome, OnOk, codes, drop, length, map};
 
-use crate::arguments::number_of;
 use crate::call_words::{CallWord, call_word_of};
+use crate::declarations::{CursorNames, Declarations};
 use crate::draft::Draft;
 use crate::fault::{Fault, LineError};
 use crate::replies::{reply_of, u32_of, u64_of};
@@ -27,35 +28,105 @@ use std::mem;
 fn counts(call: &Call) -> bool
     ensures { result ≡ counts call.now }
 {
-    matches!(
-        call,
-        Call::Dict {
-            call: DictCall::Len,
-            ..
-        } | Call::List {
-            call: ListCall::Len | ListCall::Index { .. } | ListCall::Count { .. },
-            ..
-        } | Call::Set {
-            call: SetCall::Len,
-            ..
-        }
-    )
+    match call {
+        Call::Dict { call, .. } => counts_dict(call),
+        Call::List { call, .. } => counts_list(call),
+        Call::Set { call, .. } => counts_set(call),
+        Call::Next { .. } | Call::Begin { .. } | Call::End | Call::Quiesce => false,
+    }
+}
+
+fn counts_dict(call: &DictCall) -> bool
+    ensures { result ≡ counts_dict call.now }
+{
+    match call {
+        DictCall::Len => true,
+        DictCall::Get { .. }
+        | DictCall::GetOr { .. }
+        | DictCall::Set { .. }
+        | DictCall::Del { .. }
+        | DictCall::Pop { .. }
+        | DictCall::PopOr { .. }
+        | DictCall::PopItem
+        | DictCall::SetDefault { .. }
+        | DictCall::Has { .. }
+        | DictCall::Items
+        | DictCall::Update { .. }
+        | DictCall::Clear
+        | DictCall::CopyTo { .. }
+        | DictCall::Eq { .. }
+        | DictCall::Iter { .. } => false,
+    }
+}
+
+fn counts_list(call: &ListCall) -> bool
+    ensures { result ≡ counts_list call.now }
+{
+    match call {
+        ListCall::Index { .. } | ListCall::Count { .. } | ListCall::Len => true,
+        ListCall::Append { .. }
+        | ListCall::Insert { .. }
+        | ListCall::Get { .. }
+        | ListCall::Set { .. }
+        | ListCall::Del { .. }
+        | ListCall::Pop { .. }
+        | ListCall::Remove { .. }
+        | ListCall::Has { .. }
+        | ListCall::Reverse
+        | ListCall::Extend { .. }
+        | ListCall::Slice { .. }
+        | ListCall::Clear
+        | ListCall::Items
+        | ListCall::Eq { .. }
+        | ListCall::Iter { .. } => false,
+    }
+}
+
+fn counts_set(call: &SetCall) -> bool
+    ensures { result ≡ counts_set call.now }
+{
+    match call {
+        SetCall::Len => true,
+        SetCall::Add { .. }
+        | SetCall::Discard { .. }
+        | SetCall::Remove { .. }
+        | SetCall::Pop
+        | SetCall::Has { .. }
+        | SetCall::Items
+        | SetCall::Eq { .. }
+        | SetCall::Or { .. }
+        | SetCall::And { .. }
+        | SetCall::Sub { .. }
+        | SetCall::Xor { .. }
+        | SetCall::Subset { .. }
+        | SetCall::Disjoint { .. }
+        | SetCall::Clear
+        | SetCall::Iter { .. } => false,
+    }
 }
 
 /// The thread of that name.
 #[tactic(auto, unfolding(crate::specs::Candidates::thread_of))]
-fn thread_of(script: &ScriptParts, name: &[u8]) -> Result<u32, LineError>
-    ensures { Gives (λ thread. thread) result (thread_of script.now name.now) }
+fn thread_of(script: &ScriptParts, name: &[u8]) -> Result<u32, Fault>
+    requires { IsScript script.now }
+    ensures { result ≡ thread_of script.now name.now }
 {
-    let place = thread_place(script, name).ok_or(Fault::Name)?;
-    number_of(place)
+    thread_place(script, name).ok_or(Fault::Name)
 }
 
 /// Where the thread of that name stands.
-fn thread_place(script: &ScriptParts, name: &[u8]) -> Option<usize>
+fn thread_place(script: &ScriptParts, name: &[u8]) -> Option<u32>
+    requires { IsScript script.now }
     ensures { result ≡ thread_place script.now.threads name.now }
 {
-    let threads = script.threads.as_slice();
+    let place = thread_index(script.threads.as_slice(), name)?;
+    Some(place as u32)
+}
+
+fn thread_index(threads: &[Thread], name: &[u8]) -> Option<usize>
+    ensures place { result ≡ thread_place threads.now name.now }
+    ensures within { IfSome result (λ place. place < length threads.now) }
+{
     threads
         .iter()
         .position(|thread| thread.name.as_slice() == name)
@@ -63,8 +134,9 @@ fn thread_place(script: &ScriptParts, name: &[u8]) -> Option<usize>
 
 /// The thread and the index that a dot parts.
 #[tactic(auto, unfolding(crate::specs::Candidates::numbered_of))]
-fn numbered_of(script: &ScriptParts, token: &[u8]) -> Result<(u32, u32), LineError>
-    ensures { Gives (λ numbered. numbered) result (numbered_of script.now token.now) }
+fn numbered_of(script: &ScriptParts, token: &[u8]) -> Result<(u32, u32), Fault>
+    requires { IsScript script.now }
+    ensures { result ≡ numbered_of script.now token.now }
 {
     let (name, digits) = split_at_dot(token);
     let thread = thread_of(script, name)?;
@@ -85,19 +157,20 @@ fn split_at_dot(token: &[u8]) -> (&[u8], &[u8])
 
 /// Whether a `w` stands there, and the number after it.
 #[tactic(auto, unfolding(crate::specs::Candidates::stamp_of))]
-fn stamp_of(token: &[u8]) -> Result<(bool, u64), LineError>
-    ensures { Gives (λ stamped. stamped) result (stamp_of token.now) }
+fn stamp_of(token: &[u8]) -> Result<(bool, u64), Fault>
+    ensures { result ≡ stamp_of token.now }
 {
     let [letter, digits @ ..] = token else {
-        return Err(Fault::WordCount.into());
+        return Err(Fault::WordCount);
     };
     Ok((*letter == b'w', u64_of(digits)?))
 }
 
 /// The thread that the first token names, if there is one.
 #[tactic(auto, unfolding(crate::specs::Candidates::waited_of))]
-fn waited_of(script: &ScriptParts, tokens: &[&[u8]]) -> Result<Option<u32>, LineError>
-    ensures { Gives (λ waited. waited) result (waited_of script.now (map (λ token. token.now) tokens.now)) }
+fn waited_of(script: &ScriptParts, tokens: &[&[u8]]) -> Result<Option<u32>, Fault>
+    requires { IsScript script.now }
+    ensures { result ≡ waited_of script.now (map (λ token. token.now) tokens.now) }
 {
     match tokens {
         [name, ..] => Ok(Some(thread_of(script, name)?)),
@@ -148,7 +221,8 @@ fn copied_container(alloc: Global, container: &Declaration) -> Result<Declaratio
 
 /// The strings, each with its number.
 pub(crate) fn numbered_strings(alloc: Global, texts: &[Text]) -> Result<Strings, AllocError>
-    requires { AllPairs (λ a b. a ≢ b) texts.now }
+    requires differ { AllPairs (λ a b. a ≢ b) texts.now }
+    requires few { length texts.now ≤ 65536 }
     ensures { IfOk result (λ strings. strings ≡ texts.now) }
 {
     let mut strings = Strings::new(alloc);
@@ -164,17 +238,18 @@ pub(crate) struct Reader {
     /// The containers and strings.
     pub draft: Draft,
     /// The cursors of each thread.
-    pub cursors: Vec<Sequence<Text>>,
+    pub cursors: Vec<CursorNames>,
 }
 
 impl Reader {
     /// The reader of a script's transcripts.
     pub(crate) fn new(alloc: Global, script: &ScriptParts) -> Result<Self, AllocError>
-        requires { AllPairs (λ a b. a ≢ b) script.now.strings }
+        requires { IsScript script.now }
         ensures { IfOk result (λ reader. IsReaderOf script.now reader.draft reader.cursors.items) }
     {
         let mut draft = Draft::empty(alloc);
-        draft.containers = copied_containers(alloc, script.containers.as_slice())?;
+        let containers = copied_containers(alloc, script.containers.as_slice())?;
+        draft.containers = Declarations::from_sequence(containers);
         draft.strings = numbered_strings(alloc, script.strings.as_slice())?;
         let cursors = all_cursors(alloc, script.threads.as_slice())?;
         Ok(Reader { draft, cursors })
@@ -231,6 +306,7 @@ impl Reader {
         strings: &Strings,
         tokens: &[&[u8]],
     ) -> Result<Entry, LineError>
+        requires script { IsScript script.now }
         requires reader { IsReaderOf script.now self.old.draft self.old.cursors.items }
         requires strings { strings.now ≡ script.now.strings }
         ensures read { Gives (λ entry. entry) result (entry_of script.now (map (λ token. token.now) tokens.now)) }
@@ -266,7 +342,8 @@ pub(crate) fn content_of(
     strings: &Strings,
     tokens: &[&[u8]],
 ) -> Result<(u32, Reply), LineError>
-    requires { strings.now ≡ script.now.strings }
+    requires script { IsScript script.now }
+    requires strings { strings.now ≡ script.now.strings }
     ensures { Gives (λ content. content) result (content_of script.now (map (λ token. token.now) tokens.now)) }
 {
     let [name, _, tokens @ ..] = tokens else {
@@ -278,30 +355,40 @@ pub(crate) fn content_of(
 }
 
 /// The container of that name.
-fn container_of(script: &ScriptParts, name: &[u8]) -> Result<u32, LineError>
-    ensures { Gives (λ place. place) result (or_fault fault.Name (container_place script.now.containers name.now)) }
+fn container_of(script: &ScriptParts, name: &[u8]) -> Result<u32, Fault>
+    requires { IsScript script.now }
+    ensures { result ≡ or_fault fault.Name (container_place script.now.containers name.now) }
 {
-    let place = container_place(script, name).ok_or(Fault::Name)?;
-    number_of(place)
+    container_place(script, name).ok_or(Fault::Name)
 }
 
 /// Where the container of that name stands.
-fn container_place(script: &ScriptParts, name: &[u8]) -> Option<usize>
+fn container_place(script: &ScriptParts, name: &[u8]) -> Option<u32>
+    requires { IsScript script.now }
     ensures { result ≡ container_place script.now.containers name.now }
 {
-    let containers = script.containers.as_slice();
+    let place = container_index(script.containers.as_slice(), name)?;
+    Some(place as u32)
+}
+
+fn container_index(containers: &[Declaration], name: &[u8]) -> Option<usize>
+    ensures place { result ≡ container_place containers.now name.now }
+    ensures within { IfSome result (λ place. place < length containers.now) }
+{
     containers
         .iter()
         .position(|container| container.name.as_slice() == name)
 }
 
 /// The cursors of each thread.
-fn all_cursors(alloc: Global, threads: &[Thread]) -> Result<Vec<Sequence<Text>>, AllocError>
+fn all_cursors(alloc: Global, threads: &[Thread]) -> Result<Vec<CursorNames>, AllocError>
+    requires { All (λ thread. length thread.cursors ≤ 256) threads.now }
     ensures { IfOk result (λ cursors. cursors.items ≡ map (λ thread. thread.cursors) threads.now) }
 {
     let mut cursors = Vec::new(alloc);
     for thread in threads {
-        cursors.push(copied_names(alloc, thread.cursors.as_slice())?)?;
+        let names = copied_names(alloc, thread.cursors.as_slice())?;
+        cursors.push(CursorNames::from_sequence(names))?;
     }
     Ok(cursors)
 }

@@ -19,9 +19,9 @@ pub enum Which {
     Strings,
     /// A string of more than 255 bytes.
     StringBytes,
-    /// A class that isn't from 3 to 12.
+    /// A class that isn't from 3 to 16.
     Class,
-    /// A number of tables that isn't from 1 to 64.
+    /// A number of tables that isn't from 1 to 1,024.
     Tables,
     /// A number of heap places that isn't from 64 to 4,096 in steps of 64.
     Heap,

@@ -4,6 +4,7 @@
 mod arguments;
 mod call_words;
 mod calls;
+mod declarations;
 mod declared;
 mod draft;
 mod entries;

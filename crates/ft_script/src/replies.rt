@@ -3,12 +3,12 @@ ghost use Rattle.ft_script.specs.Candidates.{braced_of, but_last, class_error_of
 ghost use Rattle.ft_script.specs.Drafts.{Gives};
 ghost use Rattle.std.specs.Prelude.{◌≡◌, map};
 
-use crate::arguments::{index_of, number_of};
+use crate::arguments::index_of;
 use crate::fault::{Fault, LineError};
 use crate::reply_words::{ReplyWord, reply_word_of};
 use crate::strings::Strings;
 use crate::words::{is_string, text_of};
-use ft_model::{Key, Raise, Reply, Sequence, Sym, Value};
+use ft_model::{GREATEST_CLASS, Key, LEAST_CLASS, Raise, Reply, Sequence, Sym, Value};
 use std::alloc::Global;
 
 /// Whether the token is one or more digits.
@@ -33,19 +33,19 @@ fn natural_in(token: &[u8]) -> Option<u64>
 
 /// The number below 2^64 that digits are.
 #[tactic(auto, unfolding(crate::specs::Candidates::u64_of))]
-pub(crate) fn u64_of(token: &[u8]) -> Result<u64, LineError>
-    ensures { Gives (λ n. n) result (u64_of token.now) }
+pub(crate) fn u64_of(token: &[u8]) -> Result<u64, Fault>
+    ensures { result ≡ u64_of token.now }
 {
-    Ok(natural_in(token).ok_or(Fault::Number)?)
+    natural_in(token).ok_or(Fault::Number)
 }
 
 /// The number below 2^32 that digits are.
 #[tactic(auto, unfolding(crate::specs::Candidates::u32_of))]
-pub(crate) fn u32_of(token: &[u8]) -> Result<u32, LineError>
-    ensures { Gives (λ n. n) result (u32_of token.now) }
+pub(crate) fn u32_of(token: &[u8]) -> Result<u32, Fault>
+    ensures { result ≡ u32_of token.now }
 {
     let number = u64_of(token)?;
-    u32::try_from(number).map_err(|_| Fault::Number.into())
+    u32::try_from(number).map_err(|_| Fault::Number)
 }
 
 /// The key that a token is, of a string that has a number.
@@ -56,7 +56,7 @@ fn known_key(alloc: Global, strings: &Strings, token: &[u8]) -> Result<Key, Line
     if is_string(token) {
         let text = text_of(alloc, token)?;
         let place = strings.place_of(&text).ok_or(Fault::String)?;
-        Ok(Key::Text(Sym(number_of(place)?)))
+        Ok(Key::Text(Sym(place)))
     } else {
         Ok(Key::Int(index_of(token)?))
     }
@@ -135,46 +135,46 @@ fn pairs_of(
 }
 
 #[tactic(auto, unfolding(crate::specs::Candidates::suspended_of))]
-fn suspended_of(tokens: &[&[u8]]) -> Result<Reply, LineError>
-    ensures { Gives (λ reply. reply) result (suspended_of (map (λ token. token.now) tokens.now)) }
+fn suspended_of(tokens: &[&[u8]]) -> Result<Reply, Fault>
+    ensures { result ≡ suspended_of (map (λ token. token.now) tokens.now) }
 {
     match tokens {
         [count, ..] => Ok(Reply::Suspended(u32_of(count)?)),
-        [] => Err(Fault::WordCount.into()),
+        [] => Err(Fault::WordCount),
     }
 }
 
 #[tactic(auto, unfolding(crate::specs::Candidates::runtime_error_of))]
-fn runtime_error_of(tokens: &[&[u8]]) -> Result<Raise, LineError>
-    ensures { Gives (λ raise. raise) result (runtime_error_of (map (λ token. token.now) tokens.now)) }
+fn runtime_error_of(tokens: &[&[u8]]) -> Result<Raise, Fault>
+    ensures { result ≡ runtime_error_of (map (λ token. token.now) tokens.now) }
 {
     match tokens {
         [cause, ..] if *cause == b"size".as_slice() => Ok(Raise::Size),
         [cause, ..] if *cause == b"keys".as_slice() => Ok(Raise::Keys),
-        [_, ..] => Err(Fault::UnknownWord.into()),
-        [] => Err(Fault::WordCount.into()),
+        [_, ..] => Err(Fault::UnknownWord),
+        [] => Err(Fault::WordCount),
     }
 }
 
 #[tactic(auto, unfolding(crate::specs::Candidates::memory_error_of))]
-fn memory_error_of(tokens: &[&[u8]]) -> Result<Raise, LineError>
-    ensures { Gives (λ raise. raise) result (memory_error_of (map (λ token. token.now) tokens.now)) }
+fn memory_error_of(tokens: &[&[u8]]) -> Result<Raise, Fault>
+    ensures { result ≡ memory_error_of (map (λ token. token.now) tokens.now) }
 {
     match tokens {
         [cause, ..] if *cause == b"over".as_slice() => Ok(Raise::Over),
         [cause, ..] if *cause == b"heap".as_slice() => Ok(Raise::Heap),
         [cause, ..] => class_error_of(cause),
-        [] => Err(Fault::WordCount.into()),
+        [] => Err(Fault::WordCount),
     }
 }
 
 #[tactic(auto, unfolding(crate::specs::Candidates::class_error_of))]
-fn class_error_of(token: &[u8]) -> Result<Raise, LineError>
-    ensures { Gives (λ raise. raise) result (class_error_of token.now) }
+fn class_error_of(token: &[u8]) -> Result<Raise, Fault>
+    ensures { result ≡ class_error_of token.now }
 {
     match u32_of(token)? {
-        class @ 3..=12 => Ok(Raise::Memory(class)),
-        _ => Err(Fault::Number.into()),
+        class @ LEAST_CLASS..=GREATEST_CLASS => Ok(Raise::Memory(class)),
+        _ => Err(Fault::Number),
     }
 }
 
@@ -225,7 +225,7 @@ fn worded_reply(
         ReplyWord::Stop => Ok(Reply::Stop),
         ReplyWord::Entered => Ok(Reply::Entered),
         ReplyWord::Kept => Ok(Reply::Kept),
-        ReplyWord::Suspended => suspended_of(tokens),
+        ReplyWord::Suspended => Ok(suspended_of(tokens)?),
         ReplyWord::KeyError => Ok(Reply::Raised(Raise::NoKey)),
         ReplyWord::IndexError => Ok(Reply::Raised(Raise::NoIndex)),
         ReplyWord::ValueError => Ok(Reply::Raised(Raise::NoValue)),

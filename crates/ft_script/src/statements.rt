@@ -5,6 +5,7 @@ ghost use Rattle.std.specs.Prelude.{◌≡◌, ◌<◌, IfOk, IfSome, map};
 
 use crate::arguments::{index_of, number_of};
 use crate::call_words::call_word_of;
+use crate::declarations::CONTAINER_LIMIT;
 use crate::draft::Draft;
 use crate::fault::{Fault, LineError, Which};
 use crate::lines::{ends_thread, is_comment, words_of};
@@ -12,8 +13,8 @@ use crate::words::{is_container_name, is_thread_name};
 use ft_model::{Declaration, Kind, Sequence};
 use std::alloc::Global;
 
-/// The most containers that a script may have.
-const CONTAINER_LIMIT: usize = 256;
+/// The most tables that a class may have.
+const TABLE_LIMIT: i64 = 1024;
 
 /// The most threads that a script may have.
 const THREAD_LIMIT: usize = 64;
@@ -21,12 +22,12 @@ const THREAD_LIMIT: usize = 64;
 /// The most names that the `order` lines may have.
 const ORDER_LIMIT: usize = 1_000_000;
 
-/// The place of a class among those from 3 to 12.
+/// The place of a class among those from 3 to 16.
 fn class_place(class: i64) -> Option<usize>
     ensures place { result ≡ class_place class }
-    ensures small { IfSome result (λ place. place < 10) }
+    ensures small { IfSome result (λ place. place < 14) }
 {
-    if (3..=12).contains(&class) {
+    if (3..=16).contains(&class) {
         Some(class as usize - 3)
     } else {
         None
@@ -36,7 +37,7 @@ fn class_place(class: i64) -> Option<usize>
 #[tactic(auto, unfolding(crate::specs::Reading::class_of))]
 fn class_of(word: &[u8]) -> Result<usize, LineError>
     ensures class { Gives (λ place. place) result (class_of word.now) }
-    ensures small { IfOk result (λ place. place < 10) }
+    ensures small { IfOk result (λ place. place < 14) }
 {
     let class = index_of(word)?;
     Ok(class_place(class).ok_or(Fault::Limit(Which::Class))?)
@@ -59,10 +60,10 @@ impl Draft {
         if !is_container_name(name) {
             return Err(Fault::Name.into());
         }
-        if self.container_place(name).is_some() {
+        if self.containers.place_of(name).is_some() {
             return Err(Fault::NameTwice.into());
         }
-        if self.containers.len() >= CONTAINER_LIMIT {
+        if self.containers.as_slice().len() >= CONTAINER_LIMIT {
             return Err(Fault::Limit(Which::Containers).into());
         }
         let name = Sequence::from_vec(Vec::from_slice(alloc, name)?);
@@ -91,14 +92,14 @@ impl Draft {
 
     #[tactic(auto, unfolding(crate::specs::Reading::tables_at))]
     fn tables_at(&mut self, place: usize, count: &[u8]) -> Result<(), LineError>
-        requires { place < 10 }
+        requires { place < 14 }
         ensures { Leaves result self.new (tables_at self.old place count.now) }
     {
         if self.tables[place].is_some() {
             return Err(Fault::NameTwice.into());
         }
         let number = index_of(count)?;
-        if !(1..=64).contains(&number) {
+        if !(1..=TABLE_LIMIT).contains(&number) {
             return Err(Fault::Limit(Which::Tables).into());
         }
         self.tables[place] = Some(number as u32);

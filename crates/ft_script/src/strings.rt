@@ -1,13 +1,17 @@
-//! The distinct strings of a script, each with its number.
+//! The distinct strings of a script, each with its number. There are never more than a script may
+//! have, so each number fits 32 bits, and looking a string up fails for no want of room.
 ghost use Rattle.ft_script.specs.Drafts.{text_place};
-ghost use Rattle.std.specs.Prelude.{◌≡◌, [], ◌∷◌, ◌++◌, length, None, IfOk, OnOk};
+ghost use Rattle.std.specs.Prelude.{◌≡◌, ◌<◌, [], ◌∷◌, ◌++◌, length, None, IfOk, OnOk};
 
 use ft_model::{Sequence, Text};
 use indexmap::IndexSet;
 use std::alloc::{AllocError, Global};
 use std::marker::Model;
 
-/// Distinct texts, numbered from 0 in the order in which they are first named.
+/// The most distinct strings that a script may have.
+pub(crate) const STRING_LIMIT: usize = 65_536;
+
+/// At most 65,536 distinct texts, numbered from 0 in the order in which they are first named.
 #[derive(Drop)]
 pub(crate) struct Strings {
     alloc: Global,
@@ -15,11 +19,13 @@ pub(crate) struct Strings {
 }
 
 impl Model for Strings {
-    ghost use Rattle.std.specs.Prelude.{List, ℕ, map};
+    ghost use Rattle.std.specs.Prelude.{List, ℕ, ◌≤◌, length, map};
 
     ghost Value = { List (List ℕ) };
 
     ghost view = { λ s. map (λ text. text.items) s.texts.keys };
+
+    ghost invariant = { λ s. length s.texts.keys ≤ 65536 };
 }
 
 impl Strings {
@@ -41,15 +47,17 @@ impl Strings {
     }
 
     /// The text's number, where it has one.
-    pub(crate) fn place_of(&self, text: &[u8]) -> Option<usize>
+    pub(crate) fn place_of(&self, text: &[u8]) -> Option<u32>
         ensures { result ≡ text_place self.now text.now }
     {
-        self.texts.get_index_of(text)
+        let place = self.texts.get_index_of(text)?;
+        Some(place as u32)
     }
 
     /// Adds a text, which has the next number.
     pub(crate) fn add(&mut self, text: &[u8]) -> Result<(), AllocError>
-        requires { text_place self.old text.now ≡ None }
+        requires new { text_place self.old text.now ≡ None }
+        requires room { length self.old < 65536 }
         ensures { OnOk result (self.new ≡ self.old ++ text.now ∷ []) }
     {
         let text = Vec::from_slice(self.alloc, text)?;

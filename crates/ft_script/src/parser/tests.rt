@@ -283,7 +283,7 @@ fn faults_that_stand_together(rt: HostRuntime) {
         ("dict d\ndict d d", 2, 3),
         ("stop d \"", 1, 5),
         ("tables x y", 1, 4),
-        ("tables 13 x", 1, 12),
+        ("tables 17 x", 1, 12),
         ("heap 64\nheap", 2, 3),
         ("dict d\nthread A\nupdate d e f", 3, 3),
         ("dict d\nlist l\nset s\nthread A\nupdate d l l", 5, 3),
@@ -303,9 +303,9 @@ fn faults_that_stand_together(rt: HostRuntime) {
         ("thread A\nend 1", 2, 3),
         ("dict d e \"", 1, 5),
         ("tables x", 1, 3),
-        ("tables 13", 1, 3),
-        ("tables x 65", 1, 4),
-        ("tables 3 1\ntables 3 65", 2, 7),
+        ("tables 17", 1, 3),
+        ("tables x 1025", 1, 4),
+        ("tables 3 1\ntables 3 1025", 2, 7),
         ("heap 64\nheap 65", 2, 7),
         ("order a B", 1, 6),
         ("order B a", 1, 13),
@@ -340,7 +340,7 @@ fn scripts(rt: HostRuntime) {
         "  dict   d  ",
         "dict dddddddddddddddddddddddddddddddd",
         "thread AAAAAAAAAAAAAAAAAAAAAAAAAAAAAAAA",
-        "tables 3 1\ntables 12 64\nheap 64",
+        "tables 3 1024\ntables 16 1\nheap 64",
         "heap 4096\ntables 4 64\ndict d\nlist l\nset s\nthread A\nthread B\norder A B A\norder B",
         "thread A\nquiesce\n\n# x\nquiesce",
         "dict d\nthread A\nset d \"\" \"a\\\"\\\\\\n\\tb\"\nget d -9223372036854775808\nget d 9223372036854775807\nget d 0\nget d -1",
@@ -359,10 +359,10 @@ fn scripts(rt: HostRuntime) {
 fn numbers_past_a_limit(rt: HostRuntime) {
     for (text, which) in [
         ("tables 2 1", Which::Class),
-        ("tables 13 1", Which::Class),
+        ("tables 17 1", Which::Class),
         ("tables -3 1", Which::Class),
         ("tables 3 0", Which::Tables),
-        ("tables 3 65", Which::Tables),
+        ("tables 3 1025", Which::Tables),
         ("tables 3 -1", Which::Tables),
         ("heap 0", Which::Heap),
         ("heap 63", Which::Heap),
@@ -432,7 +432,8 @@ fn have_faults_after(
 fn containers_at_a_limit_and_past_it(rt: HostRuntime) -> Result<(), Fail> {
     let alloc = rt.alloc();
     let text = numbered(alloc, "", "dict d", "", 256)?;
-    assert!(rt; is_script(alloc, &text));
+    let called = repeated(alloc, &text, "thread A\nlen d255", 1)?;
+    assert!(rt; is_script(alloc, &called));
     let rows = [("dict", 3), ("dict D", 6), ("dict d0", 7), ("list e", 12)];
     assert!(rt; have_faults_after(alloc, &text, 257, &rows)?);
     let text = numbered(alloc, "", "set s", "", 300)?;
@@ -456,7 +457,7 @@ fn threads_at_a_limit_and_past_it(rt: HostRuntime) -> Result<(), Fail> {
 fn cursors_at_a_limit_and_past_it(rt: HostRuntime) -> Result<(), Fail> {
     let alloc = rt.alloc();
     let mut text = numbered(alloc, "dict d\nthread A\n", "iter d c", "", 256)?;
-    text.push_str("iter d c0\n")?;
+    text.push_str("iter d c255\n")?;
     assert!(rt; is_script(alloc, &text));
     assert!(rt; have_faults_after(alloc, &text, 260, &[("iter d C", 6), ("next d", 6)])?);
     text.push_str("iter d d")?;
@@ -468,7 +469,7 @@ fn cursors_at_a_limit_and_past_it(rt: HostRuntime) -> Result<(), Fail> {
 fn strings_at_a_limit_and_past_it(rt: HostRuntime) -> Result<(), Fail> {
     let alloc = rt.alloc();
     let mut text = numbered(alloc, "dict d\nthread A\n", "get d \"", "\"", 65_536)?;
-    text.push_str("get d \"0\"\n")?;
+    text.push_str("get d \"65535\"\n")?;
     assert!(rt; is_script(alloc, &text));
     assert!(rt; have_faults_after(alloc, &text, 65_540, &[("set d x \"a\"", 4)])?);
     text.push_str("set d \"a\" x")?;

@@ -1,7 +1,11 @@
-use Rattle.std.proofs.Common.{ℕ, Vec, Global}
+use Rattle.std.proofs.Common.{ℕ, Vec, Global, sym, ◌∙◌}
 use Rattle.ft_script.proofs.StringLemmas.{place_found}
 use Rattle.ft_script.proofs.strings.Strings.place_of.Goals as goal
 
+pub returns-in_err-place : goal.returns-in_err-place
+returns-in_err-place c =
+    c.from_residual.ensures ∙ sym c.in_err-place.was ∙ place_found (λ (v : Vec ℕ Global). v.items) c.args.text.now c.get_index_of.result c.self.inside.texts.keys c.args.self.now c.get_index_of.ensures.index c.self.view_is
+
 pub returns : goal.returns
 returns c =
-    place_found (λ (v : Vec ℕ Global). v.items) c.args.text.now c.get_index_of.result c.self.inside.texts.keys c.args.self.now c.get_index_of.ensures.index c.self.view_is
+    sym c.in_ok-place.was ∙ place_found (λ (v : Vec ℕ Global). v.items) c.args.text.now c.get_index_of.result c.self.inside.texts.keys c.args.self.now c.get_index_of.ensures.index c.self.view_is

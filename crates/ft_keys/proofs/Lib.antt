@@ -7,6 +7,8 @@ pub mod Finding
 pub mod Loading
 pub mod Bounds
 pub mod Putting
+pub mod Versions
+pub mod Ordering
 pub mod Written
 pub mod Adding
 pub mod Placing

@@ -11,7 +11,9 @@ use Rattle.ft_keys.specs.Ways.{walk_slots, room}
 use Rattle.ft_keys.specs.Accesses.{Runs, after}
 use Rattle.ft_keys.specs.Changes.{other_calls, Puts, FindsFree, unless_zero, place_puts, MayRebuild, Placed, Adds}
 use Rattle.ft_keys.proofs.Shown.{runs-append, after-append, fits-append, loads-leave}
+use Rattle.ft_keys.specs.Puts.{PutNoVersions}
 use Rattle.ft_keys.proofs.Putting.{other-calls-append}
+use Rattle.ft_keys.proofs.Versions.{versions-append, loads-versions}
 use Rattle.ft_keys.proofs.Adding.{adds}
 
 unless-few : (place word value : ℕ) → other_calls (unless_zero place word value) ≤ 1
@@ -34,6 +36,23 @@ puts-few slot place entry =
     let few5 = unless-few place 5 (e 5) in
     omega arith
 
+unless-versions : (mask place word value : ℕ) → 1 ≤ word → word < 8 → PutNoVersions mask (unless_zero place word value)
+unless-versions mask place word zero some few = tt
+unless-versions mask place word (suc value) some few = ((some, few), tt)
+
+-- none of them a version
+pub puts-versions : (mask slot place : ℕ) (entry : List ℕ) → slot ≤ mask → PutNoVersions mask (place_puts slot place entry)
+puts-versions mask slot place entry inside =
+    let e : ℕ → ℕ = slice_index entry in
+    let one = PutEntry place 1 (e 1) ∷ [] in
+    let three = unless_zero place 3 (e 3) in
+    let four = unless_zero place 4 (e 4) in
+    let five = unless_zero place 5 (e 5) in
+    let a = versions-append mask one three ((omega arith, omega arith), tt) (unless-versions mask place 3 (e 3) (omega arith) (omega arith)) in
+    let b = versions-append mask (three ++ one) four a (unless-versions mask place 4 (e 4) (omega arith) (omega arith)) in
+    let c = versions-append mask (four ++ (three ++ one)) five b (unless-versions mask place 5 (e 5) (omega arith) (omega arith)) in
+    (inside, ((omega arith, omega arith), ((omega arith, omega arith), c)))
+
 module _ {S : Type 0} (gave : S → Access → S → Type 0) (way : Way) (mask fill : ℕ) (pair : Pair) (start middle : S) (is : IsMask mask) (small : pair.hash < 2 ^ 64) (fits : FitsPair pair) (low : fill < room way mask) where
   abbrev Fact : List ℕ → List ℕ → Type 0
   Fact before later = Placed way mask fill (entry_words pair) before later × Adds way mask fill pair before later
@@ -41,13 +60,14 @@ module _ {S : Type 0} (gave : S → Access → S → Type 0) (way : Way) (mask f
   both : (before later : List ℕ) → Placed way mask fill (entry_words pair) before later → Fact before later
   both before later placed = (placed, adds way mask fill pair before later is small fits low placed)
 
-  pub placed-some : (slot : ℕ) (end : S) → FindsFree gave mask (walk_slots way pair.hash mask) start middle (Some slot) → Runs gave middle (place_puts slot fill (entry_words pair)) end → Puts gave mask start end 7 Fact
-  placed-some slot end finds runs =
+  pub placed-some : (slot : ℕ) (end : S) → slot ≤ mask → FindsFree gave mask (walk_slots way pair.hash mask) start middle (Some slot) → Runs gave middle (place_puts slot fill (entry_words pair)) end → Puts gave mask start end 7 Fact
+  placed-some slot end inside finds runs =
       let puts = place_puts slot fill (entry_words pair) in
       record {
         calls = puts ++ finds.calls;
         runs = runs-append gave start middle end finds.calls puts finds.runs runs;
         few = let all = other-calls-append finds.calls puts in let none = finds.few in let few = puts-few slot fill (entry_words pair) in omega arith;
+        versions = versions-append mask finds.calls puts (loads-versions mask finds.calls finds.loads) (puts-versions mask slot fill (entry_words pair) inside);
         done = λ words fits-calls.
             let answers = fits-append mask finds.calls puts words fits-calls in
             let same = after-append mask finds.calls puts words ∙ ap (after mask puts) (loads-leave mask finds.calls words finds.loads) in
@@ -59,6 +79,7 @@ module _ {S : Type 0} (gave : S → Access → S → Type 0) (way : Way) (mask f
     calls = finds.calls;
     runs = finds.runs;
     few = let none = finds.few in omega arith;
+    versions = loads-versions mask finds.calls finds.loads;
     done = λ words fits-calls. both words (after mask finds.calls words) (None, finds.shown words fits-calls, loads-leave mask finds.calls words finds.loads);
   }
 

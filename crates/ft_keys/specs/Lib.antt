@@ -4,5 +4,6 @@ pub mod Accesses
 pub mod Loads
 pub mod Searches
 pub mod Costs
+pub mod Puts
 pub mod Changes
 pub mod Lists

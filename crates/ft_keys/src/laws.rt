@@ -1,5 +1,5 @@
 //! What lists of calls on a table's words come to: laws, which run nothing.
-ghost use Rattle.std.specs.Prelude.{◌≡◌, ◌≢◌, ℕ, ◌+◌, ◌^◌, ◌<◌, ◌≤◌, List, ◌++◌, length, Some};
+ghost use Rattle.std.specs.Prelude.{◌≡◌, ◌≢◌, ℕ, ◌+◌, ◌^◌, ◌<◌, ◌≤◌, List, ◌++◌, length, Some, slice_index};
 ghost use Rattle.ft_model.specs.declared.data.Key.{Key};
 ghost use Rattle.ft_hash.specs.Probes.{IsMask};
 ghost use Rattle.ft_layout.specs.declared.slot.Pair.{Pair};
@@ -9,9 +9,12 @@ ghost use Rattle.ft_keys.specs.Ways.{walk_slots, room};
 ghost use Rattle.ft_keys.specs.declared.words.Access.{Access};
 ghost use Rattle.ft_keys.specs.declared.search.Found.{Found};
 ghost use Rattle.ft_keys.specs.declared.search.Found.TheVariants.{Free};
-ghost use Rattle.ft_keys.specs.Accesses.{after, AreLoads, Follows, index_loads, Fits};
+ghost use Rattle.ft_keys.specs.Accesses.{put_by, after, AreLoads, Follows, index_loads, Fits};
 ghost use Rattle.ft_keys.specs.Loads.{unpassed, last_loads, Loads};
 ghost use Rattle.ft_keys.specs.Costs.{IsBounded};
+ghost use Rattle.ft_keys.specs.Puts.{IsPutOf, PutNoVersions, AreInOrder};
+ghost use Rattle.ft_layout.specs.Tables.{dict_room, table_length, index_word, entry_word};
+ghost use Rattle.ft_layout.specs.Fields.{Field, IsField, field_at};
 ghost use Rattle.ft_keys.specs.Searches.{EndsAt, Searched};
 ghost use Rattle.ft_keys.specs.Changes.{FirstFree, place_puts, Adds};
 
@@ -45,6 +48,35 @@ pub fn placed_pairs_are_of_a_table()
     ensures { (way : Way) (mask fill slot : ℕ) (pair : Pair) (words : List ℕ) → IsMask mask → pair.hash < 2 ^ 64 →
         FitsPair pair → fill < room way mask → FirstFree words (walk_slots way pair.hash mask) (Some slot) →
         Adds way mask fill pair words (after mask (place_puts slot fill (entry_words pair)) words) }
+{}
+
+/// A put leaves its number in its word and every other word of the table as it was, and a load leaves
+/// all of them.
+pub fn calls_leave_what_they_put()
+    ensures put { (mask : ℕ) (words : List ℕ) (access : Access) (field : Field) (value : ℕ) →
+        length words ≡ table_length mask → IsField mask field → IsPutOf access field value →
+        slice_index (put_by mask access words) (field_at mask field) ≡ value }
+    ensures rest { (mask : ℕ) (words : List ℕ) (access : Access) (field other : Field) (value : ℕ) →
+        IsField mask field → IsField mask other → IsPutOf access field value → other ≢ field →
+        slice_index (put_by mask access words) (field_at mask other) ≡ slice_index words (field_at mask other) }
+    ensures loads { (mask : ℕ) (words : List ℕ) (calls : List Access) → AreLoads calls → after mask calls words ≡ words }
+{}
+
+/// Calls that put no version leave each entry's as it was; so do those of a new entry.
+pub fn calls_keep_versions()
+    ensures keep { (mask : ℕ) (words : List ℕ) (calls : List Access) (place : ℕ) → PutNoVersions mask calls →
+        entry_word mask (after mask calls words) place 0 ≡ entry_word mask words place 0 }
+    ensures loads { (mask : ℕ) (calls : List Access) → AreLoads calls → PutNoVersions mask calls }
+    ensures placed { (mask slot place : ℕ) (entry : List ℕ) → slot ≤ mask → PutNoVersions mask (place_puts slot place entry) }
+{}
+
+/// Where neither the slot nor the entry was ever used, the words of a new entry are put before its
+/// kind, and its kind before the index word that names it: a search that comes in between passes
+/// nothing and finds nothing that isn't whole.
+pub fn entries_are_put_in_order()
+    ensures { (mask slot place : ℕ) (pair : Pair) (words : List ℕ) → length words ≡ table_length mask → slot ≤ mask →
+        place < dict_room mask → index_word words slot ≡ 0 → entry_word mask words place 2 ≡ 0 →
+        AreInOrder mask (place_puts slot place (entry_words pair)) words }
 {}
 
 /// What all searches on one walk cost, whoever else writes: while index words that aren't 0 stay so,

@@ -14,6 +14,7 @@ mod walk;
 mod words;
 
 pub use laws::{
+    calls_keep_versions, calls_leave_what_they_put, entries_are_put_in_order,
     placed_pairs_are_of_a_table, searches_end_at_the_first_free_slot, searches_find_keys,
     searches_load_slot_by_slot, walk_cost,
 };

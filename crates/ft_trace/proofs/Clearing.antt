@@ -17,7 +17,7 @@ use Rattle.ft_trace.specs.declared.View.{View}
 use Rattle.ft_trace.specs.declared.Act.{Act}
 use Rattle.ft_trace.specs.declared.Act.TheVariants.{StartWrite, PutRoot, PutBlock, Commit, StopWrite, Unlock}
 use Rattle.ft_trace.specs.Addrs.{Addr, containers_in, counter, version_of, lock_of, block, class_of, at, extent, Inside}
-use Rattle.ft_trace.specs.Acts.{place, Reports, has_lock, is_writing, used, owes, mem, noted}
+use Rattle.ft_trace.specs.Acts.{place, Reports, has_lock, is_writing, has_committed, used, owes, mem, noted}
 use Rattle.ft_trace.specs.Worlds.{Kept, kind_in}
 use Rattle.ft_trace.specs.Words.{root_of, inner, Picture, root_in, picture, Stands}
 use Rattle.ft_trace.specs.Kinds.{rows, version_at}
@@ -97,6 +97,9 @@ module _ (v : View) (o : ℕ) (values : List Value) (live : v.number ≢ 0) (pos
   odd : is_writing o (c1 0).log ≡ true
   odd = hit o true (is_writing o v.log)
 
+  not_yet : has_committed o (c1 0).log ≡ false
+  not_yet = hit o false (has_committed o v.log)
+
   -- the block that is known at first is that of a list
   head : IsBlock (held o v).block (known o v).table.class (length values) 0 0
   head = subst (λ (z : Content). StandsAs k.texts (held o v).block (0 ∷ 0 ∷ (held o v).table) (known o v).table z → IsBlock (held o v).block (known o v).table.class (length values) 0 0) (sym is_list) (λ s. s.0.head) (held_stands v o low possible mine quiet)
@@ -164,6 +167,7 @@ module _ (v : View) (o : ℕ) (values : List Value) (live : v.number ≢ 0) (pos
         (λ q names. subst (Shut (version_at (kind_in k.kinds o) (class_of q)) (rows (kind_in k.kinds o) (class_of q))) (table_known (c1 n) o low q mine names es id knows).0 (held_shut v o q low possible mine quiet names)),
         (λ _. spare),
         (λ t' (e : 0 ≡ suc t'). absurd (omega (arith, e))),
+        (λ _. not_yet),
       ))
 
   step3 : (n : ℕ) → Possible (c2 n) → (n2 : ℕ) × Possible (c3 n)
@@ -185,6 +189,7 @@ module _ (v : View) (o : ℕ) (values : List Value) (live : v.number ≢ 0) (pos
         refl,
         (λ class e. absurd (omega (arith, e, none))),
         refl,
+        (λ _. refl),
       ))
 
   step5 : (n m : ℕ) (s : Snap) → Possible (c4 n m s) → (f : ℕ) × Possible (c5 n m s f)

@@ -4,16 +4,24 @@ use mathlib.Core.Logic.{dite}
 use native.Mathlib.Decide.{ℕ_discrete}
 use Rattle.ft_trace.specs.Acts.{stage}
 use Rattle.std.specs.Prelude.{cond, nat_lt}
+use Rattle.ft_trace.specs.declared.View.{View}
 use Rattle.ft_trace.specs.Ages.{age, whose}
 use Rattle.ft_trace.proofs.Moments.{valid_rest}
 use Rattle.ft_trace.specs.Entries.{is_number}
 use Rattle.ft_trace.specs.Words.{picture}
 use Rattle.ft_trace.specs.Traces.{run}
-use Rattle.ft_trace.specs.Laws.{StampsRise, MemoryErrorsAreEarned, LocksNameHolders, VersionsAreOddInWrites, EvenTablesAreShut, NumbersAreOnce, EntriesAreRight, OneHasAllEntries, EvenWordsStand, ZeroRootsHaveNothing, HoldersKnow, TablesAreSomewhere, TablesAreInOnePlace, CountsStand, TablesAreOwed, EmptyClassesAreEarned, AnnouncedNumbersAreLow, FoundTablesAreKept, GivenUpTablesRest, TablesAreSound, TableWordsStay, HitsAreRight, MissesAreRight, BareRootsAreRight, ItemsAreRight, ListsFitTheirTables, LooksAreRight, ChangedRootsAreNew, NumbersHaveRoom}
+use Rattle.ft_trace.specs.Laws.{PairsAreUnderTheirKeys, ElementsAreUnderTheirKeys, OnePassIsAlone, StampsRise, MemoryErrorsAreEarned, LocksNameHolders, VersionsAreOddInWrites, EvenTablesAreShut, NumbersAreOnce, EntriesAreRight, OneHasAllEntries, EvenWordsStand, ZeroRootsHaveNothing, HoldersKnow, TablesAreSomewhere, TablesAreInOnePlace, CountsStand, TablesAreOwed, EmptyClassesAreEarned, AnnouncedNumbersAreLow, FoundTablesAreKept, GivenUpTablesRest, TablesAreSound, TableWordsStay, HitsAreRight, MissesAreRight, BareRootsAreRight, ItemsAreRight, ListsFitTheirTables, LooksAreRight, ChangedRootsAreNew, NumbersHaveRoom}
 use Rattle.ft_trace.proofs.Locks.{names, holder, one_holder}
 use Rattle.ft_trace.proofs.Versions.{versioned, writer_has, writing_is_odd}
 use Rattle.ft_trace.proofs.Contents.{counted, tab, stands}
-use Rattle.ft_trace.proofs.Totals.{entries_total}
+use Rattle.ft_trace.proofs.Totals.{entries_total, parts_total, total_two}
+use Rattle.ft_trace.proofs.Under.{find_first, find_none}
+use Rattle.std.specs.List.{find}
+use Rattle.std.specs.Option.{option_map_or}
+use Rattle.std.proofs.Common.{Option}
+use Rattle.ft_model.specs.declared.content.DictPair.{DictPair}
+use Rattle.ft_model.specs.declared.content.Element.{Element}
+use Rattle.ft_trace.specs.Kinds.{is_key, pair_words, element_words}
 use Rattle.ft_trace.proofs.Stamped.{commit_rises, answer_rises, loads_rise, empty_earned}
 use Rattle.ft_trace.proofs.Closing.{all_right, once, closes}
 use Rattle.ft_trace.proofs.Announcing.{fits, heard}
@@ -34,7 +42,7 @@ use Rattle.ft_trace.proofs.ItemHits as items
 use Rattle.ft_trace.proofs.Optimistic.{bare_at, looked_at}
 use Rattle.ft_trace.proofs.Anew.{is_new}
 use Rattle.ft_trace.proofs.Rooms.{counter_room, version_room}
-use Rattle.ft_trace.proofs.Budgets.{goals_room}
+use Rattle.ft_trace.proofs.Budgets.{goals_room, some_part}
 use Rattle.std.proofs.Common.{eqb, ◌+◌, ◌%◌}
 use Rattle.ft_trace.specs.Acts.{debt}
 use Rattle.ft_trace.specs.Words.{root_in}
@@ -173,3 +181,23 @@ cleared_tables_may_be_given_back v o t values m is first one idle names =
 
 pub takings_end : TakingsEnd
 takings_end = taking_ends
+
+pub pairs_are_under_their_keys : PairsAreUnderTheirKeys
+pairs_are_under_their_keys dict key = (
+  λ before pair after split none hits. ap (λ (z : Option DictPair). option_map_or pair_words z []) (ap (find (λ (p : DictPair). is_key p.key key)) split ∙ find_first (λ (p : DictPair). is_key p.key key) before pair after none hits),
+  λ none. ap (λ (z : Option DictPair). option_map_or pair_words z []) (find_none (λ (p : DictPair). is_key p.key key) dict.pairs none),
+)
+
+pub elements_are_under_their_keys : ElementsAreUnderTheirKeys
+elements_are_under_their_keys set key = (
+  λ before element after split none hits. ap (λ (z : Option Element). option_map_or element_words z []) (ap (find (λ (p : Element). is_key p.key key)) split ∙ find_first (λ (p : Element). is_key p.key key) before element after none hits),
+  λ none. ap (λ (z : Option Element). option_map_or element_words z []) (find_none (λ (p : Element). is_key p.key key) set.elements none),
+)
+
+pub one_pass_is_alone : OnePassIsAlone
+one_pass_is_alone k es valid j u at live all i w there ne = dite (ℕ_discrete w.number 0) (λ e. e)
+    (λ alive.
+    let two = total_two (λ (z : View). z.parts) (run k es).views j i u w (λ x. ne (sym x)) at there in
+    let sum = parts_total k es valid in
+    let more = some_part k es (fits k es valid).some_pass valid i w there alive in
+    absurd (omega (arith, two, sum, more, all)))

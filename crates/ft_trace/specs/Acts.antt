@@ -110,6 +110,16 @@ abbrev pub has_committed : ℕ → List Act → Bool
 has_committed o [] = false
 has_committed o (a ∷ l) = has_committed_next o a (has_committed o l)
 
+-- the root that the pass put last while it writes o is 0
+abbrev pub has_emptied_next : ℕ → Act → Bool → Bool
+has_emptied_next o (StartWrite p f) b = cond (p == o) false b
+has_emptied_next o (PutRoot p r old) b = cond (p == o) (r == 0) b
+has_emptied_next o act b = b
+
+abbrev pub has_emptied : ℕ → List Act → Bool
+has_emptied o [] = false
+has_emptied o (a ∷ l) = has_emptied_next o a (has_emptied o l)
+
 -- the pass has the table t: 1 fresh, 3 taken out of a root, 4 retired, and 0 where it has it not
 abbrev pub stage_next : ℕ → Act → ℕ → ℕ
 stage_next t (TakeTable p f s) n = cond (p == t) (cond (bit (free_bit_of t) f == 1) 1 n) n

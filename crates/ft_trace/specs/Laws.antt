@@ -1,10 +1,15 @@
 -- The parts of the bank's rule: what holds of each valid trace, and so between any two steps of any passes.
-use Rattle.std.specs.Prelude.{◌≡◌, ◌≢◌, ◌⊎◌, ℕ, suc, ◌+◌, ◌-◌, ◌*◌, ◌%◌, ◌<◌, ◌≤◌, true, cond, nat_lt, List, [], ◌∷◌, ◌++◌, length, slice_index}
+use Rattle.std.specs.Prelude.{◌≡◌, ◌≢◌, ◌⊎◌, ℕ, suc, ◌+◌, ◌-◌, ◌*◌, ◌%◌, ◌<◌, ◌≤◌, true, cond, nat_lt, List, [], ◌∷◌, ◌++◌, length, slice_index, false}
 use mathlib.Core.Option.{some}
 use lib.ListN.{get_elem?}
 use Rattle.ft_model.specs.declared.call.Call.{Call}
 use Rattle.ft_model.specs.declared.reply.Reply.{Reply}
 use Rattle.ft_model.specs.declared.data.Key.{Key}
+use Rattle.std.specs.Prelude.{All}
+use Rattle.ft_model.specs.declared.content.DictPair.{DictPair}
+use Rattle.ft_model.specs.declared.content.Element.{Element}
+use Rattle.ft_model.specs.declared.content.Content.TheVariants as content
+use Rattle.ft_model.specs.Contents.{DictContent, SetContent}
 use Rattle.ft_model.specs.Classes.{IsClass}
 use Rattle.ft_model.specs.Worlds.{list_of}
 use Rattle.ft_model.specs.Tables.{stored_newest, takes_newest}
@@ -23,7 +28,7 @@ use Rattle.ft_trace.specs.Ages.{age, all_acts}
 use Rattle.ft_trace.specs.Worlds.{kept, first_writes, kind_in, reply_in}
 use Rattle.ft_trace.specs.Words.{entry_at, item_at, walk_of, table_of, picture}
 use Rattle.ft_trace.specs.Items.{words_at}
-use Rattle.ft_trace.specs.Kinds.{under, LaterAs, IsKeyed, IsItems}
+use Rattle.ft_trace.specs.Kinds.{is_key, pair_words, element_words, under, LaterAs, IsKeyed, IsItems}
 use Rattle.ft_trace.specs.Holds.{held, known, in_hand}
 use Rattle.ft_trace.specs.Reading.{Among, IsNothing, Looked}
 use Rattle.ft_trace.specs.Finding.{Hit, Miss, Full, Bare, ItemHit, ItemPast, IsNew}
@@ -273,3 +278,32 @@ NumbersHaveRoom =
     → (word k es counter ≤ k.passes * k.calls)
     × (word k es write_number ≤ 1 + k.passes * k.calls + k.passes)
     × ((o : ℕ) → o < containers_in k → word k es (version_of o) ≤ 2 * (k.passes * k.calls) + 1)
+
+-- ---- what contents say
+
+-- a dict has under a key the words of its first pair with that key's words, and nothing where no pair has them; a set
+-- likewise
+abbrev pub PairsAreUnderTheirKeys : Type 0
+PairsAreUnderTheirKeys =
+    (dict : DictContent) (key : Key)
+    → ((before : List DictPair) (pair : DictPair) (after : List DictPair) → dict.pairs ≡ before ++ pair ∷ after
+    → All (λ other. is_key other.key key ≡ false) before → is_key pair.key key ≡ true
+    → under (content.Dict dict) key ≡ pair_words pair)
+    × (All (λ other. is_key other.key key ≡ false) dict.pairs → under (content.Dict dict) key ≡ [])
+
+abbrev pub ElementsAreUnderTheirKeys : Type 0
+ElementsAreUnderTheirKeys =
+    (set : SetContent) (key : Key)
+    → ((before : List Element) (element : Element) (after : List Element) → set.elements ≡ before ++ element ∷ after
+    → All (λ other. is_key other.key key ≡ false) before → is_key element.key key ≡ true
+    → under (content.Set set) key ≡ element_words element)
+    × (All (λ other. is_key other.key key ≡ false) set.elements → under (content.Set set) key ≡ [])
+
+-- ---- one pass for all
+
+-- while a pass stands for all passes no other may do anything
+abbrev pub OnePassIsAlone : Type 0
+OnePassIsAlone =
+    (k : Shape) (es : List Event) → Valid k es → (j : ℕ) (u : View) → HasView k es j u → u.number ≢ 0
+    → u.parts ≡ k.passes
+    → (i : ℕ) (w : View) → HasView k es i w → i ≢ j → w.number ≡ 0

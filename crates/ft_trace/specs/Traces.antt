@@ -16,8 +16,8 @@ use Rattle.ft_trace.specs.declared.Shape.{Shape}
 use Rattle.ft_trace.specs.declared.Snap.{Snap}
 use Rattle.ft_trace.specs.declared.View.{View}
 use Rattle.ft_trace.specs.Addrs.{Addr, counter, write_number, version_of, containers_in, tables_in, class_of, size, IsTable, at, opening}
-use Rattle.ft_trace.specs.Acts.{place, word_after, Reports, has_lock, is_writing, has_committed, stage, announces, clear, used, debt, flight, owes, noted, starter, maker, made, both, spent}
-use Rattle.ft_trace.specs.Worlds.{kept, first_writes, kind_in, changes, reply_in}
+use Rattle.ft_trace.specs.Acts.{place, word_after, Reports, has_lock, is_writing, has_committed, has_emptied, stage, announces, clear, used, debt, flight, owes, noted, starter, maker, made, both, spent}
+use Rattle.ft_trace.specs.Worlds.{kept, first_writes, kind_in, changes, may_empty, reply_in}
 use Rattle.ft_trace.specs.Words.{table_of, root_of, picture, Stands}
 use Rattle.ft_trace.specs.Kinds.{rows, version_at, SoundAs, CarefulAs, ClearAs}
 use Rattle.ft_trace.specs.Openings.{Shut, Timely, Low}
@@ -113,7 +113,7 @@ May k m cs v (PutBlock o i x) = (o < containers_in k) × (i < 6) × (is_writing 
 -- Besides: the new root names a table that is fresh in its hand and as it must be for readers, whose versions have
 -- room;
 -- no version in the table that the root names now is odd; and no other table was taken out of a root since the last
--- commit.
+-- commit. 0 is put before the commit alone.
 May k m cs v (PutRoot o r old) =
     (o < containers_in k)
     × (is_writing o v.log ≡ true)
@@ -122,6 +122,7 @@ May k m cs v (PutRoot o r old) =
     × ((q : ℕ) → old ≡ suc q → ShutFor k m.words o q)
     × (old ≢ 0 → used v.log ≡ false)
     × ((t : ℕ) → r ≡ suc t → LowFor k m.words o t (word_in k m counter) (has_committed o v.log))
+    × (r ≡ 0 → has_committed o v.log ≡ false)
 -- a word of the table that the root names, put with care; a version is made odd before the commit, and even after it
 May k m cs v (PutTable o t i x) =
     (o < containers_in k)
@@ -139,7 +140,8 @@ May k m cs v (PutHeader t x) = IsTable k t × ((stage t v.log ≡ 3) ⊎ (stage 
 -- the counter, the pass has a call left and the counter has room. Each entry with an even version says the same of the
 -- content after the call, and each key that is added has its entry. Where the pass has lowered a count and not raised
 -- it
--- again, the call takes a table of that class. No content passes its greatest length.
+-- again, the call takes a table of that class. No content passes its greatest length. Where the pass has put 0 into the
+-- root, the call is one that may.
 May k m cs v (Commit c r f s) =
     (is_write c r ≡ true)
     × (is_writing (changes c) v.log ≡ true)
@@ -153,6 +155,7 @@ May k m cs v (Commit c r f s) =
     × (s ≡ snap m cs)
     × ((class : ℕ) → owes v.log ≡ suc class → takes_in (stored_newest k.kinds cs) c ≡ Some class)
     × (would_pass (stored_newest k.kinds cs).world c ≡ false)
+    × (has_emptied (changes c) v.log ≡ true → may_empty c ≡ true)
 -- It has made the version odd and has committed since. The words stand for the content at the counter, with its class
 -- and fill, and no version of an entry or item of the container is odd.
 May k m cs v (StopWrite o f) =

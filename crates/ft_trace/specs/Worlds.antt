@@ -1,7 +1,9 @@
 -- What containers have after a history of writes, newest first, and which tables.
-use Rattle.std.specs.Prelude.{ℕ, cond, nat_lt, List, [], ◌∷◌, length, slice_index_or}
+use Rattle.std.specs.Prelude.{ℕ, cond, nat_lt, List, [], ◌∷◌, length, slice_index_or, Bool, true, false, ◌||◌}
 use Rattle.ft_model.specs.declared.call.Call.{Call}
 use Rattle.ft_model.specs.declared.call.Call.TheVariants as call
+use Rattle.ft_model.specs.declared.call.SetCall.{SetCall}
+use Rattle.ft_model.specs.declared.call.SetCall.TheVariants as set
 use Rattle.ft_model.specs.declared.content.Content.{Content}
 use Rattle.ft_model.specs.declared.content.Content.TheVariants as content
 use Rattle.ft_model.specs.declared.reply.Reply.{Reply}
@@ -54,3 +56,39 @@ changes call.Quiesce = 0
 -- what the plain containers reply to a call that asks no cursor
 abbrev pub reply_in : StoredWorld → Call → Reply
 reply_in stored called = (answer stored.world no_hands called).reply
+
+-- Whether a call is one that takes keys or items away and may put 0 into the root before its write: a clear, a copy,
+-- and a
+-- symmetric difference.
+abbrev pub gives_up_root : TableChange → Bool
+gives_up_root change.Stays = false
+gives_up_root change.Grows = false
+gives_up_root (change.CopiesTo other) = true
+gives_up_root change.GivesUp = true
+
+abbrev pub is_xor : SetCall → Bool
+is_xor (set.Add key) = false
+is_xor (set.Discard key) = false
+is_xor (set.Remove key) = false
+is_xor set.Pop = false
+is_xor (set.Has key) = false
+is_xor set.Len = false
+is_xor set.Items = false
+is_xor (set.Eq other) = false
+is_xor (set.Or other) = false
+is_xor (set.And other) = false
+is_xor (set.Sub other) = false
+is_xor (set.Xor other) = true
+is_xor (set.Subset other) = false
+is_xor (set.Disjoint other) = false
+is_xor set.Clear = false
+is_xor (set.Iter cursor) = false
+
+abbrev pub may_empty : Call → Bool
+may_empty (call.Dict o dict_call) = gives_up_root (dict_change dict_call)
+may_empty (call.List o list_call) = gives_up_root (list_change list_call)
+may_empty (call.Set o set_call) = gives_up_root (set_change set_call) || is_xor set_call
+may_empty (call.Next cursor) = false
+may_empty (call.Begin one other) = false
+may_empty call.End = false
+may_empty call.Quiesce = false

@@ -1,6 +1,6 @@
 //! The parts of the bank's rule: what holds of every valid trace, for the bank and all that stands on it.
 ghost use Rattle.ft_trace.specs.Grants.{ListsMayBeCleared, ClearedTablesMayBeGivenBack, TakingsEnd};
-ghost use Rattle.ft_trace.specs.Laws.{StampsRise, MemoryErrorsAreEarned, LocksNameHolders, VersionsAreOddInWrites, EvenTablesAreShut, NumbersAreOnce, EntriesAreRight, OneHasAllEntries, EvenWordsStand, ZeroRootsHaveNothing, HoldersKnow, TablesAreSomewhere, TablesAreInOnePlace, CountsStand, TablesAreOwed, EmptyClassesAreEarned, AnnouncedNumbersAreLow, FoundTablesAreKept, GivenUpTablesRest, TablesAreSound, TableWordsStay, HitsAreRight, MissesAreRight, BareRootsAreRight, ItemsAreRight, ListsFitTheirTables, LooksAreRight, ChangedRootsAreNew, NumbersHaveRoom};
+ghost use Rattle.ft_trace.specs.Laws.{PairsAreUnderTheirKeys, ElementsAreUnderTheirKeys, OnePassIsAlone, StampsRise, MemoryErrorsAreEarned, LocksNameHolders, VersionsAreOddInWrites, EvenTablesAreShut, NumbersAreOnce, EntriesAreRight, OneHasAllEntries, EvenWordsStand, ZeroRootsHaveNothing, HoldersKnow, TablesAreSomewhere, TablesAreInOnePlace, CountsStand, TablesAreOwed, EmptyClassesAreEarned, AnnouncedNumbersAreLow, FoundTablesAreKept, GivenUpTablesRest, TablesAreSound, TableWordsStay, HitsAreRight, MissesAreRight, BareRootsAreRight, ItemsAreRight, ListsFitTheirTables, LooksAreRight, ChangedRootsAreNew, NumbersHaveRoom};
 
 /// A lock word is the number of the one pass that has the lock.
 pub fn locks_name_their_holders()
@@ -160,4 +160,19 @@ pub fn cleared_tables_may_be_given_back()
 /// A taking may be begun, and ends.
 pub fn takings_end()
     ensures { TakingsEnd }
+{}
+
+/// What a dict has under a key, in words.
+pub fn pairs_are_under_their_keys()
+    ensures { PairsAreUnderTheirKeys }
+{}
+
+/// What a set has under a key, in words.
+pub fn elements_are_under_their_keys()
+    ensures { ElementsAreUnderTheirKeys }
+{}
+
+/// While a pass stands for all passes no other may do anything.
+pub fn one_pass_is_alone()
+    ensures { OnePassIsAlone }
 {}

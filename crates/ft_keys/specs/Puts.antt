@@ -13,16 +13,16 @@ IsPutOf (PutIndex slot value) field number = (field ≡ fields.Index slot) × (n
 IsPutOf (PutEntry place word value) field number = (field ≡ fields.Entry place word) × (number ≡ value)
 IsPutOf access field number = ⊥
 
--- the call puts no word of an entry that is kept for a version
-abbrev pub PutsNoVersion : ℕ → Access → Type 0
-PutsNoVersion mask (PutIndex slot value) = slot ≤ mask
-PutsNoVersion mask (PutEntry place word value) = (1 ≤ word) × (word < 8)
-PutsNoVersion mask access = Unit {0}
+-- the call puts an index word of the table, or a word of an entry below this place that isn't kept for a version
+abbrev pub PutsBelow : ℕ → ℕ → Access → Type 0
+PutsBelow mask limit (PutIndex slot value) = slot ≤ mask
+PutsBelow mask limit (PutEntry place word value) = (place < limit) × (1 ≤ word) × (word < 8)
+PutsBelow mask limit access = Unit {0}
 
--- none of them does
-abbrev pub PutNoVersions : ℕ → List Access → Type 0
-PutNoVersions mask [] = Unit {0}
-PutNoVersions mask (access ∷ earlier) = PutsNoVersion mask access × PutNoVersions mask earlier
+-- each of them does, or puts nothing
+abbrev pub PutBelow : ℕ → ℕ → List Access → Type 0
+PutBelow mask limit [] = Unit {0}
+PutBelow mask limit (access ∷ earlier) = PutsBelow mask limit access × PutBelow mask limit earlier
 
 -- On these words the put is one after which a search still finds what it found: an index word where there is none, to an entry that is there by then; a word of an entry only before the entry has a kind.
 abbrev pub IsInOrder : ℕ → List ℕ → Access → Type 0

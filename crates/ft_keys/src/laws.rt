@@ -12,7 +12,7 @@ ghost use Rattle.ft_keys.specs.declared.search.Found.TheVariants.{Free};
 ghost use Rattle.ft_keys.specs.Accesses.{put_by, after, AreLoads, Follows, index_loads, Fits};
 ghost use Rattle.ft_keys.specs.Loads.{unpassed, last_loads, Loads};
 ghost use Rattle.ft_keys.specs.Costs.{IsBounded};
-ghost use Rattle.ft_keys.specs.Puts.{IsPutOf, PutNoVersions, AreInOrder};
+ghost use Rattle.ft_keys.specs.Puts.{IsPutOf, PutBelow, AreInOrder};
 ghost use Rattle.ft_layout.specs.Tables.{dict_room, table_length, index_word, entry_word};
 ghost use Rattle.ft_layout.specs.Fields.{Field, IsField, field_at};
 ghost use Rattle.ft_keys.specs.Searches.{EndsAt, Searched};
@@ -62,12 +62,15 @@ pub fn calls_leave_what_they_put()
     ensures loads { (mask : ℕ) (words : List ℕ) (calls : List Access) → AreLoads calls → after mask calls words ≡ words }
 {}
 
-/// Calls that put no version leave each entry's as it was; so do those of a new entry.
+/// Calls that put words of entries below a limit alone, and no version, leave each version as it was,
+/// and every word of the entries from there on. So do those of a new entry, at its own place.
 pub fn calls_keep_versions()
-    ensures keep { (mask : ℕ) (words : List ℕ) (calls : List Access) (place : ℕ) → PutNoVersions mask calls →
+    ensures keep { (mask limit : ℕ) (words : List ℕ) (calls : List Access) (place : ℕ) → PutBelow mask limit calls →
         entry_word mask (after mask calls words) place 0 ≡ entry_word mask words place 0 }
-    ensures loads { (mask : ℕ) (calls : List Access) → AreLoads calls → PutNoVersions mask calls }
-    ensures placed { (mask slot place : ℕ) (entry : List ℕ) → slot ≤ mask → PutNoVersions mask (place_puts slot place entry) }
+    ensures rest { (mask limit : ℕ) (words : List ℕ) (calls : List Access) (place word : ℕ) → PutBelow mask limit calls →
+        limit ≤ place → word < 8 → entry_word mask (after mask calls words) place word ≡ entry_word mask words place word }
+    ensures loads { (mask limit : ℕ) (calls : List Access) → AreLoads calls → PutBelow mask limit calls }
+    ensures placed { (mask slot place : ℕ) (entry : List ℕ) → slot ≤ mask → PutBelow mask (place + 1) (place_puts slot place entry) }
 {}
 
 /// Where neither the slot nor the entry was ever used, the words of a new entry are put before its

@@ -3,9 +3,10 @@ use Rattle.std.proofs.Common.{◌≡◌, ℕ, suc, zero, ◌+◌, ◌<◌, ◌�
 use Rattle.std.specs.Prelude.{◌==◌, All, filter, slice_get, sum}
 use Rattle.std.specs.Option.{option_map_or}
 use Rattle.std.specs.List.{sum_by, range_with_len}
+use Rattle.std.proofs.lemmas.Bool.{eq-eqb}
 use Rattle.std.proofs.lemmas.Bool.Decides.{eqb_tells}
 use Rattle.std.proofs.lemmas.List.{length-append, length-take-le}
-use Rattle.std.proofs.lemmas.List.Elements.{All-nil, All-push}
+use Rattle.std.proofs.lemmas.List.Elements.{All-nil, All-cons}
 use Rattle.std.proofs.lemmas.List.Sums.{sum_by-cons, sum-map}
 use Rattle.std.proofs.lemmas.Option.{slice_get_within, slice_get_cases}
 use Rattle.ft_model.specs.declared.entry.Entry.{Entry}
@@ -86,45 +87,55 @@ calls_in_all script =
 
 -- ---- the entries before a place
 
-pub record AreFew (script : ScriptParts) (entries : List Entry) : Type 0 where
-  pub threads : All (λ entry. entry.thread < length script.threads) entries
-  pub calls : (thread : ℕ) → length (entries_of thread entries) ≤ length (calls_of script thread)
+-- where no thread has more entries than calls, each entry is of a thread of the script
+threads_low : (script : ScriptParts) (entries : List Entry) → ((thread : ℕ) → length (entries_of thread entries) ≤ length (calls_of script thread)) → All (λ entry. entry.thread < length script.threads) entries
+threads_low script [] few = All-nil _
+threads_low script (entry ∷ entries) few =
+    All-cons (λ (e : Entry). e.thread < length script.threads) entry entries
+    (elim (slice_get_cases script.threads entry.thread).1 [
+      | inl found ↦ slice_get_within script.threads entry.thread found.0 found.2
+      | inr past ↦
+          let none : length (calls_of script entry.thread) ≡ 0 = ap (λ (o : Option Thread). length (option_map_or (λ (f : Thread). f.calls) o [])) past.1 in
+          let one : one_at entry.thread entry.thread ≡ 1 = ap (λ b. cond b 1 0) (eq-eqb entry.thread entry.thread refl) in
+          absurd (omega (arith, none, one, few entry.thread, length-entries_of entry.thread entry entries))
+    ])
+    (threads_low script entries (λ thread. omega (arith, few thread, length-entries_of thread entry entries)))
+
+-- a script's calls are few, and so are entries of them
+pub few_of_script : (script : ScriptParts) (entries : List Entry) → IsScript script → ((thread : ℕ) → length (entries_of thread entries) ≤ length (calls_of script thread)) → length entries ≤ 500000
+few_of_script script entries is few =
+    let counted = all_counted entries (length script.threads) (threads_low script entries few) in
+    let total = sum_le (λ thread. length (entries_of thread entries)) (λ thread. length (calls_of script thread)) (range_with_len 0 (length script.threads)) few in
+    omega (arith, counted, total, calls_in_all script, is.few_calls)
+
+-- no thread has more entries than calls
+abbrev AreFew : ScriptParts → List Entry → Type 0
+AreFew script entries = (thread : ℕ) → length (entries_of thread entries) ≤ length (calls_of script thread)
 
 few_next : (script : ScriptParts) (entries : List Entry) (place : ℕ) (entry : Entry) → slice_get entries place ≡ Some entry → IsNext script entries place entry → AreFew script (take place entries) → AreFew script (take (place + 1) entries)
 few_next script entries place entry at next few =
-    let low : entry.thread < length script.threads = elim (slice_get_cases script.threads entry.thread).1 [
-      | inl found ↦ slice_get_within script.threads entry.thread found.0 found.2
-      | inr past ↦ absurd (no_calls script entry.thread _ entry.call past.0 next.call)
-    ] in
-    record {
-      threads = subst (All (λ (e : Entry). e.thread < length script.threads)) (sym (take_next entries place entry at)) (All-push (λ (e : Entry). e.thread < length script.threads) (take place entries) entry few.threads low);
-      calls = λ thread.
-          let before = few.calls thread in
-          let mine = filter_next entries place entry at (λ (e : Entry). e.thread == thread) in
-          elim (eqb_tells entry.thread thread) [
-            | inl same ↦
-                let there : length (entries_of thread (take place entries)) < length (calls_of script thread) = subst (λ t. length (entries_of t (take place entries)) < length (calls_of script t)) same.1 (slice_get_within (calls_of script entry.thread) _ entry.call next.call) in
-                let more : length (entries_of thread (take (place + 1) entries)) ≡ length (entries_of thread (take place entries)) + 1 = ap length (mine ∙ ap (λ b. entries_of thread (take place entries) ++ cond b (entry ∷ []) []) same.0) ∙ length-append (entries_of thread (take place entries)) (entry ∷ []) in
-                omega arith
-            | inr differ ↦
-                let still : length (entries_of thread (take (place + 1) entries)) ≡ length (entries_of thread (take place entries)) + 0 = ap length (mine ∙ ap (λ b. entries_of thread (take place entries) ++ cond b (entry ∷ []) []) differ.0) ∙ length-append (entries_of thread (take place entries)) [] in
-                omega arith
-          ];
-    }
+    λ thread.
+        let before = few thread in
+        let mine = filter_next entries place entry at (λ (e : Entry). e.thread == thread) in
+        elim (eqb_tells entry.thread thread) [
+          | inl same ↦
+              let there : length (entries_of thread (take place entries)) < length (calls_of script thread) = subst (λ t. length (entries_of t (take place entries)) < length (calls_of script t)) same.1 (slice_get_within (calls_of script entry.thread) _ entry.call next.call) in
+              let more : length (entries_of thread (take (place + 1) entries)) ≡ length (entries_of thread (take place entries)) + 1 = ap length (mine ∙ ap (λ b. entries_of thread (take place entries) ++ cond b (entry ∷ []) []) same.0) ∙ length-append (entries_of thread (take place entries)) (entry ∷ []) in
+              omega arith
+          | inr differ ↦
+              let still : length (entries_of thread (take (place + 1) entries)) ≡ length (entries_of thread (take place entries)) + 0 = ap length (mine ∙ ap (λ b. entries_of thread (take place entries) ++ cond b (entry ∷ []) []) differ.0) ∙ length-append (entries_of thread (take place entries)) [] in
+              omega arith
+        ]
 
 few_before : (storage : Storage) (script : ScriptParts) (entries : List Entry) (place : ℕ) → IsUnbrokenBefore storage script entries place → (n : ℕ) → n ≤ length entries → n ≤ place → AreFew script (take n entries)
 few_before storage script entries place unbroken =
     by_places (λ n. n ≤ place → AreFew script (take n entries)) entries
-    (λ low. record { threads = All-nil _; calls = λ thread. omega arith })
+    (λ low thread. omega arith)
     (λ n entry at before low. few_next script entries n entry at ((unbroken n rule.Whole (omega arith)).entry entry at) (before (omega arith)))
 
 -- no more entries come before the first broken rule than the script has calls
 pub few_entries : (storage : Storage) (script : ScriptParts) (entries : List Entry) (place : ℕ) → IsScript script → IsUnbrokenBefore storage script entries place → place ≤ length entries → place ≤ 500000
-few_entries storage script entries place is unbroken within =
-    let few = few_before storage script entries place unbroken place within (omega arith) in
-    let counted = all_counted (take place entries) (length script.threads) few.threads in
-    let total = sum_le (λ thread. length (entries_of thread (take place entries))) (λ thread. length (calls_of script thread)) (range_with_len 0 (length script.threads)) few.calls in
-    omega (arith, counted, total, calls_in_all script, is.few_calls, length-take-le place entries within)
+few_entries storage script entries place is unbroken within = omega (arith, few_of_script script (take place entries) is (few_before storage script entries place unbroken place within (omega arith)), length-take-le place entries within)
 
 -- the next call has room for its serials
 pub room_before : (script : ScriptParts) (entries : List Entry) (place : ℕ) (world : List Content) (hands : List (Option Cursor)) (called : Call) → place ≤ length entries → place ≤ 500000 → world ≡ world_before script entries place → IsDeclared world hands called → HasRoom world called

@@ -269,29 +269,36 @@ rule_writes world (called ∷ calls) each = rule_writes (after_write world calle
 
 -- ---- serials
 
--- with as many keys as calls and as many serials as their square at most, each call leaves it so
-few_writes : (calls : List Call) (keys : List Key) (drawn count : ℕ) (world : WorldContent) → length keys ≤ count → drawn ≤ count * count → All (Few keys drawn) world → (more : List Key) × (most : ℕ) × (length more ≤ count + length calls) × (most ≤ (count + length calls) * (count + length calls)) × All (Few more most) (fold after_write world calls)
-few_writes [] keys drawn count world long le each =
-    (keys, drawn, omega arith, subst (λ n. drawn ≤ n * n) (let e : count ≡ count + 0 = omega arith in e) le, each)
-few_writes (called ∷ calls) keys drawn count world long le each =
-    let more : List Key = added called ++ keys in
+-- no more keys than that many calls, and no more serials than their square
+pub record FewAfter (count : ℕ) (world : WorldContent) : Type 0 where
+  pub keys : List Key
+  pub drawn : ℕ
+  pub long : length keys ≤ count
+  pub square : drawn ≤ count * count
+  pub each : All (Few keys drawn) world
+
+pub few_call : (count : ℕ) (world : WorldContent) (hands : HandsContent) (called : Call) → FewAfter count world → FewAfter (count + 1) (answer world hands called).world
+few_call count world hands called few =
+    let more : List Key = added called ++ few.keys in
     let one = one_added called in
-    let joined : length more ≡ length (added called) + length keys = length-append (added called) keys in
-    let rest = few_writes calls more (drawn + length more) (count + 1) (after_write world called) (omega arith) (omega arith) (few_answer keys drawn world no_hands called each) in
-    let same : count + 1 + length calls ≡ count + length (called ∷ calls) = omega arith in
-    (rest.0, rest.1, omega (arith, rest.2), subst (λ n. rest.1 ≤ n * n) same rest.3, rest.4)
+    let joined : length more ≡ length (added called) + length few.keys = length-append (added called) few.keys in
+    let long = few.long in
+    let square = few.square in
+    record { keys = more; drawn = few.drawn + length more; long = omega arith; square = omega arith; each = few_answer few.keys few.drawn world hands called few.each }
+
+few_writes : (calls : List Call) (count : ℕ) (world : WorldContent) → FewAfter count world → FewAfter (count + length calls) (fold after_write world calls)
+few_writes [] count world few = subst (λ n. FewAfter n world) (let e : count ≡ count + 0 = omega arith in e) few
+few_writes (called ∷ calls) count world few =
+    let rest = few_writes calls (count + 1) (after_write world called) (few_call count world no_hands called few) in
+    subst (λ n. FewAfter n (fold after_write (after_write world called) calls)) (let same : count + 1 + length calls ≡ count + length (called ∷ calls) = omega arith in same) rest
 
 few_serials : (keys : List Key) (drawn calls : ℕ) (there : Content) → length keys ≤ calls → drawn ≤ calls * calls → Few keys drawn there → HasFewSerials calls there
 few_serials keys drawn calls (content.Dict dict) long le few = let count = pairs_few keys drawn dict few in let below = few.below in (omega arith, omega arith)
 few_serials keys drawn calls (content.List items) long le few = tt
 few_serials keys drawn calls (content.Set set) long le few = let count = elements_few keys drawn set few in let below = few.below in (omega arith, omega arith)
 
--- from a world without keys and serials
-serials_from : (world : WorldContent) (calls : List Call) → All (Few [] 0) world → All (HasFewSerials (length calls)) (fold after_write world calls)
-serials_from world calls each =
-    let after = few_writes calls [] 0 0 world (omega arith) (omega arith) each in
-    let count : 0 + length calls ≡ length calls = omega arith in
-    λ k d low. few_serials after.0 after.1 (length calls) (get_or (fold after_write world calls) k d) (omega (arith, after.2)) (subst (λ n. after.1 ≤ n * n) count after.3) (after.4 k d low)
+pub few_contents : (count : ℕ) (world : WorldContent) → FewAfter count world → All (HasFewSerials count) world
+few_contents count world few = λ k d low. few_serials few.keys few.drawn count (get_or world k d) few.long few.square (few.each k d low)
 
 all_empty : (P : Content → Type 0) (kinds : List Kind) → ((kind : Kind) → P (empty_content kind)) → All P (empty_world kinds)
 all_empty P kinds each = All-map P empty_content kinds (λ k d low. each (get_or kinds k d))
@@ -300,8 +307,13 @@ all_empty P kinds each = All-map P empty_content kinds (λ k d low. each (get_or
 pub rule_by : (kinds : List Kind) (calls : List Call) → All IsContent (world_by kinds calls)
 rule_by kinds calls = rule_writes (empty_world kinds) calls (all_empty IsContent kinds (λ kind. rule_of [] 0 (empty_content kind) (few_empty [] 0 kind)))
 
+pub few_start : (kinds : List Kind) → FewAfter 0 (empty_world kinds)
+few_start kinds = record { keys = []; drawn = 0; long = omega arith; square = omega arith; each = all_empty (Few [] 0) kinds (few_empty [] 0) }
+
 pub serials_by : (kinds : List Kind) (calls : List Call) → All (HasFewSerials (length calls)) (world_by kinds calls)
-serials_by kinds calls = serials_from (empty_world kinds) calls (all_empty (Few [] 0) kinds (few_empty [] 0))
+serials_by kinds calls =
+    let after = few_writes calls 0 (empty_world kinds) (few_start kinds) in
+    few_contents (length calls) (world_by kinds calls) (subst (λ n. FewAfter n (world_by kinds calls)) (let count : 0 + length calls ≡ length calls = omega arith in count) after)
 
 -- ---- room
 

@@ -9,7 +9,7 @@ use Rattle.ft_trace.specs.declared.View.{View}
 use Rattle.ft_trace.specs.declared.Act.{Act}
 use Rattle.ft_trace.specs.declared.Act.TheVariants.{ReadRoot, ReadTable, ReadCounter, Version}
 use Rattle.ft_trace.specs.Acts.{reads}
-use Rattle.ft_trace.specs.Addrs.{IsTable, containers_in}
+use Rattle.ft_trace.specs.Addresses.{IsTable, containers_in}
 use Rattle.ft_trace.specs.Finding.{Online, Window, Inner, unread, IsNew}
 use Rattle.ft_trace.specs.Traces.{Event, run, Valid}
 use Rattle.ft_trace.proofs.Cases.{miss, here}

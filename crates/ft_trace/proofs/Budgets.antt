@@ -8,7 +8,7 @@ use Rattle.ft_trace.specs.declared.Shape.{Shape}
 use Rattle.ft_trace.specs.declared.View.{View}
 use Rattle.ft_trace.specs.declared.Act.{Act}
 use Rattle.ft_trace.specs.declared.Act.TheVariants.{PutRoot, Commit, Retire, WriteNumber}
-use Rattle.ft_trace.specs.Addrs.{write_number}
+use Rattle.ft_trace.specs.Addresses.{write_number}
 use Rattle.ft_trace.specs.Acts.{used, debt, starter, noted, maker, made, both, spent}
 use Rattle.ft_trace.specs.Entries.{total}
 use Rattle.ft_trace.specs.Traces.{Event, did, forked, joined, run, word, history, May, Valid}

@@ -7,7 +7,7 @@ use Rattle.ft_model.specs.declared.script.Kind.TheVariants as kind
 use Rattle.ft_model.specs.Worlds.{list_of}
 use Rattle.ft_model.specs.Classes.{IsClass}
 use Rattle.ft_layout.proofs.Powers.{slots_range}
-use Rattle.ft_trace.specs.Addrs.{slots, places, size}
+use Rattle.ft_trace.specs.Addresses.{slots, places, size}
 use Rattle.ft_trace.specs.Words.{walk_of}
 use Rattle.ft_trace.specs.Carefuls.{Sound, Later}
 use Rattle.ft_trace.specs.Items.{ItemSound, ItemLater}

@@ -7,9 +7,9 @@ use Rattle.ft_trace.specs.declared.Act.{Act}
 use Rattle.ft_trace.specs.declared.Act.TheVariants.{Lock, Unlock, StartWrite, PutBlock, PutRoot, PutTable, PutFresh, PutHeader, StopWrite, Version, ReadBlock, ReadRoot, ReadTable, LowerCount, RaiseCount, ReadCount, ReadFree, TakeTable, GiveTable, Announce, ReadAnnounced}
 use Rattle.ft_trace.specs.declared.Shape.{Shape}
 use Rattle.ft_trace.specs.declared.View.{View}
-use Rattle.ft_trace.specs.Addrs.{Inside}
+use Rattle.ft_trace.specs.Addresses.{Inside}
 use Rattle.ft_trace.specs.Acts.{place}
-use Rattle.ft_trace.proofs.Addrs.{fw_low}
+use Rattle.ft_trace.proofs.Addresses.{fw_low}
 use Rattle.ft_trace.specs.Traces.{Moment, May}
 
 pub same_or : (F : ℕ → Type 0) (p o : ℕ) → F o → (p ≢ o → F p) → F p

@@ -16,7 +16,7 @@ use Rattle.ft_trace.specs.declared.Snap.{Snap}
 use Rattle.ft_trace.specs.declared.View.{View}
 use Rattle.ft_trace.specs.declared.Act.{Act}
 use Rattle.ft_trace.specs.declared.Act.TheVariants.{StartWrite, PutRoot, PutBlock, Commit, StopWrite, Unlock}
-use Rattle.ft_trace.specs.Addrs.{Addr, containers_in, counter, version_of, lock_of, block, class_of, at, extent, Inside}
+use Rattle.ft_trace.specs.Addresses.{Word, containers_in, counter, version_of, lock_of, block, class_of, at, extent, Inside}
 use Rattle.ft_trace.specs.Acts.{place, Reports, has_lock, is_writing, has_committed, used, owes, mem, noted}
 use Rattle.ft_trace.specs.Worlds.{Kept, kind_in}
 use Rattle.ft_trace.specs.Words.{root_of, inner, Picture, root_in, picture, Stands}
@@ -26,7 +26,7 @@ use Rattle.ft_trace.specs.Holds.{held, known}
 use Rattle.ft_trace.specs.Traces.{did, run, word, history, snap, May, Valid, Possible, Sure}
 use Rattle.ft_trace.proofs.Sizes.{set_at}
 use Rattle.ft_trace.proofs.Cases.{hit}
-use Rattle.ft_trace.proofs.Addrs.{at_low, at_apart}
+use Rattle.ft_trace.proofs.Addresses.{at_low, at_apart}
 use Rattle.ft_trace.proofs.Pieces.{block_zero, block_at}
 use Rattle.ft_trace.proofs.Evens.{holder_shut}
 use Rattle.ft_trace.proofs.Images.{imaged}
@@ -36,18 +36,18 @@ use Rattle.ft_trace.proofs.Nexts.{next_possible}
 use Rattle.ft_trace.proofs.Contents.{empty_stands}
 
 -- one more action with a snapshot
-pub snap_possible : (v : View) → v.number ≢ 0 → Possible v → (act : ℕ → Snap → Act) (x : Addr) → ((n : ℕ) (s : Snap) → place (act n s) ≡ x) → ((n : ℕ) (s : Snap) → Reports (act n s) n) → Sure v (λ es. May v.shape (run v.shape es) (history es) v (act (word v.shape es x) (snap (run v.shape es) (history es)))) → (n : ℕ) × (s : Snap) × Possible (noted (act n s) v)
+pub snap_possible : (v : View) → v.number ≢ 0 → Possible v → (act : ℕ → Snap → Act) (x : Word) → ((n : ℕ) (s : Snap) → place (act n s) ≡ x) → ((n : ℕ) (s : Snap) → Reports (act n s) n) → Sure v (λ es. May v.shape (run v.shape es) (history es) v (act (word v.shape es x) (snap (run v.shape es) (history es)))) → (n : ℕ) × (s : Snap) × Possible (noted (act n s) v)
 snap_possible v live p act x is tells may =
     let k = v.shape in
     let es = p.0 in
     let n = word k es x in
     let s = snap (run k es) (history es) in
     let a = act n s in
-    let found : Reports a (word k es (place a)) = subst (λ (z : Addr). Reports a (word k es z)) (sym (is n s)) (tells n s) in
+    let found : Reports a (word k es (place a)) = subst (λ (z : Word). Reports a (word k es z)) (sym (is n s)) (tells n s) in
     (n, s, (did p.1 v a ∷ es, p.1, ((p.2.0, (p.2.1, live, found, may es p.1 p.2)), set_at (run k es).views p.1 v (noted a v) p.2.1)))
 
 -- two words of the bank
-other_word : (k : Shape) (ws : List ℕ) (x y : Addr) (z : ℕ) → Inside k x → Inside k y → y ≢ x → slice_index (slice_set ws (at k x) z) (at k y) ≡ slice_index ws (at k y)
+other_word : (k : Shape) (ws : List ℕ) (x y : Word) (z : ℕ) → Inside k x → Inside k y → y ≢ x → slice_index (slice_set ws (at k x) z) (at k y) ≡ slice_index ws (at k y)
 other_word k ws x y z a b ne = get_or-set_other ws (at k x) (at k y) z 0 (λ e. ne (at_apart k y x b a e))
 
 one_word : (o i j : ℕ) → block o i ≡ block o j → i ≡ j

@@ -9,7 +9,7 @@ use Rattle.ft_trace.specs.declared.Shape.{Shape}
 use Rattle.ft_trace.specs.declared.View.{View}
 use Rattle.ft_trace.specs.declared.Act.{Act}
 use Rattle.ft_trace.specs.declared.Act.TheVariants.{StartWrite, PutBlock, PutRoot, PutTable, PutFresh, Commit, StopWrite, ReadBlock, ReadRoot, ReadTable, ReadCounter, Answer}
-use Rattle.ft_trace.specs.Addrs.{Addr, counter, block, cell, Inside, containers_in}
+use Rattle.ft_trace.specs.Addresses.{Word, counter, block, cell, Inside, containers_in}
 use Rattle.ft_trace.specs.Acts.{is_writing, noted}
 use Rattle.ft_model.specs.declared.script.Kind.{Kind}
 use Rattle.ft_model.specs.declared.script.Kind.TheVariants as kind
@@ -22,7 +22,7 @@ use Rattle.ft_trace.specs.Words.{table_of, inner, Picture, picture, Stands}
 use Rattle.ft_trace.specs.Traces.{Event, did, forked, joined, run, word, writes_of, history, StandsFor, May, Valid}
 use Rattle.ft_trace.proofs.Sizes.{set_at}
 use Rattle.ft_trace.proofs.Cases.{hit, off}
-use Rattle.ft_trace.proofs.Addrs.{block_first}
+use Rattle.ft_trace.proofs.Addresses.{block_first}
 use Rattle.ft_trace.proofs.Words.{stays, moves, loaded}
 use Rattle.ft_trace.proofs.Pieces.{block_zero, table_same, picture_same}
 use Rattle.ft_trace.proofs.Versions.{one_up, version, versioned, on_seq, writing_is_odd, rises, rises_one}
@@ -47,13 +47,13 @@ counted k (forked id v ∷ es) valid = counted k es valid.0
 counted k (joined id v other w ∷ es) valid = counted k es valid.0
 
 -- a word of the container's block, or of the table that its root names
-abbrev pub Of : Shape → List Event → ℕ → Addr → Type 0
+abbrev pub Of : Shape → List Event → ℕ → Word → Type 0
 Of k es o (block p i) = p ≡ o
 Of k es o (cell t i) = root k es o ≡ suc t
 Of k es o x = ⊥
 
 -- only who writes o changes a word of o
-pub alters : (k : Shape) (es : List Event) → Valid k es → (id : ℕ) (v : View) → get_elem? (run k es).views id ≡ some v → (o : ℕ) → o < containers_in k → (is_writing o v.log ≡ true → ⊥) → (x : Addr) → Inside k x → Of k es o x → (a : Act) → May k (run k es) (history es) v a → word k (did id v a ∷ es) x ≡ word k es x
+pub alters : (k : Shape) (es : List Event) → Valid k es → (id : ℕ) (v : View) → get_elem? (run k es).views id ≡ some v → (o : ℕ) → o < containers_in k → (is_writing o v.log ≡ true → ⊥) → (x : Word) → Inside k x → Of k es o x → (a : Act) → May k (run k es) (history es) v a → word k (did id v a ∷ es) x ≡ word k es x
 alters k es valid id v at o low never x in_it of (PutBlock p i y) may = stays k es id v (PutBlock p i y) may x in_it (λ e. never (subst (λ (z : ℕ). is_writing z v.log ≡ true) (subst (Of k es o) (sym e) of) may.2))
 alters k es valid id v at o low never x in_it of (PutRoot p r old) may = stays k es id v (PutRoot p r old) may x in_it (λ e. never (subst (λ (z : ℕ). is_writing z v.log ≡ true) (subst (Of k es o) (sym e) of) may.1))
 alters k es valid id v at o low never x in_it of (PutTable p t i y) may =
@@ -82,7 +82,7 @@ pub record Still (k : Shape) (es now : List Event) (o : ℕ) : Type 0 where
   pub picture : picture k o (run k now).words ≡ picture k o (run k es).words
   pub content : kept k.kinds (history now) o ≡ kept k.kinds (history es) o
 
-pub still_of : (k : Shape) (es now : List Event) → Valid k es → (o : ℕ) → o < containers_in k → ((x : Addr) → Inside k x → Of k es o x → word k now x ≡ word k es x) → kept k.kinds (history now) o ≡ kept k.kinds (history es) o → Still k es now o
+pub still_of : (k : Shape) (es now : List Event) → Valid k es → (o : ℕ) → o < containers_in k → ((x : Word) → Inside k x → Of k es o x → word k now x ≡ word k es x) → kept k.kinds (history now) o ≡ kept k.kinds (history es) o → Still k es now o
 still_of k es now valid o low words content = record {
   picture =
       (picture_same k o (run k now).words (run k es).words (λ i small. words (block o i) (low, small) refl)

@@ -10,7 +10,7 @@ use Rattle.ft_trace.specs.declared.View.{View}
 use Rattle.ft_trace.specs.declared.Act.{Act}
 use Rattle.ft_trace.specs.declared.Act.TheVariants.{LowerCount, RaiseCount, ReadCount, ReadFree, TakeTable, GiveTable}
 use Rattle.ft_trace.specs.Bits.{bit}
-use Rattle.ft_trace.specs.Addrs.{tables_in, count_of_class, bits, class_of, number_of, free_word_of, free_bit_of, IsTable}
+use Rattle.ft_trace.specs.Addresses.{tables_in, count_of_class, bits, class_of, number_of, free_word_of, free_bit_of, IsTable}
 use Rattle.ft_trace.specs.Acts.{place, stage, flight, flight_next, noted, maker, made, both, spent}
 use Rattle.ft_trace.specs.Entries.{total}
 use Rattle.ft_trace.specs.Counts.{sum_to, bit_of, set_bits, taking, giving}
@@ -18,7 +18,7 @@ use Rattle.ft_trace.specs.Traces.{Event, did, forked, joined, run, word, history
 use Rattle.ft_model.specs.Classes.{IsClass}
 use Rattle.ft_trace.proofs.Announcing.{fits}
 use Rattle.ft_trace.proofs.Cases.{miss, here, same_or}
-use Rattle.ft_trace.proofs.Addrs.{bt_low, class_of_number, number_of_number, table_is, bit_first, count_first}
+use Rattle.ft_trace.proofs.Addresses.{bt_low, class_of_number, number_of_number, table_is, bit_first, count_first}
 use Rattle.ft_trace.proofs.Bits.{off_same, on_same, off_else, on_else, bit_small}
 use Rattle.ft_trace.proofs.Words.{stays, moves, loaded}
 use Rattle.ft_trace.proofs.Versions.{one_up}

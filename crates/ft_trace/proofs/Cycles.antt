@@ -3,7 +3,7 @@ use Rattle.std.proofs.Common.{◌≡◌, ◌≢◌, ℕ, eqb, eq-eqb, ltb, ◌*�
 use Rattle.ft_trace.specs.declared.Shape.{Shape}
 use Rattle.ft_trace.specs.declared.View.{View}
 use Rattle.ft_trace.specs.declared.Act.TheVariants.{Retire, Announce, ReadAnnounced, GiveTable}
-use Rattle.ft_trace.specs.Addrs.{write_number, announced_of, bits, IsTable, free_word_of}
+use Rattle.ft_trace.specs.Addresses.{write_number, announced_of, bits, IsTable, free_word_of}
 use Rattle.ft_trace.specs.Acts.{stage, debt, flight, clear, goal, noted}
 use Rattle.ft_trace.specs.Traces.{Possible}
 use Rattle.ft_trace.proofs.Cases.{hit}

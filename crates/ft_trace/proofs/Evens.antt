@@ -9,7 +9,7 @@ use Rattle.ft_trace.specs.declared.View.{View}
 use Rattle.ft_trace.specs.declared.Act.{Act}
 use Rattle.ft_trace.specs.declared.Act.TheVariants.{TakeTable, GiveTable, PutRoot, Retire, StopWrite}
 use Rattle.ft_trace.specs.Bits.{bit}
-use Rattle.ft_trace.specs.Addrs.{containers_in, version_of, cell, class_of, IsTable, free_bit_of}
+use Rattle.ft_trace.specs.Addresses.{containers_in, version_of, cell, class_of, IsTable, free_bit_of}
 use Rattle.ft_trace.specs.Acts.{place, has_lock, is_writing, stage}
 use Rattle.ft_trace.specs.Worlds.{kind_in}
 use Rattle.ft_trace.specs.Kinds.{rows, version_at}

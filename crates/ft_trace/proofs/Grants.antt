@@ -7,7 +7,7 @@ use Rattle.ft_trace.specs.declared.View.{View}
 use Rattle.ft_trace.specs.declared.Act.TheVariants.{LowerCount, RaiseCount, ReadCount, ReadFree, TakeTable}
 use Rattle.ft_trace.specs.Bits.{bit}
 use Rattle.ft_model.specs.Classes.{IsClass}
-use Rattle.ft_trace.specs.Addrs.{count_of_class, bits, class_of, free_word_of, free_bit_of, IsTable}
+use Rattle.ft_trace.specs.Addresses.{count_of_class, bits, class_of, free_word_of, free_bit_of, IsTable}
 use Rattle.ft_trace.specs.Acts.{stage, flight, owes, noted}
 use Rattle.ft_trace.specs.Grants.{Ends}
 use Rattle.ft_trace.specs.Traces.{did, run, word, history, snap, Possible}

@@ -9,7 +9,7 @@ use Rattle.ft_trace.specs.declared.View.{View}
 use Rattle.ft_trace.specs.declared.Act.{Act}
 use Rattle.ft_trace.specs.declared.Act.TheVariants.{TakeTable, GiveTable, PutRoot, Retire, Announce}
 use Rattle.ft_trace.specs.Bits.{bit}
-use Rattle.ft_trace.specs.Addrs.{write_number, IsTable, free_bit_of}
+use Rattle.ft_trace.specs.Addresses.{write_number, IsTable, free_bit_of}
 use Rattle.ft_trace.specs.Acts.{stage, stage_next, noted, maker, made, both, spent}
 use Rattle.ft_trace.specs.Ages.{aged, age, gone_to, whose}
 use Rattle.ft_trace.specs.Traces.{Event, did, forked, joined, run, word, history, May, Valid}

@@ -2,7 +2,7 @@
 use Rattle.std.proofs.Common.{◌≡◌, ℕ, suc, ◌<◌, true, false, List, sym, ap, ◌∙◌, subst, inl, inr, arith}
 use Rattle.ft_model.specs.Tables.{stored_newest}
 use Rattle.ft_trace.specs.declared.View.{View}
-use Rattle.ft_trace.specs.Addrs.{containers_in, block, cell, class_of, IsTable}
+use Rattle.ft_trace.specs.Addresses.{containers_in, block, cell, class_of, IsTable}
 use Rattle.ft_trace.specs.Acts.{has_lock, is_writing, stage, mem}
 use Rattle.ft_trace.specs.Worlds.{Kept, kept, kind_in}
 use Rattle.ft_trace.specs.Words.{table_of, root_of, inner, Picture, root_in, picture, Stands}

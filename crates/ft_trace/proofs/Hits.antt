@@ -9,7 +9,7 @@ use Rattle.ft_trace.specs.declared.Shape.{Shape}
 use Rattle.ft_trace.specs.declared.View.{View}
 use Rattle.ft_trace.specs.declared.Act.{Act}
 use Rattle.ft_trace.specs.declared.Act.TheVariants.{ReadTable, ReadCounter}
-use Rattle.ft_trace.specs.Addrs.{containers_in, class_of, slots, places}
+use Rattle.ft_trace.specs.Addresses.{containers_in, class_of, slots, places}
 use Rattle.ft_trace.specs.Worlds.{kept, first_writes, kind_in}
 use Rattle.ft_trace.specs.Words.{entry_at, entry_of}
 use Rattle.ft_trace.specs.Carefuls.{said_of, Later}

@@ -1,5 +1,5 @@
 -- The words of a container whose lock a pass has, and which it does not write, stand for the history.
-use Rattle.ft_trace.specs.Addrs.{containers_in}
+use Rattle.ft_trace.specs.Addresses.{containers_in}
 use Rattle.std.proofs.Common.{◌≡◌, ℕ, ◌%◌, ◌<◌, true, false, true≢false, sym, ap, ◌∙◌, arith}
 use mathlib.Core.Option.{some, some-injective}
 use mathlib.Core.Logic.{dite}

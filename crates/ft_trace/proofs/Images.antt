@@ -11,14 +11,14 @@ use Rattle.ft_trace.specs.declared.Shape.{Shape}
 use Rattle.ft_trace.specs.declared.View.{View}
 use Rattle.ft_trace.specs.declared.Act.{Act}
 use Rattle.ft_trace.specs.declared.Act.TheVariants.{Lock, Unlock, PutBlock, PutRoot, PutTable, PutFresh, Commit, ReadBlock, ReadRoot, ReadTable, TakeTable, GiveTable, Retire}
-use Rattle.ft_trace.specs.Addrs.{Addr, counter, write_number, announced_of, bits, count_of_class, lock_of, version_of, block, header, cell, Inside, at, extent}
+use Rattle.ft_trace.specs.Addresses.{Word, counter, write_number, announced_of, bits, count_of_class, lock_of, version_of, block, header, cell, Inside, at, extent}
 use Rattle.ft_trace.specs.Acts.{place, word_after, has_lock, is_writing, stage, stage_next, mem, past, starter, noted, maker, made, both, spent}
 use Rattle.ft_trace.specs.Worlds.{kept}
-use Rattle.ft_trace.specs.Addrs.{containers_in}
+use Rattle.ft_trace.specs.Addresses.{containers_in}
 use Rattle.ft_trace.specs.Traces.{Event, did, forked, joined, run, word, history, snap, May, Valid}
 use Rattle.ft_trace.proofs.Sizes.{set_views, one_more, one_view}
 use Rattle.ft_trace.proofs.Cases.{same_or, hit, miss, off}
-use Rattle.ft_trace.proofs.Addrs.{at_low}
+use Rattle.ft_trace.proofs.Addresses.{at_low}
 use Rattle.ft_trace.proofs.Words.{wide, stays, moves, loaded}
 use Rattle.ft_trace.proofs.Locks.{one_holder}
 use Rattle.ft_trace.proofs.Versions.{writer_has}
@@ -26,7 +26,7 @@ use Rattle.ft_trace.proofs.Places.{root, placed}
 use Rattle.ft_trace.proofs.Contents.{alters, content_by}
 
 -- the words that a pass has to itself
-abbrev pub Owns : Shape → List Event → View → Addr → Type 0
+abbrev pub Owns : Shape → List Event → View → Word → Type 0
 Owns k es u (block o i) = has_lock o u.log ≡ true
 Owns k es u (cell t i) = (stage t u.log ≡ 1) ⊎ ((o : ℕ) × (o < containers_in k) × (has_lock o u.log ≡ true) × (root k es o ≡ suc t))
 Owns k es u x = ⊥
@@ -36,16 +36,16 @@ Owner u = ((o : ℕ) × (has_lock o u.log ≡ true)) ⊎ ((t : ℕ) × (stage t 
 
 pub record Imaged (k : Shape) (es : List Event) (u : View) : Type 0 where
   pub wide : Owner u → length (mem k u.log) ≡ extent k
-  pub words : (x : Addr) → Inside k x → Owns k es u x → slice_index (mem k u.log) (at k x) ≡ word k es x
+  pub words : (x : Word) → Inside k x → Owns k es u x → slice_index (mem k u.log) (at k x) ≡ word k es x
   pub content : (o : ℕ) → has_lock o u.log ≡ true → kept k.kinds (past u.log) o ≡ kept k.kinds (history es) o
 
 -- a word that no action but a put may change
-abbrev IsData : Addr → Type 0
+abbrev IsData : Word → Type 0
 IsData (block o i) = Unit {0}
 IsData (cell t i) = Unit {0}
 IsData x = ⊥
 
-data_of : (k : Shape) (es : List Event) (u : View) (x : Addr) → Owns k es u x → IsData x
+data_of : (k : Shape) (es : List Event) (u : View) (x : Word) → Owns k es u x → IsData x
 data_of k es u (block o i) owns = tt
 data_of k es u (cell t i) owns = tt
 data_of k es u counter owns = absurd owns
@@ -83,7 +83,7 @@ other k es id v a valid j u ne there old low = record { wide = old.wide; words =
     not_writing : (o : ℕ) → has_lock o u.log ≡ true → is_writing o v.log ≡ true → ⊥
     not_writing o mine w = ne (one_holder k es valid.0 o (low o mine) j id u v there valid.1.0 mine (writer_has k es valid.0 o id v valid.1.0 w))
 
-    by : (x : Addr) → Inside k x → Owns k (did id v a ∷ es) u x → slice_index (mem k u.log) (at k x) ≡ word k (did id v a ∷ es) x
+    by : (x : Word) → Inside k x → Owns k (did id v a ∷ es) u x → slice_index (mem k u.log) (at k x) ≡ word k (did id v a ∷ es) x
     by (block o i) in_it mine = old.words (block o i) in_it mine ∙ sym (alters k es valid.0 id v valid.1.0 o in_it.0 (not_writing o mine) (block o i) in_it refl a valid.1.3)
     by (cell t i) in_it mine =
         ⊎_elim
@@ -104,7 +104,7 @@ other k es id v a valid j u ne there old low = record { wide = old.wide; words =
     by (header t) in_it mine = absurd mine
 
 -- the whole bank as it is now
-fresh : (k : Shape) (es : List Event) (id : ℕ) (v : View) (a : Act) (s : Snap) → s ≡ snap (run k es) (history es) → mem k (a ∷ v.log) ≡ s.words → past (a ∷ v.log) ≡ s.calls → history (did id v a ∷ es) ≡ history es → ((x : Addr) → Inside k x → IsData x → word k (did id v a ∷ es) x ≡ word k es x) → Imaged k (did id v a ∷ es) (noted a v)
+fresh : (k : Shape) (es : List Event) (id : ℕ) (v : View) (a : Act) (s : Snap) → s ≡ snap (run k es) (history es) → mem k (a ∷ v.log) ≡ s.words → past (a ∷ v.log) ≡ s.calls → history (did id v a ∷ es) ≡ history es → ((x : Word) → Inside k x → IsData x → word k (did id v a ∷ es) x ≡ word k es x) → Imaged k (did id v a ∷ es) (noted a v)
 fresh k es id v a s is m p h same =
     let words : mem k (a ∷ v.log) ≡ (run k es).words = m ∙ ap (λ (z : Snap). z.words) is in record {
       wide = λ _. ap (λ (l : List ℕ). length l) words ∙ wide k es;
@@ -114,11 +114,11 @@ fresh k es id v a s is m p h same =
 
 -- what the pass has after an action it had before
 abbrev Backward : Shape → List Event → List Event → View → View → Type 0
-Backward k es now v w = (x : Addr) → Inside k x → Owns k now w x → Owns k es v x
+Backward k es now v w = (x : Word) → Inside k x → Owns k now w x → Owns k es v x
 
 -- an action that leaves what is known
 calm : (k : Shape) (es : List Event) (id : ℕ) (v : View) (a : Act) → Imaged k es v → mem k (a ∷ v.log) ≡ mem k v.log → past (a ∷ v.log) ≡ past v.log → history (did id v a ∷ es) ≡ history es → ((o : ℕ) → has_lock o (a ∷ v.log) ≡ true → has_lock o v.log ≡ true) → ((t : ℕ) → stage t (a ∷ v.log) ≡ 1 → stage t v.log ≡ 1)
-    → ((x : Addr) → Inside k x → IsData x → word k (did id v a ∷ es) x ≡ word k es x) → Imaged k (did id v a ∷ es) (noted a v)
+    → ((x : Word) → Inside k x → IsData x → word k (did id v a ∷ es) x ≡ word k es x) → Imaged k (did id v a ∷ es) (noted a v)
 calm k es id v a old m p h has_before stage_before same = record {
   wide = λ e. ap (λ (l : List ℕ). length l) m ∙ old.wide (⊎_elim (λ (x : (o : ℕ) × (has_lock o (a ∷ v.log) ≡ true)). inl (x.0, has_before x.0 x.1)) (λ (x : (t : ℕ) × (stage t (a ∷ v.log) ≡ 1)). inr (x.0, stage_before x.0 x.1)) e);
   words = λ x in_it owns. ap (λ (l : List ℕ). slice_index l (at k x)) m ∙ (old.words x in_it (backward x in_it owns) ∙ sym (same x in_it (data_of k (did id v a ∷ es) (noted a v) x owns)));
@@ -203,7 +203,7 @@ not_one true x n ne e = absurd (ne e)
 not_one false x n ne e = e
 
 -- an action on no block and no cell
-apart : (k : Shape) (es : List Event) (id : ℕ) (v : View) (a : Act) → May k (run k es) (history es) v a → (IsData (place a) → ⊥) → (x : Addr) → Inside k x → IsData x → word k (did id v a ∷ es) x ≡ word k es x
+apart : (k : Shape) (es : List Event) (id : ℕ) (v : View) (a : Act) → May k (run k es) (history es) v a → (IsData (place a) → ⊥) → (x : Word) → Inside k x → IsData x → word k (did id v a ∷ es) x ≡ word k es x
 apart k es id v a may never x in_it d = stays k es id v a may x in_it (λ e. never (subst IsData (sym e) d))
 
 own : (k : Shape) (es : List Event) (id : ℕ) (v : View) → Valid k es → get_elem? (run k es).views id ≡ some v → Imaged k es v → (b : Act) → May k (run k es) (history es) v b → Imaged k (did id v b ∷ es) (noted b v)
@@ -263,7 +263,7 @@ nothing k es u e =
       content = λ o mine. off (sym (no_lock o) ∙ mine);
     }
   where
-    never : {A : Type 0} (x : Addr) → Owns k es u x → A
+    never : {A : Type 0} (x : Word) → Owns k es u x → A
     never (block o i) mine = off (sym (ap (has_lock o) e) ∙ mine)
     never (cell t i) mine = ⊎_elim (λ (x : stage t u.log ≡ 1). let z : stage t u.log ≡ 0 = ap (stage t) e in absurd (omega (arith, x, z))) (λ (x : (o : ℕ) × (o < containers_in k) × (has_lock o u.log ≡ true) × (root k es o ≡ suc t)). off (sym (ap (has_lock x.0) e) ∙ x.2)) mine
     never counter mine = absurd mine

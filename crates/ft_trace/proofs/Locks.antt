@@ -9,13 +9,13 @@ use Rattle.ft_trace.specs.declared.Shape.{Shape}
 use Rattle.ft_trace.specs.declared.View.{View}
 use Rattle.ft_trace.specs.declared.Act.{Act}
 use Rattle.ft_trace.specs.declared.Act.TheVariants.{Lock, Unlock}
-use Rattle.ft_trace.specs.Addrs.{lock_of, containers_in}
+use Rattle.ft_trace.specs.Addresses.{lock_of, containers_in}
 use Rattle.ft_trace.specs.Acts.{place, Reports, has_lock, has_lock_next, starter, noted, maker, made, both, spent}
 use Rattle.ft_trace.specs.Traces.{Event, did, forked, joined, run, word, history, May, Valid}
 use Rattle.ft_trace.proofs.Sizes.{set_at, set_views, one_more, one_view}
 use Rattle.atomic_table.proofs.Lists.{set_else, at_longer}
 use Rattle.ft_trace.proofs.Cases.{hit, miss, here, off, same_or}
-use Rattle.ft_trace.proofs.Addrs.{lock_first}
+use Rattle.ft_trace.proofs.Addresses.{lock_first}
 use Rattle.ft_trace.proofs.Words.{stays, moves}
 use Rattle.ft_trace.proofs.Seats.{same_seat, holder_lives}
 

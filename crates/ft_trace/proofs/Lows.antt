@@ -10,16 +10,16 @@ use Rattle.ft_trace.specs.declared.Shape.{Shape}
 use Rattle.ft_trace.specs.declared.View.{View}
 use Rattle.ft_trace.specs.declared.Act.{Act}
 use Rattle.ft_trace.specs.declared.Act.TheVariants.{PutRoot, PutTable, Commit, StartWrite, StopWrite}
-use Rattle.ft_trace.specs.Addrs.{counter, cell, class_of}
+use Rattle.ft_trace.specs.Addresses.{counter, cell, class_of}
 use Rattle.ft_trace.specs.Acts.{is_writing, is_writing_next, has_committed, has_committed_next, noted, maker, made, both, spent}
 use Rattle.ft_trace.specs.Worlds.{kind_in}
 use Rattle.ft_trace.specs.Kinds.{rows, version_at}
-use Rattle.ft_trace.specs.Addrs.{containers_in}
+use Rattle.ft_trace.specs.Addresses.{containers_in}
 use Rattle.ft_trace.proofs.ByKind.{as_version, row_low}
 use Rattle.ft_trace.specs.Traces.{Event, did, forked, joined, run, writes_of, history, CarefulFor, TimelyFor, Valid}
 use Rattle.ft_trace.proofs.Sizes.{set_views, one_more}
 use Rattle.ft_trace.proofs.Cases.{hit, miss, off, same_or}
-use Rattle.ft_trace.proofs.Addrs.{block_first}
+use Rattle.ft_trace.proofs.Addresses.{block_first}
 use Rattle.ft_trace.proofs.Words.{stays, moves}
 use Rattle.ft_trace.proofs.Pieces.{table_same, table_long}
 use Rattle.ft_trace.proofs.Locks.{one_holder}

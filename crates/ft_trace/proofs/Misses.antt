@@ -13,7 +13,7 @@ use Rattle.ft_trace.specs.declared.Shape.{Shape}
 use Rattle.ft_trace.specs.declared.View.{View}
 use Rattle.ft_trace.specs.declared.Act.{Act}
 use Rattle.ft_trace.specs.declared.Act.TheVariants.{ReadTable, ReadCounter}
-use Rattle.ft_trace.specs.Addrs.{containers_in, IsTable, class_of, slots, places}
+use Rattle.ft_trace.specs.Addresses.{containers_in, IsTable, class_of, slots, places}
 use Rattle.ft_trace.specs.Acts.{reads}
 use Rattle.ft_trace.specs.Ages.{whose}
 use Rattle.ft_trace.specs.Worlds.{kept, first_writes, kind_in}

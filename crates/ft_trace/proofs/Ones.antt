@@ -11,13 +11,13 @@ use Rattle.ft_trace.specs.declared.Act.TheVariants.{ReadFree, TakeTable, GiveTab
 use Rattle.ft_trace.specs.Bits.{bit, full}
 use Rattle.ft_model.specs.Classes.{IsClass}
 use Rattle.ft_layout.specs.Starts.{count_of}
-use Rattle.ft_trace.specs.Addrs.{Addr, tables_in, count_of_class, bits, class_of, number_of, free_word_of, free_bit_of, least, IsTable}
+use Rattle.ft_trace.specs.Addresses.{Word, tables_in, count_of_class, bits, class_of, number_of, free_word_of, free_bit_of, least, IsTable}
 use Rattle.ft_trace.proofs.Announcing.{fits}
 use Rattle.ft_trace.specs.Acts.{place, word_after}
 use Rattle.ft_trace.specs.Entries.{total}
 use Rattle.ft_trace.specs.Counts.{sum_to, bit_of, set_bits, ones, word_bits, taking, giving}
 use Rattle.ft_trace.specs.Traces.{Event, did, forked, joined, run, word, history, May, Valid}
-use Rattle.ft_trace.proofs.Addrs.{bt_low, num_is, class_of_number, number_of_number, bits_first}
+use Rattle.ft_trace.proofs.Addresses.{bt_low, num_is, class_of_number, number_of_number, bits_first}
 use Rattle.ft_trace.proofs.Bits.{off_else, on_else}
 use Rattle.ft_trace.proofs.Words.{stays, moves, loaded}
 use Rattle.ft_trace.proofs.Counts.{sum_same, counts_stand}
@@ -68,7 +68,7 @@ module _ (k : Shape) (es : List Event) (id : ℕ) (v : View) (t : ℕ) (none : I
       dite (ℕ_discrete (free_word_of q) (free_word_of t))
       (λ (e : free_word_of q ≡ free_word_of t).
       let p : place a ≡ bits (free_word_of t) = is ∙ ap bits e in
-      let m : word k (did id v a ∷ es) (bits (free_word_of t)) ≡ word_after v.number a (word k es (bits (free_word_of t))) = subst (λ (x : Addr). word k (did id v a ∷ es) x ≡ word_after v.number a (word k es x)) p (moves k es id v a may) in
+      let m : word k (did id v a ∷ es) (bits (free_word_of t)) ≡ word_after v.number a (word k es (bits (free_word_of t))) = subst (λ (x : Word). word k (did id v a ∷ es) x ≡ word_after v.number a (word k es x)) p (moves k es id v a may) in
       ap (bit (free_bit_of t)) m ∙ does (word k es (bits (free_word_of t))) (λ n. none_apart k q t table none e n))
       (λ apart. far a may (λ e. apart (let z : bits (free_word_of q) ≡ bits (free_word_of t) = sym is ∙ e in cc)))
 

@@ -10,7 +10,7 @@ use Rattle.ft_trace.specs.declared.Act.TheVariants.{Version, ReadBlock, ReadRoot
 use Rattle.ft_model.specs.declared.call.Call.{Call}
 use Rattle.ft_model.specs.declared.reply.Reply.{Reply}
 use Rattle.ft_model.specs.Tables.{StoredWorld, stored_newest}
-use Rattle.ft_trace.specs.Addrs.{containers_in}
+use Rattle.ft_trace.specs.Addresses.{containers_in}
 use Rattle.ft_trace.specs.Worlds.{kept_at, kept, first_writes, reply_in}
 use Rattle.ft_trace.specs.Words.{table_of, inner, Picture, root_of, root_in, picture, Stands}
 use Rattle.ft_trace.specs.Reading.{Between, Among, Agrees, IsNothing, Looked}

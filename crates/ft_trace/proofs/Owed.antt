@@ -9,7 +9,7 @@ use Rattle.ft_trace.specs.declared.Shape.{Shape}
 use Rattle.ft_trace.specs.declared.View.{View}
 use Rattle.ft_trace.specs.declared.Act.{Act}
 use Rattle.ft_trace.specs.declared.Act.TheVariants.{LowerCount, RaiseCount, ReadCount, Commit}
-use Rattle.ft_trace.specs.Addrs.{tables_in, count_of_class}
+use Rattle.ft_trace.specs.Addresses.{tables_in, count_of_class}
 use Rattle.ft_trace.specs.Acts.{owes, owes_next, noted, maker, made, both, spent}
 use Rattle.ft_trace.specs.Entries.{total}
 use Rattle.ft_trace.specs.Counts.{owing, took}
@@ -18,7 +18,7 @@ use Rattle.ft_model.specs.Classes.{IsClass}
 use Rattle.ft_model.specs.Tables.{is_class, takes_in, stored_newest, takes_newest}
 use Rattle.ft_trace.proofs.Announcing.{fits}
 use Rattle.ft_trace.proofs.Cases.{miss, here, same_or}
-use Rattle.ft_trace.proofs.Addrs.{count_first}
+use Rattle.ft_trace.proofs.Addresses.{count_first}
 use Rattle.ft_trace.proofs.Seats.{seated}
 use Rattle.ft_trace.proofs.Words.{stays, moves, loaded}
 use Rattle.ft_trace.proofs.Totals.{total_set, total_forked, total_joined, parts_total}

@@ -10,13 +10,13 @@ use Rattle.ft_trace.specs.declared.View.{View}
 use Rattle.ft_trace.specs.declared.Act.{Act}
 use Rattle.ft_trace.specs.declared.Act.TheVariants.{PutBlock, PutRoot, ReadBlock, ReadRoot, ReadFree, TakeTable, GiveTable, Retire}
 use Rattle.ft_trace.specs.Bits.{bit}
-use Rattle.ft_trace.specs.Addrs.{Addr, bits, block, IsTable, free_word_of, free_bit_of, containers_in}
+use Rattle.ft_trace.specs.Addresses.{Word, bits, block, IsTable, free_word_of, free_bit_of, containers_in}
 use Rattle.ft_trace.specs.Acts.{place, word_after, Reports, stage, stage_next, starter, noted, maker, made, both, spent}
 use Rattle.ft_trace.specs.Traces.{Event, did, forked, joined, run, word, history, May, Valid}
 use Rattle.ft_trace.specs.Ages.{aged, age, gone_to, whose}
 use Rattle.ft_trace.proofs.Sizes.{set_views, one_more, one_view}
 use Rattle.ft_trace.proofs.Bits.{off_same, on_same, off_else, on_else, bit_small}
-use Rattle.ft_trace.proofs.Addrs.{fw_low, bt_low, same_bit, bit_first, block_first}
+use Rattle.ft_trace.proofs.Addresses.{fw_low, bt_low, same_bit, bit_first, block_first}
 use Rattle.ft_trace.proofs.Cases.{hit, miss, here, same_or}
 use Rattle.ft_trace.proofs.Words.{stays, moves, loaded}
 
@@ -74,7 +74,7 @@ module _ (k : Shape) (es : List Event) (id : ℕ) (v : View) (t : ℕ) (table : 
       dite (ℕ_discrete (free_word_of q) (free_word_of t))
       (λ (e : free_word_of q ≡ free_word_of t).
       let p : place a ≡ bits (free_word_of t) = is ∙ ap bits e in
-      let m : word k (did id v a ∷ es) (bits (free_word_of t)) ≡ word_after v.number a (word k es (bits (free_word_of t))) = subst (λ (x : Addr). word k (did id v a ∷ es) x ≡ word_after v.number a (word k es x)) p (moves k es id v a may) in
+      let m : word k (did id v a ∷ es) (bits (free_word_of t)) ≡ word_after v.number a (word k es (bits (free_word_of t))) = subst (λ (x : Word). word k (did id v a ∷ es) x ≡ word_after v.number a (word k es x)) p (moves k es id v a may) in
       ap (bit (free_bit_of t)) m ∙ does (word k es (bits (free_word_of t))) (λ n. ne (same_bit k q t is_q table e n)))
       (λ far. bit_stays a may (λ e. far (let z : bits (free_word_of q) ≡ bits (free_word_of t) = sym is ∙ e in cc)))
 

@@ -5,7 +5,7 @@ use lib.ListN.{get_elem?}
 use Rattle.ft_trace.specs.declared.Shape.{Shape}
 use Rattle.ft_trace.specs.declared.View.{View}
 use Rattle.ft_trace.specs.declared.Act.{Act}
-use Rattle.ft_trace.specs.Addrs.{IsTable, containers_in}
+use Rattle.ft_trace.specs.Addresses.{IsTable, containers_in}
 use Rattle.ft_trace.specs.Acts.{reads}
 use Rattle.ft_trace.specs.Ages.{age, seen}
 use Rattle.ft_trace.specs.Traces.{Event, did, forked, joined, run, history, May, Valid}

@@ -10,7 +10,7 @@ use Rattle.ft_trace.specs.declared.View.{View}
 use Rattle.ft_trace.specs.declared.Act.{Act}
 use Rattle.ft_trace.specs.declared.Act.TheVariants.{TakeTable, GiveTable, PutRoot, Retire, ReadAnnounced, ReadRoot, Announce}
 use Rattle.ft_trace.specs.Bits.{bit}
-use Rattle.ft_trace.specs.Addrs.{write_number, announced_of, bits, IsTable, free_word_of, free_bit_of}
+use Rattle.ft_trace.specs.Addresses.{write_number, announced_of, bits, IsTable, free_word_of, free_bit_of}
 use Rattle.ft_trace.specs.Acts.{stage, stage_next, goal, goal_next, announces, reads, reads_next, clear, clear_next, starter, noted, maker, made, both, spent}
 use Rattle.ft_trace.specs.Ages.{aged, age, all_acts}
 use Rattle.ft_trace.specs.Traces.{Event, did, forked, joined, run, word, Valid}

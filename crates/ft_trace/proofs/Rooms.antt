@@ -1,5 +1,5 @@
 -- No word wraps.
-use Rattle.ft_trace.specs.Addrs.{containers_in}
+use Rattle.ft_trace.specs.Addresses.{containers_in}
 use Rattle.std.proofs.Common.{◌≡◌, ◌≢◌, ℕ, eqb, ◌+◌, ◌*◌, ◌%◌, ◌<◌, ◌≤◌, Bool, true, false, true≢false, cond, List, [], ◌∷◌, length, refl, sym, ap, ◌∙◌, arith}
 use mathlib.Core.Option.{some}
 use mathlib.Core.Logic.{dite}
@@ -16,7 +16,7 @@ use Rattle.ft_trace.specs.Acts.{has_lock, is_writing, is_writing_next, has_commi
 use Rattle.ft_trace.specs.Traces.{Event, did, forked, joined, run, writes_of, history, Valid}
 use Rattle.ft_trace.proofs.Sizes.{set_at, set_views, one_more, one_view}
 use Rattle.ft_trace.proofs.Cases.{hit, off}
-use Rattle.ft_trace.proofs.Addrs.{version_first}
+use Rattle.ft_trace.proofs.Addresses.{version_first}
 use Rattle.ft_trace.proofs.Words.{moves}
 use Rattle.ft_trace.proofs.Locks.{one_holder}
 use Rattle.ft_trace.proofs.Versions.{version, versioned, writer_has, one_up, on_seq}

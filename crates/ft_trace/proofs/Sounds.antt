@@ -9,7 +9,7 @@ use Rattle.ft_trace.specs.declared.Shape.{Shape}
 use Rattle.ft_trace.specs.declared.View.{View}
 use Rattle.ft_trace.specs.declared.Act.{Act}
 use Rattle.ft_trace.specs.declared.Act.TheVariants.{PutRoot, PutTable, PutFresh, Commit, ReadTable}
-use Rattle.ft_trace.specs.Addrs.{containers_in, cell, class_of, size, IsTable, at}
+use Rattle.ft_trace.specs.Addresses.{containers_in, cell, class_of, size, IsTable, at}
 use Rattle.ft_trace.specs.Acts.{place}
 use Rattle.ft_model.specs.declared.content.Content.{Content}
 use Rattle.ft_trace.specs.Worlds.{Kept, kept, kind_in, changes}
@@ -17,7 +17,7 @@ use Rattle.ft_trace.specs.Kinds.{SoundAs, LaterAs}
 use Rattle.ft_trace.specs.Ages.{age, whose}
 use Rattle.ft_trace.specs.Traces.{Event, did, forked, joined, run, writes_of, history, CarefulFor, ClearFor, May, Valid}
 use Rattle.ft_trace.proofs.Cases.{same_or}
-use Rattle.ft_trace.proofs.Addrs.{at_low, block_first}
+use Rattle.ft_trace.proofs.Addresses.{at_low, block_first}
 use Rattle.ft_trace.proofs.Words.{wide, stays, moves, loaded}
 use Rattle.ft_trace.proofs.Pieces.{table_same, table_set, table_long}
 use Rattle.ft_trace.proofs.Places.{root, on_root, root_table, placed}

@@ -7,7 +7,7 @@ use Rattle.ft_trace.specs.declared.Shape.{Shape}
 use Rattle.ft_trace.specs.declared.View.{View}
 use Rattle.ft_trace.specs.declared.Act.{Act}
 use Rattle.ft_trace.specs.declared.Act.TheVariants.{ReadRoot, ReadTable}
-use Rattle.ft_trace.specs.Addrs.{IsTable, class_of, size, containers_in}
+use Rattle.ft_trace.specs.Addresses.{IsTable, class_of, size, containers_in}
 use Rattle.ft_trace.specs.Acts.{place, Reports, reads}
 use Rattle.ft_trace.specs.Ages.{age, whose}
 use Rattle.ft_trace.specs.Finding.{Online, Window}

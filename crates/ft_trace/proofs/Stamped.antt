@@ -11,7 +11,7 @@ use Rattle.ft_trace.specs.declared.Snap.{Snap}
 use Rattle.ft_trace.specs.declared.View.{View}
 use Rattle.ft_trace.specs.declared.Act.{Act}
 use Rattle.ft_trace.specs.declared.Act.TheVariants.{Commit, Answer, ReadCounter, ReadCount}
-use Rattle.ft_trace.specs.Addrs.{tables_in}
+use Rattle.ft_trace.specs.Addresses.{tables_in}
 use Rattle.ft_trace.specs.Acts.{noted, starter, maker, made, both, spent}
 use Rattle.ft_trace.specs.Worlds.{first_writes}
 use Rattle.ft_trace.specs.Causes.{AreOfOneCall, Loaded, FoundEmpty, least_stamp}

@@ -8,13 +8,13 @@ use Rattle.ft_trace.specs.declared.Shape.{Shape}
 use Rattle.ft_trace.specs.declared.View.{View}
 use Rattle.ft_trace.specs.declared.Act.{Act}
 use Rattle.ft_trace.specs.declared.Act.TheVariants.{StartWrite, StopWrite, Version}
-use Rattle.ft_trace.specs.Addrs.{version_of, containers_in}
+use Rattle.ft_trace.specs.Addresses.{version_of, containers_in}
 use Rattle.ft_trace.specs.Acts.{has_lock, is_writing, is_writing_next, starter, noted, maker, made, both, spent}
 use Rattle.ft_trace.specs.Traces.{Moment, Event, did, forked, joined, run, word, history, May, Valid}
 use Rattle.ft_trace.proofs.Sizes.{set_at, set_views, one_more, one_view}
 use Rattle.atomic_table.proofs.Lists.{set_else, at_longer}
 use Rattle.ft_trace.proofs.Cases.{hit, miss, same_or, off, not_true}
-use Rattle.ft_trace.proofs.Addrs.{version_first}
+use Rattle.ft_trace.proofs.Addresses.{version_first}
 use Rattle.ft_trace.proofs.Words.{stays, moves, loaded}
 use Rattle.ft_trace.proofs.Locks.{on_lock, one_holder}
 

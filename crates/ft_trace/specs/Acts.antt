@@ -8,10 +8,10 @@ use Rattle.ft_trace.specs.declared.Shape.{Shape}
 use Rattle.ft_model.specs.declared.call.Call.{Call}
 use Rattle.ft_trace.specs.declared.View.{View}
 use Rattle.ft_trace.specs.Bits.{bit, bit_on, bit_off}
-use Rattle.ft_trace.specs.Addrs.{Addr, counter, write_number, announced_of, count_of_class, bits, lock_of, version_of, block, header, cell, class_of, at, free_word_of, free_bit_of}
+use Rattle.ft_trace.specs.Addresses.{Word, counter, write_number, announced_of, count_of_class, bits, lock_of, version_of, block, header, cell, class_of, at, free_word_of, free_bit_of}
 
 -- the word of an action
-abbrev pub place : Act → Addr
+abbrev pub place : Act → Word
 place (Lock o f s) = lock_of o
 place (Unlock o) = lock_of o
 place (StartWrite o f) = version_of o

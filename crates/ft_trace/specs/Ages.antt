@@ -4,7 +4,7 @@ use Rattle.std.specs.Prelude.{ℕ, suc, ◌+◌, ◌-◌, ◌%◌, ◌==◌, Boo
 use Rattle.ft_trace.specs.declared.Act.{Act}
 use Rattle.ft_trace.specs.declared.Act.TheVariants.{TakeTable, GiveTable, PutRoot, Retire, ReadRoot}
 use Rattle.ft_trace.specs.Bits.{bit}
-use Rattle.ft_trace.specs.Addrs.{free_bit_of}
+use Rattle.ft_trace.specs.Addresses.{free_bit_of}
 use Rattle.ft_trace.specs.Acts.{reads}
 use Rattle.ft_trace.specs.Traces.{Event, did, forked, joined}
 

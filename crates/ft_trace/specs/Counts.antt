@@ -5,7 +5,7 @@ use Rattle.ft_trace.specs.declared.View.{View}
 use Rattle.ft_trace.specs.declared.Act.{Act}
 use Rattle.ft_trace.specs.declared.Act.TheVariants.{Commit}
 use Rattle.ft_trace.specs.Bits.{bit}
-use Rattle.ft_trace.specs.Addrs.{tables_in, bits, free_word_of, free_bit_of}
+use Rattle.ft_trace.specs.Addresses.{tables_in, bits, free_word_of, free_bit_of}
 use Rattle.ft_trace.specs.Acts.{flight, owes}
 use Rattle.ft_trace.specs.Traces.{Event, did, forked, joined, word}
 

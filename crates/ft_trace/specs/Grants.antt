@@ -8,7 +8,7 @@ use Rattle.ft_model.specs.declared.reply.Reply.TheVariants as reply
 use Rattle.ft_trace.specs.declared.Snap.{Snap}
 use Rattle.ft_trace.specs.declared.View.{View}
 use Rattle.ft_trace.specs.declared.Act.TheVariants.{StartWrite, PutRoot, PutBlock, Commit, StopWrite, Unlock, Retire, Announce, ReadAnnounced, GiveTable}
-use Rattle.ft_trace.specs.Addrs.{containers_in, IsTable}
+use Rattle.ft_trace.specs.Addresses.{containers_in, IsTable}
 use Rattle.ft_trace.specs.Acts.{has_lock, is_writing, used, owes, flight, stage, noted}
 use Rattle.ft_trace.specs.Words.{root_in}
 use Rattle.ft_trace.specs.Holds.{held, known}

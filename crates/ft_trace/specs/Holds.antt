@@ -3,7 +3,7 @@ use Rattle.std.specs.Prelude.{◌≡◌, ℕ, ◌<◌, true, List}
 use Rattle.ft_model.specs.declared.call.Call.{Call}
 use Rattle.ft_model.specs.Tables.{StoredWorld, after_stored}
 use Rattle.ft_trace.specs.declared.View.{View}
-use Rattle.ft_trace.specs.Addrs.{containers_in}
+use Rattle.ft_trace.specs.Addresses.{containers_in}
 use Rattle.ft_trace.specs.Acts.{has_lock, mem, past}
 use Rattle.ft_trace.specs.Worlds.{Kept, kept_at, kept}
 use Rattle.ft_trace.specs.Words.{Picture, picture, table_of}

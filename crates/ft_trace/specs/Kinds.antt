@@ -12,7 +12,7 @@ use Rattle.ft_model.specs.declared.script.Kind.TheVariants as kind
 use Rattle.ft_model.specs.Worlds.{list_of}
 use Rattle.ft_layout.specs.declared.slot.Stored.TheVariants.{Empty, Plain}
 use Rattle.ft_layout.specs.Words.{key_kind, key_payload, stored_kind, stored_payload}
-use Rattle.ft_trace.specs.Addrs.{slots, places}
+use Rattle.ft_trace.specs.Addresses.{slots, places}
 use Rattle.ft_trace.specs.Words.{walk_of, entry_at, item_at}
 use Rattle.ft_trace.specs.Carefuls.{Sound, Careful, Clear, Later}
 use Rattle.ft_trace.specs.Items.{ItemSound, ItemCareful, ItemClear, ItemLater}

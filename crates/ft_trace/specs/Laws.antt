@@ -13,6 +13,7 @@ use Rattle.ft_model.specs.Contents.{DictContent, SetContent}
 use Rattle.ft_model.specs.Classes.{IsClass}
 use Rattle.ft_model.specs.Worlds.{list_of}
 use Rattle.ft_model.specs.Tables.{stored_newest, takes_newest}
+use Rattle.ft_layout.specs.Starts.{HasWord}
 use Rattle.ft_trace.specs.declared.Act.{Act}
 use Rattle.ft_trace.specs.declared.Snap.{Snap}
 use Rattle.ft_trace.specs.Causes.{FoundEmpty, least_stamp}
@@ -22,7 +23,7 @@ use Rattle.ft_trace.specs.declared.View.{View}
 use Rattle.ft_trace.specs.Bits.{bit}
 use Rattle.ft_trace.specs.Counts.{word_bits, taking, giving, owing}
 use Rattle.ft_trace.specs.Entries.{total, is_number, AllRight, Numbered}
-use Rattle.ft_trace.specs.Addrs.{counter, write_number, announced_of, count_of_class, bits, lock_of, version_of, block, containers_in, tables_in, class_of, slots, places, IsTable, free_word_of, free_bit_of}
+use Rattle.ft_trace.specs.Addresses.{Word, Inside, at, sizes_of, part_of, counter, write_number, announced_of, count_of_class, bits, lock_of, version_of, block, containers_in, tables_in, class_of, slots, places, IsTable, free_word_of, free_bit_of}
 use Rattle.ft_trace.specs.Acts.{has_lock, is_writing, reads, stage, goal, clear, announces, owes}
 use Rattle.ft_trace.specs.Ages.{age, all_acts}
 use Rattle.ft_trace.specs.Worlds.{kept, first_writes, kind_in, reply_in}
@@ -37,6 +38,14 @@ use Rattle.ft_trace.specs.Traces.{Event, run, word, history, StandsFor, SoundFor
 -- the pass at seat j knows u
 abbrev pub HasView : Shape → List Event → ℕ → View → Type 0
 HasView k es j u = get_elem? (run k es).views j ≡ some u
+
+-- ---- words
+
+-- each word of a bank lies in its part, and two words at one address are one
+abbrev pub WordsLieApart : Type 0
+WordsLieApart =
+    (k : Shape) (x y : Word) → Inside k x → Inside k y
+    → HasWord (sizes_of k) (part_of x) (at k x) × (at k x ≡ at k y → x ≡ y)
 
 -- ---- locks and versions
 

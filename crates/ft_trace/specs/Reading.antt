@@ -6,7 +6,7 @@ use Rattle.ft_model.specs.Tables.{StoredWorld}
 use Rattle.ft_trace.specs.declared.Act.{Act}
 use Rattle.ft_trace.specs.declared.Act.TheVariants.{Version, ReadBlock, ReadRoot, ReadTable, ReadCounter}
 use Rattle.ft_trace.specs.declared.Shape.{Shape}
-use Rattle.ft_trace.specs.Addrs.{IsTable, class_of, size}
+use Rattle.ft_trace.specs.Addresses.{IsTable, class_of, size}
 use Rattle.std.specs.Prelude.{None}
 use Rattle.ft_model.specs.Worlds.{length_of}
 use Rattle.ft_trace.specs.Worlds.{Kept, kept_at, reply_in}

@@ -15,7 +15,7 @@ use Rattle.ft_trace.specs.declared.Act.TheVariants.{Lock, Unlock, StartWrite, Pu
 use Rattle.ft_trace.specs.declared.Shape.{Shape}
 use Rattle.ft_trace.specs.declared.Snap.{Snap}
 use Rattle.ft_trace.specs.declared.View.{View}
-use Rattle.ft_trace.specs.Addrs.{Addr, counter, write_number, version_of, containers_in, tables_in, class_of, size, IsTable, at, opening}
+use Rattle.ft_trace.specs.Addresses.{Word, counter, write_number, version_of, containers_in, tables_in, class_of, size, IsTable, at, opening}
 use Rattle.ft_trace.specs.Acts.{place, word_after, Reports, has_lock, is_writing, has_committed, has_emptied, stage, announces, clear, used, debt, flight, owes, noted, starter, maker, made, both, spent}
 use Rattle.ft_trace.specs.Worlds.{kept, first_writes, kind_in, changes, may_empty, reply_in}
 use Rattle.ft_trace.specs.Words.{table_of, root_of, picture, Stands}
@@ -27,7 +27,7 @@ pub record Moment : Type 0 where
   pub words : List ℕ
   pub views : List View
 
-abbrev pub word_in : Shape → Moment → Addr → ℕ
+abbrev pub word_in : Shape → Moment → Word → ℕ
 word_in k m x = slice_index m.words (at k x)
 
 -- the view with which the event begins stands in it
@@ -56,7 +56,7 @@ abbrev pub run : Shape → List Event → Moment
 run k [] = opened k
 run k (e ∷ es) = happens k e (run k es)
 
-abbrev pub word : Shape → List Event → Addr → ℕ
+abbrev pub word : Shape → List Event → Word → ℕ
 word k es x = slice_index (run k es).words (at k x)
 
 -- the writes, newest first

@@ -7,7 +7,7 @@ use Rattle.ft_hash.specs.Probes.{dict_walk, set_walk}
 use Rattle.ft_layout.specs.Tables.{hash_of}
 use Rattle.ft_layout.specs.Containers.{class_mask, StandsAs}
 use Rattle.ft_trace.specs.declared.Shape.{Shape}
-use Rattle.ft_trace.specs.Addrs.{block, cell, class_of, size, at}
+use Rattle.ft_trace.specs.Addresses.{block, cell, class_of, size, at}
 use Rattle.ft_trace.specs.Worlds.{Kept}
 
 -- n words from this one on

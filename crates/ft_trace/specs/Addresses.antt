@@ -3,24 +3,24 @@ use Rattle.std.specs.Prelude.{ℕ, zero, suc, ◌+◌, ◌-◌, ◌*◌, ◌/◌
 use Rattle.ft_model.specs.Classes.{IsClass}
 use Rattle.ft_model.specs.Classes.{dict_entries}
 use Rattle.ft_layout.specs.Sizes.{table_size}
-use Rattle.ft_layout.specs.Starts.{count_of, announced_word, free_count_word, block_start, heap_start, words_below}
+use Rattle.ft_layout.specs.Starts.{count_of, announced_word, free_count_word, block_start, heap_start, words_below, BankSizes, Part, Counter, WriteNumber, Announced, FreeCount, FreeTables, Block, Table}
 use Rattle.ft_trace.specs.declared.Shape.{Shape}
 use Rattle.ft_trace.specs.Bits.{full}
 
 -- A word of the bank: the counter; the write number; the announced number of a pass, by the number that lock words
 -- have for it; the count of a class; a free word, sixteen for each class; of a container's block the lock, the
 -- version, and words 2 to 7; of a table the goal, and the words after its header.
-pub data Addr : Type 0 where
-  counter : Addr
-  write_number : Addr
-  announced_of : ℕ → Addr
-  count_of_class : ℕ → Addr
-  bits : ℕ → Addr
-  lock_of : ℕ → Addr
-  version_of : ℕ → Addr
-  block : ℕ → ℕ → Addr
-  header : ℕ → Addr
-  cell : ℕ → ℕ → Addr
+pub data Word : Type 0 where
+  counter : Word
+  write_number : Word
+  announced_of : ℕ → Word
+  count_of_class : ℕ → Word
+  bits : ℕ → Word
+  lock_of : ℕ → Word
+  version_of : ℕ → Word
+  block : ℕ → ℕ → Word
+  header : ℕ → Word
+  cell : ℕ → ℕ → Word
 
 abbrev pub containers_in : Shape → ℕ
 containers_in k = length k.kinds
@@ -67,7 +67,7 @@ start_of k t = far k + words_below k.tables (class_of t) + number_of t * table_s
 unfoldable pub extent : Shape → ℕ
 extent k = far k + words_below k.tables 17
 
-abbrev pub at : Shape → Addr → ℕ
+abbrev pub at : Shape → Word → ℕ
 at k counter = 0
 at k write_number = 1
 at k (announced_of p) = announced_word (p - 1)
@@ -79,7 +79,7 @@ at k (block o i) = block_start o + 2 + i
 at k (header t) = start_of k t + 1
 at k (cell t i) = start_of k t + 2 + i
 
-abbrev pub Inside : Shape → Addr → Type 0
+abbrev pub Inside : Shape → Word → Type 0
 Inside k (announced_of p) = (0 < p) × (p ≤ 64)
 Inside k (count_of_class c) = IsClass c
 Inside k (bits w) = w < 224
@@ -113,3 +113,19 @@ abbrev pub opening : Shape → List ℕ
 opening k =
     0 ∷ 1 ∷ (replicate 64 0 ++ (free_counts k.tables 3 14 ++ (free_words k.tables 0 224
     ++ replicate (extent k - 304) 0)))
+
+-- the part of the bank that a word is of
+abbrev pub sizes_of : Shape → BankSizes
+sizes_of k = record { containers = containers_in k; heap = k.heap; passes = k.passes; tables = k.tables }
+
+abbrev pub part_of : Word → Part
+part_of counter = Counter
+part_of write_number = WriteNumber
+part_of (announced_of p) = Announced (p - 1)
+part_of (count_of_class c) = FreeCount c
+part_of (bits w) = FreeTables (3 + w / 16) (w % 16)
+part_of (lock_of o) = Block o
+part_of (version_of o) = Block o
+part_of (block o i) = Block o
+part_of (header t) = Table (class_of t) (number_of t)
+part_of (cell t i) = Table (class_of t) (number_of t)

@@ -7,12 +7,12 @@ use mathlib.Core.Logic.{dite}
 use native.Mathlib.Decide.{ℕ_discrete}
 use Rattle.ft_model.specs.Classes.{IsClass}
 use Rattle.ft_layout.specs.Sizes.{table_size}
-use Rattle.ft_layout.specs.Starts.{count_of, heap_size, words_below}
+use Rattle.ft_layout.specs.Starts.{count_of, heap_size, words_below, part_start, HasWord}
 use Rattle.ft_layout.proofs.Powers.{words_below-more}
 use Rattle.ft_trace.specs.declared.Shape.{Shape}
 use Rattle.ft_trace.specs.Bits.{bit}
 use Rattle.ft_trace.proofs.Bits.{bit_full}
-use Rattle.ft_trace.specs.Addrs.{Addr, counter, write_number, announced_of, count_of_class, bits, lock_of, version_of, block, header, cell, containers_in, tables_in, class_of, number_of, free_word_of, free_bit_of, slots, places, size, IsTable, far, start_of, extent, at, Inside, free_counts, least, free_word, free_words, opening}
+use Rattle.ft_trace.specs.Addresses.{Word, counter, write_number, announced_of, count_of_class, bits, lock_of, version_of, block, header, cell, containers_in, tables_in, class_of, number_of, free_word_of, free_bit_of, slots, places, size, IsTable, far, start_of, extent, at, Inside, free_counts, least, free_word, free_words, opening, sizes_of, part_of}
 
 pub up_mul : (n a b : ℕ) → a ≤ b → a * n ≤ b * n
 up_mul n zero b low = omega arith
@@ -113,7 +113,7 @@ start_apart k t q is it a b =
     (λ no2. dite (dec_lt (number_of q) (number_of t)) (λ less. let h = beside k q t (sym same) less in absurd (omega arith))
     (λ no3. same_table t q same (omega arith)))))
 
-pub at_low : (k : Shape) (x : Addr) → Inside k x → at k x < extent k
+pub at_low : (k : Shape) (x : Word) → Inside k x → at k x < extent k
 at_low k (announced_of p) in_it = let e = far_up k in let f = far_low k in let l = in_it.0 in let m = in_it.1 in omega (arith, e, f)
 at_low k (count_of_class c) in_it = let e = far_up k in let f = far_low k in let l = in_it.least in let m = in_it.greatest in omega (arith, e, f)
 at_low k (bits c) in_it = let e = far_up k in let f = far_low k in omega (arith, e, f)
@@ -126,7 +126,7 @@ at_low k counter in_it = let e = far_up k in let f = far_low k in omega (arith, 
 at_low k write_number in_it = let e = far_up k in let f = far_low k in omega (arith, e, f)
 
 -- one word has one address
-pub at_apart : (k : Shape) (x y : Addr) → Inside k x → Inside k y → at k x ≡ at k y → x ≡ y
+pub at_apart : (k : Shape) (x y : Word) → Inside k x → Inside k y → at k x ≡ at k y → x ≡ y
 at_apart k counter counter a b e = refl
 at_apart k counter (header t) a b e = let l = start_low k t in absurd (omega arith)
 at_apart k counter (cell t i) a b e = let l = start_low k t in absurd (omega arith)
@@ -375,3 +375,20 @@ block_first k o i low small = low_first k (at k (block o i)) (omega arith) (omeg
 
 pub cell_first : (k : Shape) (t i : ℕ) → IsTable k t → i < size (class_of t) → slice_index (opening k) (at k (cell t i)) ≡ 0
 cell_first k t i table small = rest_first k (at k (cell t i)) (let l = start_low k t in omega (arith, l)) (at_low k (cell t i) (table, small))
+
+start_part : (k : Shape) (t : ℕ) → start_of k t ≡ part_start (sizes_of k) (part_of (header t))
+unfolding far start_of
+start_part k t = refl
+
+-- each word lies in its part of the bank
+pub in_part : (k : Shape) (x : Word) → Inside k x → HasWord (sizes_of k) (part_of x) (at k x)
+in_part k counter in_it = record { is_part = tt; from = omega arith; before = omega arith }
+in_part k write_number in_it = record { is_part = tt; from = omega arith; before = omega arith }
+in_part k (announced_of p) in_it = let l = in_it.0 in let m = in_it.1 in record { is_part = omega (arith, l, m); from = omega arith; before = omega arith }
+in_part k (count_of_class c) in_it = record { is_part = in_it; from = omega arith; before = omega arith }
+in_part k (bits w) in_it = record { is_part = (record { least = omega arith; greatest = omega (arith, in_it) }, omega arith); from = omega arith; before = omega arith }
+in_part k (lock_of o) in_it = record { is_part = in_it; from = omega arith; before = omega arith }
+in_part k (version_of o) in_it = record { is_part = in_it; from = omega arith; before = omega arith }
+in_part k (block o i) in_it = let l = in_it.1 in record { is_part = in_it.0; from = omega arith; before = omega (arith, l) }
+in_part k (header t) in_it = let s = start_part k t in let z = table_size_is (class_of t) in record { is_part = (in_it.0, in_it.1); from = omega (arith, s); before = omega (arith, s, z) }
+in_part k (cell t i) in_it = let s = start_part k t in let z = table_size_is (class_of t) in let l = in_it.1 in record { is_part = (in_it.0.0, in_it.0.1); from = omega (arith, s); before = omega (arith, s, z, l) }

@@ -115,17 +115,17 @@ AreFew script entries = (thread : ℕ) → length (entries_of thread entries) �
 few_next : (script : ScriptParts) (entries : List Entry) (place : ℕ) (entry : Entry) → slice_get entries place ≡ Some entry → IsNext script entries place entry → AreFew script (take place entries) → AreFew script (take (place + 1) entries)
 few_next script entries place entry at next few =
     λ thread.
-        let before = few thread in
-        let mine = filter_next entries place entry at (λ (e : Entry). e.thread == thread) in
-        elim (eqb_tells entry.thread thread) [
-          | inl same ↦
-              let there : length (entries_of thread (take place entries)) < length (calls_of script thread) = subst (λ t. length (entries_of t (take place entries)) < length (calls_of script t)) same.1 (slice_get_within (calls_of script entry.thread) _ entry.call next.call) in
-              let more : length (entries_of thread (take (place + 1) entries)) ≡ length (entries_of thread (take place entries)) + 1 = ap length (mine ∙ ap (λ b. entries_of thread (take place entries) ++ cond b (entry ∷ []) []) same.0) ∙ length-append (entries_of thread (take place entries)) (entry ∷ []) in
-              omega arith
-          | inr differ ↦
-              let still : length (entries_of thread (take (place + 1) entries)) ≡ length (entries_of thread (take place entries)) + 0 = ap length (mine ∙ ap (λ b. entries_of thread (take place entries) ++ cond b (entry ∷ []) []) differ.0) ∙ length-append (entries_of thread (take place entries)) [] in
-              omega arith
-        ]
+    let before = few thread in
+    let mine = filter_next entries place entry at (λ (e : Entry). e.thread == thread) in
+    elim (eqb_tells entry.thread thread) [
+      | inl same ↦
+          let there : length (entries_of thread (take place entries)) < length (calls_of script thread) = subst (λ t. length (entries_of t (take place entries)) < length (calls_of script t)) same.1 (slice_get_within (calls_of script entry.thread) _ entry.call next.call) in
+          let more : length (entries_of thread (take (place + 1) entries)) ≡ length (entries_of thread (take place entries)) + 1 = ap length (mine ∙ ap (λ b. entries_of thread (take place entries) ++ cond b (entry ∷ []) []) same.0) ∙ length-append (entries_of thread (take place entries)) (entry ∷ []) in
+          omega arith
+      | inr differ ↦
+          let still : length (entries_of thread (take (place + 1) entries)) ≡ length (entries_of thread (take place entries)) + 0 = ap length (mine ∙ ap (λ b. entries_of thread (take place entries) ++ cond b (entry ∷ []) []) differ.0) ∙ length-append (entries_of thread (take place entries)) [] in
+          omega arith
+    ]
 
 few_before : (storage : Storage) (script : ScriptParts) (entries : List Entry) (place : ℕ) → IsUnbrokenBefore storage script entries place → (n : ℕ) → n ≤ length entries → n ≤ place → AreFew script (take n entries)
 few_before storage script entries place unbroken =

@@ -13,7 +13,7 @@ use Rattle.ft_model.specs.Scripts.{IsScript}
 use Rattle.ft_model.specs.Histories.{calls_of}
 use Rattle.ft_turns.specs.Orders.{ThreadState, take_locks, thread_at, next_call, without_locks, sections_after, with_taken}
 use Rattle.ft_turns.specs.Chronicling.{IsAnswerable}
-use Rattle.ft_turns.specs.Answering.{Tally, no_tally, noted_after, tally_after, Progress, start_progress, answered_turn}
+use Rattle.ft_turns.specs.Answering.{Tally, hands_in, no_tally, noted_after, tally_after, Progress, start_progress, answered_turn}
 use Rattle.ft_turns.proofs.ProgressWords.{tally_of}
 use Rattle.ft_turns.proofs.MachineSteps.{there}
 use Rattle.ft_turns.proofs.Owned.{by_thread}
@@ -21,6 +21,7 @@ use Rattle.ft_turns.proofs.AnsweringSteps.{IsKeptByAnswers, answered_turns_keep}
 use Rattle.ft_turns.proofs.Going.{IsGoing, CallsOf, thread_low, going_waits, going_answers, going_finishes, going_start, tally_at_start}
 use Rattle.ft_turns.proofs.Chronicled.{calls_of_script}
 use Rattle.ft_turns.proofs.Askable.{made_of_script, next_declared}
+use Rattle.ft_turns.proofs.Rooms.{room_now}
 
 -- a tally counts no more than the calls that have finished
 abbrev pub AreCounted : Progress → Type 0
@@ -95,4 +96,5 @@ answerable script rule turns thread called next =
       few = omega (arith, both.1 thread, left, few);
       index = omega (arith, left, few);
       declared = λ unfixed asks. next_declared script calls_ok (made_of_script script rule) progress thread called next unfixed both.0 asks;
+      room = λ unfixed asks. room_now script rule calls_ok turns (hands_in progress.answers thread) called (next_declared script calls_ok (made_of_script script rule) progress thread called next unfixed both.0 asks);
     }

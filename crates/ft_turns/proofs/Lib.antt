@@ -37,3 +37,4 @@ pub mod Wanting
 pub mod WriteCounts
 pub mod Running
 pub mod OrderRuns
+pub mod Rooms

@@ -159,6 +159,7 @@ run_asks script rule turns after answers one running is =
             few = can.few;
             place = omega (arith, can.index);
             declared = λ answered asks. can.declared (answered_unfixed script machine thread called low next answered) asks;
+            room = λ answered asks. can.room (answered_unfixed script machine thread called low next answered) asks;
           } in
           record {
             within = slice_get_within (calls_of script thread) (length state.marks) called next;

@@ -6,7 +6,7 @@ use Rattle.ft_model.specs.declared.entry.Entry.{Entry}
 use Rattle.ft_model.specs.declared.entry.Storage.TheVariants as storage
 use Rattle.ft_model.specs.declared.script.ScriptParts.{ScriptParts}
 use Rattle.ft_model.specs.Histories.{writes, world_at, calls_of, IsChronicle}
-use Rattle.ft_model.specs.Worlds.{IsDeclared}
+use Rattle.ft_model.specs.Worlds.{IsDeclared, HasRoom}
 use Rattle.ft_model.specs.Parts.{IsEntryOf, IsWorldOf}
 use Rattle.ft_turns.specs.Answering.{asks_container, hands_in, tally_in, Progress, next_index}
 use Rattle.ft_turns.specs.Orders.{thread_at, last_machine, order_of, ordered_entry}
@@ -23,10 +23,11 @@ pub record IsChronicleOfTurns (script : ScriptParts) (entries : List Entry) (wor
   pub world_is : world ≡ world_at script entries (length (writes entries))
   pub world_of : IsWorldOf script world
 
--- what answering the next call of a thread asks for: the thread has its hands and its tally, which counts no more than the calls of a script, and a container is asked for what is declared, and with a cursor that was made
+-- what answering the next call of a thread asks for: the thread has its hands and its tally, which counts no more than the calls of a script, and a container is asked for what is declared, with a cursor that was made, and has serials left
 pub record IsAnswerable (progress : Progress) (thread : ℕ) (called : Call) : Type 0 where
   pub hands : thread < length progress.answers.hands
   pub tally : thread < length progress.answers.tallies
   pub few : (tally_in progress.answers thread).count < 2 ^ 32 - 1
   pub index : next_index progress.machine thread ≤ 500000
   pub declared : (thread_at progress.machine thread).fixed ≡ false → asks_container called ≡ true → IsDeclared progress.answers.world (hands_in progress.answers thread) called
+  pub room : (thread_at progress.machine thread).fixed ≡ false → asks_container called ≡ true → HasRoom progress.answers.world called

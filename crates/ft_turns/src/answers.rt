@@ -1,12 +1,12 @@
 //! What the calls of a script's threads answer, one after the other, and what they leave.
 ghost use Rattle.std.specs.Prelude.{◌≡◌, ◌^◌, ◌-◌, ◌<◌, true, is_some, length, slice_set, IfOk, OnOk};
-ghost use Rattle.ft_model.specs.Worlds.{IsDeclared};
+ghost use Rattle.ft_model.specs.Worlds.{IsDeclared, HasRoom};
 ghost use Rattle.ft_model.specs.Answers.{answer};
 ghost use Rattle.ft_turns.specs.Answering.{asks_container, ended_reply, waited_inside, tally_after, start_answers, hands_in, tally_in, reply_now, with_answer, with_mark};
 ghost use Rattle.ft_turns.specs.Runs.{call_followed, IsAsked};
 
 use crate::machine::Turned;
-use ft_model::{Call, Entry, Hands, Reply, ScriptParts, World, apply, has_room};
+use ft_model::{Call, Entry, Hands, Reply, ScriptParts, World, apply};
 use std::alloc::{AllocError, Global};
 use std::collections::VecDeque;
 use std::marker::Model;
@@ -147,6 +147,7 @@ impl Answers {
         requires hands { thread < length self.old.hands }
         requires tally { thread < length self.old.tallies }
         requires declared { asks_container call.now ≡ true → IsDeclared self.old.world (hands_in self.old thread) call.now }
+        requires room { asks_container call.now ≡ true → HasRoom self.old.world call.now }
         ensures { OnOk result (self.new ≡ with_answer self.old thread index call.now) }
     {
         let reply = self.reply(alloc, thread, call)?;
@@ -171,6 +172,7 @@ impl Answers {
         requires hands { thread < length self.old.hands }
         requires tally { thread < length self.old.tallies }
         requires declared { asks_container call.now ≡ true → IsDeclared self.old.world (hands_in self.old thread) call.now }
+        requires room { asks_container call.now ≡ true → HasRoom self.old.world call.now }
         ensures reply { IfOk result (λ reply. reply ≡ reply_now self.old thread call.now) }
         ensures world { OnOk result (self.new.world ≡ (answer self.old.world (hands_in self.old thread) call.now).world) }
         ensures hands { OnOk result (self.new.hands ≡ slice_set self.old.hands thread (answer self.old.world (hands_in self.old thread) call.now).hands) }
@@ -181,8 +183,6 @@ impl Answers {
             Call::Begin { .. } => Ok(Reply::Entered),
             Call::End => Ok(ended(self.tallies[thread as usize].inside())),
             Call::Quiesce => Ok(Reply::Done),
-            // Serials run out only after more additions than a memory has room for.
-            _ if !has_room(&self.world, call) => Err(AllocError),
             _ => apply(
                 alloc,
                 &mut self.world,

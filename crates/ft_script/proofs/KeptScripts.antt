@@ -1,7 +1,7 @@
 -- The lines of a text make a draft that becomes a script.
-use Rattle.std.proofs.Common.{◌≡◌, ◌⊎◌, ℕ, ◌+◌, ◌%◌, ◌<◌, ◌≤◌, true, false, eqb, List, [], ◌∷◌, length, Option, Some, None, Result, Ok, Err, refl, sym, ◌∙◌, subst, inl, inr, arith, zip, map, replicate, suc, ap}
+use Rattle.std.proofs.Common.{◌≡◌, ◌⊎◌, ℕ, ◌+◌, ◌%◌, ◌<◌, ◌≤◌, true, false, eqb, List, [], ◌∷◌, length, Option, Some, None, Result, Ok, Err, refl, sym, ◌∙◌, subst, inl, inr, arith, zip, map, replicate, suc, ap, cond}
 use Rattle.std.specs.Prelude.{IfSome, IfOk, All, min}
-use Rattle.std.specs.Option.{unwrap_or}
+use Rattle.std.specs.Option.{unwrap_or, is_some}
 use Rattle.std.specs.Str.{IsUtf8}
 use Rattle.std.proofs.lemmas.List.{length-map}
 use Rattle.std.proofs.lemmas.List.Elements.{All-map, All-nil, All-replicate, All-weaker, All-append, All-cons}
@@ -13,14 +13,18 @@ use Rattle.ft_script.specs.declared.draft.Draft.{Draft}
 use Rattle.ft_script.specs.declared.fault.Fault.{Fault}
 use Rattle.ft_script.specs.declared.fault.ScriptFault.{ScriptFault}
 use Rattle.ft_script.specs.Lines.{ends_thread, is_comment, lines_of, words_of}
-use Rattle.ft_script.specs.Drafts.{empty_draft, end_thread, or_fault, script_of}
+use Rattle.ft_script.specs.Drafts.{empty_draft, end_thread, or_fault, script_of, HasFewThreads, Leaves}
 use Rattle.ft_script.specs.Reading.{open_line, read_line, words_line}
 use Rattle.ft_script.specs.Scripts.{line_after, read_lines, reported_at}
 use Rattle.ft_script.proofs.Encoded.{AreEncoded, BeginsNoThread, begins_no_thread, line_good, lines_encoded}
 use Rattle.ft_script.proofs.Kept.{AreGoodWords, IsTable, bind_holds, cond_holds, or_holds, some_holds}
-use Rattle.ft_script.proofs.KeptDrafts.{IsDraft, calls_in, end_thread_keeps, no_names, none_made}
+use Rattle.ft_script.proofs.KeptDrafts.{IsDraft, calls_in, end_thread_keeps, no_names, none_made, IsNew}
 use Rattle.ft_script.proofs.KeptStatements.{statement_keeps}
 use Rattle.std.proofs.lemmas.Slice.Zip.{length-zip}
+use Rattle.ft_script.specs.Faults.{reported}
+use Rattle.ft_model.specs.declared.script.Thread.{Thread}
+use Rattle.ft_script.specs.declared.fault.LineError.{LineError}
+use Rattle.ft_script.specs.declared.fault.LineError.TheVariants as error
 
 -- ---- lines
 
@@ -50,9 +54,22 @@ open_line_keeps d line h encoded =
     (λ _. bind_holds (end_thread d) _ (λ e. IsDraft e × (e.name ≡ None)) IsDraft (both_hold (end_thread d) IsDraft (λ e. e.name ≡ None) (end_thread_keeps d h) (end_thread_names d)) (λ ended g. words_line_keeps ended line g.0 encoded (inl g.1)))
     (λ going. words_line_keeps d line h encoded (inr going))
 
-read_line_keeps : (d : Draft) (line : List ℕ) → IsDraft d → IsUtf8 line → IfOk (read_line d line) IsDraft
+pub read_line_keeps : (d : Draft) (line : List ℕ) → IsDraft d → IsUtf8 line → IfOk (read_line d line) IsDraft
 unfolding read_line
 read_line_keeps d line h encoded = cond_holds (is_comment line) _ _ IsDraft (λ _. h) (λ _. open_line_keeps d line h encoded)
+
+-- a draft has no more threads than a script
+few_names : (threads : List Thread) (name : Option (List ℕ)) → length threads ≤ 64 → IfSome name (IsNew threads) → length threads + cond (is_some name) 1 0 ≤ 64
+few_names threads None few new = omega arith
+few_names threads (Some name) few new = let room : length threads < 64 = new.room in omega arith
+
+pub has_few_threads : (d : Draft) → IsDraft d → HasFewThreads d
+has_few_threads d h = few_names d.threads d.name h.few_threads h.named
+
+pub kept_on : (read : Result (Unit {0}) LineError) (number : ℕ) (d next : Draft) (line : List ℕ) (done : Unit {0}) → reported read number ≡ Ok done → Leaves read next (read_line d line) → IsDraft d → IsUtf8 line → IsDraft next
+kept_on (Ok x) number d next line done is leaves h encoded = subst (λ (r : Result Draft Fault). IfOk r IsDraft) leaves (read_line_keeps d line h encoded)
+kept_on (Err error.Memory) number d next line done is leaves h encoded = absurd cc
+kept_on (Err (error.Fault found)) number d next line done is leaves h encoded = absurd cc
 
 reported_holds : {A : Type 0} (number : ℕ) (r : Result A Fault) (P : A → Type 0) → IfOk r P → IfOk (reported_at number r) P
 reported_holds number (Ok x) P h = h
@@ -73,7 +90,7 @@ read_lines_keep (line ∷ lines) number d h encoded =
 no_strings_yet : IsTable []
 no_strings_yet = record { few = omega arith; strings = All-nil IsString; differ = λ i j d low high. absurd (omega arith) }
 
-empty_is_draft : IsDraft empty_draft
+pub empty_is_draft : IsDraft empty_draft
 empty_is_draft =
     record {
       few_containers = omega arith;

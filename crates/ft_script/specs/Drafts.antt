@@ -1,6 +1,6 @@
 -- What the lines above a place say, and what names and strings stand for there. (profile)
-use Rattle.std.specs.Prelude.{◌≡◌, ℕ, ◌==◌, List, [], ◌∷◌, ◌++◌, map, replicate, position, slice_get, Option, Some, None, Result, Ok, Err, if◌then◌else◌}
-use Rattle.std.specs.Option.{unwrap_or, option_map_or}
+use Rattle.std.specs.Prelude.{◌≡◌, ℕ, ◌+◌, ◌≤◌, ◌==◌, List, [], ◌∷◌, ◌++◌, map, replicate, length, position, slice_get, Option, Some, None, Result, Ok, Err, if◌then◌else◌}
+use Rattle.std.specs.Option.{is_some, unwrap_or, option_map_or}
 use Rattle.std.specs.List.{zip}
 use Rattle.std.specs.Str.{bytes_eq}
 use Rattle.ft_model.specs.Classes.{class_count}
@@ -89,6 +89,10 @@ script_of draft = record {
   heap = unwrap_or draft.heap 64;
   order = draft.order;
 }
+
+-- there are no more threads than a script may have, the one whose calls stand here counted
+abbrev pub HasFewThreads : Draft → Type 0
+HasFewThreads draft = length draft.threads + (if is_some draft.name then 1 else 0) ≤ 64
 
 -- the calls of a thread end, if one's calls stand here: each `begin` has its `end`
 unfoldable pub end_thread : Draft → Result Draft Fault

@@ -15,14 +15,6 @@ use std::alloc::Global;
 /// The most bytes that a string may have.
 const STRING_BYTES_LIMIT: usize = 255;
 
-/// A place as a number of 32 bits, which each place has, since there are few: the other answer
-/// doesn't come.
-pub(crate) fn number_of(place: usize) -> Result<u32, LineError>
-    ensures { Gives (λ number. number) result (Ok place) }
-{
-    u32::try_from(place).map_err(|_| LineError::Memory)
-}
-
 /// The integer that a word is.
 #[tactic(auto, unfolding(crate::specs::Arguments::index_of))]
 pub(crate) fn index_of(word: &[u8]) -> Result<i64, Fault>

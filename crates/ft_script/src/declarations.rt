@@ -1,10 +1,10 @@
 //! The containers that a script declares, and the cursors that a thread makes. There are never more
 //! than a script may have, so the place of each fits 32 bits, and looking a name up fails for no
 //! want of room.
-ghost use Rattle.ft_script.specs.Drafts.{container_place, text_place};
+ghost use Rattle.ft_script.specs.Drafts.{container_place, text_place, thread_place};
 ghost use Rattle.std.specs.Prelude.{◌≡◌, ◌<◌, ◌≤◌, [], ◌∷◌, ◌++◌, length, IfSome, OnOk};
 
-use ft_model::{Declaration, Sequence, Text};
+use ft_model::{Declaration, Sequence, Text, Thread};
 use std::alloc::{AllocError, Global};
 use std::marker::Model;
 
@@ -60,18 +60,7 @@ impl Declarations {
     pub(crate) fn place_of(&self, name: &[u8]) -> Option<u32>
         ensures { result ≡ container_place self.now name.now }
     {
-        let place = self.find(name)?;
-        Some(place as u32)
-    }
-
-    fn find(&self, name: &[u8]) -> Option<usize>
-        ensures place { result ≡ container_place self.now name.now }
-        ensures small { IfSome result (λ place. place < 256) }
-    {
-        let containers = self.containers.as_slice();
-        containers
-            .iter()
-            .position(|container| container.name.as_slice() == name)
+        container_place(self.containers.as_slice(), name)
     }
 
     /// Adds a container, which has the next place.
@@ -90,6 +79,42 @@ impl Declarations {
         let Declarations { containers } = self;
         containers
     }
+}
+
+/// The place of the container of that name, if there is one.
+pub(crate) fn container_place(containers: &[Declaration], name: &[u8]) -> Option<u32>
+    requires { length containers.now ≤ 256 }
+    ensures { result ≡ container_place containers.now name.now }
+{
+    let place = container_index(containers, name)?;
+    Some(place as u32)
+}
+
+fn container_index(containers: &[Declaration], name: &[u8]) -> Option<usize>
+    ensures place { result ≡ container_place containers.now name.now }
+    ensures within { IfSome result (λ place. place < length containers.now) }
+{
+    containers
+        .iter()
+        .position(|container| container.name.as_slice() == name)
+}
+
+/// The place of the thread of that name, if there is one.
+pub(crate) fn thread_place(threads: &[Thread], name: &[u8]) -> Option<u32>
+    requires { length threads.now ≤ 64 }
+    ensures { result ≡ thread_place threads.now name.now }
+{
+    let place = thread_index(threads, name)?;
+    Some(place as u32)
+}
+
+fn thread_index(threads: &[Thread], name: &[u8]) -> Option<usize>
+    ensures place { result ≡ thread_place threads.now name.now }
+    ensures within { IfSome result (λ place. place < length threads.now) }
+{
+    threads
+        .iter()
+        .position(|thread| thread.name.as_slice() == name)
 }
 
 /// The names of at most 256 cursors of a thread, in the order in which they are first made.

@@ -1,9 +1,9 @@
 //! What the lines above a place say.
-ghost use Rattle.ft_script.specs.Drafts.{Leaves, thread_place, empty_draft, script_of, end_thread};
+ghost use Rattle.ft_script.specs.Drafts.{HasFewThreads, Leaves, empty_draft, script_of, end_thread};
 ghost use Rattle.ft_model.specs.Scripts.{default_tables};
 ghost use Rattle.std.specs.List.{zip};
 ghost use Rattle.std.specs.Option.{unwrap_or};
-ghost use Rattle.std.specs.Prelude.{◌≡◌, IfOk, map};
+ghost use Rattle.std.specs.Prelude.{◌≡◌, ◌≤◌, IfOk, OnOk, length, map};
 
 use crate::declarations::{CursorNames, Declarations};
 use crate::fault::{Fault, LineError};
@@ -65,20 +65,11 @@ impl Draft {
         }
     }
 
-    /// Where the thread stands among those that have ended.
-    pub(crate) fn thread_place(&self, name: &[u8]) -> Option<usize>
-        ensures { result ≡ thread_place self.now.threads name.now }
-    {
-        let threads = self.threads.as_slice();
-        threads
-            .iter()
-            .position(|thread| thread.name.as_slice() == name)
-    }
-
     /// Ends the calls of the thread, if one's calls stand here.
     #[tactic(auto, unfolding(crate::specs::Drafts::end_thread))]
     pub(crate) fn end_thread(&mut self, alloc: Global) -> Result<(), LineError>
-        ensures { Leaves result self.new (end_thread self.old) }
+        ensures read { Leaves result self.new (end_thread self.old) }
+        ensures few { OnOk result (HasFewThreads self.old → length self.new.threads ≤ 64) }
     {
         let Some(name) = self.name.take() else {
             return Ok(());

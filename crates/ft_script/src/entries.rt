@@ -2,16 +2,16 @@
 ghost use Rattle.ft_script.specs.declared.fault.Fault.TheVariants as fault;
 ghost use Rattle.ft_script.specs.Candidates.{content_of, entry_of, numbered_of, only_call, stamp_of, thread_call, thread_of, waited_of};
 ghost use Rattle.ft_model.specs.Scripts.{IsScript};
-ghost use Rattle.ft_script.specs.Drafts.{Gives, container_place, draft_at, or_fault, thread_place};
+ghost use Rattle.ft_script.specs.Drafts.{Gives, container_place, draft_at, or_fault};
 ghost use Rattle.ft_script.specs.Reading.{call_of};
 ghost use Rattle.ft_script.specs.Readers.{AddsNothing, IsReaderOf, IsUnchanged};
 ghost use Rattle.ft_script.specs.Tokens.{before_word};
 ghost use Rattle.ft_script.specs.Transcripts.{counts, counts_dict, counts_list, counts_set};
 ghost use Rattle.std.specs.List.{after_first, before_first};
-ghost use Rattle.std.specs.Prelude.{◌≡◌, ◌≢◌, ◌==◌, ◌<◌, ◌≤◌, All, AllPairs, IfOk, IfSome, OnOk, codes, drop, length, map};
+ghost use Rattle.std.specs.Prelude.{◌≡◌, ◌≢◌, ◌==◌, ◌<◌, ◌≤◌, All, AllPairs, IfOk, OnOk, codes, drop, length, map};
 
 use crate::call_words::{CallWord, call_word_of};
-use crate::declarations::{CursorNames, Declarations};
+use crate::declarations::{CursorNames, Declarations, container_place, thread_place};
 use crate::draft::Draft;
 use crate::fault::{Fault, LineError};
 use crate::replies::{reply_of, u32_of, u64_of};
@@ -111,25 +111,7 @@ fn thread_of(script: &ScriptParts, name: &[u8]) -> Result<u32, Fault>
     requires { IsScript script.now }
     ensures { result ≡ thread_of script.now name.now }
 {
-    thread_place(script, name).ok_or(Fault::Name)
-}
-
-/// Where the thread of that name stands.
-fn thread_place(script: &ScriptParts, name: &[u8]) -> Option<u32>
-    requires { IsScript script.now }
-    ensures { result ≡ thread_place script.now.threads name.now }
-{
-    let place = thread_index(script.threads.as_slice(), name)?;
-    Some(place as u32)
-}
-
-fn thread_index(threads: &[Thread], name: &[u8]) -> Option<usize>
-    ensures place { result ≡ thread_place threads.now name.now }
-    ensures within { IfSome result (λ place. place < length threads.now) }
-{
-    threads
-        .iter()
-        .position(|thread| thread.name.as_slice() == name)
+    thread_place(script.threads.as_slice(), name).ok_or(Fault::Name)
 }
 
 /// The thread and the index that a dot parts.
@@ -359,25 +341,7 @@ fn container_of(script: &ScriptParts, name: &[u8]) -> Result<u32, Fault>
     requires { IsScript script.now }
     ensures { result ≡ or_fault fault.Name (container_place script.now.containers name.now) }
 {
-    container_place(script, name).ok_or(Fault::Name)
-}
-
-/// Where the container of that name stands.
-fn container_place(script: &ScriptParts, name: &[u8]) -> Option<u32>
-    requires { IsScript script.now }
-    ensures { result ≡ container_place script.now.containers name.now }
-{
-    let place = container_index(script.containers.as_slice(), name)?;
-    Some(place as u32)
-}
-
-fn container_index(containers: &[Declaration], name: &[u8]) -> Option<usize>
-    ensures place { result ≡ container_place containers.now name.now }
-    ensures within { IfSome result (λ place. place < length containers.now) }
-{
-    containers
-        .iter()
-        .position(|container| container.name.as_slice() == name)
+    container_place(script.containers.as_slice(), name).ok_or(Fault::Name)
 }
 
 /// The cursors of each thread.

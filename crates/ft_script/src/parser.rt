@@ -47,6 +47,7 @@ fn bad_line(front: &[u8]) -> u32
 
 /// The draft after all lines.
 fn read_lines(alloc: Global, text: &[u8]) -> Result<Draft, ScriptFault>
+    requires { IsUtf8 text.now }
     ensures read { IfOk result (λ draft. read_lines 1 empty_draft (lines_of text.now) ≡ Ok draft) }
     ensures fault { IfErr result (λ fault. (fault ≡ no_memory) ⊎ (read_lines 1 empty_draft (lines_of text.now) ≡ Err fault)) }
 {

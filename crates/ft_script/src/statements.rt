@@ -1,11 +1,11 @@
 //! Reads the lines of a script.
-ghost use Rattle.ft_script.specs.Drafts.{Gives, Leaves};
+ghost use Rattle.ft_script.specs.Drafts.{Gives, HasFewThreads, Leaves};
 ghost use Rattle.ft_script.specs.Reading.{class_of, class_place, container_line, declaration, heap_line, open_line, order_line, other_statement, plain_statement, read_line, statement, tables_at, tables_line, tables_of, thread_line, thread_statement, turn, turns, unordered_statement, words_line};
-ghost use Rattle.std.specs.Prelude.{◌≡◌, ◌<◌, IfOk, IfSome, map};
+ghost use Rattle.std.specs.Prelude.{◌≡◌, ◌<◌, ◌≤◌, IfOk, IfSome, OnOk, length, map};
 
-use crate::arguments::{index_of, number_of};
+use crate::arguments::index_of;
 use crate::call_words::call_word_of;
-use crate::declarations::CONTAINER_LIMIT;
+use crate::declarations::{CONTAINER_LIMIT, thread_place};
 use crate::draft::Draft;
 use crate::fault::{Fault, LineError, Which};
 use crate::lines::{ends_thread, is_comment, words_of};
@@ -148,6 +148,7 @@ impl Draft {
     /// Reads the line of a thread.
     #[tactic(auto, unfolding(crate::specs::Reading::thread_line))]
     fn thread_line(&mut self, alloc: Global, words: &[&[u8]]) -> Result<(), LineError>
+        requires { length self.old.threads ≤ 64 }
         ensures { Leaves result self.new (thread_line self.old (map (λ word. word.now) words.now)) }
     {
         let [name] = words else {
@@ -156,7 +157,7 @@ impl Draft {
         if !is_thread_name(name) {
             return Err(Fault::Name.into());
         }
-        if self.thread_place(name).is_some() {
+        if thread_place(self.threads.as_slice(), name).is_some() {
             return Err(Fault::NameTwice.into());
         }
         if self.threads.len() >= THREAD_LIMIT {
@@ -170,22 +171,25 @@ impl Draft {
     /// Reads a name of an `order` line.
     #[tactic(auto, unfolding(crate::specs::Reading::turn))]
     fn turn(&mut self, name: &[u8]) -> Result<(), LineError>
-        ensures { Leaves result self.new (turn self.old name.now) }
+        requires { length self.old.threads ≤ 64 }
+        ensures read { Leaves result self.new (turn self.old name.now) }
+        ensures threads { OnOk result (self.new.threads ≡ self.old.threads) }
     {
         if !is_thread_name(name) {
             return Err(Fault::Name.into());
         }
-        let thread = self.thread_place(name).ok_or(Fault::OrderName)?;
+        let thread = thread_place(self.threads.as_slice(), name).ok_or(Fault::OrderName)?;
         if self.order.len() >= ORDER_LIMIT {
             return Err(Fault::Limit(Which::Order).into());
         }
-        self.order.push(number_of(thread)?)?;
+        self.order.push(thread)?;
         Ok(())
     }
 
     /// Reads an `order` line.
     #[tactic(auto, unfolding(crate::specs::Reading::order_line))]
     fn order_line(&mut self, words: &[&[u8]]) -> Result<(), LineError>
+        requires { length self.old.threads ≤ 64 }
         ensures { Leaves result self.new (order_line self.old (map (λ word. word.now) words.now)) }
     {
         if words.is_empty() {
@@ -195,6 +199,7 @@ impl Draft {
     }
 
     fn turns(&mut self, names: &[&[u8]]) -> Result<(), LineError>
+        requires { length self.old.threads ≤ 64 }
         ensures { Leaves result self.new (turns self.old (map (λ word. word.now) names.now)) }
     {
         for name in names {
@@ -206,6 +211,7 @@ impl Draft {
     /// Reads a line by its words.
     #[tactic(auto, unfolding(crate::specs::Reading::statement))]
     fn statement(&mut self, alloc: Global, words: &[&[u8]]) -> Result<(), LineError>
+        requires { length self.old.threads ≤ 64 }
         ensures { Leaves result self.new (statement self.old (map (λ word. word.now) words.now)) }
     {
         let [word, words @ ..] = words else {
@@ -226,6 +232,7 @@ impl Draft {
         word: &[u8],
         words: &[&[u8]],
     ) -> Result<(), LineError>
+        requires { length self.old.threads ≤ 64 }
         ensures { Leaves result self.new (other_statement self.old word.now (map (λ word. word.now) words.now)) }
     {
         if self.order.len() == 0 {
@@ -242,6 +249,7 @@ impl Draft {
         word: &[u8],
         words: &[&[u8]],
     ) -> Result<(), LineError>
+        requires { length self.old.threads ≤ 64 }
         ensures { Leaves result self.new (unordered_statement self.old word.now (map (λ word. word.now) words.now)) }
     {
         if word == b"thread".as_slice() {
@@ -284,6 +292,7 @@ impl Draft {
     /// Reads a line.
     #[tactic(auto, unfolding(crate::specs::Reading::read_line))]
     pub(crate) fn read_line(&mut self, alloc: Global, line: &[u8]) -> Result<(), LineError>
+        requires { HasFewThreads self.old }
         ensures { Leaves result self.new (read_line self.old line.now) }
     {
         if is_comment(line) {
@@ -295,6 +304,7 @@ impl Draft {
 
     #[tactic(auto, unfolding(crate::specs::Reading::open_line))]
     fn open_line(&mut self, alloc: Global, line: &[u8]) -> Result<(), LineError>
+        requires { HasFewThreads self.old }
         ensures { Leaves result self.new (open_line self.old line.now) }
     {
         if ends_thread(line) {
@@ -307,6 +317,7 @@ impl Draft {
 
     #[tactic(auto, unfolding(crate::specs::Reading::words_line))]
     fn words_line(&mut self, alloc: Global, line: &[u8]) -> Result<(), LineError>
+        requires { length self.old.threads ≤ 64 }
         ensures { Leaves result self.new (words_line self.old line.now) }
     {
         let words = words_of(alloc, line)?;

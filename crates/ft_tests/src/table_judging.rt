@@ -50,10 +50,10 @@ const CASES: [Case<'static>; 24] = [
         storage: Storage::Tables,
         verdict: Verdict::Legal,
     },
-    // The longest list.
+    // The longest list, after which the only table of its class is taken.
     Case {
-        script: "list l\nthread A\nappend l 1\nextend l l\nextend l l\nextend l l\nextend l l\nextend l l\nextend l l\nextend l l\nextend l l\nextend l l\nextend l l\nextend l l\nextend l l\nextend l l\nextend l l\nextend l l\nextend l l\nappend l 1\nget l 65535\n",
-        transcript: "A.1 w0 append l 1 = ok\nA.2 w1 extend l l = ok\nA.3 w2 extend l l = ok\nA.4 w3 extend l l = ok\nA.5 w4 extend l l = ok\nA.6 w5 extend l l = ok\nA.7 w6 extend l l = ok\nA.8 w7 extend l l = ok\nA.9 w8 extend l l = ok\nA.10 w9 extend l l = ok\nA.11 w10 extend l l = ok\nA.12 w11 extend l l = ok\nA.13 w12 extend l l = ok\nA.14 w13 extend l l = ok\nA.15 w14 extend l l = ok\nA.16 w15 extend l l = ok\nA.17 w16 extend l l = ok\nA.18 r17 append l 1 = MemoryError over\nA.19 r17 get l 65535 = 1\n",
+        script: "list l\nlist m\nthread A\nappend l 1\nextend l l\nextend l l\nextend l l\nextend l l\nextend l l\nextend l l\nextend l l\nextend l l\nextend l l\nextend l l\nextend l l\nextend l l\nextend l l\nextend l l\nextend l l\nextend l l\nappend l 1\nget l 65535\nextend m l\n",
+        transcript: "A.1 w0 append l 1 = ok\nA.2 w1 extend l l = ok\nA.3 w2 extend l l = ok\nA.4 w3 extend l l = ok\nA.5 w4 extend l l = ok\nA.6 w5 extend l l = ok\nA.7 w6 extend l l = ok\nA.8 w7 extend l l = ok\nA.9 w8 extend l l = ok\nA.10 w9 extend l l = ok\nA.11 w10 extend l l = ok\nA.12 w11 extend l l = ok\nA.13 w12 extend l l = ok\nA.14 w13 extend l l = ok\nA.15 w14 extend l l = ok\nA.16 w15 extend l l = ok\nA.17 w16 extend l l = ok\nA.18 r17 append l 1 = MemoryError over\nA.19 r17 get l 65535 = 1\nA.20 r17 extend m l = MemoryError 16\n",
         storage: Storage::Tables,
         verdict: Verdict::Legal,
     },

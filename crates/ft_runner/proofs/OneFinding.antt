@@ -14,7 +14,7 @@ use Rattle.ft_script.specs.declared.fault.Which.{Which}
 use Rattle.ft_script.specs.Scripts.{read_script}
 use Rattle.ft_script.specs.Transcripts.{IsFirstBad, IsTranscript}
 use Rattle.ft_script.proofs.TranscriptLaws.{not_bad, one_of_two}
-use Rattle.ft_turns.proofs.Reported.{slice_get-take}
+use Rattle.ft_turns.proofs.EntriesHaveRightReplies.{slice_get-take}
 use Rattle.ft_runner.specs.Findings.{IsBadAt, IsFirstDifference, IsFound, IsInput, IsParted, IsVerdictOn}
 use Rattle.ft_runner.specs.Reports.{IsScriptFault}
 use Rattle.ft_runner.proofs.SeparatorLemmas.{no_separator, one_separator, one_script}

@@ -25,7 +25,7 @@ use Rattle.ft_runner.specs.Checking.{IsReadToItsEnd, IsScriptPart, IsWithin, Sto
 use Rattle.ft_runner.specs.Commands.{is_check}
 use Rattle.ft_runner.specs.Findings.{broken_line, legal_line, IsFound}
 use Rattle.ft_runner.specs.Streams.{Stream, Gives, Receives, IsPart, Puts, Reported, StopsReading, IsWholeInput, is_read, is_too_long, stops_reading}
-use Rattle.ft_runner.specs.Reports.{is_usage, has_ended, comes_of_text, refusal_of, IsAsked, IsHistoryOf, IsRunOf, IsDone, IsRefused, Limits, LimitsRun, Means, MeansChecked, MeansRun, PutsFor, TellsVerdict}
+use Rattle.ft_runner.specs.Reports.{error_line, has_line, is_usage, has_ended, comes_of_text, refusal_of, IsAsked, IsHistoryOf, IsRunOf, IsDone, IsRefused, Limits, LimitsRun, Means, MeansChecked, MeansRun, PutsFor, TellsVerdict}
 use Rattle.ft_runner.proofs.StreamLemmas.{Gives-none, Receives-none}
 
 -- ---- what was put
@@ -34,9 +34,21 @@ pub reported : (a b : Stream) (text : List ℕ) (r : Result (Unit {0}) Failed) �
 reported a b text (Ok u) p = inl p
 reported a b text (Err e) p = inr p
 
+-- a fault that has no line puts nothing
+pub no_line : (f : Fault) (limit : Option Which) (errors : Stream) → has_line f ≡ false → Reported errors (error_line f limit) errors
+no_line fault.Clean limit errors none = inl (Receives-none errors)
+no_line (fault.NotLegal place rule) limit errors none = inl (Receives-none errors)
+no_line (fault.Script line kind) limit errors none = absurd (true≢false none)
+no_line fault.Usage limit errors none = absurd (true≢false none)
+no_line fault.Read limit errors none = absurd (true≢false none)
+no_line fault.Write limit errors none = absurd (true≢false none)
+no_line fault.Memory limit errors none = absurd (true≢false none)
+no_line fault.TooLong limit errors none = absurd (true≢false none)
+no_line (fault.Transcript line) limit errors none = absurd (true≢false none)
+
 -- ---- the command
 
-some_none : {X : Type 0} {x : X} → Some x ≡ None → ⊥
+pub some_none : {X : Type 0} {x : X} → Some x ≡ None → ⊥
 some_none same = true≢false (ap is_some same)
 
 -- what a command that runs a script says, and how much it takes

@@ -58,7 +58,7 @@ IsSeparatorOf-stays bytes more separator far (inl few) is = absurd (omega arith)
 IsSeparatorOf-stays bytes more None far (inr at) none = absurd (no_separator bytes at.0 none at.2)
 IsSeparatorOf-stays bytes more (Some place) far (inr at) separator = IsSeparator-stays bytes more place (omega (arith, one_separator bytes place at.0 separator at.2, at.1)) separator
 
-past_within : (bytes : List ℕ) → IsPast bytes → IsWithin bytes → ⊥
+pub past_within : (bytes : List ℕ) → IsPast bytes → IsWithin bytes → ⊥
 past_within bytes (inl long) within = omega (arith, within.few)
 past_within bytes (inr script) within =
     elim within.script_few [

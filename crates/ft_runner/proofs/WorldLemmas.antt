@@ -60,7 +60,7 @@ module _ (script : ScriptParts) where
   world_of_legal entries of legal =
       let fair : All IsFair entries = λ place d low. record {
         entry_of = of place d low;
-        changes = λ wrote. (and_parts _ _ (sym (legal.answered place (get_or entries place d) (slice_get-get_or entries place d low)).wrote ∙ wrote)).0;
+        changes = λ wrote. (and_parts _ _ (sym (legal.chronicle.answered place (get_or entries place d) (slice_get-get_or entries place d low)).wrote ∙ wrote)).0;
       } in
       let start : IsServed (start_world script.containers) = record { world_of = (going_start script).world; kinds = (going_start script).kinds } in
       subst (λ (calls : List Call). IsWorldOf script (fold after_write (start_world script.containers) calls)) (sym (take_all (length (writes entries)) (writes entries) (omega arith))) (after_all entries (start_world script.containers) fair start).world_of

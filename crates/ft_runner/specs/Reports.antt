@@ -49,6 +49,12 @@ error_line fault.TooLong limit = codes "ftpy: too long\n"
 error_line (fault.NotLegal place rule) limit = []
 error_line (fault.Transcript line) limit = codes "ftpy: transcript line " ++ decimal line ++ codes "\n"
 
+-- whether a fault has such a line
+abbrev pub has_line : Fault → Bool
+has_line fault.Clean = false
+has_line (fault.NotLegal place rule) = false
+has_line _ = true
+
 abbrev pub is_usage : Fault → Bool
 is_usage fault.Usage = true
 is_usage _ = false
@@ -203,5 +209,6 @@ pub record IsReport (words : List (List ℕ)) (source source' sink sink' errors 
   pub limit : Option Which
   pub done : IsDone (command_of words) source source' sink sink' report.fault limit report.history.items
   pub status : report.status ≡ status_of report.fault
-  -- the errors get the line of the fault
+  -- the errors get the line of the fault; where it has none, they are left alone
   pub reported : Reported errors (error_line report.fault limit) errors'
+  pub untouched : has_line report.fault ≡ false → errors' ≡ errors

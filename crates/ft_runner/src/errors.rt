@@ -1,7 +1,7 @@
 ghost use Rattle.ft_runner.specs.declared.report.Fault.TheVariants as fault;
-ghost use Rattle.std.specs.Prelude.{◌≡◌, ◌++◌, decimal};
-ghost use Rattle.ft_runner.specs.Streams.{stream, Puts};
-ghost use Rattle.ft_runner.specs.Reports.{error_line};
+ghost use Rattle.std.specs.Prelude.{◌≡◌, ◌++◌, decimal, false};
+ghost use Rattle.ft_runner.specs.Streams.{stream, Puts, Reported};
+ghost use Rattle.ft_runner.specs.Reports.{error_line, has_line};
 ghost use Rattle.ft_script.specs.Faults.{kind_text};
 
 use crate::report::Fault;
@@ -10,12 +10,19 @@ use ft_io::{Failed, Sink};
 use ft_script::{ScriptFault, Which};
 use itoa::Buffer;
 
+/// Puts the line of a fault, whole or as a prefix where the errors failed. A fault that has no line
+/// leaves the errors alone.
+pub(crate) fn tell<E: Sink>(errors: &mut E, fault: Fault, limit: Option<Which>)
+    ensures reported { Reported (stream (E.taken errors.old) (E.faults errors.old)) (error_line fault limit) (stream (E.taken errors.new) (E.faults errors.new)) }
+    ensures untouched { has_line fault ≡ false → errors.new ≡ errors.old }
+{
+    if fault.has_line() {
+        let _ = put_line(errors, fault, limit);
+    }
+}
+
 /// Puts the line of a fault, where it has one.
-pub(crate) fn tell<E: Sink>(
-    errors: &mut E,
-    fault: Fault,
-    limit: Option<Which>,
-) -> Result<(), Failed>
+fn put_line<E: Sink>(errors: &mut E, fault: Fault, limit: Option<Which>) -> Result<(), Failed>
     ensures { Puts (stream (E.taken errors.old) (E.faults errors.old)) (error_line fault limit) result (stream (E.taken errors.new) (E.faults errors.new)) }
 {
     match fault {

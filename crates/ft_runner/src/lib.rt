@@ -6,6 +6,7 @@ mod command;
 mod errors;
 mod laws;
 mod outcome;
+mod program;
 mod reading;
 mod report;
 mod separator;
@@ -15,6 +16,10 @@ mod tool;
 mod writing;
 
 pub use command::Subcommand;
-pub use laws::{scripts_are_run, transcripts_are_checked, verdicts_are_reported};
+pub use laws::{
+    reports_have_their_causes, scripts_are_refused, scripts_are_run, transcripts_are_checked,
+    verdicts_are_reported,
+};
+pub use program::run_program;
 pub use report::{Fault, Report};
 pub use tool::{Gate, NoGate, run_still, run_tool};

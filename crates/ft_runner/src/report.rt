@@ -26,7 +26,7 @@ pub enum Fault {
 
 impl Fault {
     ghost use Rattle.std.specs.Prelude.{◌≡◌};
-    ghost use Rattle.ft_runner.specs.Reports.{status_of};
+    ghost use Rattle.ft_runner.specs.Reports.{has_line, status_of};
 
     /// The status that the program ends with.
     pub fn status(self) -> u8
@@ -43,6 +43,13 @@ impl Fault {
             Fault::NotLegal(..) => 7,
             Fault::Transcript(_) => 8,
         }
+    }
+
+    /// Whether it has a line in the errors: all but `Clean` and `NotLegal` have one.
+    pub fn has_line(self) -> bool
+        ensures { result ≡ has_line self }
+    {
+        !matches!(self, Fault::Clean | Fault::NotLegal(..))
     }
 }
 

@@ -4,7 +4,7 @@ ghost use Rattle.ft_runner.specs.declared.command.Subcommand.{Subcommand};
 ghost use Rattle.std.specs.Prelude.{◌≡◌, false, Option, Some, map, string_bytes, IfErr, IfNone, IfSome};
 ghost use Rattle.ft_runner.specs.Commands.{command_of, is_check};
 ghost use Rattle.ft_runner.specs.Streams.{stream, Reported};
-ghost use Rattle.ft_runner.specs.Reports.{error_line, status_of, IsAsked, IsRunOf, IsDone, IsReport};
+ghost use Rattle.ft_runner.specs.Reports.{error_line, has_line, status_of, IsAsked, IsRunOf, IsDone, IsReport};
 
 use crate::checking::check_text;
 use crate::command::{Subcommand, read_command};
@@ -93,14 +93,15 @@ fn asked(alloc: Global, words: &[String]) -> Result<Subcommand, Fault>
     }
 }
 
-/// Puts the errors' line of what was done, and reports it.
+/// Puts the errors' line of what was done, where it has one, and reports it.
 fn report<E: Sink>(errors: &mut E, outcome: Outcome) -> Report
     ensures fault { result.fault ≡ outcome.fault }
     ensures history { result.history.items ≡ outcome.history.items }
     ensures status { result.status ≡ status_of outcome.fault }
     ensures reported { Reported (stream (E.taken errors.old) (E.faults errors.old)) (error_line outcome.fault outcome.limit) (stream (E.taken errors.new) (E.faults errors.new)) }
+    ensures untouched { has_line outcome.fault ≡ false → errors.new ≡ errors.old }
 {
-    let _ = tell(errors, outcome.fault, outcome.limit);
+    tell(errors, outcome.fault, outcome.limit);
     Report {
         status: outcome.fault.status(),
         fault: outcome.fault,

@@ -2,7 +2,7 @@
 #![tactic(auto)]
 
 use ft_io::{StdSink, StdSource};
-use ft_runner::{NoGate, run_tool};
+use ft_runner::run_program;
 use std::process::ExitCode;
 use std::rt::Env;
 use std::{env, io};
@@ -10,16 +10,14 @@ use std::{env, io};
 fn main(rt: HostRuntime) -> ExitCode {
     // Words that can't be had are no command.
     let words = command_line(&rt).unwrap_or(Vec::new(rt.alloc()));
-    let report = run_tool(
+    run_program(
         &rt,
         rt.alloc(),
         &words,
         &mut StdSource::new(rt.stdin()),
         &mut StdSink::new(rt.stdout()),
         &mut StdSink::new(rt.stderr()),
-        &NoGate,
-    );
-    ExitCode::from(report.status)
+    )
 }
 
 /// The words of the command line, with the program's name first.

@@ -1,4 +1,4 @@
-use Rattle.ft_runner.proofs.errors.tell.Goals as goal
+use Rattle.ft_runner.proofs.errors.put_line.Goals as goal
 
 pub returns-in-Usage : goal.returns-in-Usage
 returns-in-Usage g c = rw c.in-Usage.is c.put_all-in-Usage.ensures

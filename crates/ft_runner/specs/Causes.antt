@@ -1,0 +1,55 @@
+-- What is reported of a text, where the source tells it and no stream fails. (profile)
+use Rattle.std.specs.Prelude.{◌≡◌, ◌≢◌, ◌<◌, ◌≤◌, ℕ, List, length, Option, Some, Ok}
+use Rattle.ft_history.specs.declared.verdict.Verdict.TheVariants as verdict
+use Rattle.ft_io.specs.Streams.{raised}
+use Rattle.ft_model.specs.declared.script.ScriptParts.{ScriptParts}
+use Rattle.ft_script.specs.declared.fault.Which.{Which}
+use Rattle.ft_script.specs.Scripts.{read_script}
+use Rattle.ft_runner.specs.declared.command.Subcommand.{Subcommand}
+use Rattle.ft_runner.specs.declared.command.Subcommand.TheVariants as subcommand
+use Rattle.ft_runner.specs.declared.report.Fault.{Fault}
+use Rattle.ft_runner.specs.declared.report.Fault.TheVariants as fault
+use Rattle.ft_runner.specs.declared.report.Report.{Report}
+use Rattle.ft_runner.specs.Checking.{IsPast, IsWithin}
+use Rattle.ft_runner.specs.Commands.{command_of}
+use Rattle.ft_runner.specs.Findings.{IsBadAt, IsFound}
+use Rattle.ft_runner.specs.Reports.{IsFirstFault, IsReport, IsScriptFault}
+use Rattle.ft_runner.specs.Streams.{script_limit, Stream}
+
+-- the words are this command, the source has this text before the call, and no call of the source or the sink fails
+pub record IsReportOn (command : Subcommand) (text : List ℕ) (report : Report) : Type 0 where
+  pub words : List (List ℕ)
+  pub source : Stream
+  pub source' : Stream
+  pub sink : Stream
+  pub sink' : Stream
+  pub errors : Stream
+  pub errors' : Stream
+  pub is : IsReport words source source' sink sink' errors errors' report
+  pub asked : command_of words ≡ Some command
+  pub has : source.content ≡ Some text
+  pub source_stood : source'.faults ≢ raised source.faults
+  pub sink_stood : sink'.faults ≢ raised sink.faults
+
+-- what a text has where this is reported of it and it is run; memory may run out with any text
+abbrev pub IsRunCause : List ℕ → Fault → Type 0
+IsRunCause text fault.Clean = (length text ≤ script_limit) × (script : ScriptParts) × (read_script text ≡ Ok script)
+IsRunCause text (fault.Script line kind) = (length text ≤ script_limit) × (limit : Option Which) × IsFirstFault text line kind limit
+IsRunCause text fault.TooLong = script_limit < length text
+IsRunCause text fault.Memory = Unit {0}
+IsRunCause text other = ⊥
+
+-- and where it is checked
+abbrev pub IsCheckCause : List ℕ → Fault → Type 0
+IsCheckCause text fault.Clean = IsWithin text × IsFound text verdict.Legal
+IsCheckCause text (fault.NotLegal place rule) = IsWithin text × IsFound text (verdict.Not place rule)
+IsCheckCause text (fault.Transcript line) = IsWithin text × IsBadAt text line
+IsCheckCause text (fault.Script line kind) = IsWithin text × (limit : Option Which) × IsScriptFault text line kind limit
+IsCheckCause text fault.TooLong = IsPast text
+IsCheckCause text fault.Memory = Unit {0}
+IsCheckCause text other = ⊥
+
+-- what a text has where this is reported of it
+abbrev pub IsCause : Subcommand → List ℕ → Fault → Type 0
+IsCause subcommand.Check text reported = IsCheckCause text reported
+IsCause command text reported = IsRunCause text reported

@@ -1,0 +1,32 @@
+//! The program over its streams. It ends with the status of what is reported.
+ghost use Rattle.ft_runner.specs.Reports.{IsReport};
+ghost use Rattle.ft_runner.specs.Streams.{stream};
+ghost use Rattle.ft_runner.specs.declared.report.Report.{Report};
+ghost use Rattle.std.specs.Prelude.{◌≡◌, map, string_bytes};
+ghost use Rattle.std.specs.Process.{exit_status};
+
+use crate::tool::{NoGate, run_tool};
+use ft_io::{Sink, Source};
+use std::alloc::Global;
+use std::process::ExitCode;
+use std::sync::Wait;
+use std::thread::Threads;
+
+/// Does what the words of the command line ask, the program's name being the first of them, and
+/// answers the number that the program ends with: the report's status.
+pub fn run_program<R: Threads + Wait + Sync, S: Source, K: Sink, E: Sink>(
+    rt: &R,
+    alloc: Global,
+    words: &[String],
+    source: &mut S,
+    sink: &mut K,
+    errors: &mut E,
+) -> ExitCode
+    ensures { (report : Report) × (exit_status result ≡ report.status) × IsReport (map string_bytes words.now)
+        (stream (S.left source.old) (S.faults source.old)) (stream (S.left source.new) (S.faults source.new))
+        (stream (K.taken sink.old) (K.faults sink.old)) (stream (K.taken sink.new) (K.faults sink.new))
+        (stream (E.taken errors.old) (E.faults errors.old)) (stream (E.taken errors.new) (E.faults errors.new)) report }
+{
+    let report = run_tool(rt, alloc, words, source, sink, errors, &NoGate);
+    ExitCode::from(report.status)
+}

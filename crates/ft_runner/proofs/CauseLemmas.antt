@@ -49,11 +49,11 @@ module _ (source source' sink sink' : Stream) (limit : Option Which) (history : 
 
   run_cause : (command : Subcommand) → is_check (Some command) ≡ false → (f : Fault) → IsDone (Some command) source source' sink sink' f limit history → IsRunCause text f
   run_cause command runs fault.Clean done =
-      let whole = gives_all source source' done.came text false done.reading has (done.ended tt) in
+      let whole = gives_all source source' done.came text false done.reading has (done.ended refl) in
       let means = run_means (Some command) runs fault.Clean limit done.came history done.put done.means in
       (few_of command runs fault.Clean done whole (run_limits (Some command) runs fault.Clean source done.came source' done.limits).0, means.script, ap read_script (sym whole) ∙ means.read)
   run_cause command runs (fault.Script line kind) done =
-      let whole = gives_all source source' done.came text false done.reading has (done.ended tt) in
+      let whole = gives_all source source' done.came text false done.reading has (done.ended refl) in
       let means = run_means (Some command) runs (fault.Script line kind) limit done.came history done.put done.means in
       (few_of command runs (fault.Script line kind) done whole (run_limits (Some command) runs (fault.Script line kind) source done.came source' done.limits).0, limit, subst (λ bytes. IsFirstFault bytes line kind limit) whole means.0)
   run_cause command runs fault.TooLong done =
@@ -69,16 +69,16 @@ module _ (source source' sink sink' : Stream) (limit : Option Which) (history : 
 
   check_cause : (f : Fault) → IsDone (Some subcommand.Check) source source' sink sink' f limit history → IsCheckCause text f
   check_cause fault.Clean done =
-      let whole = gives_all source source' done.came text false done.reading has (done.ended tt) in
+      let whole = gives_all source source' done.came text false done.reading has (done.ended refl) in
       (subst IsWithin whole (done.limits.within refl), subst (λ bytes. IsFound bytes _) whole done.means.1.0)
   check_cause (fault.NotLegal place rule) done =
-      let whole = gives_all source source' done.came text false done.reading has (done.ended tt) in
+      let whole = gives_all source source' done.came text false done.reading has (done.ended refl) in
       (subst IsWithin whole (done.limits.within refl), subst (λ bytes. IsFound bytes _) whole done.means.1)
   check_cause (fault.Transcript line) done =
-      let whole = gives_all source source' done.came text false done.reading has (done.ended tt) in
+      let whole = gives_all source source' done.came text false done.reading has (done.ended refl) in
       (subst IsWithin whole (done.limits.within refl), subst (λ bytes. IsBadAt bytes line) whole done.means.1.0)
   check_cause (fault.Script line kind) done =
-      let whole = gives_all source source' done.came text false done.reading has (done.ended tt) in
+      let whole = gives_all source source' done.came text false done.reading has (done.ended refl) in
       (subst IsWithin whole (done.limits.within refl), limit, subst (λ bytes. IsScriptFault bytes line kind limit) whole done.means.1.0)
   check_cause fault.TooLong done = too_long_text source source' done.came text false done.reading has (done.limits.too_long refl)
   check_cause fault.Memory done = tt

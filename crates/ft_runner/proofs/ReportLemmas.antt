@@ -123,7 +123,7 @@ module _ (source source' sink : Stream) where
         unread = λ none. absurd (some_none none);
         reading = p.gives;
         writing = stop.writing;
-        limits = record { too_long = p.too_long; within = λ h. absurd (false≢true (sym stop.ended ∙ h)); few = p.few };
+        limits = record { too_long = p.too_long; within = λ h. absurd (false≢true (sym stop.ended ∙ h)); few = p.few; in_time = p.in_time };
         ended = λ h. absurd (false≢true (sym stop.ended ∙ h));
         means = (refl, stop.checked);
       }
@@ -168,7 +168,7 @@ module _ (source source' sink sink' : Stream) (bytes : List ℕ) (f : Fault) (li
         unread = λ none. absurd (some_none none);
         reading = subst (λ failed. Gives source bytes failed source') (sym kind.1) p.gives;
         writing = q.writing;
-        limits = record { too_long = λ long. absurd (true≢false (sym long ∙ kind.2)); within = λ h. within; few = omega (arith, within.few) };
+        limits = record { too_long = λ long. absurd (true≢false (sym long ∙ kind.2)); within = λ h. within; few = omega (arith, within.few); in_time = λ far. within.script_few };
         ended = λ h. p.ended;
         means = q.means;
       }
@@ -179,7 +179,7 @@ unlimited : (command : Option Subcommand) (source : Stream) → Limits command f
 unlimited None source = (refl, omega arith)
 unlimited (Some subcommand.Run) source = (refl, omega arith)
 unlimited (Some subcommand.Turns) source = (refl, omega arith)
-unlimited (Some subcommand.Check) source = record { too_long = λ h. absurd (false≢true h); within = λ h. absurd (false≢true h); few = omega arith }
+unlimited (Some subcommand.Check) source = record { too_long = λ h. absurd (false≢true h); within = λ h. absurd (false≢true h); few = omega arith; in_time = λ far. absurd (omega arith) }
 
 unsaid : (command : Option Subcommand) → Means command fault.Memory None [] [] []
 unsaid None = (refl, inl refl)

@@ -64,6 +64,14 @@ pub record IsWithin (bytes : List ℕ) : Type 0 where
 abbrev pub most_checked : ℕ
 most_checked = input_limit + 65536
 
+-- the most bytes that are read before it is known whether a line `---` begins within the limit: those first places, its other three bytes, and one piece
+abbrev pub most_before_separator : ℕ
+most_before_separator = script_limit + 3 + 65536
+
+-- reading goes on past that only where such a line begins within the limit
+abbrev pub IsReadInTime : List ℕ → Type 0
+IsReadInTime came = most_before_separator < length came → IsScriptFew came
+
 -- all that a source gives is read
 pub record IsReadToItsEnd (before : Stream) (bytes : List ℕ) (after : Stream) : Type 0 where
   pub gives : Gives before bytes false after
@@ -79,6 +87,7 @@ pub record StopsInput (fault : Fault) (before after : Stream) : Type 0 where
   pub gives : Gives before came (is_read fault) after
   pub too_long : is_too_long fault ≡ true → IsTooLong before came after
   pub few : length came ≤ most_checked
+  pub in_time : IsReadInTime came
   pub cause : stops_reading fault ≡ true
 
 abbrev pub ReadsInput : Stream → Result Input Fault → Stream → Type 0

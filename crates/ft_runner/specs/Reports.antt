@@ -18,7 +18,7 @@ use Rattle.ft_runner.specs.declared.command.Subcommand.TheVariants as subcommand
 use Rattle.ft_runner.specs.declared.report.Fault.{Fault}
 use Rattle.ft_runner.specs.declared.report.Fault.TheVariants as fault
 use Rattle.ft_runner.specs.declared.report.Report.{Report}
-use Rattle.ft_runner.specs.Checking.{most_checked, IsScriptPart, IsTooLong, IsWithin}
+use Rattle.ft_runner.specs.Checking.{most_checked, IsReadInTime, IsScriptPart, IsTooLong, IsWithin}
 use Rattle.ft_runner.specs.Commands.{command_of}
 use Rattle.ft_runner.specs.Findings.{broken_line, legal_line, IsBadAt, IsFound}
 use Rattle.ft_runner.specs.Streams.{is_read, is_too_long, most_read, script_limit, Gives, IsPart, IsPrefix, Receives, Stream, Reported}
@@ -183,6 +183,7 @@ pub record LimitsCheck (reported : Fault) (source : Stream) (came : List ℕ) (s
   pub too_long : is_too_long reported ≡ true → IsTooLong source came source'
   pub within : has_ended reported ≡ true → IsWithin came
   pub few : length came ≤ most_checked
+  pub in_time : IsReadInTime came
 
 abbrev pub Limits : Option Subcommand → Fault → Stream → List ℕ → Stream → Type 0
 Limits (Some subcommand.Check) reported source came source' = LimitsCheck reported source came source'

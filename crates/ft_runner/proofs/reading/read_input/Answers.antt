@@ -24,7 +24,8 @@ returns-in_err-fill g c =
     let bytes = c.fill.new.bytes.items in
     let gives = gives_first a b c.new-bytes.result.items bytes 4194307 c.in_ok-ended.ended c.new-bytes.ensures.items c.in_ok-ended.ensures in
     let r = err_from_is_err_and c.from_residual-in_err-fill.result c.from_residual-in_err-fill.ensures.1 in
-    rw (r.1, r.2) (stops_second a b d c.in_err-fill.field-0.0 bytes c.fill-2.new.bytes.items gives c.in_err-fill.ensures)
+    let far : EndsFilling false 4194307 bytes b = rw c.if-ended.false at c.in_ok-ended.ensures.3 in
+    rw (r.1, r.2) (stops_second a b d c.in_err-fill.field-0.0 bytes c.fill-2.new.bytes.items gives far.0 (subst IsScriptFew c.deref-2.ensures.value c.if-not-is_script_few.ensures) c.in_err-fill.ensures)
 
 pub returns-then-branch : goal.returns-then-branch
 returns-then-branch g c =
@@ -50,4 +51,5 @@ returns-else-branch g c =
     let second = c.in_ok-fill.ensures in
     let gives = gives_first a b c.new-bytes.result.items bytes 4194307 c.in_ok-ended.ended c.new-bytes.ensures.items c.in_ok-ended.ensures in
     let ends : EndsFilling false 67108864 c.fill-2.new.bytes.items d = rw c.if-branch.false at second.3 in
-    long_input a b d bytes c.fill-2.new.bytes.items gives (second.0, second.1, second.2, ends)
+    let far : EndsFilling false 4194307 bytes b = rw c.if-ended.false at c.in_ok-ended.ensures.3 in
+    long_input a b d bytes c.fill-2.new.bytes.items gives far.0 (subst IsScriptFew c.deref-2.ensures.value c.if-not-is_script_few.ensures) (second.0, second.1, second.2, ends)

@@ -94,7 +94,7 @@ module _ (source source' sink sink' : Stream) (limit : Option Which) (history : 
 pub cause_of : (command : Subcommand) (text : List ℕ) (report : Report) → IsReportOn command text report → IsCause command text report.fault
 cause_of command text report on =
     any_cause on.source on.source' on.sink on.sink' on.is.limit report.history.items text on.has on.source_stood on.sink_stood command report.fault
-      (subst (λ asked. IsDone asked on.source on.source' on.sink on.sink' report.fault on.is.limit report.history.items) on.asked on.is.done)
+    (subst (λ asked. IsDone asked on.source on.source' on.sink on.sink' report.fault on.is.limit report.history.items) on.asked on.is.done)
 
 pub run_cause_of : (command : Subcommand) → is_check (Some command) ≡ false → (text : List ℕ) (reported : Fault) → IsCause command text reported → IsRunCause text reported
 run_cause_of subcommand.Run runs text reported cause = cause

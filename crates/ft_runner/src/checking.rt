@@ -10,7 +10,7 @@ ghost use Rattle.ft_runner.specs.Streams.{stream, Puts};
 use crate::errors::put_number;
 use crate::outcome::{Outcome, Refusal};
 use crate::report::Fault;
-use crate::separator::{before_separator, after_separator};
+use crate::separator::{after_separator, before_separator};
 use crate::writing::put_all;
 use ft_history::{Verdict, judge_with_world};
 use ft_io::{Failed, Sink};

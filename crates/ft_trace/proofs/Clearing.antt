@@ -9,7 +9,7 @@ use Rattle.ft_model.specs.declared.content.Content.TheVariants as content
 use Rattle.ft_model.specs.declared.data.Value.{Value}
 use Rattle.ft_model.specs.declared.reply.Reply.TheVariants as reply
 use Rattle.ft_model.specs.declared.script.Kind.TheVariants as kind
-use Rattle.ft_model.specs.Tables.{no_table}
+use Rattle.ft_model.specs.Tables.{no_table, stored_newest}
 use Rattle.ft_layout.specs.Containers.{IsBlock, StandsAs}
 use Rattle.ft_trace.specs.declared.Shape.{Shape}
 use Rattle.ft_trace.specs.declared.Snap.{Snap}
@@ -31,7 +31,10 @@ use Rattle.ft_trace.proofs.Pieces.{block_zero, block_at}
 use Rattle.ft_trace.proofs.Evens.{holder_shut}
 use Rattle.ft_trace.proofs.Images.{imaged}
 use Rattle.ft_trace.proofs.Rooms.{counter_room, version_room}
-use Rattle.ft_trace.proofs.Held.{root_known, table_known, held_stands, stop_sure}
+use Rattle.ft_trace.proofs.Held.{content_known, root_known, table_known, held_stands, stop_sure}
+use Rattle.ft_trace.proofs.Untouched.{as_many, there_is}
+use Rattle.std.specs.Prelude.{option_map, Some}
+use Rattle.ft_model.specs.Worlds.{kind_of, no_hands, IsDeclared}
 use Rattle.ft_trace.proofs.Nexts.{next_possible}
 use Rattle.ft_trace.proofs.Contents.{empty_stands}
 
@@ -153,6 +156,14 @@ module _ (v : View) (o : ℕ) (values : List Value) (live : v.number ≢ 0) (pos
       let t = put_default _ o no_table in
       λ d. record { content = c d; table = t d }
 
+  -- the container is a list at every moment
+  declared : (n : ℕ) → Sure (c3 n) (λ es. IsDeclared (stored_newest k.kinds (history es)).world no_hands clears)
+  declared n es id knows =
+      let world = (stored_newest k.kinds (history es)).world in
+      let there = there_is world o (content.List []) (subst (λ (z : ℕ). o < z) (sym (as_many k.kinds (history es))) low) in
+      let is : slice_index_or world o (content.List []) ≡ content.List values = ap (λ (z : Kept). z.content) (sym (content_known (c3 n) o mine es id knows)) ∙ is_list in
+      record { one = ap (option_map kind_of) (there ∙ ap Some is); both = tt; room = tt }
+
   step1 : (n : ℕ) × Possible (c1 n)
   step1 = next_possible v live possible (λ n. StartWrite o n) (version_of o) (λ n. refl) (λ n. refl) (λ es id knows. (low, mine, quiet, version_up v refl es id knows))
 
@@ -190,6 +201,7 @@ module _ (v : View) (o : ℕ) (values : List Value) (live : v.number ≢ 0) (pos
         (λ class e. absurd (omega (arith, e, none))),
         refl,
         (λ _. refl),
+        declared n es id knows,
       ))
 
   step5 : (n m : ℕ) (s : Snap) → Possible (c4 n m s) → (f : ℕ) × Possible (c5 n m s f)

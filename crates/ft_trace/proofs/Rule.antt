@@ -9,13 +9,16 @@ use Rattle.ft_trace.specs.Ages.{age, whose}
 use Rattle.ft_trace.proofs.Moments.{valid_rest}
 use Rattle.ft_trace.specs.Entries.{is_number}
 use Rattle.ft_trace.specs.Words.{picture}
-use Rattle.ft_trace.specs.Traces.{run}
-use Rattle.ft_trace.specs.Laws.{WordsLieApart, PairsAreUnderTheirKeys, ElementsAreUnderTheirKeys, OnePassIsAlone, StampsRise, MemoryErrorsAreEarned, LocksNameHolders, VersionsAreOddInWrites, EvenTablesAreShut, NumbersAreOnce, EntriesAreRight, OneHasAllEntries, EvenWordsStand, ZeroRootsHaveNothing, HoldersKnow, TablesAreSomewhere, TablesAreInOnePlace, CountsStand, TablesAreOwed, EmptyClassesAreEarned, AnnouncedNumbersAreLow, FoundTablesAreKept, GivenUpTablesRest, TablesAreSound, TableWordsStay, HitsAreRight, MissesAreRight, BareRootsAreRight, ItemsAreRight, ListsFitTheirTables, LooksAreRight, ChangedRootsAreNew, NumbersHaveRoom}
+use Rattle.ft_trace.specs.Traces.{run, history}
+use Rattle.ft_trace.specs.Laws.{StoredTablesAreInOrder, WordsLieApart, PairsAreUnderTheirKeys, ElementsAreUnderTheirKeys, OnePassIsAlone, StampsRise, MemoryErrorsAreEarned, LocksNameHolders, VersionsAreOddInWrites, EvenTablesAreShut, NumbersAreOnce, EntriesAreRight, OneHasAllEntries, EvenWordsStand, ZeroRootsHaveNothing, HoldersKnow, TablesAreSomewhere, TablesAreInOnePlace, CountsStand, TablesAreOwed, EmptyClassesAreEarned, AnnouncedNumbersAreLow, FoundTablesAreKept, GivenUpTablesRest, TablesAreSound, TableWordsStay, HitsAreRight, MissesAreRight, BareRootsAreRight, ItemsAreRight, ListsFitTheirTables, LooksAreRight, ChangedRootsAreNew, NumbersHaveRoom}
 use Rattle.ft_trace.proofs.Locks.{names, holder, one_holder}
 use Rattle.ft_trace.proofs.Versions.{versioned, writer_has, writing_is_odd}
 use Rattle.ft_trace.proofs.Contents.{counted, tab, stands}
 use Rattle.ft_trace.proofs.Totals.{entries_total, parts_total, total_two}
 use Rattle.ft_trace.proofs.Addresses.{in_part, at_apart}
+use Rattle.ft_trace.proofs.Orders.{in_order}
+use Rattle.ft_model.specs.Tables.{stored_newest}
+use Rattle.ft_model.proofs.TableOrder.{order-caps}
 use Rattle.ft_trace.proofs.Under.{find_first, find_none}
 use Rattle.std.specs.List.{find}
 use Rattle.std.specs.Option.{option_map_or}
@@ -205,3 +208,6 @@ one_pass_is_alone k es valid j u at live all i w there ne = dite (ℕ_discrete w
 
 pub words_lie_apart : WordsLieApart
 words_lie_apart k x y a b = (in_part k x a, at_apart k x y a b)
+
+pub stored_tables_are_in_order : StoredTablesAreInOrder
+stored_tables_are_in_order k es valid = let order = in_order k es valid in (order, order-caps (stored_newest k.kinds (history es)) order)

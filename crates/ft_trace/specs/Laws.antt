@@ -12,7 +12,8 @@ use Rattle.ft_model.specs.declared.content.Content.TheVariants as content
 use Rattle.ft_model.specs.Contents.{DictContent, SetContent}
 use Rattle.ft_model.specs.Classes.{IsClass}
 use Rattle.ft_model.specs.Worlds.{list_of}
-use Rattle.ft_model.specs.Tables.{stored_newest, takes_newest}
+use Rattle.ft_model.specs.Tables.{stored_newest, takes_newest, passes_cap}
+use Rattle.ft_model.specs.Changes.{AreTablesInOrder}
 use Rattle.ft_layout.specs.Starts.{HasWord}
 use Rattle.ft_trace.specs.declared.Act.{Act}
 use Rattle.ft_trace.specs.declared.Snap.{Snap}
@@ -116,6 +117,15 @@ abbrev pub EvenWordsStand : Type 0
 EvenWordsStand =
     (k : Shape) (es : List Event) → Valid k es → (o : ℕ) → o < containers_in k → word k es (version_of o) % 2 ≡ 0
     → StandsFor k (run k es) (history es) o
+
+-- the table of each container is in order: it has room for what is stored, and so no container has more than the
+-- largest
+-- table holds
+abbrev pub StoredTablesAreInOrder : Type 0
+StoredTablesAreInOrder =
+    (k : Shape) (es : List Event) → Valid k es
+    → AreTablesInOrder (stored_newest k.kinds (history es))
+    × All (λ content. passes_cap content ≡ false) (stored_newest k.kinds (history es)).world
 
 -- a root that is 0 while the version is even is that of a container with no table and nothing in it
 abbrev pub ZeroRootsHaveNothing : Type 0

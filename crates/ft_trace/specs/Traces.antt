@@ -8,6 +8,7 @@ use Rattle.ft_model.specs.declared.call.Call.{Call}
 use Rattle.ft_model.specs.declared.content.Content.{Content}
 use Rattle.ft_model.specs.Answers.{is_write}
 use Rattle.ft_model.specs.Histories.{IsReplied}
+use Rattle.ft_model.specs.Worlds.{no_hands, IsDeclared}
 use Rattle.ft_model.specs.Tables.{stored_newest, takes_in, would_pass}
 use Rattle.ft_model.specs.Classes.{IsClass}
 use Rattle.ft_trace.specs.declared.Act.{Act}
@@ -136,7 +137,8 @@ May k m cs v (PutTable o t i x) =
 May k m cs v (PutFresh t i x) = IsTable k t × (i < size (class_of t)) × (stage t v.log ≡ 1)
 -- the goal of a table that it took out of a root
 May k m cs v (PutHeader t x) = IsTable k t × ((stage t v.log ≡ 3) ⊎ (stage t v.log ≡ 4))
--- The call is a write, the version of what it changes is odd by the pass, the reply is that of the plain containers at
+-- The call is a write of containers of its kind, the version of what it changes is odd by the pass, the reply is that
+-- of the plain containers at
 -- the counter, the pass has a call left and the counter has room. Each entry with an even version says the same of the
 -- content after the call, and each key that is added has its entry. Where the pass has lowered a count and not raised
 -- it
@@ -156,6 +158,7 @@ May k m cs v (Commit c r f s) =
     × ((class : ℕ) → owes v.log ≡ suc class → takes_in (stored_newest k.kinds cs) c ≡ Some class)
     × (would_pass (stored_newest k.kinds cs).world c ≡ false)
     × (has_emptied (changes c) v.log ≡ true → may_empty c ≡ true)
+    × IsDeclared (stored_newest k.kinds cs).world no_hands c
 -- It has made the version odd and has committed since. The words stand for the content at the counter, with its class
 -- and fill, and no version of an entry or item of the container is odd.
 May k m cs v (StopWrite o f) =

@@ -14,6 +14,8 @@ use Rattle.ft_model.specs.Answers.{answer}
 use Rattle.ft_model.specs.declared.call.TableChange.{TableChange}
 use Rattle.ft_model.specs.declared.call.TableChange.TheVariants as change
 use Rattle.ft_model.specs.Calls.{dict_change, list_change, set_change}
+use Rattle.std.specs.Option.{unwrap_or}
+use Rattle.ft_model.specs.Changes.{changed_by}
 use Rattle.ft_model.specs.Tables.{TableUse, StoredWorld, table_at, stored_newest}
 
 -- what a container has, and its table
@@ -38,20 +40,8 @@ abbrev pub kind_in : List Kind → ℕ → Kind
 kind_in kinds o = slice_index_or kinds o kind.List
 
 -- the container that a call changes, if it is a write
-abbrev pub changed_by : ℕ → TableChange → ℕ
-changed_by o change.Stays = o
-changed_by o change.Grows = o
-changed_by o (change.CopiesTo other) = other
-changed_by o change.GivesUp = o
-
 abbrev pub changes : Call → ℕ
-changes (call.Dict o dict_call) = changed_by o (dict_change dict_call)
-changes (call.List o list_call) = changed_by o (list_change list_call)
-changes (call.Set o set_call) = changed_by o (set_change set_call)
-changes (call.Next cursor) = 0
-changes (call.Begin one other) = 0
-changes call.End = 0
-changes call.Quiesce = 0
+changes called = unwrap_or (changed_by called) 0
 
 -- what the plain containers reply to a call that asks no cursor
 abbrev pub reply_in : StoredWorld → Call → Reply

@@ -13,8 +13,8 @@ use Rattle.ft_model.specs.declared.content.Element.{Element}
 use Rattle.ft_model.specs.declared.data.Value.{Value}
 use Rattle.ft_model.specs.declared.cursor.Cursor.{Cursor}
 use Rattle.ft_model.specs.declared.cursor.Cursor.TheVariants as cursor
-use Rattle.ft_model.specs.declared.cursor.Walk.{Walk}
-use Rattle.ft_model.specs.declared.cursor.Walk.TheVariants as walk
+use Rattle.ft_model.specs.declared.cursor.CursorState.{CursorState}
+use Rattle.ft_model.specs.declared.cursor.CursorState.TheVariants as walk
 use Rattle.ft_model.specs.declared.reply.Reply.TheVariants as reply
 use Rattle.ft_model.specs.declared.reply.Raise.TheVariants as raise
 use Rattle.ft_model.specs.declared.script.Declaration.{Declaration}
@@ -133,7 +133,7 @@ record SameWalk (before after : Cursor) : Type 0 where
   kind : cursor_kind after ≡ cursor_kind before
   container : container_of after ≡ container_of before
 
-same_dict : (pairs : List DictPair) (container : ℕ) (w : Walk) (size expected : ℕ) (last : Option ℕ) → SameWalk (cursor.Dict container w size expected last) (dict_next pairs container w size expected last).cursor
+same_dict : (pairs : List DictPair) (container : ℕ) (w : CursorState) (size expected : ℕ) (last : Option ℕ) → SameWalk (cursor.Dict container w size expected last) (dict_next pairs container w size expected last).cursor
 same_dict pairs container walk.Ended size expected last = record { kind = refl; container = refl }
 same_dict pairs container walk.Reported size expected last = record { kind = refl; container = refl }
 same_dict pairs container walk.Live size expected last =
@@ -148,7 +148,7 @@ same_dict pairs container walk.Live size expected last =
       ]
     ]
 
-same_set : (elements : List Element) (container : ℕ) (w : Walk) (size : ℕ) (last : Option ℕ) → SameWalk (cursor.Set container w size last) (set_next elements container w size last).cursor
+same_set : (elements : List Element) (container : ℕ) (w : CursorState) (size : ℕ) (last : Option ℕ) → SameWalk (cursor.Set container w size last) (set_next elements container w size last).cursor
 same_set elements container walk.Ended size last = record { kind = refl; container = refl }
 same_set elements container walk.Reported size last = record { kind = refl; container = refl }
 same_set elements container walk.Live size last =

@@ -11,4 +11,5 @@ use Rattle.ft_history.specs.declared.verdict.Verdict.TheVariants as verdict
 -- it is legal, or this is the first rule that is broken and the first place, counted from 1, where one is
 abbrev pub IsVerdict : Storage → ScriptParts → List Entry → Verdict → Type 0
 IsVerdict storage script entries verdict.Legal = IsLegal storage script entries
-IsVerdict storage script entries (verdict.Not place rule) = (1 ≤ place) × IsFirstBroken storage script entries (place - 1) rule
+IsVerdict storage script entries (verdict.Not place rule) =
+    (1 ≤ place) × IsFirstBroken storage script entries (place - 1) rule

@@ -1,3 +1,5 @@
+//! Equality of calls and of replies, for the judge, which compares what an entry says with what has
+//! to stand there.
 ghost use Rattle.std.specs.Prelude.{◌≡◌, ◌↔◌, IsTrue};
 
 use ft_model::{Call, Reply};

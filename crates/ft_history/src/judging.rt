@@ -1,3 +1,5 @@
+//! The judge: it goes through the entries of a history once, with the plain containers beside it,
+//! and stops at the first rule that is broken.
 ghost use Rattle.std.specs.Prelude.{◌≡◌, ◌↔◌, ℕ, List, IsTrue, ◌+◌, ◌<◌, ◌≤◌, ◌^◌, All, length, take, IfOk, IfNone, Some, slice_get, vec_len};
 ghost use Rattle.ft_model.specs.Scripts.{IsScript};
 ghost use Rattle.ft_model.specs.Judging.{IsNext};

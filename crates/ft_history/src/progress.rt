@@ -1,3 +1,5 @@
+//! How far one thread has come in a history: its calls, its cursors, its open sections and how many
+//! of its calls waited.
 ghost use Rattle.std.specs.Prelude.{◌≡◌, ◌↔◌, ◌+◌, ◌<◌, ◌^◌, IsTrue, IfOk, OnOk, is_some, if◌then◌else◌};
 ghost use Rattle.ft_model.specs.Worlds.{IsDeclared, HasRoom};
 ghost use Rattle.ft_model.specs.Answers.{answer, is_memory};

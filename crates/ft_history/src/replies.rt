@@ -1,3 +1,5 @@
+//! Whether an entry has the reply of the plain containers, for the judge; the containers are then
+//! as the entry leaves them.
 ghost use Rattle.std.specs.Prelude.{◌≡◌, ◌↔◌, ◌⊎◌, true, IsTrue, IfOk, OnOk, if◌then◌else◌};
 ghost use Rattle.ft_model.specs.Worlds.{IsDeclared, HasRoom};
 ghost use Rattle.ft_model.specs.Answers.{answer, is_memory};

@@ -1,3 +1,4 @@
+//! Each rule of a legal history, asked of one entry, for the judge.
 ghost use Rattle.std.specs.Prelude.{◌≡◌, ◌≢◌, ◌↔◌, ℕ, ◌+◌, ◌-◌, ◌<◌, ◌≤◌, ◌^◌, ◌++◌, true, false, length, drop, IsTrue, IfSome, Some, slice_get, slice_index_or};
 ghost use Rattle.std.specs.List.{list_any};
 ghost use Rattle.ft_model.specs.Calls.{container_list};

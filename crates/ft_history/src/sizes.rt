@@ -1,3 +1,5 @@
+//! How much a container has, noted before a call, so that the tables it takes can be counted after
+//! it.
 ghost use Rattle.std.specs.Prelude.{◌≡◌, length};
 ghost use Rattle.ft_model.specs.Worlds.{list_at};
 ghost use Rattle.ft_history.specs.Internal.Accounts.{dict_size, set_size, size_at};

@@ -1,3 +1,5 @@
+//! What the judge has in hand between two entries. It is what the entries before the place make of
+//! a history, and nothing else.
 ghost use Rattle.std.specs.Prelude.{◌≡◌, ℕ, Some, None, List, length, replicate, slice_get, IfOk, vec_len};
 ghost use Rattle.ft_model.specs.declared.entry.Entry.{Entry};
 ghost use Rattle.ft_model.specs.Scripts.{IsScript};

@@ -1,3 +1,4 @@
+//! Which containers each thread of a script has calls on, for the rule on marks.
 ghost use Rattle.std.specs.Prelude.{◌≡◌, ◌||◌, ◌==◌, ℕ, ◌<◌, false, length, map, All, IfOk, slice_index_or, vec_len};
 ghost use Rattle.std.specs.List.{list_any};
 ghost use Rattle.ft_model.specs.Calls.{container_list, containers_of};

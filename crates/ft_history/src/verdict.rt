@@ -1,3 +1,4 @@
+//! What judging a history answers.
 use ft_model::{Rule, World};
 
 /// What `judge` finds of a history.

@@ -1,3 +1,5 @@
+//! The last writes on a container by two threads, which is all that the rule on kept sections needs
+//! to know.
 ghost use Rattle.std.specs.Prelude.{◌≡◌, ◌+◌, ◌<◌, ◌==◌, ℕ, All, if◌then◌else◌, slice_index_or, vec_len};
 ghost use Rattle.std.specs.List.{list_any};
 ghost use Rattle.ft_model.specs.Calls.{container_list};

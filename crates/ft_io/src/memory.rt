@@ -1,3 +1,5 @@
+//! Sources and sinks over memory, for tests: they give and take what they are made for, to the
+//! byte, and fail at the calls that they are made to fail at.
 ghost use Rattle.std.specs.Prelude.{◌≡◌, ◌<◌, ◌↔◌, ◌⊎◌, min, [], ◌++◌, length, take, drop, Some, Contains, IsErr, IfOk, OnErr};
 ghost use Rattle.ft_io.specs.Memory.{free_room};
 ghost use Rattle.ft_io.specs.Streams.{raised};

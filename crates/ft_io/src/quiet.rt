@@ -1,3 +1,4 @@
+//! A source and a sink that never fail, for benchmarks and tests of what lies above.
 ghost use Rattle.std.specs.Prelude.{◌≡◌, ◌++◌, min, length, take, drop, Some, None, IsOk, IfOk};
 
 use crate::{Failed, Sink, Source};

@@ -1,3 +1,4 @@
+//! What the tool asks of a place to which bytes go.
 ghost use Rattle.std.specs.Prelude.{◌≡◌, ℕ, ◌<◌, ◌≤◌, List, length, take, Option, IfOk, OnErr, MatchResult};
 ghost use Rattle.ft_io.specs.Streams.{raised, added};
 

@@ -1,3 +1,4 @@
+//! What the tool asks of a place from which bytes come.
 ghost use Rattle.std.specs.Prelude.{◌≡◌, ℕ, ◌<◌, ◌≤◌, List, [], length, take, Option, IfOk, IfSome, OnErr, MatchResult};
 ghost use Rattle.ft_io.specs.Streams.{raised, prepended};
 

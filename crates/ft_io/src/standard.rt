@@ -1,3 +1,5 @@
+//! Sources and sinks over the readers and writers of std, for the program: the standard streams, of
+//! which nothing outside the program is known.
 ghost use Rattle.std.specs.Prelude.{◌≡◌, ◌<◌, ◌≤◌, length, take, None, IfOk, MatchResult};
 ghost use Rattle.std.specs.Io.KnownBytes.{Appends, ReadConsumes, WriteAppends};
 ghost use Rattle.ft_io.specs.Streams.{raised};

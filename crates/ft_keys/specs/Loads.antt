@@ -26,7 +26,8 @@ PassesSlot mask key slot loads =
 
 -- By these loads the slot names the entry at the place, which has the key's payload and this kind.
 abbrev pub NamesEntry : ℕ → Key → ℕ → ℕ → ℕ → List Access → Type 0
-NamesEntry mask key slot place kind loads = (place < dict_room mask) × (loads ≡ entry_loads slot place kind (key_payload key))
+NamesEntry mask key slot place kind loads =
+    (place < dict_room mask) × (loads ≡ entry_loads slot place kind (key_payload key))
 
 -- what the loads of one slot came to
 abbrev pub LoadsSlot : ℕ → Key → ℕ → List Access → Compared → Type 0

@@ -34,4 +34,5 @@ IsInOrder mask words access = Unit {0}
 -- each of them is so on the words that the earlier ones left
 abbrev pub AreInOrder : ℕ → List Access → List ℕ → Type 0
 AreInOrder mask [] words = Unit {0}
-AreInOrder mask (access ∷ earlier) words = AreInOrder mask earlier words × IsInOrder mask (after mask earlier words) access
+AreInOrder mask (access ∷ earlier) words =
+    AreInOrder mask earlier words × IsInOrder mask (after mask earlier words) access

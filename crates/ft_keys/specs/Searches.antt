@@ -19,11 +19,13 @@ IsWithin mask Spent = Unit {0}
 
 -- the entry at the place is there, with this key
 abbrev pub HasKey : ℕ → List ℕ → ℕ → Key → Type 0
-HasKey mask words place key = (entry_word mask words place 2 ≡ key_kind key) × (entry_word mask words place 3 ≡ key_payload key)
+HasKey mask words place key =
+    (entry_word mask words place 2 ≡ key_kind key) × (entry_word mask words place 3 ≡ key_payload key)
 
 -- the entry at the place was deleted, and had this key
 abbrev pub HadKey : ℕ → List ℕ → ℕ → Key → Type 0
-HadKey mask words place key = (entry_word mask words place 2 ≡ gone_kind key) × (entry_word mask words place 3 ≡ key_payload key)
+HadKey mask words place key =
+    (entry_word mask words place 2 ≡ gone_kind key) × (entry_word mask words place 3 ≡ key_payload key)
 
 -- the index word names the entry that is there with this key
 abbrev pub NamesKey : ℕ → List ℕ → ℕ → Key → Type 0
@@ -37,27 +39,38 @@ pub record Passes (mask : ℕ) (words : List ℕ) (key : Key) (slot : ℕ) : Typ
 -- On these words a search that had the first slots to try, and has left these, ended so. It passed the slots before the one where it ended.
 abbrev pub EndsAt : ℕ → List ℕ → Key → List ℕ → List ℕ → Found → Type 0
 EndsAt mask words key first left (At slot place) =
-    (passed : List ℕ) × (first ≡ passed ++ slot ∷ left) × All (Passes mask words key) passed × (index_word words slot ≡ place + 1) × HasKey mask words place key
+    (passed : List ℕ) × (first ≡ passed ++ slot ∷ left) × All (Passes mask words key) passed
+        × (index_word words slot ≡ place + 1) × HasKey mask words place key
 EndsAt mask words key first left (Was slot place) =
-    (passed : List ℕ) × (first ≡ passed ++ slot ∷ left) × All (Passes mask words key) passed × (index_word words slot ≡ place + 1) × HadKey mask words place key
+    (passed : List ℕ) × (first ≡ passed ++ slot ∷ left) × All (Passes mask words key) passed
+        × (index_word words slot ≡ place + 1) × HadKey mask words place key
 EndsAt mask words key first left (Free slot) =
-    (passed rest : List ℕ) × (first ≡ passed ++ left) × (left ≡ slot ∷ rest) × All (Passes mask words key) passed × (index_word words slot ≡ 0)
+    (passed rest : List ℕ) × (first ≡ passed ++ left) × (left ≡ slot ∷ rest) × All (Passes mask words key) passed
+        × (index_word words slot ≡ 0)
 EndsAt mask words key first left Spent = (left ≡ []) × All (Passes mask words key) first
 
 -- In a table with these used entries the key is at the place, or was there and was deleted, or is nowhere. No search is spent.
 abbrev pub Finds : List UsedEntry → Key → Found → Type 0
-Finds used key (At slot place) = (place < length used) × ((any : UsedEntry) → ((slice_index_or used place any).key ≡ key) × IsTrue (is_live (slice_index_or used place any)))
-Finds used key (Was slot place) = (place < length used) × ((any : UsedEntry) → ((slice_index_or used place any).key ≡ key) × (is_live (slice_index_or used place any) ≡ false))
+Finds used key (At slot place) =
+    (place < length used)
+    × ((any : UsedEntry) → ((slice_index_or used place any).key ≡ key)
+    × IsTrue (is_live (slice_index_or used place any)))
+Finds used key (Was slot place) =
+    (place < length used)
+    × ((any : UsedEntry) → ((slice_index_or used place any).key ≡ key)
+    × (is_live (slice_index_or used place any) ≡ false))
 Finds used key (Free slot) = All (λ entry. entry.key ≢ key) (filter is_live used)
 Finds used key Spent = ⊥
 
 -- A search on these words, which had the first slots to try and has left these: it ended rightly, and if the words are a table's and the slots were all those of the key's hash, it found the key exactly where it is.
 pub record Searched (mask : ℕ) (words : List ℕ) (key : Key) (first left : List ℕ) (found : Found) : Type 0 where
   pub ends : EndsAt mask words key first left found
-  pub finds : (way : Way) (texts : List ℕ) (used : List UsedEntry) → IsTableOf way texts mask used words → hash_of texts key < 2 ^ 64 → first ≡ walk_slots way (hash_of texts key) mask → Finds used key found
+  pub finds : (way : Way) (texts : List ℕ) (used : List UsedEntry) → IsTableOf way texts mask used words
+      → hash_of texts key < 2 ^ 64 → first ≡ walk_slots way (hash_of texts key) mask → Finds used key found
 
 -- Calls led from one state of the words to the other, and none of them put a word. They loaded the index words of the first slots in order, have left these, and are counted. Each list of words that answers so is one of which the fact is true.
-pub record Shows {S : Type 0} (gave : S → Access → S → Type 0) (mask : ℕ) (first left : List ℕ) (start end : S) (before after : ℕ) (fact : List ℕ → Type 0) : Type 0 where
+pub record Shows {S : Type 0} (gave : S → Access → S → Type 0) (mask : ℕ) (first left : List ℕ) (start end : S)
+    (before after : ℕ) (fact : List ℕ → Type 0) : Type 0 where
   pub calls : List Access
   pub runs : Runs gave start calls end
   pub loads : AreLoads calls

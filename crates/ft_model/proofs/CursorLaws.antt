@@ -9,8 +9,8 @@ use Rattle.ft_model.specs.declared.content.DictPair.{DictPair}
 use Rattle.ft_model.specs.declared.content.Element.{Element}
 use Rattle.ft_model.specs.declared.cursor.Cursor.{Cursor}
 use Rattle.ft_model.specs.declared.cursor.Cursor.TheVariants as cursor
-use Rattle.ft_model.specs.declared.cursor.Walk.{Walk}
-use Rattle.ft_model.specs.declared.cursor.Walk.TheVariants as walk
+use Rattle.ft_model.specs.declared.cursor.CursorState.{CursorState}
+use Rattle.ft_model.specs.declared.cursor.CursorState.TheVariants as walk
 use Rattle.ft_model.specs.Cursors.{is_after, next_pair, next_element, dict_walk, dict_next, set_walk, set_next, list_walk, is_given, has_size, is_ended, GoesOn}
 use Rattle.ft_model.specs.Worlds.{WorldContent, dict_at, list_at, set_at}
 use Rattle.ft_model.specs.Answers.{cursor_step, walked_length}
@@ -33,7 +33,7 @@ dict_walk-rising (Some pair) container size expected last after given =
       | false ↦ λ more. simp more (after pair refl)
     ] refl
 
-dict_next-rising : (pairs : List DictPair) (container : ℕ) (state : Walk) (size expected : ℕ) (last : Option ℕ) → is_given (dict_next pairs container state size expected last).reply ≡ true → GoesOn (cursor.Dict container state size expected last) (dict_next pairs container state size expected last).cursor
+dict_next-rising : (pairs : List DictPair) (container : ℕ) (state : CursorState) (size expected : ℕ) (last : Option ℕ) → is_given (dict_next pairs container state size expected last).reply ≡ true → GoesOn (cursor.Dict container state size expected last) (dict_next pairs container state size expected last).cursor
 dict_next-rising pairs container walk.Ended size expected last given = absurd (false≢true given)
 dict_next-rising pairs container walk.Reported size expected last given = absurd (false≢true given)
 dict_next-rising pairs container walk.Live size expected last given =
@@ -46,7 +46,7 @@ set_walk-rising : (found : Option Element) (container size : ℕ) (last : Option
 set_walk-rising None container size last after given = absurd (false≢true given)
 set_walk-rising (Some element) container size last after given = after element refl
 
-set_next-rising : (elements : List Element) (container : ℕ) (state : Walk) (size : ℕ) (last : Option ℕ) → is_given (set_next elements container state size last).reply ≡ true → GoesOn (cursor.Set container state size last) (set_next elements container state size last).cursor
+set_next-rising : (elements : List Element) (container : ℕ) (state : CursorState) (size : ℕ) (last : Option ℕ) → is_given (set_next elements container state size last).reply ≡ true → GoesOn (cursor.Set container state size last) (set_next elements container state size last).cursor
 set_next-rising elements container walk.Ended size last given = absurd (false≢true given)
 set_next-rising elements container walk.Reported size last given = absurd (false≢true given)
 set_next-rising elements container walk.Live size last given =
@@ -67,7 +67,7 @@ step_rising world (cursor.Set container state size last) given = set_next-rising
 
 -- ---- sizes
 
-dict_next-sized : (pairs : List DictPair) (container : ℕ) (state : Walk) (size expected : ℕ) (last : Option ℕ) → is_given (dict_next pairs container state size expected last).reply ≡ true → (length pairs == size) ≡ true
+dict_next-sized : (pairs : List DictPair) (container : ℕ) (state : CursorState) (size expected : ℕ) (last : Option ℕ) → is_given (dict_next pairs container state size expected last).reply ≡ true → (length pairs == size) ≡ true
 dict_next-sized pairs container walk.Ended size expected last given = absurd (false≢true given)
 dict_next-sized pairs container walk.Reported size expected last given = absurd (false≢true given)
 dict_next-sized pairs container walk.Live size expected last given =
@@ -76,7 +76,7 @@ dict_next-sized pairs container walk.Live size expected last given =
       | false ↦ λ differs. absurd (false≢true (simp differs at given))
     ] refl
 
-set_next-sized : (elements : List Element) (container : ℕ) (state : Walk) (size : ℕ) (last : Option ℕ) → is_given (set_next elements container state size last).reply ≡ true → (length elements == size) ≡ true
+set_next-sized : (elements : List Element) (container : ℕ) (state : CursorState) (size : ℕ) (last : Option ℕ) → is_given (set_next elements container state size last).reply ≡ true → (length elements == size) ≡ true
 set_next-sized elements container walk.Ended size last given = absurd (false≢true given)
 set_next-sized elements container walk.Reported size last given = absurd (false≢true given)
 set_next-sized elements container walk.Live size last given =

@@ -42,11 +42,13 @@ shows world hands reply = record { reply = reply; world = world; hands = hands }
 
 -- a call after which a container has this
 abbrev pub puts : List Content → List (Option Cursor) → ℕ → Content → Reply → Answer
-puts world hands container content reply = record { reply = reply; world = slice_set world container content; hands = hands }
+puts world hands container content reply =
+    record { reply = reply; world = slice_set world container content; hands = hands }
 
 -- a call after which a cursor stands so
 abbrev pub moves : List Content → List (Option Cursor) → ℕ → Cursor → Reply → Answer
-moves world hands number cursor reply = record { reply = reply; world = world; hands = slice_set hands number (Some cursor) }
+moves world hands number cursor reply =
+    record { reply = reply; world = world; hands = slice_set hands number (Some cursor) }
 
 -- ---- dicts
 
@@ -61,24 +63,36 @@ without_last dict = record { next = dict.next; pairs = take (length dict.pairs -
 -- a call of the dict at a place (Python manual, Mapping Types)
 abbrev pub answer_dict : List Content → List (Option Cursor) → ℕ → DictContent → DictCall → Answer
 -- d[k]: raises a KeyError if the key is not in the map
-answer_dict world hands place old (dict.Get key) = option_map_or (λ value. shows world hands (reply.Value value)) (dict_get old.pairs key) (shows world hands (reply.Raised raise.NoKey))
+answer_dict world hands place old (dict.Get key) =
+    option_map_or (λ value. shows world hands (reply.Value value)) (dict_get old.pairs key)
+    (shows world hands (reply.Raised raise.NoKey))
 -- d.get(k, v)
-answer_dict world hands place old (dict.GetOr key default) = shows world hands (reply.Value (unwrap_or (dict_get old.pairs key) default))
+answer_dict world hands place old (dict.GetOr key default) =
+    shows world hands (reply.Value (unwrap_or (dict_get old.pairs key) default))
 -- d[k] = v
-answer_dict world hands place old (dict.Set key value) = puts world hands place (content.Dict (dict_set old key value)) reply.Done
+answer_dict world hands place old (dict.Set key value) =
+    puts world hands place (content.Dict (dict_set old key value)) reply.Done
 -- del d[k]: raises a KeyError if the key is not in the map
 answer_dict world hands place old (dict.Del key) =
     if has_key old.pairs key
     then puts world hands place (content.Dict (dict_del old key)) reply.Done
     else shows world hands (reply.Raised raise.NoKey)
 -- d.pop(k): if the key is not there, a KeyError is raised
-answer_dict world hands place old (dict.Pop key) = option_map_or (λ value. puts world hands place (content.Dict (dict_del old key)) (reply.Value value)) (dict_get old.pairs key) (shows world hands (reply.Raised raise.NoKey))
+answer_dict world hands place old (dict.Pop key) =
+    option_map_or (λ value. puts world hands place (content.Dict (dict_del old key)) (reply.Value value))
+    (dict_get old.pairs key) (shows world hands (reply.Raised raise.NoKey))
 -- d.pop(k, v): if the key is not there, the default
-answer_dict world hands place old (dict.PopOr key default) = option_map_or (λ value. puts world hands place (content.Dict (dict_del old key)) (reply.Value value)) (dict_get old.pairs key) (shows world hands (reply.Value default))
+answer_dict world hands place old (dict.PopOr key default) =
+    option_map_or (λ value. puts world hands place (content.Dict (dict_del old key)) (reply.Value value))
+    (dict_get old.pairs key) (shows world hands (reply.Value default))
 -- d.popitem(): pairs are returned in LIFO order; if the dictionary is empty, a KeyError is raised
-answer_dict world hands place old dict.PopItem = option_map_or (λ pair. puts world hands place (content.Dict (without_last old)) (reply.Pair pair.key pair.value)) (slice_get old.pairs (length old.pairs - 1)) (shows world hands (reply.Raised raise.NoKey))
+answer_dict world hands place old dict.PopItem =
+    option_map_or (λ pair. puts world hands place (content.Dict (without_last old)) (reply.Pair pair.key pair.value))
+    (slice_get old.pairs (length old.pairs - 1)) (shows world hands (reply.Raised raise.NoKey))
 -- d.setdefault(k, v): if the key is there its value; if not, the default is inserted and returned
-answer_dict world hands place old (dict.SetDefault key default) = option_map_or (λ value. shows world hands (reply.Value value)) (dict_get old.pairs key) (puts world hands place (content.Dict (dict_set old key default)) (reply.Value default))
+answer_dict world hands place old (dict.SetDefault key default) =
+    option_map_or (λ value. shows world hands (reply.Value value)) (dict_get old.pairs key)
+    (puts world hands place (content.Dict (dict_set old key default)) (reply.Value default))
 -- k in d
 answer_dict world hands place old (dict.Has key) = shows world hands (reply.Truth (has_key old.pairs key))
 -- len(d)
@@ -86,13 +100,16 @@ answer_dict world hands place old dict.Len = shows world hands (reply.Count (len
 -- d.items()
 answer_dict world hands place old dict.Items = shows world hands (reply.Dict (items_of old.pairs))
 -- d.update(e)
-answer_dict world hands place old (dict.Update other) = puts world hands place (content.Dict (dict_update old (dict_at world other).pairs)) reply.Done
+answer_dict world hands place old (dict.Update other) =
+    puts world hands place (content.Dict (dict_update old (dict_at world other).pairs)) reply.Done
 -- d.clear()
 answer_dict world hands place old dict.Clear = puts world hands place (content.Dict (dict_clear old)) reply.Done
 -- the other dict gets these pairs in place of its own (profile)
-answer_dict world hands place old (dict.CopyTo other) = puts world hands other (content.Dict (dict_copy (dict_at world other) old.pairs)) reply.Done
+answer_dict world hands place old (dict.CopyTo other) =
+    puts world hands other (content.Dict (dict_copy (dict_at world other) old.pairs)) reply.Done
 -- d == e
-answer_dict world hands place old (dict.Eq other) = shows world hands (reply.Truth (same_pairs old.pairs (dict_at world other).pairs))
+answer_dict world hands place old (dict.Eq other) =
+    shows world hands (reply.Truth (same_pairs old.pairs (dict_at world other).pairs))
 -- iter(d.items())
 answer_dict world hands place old (dict.Iter cursor) = moves world hands cursor (dict_iter place old.pairs) reply.Done
 
@@ -101,21 +118,37 @@ answer_dict world hands place old (dict.Iter cursor) = moves world hands cursor 
 -- a call of the list at a place (Python manual, Sequence Types)
 abbrev pub answer_list : List Content → List (Option Cursor) → ℕ → List Value → ListCall → Answer
 -- l.append(v)
-answer_list world hands place items (list.Append value) = puts world hands place (content.List (items ++ value ∷ [])) reply.Done
+answer_list world hands place items (list.Append value) =
+    puts world hands place (content.List (items ++ value ∷ [])) reply.Done
 -- l.insert(i, v)
-answer_list world hands place items (list.Insert index value) = puts world hands place (content.List (list_insert items index value)) reply.Done
+answer_list world hands place items (list.Insert index value) =
+    puts world hands place (content.List (list_insert items index value)) reply.Done
 -- l[i]: raises an IndexError where the index is outside (Python manual, Built-in Exceptions)
-answer_list world hands place items (list.Get index) = option_map_or (λ found. shows world hands (reply.Value (slice_index_or items found value.Nothing))) (index_in (length items) index) (shows world hands (reply.Raised raise.NoIndex))
+answer_list world hands place items (list.Get index) =
+    option_map_or (λ found. shows world hands (reply.Value (slice_index_or items found value.Nothing)))
+    (index_in (length items) index) (shows world hands (reply.Raised raise.NoIndex))
 -- l[i] = v
-answer_list world hands place items (list.Set index value) = option_map_or (λ found. puts world hands place (content.List (slice_set items found value)) reply.Done) (index_in (length items) index) (shows world hands (reply.Raised raise.NoIndex))
+answer_list world hands place items (list.Set index value) =
+    option_map_or (λ found. puts world hands place (content.List (slice_set items found value)) reply.Done)
+    (index_in (length items) index) (shows world hands (reply.Raised raise.NoIndex))
 -- del l[i]
-answer_list world hands place items (list.Del index) = option_map_or (λ found. puts world hands place (content.List (remove items found)) reply.Done) (index_in (length items) index) (shows world hands (reply.Raised raise.NoIndex))
+answer_list world hands place items (list.Del index) =
+    option_map_or (λ found. puts world hands place (content.List (remove items found)) reply.Done)
+    (index_in (length items) index) (shows world hands (reply.Raised raise.NoIndex))
 -- l.pop(i): the index defaults to -1, so that the last item is taken out
-answer_list world hands place items (list.Pop index) = option_map_or (λ found. puts world hands place (content.List (remove items found)) (reply.Value (slice_index_or items found value.Nothing))) (index_in (length items) (unwrap_or index (negsuc 0))) (shows world hands (reply.Raised raise.NoIndex))
+answer_list world hands place items (list.Pop index) =
+    option_map_or
+    (λ found. puts world hands place (content.List (remove items found))
+    (reply.Value (slice_index_or items found value.Nothing))) (index_in (length items) (unwrap_or index (negsuc 0)))
+    (shows world hands (reply.Raised raise.NoIndex))
 -- l.remove(v): the first equal item; raises a ValueError when it is not found
-answer_list world hands place items (list.Remove value) = option_map_or (λ found. puts world hands place (content.List (remove items found)) reply.Done) (index_of items value) (shows world hands (reply.Raised raise.NoValue))
+answer_list world hands place items (list.Remove value) =
+    option_map_or (λ found. puts world hands place (content.List (remove items found)) reply.Done)
+    (index_of items value) (shows world hands (reply.Raised raise.NoValue))
 -- l.index(v): raises a ValueError when it is not found
-answer_list world hands place items (list.Index value) = option_map_or (λ found. shows world hands (reply.Count found)) (index_of items value) (shows world hands (reply.Raised raise.NoValue))
+answer_list world hands place items (list.Index value) =
+    option_map_or (λ found. shows world hands (reply.Count found)) (index_of items value)
+    (shows world hands (reply.Raised raise.NoValue))
 -- l.count(v)
 answer_list world hands place items (list.Count value) = shows world hands (reply.Count (count_of items value))
 -- v in l
@@ -123,7 +156,8 @@ answer_list world hands place items (list.Has value) = shows world hands (reply.
 -- l.reverse()
 answer_list world hands place items list.Reverse = puts world hands place (content.List (reverse items)) reply.Done
 -- l.extend(m)
-answer_list world hands place items (list.Extend other) = puts world hands place (content.List (items ++ list_at world other)) reply.Done
+answer_list world hands place items (list.Extend other) =
+    puts world hands place (content.List (items ++ list_at world other)) reply.Done
 -- l[i:j]
 answer_list world hands place items (list.Slice start end) = shows world hands (reply.List (list_slice items start end))
 -- l.clear()
@@ -133,7 +167,8 @@ answer_list world hands place items list.Len = shows world hands (reply.Count (l
 -- all items, in order
 answer_list world hands place items list.Items = shows world hands (reply.List items)
 -- l == m
-answer_list world hands place items (list.Eq other) = shows world hands (reply.Truth (same_items items (list_at world other)))
+answer_list world hands place items (list.Eq other) =
+    shows world hands (reply.Truth (same_items items (list_at world other)))
 -- iter(l)
 answer_list world hands place items (list.Iter cursor) = moves world hands cursor (list_iter place) reply.Done
 
@@ -148,14 +183,18 @@ abbrev pub answer_set : List Content → List (Option Cursor) → ℕ → SetCon
 -- s.add(k)
 answer_set world hands place old (set.Add key) = puts world hands place (content.Set (set_add old key)) reply.Done
 -- s.discard(k): removes the element if it is present
-answer_set world hands place old (set.Discard key) = puts world hands place (content.Set (set_discard old key)) reply.Done
+answer_set world hands place old (set.Discard key) =
+    puts world hands place (content.Set (set_discard old key)) reply.Done
 -- s.remove(k): raises a KeyError if the element is not contained in the set
 answer_set world hands place old (set.Remove key) =
     if has_element old.elements key
     then puts world hands place (content.Set (set_discard old key)) reply.Done
     else shows world hands (reply.Raised raise.NoKey)
 -- s.pop(): raises a KeyError if the set is empty; it is the first element that goes (profile)
-answer_set world hands place old set.Pop = option_map_or (λ element. puts world hands place (content.Set (without_first old)) (reply.Value (as_value element.key))) (slice_get old.elements 0) (shows world hands (reply.Raised raise.NoKey))
+answer_set world hands place old set.Pop =
+    option_map_or
+    (λ element. puts world hands place (content.Set (without_first old)) (reply.Value (as_value element.key)))
+    (slice_get old.elements 0) (shows world hands (reply.Raised raise.NoKey))
 -- k in s
 answer_set world hands place old (set.Has key) = shows world hands (reply.Truth (has_element old.elements key))
 -- len(s)
@@ -163,19 +202,26 @@ answer_set world hands place old set.Len = shows world hands (reply.Count (lengt
 -- all elements, in the order in which they were added (profile)
 answer_set world hands place old set.Items = shows world hands (reply.Set (map (λ element. element.key) old.elements))
 -- s == t
-answer_set world hands place old (set.Eq other) = shows world hands (reply.Truth (same_elements old.elements (set_at world other).elements))
+answer_set world hands place old (set.Eq other) =
+    shows world hands (reply.Truth (same_elements old.elements (set_at world other).elements))
 -- s |= t
-answer_set world hands place old (set.Or other) = puts world hands place (content.Set (set_or old (set_at world other).elements)) reply.Done
+answer_set world hands place old (set.Or other) =
+    puts world hands place (content.Set (set_or old (set_at world other).elements)) reply.Done
 -- s &= t
-answer_set world hands place old (set.And other) = puts world hands place (content.Set (set_and old (set_at world other).elements)) reply.Done
+answer_set world hands place old (set.And other) =
+    puts world hands place (content.Set (set_and old (set_at world other).elements)) reply.Done
 -- s -= t
-answer_set world hands place old (set.Sub other) = puts world hands place (content.Set (set_sub old (set_at world other).elements)) reply.Done
+answer_set world hands place old (set.Sub other) =
+    puts world hands place (content.Set (set_sub old (set_at world other).elements)) reply.Done
 -- s ^= t
-answer_set world hands place old (set.Xor other) = puts world hands place (content.Set (set_xor old (set_at world other).elements)) reply.Done
+answer_set world hands place old (set.Xor other) =
+    puts world hands place (content.Set (set_xor old (set_at world other).elements)) reply.Done
 -- s <= t
-answer_set world hands place old (set.Subset other) = shows world hands (reply.Truth (is_subset old.elements (set_at world other).elements))
+answer_set world hands place old (set.Subset other) =
+    shows world hands (reply.Truth (is_subset old.elements (set_at world other).elements))
 -- s.isdisjoint(t)
-answer_set world hands place old (set.Disjoint other) = shows world hands (reply.Truth (is_disjoint old.elements (set_at world other).elements))
+answer_set world hands place old (set.Disjoint other) =
+    shows world hands (reply.Truth (is_disjoint old.elements (set_at world other).elements))
 -- s.clear()
 answer_set world hands place old set.Clear = puts world hands place (content.Set (set_clear old)) reply.Done
 -- iter(s)
@@ -185,9 +231,11 @@ answer_set world hands place old (set.Iter cursor) = moves world hands cursor (s
 
 -- one `next` of a cursor over a container of the world (Python manual, Iterator Types)
 abbrev pub cursor_step : List Content → Cursor → CursorStep
-cursor_step world (cursor.Dict container walk size expected last) = dict_next (dict_at world container).pairs container walk size expected last
+cursor_step world (cursor.Dict container walk size expected last) =
+    dict_next (dict_at world container).pairs container walk size expected last
 cursor_step world (cursor.List container index ended) = list_next (list_at world container) container index ended
-cursor_step world (cursor.Set container walk size last) = set_next (set_at world container).elements container walk size last
+cursor_step world (cursor.Set container walk size last) =
+    set_next (set_at world container).elements container walk size last
 
 -- how many pairs, items or elements the cursor's container has
 abbrev pub walked_length : List Content → Cursor → ℕ
@@ -199,10 +247,15 @@ walked_length world (cursor.Set container walk size last) = length (set_at world
 
 -- what the plain containers of one thread reply to a call, and what it leaves; the calls of sections and `quiesce` ask no container, and leave all as it is
 abbrev pub answer : List Content → List (Option Cursor) → Call → Answer
-answer world hands (call.Dict container dict_call) = answer_dict world hands container (dict_at world container) dict_call
-answer world hands (call.List container list_call) = answer_list world hands container (list_at world container) list_call
+answer world hands (call.Dict container dict_call) =
+    answer_dict world hands container (dict_at world container) dict_call
+answer world hands (call.List container list_call) =
+    answer_list world hands container (list_at world container) list_call
 answer world hands (call.Set container set_call) = answer_set world hands container (set_at world container) set_call
-answer world hands (call.Next number) = option_map_or (λ cursor. moves world hands number (cursor_step world cursor).cursor (cursor_step world cursor).reply) (cursor_at hands number) (shows world hands reply.Stop)
+answer world hands (call.Next number) =
+    option_map_or
+    (λ cursor. moves world hands number (cursor_step world cursor).cursor (cursor_step world cursor).reply)
+    (cursor_at hands number) (shows world hands reply.Stop)
 answer world hands (call.Begin first second) = shows world hands reply.Done
 answer world hands call.End = shows world hands reply.Done
 answer world hands call.Quiesce = shows world hands reply.Done

@@ -298,9 +298,12 @@ is_locked_set (set.Iter cursor) = true
 
 -- how many locks a call takes from the start: those of the containers that it names, for a `next` that of its cursor's container (profile)
 abbrev pub locks_of : Call → ℕ
-locks_of (call.Dict container dict_call) = if is_locked_dict dict_call then length (containers_of (call.Dict container dict_call)) else 0
-locks_of (call.List container list_call) = if is_locked_list list_call then length (containers_of (call.List container list_call)) else 0
-locks_of (call.Set container set_call) = if is_locked_set set_call then length (containers_of (call.Set container set_call)) else 0
+locks_of (call.Dict container dict_call) =
+    if is_locked_dict dict_call then length (containers_of (call.Dict container dict_call)) else 0
+locks_of (call.List container list_call) =
+    if is_locked_list list_call then length (containers_of (call.List container list_call)) else 0
+locks_of (call.Set container set_call) =
+    if is_locked_set set_call then length (containers_of (call.Set container set_call)) else 0
 locks_of (call.Next cursor) = 1
 locks_of (call.Begin first second) = length (containers_of (call.Begin first second))
 locks_of call.End = 0

@@ -40,7 +40,8 @@ HasTableFor count (Some class) fill room = IsClass class × (count ≤ fill) × 
 -- the table of a content is in order; the entries of a list's table are its items, and aren't counted (profile)
 abbrev pub IsTableOf : Content → TableUse → Type 0
 IsTableOf (content.Dict dict) table = HasTableFor (length dict.pairs) table.class table.fill dict_entries
-IsTableOf (content.List items) table = HasTableFor (length items) table.class (length items) list_items × (table.fill ≡ 0)
+IsTableOf (content.List items) table =
+    HasTableFor (length items) table.class (length items) list_items × (table.fill ≡ 0)
 IsTableOf (content.Set set) table = HasTableFor (length set.elements) table.class table.fill set_entries
 
 -- there is a table or none for each content, each in order (profile)

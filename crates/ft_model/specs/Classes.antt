@@ -47,7 +47,9 @@ most_items = list_items greatest_class
 -- the smallest class of at least this many slots, and the greatest where that would be greater
 abbrev pub class_for : ℕ → ℕ
 class_for slots =
-    unwrap_or (find (λ class. nat_le slots (2 ^ class)) (range_with_len least_class (greatest_class - least_class))) greatest_class
+    unwrap_or
+        (find (λ class. nat_le slots (2 ^ class))
+        (range_with_len least_class (greatest_class - least_class))) greatest_class
 
 -- the classes of new tables for that many pairs, elements or items
 abbrev pub dict_class : ℕ → ℕ

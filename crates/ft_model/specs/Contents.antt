@@ -46,7 +46,8 @@ abbrev pub dict_set : DictContent → Key → Value → DictContent
 dict_set dict key value =
     if has_key dict.pairs key
     then record { next = dict.next; pairs = with_value dict.pairs key value }
-    else record { next = dict.next + 1; pairs = dict.pairs ++ record { serial = dict.next; key = key; value = value } ∷ [] }
+    else record { next = dict.next + 1;
+        pairs = dict.pairs ++ record { serial = dict.next; key = key; value = value } ∷ [] }
 
 -- a new value at a key that is there: keys and serials stand as they stood, and no serial is drawn (Python manual, Mapping Types: updating a key does not affect the order)
 pub record KeepsPlaces (old new : DictContent) : Type 0 where
@@ -118,7 +119,8 @@ set_add set key =
 
 -- `s.discard(k)`: the other elements, as they were (Python manual, Set Types)
 abbrev pub set_discard : SetContent → Key → SetContent
-set_discard set key = record { next = set.next; elements = filter (λ element. not (same_key element.key key)) set.elements }
+set_discard set key =
+    record { next = set.next; elements = filter (λ element. not (same_key element.key key)) set.elements }
 
 -- `s.clear()` (Python manual, Set Types). The next serial stays (profile)
 abbrev pub set_clear : SetContent → SetContent

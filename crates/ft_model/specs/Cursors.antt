@@ -9,8 +9,8 @@ use Rattle.ft_model.specs.declared.content.DictPair.{DictPair}
 use Rattle.ft_model.specs.declared.content.Element.{Element}
 use Rattle.ft_model.specs.declared.cursor.Cursor.{Cursor}
 use Rattle.ft_model.specs.declared.cursor.Cursor.TheVariants as cursor
-use Rattle.ft_model.specs.declared.cursor.Walk.{Walk}
-use Rattle.ft_model.specs.declared.cursor.Walk.TheVariants as walk
+use Rattle.ft_model.specs.declared.cursor.CursorState.{CursorState}
+use Rattle.ft_model.specs.declared.cursor.CursorState.TheVariants as walk
 use Rattle.ft_model.specs.Keys.{as_value}
 
 -- what one `next` answers, and the cursor that it leaves
@@ -35,16 +35,20 @@ next_pair pairs last = find (λ pair. is_after last pair.serial) pairs
 
 -- a live walk whose dict has the size that it had: it has come to the end, or the keys changed, or it gives a pair
 abbrev pub dict_walk : Option DictPair → ℕ → ℕ → ℕ → Option ℕ → CursorStep
-dict_walk None container size expected last = record { reply = reply.Stop; cursor = cursor.Dict container walk.Ended size expected last }
+dict_walk None container size expected last =
+    record { reply = reply.Stop; cursor = cursor.Dict container walk.Ended size expected last }
 dict_walk (Some pair) container size expected last =
     if expected == 0
     then record { reply = reply.Raised raise.Keys; cursor = cursor.Dict container walk.Ended size expected last }
-    else record { reply = reply.Pair pair.key pair.value; cursor = cursor.Dict container walk.Live size (expected - 1) (Some pair.serial) }
+    else record { reply = reply.Pair pair.key pair.value;
+        cursor = cursor.Dict container walk.Live size (expected - 1) (Some pair.serial) }
 
 -- the first that holds: it has ended; it was reported of a changed size; the size has changed; it goes on (profile)
-abbrev pub dict_next : List DictPair → ℕ → Walk → ℕ → ℕ → Option ℕ → CursorStep
-dict_next pairs container walk.Ended size expected last = record { reply = reply.Stop; cursor = cursor.Dict container walk.Ended size expected last }
-dict_next pairs container walk.Reported size expected last = record { reply = reply.Raised raise.Size; cursor = cursor.Dict container walk.Reported size expected last }
+abbrev pub dict_next : List DictPair → ℕ → CursorState → ℕ → ℕ → Option ℕ → CursorStep
+dict_next pairs container walk.Ended size expected last =
+    record { reply = reply.Stop; cursor = cursor.Dict container walk.Ended size expected last }
+dict_next pairs container walk.Reported size expected last =
+    record { reply = reply.Raised raise.Size; cursor = cursor.Dict container walk.Reported size expected last }
 dict_next pairs container walk.Live size expected last =
     if length pairs == size
     then dict_walk (next_pair pairs last) container size expected last
@@ -63,12 +67,16 @@ next_element elements last = find (λ element. is_after last element.serial) ele
 -- a live walk whose set has the size that it had: it has come to the end, or it gives an element
 abbrev pub set_walk : Option Element → ℕ → ℕ → Option ℕ → CursorStep
 set_walk None container size last = record { reply = reply.Stop; cursor = cursor.Set container walk.Ended size last }
-set_walk (Some element) container size last = record { reply = reply.Value (as_value element.key); cursor = cursor.Set container walk.Live size (Some element.serial) }
+set_walk (Some element) container size last =
+    record { reply = reply.Value (as_value element.key);
+    cursor = cursor.Set container walk.Live size (Some element.serial) }
 
 -- as for a dict, without a count of what is expected (profile)
-abbrev pub set_next : List Element → ℕ → Walk → ℕ → Option ℕ → CursorStep
-set_next elements container walk.Ended size last = record { reply = reply.Stop; cursor = cursor.Set container walk.Ended size last }
-set_next elements container walk.Reported size last = record { reply = reply.Raised raise.Size; cursor = cursor.Set container walk.Reported size last }
+abbrev pub set_next : List Element → ℕ → CursorState → ℕ → Option ℕ → CursorStep
+set_next elements container walk.Ended size last =
+    record { reply = reply.Stop; cursor = cursor.Set container walk.Ended size last }
+set_next elements container walk.Reported size last =
+    record { reply = reply.Raised raise.Size; cursor = cursor.Set container walk.Reported size last }
 set_next elements container walk.Live size last =
     if length elements == size
     then set_walk (next_element elements last) container size last
@@ -83,7 +91,8 @@ list_iter container = cursor.List container 0 false
 -- the item at the index, or the end for good (Python manual, Iterator Types)
 abbrev pub list_walk : Option Value → ℕ → ℕ → CursorStep
 list_walk None container index = record { reply = reply.Stop; cursor = cursor.List container index true }
-list_walk (Some value) container index = record { reply = reply.Value value; cursor = cursor.List container (index + 1) false }
+list_walk (Some value) container index =
+    record { reply = reply.Value value; cursor = cursor.List container (index + 1) false }
 
 abbrev pub list_next : List Value → ℕ → ℕ → Bool → CursorStep
 list_next items container index true = record { reply = reply.Stop; cursor = cursor.List container index true }
@@ -112,7 +121,9 @@ is_ended _ = false
 
 -- the second cursor gave one more than the first: a serial greater than all that the first gave, or the next index (profile)
 abbrev pub GoesOn : Cursor → Cursor → Type 0
-GoesOn (cursor.Dict container walk size expected last) (cursor.Dict _ _ _ _ new) = IsSomeAnd new (λ serial. is_after last serial ≡ true)
+GoesOn (cursor.Dict container walk size expected last) (cursor.Dict _ _ _ _ new) =
+    IsSomeAnd new (λ serial. is_after last serial ≡ true)
 GoesOn (cursor.List container index ended) (cursor.List _ new _) = new ≡ index + 1
-GoesOn (cursor.Set container walk size last) (cursor.Set _ _ _ new) = IsSomeAnd new (λ serial. is_after last serial ≡ true)
+GoesOn (cursor.Set container walk size last) (cursor.Set _ _ _ new) =
+    IsSomeAnd new (λ serial. is_after last serial ≡ true)
 GoesOn _ _ = ⊥

@@ -24,7 +24,9 @@ use Rattle.ft_model.specs.Tables.{IsEarned}
 
 -- by stamp, reads before the write of that number, then by thread and by index (profile)
 abbrev pub history_cmp : Entry → Entry → Ordering
-history_cmp a b = ordering_then (nat_cmp a.stamp b.stamp) (ordering_then (bool_cmp a.wrote b.wrote) (ordering_then (nat_cmp a.thread b.thread) (nat_cmp a.index b.index)))
+history_cmp a b =
+    ordering_then (nat_cmp a.stamp b.stamp)
+    (ordering_then (bool_cmp a.wrote b.wrote) (ordering_then (nat_cmp a.thread b.thread) (nat_cmp a.index b.index)))
 
 -- ---- the world and the hands at a place; places count from 0
 
@@ -64,7 +66,8 @@ after_entry script entries = after_stamped (kinds_of script.containers) (writes 
 -- the hands of a thread at a place: those that its entries before it leave (profile)
 abbrev pub hands_at : ScriptParts → List Entry → ℕ → ℕ → List (Option Cursor)
 hands_at script entries thread place =
-    hands_by (kinds_of script.containers) (writes entries) (cursors_of script thread) (entries_of thread (take place entries))
+    hands_by (kinds_of script.containers) (writes entries) (cursors_of script thread)
+        (entries_of thread (take place entries))
 
 -- ---- answers
 
@@ -87,14 +90,16 @@ pub record IsAnswered (script : ScriptParts) (entries : List Entry) (place : ℕ
   -- its stamp is the number of writes before it
   pub stamp : entry.stamp ≡ length (writes (take place entries))
   pub wrote : entry.wrote ≡ is_write entry.call entry.reply
-  pub reply : IsReplied entry.call entry.reply (answer (world_at script entries entry.stamp) (hands_at script entries entry.thread place) entry.call).reply
+  pub reply : IsReplied entry.call entry.reply
+      (answer (world_at script entries entry.stamp) (hands_at script entries entry.thread place) entry.call).reply
 
 -- ---- whole histories
 
 -- each thread's entries are its calls in the script, each once, in its order (profile)
 pub record IsWhole (script : ScriptParts) (entries : List Entry) : Type 0 where
   pub calls : (thread : ℕ) → map (λ entry. entry.call) (entries_of thread entries) ≡ calls_of script thread
-  pub indexes : (thread : ℕ) → map (λ entry. entry.index) (entries_of thread entries) ≡ range_with_len 1 (length (entries_of thread entries))
+  pub indexes : (thread : ℕ)
+      → map (λ entry. entry.index) (entries_of thread entries) ≡ range_with_len 1 (length (entries_of thread entries))
 
 -- ---- sections
 
@@ -105,7 +110,8 @@ pub record Section : Type 0 where
 
 -- the open sections of a thread after a call of it, innermost first
 abbrev pub after_section : ℕ → Call → List Section → List Section
-after_section place (call.Begin first second) sections = record { containers = containers_of (call.Begin first second); begun = place } ∷ sections
+after_section place (call.Begin first second) sections =
+    record { containers = containers_of (call.Begin first second); begun = place } ∷ sections
 after_section place call.End sections = drop 1 sections
 after_section place (call.Dict container dict_call) sections = sections
 after_section place (call.List container list_call) sections = sections
@@ -115,7 +121,8 @@ after_section place call.Quiesce sections = sections
 
 -- the open sections after an entry at its place, where the thread is the entry's
 abbrev pub after_numbered : ℕ → List Section → ℕ × Entry → List Section
-after_numbered thread sections numbered = if numbered.1.thread == thread then after_section numbered.0 numbered.1.call sections else sections
+after_numbered thread sections numbered =
+    if numbered.1.thread == thread then after_section numbered.0 numbered.1.call sections else sections
 
 -- the open sections of a thread at a place, innermost first
 abbrev pub sections_at : List Entry → ℕ → ℕ → List Section
@@ -147,11 +154,13 @@ names container called = list_any (λ named. named == container) (containers_of 
 
 -- whether an entry is another thread's write on one of the containers
 abbrev pub disturbs : ℕ → List ℕ → Entry → Bool
-disturbs thread containers entry = (entry.wrote && not (entry.thread == thread)) && list_any (λ container. names container entry.call) containers
+disturbs thread containers entry =
+    (entry.wrote && not (entry.thread == thread)) && list_any (λ container. names container entry.call) containers
 
 -- whether another thread's write on the section's containers stands between its `begin` and a place
 abbrev pub is_disturbed : List Entry → ℕ → ℕ → Section → Bool
-is_disturbed entries thread place section = list_any (disturbs thread section.containers) (between (section.begun + 1) place entries)
+is_disturbed entries thread place section =
+    list_any (disturbs thread section.containers) (between (section.begun + 1) place entries)
 
 -- whether an entry is a call of the thread that waited for a lock
 abbrev pub is_marked : ℕ → Entry → Bool
@@ -178,11 +187,15 @@ IsCountedBy entries thread place section said = IsCountedAs (marks_between entri
 
 -- an `end` that says kept is right
 abbrev pub IsKept : List Entry → ℕ → Entry → Type 0
-IsKept entries place entry = IfEnds (sections_at entries entry.thread place) entry.call (λ section. IsKeptBy entries entry.thread place section entry.reply)
+IsKept entries place entry =
+    IfEnds (sections_at entries entry.thread place) entry.call
+    (λ section. IsKeptBy entries entry.thread place section entry.reply)
 
 -- an `end` says how many calls in its section waited
 abbrev pub IsCounted : List Entry → ℕ → Entry → Type 0
-IsCounted entries place entry = IfEnds (sections_at entries entry.thread place) entry.call (λ section. IsCountedBy entries entry.thread place section entry.reply)
+IsCounted entries place entry =
+    IfEnds (sections_at entries entry.thread place) entry.call
+    (λ section. IsCountedBy entries entry.thread place section entry.reply)
 
 -- ---- marks
 
@@ -198,7 +211,10 @@ needs_at script entries place entry =
 
 -- a mark names another thread that has a call on a container that the marked call needs (profile)
 abbrev pub IsMarked : ScriptParts → List Entry → ℕ → Entry → Type 0
-IsMarked script entries place entry = IfSome entry.waited (λ thread. (thread ≢ entry.thread) × (list_any (has_call_on script thread) (needs_at script entries place entry) ≡ true))
+IsMarked script entries place entry =
+    IfSome entry.waited
+    (λ thread. (thread ≢ entry.thread)
+    × (list_any (has_call_on script thread) (needs_at script entries place entry) ≡ true))
 
 -- ---- legal histories
 

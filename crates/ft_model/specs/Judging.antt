@@ -14,7 +14,8 @@ use Rattle.ft_model.specs.Histories.{history_cmp, writes, world_at, entries_of, 
 -- the entry is the next call of its thread
 pub record IsNext (script : ScriptParts) (entries : List Entry) (place : ℕ) (entry : Entry) : Type 0 where
   pub index : entry.index ≡ length (entries_of entry.thread (take place entries)) + 1
-  pub call : slice_get (calls_of script entry.thread) (length (entries_of entry.thread (take place entries))) ≡ Some entry.call
+  pub call : slice_get (calls_of script entry.thread) (length (entries_of entry.thread (take place entries)))
+      ≡ Some entry.call
 
 -- its stamp is the number of writes before it, and it is marked as a write exactly where it is one
 pub record IsStamped (entries : List Entry) (place : ℕ) (entry : Entry) : Type 0 where
@@ -29,7 +30,10 @@ IsAfter entries place entry =
 
 -- its reply is the plain container's in the world that the writes before it left, a MemoryError aside, or of its section's form
 abbrev pub HasRightReply : ScriptParts → List Entry → ℕ → Entry → Type 0
-HasRightReply script entries place entry = IsReplied entry.call entry.reply (answer (world_at script entries (length (writes (take place entries)))) (hands_at script entries entry.thread place) entry.call).reply
+HasRightReply script entries place entry =
+    IsReplied entry.call entry.reply
+    (answer (world_at script entries (length (writes (take place entries))))
+    (hands_at script entries entry.thread place) entry.call).reply
 
 -- the rule holds of the entry at its place
 abbrev pub Holds : Storage → ScriptParts → List Entry → Rule → ℕ → Entry → Type 0
@@ -54,7 +58,8 @@ HoldsAtEnd script entries rule.Missing = IsComplete script entries
 HoldsAtEnd script entries _ = Unit {0}
 
 -- the rule holds at a place, which is an entry's or the one after the last entry
-pub record HoldsAt (storage : Storage) (script : ScriptParts) (entries : List Entry) (place : ℕ) (rule : Rule) : Type 0 where
+pub record HoldsAt (storage : Storage) (script : ScriptParts) (entries : List Entry) (place : ℕ)
+    (rule : Rule) : Type 0 where
   pub entry : (entry : Entry) → slice_get entries place ≡ Some entry → Holds storage script entries rule place entry
   pub after : place ≡ length entries → HoldsAtEnd script entries rule
 
@@ -74,12 +79,14 @@ rank_of rule.World = 9
 -- ---- the first broken rule
 
 -- every rule holds at every earlier place, and here every rule that is reported before this one
-pub record HoldsBefore (storage : Storage) (script : ScriptParts) (entries : List Entry) (place : ℕ) (rule : Rule) : Type 0 where
+pub record HoldsBefore (storage : Storage) (script : ScriptParts) (entries : List Entry) (place : ℕ)
+    (rule : Rule) : Type 0 where
   pub earlier : (before : ℕ) (other : Rule) → before < place → HoldsAt storage script entries before other
   pub here : (other : Rule) → rank_of other < rank_of rule → HoldsAt storage script entries place other
 
 -- the rule is the first that is broken, at the first place where one is
-pub record IsFirstBroken (storage : Storage) (script : ScriptParts) (entries : List Entry) (place : ℕ) (rule : Rule) : Type 0 where
+pub record IsFirstBroken (storage : Storage) (script : ScriptParts) (entries : List Entry) (place : ℕ)
+    (rule : Rule) : Type 0 where
   pub before : HoldsBefore storage script entries place rule
   pub broken : ¬ (HoldsAt storage script entries place rule)
 

@@ -20,7 +20,8 @@ IsReplyOf strings _ = Unit {0}
 
 -- and so is each that a container has (profile)
 abbrev pub IsContentOf : ℕ → Content → Type 0
-IsContentOf strings (content.Dict dict) = All (λ pair. IsKeyOf strings pair.key × IsValueOf strings pair.value) dict.pairs
+IsContentOf strings (content.Dict dict) =
+    All (λ pair. IsKeyOf strings pair.key × IsValueOf strings pair.value) dict.pairs
 IsContentOf strings (content.List items) = All (IsValueOf strings) items
 IsContentOf strings (content.Set set) = All (λ element. IsKeyOf strings element.key) set.elements
 

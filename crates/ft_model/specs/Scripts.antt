@@ -107,18 +107,23 @@ abbrev pub IsDeclaredAs : List Declaration → Kind → ℕ → Type 0
 IsDeclaredAs containers kind place = option_map (λ container. container.kind) (slice_get containers place) ≡ Some kind
 
 -- the containers are declared, and of that kind, and there is such a cursor, of that many
-pub record AreNamesOf (containers : List Declaration) (cursors : ℕ) (kind : Kind) (one : ℕ) (other cursor : Option ℕ) : Type 0 where
+pub record AreNamesOf (containers : List Declaration) (cursors : ℕ) (kind : Kind) (one : ℕ)
+    (other cursor : Option ℕ) : Type 0 where
   pub container : IsDeclaredAs containers kind one
   pub second : IfSome other (λ place. IsDeclaredAs containers kind place)
   pub made : IfSome cursor (λ number. number < cursors)
 
 -- a call names containers of its kind and cursors of its thread
 abbrev pub NamesOf : List Declaration → ℕ → Call → Type 0
-NamesOf containers cursors (call.Dict place dict_call) = AreNamesOf containers cursors kind.Dict place (other_dict dict_call) (cursor_of_dict dict_call)
-NamesOf containers cursors (call.List place list_call) = AreNamesOf containers cursors kind.List place (other_list list_call) (cursor_of_list list_call)
-NamesOf containers cursors (call.Set place set_call) = AreNamesOf containers cursors kind.Set place (other_set set_call) (cursor_of_set set_call)
+NamesOf containers cursors (call.Dict place dict_call) =
+    AreNamesOf containers cursors kind.Dict place (other_dict dict_call) (cursor_of_dict dict_call)
+NamesOf containers cursors (call.List place list_call) =
+    AreNamesOf containers cursors kind.List place (other_list list_call) (cursor_of_list list_call)
+NamesOf containers cursors (call.Set place set_call) =
+    AreNamesOf containers cursors kind.Set place (other_set set_call) (cursor_of_set set_call)
 NamesOf containers cursors (call.Next number) = number < cursors
-NamesOf containers cursors (call.Begin first second) = (first < length containers) × IfSome second (λ place. place < length containers)
+NamesOf containers cursors (call.Begin first second) =
+    (first < length containers) × IfSome second (λ place. place < length containers)
 NamesOf containers cursors call.End = Unit {0}
 NamesOf containers cursors call.Quiesce = Unit {0}
 
@@ -139,7 +144,9 @@ cursor_of call.Quiesce = None
 
 -- a cursor is made before it is moved
 abbrev pub AreMade : List Call → Type 0
-AreMade calls = (place number : ℕ) → slice_get calls place ≡ Some (call.Next number) → Any (λ earlier. cursor_of earlier ≡ Some number) (take place calls)
+AreMade calls =
+    (place number : ℕ) → slice_get calls place ≡ Some (call.Next number)
+    → Any (λ earlier. cursor_of earlier ≡ Some number) (take place calls)
 
 -- ---- sections
 

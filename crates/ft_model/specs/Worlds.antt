@@ -111,7 +111,8 @@ cursor_kind (cursor.Set container walk size last) = kind.Set
 
 -- the containers that a call is about: those that it names, or that of its cursor
 abbrev pub containers_used : List (Option Cursor) → Call → List ℕ
-containers_used hands (call.Next number) = option_map_or (λ cursor. container_of cursor ∷ []) (cursor_at hands number) []
+containers_used hands (call.Next number) =
+    option_map_or (λ cursor. container_of cursor ∷ []) (cursor_at hands number) []
 containers_used hands (call.Dict container dict_call) = containers_of (call.Dict container dict_call)
 containers_used hands (call.List container list_call) = containers_of (call.List container list_call)
 containers_used hands (call.Set container set_call) = containers_of (call.Set container set_call)
@@ -126,17 +127,22 @@ abbrev pub IsOfKind : List Content → Kind → ℕ → Type 0
 IsOfKind world kind place = option_map kind_of (slice_get world place) ≡ Some kind
 
 -- the container and the other one are declared, and of that kind, and there is room for the cursor
-pub record IsNamed (world : List Content) (hands : List (Option Cursor)) (kind : Kind) (container : ℕ) (other cursor : Option ℕ) : Type 0 where
+pub record IsNamed (world : List Content) (hands : List (Option Cursor)) (kind : Kind) (container : ℕ)
+    (other cursor : Option ℕ) : Type 0 where
   pub one : IsOfKind world kind container
   pub both : IfSome other (λ place. IsOfKind world kind place)
   pub room : IfSome cursor (λ number. number < length hands)
 
 -- the containers that a call names are declared and of its kind, and the cursor of a `next` was made; the calls of sections are none that a container answers
 abbrev pub IsDeclared : List Content → List (Option Cursor) → Call → Type 0
-IsDeclared world hands (call.Dict container dict_call) = IsNamed world hands kind.Dict container (other_dict dict_call) (cursor_of_dict dict_call)
-IsDeclared world hands (call.List container list_call) = IsNamed world hands kind.List container (other_list list_call) (cursor_of_list list_call)
-IsDeclared world hands (call.Set container set_call) = IsNamed world hands kind.Set container (other_set set_call) (cursor_of_set set_call)
-IsDeclared world hands (call.Next number) = IsSomeAnd (cursor_at hands number) (λ cursor. IsOfKind world (cursor_kind cursor) (container_of cursor))
+IsDeclared world hands (call.Dict container dict_call) =
+    IsNamed world hands kind.Dict container (other_dict dict_call) (cursor_of_dict dict_call)
+IsDeclared world hands (call.List container list_call) =
+    IsNamed world hands kind.List container (other_list list_call) (cursor_of_list list_call)
+IsDeclared world hands (call.Set container set_call) =
+    IsNamed world hands kind.Set container (other_set set_call) (cursor_of_set set_call)
+IsDeclared world hands (call.Next number) =
+    IsSomeAnd (cursor_at hands number) (λ cursor. IsOfKind world (cursor_kind cursor) (container_of cursor))
 IsDeclared world hands (call.Begin first second) = ⊥
 IsDeclared world hands call.End = ⊥
 IsDeclared world hands call.Quiesce = ⊥

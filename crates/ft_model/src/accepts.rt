@@ -1,3 +1,4 @@
+//! The conditions of a call, asked as a program, for callers that have no proof of them.
 ghost use Rattle.std.specs.Prelude.{◌≡◌, ◌↔◌, ◌+◌, ◌^◌, ◌<◌, [], IsTrue, Option, slice_index_or};
 ghost use Rattle.ft_model.specs.declared.content.Content.TheVariants.{List};
 ghost use Rattle.ft_model.specs.Worlds.{IsOfKind, IsNamed, IsDeclared, HasSerials, HasRoom, kind_of, cursor_kind, container_of, length_of};

@@ -1,3 +1,5 @@
+//! A call answered by the containers of one thread. Everything else in the project is measured by
+//! it.
 ghost use Rattle.std.specs.Prelude.{◌≡◌, ◌≢◌, ℕ, IsTrue, false, length, map, slice_get, Contains, Some, IfOk, OnOk, OnErr};
 ghost use Rattle.ft_model.specs.declared.call.Call.TheVariants.{Next};
 ghost use Rattle.ft_model.specs.Calls.{containers_of, moved_cursor};

@@ -1,3 +1,4 @@
+//! The calls that a thread can make, one variant for each.
 use crate::data::{Key, Value};
 
 /// A call of a script. Containers are named by their places in the script's declarations, cursors

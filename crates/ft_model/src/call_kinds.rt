@@ -1,3 +1,5 @@
+//! What is known of a call before it is made: which containers and cursor it names, whether it
+//! changes one, which locks it takes, what it does to tables.
 ghost use Rattle.std.specs.Prelude.{◌≡◌, length};
 
 use crate::call::{Call, Containers, DictCall, ListCall, SetCall, TableChange};

@@ -1,3 +1,4 @@
+//! What a container has, as a reader sees it.
 use crate::data::{Key, Value};
 use crate::dict::Dict;
 use crate::list::List;

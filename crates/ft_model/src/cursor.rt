@@ -1,8 +1,9 @@
+//! Cursors, as values: how far each has come.
 use crate::script::Kind;
 
 /// How far the walk of a dict or a set has come.
 #[derive(Clone, Copy, Debug, PartialEq, Eq, Hash)]
-pub enum Walk {
+pub enum CursorState {
     /// There may be more.
     Live,
     /// It was reported that the container's size changed.
@@ -20,7 +21,7 @@ pub enum Cursor {
         /// The dict.
         container: u32,
         /// How far the walk has come.
-        walk: Walk,
+        walk: CursorState,
         /// How many pairs there were when the cursor was made.
         size: u64,
         /// How many pairs are still expected.
@@ -42,7 +43,7 @@ pub enum Cursor {
         /// The set.
         container: u32,
         /// How far the walk has come.
-        walk: Walk,
+        walk: CursorState,
         /// How many elements there were when the cursor was made.
         size: u64,
         /// The serial of the element that was given last.

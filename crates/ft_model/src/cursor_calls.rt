@@ -1,3 +1,5 @@
+//! One step of a cursor. Each pair or element is given once at most, and an ended cursor stays
+//! ended.
 ghost use Rattle.std.specs.Prelude.{◌≡◌, true};
 ghost use Rattle.ft_model.specs.declared.reply.Reply.TheVariants.{Stop};
 ghost use Rattle.ft_model.specs.Cursors.{is_after, next_pair, next_element, dict_walk, dict_next, set_walk, set_next, list_next};
@@ -6,7 +8,7 @@ ghost use Rattle.ft_model.specs.Worlds.{IsOfKind, cursor_kind, container_of};
 ghost use Rattle.ft_model.specs.Answers.{cursor_step, walked_length};
 
 use crate::content::{DictPair, Element};
-use crate::cursor::{Cursor, Walk};
+use crate::cursor::{Cursor, CursorState};
 use crate::data::{Key, Value};
 use crate::reply::{Raise, Reply};
 use crate::world::World;
@@ -73,7 +75,7 @@ fn step_of(world: &World, cursor: &Cursor) -> Advanced
 fn step_dict(
     pairs: &[DictPair],
     container: u32,
-    walk: Walk,
+    walk: CursorState,
     size: u64,
     expected: u64,
     last: Option<u64>,
@@ -82,7 +84,7 @@ fn step_dict(
     ensures cursor { result.cursor ≡ (dict_next pairs.now container walk size expected last).cursor }
 {
     match walk {
-        Walk::Ended => Advanced {
+        CursorState::Ended => Advanced {
             reply: Reply::Stop,
             cursor: Cursor::Dict {
                 container,
@@ -92,14 +94,14 @@ fn step_dict(
                 last,
             },
         },
-        Walk::Live if pairs.len() as u64 == size => {
+        CursorState::Live if pairs.len() as u64 == size => {
             walk_dict(following_pair(pairs, last), container, size, expected, last)
         }
-        Walk::Live | Walk::Reported => Advanced {
+        CursorState::Live | CursorState::Reported => Advanced {
             reply: Reply::Raised(Raise::Size),
             cursor: Cursor::Dict {
                 container,
-                walk: Walk::Reported,
+                walk: CursorState::Reported,
                 size,
                 expected,
                 last,
@@ -124,7 +126,7 @@ fn walk_dict(
             reply: Reply::Stop,
             cursor: Cursor::Dict {
                 container,
-                walk: Walk::Ended,
+                walk: CursorState::Ended,
                 size,
                 expected,
                 last,
@@ -134,7 +136,7 @@ fn walk_dict(
             reply: Reply::Raised(Raise::Keys),
             cursor: Cursor::Dict {
                 container,
-                walk: Walk::Ended,
+                walk: CursorState::Ended,
                 size,
                 expected,
                 last,
@@ -144,7 +146,7 @@ fn walk_dict(
             reply: Reply::Pair(pair.key, pair.value),
             cursor: Cursor::Dict {
                 container,
-                walk: Walk::Live,
+                walk: CursorState::Live,
                 size,
                 expected: expected - 1,
                 last: Some(pair.serial),
@@ -202,7 +204,7 @@ fn step_list(items: &[Value], container: u32, index: u64, ended: bool) -> Advanc
 fn step_set(
     elements: &[Element],
     container: u32,
-    walk: Walk,
+    walk: CursorState,
     size: u64,
     last: Option<u64>,
 ) -> Advanced
@@ -210,7 +212,7 @@ fn step_set(
     ensures cursor { result.cursor ≡ (set_next elements.now container walk size last).cursor }
 {
     match walk {
-        Walk::Ended => Advanced {
+        CursorState::Ended => Advanced {
             reply: Reply::Stop,
             cursor: Cursor::Set {
                 container,
@@ -219,14 +221,14 @@ fn step_set(
                 last,
             },
         },
-        Walk::Live if elements.len() as u64 == size => {
+        CursorState::Live if elements.len() as u64 == size => {
             walk_set(following_element(elements, last), container, size, last)
         }
-        Walk::Live | Walk::Reported => Advanced {
+        CursorState::Live | CursorState::Reported => Advanced {
             reply: Reply::Raised(Raise::Size),
             cursor: Cursor::Set {
                 container,
-                walk: Walk::Reported,
+                walk: CursorState::Reported,
                 size,
                 last,
             },
@@ -244,7 +246,7 @@ fn walk_set(element: Option<Element>, container: u32, size: u64, last: Option<u6
             reply: Reply::Stop,
             cursor: Cursor::Set {
                 container,
-                walk: Walk::Ended,
+                walk: CursorState::Ended,
                 size,
                 last,
             },
@@ -253,7 +255,7 @@ fn walk_set(element: Option<Element>, container: u32, size: u64, last: Option<u6
             reply: Reply::Value(element.key.into_value()),
             cursor: Cursor::Set {
                 container,
-                walk: Walk::Live,
+                walk: CursorState::Live,
                 size,
                 last: Some(element.serial),
             },

@@ -1,3 +1,5 @@
+//! A dict of one thread. It keeps that keys are distinct and that serials rise, in insertion order,
+//! below the next one.
 ghost use Rattle.std.specs.Prelude.{◌≡◌, ◌≢◌, ◌↔◌, ℕ, ◌+◌, ◌-◌, ◌^◌, ◌<◌, ◌≤◌, ◌==◌, None, length, slice_get, IsTrue, IfSome, OnSome, IfNone, All, Any, IfOk, OnOk, OnErr, Some, position, false};
 ghost use Rattle.std.specs.Option.{unwrap_or, option_or};
 ghost use Rattle.std.specs.List.{list_all};

@@ -1,3 +1,4 @@
+//! The calls of dicts. Where memory runs out, nothing has changed.
 ghost use Rattle.std.specs.Prelude.{◌≡◌, ◌+◌, ◌^◌, ◌<◌, ℕ, true, length, None, slice_set, map, IfOk, OnOk, OnErr};
 ghost use Rattle.ft_model.specs.declared.call.Call.TheVariants as call_of;
 ghost use Rattle.ft_model.specs.declared.content.Content.TheVariants as content;
@@ -9,7 +10,7 @@ ghost use Rattle.ft_model.specs.Answers.{answer_dict, items_of};
 
 use crate::call::DictCall;
 use crate::content::Content;
-use crate::cursor::{Cursor, Walk};
+use crate::cursor::{Cursor, CursorState};
 use crate::data::{Key, Value};
 use crate::dict::Dict;
 use crate::reply::{Raise, Reply};
@@ -53,7 +54,7 @@ pub(crate) fn answer(
                 cursor,
                 Cursor::Dict {
                     container: place,
-                    walk: Walk::Live,
+                    walk: CursorState::Live,
                     size,
                     expected: size,
                     last: None,

@@ -1,3 +1,4 @@
+//! An entry of a history, and how its containers are stored.
 use crate::call::Call;
 use crate::reply::Reply;
 

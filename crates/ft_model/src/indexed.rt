@@ -1,3 +1,5 @@
+//! Elements beside a hash table of their keys, so that calls on two sets take time in the sum of
+//! their lengths.
 ghost use Rattle.std.specs.Prelude.{◌≡◌, IfOk};
 ghost use Rattle.std.specs.HashSet.{contains_by};
 ghost use Rattle.ft_model.specs.declared.data.Key.{Key};

@@ -38,7 +38,7 @@ pub use class::{
     table_of_copy, taken_by_copy, taken_by_dict, taken_by_list, taken_by_set,
 };
 pub use content::{Content, DictPair, Element};
-pub use cursor::{Cursor, Walk};
+pub use cursor::{Cursor, CursorState};
 pub use cursor_calls::{Advanced, advance};
 pub use data::{Key, Sym, Value};
 pub use dict::Dict;

@@ -1,3 +1,4 @@
+//! A list of one thread: its items, in order.
 ghost use Rattle.std.specs.Prelude.{◌≡◌, ℕ, suc, ◌+◌, ◌-◌, ◌^◌, ◌<◌, ◌≤◌, Some, ◌==◌, ◌++◌, ◌∷◌, [], length, reverse, slice_set, slice_index_or, slice_get, is_some, option_map, IfOk, OnOk, OnErr, IfSome, IfNone, OnSome, unwrap_or, min};
 ghost use Rattle.std.specs.List.{remove, insert};
 ghost use Rattle.ft_model.specs.Lists.{index_in, clamped_in, list_slice};

@@ -1,3 +1,4 @@
+//! The calls of lists. Where memory runs out, nothing has changed.
 ghost use Rattle.std.specs.Prelude.{◌≡◌, ◌++◌, ℕ, true, None, slice_set, IfOk, OnOk, OnErr};
 ghost use Rattle.ft_model.specs.declared.content.Content.TheVariants as content;
 ghost use Rattle.ft_model.specs.declared.script.Kind.TheVariants as kind;

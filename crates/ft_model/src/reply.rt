@@ -1,3 +1,4 @@
+//! What calls reply, exceptions among it.
 use crate::data::{Key, Value};
 use crate::sequence::Sequence;
 

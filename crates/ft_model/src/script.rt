@@ -1,3 +1,5 @@
+//! A script, which keeps its rule: names that differ, calls that are its own, sections that are
+//! ended, and all limits. Who is given one may rest on that.
 use crate::call::Call;
 use crate::sequence::Sequence;
 use std::marker::Model;

@@ -1,3 +1,4 @@
+//! A vector that contracts see as its items alone, so that equality is what clients see.
 ghost use Rattle.std.specs.Prelude.{◌≡◌, ◌↔◌, ℕ, List, [], ◌∷◌, ◌++◌, length, IsTrue, OnOk, OnErr, IfErr};
 
 use std::alloc::{AllocFailed, Global};

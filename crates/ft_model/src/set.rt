@@ -1,3 +1,5 @@
+//! A set of one thread. It keeps that elements are distinct and that serials rise, in the order of
+//! adding, below the next one.
 ghost use Rattle.std.specs.Prelude.{◌≡◌, ◌≢◌, ◌↔◌, ◌&&◌, ◌||◌, not, IsTrue, ℕ, ◌+◌, ◌^◌, ◌<◌, ◌==◌, false, length, slice_get, option_map, IfOk, OnOk, OnErr, IfNone};
 ghost use Rattle.std.specs.List.{list_any};
 ghost use Rattle.ft_model.specs.Contents.{has_element, elements_from, those_not_in, is_subset, same_elements, is_disjoint};

@@ -1,3 +1,4 @@
+//! The calls of sets. Where memory runs out, nothing has changed.
 ghost use Rattle.std.specs.Prelude.{◌≡◌, ◌+◌, ◌^◌, ◌<◌, ℕ, true, length, Some, None, IsSome, slice_set, map, IfOk, OnOk, OnErr};
 ghost use Rattle.ft_model.specs.declared.call.Call.TheVariants as call_of;
 ghost use Rattle.ft_model.specs.declared.content.Content.TheVariants as content;
@@ -8,7 +9,7 @@ ghost use Rattle.ft_model.specs.Answers.{answer_set};
 
 use crate::call::SetCall;
 use crate::content::Content;
-use crate::cursor::{Cursor, Walk};
+use crate::cursor::{Cursor, CursorState};
 use crate::data::Key;
 use crate::reply::{Raise, Reply};
 use crate::sequence::Sequence;
@@ -56,7 +57,7 @@ pub(crate) fn answer(
                 cursor,
                 Cursor::Set {
                     container: place,
-                    walk: Walk::Live,
+                    walk: CursorState::Live,
                     size,
                     last: None,
                 },

@@ -1,3 +1,4 @@
+//! The containers of a script and the cursors of a thread, for whoever answers calls.
 ghost use Rattle.std.specs.Prelude.{◌≡◌, ◌<◌, length, Some, slice_set, IfOk};
 ghost use Rattle.ft_model.specs.Worlds.{start_world, IsOfKind, dict_at, list_at, set_at};
 ghost use Rattle.ft_model.specs.declared.script.Kind.TheVariants as kind;

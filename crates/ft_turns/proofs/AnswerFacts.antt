@@ -24,8 +24,8 @@ use Rattle.ft_model.specs.declared.content.DictPair.{DictPair}
 use Rattle.ft_model.specs.declared.content.Element.{Element}
 use Rattle.ft_model.specs.declared.cursor.Cursor.{Cursor}
 use Rattle.ft_model.specs.declared.cursor.Cursor.TheVariants as cursor
-use Rattle.ft_model.specs.declared.cursor.Walk.{Walk}
-use Rattle.ft_model.specs.declared.cursor.Walk.TheVariants as walk
+use Rattle.ft_model.specs.declared.cursor.CursorState.{CursorState}
+use Rattle.ft_model.specs.declared.cursor.CursorState.TheVariants as walk
 use Rattle.ft_model.specs.Calls.{is_changing, one_or_two, containers_of, other_dict, other_list, other_set, cursor_of_dict, cursor_of_list, cursor_of_set}
 use Rattle.ft_model.specs.Contents.{empty_dict, empty_set}
 use Rattle.ft_model.specs.Cursors.{CursorStep, is_after, next_pair, dict_walk, dict_next, next_element, set_walk, set_next, list_walk, list_next}
@@ -200,7 +200,7 @@ module _ (n : ℕ) (world : List Content) (contents : All (IsContentOf n) world)
   abbrev IsStep : Cursor → CursorStep → Type 0
   IsStep before step = (is_memory step.reply ≡ false) × IsReplyOf n step.reply × (container_of step.cursor ≡ container_of before) × (cursor_kind step.cursor ≡ cursor_kind before)
 
-  dict_step : (pairs : List DictPair) (container : ℕ) (state : Walk) (size expected : ℕ) (last : Option ℕ) → All (IsPairOf n) pairs → IsStep (cursor.Dict container state size expected last) (dict_next pairs container state size expected last)
+  dict_step : (pairs : List DictPair) (container : ℕ) (state : CursorState) (size expected : ℕ) (last : Option ℕ) → All (IsPairOf n) pairs → IsStep (cursor.Dict container state size expected last) (dict_next pairs container state size expected last)
   dict_step pairs container walk.Ended size expected last of = (refl, tt, refl, refl)
   dict_step pairs container walk.Reported size expected last of = (refl, tt, refl, refl)
   dict_step pairs container walk.Live size expected last of =
@@ -215,7 +215,7 @@ module _ (n : ℕ) (world : List Content) (contents : All (IsContentOf n) world)
         ] refl
       ]
 
-  set_step : (elements : List Element) (container : ℕ) (state : Walk) (size : ℕ) (last : Option ℕ) → All (IsElementOf n) elements → IsStep (cursor.Set container state size last) (set_next elements container state size last)
+  set_step : (elements : List Element) (container : ℕ) (state : CursorState) (size : ℕ) (last : Option ℕ) → All (IsElementOf n) elements → IsStep (cursor.Set container state size last) (set_next elements container state size last)
   set_step elements container walk.Ended size last of = (refl, tt, refl, refl)
   set_step elements container walk.Reported size last of = (refl, tt, refl, refl)
   set_step elements container walk.Live size last of =

@@ -119,7 +119,8 @@ with_answer answers thread index called =
 
 -- after the end of a call of a thread, with this mark
 abbrev pub with_mark : Answers → ℕ → Call → Option ℕ → Answers
-with_mark answers thread called waited = record answers { tallies = slice_set answers.tallies thread (tally_after (tally_in answers thread) called waited) }
+with_mark answers thread called waited =
+    record answers { tallies = slice_set answers.tallies thread (tally_after (tally_in answers thread) called waited) }
 
 -- ---- turns
 
@@ -137,17 +138,20 @@ abbrev pub has_answered : Machine → Machine → Bool
 has_answered before after = nat_lt (length before.answered) (length after.answered)
 
 abbrev pub has_finished : Machine → Machine → ℕ → Bool
-has_finished before after thread = nat_lt (length (thread_at before thread).marks) (length (thread_at after thread).marks)
+has_finished before after thread =
+    nat_lt (length (thread_at before thread).marks) (length (thread_at after thread).marks)
 
 abbrev pub mark_given : Machine → Machine → ℕ → Option ℕ
-mark_given before after thread = slice_index_or (thread_at after thread).marks (length (thread_at before thread).marks) None
+mark_given before after thread =
+    slice_index_or (thread_at after thread).marks (length (thread_at before thread).marks) None
 
 -- the index of a thread's next call
 abbrev pub next_index : Machine → ℕ → ℕ
 next_index machine thread = length (thread_at machine thread).marks + 1
 
 abbrev pub answers_after : Answers → ℕ → ℕ → Call → Bool → Answers
-answers_after answers thread index called answered = if answered then with_answer answers thread index called else answers
+answers_after answers thread index called answered =
+    if answered then with_answer answers thread index called else answers
 
 abbrev pub marks_after : Answers → ℕ → Call → Bool → Option ℕ → Answers
 marks_after answers thread called finished waited = if finished then with_mark answers thread called waited else answers
@@ -157,7 +161,10 @@ abbrev pub with_turn : Progress → ℕ → Call → Bool → Bool → Option �
 with_turn progress thread called answered finished waited after =
     record {
       machine = after;
-      answers = marks_after (answers_after progress.answers thread (next_index progress.machine thread) called answered) thread called finished waited;
+      answers =
+          marks_after
+          (answers_after progress.answers thread
+          (next_index progress.machine thread) called answered) thread called finished waited;
     }
 
 -- a turn of a thread, whose call is answered where the turn fixes its answer
@@ -184,7 +191,8 @@ last_progress script = fold (answered_turn script) (start_progress script) (turn
 
 -- an entry with its mark
 abbrev pub marked_entry : Machine → Entry → Entry
-marked_entry machine entry = record entry { waited = slice_index_or (thread_at machine entry.thread).marks (entry.index - 1) None }
+marked_entry machine entry =
+    record entry { waited = slice_index_or (thread_at machine entry.thread).marks (entry.index - 1) None }
 
 -- the entries in the order in which their answers were fixed, each with its mark
 abbrev pub answered_turns : ScriptParts → List Entry

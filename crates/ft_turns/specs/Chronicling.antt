@@ -13,7 +13,8 @@ use Rattle.ft_turns.specs.Orders.{thread_at, last_machine, order_of, ordered_ent
 
 -- each thread's calls have finished in the turns
 abbrev pub AllFinish : ScriptParts → Type 0
-AllFinish script = (thread : ℕ) → length (thread_at (last_machine script) thread).marks ≡ length (calls_of script thread)
+AllFinish script =
+    (thread : ℕ) → length (thread_at (last_machine script) thread).marks ≡ length (calls_of script thread)
 
 -- these entries and this world come of the script's turns: the entries are a chronicle of the script in the order of the turns, with the marks that the turns give, and the world is the one that they leave
 pub record IsChronicleOfTurns (script : ScriptParts) (entries : List Entry) (world : List Content) : Type 0 where
@@ -29,5 +30,7 @@ pub record IsAnswerable (progress : Progress) (thread : ℕ) (called : Call) : T
   pub tally : thread < length progress.answers.tallies
   pub few : (tally_in progress.answers thread).count < 2 ^ 32 - 1
   pub index : next_index progress.machine thread ≤ 500000
-  pub declared : (thread_at progress.machine thread).fixed ≡ false → asks_container called ≡ true → IsDeclared progress.answers.world (hands_in progress.answers thread) called
-  pub room : (thread_at progress.machine thread).fixed ≡ false → asks_container called ≡ true → HasRoom progress.answers.world called
+  pub declared : (thread_at progress.machine thread).fixed ≡ false → asks_container called ≡ true
+      → IsDeclared progress.answers.world (hands_in progress.answers thread) called
+  pub room : (thread_at progress.machine thread).fixed ≡ false → asks_container called ≡ true
+      → HasRoom progress.answers.world called

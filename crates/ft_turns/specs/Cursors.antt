@@ -11,4 +11,5 @@ no_containers = named.None
 
 -- the containers of a thread's cursors, by number, after these calls of it
 abbrev pub AreCursors : List Call → List Containers → Type 0
-AreCursors before cursors = (number : ℕ) → container_list (slice_index_or cursors number no_containers) ≡ cursor_containers before number
+AreCursors before cursors =
+    (number : ℕ) → container_list (slice_index_or cursors number no_containers) ≡ cursor_containers before number

@@ -12,7 +12,9 @@ steps_made machine = sum_by (λ state. so_far state + length state.marks) machin
 
 -- every call has finished
 abbrev pub AreFinished : ScriptParts → Machine → Type 0
-AreFinished script machine = (thread : ℕ) → thread < length script.threads → length (thread_at machine thread).marks ≡ length (calls_of script thread)
+AreFinished script machine =
+    (thread : ℕ) → thread < length script.threads
+    → length (thread_at machine thread).marks ≡ length (calls_of script thread)
 
 -- the machine after these turns
 abbrev pub after_turns : ScriptParts → List ℕ → Machine
@@ -28,8 +30,12 @@ places_of thread answered = map (λ one. one.1) (filter (λ one. one.0 == thread
 
 -- in any two rounds that follow each other an answer is fixed or a call finishes, unless no call is left (profile)
 pub record TurnsGoOn (script : ScriptParts) : Type 0 where
-  pub two_rounds : (turns : List ℕ) (thread : ℕ) → AreTurns script turns → thread < length script.threads → length (thread_at (after_turns script turns) thread).marks < length (calls_of script thread) → steps_made (after_turns script turns) < steps_made (after_turns script (turns ++ (round_of script ++ round_of script)))
+  pub two_rounds : (turns : List ℕ) (thread : ℕ) → AreTurns script turns → thread < length script.threads
+      → length (thread_at (after_turns script turns) thread).marks < length (calls_of script thread)
+      → steps_made (after_turns script turns) < steps_made
+      (after_turns script (turns ++ (round_of script ++ round_of script)))
   -- so all calls finish
   pub finished : AreFinished script (last_machine script)
   -- and the answer of each is fixed once, each thread's in the order of its calls
-  pub answered : (thread : ℕ) → thread < length script.threads → places_of thread (last_machine script).answered ≡ range_with_len 0 (length (calls_of script thread))
+  pub answered : (thread : ℕ) → thread < length script.threads
+      → places_of thread (last_machine script).answered ≡ range_with_len 0 (length (calls_of script thread))

@@ -20,15 +20,20 @@ makes number called = option_map_or (λ made. made == number) (cursor_of called)
 
 -- the container of a cursor after these calls of its thread: that of the call that made it last
 abbrev pub cursor_containers : List Call → ℕ → List ℕ
-cursor_containers calls number = fold (λ containers called. if makes number called then containers_of called else containers) [] calls
+cursor_containers calls number =
+    fold (λ containers called. if makes number called then containers_of called else containers) [] calls
 
 -- the containers whose locks a call takes, after these calls of its thread; a call that is tried without a lock takes none here
 abbrev pub locks_taken : List Call → Call → List ℕ
 locks_taken before (call.Next number) = cursor_containers before number
-locks_taken before (call.Dict container dict_call) = if locks_of (call.Dict container dict_call) == 0 then [] else containers_of (call.Dict container dict_call)
-locks_taken before (call.List container list_call) = if locks_of (call.List container list_call) == 0 then [] else containers_of (call.List container list_call)
-locks_taken before (call.Set container set_call) = if locks_of (call.Set container set_call) == 0 then [] else containers_of (call.Set container set_call)
-locks_taken before (call.Begin first second) = if locks_of (call.Begin first second) == 0 then [] else containers_of (call.Begin first second)
+locks_taken before (call.Dict container dict_call) =
+    if locks_of (call.Dict container dict_call) == 0 then [] else containers_of (call.Dict container dict_call)
+locks_taken before (call.List container list_call) =
+    if locks_of (call.List container list_call) == 0 then [] else containers_of (call.List container list_call)
+locks_taken before (call.Set container set_call) =
+    if locks_of (call.Set container set_call) == 0 then [] else containers_of (call.Set container set_call)
+locks_taken before (call.Begin first second) =
+    if locks_of (call.Begin first second) == 0 then [] else containers_of (call.Begin first second)
 locks_taken before call.End = if locks_of call.End == 0 then [] else containers_of call.End
 locks_taken before call.Quiesce = if locks_of call.Quiesce == 0 then [] else containers_of call.Quiesce
 
@@ -67,7 +72,9 @@ abbrev pub fresh_thread : ThreadState
 fresh_thread = record { marks = []; fixed = false; sections = []; own = []; mark = None }
 
 abbrev pub start_machine : ScriptParts → Machine
-start_machine script = record { holders = map (λ container. None) script.containers; threads = map (λ thread. fresh_thread) script.threads; answered = [] }
+start_machine script =
+    record { holders = map (λ container. None) script.containers;
+    threads = map (λ thread. fresh_thread) script.threads; answered = [] }
 
 -- ---- locks
 
@@ -136,7 +143,8 @@ waiting_machine machine thread state locking found =
 
 -- the sections of a thread when the answer of a call is fixed, and the locks that are let go then: a `begin` enters a section, which took what the call took; an `end` lets go what its section took; any other call lets go what it took itself
 abbrev pub sections_after : Call → List ℕ → List OpenSection → List OpenSection
-sections_after (call.Begin first second) own sections = record { containers = containers_of (call.Begin first second); taken = own } ∷ sections
+sections_after (call.Begin first second) own sections =
+    record { containers = containers_of (call.Begin first second); taken = own } ∷ sections
 sections_after call.End own sections = drop 1 sections
 sections_after (call.Dict container dict_call) own sections = sections
 sections_after (call.List container list_call) own sections = sections
@@ -205,23 +213,36 @@ finished_machine machine thread state locking =
 
 -- a step of a thread whose answer is not fixed, and of one whose answer is
 abbrev pub locked : Machine → ℕ → ThreadState → Call → Locking → Machine
-locked machine thread state called locking = option_map_or (waiting_machine machine thread state locking) locking.found (answered_machine machine thread state called locking)
+locked machine thread state called locking =
+    option_map_or (waiting_machine machine thread state locking) locking.found
+    (answered_machine machine thread state called locking)
 
 abbrev pub try_answer : ScriptParts → Machine → ℕ → ThreadState → Call → Machine
-try_answer script machine thread state called = locked machine thread state called (take_locks thread machine.holders (lower_first (locks_taken (take (length state.marks) (calls_of script thread)) called)))
+try_answer script machine thread state called =
+    locked machine thread state called
+    (take_locks thread machine.holders
+    (lower_first (locks_taken (take (length state.marks) (calls_of script thread)) called)))
 
 abbrev pub relocked : Machine → ℕ → ThreadState → Locking → Machine
-relocked machine thread state locking = option_map_or (waiting_machine machine thread state locking) locking.found (finished_machine machine thread state locking)
+relocked machine thread state locking =
+    option_map_or (waiting_machine machine thread state locking) locking.found
+    (finished_machine machine thread state locking)
 
 abbrev pub try_finish : Machine → ℕ → Machine
 try_finish machine thread =
     if (thread_at machine thread).fixed
-    then relocked machine thread (thread_at machine thread) (take_locks thread machine.holders (lower_first (innermost_containers (thread_at machine thread).sections)))
+    then relocked machine thread (thread_at machine thread)
+        (take_locks thread machine.holders (lower_first (innermost_containers (thread_at machine thread).sections)))
     else machine
 
 -- one turn of a thread: one try of its next call, which fixes the answer, where it isn't fixed, and then takes up the innermost section again; a thread without calls spends its turn
 abbrev pub turn : ScriptParts → Machine → ℕ → Machine
-turn script machine thread = option_map_or (λ called. try_finish (if (thread_at machine thread).fixed then machine else try_answer script machine thread (thread_at machine thread) called) thread) (next_call script thread (thread_at machine thread)) machine
+turn script machine thread =
+    option_map_or
+    (λ called. try_finish
+    (if (thread_at machine thread).fixed then machine
+    else try_answer script machine thread (thread_at machine thread) called) thread)
+    (next_call script thread (thread_at machine thread)) machine
 
 -- ---- the order
 
@@ -246,7 +267,9 @@ pub record Ordered : Type 0 where
   pub waited : Option ℕ
 
 abbrev pub ordered_in : Machine → ℕ × ℕ → Ordered
-ordered_in machine answered = record { thread = answered.0; index = answered.1 + 1; waited = slice_index_or (thread_at machine answered.0).marks answered.1 None }
+ordered_in machine answered =
+    record { thread = answered.0; index = answered.1 + 1;
+    waited = slice_index_or (thread_at machine answered.0).marks answered.1 None }
 
 -- the calls in the order in which their answers are fixed, each with its mark
 abbrev pub order_of : ScriptParts → List Ordered

@@ -9,4 +9,5 @@ rounds_of threads rounds = flat_map (λ round. range_with_len 0 threads) (range_
 
 -- what is left of the order, of the round that has begun, and of the rounds
 abbrev pub scheduled : Schedule → List ℕ → ℕ → List ℕ
-scheduled schedule order threads = drop schedule.ordered order ++ (drop schedule.next (range_with_len 0 threads) ++ rounds_of threads schedule.rounds)
+scheduled schedule order threads =
+    drop schedule.ordered order ++ (drop schedule.next (range_with_len 0 threads) ++ rounds_of threads schedule.rounds)

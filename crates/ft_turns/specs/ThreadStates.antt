@@ -31,7 +31,8 @@ state_of thread_state =
 
 -- the machine, where these are the calls whose answers are fixed
 abbrev pub machine_with : List (Option ℕ) → List StoredThread → List (ℕ × ℕ) → Machine
-machine_with holders threads answered = record { holders = holders; threads = map state_of threads; answered = answered }
+machine_with holders threads answered =
+    record { holders = holders; threads = map state_of threads; answered = answered }
 
 abbrev pub machine_of : LockMachine → List (ℕ × ℕ) → Machine
 machine_of machine answered = machine_with machine.holders.items machine.threads.items answered
@@ -83,7 +84,8 @@ answer_part thread before called holders state =
 abbrev pub finish_part : ℕ → Tried → Tried
 finish_part thread answer =
     if answer.state.fixed
-    then finish_tried answer.state (take_locks thread answer.holders (lower_first (innermost_containers answer.state.sections)))
+    then finish_tried answer.state
+        (take_locks thread answer.holders (lower_first (innermost_containers answer.state.sections)))
     else not_tried answer.holders answer.state
 
 -- the calls whose answers became fixed in a turn: the one at this place among the calls of the thread, if any
@@ -92,7 +94,9 @@ newly_answered thread place done = if done then (thread, place) ∷ [] else []
 
 -- the machine where the thread has come to this, and these calls more are answered
 abbrev pub placed : Machine → ℕ → Tried → List (ℕ × ℕ) → Machine
-placed machine thread tried more = record { holders = tried.holders; threads = slice_set machine.threads thread tried.state; answered = machine.answered ++ more }
+placed machine thread tried more =
+    record { holders = tried.holders; threads = slice_set machine.threads thread tried.state;
+    answered = machine.answered ++ more }
 
 -- ---- what the machine rests on
 
@@ -105,7 +109,8 @@ pub record IsReadyThread (calls : List Call) (count : ℕ) (thread_state : Store
 -- the threads are those of this script
 pub record IsReady (script : ScriptParts) (thread_states : List StoredThread) : Type 0 where
   pub threads : length thread_states ≡ length script.threads
-  pub each : (thread : ℕ) (default : StoredThread) → thread < length thread_states → IsReadyThread (calls_of script thread) (cursors_of script thread) (slice_index_or thread_states thread default)
+  pub each : (thread : ℕ) (default : StoredThread) → thread < length thread_states
+      → IsReadyThread (calls_of script thread) (cursors_of script thread) (slice_index_or thread_states thread default)
 
 -- ---- what a turn tells
 
@@ -116,7 +121,9 @@ turned_of script machine thread =
     (λ called. record {
       place = length (thread_at machine thread).marks;
       answered = nat_lt (length machine.answered) (length (turn script machine thread).answered);
-      finished = nat_lt (length (thread_at machine thread).marks) (length (thread_at (turn script machine thread) thread).marks);
+      finished =
+          nat_lt (length (thread_at machine thread).marks)
+          (length (thread_at (turn script machine thread) thread).marks);
     })
     (next_call script thread (thread_at machine thread))
 
@@ -133,14 +140,20 @@ abbrev pub marks_made : List StoredThread → ℕ
 marks_made thread_states = sum_by (λ thread_state. length thread_state.marks.items) thread_states
 
 -- what a try of a call comes to, after these calls of its thread
-pub record IsTried (thread : ℕ) (before : List Call) (called : Call) (holders_before : List (Option ℕ)) (state_before : ThreadState) (turned : Turned) (holders_after : List (Option ℕ)) (state_after : ThreadState) : Type 0 where
+pub record IsTried (thread : ℕ) (before : List Call) (called : Call) (holders_before : List (Option ℕ))
+    (state_before : ThreadState) (turned : Turned) (holders_after : List (Option ℕ))
+    (state_after : ThreadState) : Type 0 where
   pub place : turned.place ≡ length state_before.marks
   pub answered : turned.answered ≡ (answer_part thread before called holders_before state_before).done
-  pub finished : turned.finished ≡ (finish_part thread (answer_part thread before called holders_before state_before)).done
-  pub holders : holders_after ≡ (finish_part thread (answer_part thread before called holders_before state_before)).holders
+  pub finished : turned.finished
+      ≡ (finish_part thread (answer_part thread before called holders_before state_before)).done
+  pub holders : holders_after
+      ≡ (finish_part thread (answer_part thread before called holders_before state_before)).holders
   pub state : state_after ≡ (finish_part thread (answer_part thread before called holders_before state_before)).state
 
 -- threads before their first turns
 pub record AreFresh (threads : List Thread) (thread_states : List StoredThread) : Type 0 where
   pub states : map state_of thread_states ≡ map (λ thread. fresh_thread) threads
-  pub cursors : (place : ℕ) (thread : Thread) (thread_state : StoredThread) → place < length thread_states → (slice_index_or thread_states place thread_state).cursors.items ≡ replicate (length (slice_index_or threads place thread).cursors) no_containers
+  pub cursors : (place : ℕ) (thread : Thread) (thread_state : StoredThread) → place < length thread_states
+      → (slice_index_or thread_states place thread_state).cursors.items
+      ≡ replicate (length (slice_index_or threads place thread).cursors) no_containers

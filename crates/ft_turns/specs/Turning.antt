@@ -23,7 +23,9 @@ pub record IsTurn (script : ScriptParts) (before after : Turns) (one : Turn) : T
   pub thread : one.thread < length script.threads
   pub left : turns_left script before ≡ one.thread ∷ turns_left script after
   pub turned : one.turned ≡ turned_of script (machine_of before.machine []) one.thread
-  pub machine : (answered : List (ℕ × ℕ)) → machine_of after.machine (answered ++ fixed_by one.thread one.turned) ≡ turn script (machine_of before.machine answered) one.thread
+  pub machine : (answered : List (ℕ × ℕ))
+      → machine_of after.machine (answered ++ fixed_by one.thread one.turned)
+      ≡ turn script (machine_of before.machine answered) one.thread
 
 -- no turn is left that changes anything: none is left, or every call has finished
 abbrev pub IsOver : ScriptParts → Turns → Type 0

@@ -32,12 +32,16 @@ pub record IsAccount (script : ScriptParts) (calls : List Call) (account : Table
 -- one table more is taken, if one is
 pub record CountsTaking (taking : Option ℕ) (old new : List ℕ) : Type 0 where
   pub classes : length new ≡ length old
-  pub takings : (class : ℕ) → IsClass class → taken_of new class ≡ taken_of old class + (if is_class class taking then 1 else 0)
+  pub takings : (class : ℕ) → IsClass class
+      → taken_of new class ≡ taken_of old class + (if is_class class taking then 1 else 0)
 
 -- what is kept goes on after a call that led from one world to another
 pub record CountsCall (old new : List Content) (called : Call) (before after : TableAccount) : Type 0 where
-  pub tables : tables_of after.tables.items ≡ leaves_tables old new (tables_of before.tables.items) called (takes_class old new (tables_of before.tables.items) called)
-  pub takings : CountsTaking (takes_class old new (tables_of before.tables.items) called) before.takings.items after.takings.items
+  pub tables : tables_of after.tables.items
+      ≡ leaves_tables old new (tables_of before.tables.items) called
+      (takes_class old new (tables_of before.tables.items) called)
+  pub takings : CountsTaking
+      (takes_class old new (tables_of before.tables.items) called) before.takings.items after.takings.items
 
 -- ---- sizes
 
@@ -65,9 +69,12 @@ size_at world call.Quiesce = no_size
 
 -- the containers that a call is made on and of are there, and of its kind
 abbrev pub AreOfKind : List Content → Call → Type 0
-AreOfKind world (call.Dict place dict_call) = IsOfKind world kind.Dict place × IfSome (other_dict dict_call) (λ other. IsOfKind world kind.Dict other)
-AreOfKind world (call.List place list_call) = IsOfKind world kind.List place × IfSome (other_list list_call) (λ other. IsOfKind world kind.List other)
-AreOfKind world (call.Set place set_call) = IsOfKind world kind.Set place × IfSome (other_set set_call) (λ other. IsOfKind world kind.Set other)
+AreOfKind world (call.Dict place dict_call) =
+    IsOfKind world kind.Dict place × IfSome (other_dict dict_call) (λ other. IsOfKind world kind.Dict other)
+AreOfKind world (call.List place list_call) =
+    IsOfKind world kind.List place × IfSome (other_list list_call) (λ other. IsOfKind world kind.List other)
+AreOfKind world (call.Set place set_call) =
+    IsOfKind world kind.Set place × IfSome (other_set set_call) (λ other. IsOfKind world kind.Set other)
 AreOfKind world (call.Next cursor) = Unit {0}
 AreOfKind world (call.Begin first second) = Unit {0}
 AreOfKind world call.End = Unit {0}

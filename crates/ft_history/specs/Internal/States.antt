@@ -47,7 +47,8 @@ IsAskable world hands (call.Next cursor) = IsDeclared world hands (call.Next cur
 
 -- whether a table says that the thread has a call on the container
 abbrev pub is_used : List (Vec Bool) → ℕ → ℕ → Bool
-is_used users thread container = option_map_or (λ (used : Vec Bool). slice_index_or used.items container false) (slice_get users thread) false
+is_used users thread container =
+    option_map_or (λ (used : Vec Bool). slice_index_or used.items container false) (slice_get users thread) false
 
 -- the table is right
 abbrev pub AreUsers : ScriptParts → List (Vec Bool) → Type 0
@@ -62,7 +63,8 @@ pub record Begun : Type 0 where
   pub marks : ℕ
 
 abbrev pub begun_of : OpenSection → Begun
-begun_of section = record { containers = container_list section.containers; begun = section.begun; marks = section.marks }
+begun_of section =
+    record { containers = container_list section.containers; begun = section.begun; marks = section.marks }
 
 -- innermost first
 abbrev pub all_begun : List OpenSection → List Begun
@@ -70,7 +72,8 @@ all_begun sections = reverse (map begun_of sections)
 
 -- the open sections of a thread after a call of it at a place, by when a number of its calls have waited
 abbrev pub after_begun : ℕ → ℕ → Call → List Begun → List Begun
-after_begun place marks (call.Begin first second) sections = record { containers = one_or_two first second; begun = place; marks = marks } ∷ sections
+after_begun place marks (call.Begin first second) sections =
+    record { containers = one_or_two first second; begun = place; marks = marks } ∷ sections
 after_begun place marks call.End sections = drop 1 sections
 after_begun place marks (call.Dict container dict_call) sections = sections
 after_begun place marks (call.List container list_call) sections = sections
@@ -111,7 +114,8 @@ inner_begun (section ∷ sections) = section.containers
 -- ---- threads
 
 -- what is kept of a thread before a place
-pub record IsProgress (script : ScriptParts) (entries : List Entry) (thread place : ℕ) (progress : ThreadProgress) : Type 0 where
+pub record IsProgress (script : ScriptParts) (entries : List Entry) (thread place : ℕ)
+    (progress : ThreadProgress) : Type 0 where
   pub made : progress.made ≡ length (entries_of thread (take place entries))
   pub marks : progress.marks ≡ count_by (is_marked thread) (take place entries)
   pub hands : progress.hands ≡ hands_at script entries thread place
@@ -128,8 +132,11 @@ pub record IsFresh (thread : Thread) (progress : ThreadProgress) : Type 0 where
 -- hands of a thread that has made a number of its calls: each cursor that these make is there, over a container of its kind
 pub record AreHandsOf (script : ScriptParts) (thread made : ℕ) (hands : List (Option Cursor)) : Type 0 where
   pub room : length hands ≡ cursors_of script thread
-  pub kinds : (number : ℕ) → IfSome (cursor_at hands number) (λ cursor. IsDeclaredAs script.containers (cursor_kind cursor) (container_of cursor))
-  pub cursors : (number : ℕ) → Any (λ called. cursor_of called ≡ Some number) (take made (calls_of script thread)) → IsSome (cursor_at hands number)
+  pub kinds : (number : ℕ)
+      → IfSome (cursor_at hands number)
+      (λ cursor. IsDeclaredAs script.containers (cursor_kind cursor) (container_of cursor))
+  pub cursors : (number : ℕ) → Any (λ called. cursor_of called ≡ Some number) (take made (calls_of script thread))
+      → IsSome (cursor_at hands number)
 
 -- ---- the last writes on a container
 
@@ -140,7 +147,9 @@ other_than thread (Some last) other = if last.thread == thread then other else S
 
 -- the last writes after one more
 abbrev pub after_one : LastWrites → ℕ → ℕ → LastWrites
-after_one writes thread place = record { last = Some (record { thread = thread; place = place }); other = other_than thread writes.last writes.other }
+after_one writes thread place =
+    record { last = Some (record { thread = thread; place = place });
+    other = other_than thread writes.last writes.other }
 
 -- whether a place is there, from this one on
 abbrev pub is_from : ℕ → Option ℕ → Bool
@@ -149,21 +158,27 @@ is_from since (Some place) = nat_le since place
 
 -- whether another thread than this one wrote, from a place on
 abbrev pub is_written_since : LastWrites → ℕ → ℕ → Bool
-is_written_since writes thread since = option_map_or (λ last. if last.thread == thread then is_from since writes.other else nat_le since last.place) writes.last false
+is_written_since writes thread since =
+    option_map_or
+    (λ last. if last.thread == thread then is_from since writes.other else nat_le since last.place) writes.last false
 
 -- what is kept of the writes on a container before a place
 pub record IsLast (entries : List Entry) (place container : ℕ) (writes : LastWrites) : Type 0 where
   -- it tells whether another thread wrote on the container, from any place on
-  pub since : (thread since : ℕ) → list_any (disturbs thread (container ∷ [])) (drop since (take place entries)) ≡ is_written_since writes thread since
+  pub since : (thread since : ℕ)
+      → list_any (disturbs thread (container ∷ [])) (drop since (take place entries))
+      ≡ is_written_since writes thread since
   pub last : IfSome writes.last (λ write. write.place < place)
   pub other : IfSome writes.other (λ at. at < place)
   pub first : writes.last ≡ None → writes.other ≡ None
 
 -- whether the kept writes say that another thread wrote on the container, from a place on
 abbrev pub is_written_on : List LastWrites → ℕ → ℕ → ℕ → Bool
-is_written_on containers thread since container = option_map_or (λ (writes : LastWrites). is_written_since writes thread since) (slice_get containers container) false
+is_written_on containers thread since container =
+    option_map_or (λ (writes : LastWrites). is_written_since writes thread since) (slice_get containers container) false
 
 -- an `end` says kept only where no other thread wrote on the section's containers after its `begin`
 abbrev pub IsKeptSince : List LastWrites → ℕ → Begun → Reply → Type 0
-IsKeptSince containers thread section reply.Kept = list_any (is_written_on containers thread (section.begun + 1)) section.containers ≡ false
+IsKeptSince containers thread section reply.Kept =
+    list_any (is_written_on containers thread (section.begun + 1)) section.containers ≡ false
 IsKeptSince containers thread section said = Unit {0}

@@ -41,6 +41,11 @@ abbrev pub Leaves : {X : Type 0} → Result X LineError → Draft → Result Dra
 Leaves (Ok x) new read = read ≡ Ok new
 Leaves (Err e) new read = Fails e read
 
+-- the same of a line whose reading takes no memory
+abbrev pub LeavesAlways : {X : Type 0} → Result X Fault → Draft → Result Draft Fault → Type 0
+LeavesAlways (Ok x) new read = read ≡ Ok new
+LeavesAlways (Err e) new read = read ≡ Err e
+
 abbrev pub or_fault : {X : Type 0} → Fault → Option X → Result X Fault
 or_fault found None = Err found
 or_fault found (Some x) = Ok x

@@ -1,5 +1,5 @@
 //! Reads the lines of a script.
-ghost use Rattle.ft_script.specs.Drafts.{Gives, HasFewThreads, Leaves};
+ghost use Rattle.ft_script.specs.Drafts.{HasFewThreads, Leaves, LeavesAlways};
 ghost use Rattle.ft_script.specs.Reading.{class_of, class_place, container_line, declaration, heap_line, open_line, order_line, other_statement, plain_statement, read_line, statement, tables_at, tables_line, tables_of, thread_line, thread_statement, turn, turns, unordered_statement, words_line};
 ghost use Rattle.std.specs.Prelude.{◌≡◌, ◌<◌, ◌≤◌, IfOk, IfSome, OnOk, length, map};
 
@@ -35,12 +35,12 @@ fn class_place(class: i64) -> Option<usize>
 }
 
 #[tactic(auto, unfolding(crate::specs::Reading::class_of))]
-fn class_of(word: &[u8]) -> Result<usize, LineError>
-    ensures class { Gives (λ place. place) result (class_of word.now) }
+fn class_of(word: &[u8]) -> Result<usize, Fault>
+    ensures class { result ≡ class_of word.now }
     ensures small { IfOk result (λ place. place < 14) }
 {
     let class = index_of(word)?;
-    Ok(class_place(class).ok_or(Fault::Limit(Which::Class))?)
+    class_place(class).ok_or(Fault::Limit(Which::Class))
 }
 
 impl Draft {
@@ -73,34 +73,34 @@ impl Draft {
 
     /// Reads the line of a class's tables.
     #[tactic(auto, unfolding(crate::specs::Reading::tables_line))]
-    fn tables_line(&mut self, words: &[&[u8]]) -> Result<(), LineError>
-        ensures { Leaves result self.new (tables_line self.old (map (λ word. word.now) words.now)) }
+    fn tables_line(&mut self, words: &[&[u8]]) -> Result<(), Fault>
+        ensures { LeavesAlways result self.new (tables_line self.old (map (λ word. word.now) words.now)) }
     {
         match words {
             [class, count] => self.tables_of(class, count),
-            _ => Err(Fault::WordCount.into()),
+            _ => Err(Fault::WordCount),
         }
     }
 
     #[tactic(auto, unfolding(crate::specs::Reading::tables_of))]
-    fn tables_of(&mut self, class: &[u8], count: &[u8]) -> Result<(), LineError>
-        ensures { Leaves result self.new (tables_of self.old class.now count.now) }
+    fn tables_of(&mut self, class: &[u8], count: &[u8]) -> Result<(), Fault>
+        ensures { LeavesAlways result self.new (tables_of self.old class.now count.now) }
     {
         let place = class_of(class)?;
         self.tables_at(place, count)
     }
 
     #[tactic(auto, unfolding(crate::specs::Reading::tables_at))]
-    fn tables_at(&mut self, place: usize, count: &[u8]) -> Result<(), LineError>
+    fn tables_at(&mut self, place: usize, count: &[u8]) -> Result<(), Fault>
         requires { place < 14 }
-        ensures { Leaves result self.new (tables_at self.old place count.now) }
+        ensures { LeavesAlways result self.new (tables_at self.old place count.now) }
     {
         if self.tables[place].is_some() {
-            return Err(Fault::NameTwice.into());
+            return Err(Fault::NameTwice);
         }
         let number = index_of(count)?;
         if !(1..=TABLE_LIMIT).contains(&number) {
-            return Err(Fault::Limit(Which::Tables).into());
+            return Err(Fault::Limit(Which::Tables));
         }
         self.tables[place] = Some(number as u32);
         Ok(())
@@ -108,18 +108,18 @@ impl Draft {
 
     /// Reads the line of the heap.
     #[tactic(auto, unfolding(crate::specs::Reading::heap_line))]
-    fn heap_line(&mut self, words: &[&[u8]]) -> Result<(), LineError>
-        ensures { Leaves result self.new (heap_line self.old (map (λ word. word.now) words.now)) }
+    fn heap_line(&mut self, words: &[&[u8]]) -> Result<(), Fault>
+        ensures { LeavesAlways result self.new (heap_line self.old (map (λ word. word.now) words.now)) }
     {
         let [count] = words else {
-            return Err(Fault::WordCount.into());
+            return Err(Fault::WordCount);
         };
         if self.heap.is_some() {
-            return Err(Fault::NameTwice.into());
+            return Err(Fault::NameTwice);
         }
         let count = index_of(count)?;
         if !(64..=4096).contains(&count) || count % 64 != 0 {
-            return Err(Fault::Limit(Which::Heap).into());
+            return Err(Fault::Limit(Which::Heap));
         }
         self.heap = Some(count as u32);
         Ok(())
@@ -137,9 +137,9 @@ impl Draft {
         } else if word == b"set".as_slice() {
             self.container_line(alloc, Kind::Set, words)
         } else if word == b"tables".as_slice() {
-            self.tables_line(words)
+            Ok(self.tables_line(words)?)
         } else if word == b"heap".as_slice() {
-            self.heap_line(words)
+            Ok(self.heap_line(words)?)
         } else {
             Err(Fault::UnknownWord.into())
         }

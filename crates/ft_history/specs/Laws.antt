@@ -12,7 +12,7 @@ abbrev pub IsUntouched : List Entry → ℕ → ℕ → ℕ → List ℕ → Typ
 IsUntouched entries thread begun ended containers =
     (place : ℕ) (entry : Entry) (container : ℕ) → begun < place → place < ended → slice_get entries place ≡ Some entry
     → entry.wrote ≡ true → entry.thread ≢ thread → Contains containers container
-        → ¬ (Contains (containers_of entry.call) container)
+    → ¬ (Contains (containers_of entry.call) container)
 
 -- these calls lead from a number of open sections to a number, and end none that was open before the first of these (C API, critical sections)
 abbrev pub LeadsTo : ℕ → ℕ → List Call → Type 0

@@ -40,13 +40,13 @@ pub record Passes (mask : ℕ) (words : List ℕ) (key : Key) (slot : ℕ) : Typ
 abbrev pub EndsAt : ℕ → List ℕ → Key → List ℕ → List ℕ → Found → Type 0
 EndsAt mask words key first left (At slot place) =
     (passed : List ℕ) × (first ≡ passed ++ slot ∷ left) × All (Passes mask words key) passed
-        × (index_word words slot ≡ place + 1) × HasKey mask words place key
+    × (index_word words slot ≡ place + 1) × HasKey mask words place key
 EndsAt mask words key first left (Was slot place) =
     (passed : List ℕ) × (first ≡ passed ++ slot ∷ left) × All (Passes mask words key) passed
-        × (index_word words slot ≡ place + 1) × HadKey mask words place key
+    × (index_word words slot ≡ place + 1) × HadKey mask words place key
 EndsAt mask words key first left (Free slot) =
     (passed rest : List ℕ) × (first ≡ passed ++ left) × (left ≡ slot ∷ rest) × All (Passes mask words key) passed
-        × (index_word words slot ≡ 0)
+    × (index_word words slot ≡ 0)
 EndsAt mask words key first left Spent = (left ≡ []) × All (Passes mask words key) first
 
 -- In a table with these used entries the key is at the place, or was there and was deleted, or is nowhere. No search is spent.

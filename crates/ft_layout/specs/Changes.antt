@@ -44,7 +44,7 @@ pub record SameItems (old new : List ℕ) : Type 0 where
 abbrev pub with_stored : ℕ → List ℕ → ℕ → Stored → List ℕ
 with_stored mask words place stored =
     slice_set (slice_set words (entry_at mask place 4) (stored_kind stored)) (entry_at mask place 5)
-        (stored_payload stored)
+    (stored_payload stored)
 
 -- the words once an entry's key is deleted, whose kind was put; the hash, the key's payload and the value are left
 abbrev pub with_deleted : ℕ → List ℕ → ℕ → Key → List ℕ

@@ -48,8 +48,8 @@ most_items = list_items greatest_class
 abbrev pub class_for : ℕ → ℕ
 class_for slots =
     unwrap_or
-        (find (λ class. nat_le slots (2 ^ class))
-        (range_with_len least_class (greatest_class - least_class))) greatest_class
+    (find (λ class. nat_le slots (2 ^ class))
+    (range_with_len least_class (greatest_class - least_class))) greatest_class
 
 -- the classes of new tables for that many pairs, elements or items
 abbrev pub dict_class : ℕ → ℕ

@@ -46,8 +46,10 @@ abbrev pub dict_set : DictContent → Key → Value → DictContent
 dict_set dict key value =
     if has_key dict.pairs key
     then record { next = dict.next; pairs = with_value dict.pairs key value }
-    else record { next = dict.next + 1;
-        pairs = dict.pairs ++ record { serial = dict.next; key = key; value = value } ∷ [] }
+    else record {
+      next = dict.next + 1;
+      pairs = dict.pairs ++ record { serial = dict.next; key = key; value = value } ∷ [];
+    }
 
 -- a new value at a key that is there: keys and serials stand as they stood, and no serial is drawn (Python manual, Mapping Types: updating a key does not affect the order)
 pub record KeepsPlaces (old new : DictContent) : Type 0 where

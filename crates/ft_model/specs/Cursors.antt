@@ -40,8 +40,10 @@ dict_walk None container size expected last =
 dict_walk (Some pair) container size expected last =
     if expected == 0
     then record { reply = reply.Raised raise.Keys; cursor = cursor.Dict container walk.Ended size expected last }
-    else record { reply = reply.Pair pair.key pair.value;
-        cursor = cursor.Dict container walk.Live size (expected - 1) (Some pair.serial) }
+    else record {
+      reply = reply.Pair pair.key pair.value;
+      cursor = cursor.Dict container walk.Live size (expected - 1) (Some pair.serial);
+    }
 
 -- the first that holds: it has ended; it was reported of a changed size; the size has changed; it goes on (profile)
 abbrev pub dict_next : List DictPair → ℕ → CursorState → ℕ → ℕ → Option ℕ → CursorStep
@@ -68,8 +70,10 @@ next_element elements last = find (λ element. is_after last element.serial) ele
 abbrev pub set_walk : Option Element → ℕ → ℕ → Option ℕ → CursorStep
 set_walk None container size last = record { reply = reply.Stop; cursor = cursor.Set container walk.Ended size last }
 set_walk (Some element) container size last =
-    record { reply = reply.Value (as_value element.key);
-    cursor = cursor.Set container walk.Live size (Some element.serial) }
+    record {
+      reply = reply.Value (as_value element.key);
+      cursor = cursor.Set container walk.Live size (Some element.serial);
+    }
 
 -- as for a dict, without a count of what is expected (profile)
 abbrev pub set_next : List Element → ℕ → CursorState → ℕ → Option ℕ → CursorStep

@@ -67,7 +67,7 @@ after_entry script entries = after_stamped (kinds_of script.containers) (writes 
 abbrev pub hands_at : ScriptParts → List Entry → ℕ → ℕ → List (Option Cursor)
 hands_at script entries thread place =
     hands_by (kinds_of script.containers) (writes entries) (cursors_of script thread)
-        (entries_of thread (take place entries))
+    (entries_of thread (take place entries))
 
 -- ---- answers
 

@@ -273,7 +273,7 @@ ListsFitTheirTables =
     (k : Shape) (es : List Event) → Valid k es → (o t n : ℕ) → o < containers_in k → IsItems (kind_in k.kinds o)
     → (j : ℕ) (u : View) → HasView k es j u → ItemPast u.log o t n
     → (n ≤ word k es counter)
-        × (length (list_of (kept k.kinds (first_writes n (history es)) o).content) ≤ slots (class_of t))
+    × (length (list_of (kept k.kinds (first_writes n (history es)) o).content) ≤ slots (class_of t))
 
 -- what was read between two equal even loads of the version is the reply at the stamp
 abbrev pub LooksAreRight : Type 0

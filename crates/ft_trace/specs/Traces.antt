@@ -99,7 +99,7 @@ TimelyFor k o t i x committed =
 abbrev pub LowFor : Shape → List ℕ → ℕ → ℕ → ℕ → Bool → Type 0
 LowFor k ws o t count committed =
     Low (version_at (kind_in k.kinds o) (class_of t)) (rows (kind_in k.kinds o) (class_of t))
-        (table_of k t ws) count committed
+    (table_of k t ws) count committed
 
 -- What a pass with the view v may do at the moment m, after the history cs.
 abbrev pub May : Shape → Moment → List Call → View → Act → Type 0

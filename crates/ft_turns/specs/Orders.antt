@@ -73,8 +73,11 @@ fresh_thread = record { marks = []; fixed = false; sections = []; own = []; mark
 
 abbrev pub start_machine : ScriptParts → Machine
 start_machine script =
-    record { holders = map (λ container. None) script.containers;
-    threads = map (λ thread. fresh_thread) script.threads; answered = [] }
+    record {
+      holders = map (λ container. None) script.containers;
+      threads = map (λ thread. fresh_thread) script.threads;
+      answered = [];
+    }
 
 -- ---- locks
 
@@ -232,7 +235,7 @@ abbrev pub try_finish : Machine → ℕ → Machine
 try_finish machine thread =
     if (thread_at machine thread).fixed
     then relocked machine thread (thread_at machine thread)
-        (take_locks thread machine.holders (lower_first (innermost_containers (thread_at machine thread).sections)))
+    (take_locks thread machine.holders (lower_first (innermost_containers (thread_at machine thread).sections)))
     else machine
 
 -- one turn of a thread: one try of its next call, which fixes the answer, where it isn't fixed, and then takes up the innermost section again; a thread without calls spends its turn
@@ -268,8 +271,11 @@ pub record Ordered : Type 0 where
 
 abbrev pub ordered_in : Machine → ℕ × ℕ → Ordered
 ordered_in machine answered =
-    record { thread = answered.0; index = answered.1 + 1;
-    waited = slice_index_or (thread_at machine answered.0).marks answered.1 None }
+    record {
+      thread = answered.0;
+      index = answered.1 + 1;
+      waited = slice_index_or (thread_at machine answered.0).marks answered.1 None;
+    }
 
 -- the calls in the order in which their answers are fixed, each with its mark
 abbrev pub order_of : ScriptParts → List Ordered

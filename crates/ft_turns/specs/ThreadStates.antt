@@ -85,7 +85,7 @@ abbrev pub finish_part : ℕ → Tried → Tried
 finish_part thread answer =
     if answer.state.fixed
     then finish_tried answer.state
-        (take_locks thread answer.holders (lower_first (innermost_containers answer.state.sections)))
+    (take_locks thread answer.holders (lower_first (innermost_containers answer.state.sections)))
     else not_tried answer.holders answer.state
 
 -- the calls whose answers became fixed in a turn: the one at this place among the calls of the thread, if any
@@ -95,8 +95,11 @@ newly_answered thread place done = if done then (thread, place) ∷ [] else []
 -- the machine where the thread has come to this, and these calls more are answered
 abbrev pub placed : Machine → ℕ → Tried → List (ℕ × ℕ) → Machine
 placed machine thread tried more =
-    record { holders = tried.holders; threads = slice_set machine.threads thread tried.state;
-    answered = machine.answered ++ more }
+    record {
+      holders = tried.holders;
+      threads = slice_set machine.threads thread tried.state;
+      answered = machine.answered ++ more;
+    }
 
 -- ---- what the machine rests on
 

@@ -148,8 +148,10 @@ other_than thread (Some last) other = if last.thread == thread then other else S
 -- the last writes after one more
 abbrev pub after_one : LastWrites → ℕ → ℕ → LastWrites
 after_one writes thread place =
-    record { last = Some (record { thread = thread; place = place });
-    other = other_than thread writes.last writes.other }
+    record {
+      last = Some (record { thread = thread; place = place });
+      other = other_than thread writes.last writes.other;
+    }
 
 -- whether a place is there, from this one on
 abbrev pub is_from : ℕ → Option ℕ → Bool

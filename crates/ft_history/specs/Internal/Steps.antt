@@ -49,9 +49,9 @@ pub record GoesAfter (place : ℕ) (entry : Entry) (said : Bool) (before after :
   pub containers : length new.containers.items ≡ length old.containers.items
   pub lasts : (container : ℕ) (other : LastWrites) → slice_index_or new.containers.items container other
       ≡ (if entry.wrote
-          && names container entry.call
-          then after_one (slice_index_or old.containers.items container other) entry.thread place
-          else slice_index_or old.containers.items container other)
+      && names container entry.call
+      then after_one (slice_index_or old.containers.items container other) entry.thread place
+      else slice_index_or old.containers.items container other)
   pub taking : entry.wrote ≡ true → CountsCall old.world new.world entry.call old.account new.account
   pub same : entry.wrote ≡ false → new.account ≡ old.account
 
@@ -98,4 +98,4 @@ Finds storage script entries place entry (Some rule) = BreaksFirst storage scrip
 abbrev pub HaveMadeAll : List Thread → List ThreadProgress → Type 0
 HaveMadeAll threads progresses =
     (thread : ℕ) (found : Thread) (progress : ThreadProgress) → slice_get threads thread ≡ Some found
-        → slice_get progresses thread ≡ Some progress → length found.calls ≤ progress.made
+    → slice_get progresses thread ≡ Some progress → length found.calls ≤ progress.made

@@ -34,7 +34,8 @@ pub record IsReportOn (command : Subcommand) (text : List ℕ) (report : Report)
 -- what a text has where this is reported of it and it is run; memory may run out with any text
 abbrev pub IsRunCause : List ℕ → Fault → Type 0
 IsRunCause text fault.Clean = (length text ≤ script_limit) × (script : ScriptParts) × (read_script text ≡ Ok script)
-IsRunCause text (fault.Script line kind) = (length text ≤ script_limit) × (limit : Option Which) × IsFirstFault text line kind limit
+IsRunCause text (fault.Script line kind) =
+    (length text ≤ script_limit) × (limit : Option Which) × IsFirstFault text line kind limit
 IsRunCause text fault.TooLong = script_limit < length text
 IsRunCause text fault.Memory = Unit {0}
 IsRunCause text other = ⊥

@@ -35,7 +35,8 @@ IsSeparatorOf bytes separator = MatchOption separator (HasNoSeparator bytes) (Is
 
 -- the script is what stands before the line, or all bytes where there is none
 abbrev pub IsScriptPart : List ℕ → List ℕ → Type 0
-IsScriptPart bytes text = (HasNoSeparator bytes × (text ≡ bytes)) ⊎ ((place : ℕ) × IsSeparator bytes place × (text ≡ take place bytes))
+IsScriptPart bytes text =
+    (HasNoSeparator bytes × (text ≡ bytes)) ⊎ ((place : ℕ) × IsSeparator bytes place × (text ≡ take place bytes))
 
 -- ---- limits
 
@@ -49,7 +50,8 @@ IsScriptFew bytes = (length bytes ≤ script_limit) ⊎ ((place : ℕ) × (place
 
 -- or it is
 abbrev pub IsScriptLong : List ℕ → Type 0
-IsScriptLong bytes = (script_limit < length bytes) × ((place : ℕ) → place ≤ script_limit → is_separator_at bytes place ≡ false)
+IsScriptLong bytes =
+    (script_limit < length bytes) × ((place : ℕ) → place ≤ script_limit → is_separator_at bytes place ≡ false)
 
 -- more bytes than are taken, in all or before the line
 abbrev pub IsPast : List ℕ → Type 0
@@ -79,7 +81,8 @@ pub record IsReadToItsEnd (before : Stream) (bytes : List ℕ) (after : Stream) 
 
 -- whatever follows the bytes is too long, or they are, and are all there is
 abbrev pub IsTooLong : Stream → List ℕ → Stream → Type 0
-IsTooLong before came after = ((more : List ℕ) → IsPast (came ++ more)) ⊎ (IsPast came × IsReadToItsEnd before came after)
+IsTooLong before came after =
+    ((more : List ℕ) → IsPast (came ++ more)) ⊎ (IsPast came × IsReadToItsEnd before came after)
 
 -- reading stops at a fault, after the bytes that came
 pub record StopsInput (fault : Fault) (before after : Stream) : Type 0 where
@@ -91,7 +94,9 @@ pub record StopsInput (fault : Fault) (before after : Stream) : Type 0 where
   pub cause : stops_reading fault ≡ true
 
 abbrev pub ReadsInput : Stream → Result Input Fault → Stream → Type 0
-ReadsInput before (Ok input) after = IsReadToItsEnd before input.bytes.items after × IsWithin input.bytes.items × IsSeparatorOf input.bytes.items input.separator
+ReadsInput before (Ok input) after =
+    IsReadToItsEnd before input.bytes.items after × IsWithin input.bytes.items
+    × IsSeparatorOf input.bytes.items input.separator
 ReadsInput before (Err fault) after = StopsInput fault before after
 
 -- ---- what is read in one part of it
@@ -103,5 +108,8 @@ EndsFilling false most bytes after = (most < length bytes) × (length bytes ≤ 
 
 -- a source is read on after these bytes, until it ends or more than that many are there
 abbrev pub Fills : Stream → List ℕ → ℕ → Result Bool Fault → List ℕ → Stream → Type 0
-Fills before old most (Ok ended) new after = (came : List ℕ) × (new ≡ old ++ came) × Gives before came false after × EndsFilling ended most new after
-Fills before old most (Err fault) new after = (came : List ℕ) × Gives before came (is_read fault) after × (length old + length came ≤ most + 65536) × (stops_reading fault ≡ true) × (is_too_long fault ≡ false)
+Fills before old most (Ok ended) new after =
+    (came : List ℕ) × (new ≡ old ++ came) × Gives before came false after × EndsFilling ended most new after
+Fills before old most (Err fault) new after =
+    (came : List ℕ) × Gives before came (is_read fault) after × (length old + length came ≤ most + 65536)
+    × (stops_reading fault ≡ true) × (is_too_long fault ≡ false)

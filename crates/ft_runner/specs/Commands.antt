@@ -35,4 +35,7 @@ without_help shape =
     }
 
 abbrev pub tool : App
-tool = with_subcommand (with_subcommand (with_subcommand (on_top without_help (new_app (codes "ftpy"))) (new_shape (codes "run"))) (new_shape (codes "turns"))) (new_shape (codes "check"))
+tool =
+    with_subcommand
+    (with_subcommand (with_subcommand (on_top without_help (new_app (codes "ftpy"))) (new_shape (codes "run")))
+    (new_shape (codes "turns"))) (new_shape (codes "check"))

@@ -63,11 +63,14 @@ pub record IsFirstDifference (given wanted : List (List ℕ)) (place : ℕ) : Ty
 abbrev pub IsBrokenBy : ScriptParts → List Entry → List (List ℕ) → ℕ → Rule → Type 0
 IsBrokenBy script entries lines place broken =
     IsVerdict storage.Plain script entries (verdict.Not place broken)
-    ⊎ ((broken ≡ rule.World) × IsLegal storage.Plain script entries × (line : ℕ) × (place ≡ length entries + 1 + line) × IsFirstDifference (given_lines lines) (wanted_lines script entries) line)
+    ⊎ ((broken ≡ rule.World) × IsLegal storage.Plain script entries × (line : ℕ)
+    × (place ≡ length entries + 1 + line)
+    × IsFirstDifference (given_lines lines) (wanted_lines script entries) line)
 
 -- a legal history with the contents that it leaves, or the first rule that is broken
 abbrev pub IsVerdictOn : ScriptParts → List Entry → List (List ℕ) → Verdict → Type 0
-IsVerdictOn script entries lines verdict.Legal = IsLegal storage.Plain script entries × (given_lines lines ≡ wanted_lines script entries)
+IsVerdictOn script entries lines verdict.Legal =
+    IsLegal storage.Plain script entries × (given_lines lines ≡ wanted_lines script entries)
 IsVerdictOn script entries lines (verdict.Not place broken) = IsBrokenBy script entries lines place broken
 
 -- what is found of the transcript that the bytes have

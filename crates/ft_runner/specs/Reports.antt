@@ -40,7 +40,8 @@ status_of (fault.Transcript line) = 8
 -- what the errors get, where a script passes this limit
 abbrev pub error_line : Fault → Option Which → List ℕ
 error_line fault.Clean limit = []
-error_line (fault.Script line kind) limit = codes "ftpy: line " ++ decimal line ++ codes ": " ++ decimal kind ++ codes " " ++ kind_text kind limit ++ codes "\n"
+error_line (fault.Script line kind) limit =
+    codes "ftpy: line " ++ decimal line ++ codes ": " ++ decimal kind ++ codes " " ++ kind_text kind limit ++ codes "\n"
 error_line fault.Usage limit = codes "ftpy: usage: run | turns | check | make N [turns]\n"
 error_line fault.Read limit = codes "ftpy: read fault\n"
 error_line fault.Write limit = codes "ftpy: write fault\n"
@@ -79,7 +80,8 @@ has_ended _ = false
 -- ---- what a fault says
 
 -- the history is one of the script that the bytes are, under `turns` the one of its turns, and this is its text
-pub record IsHistoryOf (command : Option Subcommand) (bytes : List ℕ) (history : List Entry) (text : List ℕ) : Type 0 where
+pub record IsHistoryOf (command : Option Subcommand) (bytes : List ℕ) (history : List Entry)
+    (text : List ℕ) : Type 0 where
   pub script : ScriptParts
   pub read : read_script bytes ≡ Ok script
   pub legal : IsLegal storage.Plain script history
@@ -87,7 +89,8 @@ pub record IsHistoryOf (command : Option Subcommand) (bytes : List ℕ) (history
   pub written : text ≡ transcript script history
 
 -- these bytes are a prefix of the text of such a history
-pub record IsHistoryBegun (command : Option Subcommand) (bytes : List ℕ) (history : List Entry) (put : List ℕ) : Type 0 where
+pub record IsHistoryBegun (command : Option Subcommand) (bytes : List ℕ) (history : List Entry)
+    (put : List ℕ) : Type 0 where
   pub text : List ℕ
   pub whole : IsHistoryOf command bytes history text
   pub prefix : IsPrefix put text
@@ -101,11 +104,13 @@ pub record IsFirstFault (bytes : List ℕ) (line kind : ℕ) (limit : Option Whi
 abbrev pub MeansRun : Option Subcommand → Fault → Option Which → List ℕ → List Entry → List ℕ → Type 0
 MeansRun command fault.Clean limit came history put = IsHistoryOf command came history put
 MeansRun command fault.Write limit came history put = IsHistoryBegun command came history put
-MeansRun command (fault.Script line kind) limit came history put = IsFirstFault came line kind limit × (history ≡ []) × (put ≡ [])
+MeansRun command (fault.Script line kind) limit came history put =
+    IsFirstFault came line kind limit × (history ≡ []) × (put ≡ [])
 MeansRun command fault.Usage limit came history put = (history ≡ []) × (put ≡ [])
 MeansRun command fault.Read limit came history put = (history ≡ []) × (put ≡ [])
 MeansRun command fault.TooLong limit came history put = (history ≡ []) × (put ≡ [])
-MeansRun command fault.Memory limit came history put = (history ≡ []) × ((put ≡ []) ⊎ ((unsaid : List Entry) × IsHistoryBegun command came unsaid put))
+MeansRun command fault.Memory limit came history put =
+    (history ≡ []) × ((put ≡ []) ⊎ ((unsaid : List Entry) × IsHistoryBegun command came unsaid put))
 MeansRun command (fault.NotLegal place rule) limit came history put = ⊥
 MeansRun command (fault.Transcript line) limit came history put = ⊥
 
@@ -146,10 +151,13 @@ comes_of_text _ = true
 
 -- what goes into the sink: the line of a broken rule, whole or a prefix where the sink failed; or else these bytes, and the sink failed exactly where that is the fault
 abbrev pub PutsFor : Fault → Stream → List ℕ → Stream → Type 0
-PutsFor (fault.NotLegal place rule) before put after = ((put ≡ broken_line place rule) × Receives before put false after) ⊎ (IsPrefix put (broken_line place rule) × Receives before put true after)
+PutsFor (fault.NotLegal place rule) before put after =
+    ((put ≡ broken_line place rule) × Receives before put false after)
+    ⊎ (IsPrefix put (broken_line place rule) × Receives before put true after)
 PutsFor other before put after = Receives before put (is_write other) after
 
-pub record IsRunOf (command : Option Subcommand) (bytes : List ℕ) (sink sink' : Stream) (fault : Fault) (limit : Option Which) (history : List Entry) : Type 0 where
+pub record IsRunOf (command : Option Subcommand) (bytes : List ℕ) (sink sink' : Stream) (fault : Fault)
+    (limit : Option Which) (history : List Entry) : Type 0 where
   pub put : List ℕ
   pub writing : PutsFor fault sink put sink'
   pub means : Means command fault limit bytes history put
@@ -164,8 +172,11 @@ IsRefused bytes other limit = ⊥
 
 -- what is reported of a verdict, and what the sink gets of it
 abbrev pub TellsVerdict : Verdict → Fault → Stream → Stream → Type 0
-TellsVerdict verdict.Legal reported before after = ((reported ≡ fault.Clean) × Receives before legal_line false after) ⊎ ((reported ≡ fault.Write) × IsPart before legal_line true after)
-TellsVerdict (verdict.Not place rule) reported before after = (reported ≡ fault.NotLegal place rule) × Reported before (broken_line place rule) after
+TellsVerdict verdict.Legal reported before after =
+    ((reported ≡ fault.Clean) × Receives before legal_line false after)
+    ⊎ ((reported ≡ fault.Write) × IsPart before legal_line true after)
+TellsVerdict (verdict.Not place rule) reported before after =
+    (reported ≡ fault.NotLegal place rule) × Reported before (broken_line place rule) after
 
 -- what is reported of a verdict, where no stream fails and memory is had
 abbrev pub reported_of : Verdict → Fault
@@ -190,7 +201,8 @@ Limits (Some subcommand.Check) reported source came source' = LimitsCheck report
 Limits command reported source came source' = LimitsRun reported came
 
 -- what is done for this command, and the fault and the history that it comes to
-pub record IsDone (command : Option Subcommand) (source source' sink sink' : Stream) (fault : Fault) (limit : Option Which) (history : List Entry) : Type 0 where
+pub record IsDone (command : Option Subcommand) (source source' sink sink' : Stream) (fault : Fault)
+    (limit : Option Which) (history : List Entry) : Type 0 where
   -- the bytes that came, and those that were put
   pub came : List ℕ
   pub put : List ℕ
@@ -205,7 +217,8 @@ pub record IsDone (command : Option Subcommand) (source source' sink sink' : Str
   pub means : Means command fault limit came history put
 
 -- what the tool reports for these words, from what the source, the sink and the errors tell before it to what they tell after it
-pub record IsReport (words : List (List ℕ)) (source source' sink sink' errors errors' : Stream) (report : Report) : Type 0 where
+pub record IsReport (words : List (List ℕ)) (source source' sink sink' errors errors' : Stream)
+    (report : Report) : Type 0 where
   -- the limit that a faulty script passes
   pub limit : Option Which
   pub done : IsDone (command_of words) source source' sink sink' report.fault limit report.history.items

@@ -1,3 +1,5 @@
+//! The line of a fault, put in pieces without memory, so that it can be put also where memory ran
+//! out.
 ghost use Rattle.ft_runner.specs.declared.report.Fault.TheVariants as fault;
 ghost use Rattle.std.specs.Prelude.{◌≡◌, ◌++◌, decimal, false};
 ghost use Rattle.ft_runner.specs.Streams.{stream, Puts, Reported};

@@ -1,3 +1,4 @@
+//! What a command has come to, before it is reported.
 ghost use Rattle.std.specs.Prelude.{◌≡◌, None, []};
 ghost use Rattle.ft_runner.specs.Reports.{refusal_of};
 

@@ -1,3 +1,4 @@
+//! Reading all of the input, and no more once it is too long.
 ghost use Rattle.std.specs.Prelude.{◌≡◌, ◌≤◌, ◌+◌, length, IfOk, MatchBool};
 ghost use Rattle.ft_runner.specs.Checking.{Fills, IsSeparatorOf, IsScriptFew, IsScriptLong, ReadsInput};
 ghost use Rattle.ft_runner.specs.Streams.{stream, Reads};

@@ -1,3 +1,4 @@
+//! What the tool answers its caller.
 use ft_model::{Entry, Rule};
 
 /// Why a call of the tool ended as it did.

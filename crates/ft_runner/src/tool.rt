@@ -1,3 +1,5 @@
+//! The tool, over any source, sink and place for errors: the call that the program makes, whose
+//! contract is the headline.
 ghost use Rattle.ft_runner.specs.declared.command.Subcommand.TheVariants as subcommand;
 ghost use Rattle.ft_runner.specs.declared.report.Fault.TheVariants as fault;
 ghost use Rattle.ft_runner.specs.declared.command.Subcommand.{Subcommand};

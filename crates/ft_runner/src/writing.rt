@@ -1,3 +1,5 @@
+//! Writing a history through one buffer; where the sink fails, what was put is a prefix of the
+//! text.
 ghost use Rattle.std.specs.Prelude.{◌≡◌, true, ◌++◌, All, OnOk, OnErr};
 ghost use Rattle.ft_model.specs.Parts.{IsEntryOf, IsWorldOf};
 ghost use Rattle.ft_script.specs.Texts.{entry_line, world_text};

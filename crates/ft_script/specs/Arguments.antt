@@ -25,7 +25,8 @@ symbol_of draft text =
     else (elim (text_place draft.strings text) [
       | Some number ↦ Ok (number, draft)
       | None ↦
-          if nat_lt (length draft.strings) 65536 then Ok (length draft.strings, record draft { strings = draft.strings ++ text ∷ [] })
+          if nat_lt (length draft.strings) 65536
+          then Ok (length draft.strings, record draft { strings = draft.strings ++ text ∷ [] })
           else Err (fault.Limit which.Strings)
     ])
 
@@ -35,7 +36,8 @@ index_of word = or_fault fault.Number (integer_of word)
 -- a key: a string or an integer
 unfoldable pub key_of : Draft → List ℕ → Result (Key × Draft) Fault
 key_of draft word =
-    if is_string word then (symbol_of draft (text_of word) >>= λ symbol. Ok (key.Text (record { 0 = symbol.0 }), symbol.1))
+    if is_string word
+    then (symbol_of draft (text_of word) >>= λ symbol. Ok (key.Text (record { 0 = symbol.0 }), symbol.1))
     else (index_of word >>= λ n. Ok (key.Int n, draft))
 
 -- a value: a key, or `None`
@@ -78,7 +80,8 @@ made_cursor_of draft name =
     if is_container_name name then (elim (text_place draft.cursors name) [
       | Some number ↦ Ok (number, draft)
       | None ↦
-          if nat_lt (length draft.cursors) 256 then Ok (length draft.cursors, record draft { cursors = draft.cursors ++ name ∷ [] })
+          if nat_lt (length draft.cursors) 256
+          then Ok (length draft.cursors, record draft { cursors = draft.cursors ++ name ∷ [] })
           else Err (fault.Limit which.Cursors)
     ])
     else Err fault.Name

@@ -50,7 +50,11 @@ call_word_text (On operation) = operation_text operation
 
 abbrev pub call_words : List CallWord
 call_words =
-    Next ∷ Begin ∷ End ∷ Quiesce ∷ On of.Get ∷ On of.GetOr ∷ On of.Set ∷ On of.Del ∷ On of.Pop ∷ On of.PopOr ∷ On of.PopItem ∷ On of.SetDefault ∷ On of.Has ∷ On of.Len ∷ On of.Items ∷ On of.Update ∷ On of.Clear ∷ On of.CopyTo ∷ On of.Eq ∷ On of.Iter ∷ On of.Append ∷ On of.Insert ∷ On of.Remove ∷ On of.Index ∷ On of.Count ∷ On of.Reverse ∷ On of.Extend ∷ On of.Slice ∷ On of.Add ∷ On of.Discard ∷ On of.Or ∷ On of.And ∷ On of.Sub ∷ On of.Xor ∷ On of.Subset ∷ On of.Disjoint ∷ []
+    Next ∷ Begin ∷ End ∷ Quiesce ∷ On of.Get ∷ On of.GetOr ∷ On of.Set ∷ On of.Del ∷ On of.Pop ∷ On of.PopOr
+    ∷ On of.PopItem ∷ On of.SetDefault ∷ On of.Has ∷ On of.Len ∷ On of.Items ∷ On of.Update ∷ On of.Clear
+    ∷ On of.CopyTo ∷ On of.Eq ∷ On of.Iter ∷ On of.Append ∷ On of.Insert ∷ On of.Remove ∷ On of.Index
+    ∷ On of.Count ∷ On of.Reverse ∷ On of.Extend ∷ On of.Slice ∷ On of.Add ∷ On of.Discard ∷ On of.Or ∷ On of.And
+    ∷ On of.Sub ∷ On of.Xor ∷ On of.Subset ∷ On of.Disjoint ∷ []
 
 -- the word of a call that some bytes are
 unfoldable pub call_word_of : List ℕ → Option CallWord

@@ -38,7 +38,8 @@ is_decimal (b ∷ bytes) = is_digit b && list_all is_digit bytes
 
 -- the number below 2^64 that digits are
 unfoldable pub natural_in : List ℕ → Option ℕ
-natural_in token = if is_decimal token && nat_lt (digits_value 10 token) (2 ^ 64) then Some (digits_value 10 token) else None
+natural_in token =
+    if is_decimal token && nat_lt (digits_value 10 token) (2 ^ 64) then Some (digits_value 10 token) else None
 
 unfoldable pub u64_of : List ℕ → Result ℕ Fault
 u64_of token = or_fault fault.Number (natural_in token)
@@ -52,11 +53,15 @@ u32_of token = u64_of token >>= λ n. if nat_lt n (2 ^ 32) then Ok n else Err fa
 -- a key whose string, if it is one, is among these
 unfoldable pub known_key : List (List ℕ) → List ℕ → Result Key Fault
 known_key strings token =
-    if is_string token then (or_fault fault.String (text_place strings (text_of token)) >>= λ place. Ok (key.Text (record { 0 = place })))
+    if is_string token
+    then (or_fault fault.String (text_place strings (text_of token)) >>= λ place. Ok
+    (key.Text (record { 0 = place })))
     else (index_of token >>= λ n. Ok (key.Int n))
 
 unfoldable pub known_value : List (List ℕ) → List ℕ → Result Value Fault
-known_value strings token = if bytes_eq token (codes "None") then Ok value.Nothing else (known_key strings token >>= λ found. Ok (as_value found))
+known_value strings token =
+    if bytes_eq token (codes "None") then Ok value.Nothing
+    else (known_key strings token >>= λ found. Ok (as_value found))
 
 unfoldable pub known_pair : List (List ℕ) → List ℕ → List ℕ → Result (Key × Value) Fault
 known_pair strings first second = do
@@ -101,7 +106,10 @@ reply_word_text word.Brace = codes "{"
 reply_word_text word.Bracket = codes "["
 
 abbrev pub reply_words : List ReplyWord
-reply_words = word.Done ∷ word.True ∷ word.False ∷ word.Stop ∷ word.Entered ∷ word.Kept ∷ word.Suspended ∷ word.KeyError ∷ word.IndexError ∷ word.ValueError ∷ word.RuntimeError ∷ word.MemoryError ∷ word.NoElements ∷ word.Brace ∷ word.Bracket ∷ []
+reply_words =
+    word.Done ∷ word.True ∷ word.False ∷ word.Stop ∷ word.Entered ∷ word.Kept ∷ word.Suspended ∷ word.KeyError
+    ∷ word.IndexError ∷ word.ValueError ∷ word.RuntimeError ∷ word.MemoryError ∷ word.NoElements ∷ word.Brace
+    ∷ word.Bracket ∷ []
 
 -- the word of a reply that a token is
 unfoldable pub reply_word_of : List ℕ → Option ReplyWord
@@ -113,15 +121,21 @@ suspended_of (count ∷ more) = u32_of count >>= λ n. Ok (reply.Suspended n)
 
 unfoldable pub runtime_error_of : List (List ℕ) → Result Raise Fault
 runtime_error_of [] = Err fault.WordCount
-runtime_error_of (cause ∷ more) = if bytes_eq cause (codes "size") then Ok raise.Size else (if bytes_eq cause (codes "keys") then Ok raise.Keys else Err fault.UnknownWord)
+runtime_error_of (cause ∷ more) =
+    if bytes_eq cause (codes "size") then Ok raise.Size
+    else (if bytes_eq cause (codes "keys") then Ok raise.Keys else Err fault.UnknownWord)
 
 -- the classes are those from 3 to 16
 unfoldable pub class_error_of : List ℕ → Result Raise Fault
-class_error_of token = u32_of token >>= λ class. if nat_le least_class class && nat_le class greatest_class then Ok (raise.Memory class) else Err fault.Number
+class_error_of token =
+    u32_of token >>= λ class. if nat_le least_class class
+    && nat_le class greatest_class then Ok (raise.Memory class) else Err fault.Number
 
 unfoldable pub memory_error_of : List (List ℕ) → Result Raise Fault
 memory_error_of [] = Err fault.WordCount
-memory_error_of (cause ∷ more) = if bytes_eq cause (codes "over") then Ok raise.Over else (if bytes_eq cause (codes "heap") then Ok raise.Heap else class_error_of cause)
+memory_error_of (cause ∷ more) =
+    if bytes_eq cause (codes "over") then Ok raise.Over
+    else (if bytes_eq cause (codes "heap") then Ok raise.Heap else class_error_of cause)
 
 -- whether the second token is a `:`, or there is none
 abbrev pub has_pairs : List (List ℕ) → Bool
@@ -154,7 +168,8 @@ worded_reply strings word.RuntimeError tokens = runtime_error_of tokens >>= λ r
 worded_reply strings word.MemoryError tokens = memory_error_of tokens >>= λ raised. Ok (reply.Raised raised)
 worded_reply strings word.NoElements tokens = Ok (reply.Set [])
 worded_reply strings word.Brace tokens = braced_of strings (but_last tokens)
-worded_reply strings word.Bracket tokens = each_of (known_value strings) (but_last tokens) >>= λ items. Ok (reply.List items)
+worded_reply strings word.Bracket tokens =
+    each_of (known_value strings) (but_last tokens) >>= λ items. Ok (reply.List items)
 
 -- an integer that isn't negative stands for a count where the call counts
 abbrev pub counted_reply : Bool → Value → Reply
@@ -163,7 +178,8 @@ counted_reply counted found = reply.Value found
 
 -- a value or a pair
 unfoldable pub shown_reply : List (List ℕ) → Bool → List ℕ → List (List ℕ) → Result Reply Fault
-shown_reply strings counted first (colon ∷ second ∷ more) = known_pair strings first second >>= λ pair. Ok (reply.Pair pair.0 pair.1)
+shown_reply strings counted first (colon ∷ second ∷ more) =
+    known_pair strings first second >>= λ pair. Ok (reply.Pair pair.0 pair.1)
 shown_reply strings counted first others = known_value strings first >>= λ found. Ok (counted_reply counted found)
 
 unfoldable pub first_reply : List (List ℕ) → Bool → List ℕ → List (List ℕ) → Option ReplyWord → Result Reply Fault
@@ -212,7 +228,15 @@ entry_of script (place ∷ stamp ∷ words) = do
   called ← thread_call script numbered.0 (before_word (codes "=") words)
   said ← reply_of script.strings (counts called) (before_word (codes "waited") (after_word (codes "=") words))
   waited ← waited_of script (after_word (codes "waited") (after_word (codes "=") words))
-  Ok (record { thread = numbered.0; index = numbered.1; stamp = stamped.1; wrote = stamped.0; call = called; reply = said; waited = waited })
+  Ok (record {
+    thread = numbered.0;
+    index = numbered.1;
+    stamp = stamped.1;
+    wrote = stamped.0;
+    call = called;
+    reply = said;
+    waited = waited;
+  })
 entry_of script others = Err fault.WordCount
 
 -- ---- contents

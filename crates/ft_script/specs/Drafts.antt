@@ -82,7 +82,12 @@ empty_draft = record {
 
 -- what stands above the calls of a script's thread, where it declares all that the script and the thread have
 abbrev pub draft_at : ScriptParts → ℕ → Draft
-draft_at script thread = record empty_draft { containers = script.containers; strings = script.strings; cursors = option_map_or (λ found. found.cursors) (slice_get script.threads thread) [] }
+draft_at script thread =
+    record empty_draft {
+      containers = script.containers;
+      strings = script.strings;
+      cursors = option_map_or (λ found. found.cursors) (slice_get script.threads thread) [];
+    }
 
 -- the script of all lines: where none says otherwise there are as many tables of a class as a script has without a line for it, and 64 places in each heap
 abbrev pub script_of : Draft → ScriptParts
@@ -105,6 +110,13 @@ end_thread draft = elim draft.name [
   | None ↦ Ok draft
   | Some name ↦
       if draft.depth == 0
-      then Ok (record draft { threads = draft.threads ++ record { name = name; cursors = draft.cursors; calls = draft.calls } ∷ []; name = None; cursors = []; calls = [] })
+      then Ok (record draft {
+        threads = draft.threads
+            ++ record { name = name; cursors = draft.cursors; calls = draft.calls } ∷ [];
+        name = None;
+        cursors =
+            [];
+        calls = [];
+      })
       else Err fault.BeginWithoutEnd
 ]

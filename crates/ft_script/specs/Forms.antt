@@ -30,7 +30,8 @@ dict_form this (dict.Del key) = form (codes "del") (this ∷ argument.Key key �
 dict_form this (dict.Pop key) = form (codes "pop") (this ∷ argument.Key key ∷ [])
 dict_form this (dict.PopOr key default) = form (codes "popd") (this ∷ argument.Key key ∷ argument.Value default ∷ [])
 dict_form this dict.PopItem = form (codes "popitem") (this ∷ [])
-dict_form this (dict.SetDefault key default) = form (codes "setdefault") (this ∷ argument.Key key ∷ argument.Value default ∷ [])
+dict_form this (dict.SetDefault key default) =
+    form (codes "setdefault") (this ∷ argument.Key key ∷ argument.Value default ∷ [])
 dict_form this (dict.Has key) = form (codes "has") (this ∷ argument.Key key ∷ [])
 dict_form this dict.Len = form (codes "len") (this ∷ [])
 dict_form this dict.Items = form (codes "items") (this ∷ [])
@@ -47,7 +48,8 @@ pop_arguments this (Some index) = this ∷ argument.Index index ∷ []
 
 abbrev pub list_form : Argument → ListCall → Form
 list_form this (list.Append value) = form (codes "append") (this ∷ argument.Value value ∷ [])
-list_form this (list.Insert index value) = form (codes "insert") (this ∷ argument.Index index ∷ argument.Value value ∷ [])
+list_form this (list.Insert index value) =
+    form (codes "insert") (this ∷ argument.Index index ∷ argument.Value value ∷ [])
 list_form this (list.Get index) = form (codes "get") (this ∷ argument.Index index ∷ [])
 list_form this (list.Set index value) = form (codes "set") (this ∷ argument.Index index ∷ argument.Value value ∷ [])
 list_form this (list.Del index) = form (codes "del") (this ∷ argument.Index index ∷ [])

@@ -29,9 +29,12 @@ is_escape b = b == 34 || b == 92 || b == 110 || b == 116
 
 -- where a byte leads: between words, in a plain word, in a string, after a backslash in it, or after its end; a string ends its word
 abbrev pub place_after : Place → ℕ → Option Place
-place_after place.Between b = if b == 32 then Some place.Between else (if b == 34 then Some place.String else Some place.Plain)
+place_after place.Between b =
+    if b == 32 then Some place.Between else (if b == 34 then Some place.String else Some place.Plain)
 place_after place.Plain b = if b == 32 then Some place.Between else Some place.Plain
-place_after place.String b = if b == 34 then Some place.Ended else (if b == 92 then Some place.Escape else (if is_plain b then Some place.String else None))
+place_after place.String b =
+    if b == 34 then Some place.Ended
+    else (if b == 92 then Some place.Escape else (if is_plain b then Some place.String else None))
 place_after place.Escape b = if is_escape b then Some place.String else None
 place_after place.Ended b = if b == 32 then Some place.Between else None
 
@@ -59,7 +62,8 @@ words_from place.Plain [] = Some ([] ∷ [])
 words_from place.String [] = None
 words_from place.Escape [] = None
 words_from place.Ended [] = Some ([] ∷ [])
-words_from at (b ∷ bytes) = elim (place_after at b) [ None ↦ None | Some next ↦ option_map (joined at b next) (words_from next bytes) ]
+words_from at (b ∷ bytes) =
+    elim (place_after at b) [ None ↦ None | Some next ↦ option_map (joined at b next) (words_from next bytes) ]
 
 -- the words of a line, parted by spaces; a space in a string doesn't part
 abbrev pub words_of : List ℕ → Option (List (List ℕ))

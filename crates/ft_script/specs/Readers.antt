@@ -42,7 +42,8 @@ IfFault error.Memory P = Unit {0}
 IfFault (error.Fault fault) P = P
 
 -- an entry is read of its line where no content stands above it
-pub record AddsEntry (script : ScriptParts) (text : List ℕ) (entries : List Entry) (world : List (List ℕ)) (entries_after : List Entry) (world_after : List (List ℕ)) : Type 0 where
+pub record AddsEntry (script : ScriptParts) (text : List ℕ) (entries : List Entry) (world : List (List ℕ))
+    (entries_after : List Entry) (world_after : List (List ℕ)) : Type 0 where
   pub entry : Entry
   pub readable : IsReadable script entry
   pub printed : text ≡ entry_line script entry
@@ -51,7 +52,8 @@ pub record AddsEntry (script : ScriptParts) (text : List ℕ) (entries : List En
   pub world_is : world_after ≡ world
 
 -- the line of a content is kept
-pub record AddsContent (script : ScriptParts) (text : List ℕ) (entries : List Entry) (world : List (List ℕ)) (entries_after : List Entry) (world_after : List (List ℕ)) : Type 0 where
+pub record AddsContent (script : ScriptParts) (text : List ℕ) (entries : List Entry) (world : List (List ℕ))
+    (entries_after : List Entry) (world_after : List (List ℕ)) : Type 0 where
   pub content : List ℕ
   pub readable : IsContentLine script content
   pub printed : text ≡ content ++ 10 ∷ []

@@ -41,7 +41,8 @@ dict_call draft of.Del words = key_in draft words >>= λ read. Ok (dict.Del read
 dict_call draft of.Pop words = key_in draft words >>= λ read. Ok (dict.Pop read.0, read.1)
 dict_call draft of.PopOr words = key_and_value_in draft words >>= λ read. Ok (dict.PopOr read.0.0 read.0.1, read.1)
 dict_call draft of.PopItem words = nothing_in words >>= λ _. Ok (dict.PopItem, draft)
-dict_call draft of.SetDefault words = key_and_value_in draft words >>= λ read. Ok (dict.SetDefault read.0.0 read.0.1, read.1)
+dict_call draft of.SetDefault words =
+    key_and_value_in draft words >>= λ read. Ok (dict.SetDefault read.0.0 read.0.1, read.1)
 dict_call draft of.Has words = key_in draft words >>= λ read. Ok (dict.Has read.0, read.1)
 dict_call draft of.Len words = nothing_in words >>= λ _. Ok (dict.Len, draft)
 dict_call draft of.Items words = nothing_in words >>= λ _. Ok (dict.Items, draft)
@@ -140,14 +141,18 @@ set_call draft of.Slice words = Err fault.WrongKind
 -- a call of the container at a place, which is of a kind
 unfoldable pub call_at : Draft → ℕ → Operation → List (List ℕ) → Option Kind → Result (Call × Draft) Fault
 call_at draft place operation words None = Err fault.Name
-call_at draft place operation words (Some kind.Dict) = dict_call draft operation words >>= λ read. Ok (call.Dict place read.0, read.1)
-call_at draft place operation words (Some kind.List) = list_call draft operation words >>= λ read. Ok (call.List place read.0, read.1)
-call_at draft place operation words (Some kind.Set) = set_call draft operation words >>= λ read. Ok (call.Set place read.0, read.1)
+call_at draft place operation words (Some kind.Dict) =
+    dict_call draft operation words >>= λ read. Ok (call.Dict place read.0, read.1)
+call_at draft place operation words (Some kind.List) =
+    list_call draft operation words >>= λ read. Ok (call.List place read.0, read.1)
+call_at draft place operation words (Some kind.Set) =
+    set_call draft operation words >>= λ read. Ok (call.Set place read.0, read.1)
 
 -- a call whose first argument is a container, which says what stands after it
 unfoldable pub container_call : Draft → Operation → List (List ℕ) → Result (Call × Draft) Fault
 container_call draft operation [] = Err fault.WordCount
-container_call draft operation (name ∷ words) = container_of draft name >>= λ place. call_at draft place operation words (kind_at draft place)
+container_call draft operation (name ∷ words) =
+    container_of draft name >>= λ place. call_at draft place operation words (kind_at draft place)
 
 -- the call that a word and those after it are
 unfoldable pub call_of : Draft → CallWord → List (List ℕ) → Result (Call × Draft) Fault
@@ -195,7 +200,8 @@ limit_error (Err (error.Fault found)) = error.Fault (limit_fault found)
 
 -- the line of a call
 unfoldable pub call_line : Draft → CallWord → List (List ℕ) → Result Draft Fault
-call_line draft word words = if nat_lt draft.called 500000 then counted_call draft word words else past_limit (call_of draft word words)
+call_line draft word words =
+    if nat_lt draft.called 500000 then counted_call draft word words else past_limit (call_of draft word words)
 
 -- ---- declarations
 
@@ -204,13 +210,15 @@ unfoldable pub container_line : Draft → Kind → List (List ℕ) → Result Dr
 container_line draft kind (name ∷ []) =
     if not (is_container_name name) then Err fault.Name else (
     if is_some (container_place draft.containers name) then Err fault.NameTwice else (
-    if nat_lt (length draft.containers) 256 then Ok (record draft { containers = draft.containers ++ record { kind = kind; name = name } ∷ [] })
+    if nat_lt (length draft.containers) 256
+    then Ok (record draft { containers = draft.containers ++ record { kind = kind; name = name } ∷ [] })
     else Err (fault.Limit which.Containers)))
 container_line draft kind others = Err fault.WordCount
 
 -- the place of a class among those from 3 to 16
 abbrev pub class_place : ℤ → Option ℕ
-class_place n = if int_le (pos least_class) n && int_le n (pos greatest_class) then Some (natural_of n - least_class) else None
+class_place n =
+    if int_le (pos least_class) n && int_le n (pos greatest_class) then Some (natural_of n - least_class) else None
 
 -- whether a line names the number of tables of the class
 abbrev pub is_reported : Option (Option ℕ) → Bool
@@ -223,7 +231,9 @@ class_of word = index_of word >>= λ n. or_fault (fault.Limit which.Class) (clas
 unfoldable pub tables_at : Draft → ℕ → List ℕ → Result Draft Fault
 tables_at draft place count =
     if is_reported (slice_get draft.tables place) then Err fault.NameTwice else (index_of count >>= λ n.
-    if int_le (pos 1) n && int_le n (pos 1024) then Ok (record draft { tables = slice_set draft.tables place (Some (natural_of n)) }) else Err (fault.Limit which.Tables))
+    if int_le (pos 1) n
+    && int_le n (pos 1024) then Ok (record draft { tables = slice_set draft.tables place (Some (natural_of n)) })
+    else Err (fault.Limit which.Tables))
 
 unfoldable pub tables_of : Draft → List ℕ → List ℕ → Result Draft Fault
 tables_of draft class count = class_of class >>= λ place. tables_at draft place count
@@ -237,7 +247,9 @@ tables_line draft others = Err fault.WordCount
 unfoldable pub heap_line : Draft → List (List ℕ) → Result Draft Fault
 heap_line draft (count ∷ []) =
     if is_some draft.heap then Err fault.NameTwice else (index_of count >>= λ n.
-    if int_le (pos 64) n && int_le n (pos 4096) && (natural_of n % 64 == 0) then Ok (record draft { heap = Some (natural_of n) }) else Err (fault.Limit which.Heap))
+    if int_le (pos 64) n && int_le n (pos 4096)
+    && (natural_of n % 64 == 0) then Ok (record draft { heap = Some (natural_of n) })
+    else Err (fault.Limit which.Heap))
 heap_line draft others = Err fault.WordCount
 
 -- the lines above all threads
@@ -263,8 +275,10 @@ thread_line draft others = Err fault.WordCount
 -- a name of an `order` line
 unfoldable pub turn : Draft → List ℕ → Result Draft Fault
 turn draft name =
-    if not (is_thread_name name) then Err fault.Name else (or_fault fault.OrderName (thread_place draft.threads name) >>= λ thread.
-    if nat_lt (length draft.order) 1000000 then Ok (record draft { order = draft.order ++ thread ∷ [] }) else Err (fault.Limit which.Order))
+    if not (is_thread_name name) then Err fault.Name
+    else (or_fault fault.OrderName (thread_place draft.threads name) >>= λ thread.
+    if nat_lt (length draft.order) 1000000 then Ok (record draft { order = draft.order ++ thread ∷ [] })
+    else Err (fault.Limit which.Order))
 
 unfoldable pub turns : Draft → List (List ℕ) → Result Draft Fault
 turns draft [] = Ok draft
@@ -279,30 +293,36 @@ order_line draft (name ∷ names) = turns draft (name ∷ names)
 
 -- a line of a thread
 unfoldable pub thread_statement : Draft → List ℕ → List (List ℕ) → Result Draft Fault
-thread_statement draft word words = or_fault fault.UnknownWord (call_word_of word) >>= λ found. call_line draft found words
+thread_statement draft word words =
+    or_fault fault.UnknownWord (call_word_of word) >>= λ found. call_line draft found words
 
 -- a line in a thread, where no declaration stands, or above all threads
 unfoldable pub plain_statement : Draft → List ℕ → List (List ℕ) → Result Draft Fault
-plain_statement draft word words = if is_some draft.name then thread_statement draft word words else declaration draft word words
+plain_statement draft word words =
+    if is_some draft.name then thread_statement draft word words else declaration draft word words
 
 -- a line above all `order` lines
 unfoldable pub unordered_statement : Draft → List ℕ → List (List ℕ) → Result Draft Fault
-unordered_statement draft word words = if bytes_eq word (codes "thread") then thread_line draft words else plain_statement draft word words
+unordered_statement draft word words =
+    if bytes_eq word (codes "thread") then thread_line draft words else plain_statement draft word words
 
 -- a line that isn't an `order` line, and stands after none
 unfoldable pub other_statement : Draft → List ℕ → List (List ℕ) → Result Draft Fault
-other_statement draft word words = if length draft.order == 0 then unordered_statement draft word words else Err fault.UnknownWord
+other_statement draft word words =
+    if length draft.order == 0 then unordered_statement draft word words else Err fault.UnknownWord
 
 -- a line by its words
 unfoldable pub statement : Draft → List (List ℕ) → Result Draft Fault
 statement draft [] = Ok draft
-statement draft (word ∷ words) = if bytes_eq word (codes "order") then order_line draft words else other_statement draft word words
+statement draft (word ∷ words) =
+    if bytes_eq word (codes "order") then order_line draft words else other_statement draft word words
 
 unfoldable pub words_line : Draft → List ℕ → Result Draft Fault
 words_line draft line = or_fault fault.String (words_of line) >>= λ words. statement draft words
 
 unfoldable pub open_line : Draft → List ℕ → Result Draft Fault
-open_line draft line = if ends_thread line then (end_thread draft >>= λ ended. words_line ended line) else words_line draft line
+open_line draft line =
+    if ends_thread line then (end_thread draft >>= λ ended. words_line ended line) else words_line draft line
 
 -- a line: it ends the calls of the thread above it before anything else is reported, and no word is read of one whose strings are broken
 unfoldable pub read_line : Draft → List ℕ → Result Draft Fault

@@ -23,7 +23,12 @@ reported_at number (Err found) = Err (fault_at number found)
 -- the draft after the lines, of which the first has this number, or the first fault; a thread's calls that don't end are reported one past the last line
 unfoldable pub read_lines : ℕ → Draft → List (List ℕ) → Result Draft ScriptFault
 read_lines number draft [] = reported_at number (end_thread draft)
-read_lines number draft (line ∷ lines) = elim (reported_at number (read_line draft line)) [ Ok next ↦ read_lines (line_after number) next lines | Err found ↦ Err found ]
+read_lines number draft (line ∷ lines) =
+    elim (reported_at number (read_line draft line)) [
+      | Ok next ↦ read_lines
+          (line_after number) next lines
+      | Err found ↦ Err found
+    ]
 
 -- the line of the first byte that isn't UTF-8
 abbrev pub bad_line : List ℕ → ℕ

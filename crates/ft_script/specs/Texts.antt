@@ -33,7 +33,9 @@ line words = join_with_byte 32 words ++ 10 ∷ []
 -- a byte of a string: a quotation mark, a backslash, a line feed and a tab stand after a backslash, and all others as they are
 abbrev pub escaped : ℕ → List ℕ
 escaped b =
-    if b == 34 then 92 ∷ 34 ∷ [] else (if b == 92 then 92 ∷ 92 ∷ [] else (if b == 10 then codes "\\n" else (if b == 9 then codes "\\t" else b ∷ [])))
+    if b == 34 then 92 ∷ 34
+    ∷ [] else
+    (if b == 92 then 92 ∷ 92 ∷ [] else (if b == 10 then codes "\\n" else (if b == 9 then codes "\\t" else b ∷ [])))
 
 abbrev pub quoted : List ℕ → List ℕ
 quoted text = 34 ∷ flat_map escaped text ++ 34 ∷ []
@@ -58,7 +60,8 @@ thread_name script thread = option_map_or (λ found. found.name) (slice_get scri
 
 -- cursors are named by thread
 abbrev pub cursor_name : ScriptParts → ℕ → ℕ → List ℕ
-cursor_name script thread cursor = option_map_or (λ found. slice_index_or found.cursors cursor []) (slice_get script.threads thread) []
+cursor_name script thread cursor =
+    option_map_or (λ found. slice_index_or found.cursors cursor []) (slice_get script.threads thread) []
 
 -- a word after the word of a call
 abbrev pub argument_text : ScriptParts → ℕ → Argument → List ℕ
@@ -140,7 +143,9 @@ mark_words script None = []
 mark_words script (Some thread) = codes "waited" ∷ thread_name script thread ∷ []
 
 abbrev pub entry_words : ScriptParts → Entry → List (List ℕ)
-entry_words script entry = place_word script entry ∷ stamp_word entry ∷ call_words script entry.thread entry.call ++ codes "=" ∷ reply_text script.strings entry.reply ∷ mark_words script entry.waited
+entry_words script entry =
+    place_word script entry ∷ stamp_word entry ∷ call_words script entry.thread entry.call ++ codes "="
+    ∷ reply_text script.strings entry.reply ∷ mark_words script entry.waited
 
 abbrev pub entry_line : ScriptParts → Entry → List ℕ
 entry_line script entry = line (entry_words script entry)
@@ -169,4 +174,5 @@ world_text script world = flat_map (λ shown. world_line script shown.0 shown.1)
 
 -- the entries' lines in order, and then the contents after all writes
 abbrev pub transcript : ScriptParts → List Entry → List ℕ
-transcript script entries = flat_map (entry_line script) entries ++ world_text script (world_at script entries (length (writes entries)))
+transcript script entries =
+    flat_map (entry_line script) entries ++ world_text script (world_at script entries (length (writes entries)))

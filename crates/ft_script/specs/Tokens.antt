@@ -16,7 +16,9 @@ is_mark b = b == 58 || b == 91 || b == 93 || b == 123 || b == 125
 
 -- where a byte leads that goes on with no token
 abbrev pub place_at : ℕ → Place
-place_at b = if is_gap b then place.Between else (if is_mark b then place.Ended else (if b == 34 then place.String else place.Plain))
+place_at b =
+    if is_gap b then place.Between
+    else (if is_mark b then place.Ended else (if b == 34 then place.String else place.Plain))
 
 -- where a byte leads
 abbrev pub place_after : Place → ℕ → Place
@@ -52,7 +54,8 @@ parted ends tokens = if ends then [] ∷ tokens else tokens
 unfoldable pub tokens_from : Place → List ℕ → List (List ℕ)
 tokens_from place.Between [] = []
 tokens_from other [] = [] ∷ []
-tokens_from at (b ∷ bytes) = parted (token_ends at (place_after at b)) (fronted b (place_after at b) (tokens_from (place_after at b) bytes))
+tokens_from at (b ∷ bytes) =
+    parted (token_ends at (place_after at b)) (fronted b (place_after at b) (tokens_from (place_after at b) bytes))
 
 abbrev pub tokens_of : List ℕ → List (List ℕ)
 tokens_of line = tokens_from place.Between line

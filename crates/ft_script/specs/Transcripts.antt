@@ -154,7 +154,8 @@ IsWhole other = ⊥
 
 -- the line of a container and a content
 abbrev pub content_line : ScriptParts → ℕ → Reply → List ℕ
-content_line script container content = line (container_name script container ∷ codes "=" ∷ reply_text script.strings content ∷ [])
+content_line script container content =
+    line (container_name script container ∷ codes "=" ∷ reply_text script.strings content ∷ [])
 
 -- the line of a content, without its line feed: the name of a container, and the text of a container of any kind
 pub record IsContentLine (script : ScriptParts) (text : List ℕ) : Type 0 where
@@ -173,7 +174,8 @@ abbrev pub fed : List (List ℕ) → List ℕ
 fed lines = flat_map (λ text. text ++ 10 ∷ []) lines
 
 -- the bytes are the lines of these entries, and then these lines of contents
-pub record IsTranscript (script : ScriptParts) (bytes : List ℕ) (entries : List Entry) (world : List (List ℕ)) : Type 0 where
+pub record IsTranscript (script : ScriptParts) (bytes : List ℕ) (entries : List Entry)
+    (world : List (List ℕ)) : Type 0 where
   pub entries_read : All (IsReadable script) entries
   pub world_read : All (IsContentLine script) world
   pub written : bytes ≡ flat_map (entry_line script) entries ++ fed world
@@ -187,6 +189,7 @@ pub record IsFirstBad (script : ScriptParts) (bytes : List ℕ) (number : ℕ) :
   pub parts : bytes ≡ front ++ rest
   pub before : IsTranscript script front entries world
   pub left : rest ≢ []
-  pub no_entry : world ≡ [] → (entry : Entry) (more : List ℕ) → IsReadable script entry → rest ≢ entry_line script entry ++ more
+  pub no_entry : world ≡ [] → (entry : Entry) (more : List ℕ) → IsReadable script entry
+      → rest ≢ entry_line script entry ++ more
   pub no_content : (text more : List ℕ) → IsContentLine script text → rest ≢ text ++ 10 ∷ more
   pub counted : number ≡ min (length entries + length world + 1) (2 ^ 32 - 1)

@@ -1,6 +1,5 @@
 //! The containers that a script declares, and the cursors that a thread makes. There are never more
-//! than a script may have, so the place of each fits 32 bits, and looking a name up fails for no
-//! want of room.
+//! than a script may have, so the place of each fits 32 bits, and looking a name up takes no memory.
 ghost use Rattle.ft_script.specs.Drafts.{container_place, text_place, thread_place};
 ghost use Rattle.std.specs.Prelude.{◌≡◌, ◌<◌, ◌≤◌, [], ◌∷◌, ◌++◌, length, IfSome, OnOk};
 

@@ -1,5 +1,5 @@
 //! The distinct strings of a script, each with its number. There are never more than a script may
-//! have, so each number fits 32 bits, and looking a string up fails for no want of room.
+//! have, so each number fits 32 bits, and looking a string up takes no memory.
 ghost use Rattle.ft_script.specs.Drafts.{text_place};
 ghost use Rattle.std.specs.Prelude.{◌≡◌, ◌<◌, [], ◌∷◌, ◌++◌, length, None, IfOk, OnOk};
 

@@ -98,9 +98,9 @@ fn order(alloc: Global) -> Result<Sequence<u32>, AllocError>
 }
 
 fn tables(alloc: Global) -> Result<Sequence<u32>, AllocError>
-    ensures { IfOk result (λ tables. tables ≡ replicate 10 4) }
+    ensures { IfOk result (λ tables. tables ≡ replicate 14 4) }
 {
-    Ok(Sequence::from_vec(vec![in alloc; 4; 10]?))
+    Ok(Sequence::from_vec(vec![in alloc; 4; 14]?))
 }
 
 fn script(alloc: Global) -> Result<ScriptParts, AllocError>

@@ -57,7 +57,7 @@ worked =
       containers = the_list ∷ the_dict ∷ [];
       threads = first_thread ∷ second_thread ∷ third_thread ∷ [];
       strings = [];
-      tables = replicate 10 4;
+      tables = replicate 14 4;
       heap = 64;
       order = 1 ∷ 0 ∷ 0 ∷ 2 ∷ 1 ∷ 1 ∷ [];
     }
@@ -153,7 +153,7 @@ rule =
       strings = All-nil IsString;
       strings_differ = no_pairs (λ (a b : List ℕ). a ≢ b);
       classes = refl;
-      tables = All-replicate (λ (count : ℕ). (1 ≤ count) × (count ≤ 64)) 10 4 (omega arith, omega arith);
+      tables = All-replicate (λ (count : ℕ). (1 ≤ count) × (count ≤ 1024)) 14 4 (omega arith, omega arith);
       least_heap = omega arith;
       greatest_heap = omega arith;
       heap_steps = refl;

@@ -1,5 +1,6 @@
 //! The parts of the bank's rule: what holds of every valid trace, for the bank and all that stands on it.
 ghost use Rattle.ft_trace.specs.Grants.{ListsMayBeCleared, ClearedTablesMayBeGivenBack, TakingsEnd};
+ghost use Rattle.ft_trace.specs.Writes.{WritesMayBeMade};
 ghost use Rattle.ft_trace.specs.Laws.{StoredTablesAreInOrder, WordsLieApart, PairsAreUnderTheirKeys, ElementsAreUnderTheirKeys, OnePassIsAlone, StampsRise, MemoryErrorsAreEarned, LocksNameHolders, VersionsAreOddInWrites, EvenTablesAreShut, NumbersAreOnce, EntriesAreRight, OneHasAllEntries, EvenWordsStand, ZeroRootsHaveNothing, HoldersKnow, TablesAreSomewhere, TablesAreInOnePlace, CountsStand, TablesAreOwed, EmptyClassesAreEarned, AnnouncedNumbersAreLow, FoundTablesAreKept, GivenUpTablesRest, TablesAreSound, TableWordsStay, HitsAreRight, MissesAreRight, BareRootsAreRight, ItemsAreRight, ListsFitTheirTables, LooksAreRight, ChangedRootsAreNew, NumbersHaveRoom};
 
 /// A lock word is the number of the one pass that has the lock.
@@ -150,6 +151,11 @@ pub fn numbers_have_room()
 /// A pass with the lock of a list may clear it, in each of its steps.
 pub fn lists_may_be_cleared()
     ensures { ListsMayBeCleared }
+{}
+
+/// A write whose words are right may be made whole, in each of its steps.
+pub fn writes_may_be_made()
+    ensures { WritesMayBeMade }
 {}
 
 /// The table that a clear took out of the root may be retired and given back.

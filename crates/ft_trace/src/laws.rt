@@ -1,7 +1,10 @@
 //! The parts of the bank's rule: what holds of every valid trace, for the bank and all that stands on it.
 ghost use Rattle.ft_trace.specs.Grants.{ListsMayBeCleared, ClearedTablesMayBeGivenBack, TakingsEnd};
 ghost use Rattle.ft_trace.specs.Writes.{WritesMayBeMade};
+ghost use Rattle.ft_trace.specs.ItemWrites.{ItemsMayBePut};
 ghost use Rattle.ft_trace.specs.Laws.{StoredTablesAreInOrder, WordsLieApart, PairsAreUnderTheirKeys, ElementsAreUnderTheirKeys, OnePassIsAlone, StampsRise, MemoryErrorsAreEarned, LocksNameHolders, VersionsAreOddInWrites, EvenTablesAreShut, NumbersAreOnce, EntriesAreRight, OneHasAllEntries, EvenWordsStand, ZeroRootsHaveNothing, HoldersKnow, TablesAreSomewhere, TablesAreInOnePlace, CountsStand, TablesAreOwed, EmptyClassesAreEarned, AnnouncedNumbersAreLow, FoundTablesAreKept, GivenUpTablesRest, TablesAreSound, TableWordsStay, HitsAreRight, MissesAreRight, BareRootsAreRight, ItemsAreRight, ListsFitTheirTables, LooksAreRight, ChangedRootsAreNew, NumbersHaveRoom};
+
+use ft_layout::{puts_change_one_item, versions_change_nothing, words_follow_a_list};
 
 /// A lock word is the number of the one pass that has the lock.
 pub fn locks_name_their_holders()
@@ -157,6 +160,15 @@ pub fn lists_may_be_cleared()
 pub fn writes_may_be_made()
     ensures { WritesMayBeMade }
 {}
+
+/// A pass with the lock of a list may put one of its items.
+pub fn items_may_be_put()
+    ensures { ItemsMayBePut }
+{
+    versions_change_nothing();
+    puts_change_one_item();
+    words_follow_a_list();
+}
 
 /// The table that a clear took out of the root may be retired and given back.
 pub fn cleared_tables_may_be_given_back()

@@ -1,0 +1,73 @@
+-- What a pass knows of the kind and the table of a container whose lock it has, and how tables with their header are put.
+use Rattle.std.proofs.Common.{◌≡◌, ℕ, zero, suc, ◌+◌, ◌<◌, true, List, [], ◌∷◌, length, refl, sym, ap, ◌∙◌, arith, Option, Some, None}
+use Rattle.std.specs.Prelude.{slice_index, slice_index_or, slice_set, map}
+use Rattle.ft_model.specs.declared.content.Content.{Content}
+use Rattle.ft_model.specs.declared.content.Content.TheVariants as content
+use Rattle.ft_model.specs.declared.script.Kind.{Kind}
+use Rattle.ft_model.specs.declared.script.Kind.TheVariants as kind
+use Rattle.ft_model.specs.Worlds.{kind_of, empty_content, no_hands, IsOfKind}
+use Rattle.ft_model.specs.Tables.{stored_newest}
+use Rattle.ft_model.proofs.AnswerLaws.{answer_containers}
+use Rattle.ft_layout.specs.Containers.{IsRoot}
+use Rattle.ft_layout.proofs.KindLaws.{head_of}
+use Rattle.ft_trace.specs.declared.Shape.{Shape}
+use Rattle.ft_trace.specs.declared.View.{View}
+use Rattle.ft_trace.specs.declared.Act.{Act}
+use Rattle.ft_trace.specs.declared.Act.TheVariants.{Commit}
+use Rattle.ft_trace.specs.Addresses.{class_of}
+use Rattle.ft_trace.specs.Acts.{has_lock}
+use Rattle.ft_trace.specs.Worlds.{Kept, kept, kind_in}
+use Rattle.ft_trace.specs.Words.{Picture, root_in, Stands}
+use Rattle.ft_trace.specs.Holds.{known}
+use Rattle.ft_trace.specs.Traces.{Event, did, forked, joined, run, writes_of, history, May, Valid, Possible}
+use Rattle.ft_trace.proofs.Held.{content_known}
+
+mapped : {A B : Type 0} (f : A → B) (l : List A) (i : ℕ) (d : A) → slice_index_or (map f l) i (f d) ≡ f (slice_index_or l i d)
+mapped f [] i d = refl
+mapped f (x ∷ xs) zero d = refl
+mapped f (x ∷ xs) (suc i) d = mapped f xs i d
+
+kinds_at_start : (kinds : List Kind) → map kind_of (map empty_content kinds) ≡ kinds
+kinds_at_start [] = refl
+kinds_at_start (kind.Dict ∷ kinds) = ap (λ (rest : List Kind). kind.Dict ∷ rest) (kinds_at_start kinds)
+kinds_at_start (kind.List ∷ kinds) = ap (λ (rest : List Kind). kind.List ∷ rest) (kinds_at_start kinds)
+kinds_at_start (kind.Set ∷ kinds) = ap (λ (rest : List Kind). kind.Set ∷ rest) (kinds_at_start kinds)
+
+kinds_by : (k : Shape) (es : List Event) (v : View) → map kind_of (stored_newest k.kinds (history es)).world ≡ k.kinds → (b : Act) → May k (run k es) (history es) v b → map kind_of (stored_newest k.kinds (writes_of b (history es))).world ≡ k.kinds
+kinds_by k es v old (Commit c r f s) may = answer_containers (stored_newest k.kinds (history es)).world no_hands c may.11 ∙ old
+kinds_by k es v old act may = old
+
+-- each container stays of its kind
+pub kinds_stay : (k : Shape) (es : List Event) → Valid k es → map kind_of (stored_newest k.kinds (history es)).world ≡ k.kinds
+kinds_stay k [] valid = kinds_at_start k.kinds
+kinds_stay k (did id v a ∷ es) valid = kinds_by k es v (kinds_stay k es valid.0) a valid.1.3
+kinds_stay k (forked id v ∷ es) valid = kinds_stay k es valid.0
+kinds_stay k (joined id v other w ∷ es) valid = kinds_stay k es valid.0
+
+pub kind_known : (v : View) (o : ℕ) → has_lock o v.log ≡ true → Possible v → kind_of (known o v).content ≡ kind_in v.shape.kinds o
+kind_known v o mine p =
+    let world = (stored_newest v.shape.kinds (history p.0)).world in
+    ap (λ (z : Kept). kind_of z.content) (content_known v o mine p.0 p.1 p.2)
+    ∙ (sym (mapped kind_of world o (content.List [])) ∙ ap (λ (l : List Kind). slice_index_or l o kind.List) (kinds_stay v.shape p.0 p.2.0))
+
+-- the class of the table that a root names
+named_class : (root : ℕ) (class : Option ℕ) (t : ℕ) → IsRoot root class → root ≡ suc t → class ≡ Some (class_of t)
+unfolding class_of
+named_class root None t is e = absurd (omega (arith, is, e))
+named_class root (Some class) t is e = let low = is.1.1 in let at = is.1.2 in ap Some (omega (arith, low, at, e))
+
+pub class_known : (texts : List ℕ) (words : Picture) (kept : Kept) (t : ℕ) → Stands texts words kept → root_in words ≡ suc t → kept.table.class ≡ Some (class_of t)
+class_known texts words kept t s names = named_class (root_in words) kept.table.class t (head_of texts words.block (0 ∷ 0 ∷ words.table) kept.table kept.content s).root names
+
+-- the container is there, of the kind of what stands at its place
+pub declared_at : (world : List Content) (o : ℕ) (c : Content) → o < length world → slice_index_or world o (content.List []) ≡ c → IsOfKind world (kind_of c) o
+declared_at [] o c low is = absurd (omega arith)
+declared_at (x ∷ world) zero c low is = ap (λ (z : Content). Some (kind_of z)) is
+declared_at (x ∷ world) (suc o) c low is = declared_at world o c (omega arith) is
+
+-- words after the header
+pub after_header : (words : List ℕ) (i j x : ℕ) → i ≡ j + 2 → slice_set (0 ∷ 0 ∷ words) i x ≡ 0 ∷ 0 ∷ slice_set words j x
+after_header words i j x e = let is : i ≡ suc (suc j) = omega (arith, e) in ap (λ (z : ℕ). slice_set (0 ∷ 0 ∷ words) z x) is
+
+pub past_header : (words : List ℕ) (i j : ℕ) → i ≡ j + 2 → slice_index (0 ∷ 0 ∷ words) i ≡ slice_index words j
+past_header words i j e = let is : i ≡ suc (suc j) = omega (arith, e) in ap (λ (z : ℕ). slice_index (0 ∷ 0 ∷ words) z) is

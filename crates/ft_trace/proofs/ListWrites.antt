@@ -1,0 +1,220 @@
+-- That an item of a list may be put by a pass that has its lock, as a whole write.
+use Rattle.std.proofs.Common.{◌≡◌, ◌≢◌, ℕ, zero, suc, ◌+◌, ◌<◌, ◌≤◌, ℤ, true, false, List, [], ◌∷◌, length, Option, Some, refl, sym, ap, ◌∙◌, subst, inr, arith, length-set, get_or-set_same}
+use Rattle.std.specs.Prelude.{slice_index_or, slice_set, slice_get}
+use Rattle.std.specs.Option.{option_map_or}
+use Rattle.ft_model.specs.declared.call.Call.{Call}
+use Rattle.ft_model.specs.declared.call.Call.TheVariants as call
+use Rattle.ft_model.specs.declared.call.ListCall.TheVariants as list
+use Rattle.ft_model.specs.declared.content.Content.{Content}
+use Rattle.ft_model.specs.declared.content.Content.TheVariants as content
+use Rattle.ft_model.specs.declared.data.Value.{Value}
+use Rattle.ft_model.specs.declared.reply.Reply.TheVariants as reply
+use Rattle.ft_model.specs.declared.reply.Raise.TheVariants as raise
+use Rattle.ft_model.specs.declared.script.Kind.{Kind}
+use Rattle.ft_model.specs.declared.script.Kind.TheVariants as kind
+use Rattle.ft_model.specs.Answers.{Answer, answer, answer_list, puts, shows}
+use Rattle.ft_model.specs.Classes.{IsClass}
+use Rattle.ft_model.specs.Lists.{index_in}
+use Rattle.ft_model.specs.Worlds.{kind_of, list_of, list_at, no_hands}
+use Rattle.ft_model.specs.Tables.{stored_newest}
+use Rattle.ft_layout.specs.declared.slot.Stored.TheVariants.{Plain}
+use Rattle.ft_layout.specs.Words.{FitsStored}
+use Rattle.ft_layout.specs.Changes.{ChangesItem, SaysStored}
+use Rattle.ft_layout.specs.Containers.{IsListWords, StandsAs}
+use Rattle.ft_layout.proofs.Powers.{slots_range}
+use Rattle.ft_trace.specs.declared.Shape.{Shape}
+use Rattle.ft_trace.specs.declared.Snap.{Snap}
+use Rattle.ft_trace.specs.declared.View.{View}
+use Rattle.ft_trace.specs.Addresses.{class_of, slots, size, IsTable}
+use Rattle.ft_trace.specs.Acts.{mem}
+use Rattle.ft_trace.specs.Worlds.{Kept, kept, kind_in}
+use Rattle.ft_trace.specs.Words.{table_of, root_of, inner, root_in, Stands, item_at, item_of}
+use Rattle.ft_trace.specs.Items.{value_words, words_at}
+use Rattle.ft_trace.specs.Kinds.{rows, version_at, ClearAs}
+use Rattle.ft_trace.specs.Openings.{Shut}
+use Rattle.ft_trace.specs.Holds.{held, known, AgreesWith}
+use Rattle.ft_trace.specs.Traces.{Possible}
+use Rattle.ft_trace.specs.Grants.{MayWrite}
+use Rattle.ft_trace.specs.Writes.{MayPuts, Write, at_commit, at_end, after_write_of, MayBegin, MayCommit, MayWriteSo}
+use Rattle.ft_trace.specs.ItemWrites.{item_puts, item_closed, list_set_write, ItemsMayBePut}
+use Rattle.ft_trace.proofs.Pieces.{table_long, block_at}
+use Rattle.ft_trace.proofs.Places.{root_table}
+use Rattle.ft_trace.proofs.Held.{root_known, held_stands}
+use Rattle.ft_trace.proofs.Clearing.{held_shut}
+use Rattle.ft_trace.proofs.Untouched.{as_many}
+use Rattle.ft_trace.proofs.Known.{kind_known, class_known, declared_at}
+use Rattle.ft_trace.proofs.ItemPuts.{VersionsChangeNothing, PutsChangeOneItem, item_early, item_clear, item_late, item_shut, open_table, item_said, item_closed_stands}
+use Rattle.ft_trace.proofs.Writing.{write_possible}
+
+-- words that stand for a list with another item at a place
+abbrev pub WordsFollowAPut : Type 0
+WordsFollowAPut = (block words new : List ℕ) (class : ℕ) (values : List Value) (place : ℕ) (value : Value) → IsListWords block words (Some class) values → place < length values → ChangesItem place words new → SaysStored new place (Plain value) → IsListWords block new (Some class) (slice_set values place value)
+
+pub may_begin : (v : View) (o : ℕ) → MayWrite v o → MayBegin v o
+may_begin v o may = record { live = may.live; possible = may.possible; few = may.few; low = may.low; mine = may.mine; quiet = may.quiet; spare = may.spare; room = may.room }
+
+get_set_same : (values : List Value) (p : ℕ) (value : Value) → p < length values → slice_get (slice_set values p value) p ≡ Some value
+get_set_same [] p value low = absurd (omega arith)
+get_set_same (x ∷ xs) zero value low = refl
+get_set_same (x ∷ xs) (suc p) value low = get_set_same xs p value (omega arith)
+
+get_set_other : (values : List Value) (p q : ℕ) (value : Value) → q ≢ p → slice_get (slice_set values p value) q ≡ slice_get values q
+get_set_other [] p q value ne = refl
+get_set_other (x ∷ xs) zero zero value ne = absurd (ne refl)
+get_set_other (x ∷ xs) zero (suc q) value ne = refl
+get_set_other (x ∷ xs) (suc p) zero value ne = refl
+get_set_other (x ∷ xs) (suc p) (suc q) value ne = get_set_other xs p q value (λ e. ne (ap suc e))
+
+-- what a pass with the lock of a list with a table knows of it
+module _ (v : View) (o t : ℕ) (values : List Value) (may : MayWrite v o) (is_list : (known o v).content ≡ content.List values) (names : root_in (held o v) ≡ suc t) where
+  abbrev k : Shape
+  k = v.shape
+
+  pub is_kind : kind_in k.kinds o ≡ kind.List
+  is_kind = sym (kind_known v o may.mine may.possible) ∙ ap kind_of is_list
+
+  in_bank : IsTable k t
+  in_bank = let p = may.possible in root_table k p.0 p.2.0 o may.low t (sym (root_known v o may.low may.mine p.0 p.1 p.2) ∙ names)
+
+  pub list_says : IsListWords (held o v).block (0 ∷ 0 ∷ (held o v).table) (Some (class_of t)) values × ((known o v).table.fill ≡ 0)
+  list_says =
+      let s = held_stands v o may.low may.possible may.mine may.quiet in
+      let class = class_known k.texts (held o v) (known o v) t s names in
+      let as_list : IsListWords (held o v).block (0 ∷ 0 ∷ (held o v).table) (known o v).table.class values × ((known o v).table.fill ≡ 0) = subst (λ (z : Content). StandsAs k.texts (held o v).block (0 ∷ 0 ∷ (held o v).table) (known o v).table z) is_list s in
+      subst (λ (z : Option ℕ). IsListWords (held o v).block (0 ∷ 0 ∷ (held o v).table) z values × ((known o v).table.fill ≡ 0)) class as_list
+
+  pub table_is_long : length (held o v).table ≡ size (class_of t)
+  table_is_long =
+      let root : root_of k o (mem k v.log) ≡ suc t = sym (block_at k o (mem k v.log) 0 (omega arith)) ∙ names in
+      let e : (held o v).table ≡ table_of k t (mem k v.log) = ap (λ (r : ℕ). inner k r (mem k v.log)) root in
+      ap (λ (l : List ℕ). length l) e ∙ table_long k t (mem k v.log)
+
+  pub list_shut : Shut (version_at kind.List (class_of t)) (rows kind.List (class_of t)) (held o v).table
+  list_shut = subst (λ (z : Kind). Shut (version_at z (class_of t)) (rows z (class_of t)) (held o v).table) is_kind (held_shut v o t may.low may.possible may.mine may.quiet names)
+
+  pub slots_fit : length values ≤ slots (class_of t)
+  unfolding slots
+  slots_fit = let f = list_says.0.table.fill in let r = (slots_range (class_of t) in_bank.0).0 in omega (arith, f, r)
+
+  -- in each history that agrees with what it knows
+  module _ (calls : List Call) (agree : AgreesWith v (stored_newest k.kinds calls)) where
+    abbrev world : List Content
+    world = (stored_newest k.kinds calls).world
+
+    pub list_there : slice_index_or world o (content.List []) ≡ content.List values
+    list_there = ap (λ (z : Kept). z.content) (agree o may.low may.mine) ∙ is_list
+
+    pub list_in : o < length world
+    list_in = subst (λ (n : ℕ). o < n) (sym (as_many k.kinds calls)) may.low
+
+    pub list_is : list_at world o ≡ values
+    list_is = ap list_of list_there
+
+    pub table_there : (kept k.kinds calls o).table ≡ (known o v).table
+    table_there = ap (λ (z : Kept). z.table) (agree o may.low may.mine)
+
+-- l[i] = v
+module _ (versions : VersionsChangeNothing) (one : PutsChangeOneItem) (follow : WordsFollowAPut) (v : View) (o t place : ℕ) (index : ℤ) (value : Value) (values : List Value) (may : MayWrite v o) (is_list : (known o v).content ≡ content.List values) (names : root_in (held o v) ≡ suc t) (means : index_in (length values) index ≡ Some place) (low : place < length values) (fits : FitsStored (Plain value)) where
+  abbrev n : Shape
+  n = v.shape
+
+  abbrev ws : List ℕ
+  ws = (held o v).table
+
+  abbrev b : List ℕ
+  b = (held o v).block
+
+  abbrev news : List Value
+  news = slice_set values place value
+
+  abbrev called : Call
+  called = call.List o (list.Set index value)
+
+  abbrev write : Write
+  write = list_set_write v o place index value
+
+  abbrev c : ℕ
+  c = class_of t
+
+  class_is : IsClass c
+  class_is = (in_bank v o t values may is_list names).0
+
+  in_table : place < slots c
+  in_table = let f = slots_fit v o t values may is_list names in omega (arith, f, low)
+
+  here : words_at news place ≡ value_words value
+  here = ap (λ (z : Option Value). option_map_or value_words z (0 ∷ 0 ∷ [])) (get_set_same values place value low)
+
+  same : (q : ℕ) → q ≢ place → words_at news q ≡ words_at values q
+  same q ne = ap (λ (z : Option Value). option_map_or value_words z (0 ∷ 0 ∷ [])) (get_set_other values place q value ne)
+
+  short : length news ≤ slots c
+  short = let f = slots_fit v o t values may is_list names in let e = length-set values place value in omega (arith, f, e)
+
+  says : IsListWords b (0 ∷ 0 ∷ ws) (Some c) values × ((known o v).table.fill ≡ 0)
+  says = list_says v o t values may is_list names
+
+  shut : Shut (version_at kind.List c) (rows kind.List c) ws
+  shut = list_shut v o t values may is_list names
+
+  long : length ws ≡ size c
+  long = table_is_long v o t values may is_list names
+
+  kind_eq : kind.List ≡ kind_in n.kinds o
+  kind_eq = sym (is_kind v o t values may is_list names)
+
+  ends : IsListWords b (0 ∷ 0 ∷ (at_end v o write).table) (Some c) news
+  ends =
+      let ver = item_of ws place 0 in
+      let said = item_said versions one c class_is ws place (ver + 1) in_table values value fits says.0.table in
+      let opened : IsListWords b (0 ∷ 0 ∷ slice_set ws (item_at place 0) (ver + 1)) (Some c) values = record { head = says.0.head; table = open_table versions one c class_is ws place (ver + 1) in_table values value fits says.0.table } in
+      item_closed_stands versions one c class_is ws place (ver + 1) in_table values value fits says.0.table b (ver + 2) news (follow b (0 ∷ 0 ∷ slice_set ws (item_at place 0) (ver + 1)) (0 ∷ 0 ∷ (at_commit v o write).table) c values place value opened low said.0 said.1)
+
+  -- in each history that agrees with what it knows
+  module _ (calls : List Call) (agree : AgreesWith v (stored_newest n.kinds calls)) where
+    abbrev found : List Content
+    found = (stored_newest n.kinds calls).world
+
+    there : o < length found
+    there = list_in v o t values may is_list names calls agree
+
+    answered : answer found no_hands called ≡ puts found no_hands o (content.List news) reply.Done
+    answered =
+        ap (λ (l : List Value). answer_list found no_hands o l (list.Set index value)) (list_is v o t values may is_list names calls agree)
+        ∙ ap (λ (z : Option ℕ). option_map_or (λ (i : ℕ). puts found no_hands o (content.List (slice_set values i value)) reply.Done) z (shows found no_hands (reply.Raised raise.NoIndex))) means
+
+    content_after : (kept n.kinds (called ∷ calls) o).content ≡ content.List news
+    content_after = ap (λ (z : Answer). slice_index_or z.world o (content.List [])) answered ∙ get_or-set_same found o (content.List news) (content.List []) there
+
+    after : kept n.kinds (called ∷ calls) o ≡ record { content = content.List news; table = (known o v).table }
+    after = let table = table_there v o t values may is_list names calls agree in λ d. record { content = content_after d; table = table d }
+
+    clear : ClearAs (kind_in n.kinds o) n.texts c (at_commit v o write).table (known o v).content (kept n.kinds (called ∷ calls) o).content
+    clear = subst (λ (z : Kind × Content × Content). ClearAs z.0 n.texts c (at_commit v o write).table z.1 z.2) (λ d. (kind_eq d, sym is_list d, sym content_after d)) (item_clear t class_is b ws values news place value names long in_table shut same here short)
+
+    commits : MayCommit v o t write calls
+    commits = record {
+      replied = inr (sym (ap (λ (z : Answer). z.reply) answered));
+      within = refl;
+      declared = record { one = declared_at found o (content.List values) there (list_there v o t values may is_list names calls agree); both = tt; room = tt };
+      takes = λ class e. absurd (let none = may.none in omega (arith, e, none));
+      clear = λ q root. let same_table : t ≡ q = let r : suc t ≡ suc q = sym names ∙ root in omega (arith, r) in subst (λ (z : ℕ). ClearAs (kind_in n.kinds o) n.texts (class_of z) (at_commit v o write).table (known o v).content (kept n.kinds (called ∷ calls) o).content) same_table clear;
+      late = subst (λ (z : Kind × Content). MayPuts z.0 t z.1 true (at_commit v o write) (item_closed ws place)) (λ d. (kind_eq d, sym content_after d)) (item_late t class_is b ws values news place value names long in_table shut same here short);
+      stands = subst (Stands n.texts (at_end v o write)) (sym after) (subst (λ (z : Option ℕ). IsListWords b (0 ∷ 0 ∷ (at_end v o write).table) z news × ((known o v).table.fill ≡ 0)) (sym (class_known n.texts (held o v) (known o v) t (held_stands v o may.low may.possible may.mine may.quiet) names)) (ends, says.1));
+    }
+
+  may_write : MayWriteSo v o t write
+  may_write = record {
+    of = refl;
+    wrote = refl;
+    root = tt;
+    early = subst (λ (z : Kind × Content). MayPuts z.0 t z.1 false (held o v) (item_puts ws place value)) (λ d. (kind_eq d, sym is_list d)) (item_early t class_is b ws values news place value names long in_table shut same here short);
+    commit = commits;
+    shut = λ q root. let same_table : t ≡ q = let r : suc t ≡ suc q = sym names ∙ root in omega (arith, r) in subst (λ (z : ℕ). Shut (version_at (kind_in n.kinds o) (class_of z)) (rows (kind_in n.kinds o) (class_of z)) (at_end v o write).table) same_table (subst (λ (z : Kind). Shut (version_at z c) (rows z c) (at_end v o write).table) kind_eq (item_shut t class_is b ws values news place value names long in_table shut same here short));
+  }
+
+  pub set_possible : (start number : ℕ) × (s : Snap) × (stop : ℕ) × Possible (after_write_of v o t write start number s stop)
+  set_possible = write_possible v o t write (may_begin v o may) may_write
+
+pub items_may_be_put : VersionsChangeNothing → PutsChangeOneItem → WordsFollowAPut → ItemsMayBePut
+items_may_be_put versions one follow v o t place index value values may is_list names means low fits = set_possible versions one follow v o t place index value values may is_list names means low fits

@@ -1,0 +1,49 @@
+-- Calls that put one item of a list, as whole writes. (profile)
+use Rattle.std.specs.Prelude.{◌≡◌, ℕ, suc, ◌+◌, ◌<◌, ℤ, List, [], ◌∷◌, length, Some, None}
+use Rattle.ft_model.specs.declared.call.Call.TheVariants as call
+use Rattle.ft_model.specs.declared.call.ListCall.TheVariants as list
+use Rattle.ft_model.specs.declared.content.Content.TheVariants as content
+use Rattle.ft_model.specs.declared.data.Value.{Value}
+use Rattle.ft_model.specs.declared.reply.Reply.TheVariants as reply
+use Rattle.ft_model.specs.Lists.{index_in}
+use Rattle.ft_layout.specs.declared.slot.Stored.TheVariants.{Plain}
+use Rattle.ft_layout.specs.Words.{FitsStored, stored_kind, stored_payload}
+use Rattle.ft_trace.specs.declared.Snap.{Snap}
+use Rattle.ft_trace.specs.declared.View.{View}
+use Rattle.ft_trace.specs.Words.{item_at, item_of, root_in}
+use Rattle.ft_trace.specs.Holds.{held, known}
+use Rattle.ft_trace.specs.Traces.{Possible}
+use Rattle.ft_trace.specs.Grants.{MayWrite}
+use Rattle.ft_trace.specs.Writes.{Put, to_table, Write, after_write_of}
+
+-- before the commit the version of the item is made odd, and its kind and payload are put
+abbrev pub item_puts : List ℕ → ℕ → Value → List Put
+item_puts words place value =
+    to_table (item_at place 0) (item_of words place 0 + 1)
+    ∷ to_table (item_at place 1) (stored_kind (Plain value))
+    ∷ to_table (item_at place 2) (stored_payload (Plain value))
+    ∷ []
+
+-- after it the version is made even
+abbrev pub item_closed : List ℕ → ℕ → List Put
+item_closed words place = to_table (item_at place 0) (item_of words place 0 + 2) ∷ []
+
+-- l[i] = v, at the place that the index means
+abbrev pub list_set_write : View → ℕ → ℕ → ℤ → Value → Write
+list_set_write v o place index value =
+    record {
+      root = None;
+      early = item_puts (held o v).table place value;
+      call = call.List o (list.Set index value);
+      reply = reply.Done;
+      late = item_closed (held o v).table place;
+    }
+
+-- a pass with the lock of a list may put one of its items, whatever other passes have done
+abbrev pub ItemsMayBePut : Type 0
+ItemsMayBePut =
+    (v : View) (o t place : ℕ) (index : ℤ) (value : Value) (values : List Value) → MayWrite v o
+    → (known o v).content ≡ content.List values → root_in (held o v) ≡ suc t
+    → index_in (length values) index ≡ Some place → place < length values → FitsStored (Plain value)
+    → (start number : ℕ) × (s : Snap) × (stop : ℕ)
+    × Possible (after_write_of v o t (list_set_write v o place index value) start number s stop)

@@ -6,7 +6,10 @@ use Rattle.ft_model.specs.declared.content.Content.TheVariants as content
 use Rattle.ft_model.specs.declared.script.Kind.{Kind}
 use Rattle.ft_model.specs.declared.script.Kind.TheVariants as kind
 use Rattle.ft_model.specs.Worlds.{kind_of, empty_content, no_hands, IsOfKind}
-use Rattle.ft_model.specs.Tables.{stored_newest}
+use Rattle.ft_model.specs.Tables.{no_table, stored_newest}
+use Rattle.std.proofs.lemmas.List.{length-map}
+use Rattle.ft_model.specs.declared.call.Call.{Call}
+use Rattle.ft_model.proofs.Untouched.{as_many_tables}
 use Rattle.ft_model.proofs.AnswerLaws.{answer_containers}
 use Rattle.ft_layout.specs.Containers.{IsRoot}
 use Rattle.ft_layout.proofs.KindLaws.{head_of}
@@ -14,13 +17,15 @@ use Rattle.ft_trace.specs.declared.Shape.{Shape}
 use Rattle.ft_trace.specs.declared.View.{View}
 use Rattle.ft_trace.specs.declared.Act.{Act}
 use Rattle.ft_trace.specs.declared.Act.TheVariants.{Commit}
-use Rattle.ft_trace.specs.Addresses.{class_of}
-use Rattle.ft_trace.specs.Acts.{has_lock}
+use Rattle.ft_trace.specs.Addresses.{containers_in, class_of, size, IsTable}
+use Rattle.ft_trace.specs.Acts.{has_lock, mem}
 use Rattle.ft_trace.specs.Worlds.{Kept, kept, kind_in}
-use Rattle.ft_trace.specs.Words.{Picture, root_in, Stands}
-use Rattle.ft_trace.specs.Holds.{known}
+use Rattle.ft_trace.specs.Words.{root_of, inner, Picture, root_in, Stands}
+use Rattle.ft_trace.specs.Holds.{held, known}
 use Rattle.ft_trace.specs.Traces.{Event, did, forked, joined, run, writes_of, history, May, Valid, Possible}
-use Rattle.ft_trace.proofs.Held.{content_known}
+use Rattle.ft_trace.proofs.Held.{content_known, root_known}
+use Rattle.ft_trace.proofs.Pieces.{block_at, table_long}
+use Rattle.ft_trace.proofs.Places.{root_table}
 
 mapped : {A B : Type 0} (f : A → B) (l : List A) (i : ℕ) (d : A) → slice_index_or (map f l) i (f d) ≡ f (slice_index_or l i d)
 mapped f [] i d = refl
@@ -71,3 +76,26 @@ after_header words i j x e = let is : i ≡ suc (suc j) = omega (arith, e) in ap
 
 pub past_header : (words : List ℕ) (i j : ℕ) → i ≡ j + 2 → slice_index (0 ∷ 0 ∷ words) i ≡ slice_index words j
 past_header words i j e = let is : i ≡ suc (suc j) = omega (arith, e) in ap (λ (z : ℕ). slice_index (0 ∷ 0 ∷ words) z) is
+
+-- the table that the root of a container names whose lock the pass has
+module _ (v : View) (o t : ℕ) where
+  pub in_bank : o < containers_in v.shape → Possible v → has_lock o v.log ≡ true → root_in (held o v) ≡ suc t → IsTable v.shape t
+  in_bank low p mine names = root_table v.shape p.0 p.2.0 o low t (sym (root_known v o low mine p.0 p.1 p.2) ∙ names)
+
+  pub table_is_long : root_in (held o v) ≡ suc t → length (held o v).table ≡ size (class_of t)
+  table_is_long names =
+      let ws = mem v.shape v.log in
+      let root : root_of v.shape o ws ≡ suc t = sym (block_at v.shape o ws 0 (omega arith)) ∙ names in
+      ap (λ (r : ℕ). length (inner v.shape r ws)) root ∙ table_long v.shape t ws
+
+-- ---- stored worlds
+
+pub at_any : {A : Type 0} (l : List A) (i : ℕ) (d e : A) → i < length l → slice_index_or l i d ≡ slice_index_or l i e
+at_any [] i d e low = absurd (omega arith)
+at_any (x ∷ xs) zero d e low = refl
+at_any (x ∷ xs) (suc i) d e low = at_any xs i d e (omega arith)
+
+-- there is a table or none for each container
+pub tables_as_many : (kinds : List Kind) (calls : List Call) → length (stored_newest kinds calls).tables ≡ length kinds
+tables_as_many kinds [] = length-map kinds (λ (kind : Kind). no_table)
+tables_as_many kinds (c ∷ calls) = as_many_tables (stored_newest kinds calls) c ∙ tables_as_many kinds calls

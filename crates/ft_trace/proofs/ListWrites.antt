@@ -25,10 +25,9 @@ use Rattle.ft_layout.proofs.Powers.{slots_range}
 use Rattle.ft_trace.specs.declared.Shape.{Shape}
 use Rattle.ft_trace.specs.declared.Snap.{Snap}
 use Rattle.ft_trace.specs.declared.View.{View}
-use Rattle.ft_trace.specs.Addresses.{class_of, slots, size, IsTable}
-use Rattle.ft_trace.specs.Acts.{mem}
+use Rattle.ft_trace.specs.Addresses.{class_of, slots, size}
 use Rattle.ft_trace.specs.Worlds.{Kept, kept, kind_in}
-use Rattle.ft_trace.specs.Words.{table_of, root_of, inner, root_in, Stands, item_at, item_of}
+use Rattle.ft_trace.specs.Words.{root_in, Stands, item_at, item_of}
 use Rattle.ft_trace.specs.Items.{value_words, words_at}
 use Rattle.ft_trace.specs.Kinds.{rows, version_at, ClearAs}
 use Rattle.ft_trace.specs.Openings.{Shut}
@@ -37,12 +36,10 @@ use Rattle.ft_trace.specs.Traces.{Possible}
 use Rattle.ft_trace.specs.Grants.{MayWrite}
 use Rattle.ft_trace.specs.Writes.{MayPuts, Write, at_commit, at_end, after_write_of, MayBegin, MayCommit, MayWriteSo}
 use Rattle.ft_trace.specs.ItemWrites.{item_puts, item_closed, list_set_write, ItemsMayBePut}
-use Rattle.ft_trace.proofs.Pieces.{table_long, block_at}
-use Rattle.ft_trace.proofs.Places.{root_table}
-use Rattle.ft_trace.proofs.Held.{root_known, held_stands}
+use Rattle.ft_trace.proofs.Held.{held_stands}
 use Rattle.ft_trace.proofs.Clearing.{held_shut}
 use Rattle.ft_trace.proofs.Untouched.{as_many}
-use Rattle.ft_trace.proofs.Known.{kind_known, class_known, declared_at}
+use Rattle.ft_trace.proofs.Known.{kind_known, class_known, declared_at, in_bank, table_is_long}
 use Rattle.ft_trace.proofs.ItemPuts.{VersionsChangeNothing, PutsChangeOneItem, item_early, item_clear, item_late, item_shut, open_table, item_said, item_closed_stands}
 use Rattle.ft_trace.proofs.Writing.{write_possible}
 
@@ -73,9 +70,6 @@ module _ (v : View) (o t : ℕ) (values : List Value) (may : MayWrite v o) (is_l
   pub is_kind : kind_in k.kinds o ≡ kind.List
   is_kind = sym (kind_known v o may.mine may.possible) ∙ ap kind_of is_list
 
-  in_bank : IsTable k t
-  in_bank = let p = may.possible in root_table k p.0 p.2.0 o may.low t (sym (root_known v o may.low may.mine p.0 p.1 p.2) ∙ names)
-
   pub list_says : IsListWords (held o v).block (0 ∷ 0 ∷ (held o v).table) (Some (class_of t)) values × ((known o v).table.fill ≡ 0)
   list_says =
       let s = held_stands v o may.low may.possible may.mine may.quiet in
@@ -83,18 +77,12 @@ module _ (v : View) (o t : ℕ) (values : List Value) (may : MayWrite v o) (is_l
       let as_list : IsListWords (held o v).block (0 ∷ 0 ∷ (held o v).table) (known o v).table.class values × ((known o v).table.fill ≡ 0) = subst (λ (z : Content). StandsAs k.texts (held o v).block (0 ∷ 0 ∷ (held o v).table) (known o v).table z) is_list s in
       subst (λ (z : Option ℕ). IsListWords (held o v).block (0 ∷ 0 ∷ (held o v).table) z values × ((known o v).table.fill ≡ 0)) class as_list
 
-  pub table_is_long : length (held o v).table ≡ size (class_of t)
-  table_is_long =
-      let root : root_of k o (mem k v.log) ≡ suc t = sym (block_at k o (mem k v.log) 0 (omega arith)) ∙ names in
-      let e : (held o v).table ≡ table_of k t (mem k v.log) = ap (λ (r : ℕ). inner k r (mem k v.log)) root in
-      ap (λ (l : List ℕ). length l) e ∙ table_long k t (mem k v.log)
-
   pub list_shut : Shut (version_at kind.List (class_of t)) (rows kind.List (class_of t)) (held o v).table
   list_shut = subst (λ (z : Kind). Shut (version_at z (class_of t)) (rows z (class_of t)) (held o v).table) is_kind (held_shut v o t may.low may.possible may.mine may.quiet names)
 
   pub slots_fit : length values ≤ slots (class_of t)
   unfolding slots
-  slots_fit = let f = list_says.0.table.fill in let r = (slots_range (class_of t) in_bank.0).0 in omega (arith, f, r)
+  slots_fit = let f = list_says.0.table.fill in let r = (slots_range (class_of t) (in_bank v o t may.low may.possible may.mine names).0).0 in omega (arith, f, r)
 
   -- in each history that agrees with what it knows
   module _ (calls : List Call) (agree : AgreesWith v (stored_newest k.kinds calls)) where
@@ -137,7 +125,7 @@ module _ (versions : VersionsChangeNothing) (one : PutsChangeOneItem) (follow : 
   c = class_of t
 
   class_is : IsClass c
-  class_is = (in_bank v o t values may is_list names).0
+  class_is = (in_bank v o t may.low may.possible may.mine names).0
 
   in_table : place < slots c
   in_table = let f = slots_fit v o t values may is_list names in omega (arith, f, low)
@@ -158,7 +146,7 @@ module _ (versions : VersionsChangeNothing) (one : PutsChangeOneItem) (follow : 
   shut = list_shut v o t values may is_list names
 
   long : length ws ≡ size c
-  long = table_is_long v o t values may is_list names
+  long = table_is_long v o t names
 
   kind_eq : kind.List ≡ kind_in n.kinds o
   kind_eq = sym (is_kind v o t values may is_list names)

@@ -2,9 +2,13 @@
 ghost use Rattle.ft_trace.specs.Grants.{ListsMayBeCleared, ClearedTablesMayBeGivenBack, TakingsEnd};
 ghost use Rattle.ft_trace.specs.Writes.{WritesMayBeMade};
 ghost use Rattle.ft_trace.specs.ItemWrites.{ItemsMayBePut};
+ghost use Rattle.ft_trace.specs.EntryWrites.{ValuesMayBePut};
 ghost use Rattle.ft_trace.specs.Laws.{StoredTablesAreInOrder, WordsLieApart, PairsAreUnderTheirKeys, ElementsAreUnderTheirKeys, OnePassIsAlone, StampsRise, MemoryErrorsAreEarned, LocksNameHolders, VersionsAreOddInWrites, EvenTablesAreShut, NumbersAreOnce, EntriesAreRight, OneHasAllEntries, EvenWordsStand, ZeroRootsHaveNothing, HoldersKnow, TablesAreSomewhere, TablesAreInOnePlace, CountsStand, TablesAreOwed, EmptyClassesAreEarned, AnnouncedNumbersAreLow, FoundTablesAreKept, GivenUpTablesRest, TablesAreSound, TableWordsStay, HitsAreRight, MissesAreRight, BareRootsAreRight, ItemsAreRight, ListsFitTheirTables, LooksAreRight, ChangedRootsAreNew, NumbersHaveRoom};
 
-use ft_layout::{puts_change_one_item, versions_change_nothing, words_follow_a_list};
+use ft_layout::{
+    puts_change_one_item, used_entries_follow_a_dict, versions_change_nothing, words_follow_a_dict,
+    words_follow_a_list,
+};
 
 /// A lock word is the number of the one pass that has the lock.
 pub fn locks_name_their_holders()
@@ -168,6 +172,15 @@ pub fn items_may_be_put()
     versions_change_nothing();
     puts_change_one_item();
     words_follow_a_list();
+}
+
+/// A pass with the lock of a dict may put another value at a key that is there.
+pub fn values_may_be_put()
+    ensures { ValuesMayBePut }
+{
+    versions_change_nothing();
+    used_entries_follow_a_dict();
+    words_follow_a_dict();
 }
 
 /// The table that a clear took out of the root may be retired and given back.

@@ -1,0 +1,356 @@
+-- That another value may be put at a key of a dict by a pass that has its lock, as a whole write.
+use Rattle.std.proofs.Common.{◌≡◌, ◌≢◌, ℕ, suc, ◌+◌, ◌-◌, ◌*◌, ◌%◌, ◌<◌, ◌≤◌, Bool, true, false, List, [], ◌∷◌, length, find, Option, Some, None, refl, sym, ap, ◌∙◌, subst, inr, arith, get_or-set_same}
+use Rattle.std.specs.Prelude.{◌&&◌, ◌||◌, All, IsTrue, filter, slice_index_or, slice_set, slice_get, option_map, if◌then◌else◌}
+use Rattle.std.proofs.lemmas.Bool.{le-ltb}
+use Rattle.std.proofs.lemmas.List.{length-map}
+use Rattle.ft_model.specs.declared.call.Call.{Call}
+use Rattle.ft_model.specs.declared.call.Call.TheVariants as call
+use Rattle.ft_model.specs.declared.call.DictCall.TheVariants as dict
+use Rattle.ft_model.specs.declared.content.Content.{Content}
+use Rattle.ft_model.specs.declared.content.Content.TheVariants as content
+use Rattle.ft_model.specs.declared.content.DictPair.{DictPair}
+use Rattle.ft_model.specs.declared.data.Key.{Key}
+use Rattle.ft_model.specs.declared.data.Value.{Value}
+use Rattle.ft_model.specs.declared.reply.Reply.TheVariants as reply
+use Rattle.ft_model.specs.declared.script.Kind.{Kind}
+use Rattle.ft_model.specs.declared.script.Kind.TheVariants as kind
+use Rattle.ft_model.specs.Answers.{Answer, answer, answer_dict, puts, after_write}
+use Rattle.ft_model.specs.Classes.{IsClass, dict_class, most_pairs}
+use Rattle.ft_model.specs.Contents.{DictContent, IsDict, dict_get, dict_set, empty_dict}
+use Rattle.ft_model.specs.Worlds.{kind_of, dict_of, dict_at, no_hands}
+use Rattle.ft_model.specs.Tables.{TableUse, StoredWorld, no_table, stored_newest, takes_in, table_at, outgrows_dict, grown_table, passes_cap, would_pass, after_stored}
+use Rattle.ft_model.proofs.KnownKeys.{length-filter-le}
+use Rattle.ft_hash.specs.Probes.{dict_walk}
+use Rattle.ft_hash.proofs.Walks.{dict_walk-within}
+use Rattle.ft_layout.specs.declared.slot.Stored.TheVariants.{Plain}
+use Rattle.ft_layout.specs.Words.{FitsKey, FitsStored, stored_kind, stored_payload}
+use Rattle.ft_layout.specs.Tables.{UsedEntry, is_live, dict_room, IsTable, IsDictTable}
+use Rattle.ft_layout.specs.Tables as layout
+use Rattle.ft_layout.specs.Changes.{with_stored}
+use Rattle.ft_layout.specs.Containers.{class_mask, used_pair, AreDictEntries, IsDictWords, StandsAs}
+use Rattle.ft_layout.proofs.ContentLaws.{stands_for_dict}
+use Rattle.ft_layout.proofs.FieldLaws.{sizes_of_class}
+use Rattle.ft_layout.proofs.Powers.{slots_range}
+use Rattle.ft_layout.proofs.WordLaws.{same_key}
+use Rattle.ft_trace.specs.declared.Shape.{Shape}
+use Rattle.ft_trace.specs.declared.Snap.{Snap}
+use Rattle.ft_trace.specs.declared.View.{View}
+use Rattle.ft_trace.specs.Addresses.{class_of, slots, places, size}
+use Rattle.ft_trace.specs.Worlds.{Kept, kept, kind_in}
+use Rattle.ft_trace.specs.Words.{root_in, Stands, entry_at, entry_of, walk_of}
+use Rattle.ft_trace.specs.Carefuls.{said_of, IsLive, Clear}
+use Rattle.ft_trace.specs.Kinds.{under, rows, version_at, ClearAs}
+use Rattle.ft_trace.specs.Openings.{Shut}
+use Rattle.ft_trace.specs.Holds.{held, known, AgreesWith}
+use Rattle.ft_trace.specs.Traces.{Possible}
+use Rattle.ft_trace.specs.Grants.{MayWrite}
+use Rattle.ft_trace.specs.Writes.{to_table, MayPut, MayPuts, Write, at_commit, at_end, after_write_of, MayCommit, MayWriteSo}
+use Rattle.ft_trace.specs.EntryWrites.{value_puts, entry_closed, dict_set_write, ValuesMayBePut}
+use Rattle.ft_trace.proofs.Held.{held_stands}
+use Rattle.ft_trace.proofs.Clearing.{held_shut}
+use Rattle.ft_trace.proofs.Untouched.{as_many}
+use Rattle.ft_trace.proofs.Known.{kind_known, class_known, declared_at, in_bank, table_is_long, after_header, at_any, tables_as_many}
+use Rattle.ft_trace.proofs.Tellings.{live_tells, live_is_right, right_is_live, key_words}
+use Rattle.ft_trace.proofs.EntryPuts.{value_open, value_kind, value_payload, value_clear, value_late, value_shut, value_time}
+use Rattle.ft_trace.proofs.ListWrites.{may_begin}
+use Rattle.ft_trace.proofs.Writing.{write_possible}
+
+-- ---- laws of tables and of their dicts, as they are cited
+
+abbrev pub EntryVersionsChangeNothing : Type 0
+EntryVersionsChangeNothing = (walk : ℕ → List ℕ) (room : ℕ) (texts : List ℕ) (mask : ℕ) (used : List UsedEntry) (words : List ℕ) (place version : ℕ) → ((hash : ℕ) → All (λ slot. slot ≤ mask) (walk hash)) → IsTable walk room texts mask used words → IsTable walk room texts mask used (slice_set words (layout.entry_at mask place 0) version)
+
+abbrev pub WordsFollowAValue : Type 0
+WordsFollowAValue =
+    (texts block words : List ℕ) (class fill : ℕ) (pairs : DictContent) (says : IsDictWords texts block words (Some class) fill pairs) (place : ℕ) (pair : DictPair) (value : Value) → slice_get says.used place ≡ Some (used_pair pair) → FitsStored (Plain value)
+    → IsDictWords texts block (with_stored (class_mask class) words place (Plain value)) (Some class) fill (dict_set pairs pair.key value)
+
+abbrev pub LiveEntriesArePairs : Type 0
+LiveEntriesArePairs = (used : List UsedEntry) (pairs : DictContent) (place : ℕ) (entry : UsedEntry) → AreDictEntries used pairs → IsDict pairs.next pairs.pairs → slice_get used place ≡ Some entry → IsTrue (is_live entry) → (pair : DictPair) × (entry ≡ used_pair pair) × (dict_get pairs.pairs pair.key ≡ Some pair.value)
+
+abbrev pub ValuesKeepSerials : Type 0
+ValuesKeepSerials =
+    (used : List UsedEntry) (pairs : DictContent) (place : ℕ) (pair : DictPair) (value : Value) → AreDictEntries used pairs → IsDict pairs.next pairs.pairs → slice_get used place ≡ Some (used_pair pair)
+    → (length (dict_set pairs pair.key value).pairs ≡ length pairs.pairs) × ((dict_set pairs pair.key value).next ≡ pairs.next)
+
+abbrev pub FirstEntriesArePairs : Type 0
+FirstEntriesArePairs = (used : List UsedEntry) (pairs : DictContent) (test : UsedEntry → Bool) → AreDictEntries used pairs → find (λ entry. is_live entry && test entry) used ≡ option_map used_pair (find (λ pair. test (used_pair pair)) pairs.pairs)
+
+-- ---- what words that stand for a dict say under its keys
+
+module _ (first : FirstEntriesArePairs) (texts block : List ℕ) (c fill : ℕ) (is_class : IsClass c) (pairs : DictContent) (ws : List ℕ) (says : IsDictWords texts block (0 ∷ 0 ∷ ws) (Some c) fill pairs) where
+  abbrev tried : ℕ → List ℕ
+  tried hash = dict_walk hash (class_mask c) (class_mask c + 14)
+
+  room_is : dict_room (class_mask c) ≡ places c
+  unfolding places
+  room_is = (sizes_of_class c is_class).0
+
+  pub dict_right : (p : ℕ) (key : Key) → p < places c → IsLive (slots c) ws p key → under (content.Dict pairs) key ≡ said_of (slots c) ws p
+  dict_right p key low live = live_is_right tried (dict_room (class_mask c)) texts c is_class says.used ws says.table used_pair pairs.pairs (λ test. first says.used pairs test says.entries) p key (let r = room_is in omega (arith, r, low)) live
+
+  pub dict_live : (key : Key) → under (content.Dict pairs) key ≢ [] → (p : ℕ) × (p < places c) × IsLive (slots c) ws p key
+  dict_live key some =
+      let r = right_is_live tried (dict_room (class_mask c)) texts c is_class says.used ws says.table used_pair pairs.pairs (λ test. first says.used pairs test says.entries) key some in
+      let f = says.table.fill in
+      let e = room_is in
+      let low = r.1 in
+      (r.0, omega (arith, f, e, low), r.2)
+
+  -- no more pairs than entries, and so than the largest table has
+  pub dict_short : length pairs.pairs ≤ most_pairs
+  dict_short =
+      let a : length (filter is_live says.used) ≡ length pairs.pairs = ap (λ (l : List UsedEntry). length l) says.entries.live ∙ length-map pairs.pairs used_pair in
+      let b = length-filter-le is_live says.used in
+      let f = says.table.fill in
+      let e = (sizes_of_class c is_class).0 in
+      let r = (slots_range c is_class).1 in
+      omega (arith, a, b, f, e, r)
+
+-- ---- d[k] = v, where the key is there
+
+module _ (versions : EntryVersionsChangeNothing) (follow : WordsFollowAValue) (lives : LiveEntriesArePairs) (serials : ValuesKeepSerials) (first : FirstEntriesArePairs) (v : View) (o t place : ℕ) (key : Key) (value : Value) (pairs : DictContent) (may : MayWrite v o) (is_dict : (known o v).content ≡ content.Dict pairs) (names : root_in (held o v) ≡ suc t)
+    (low : place < places (class_of t)) (live : IsLive (slots (class_of t)) (held o v).table place key) (fits_key : FitsKey key) (fits : FitsStored (Plain value)) where
+  abbrev k : Shape
+  k = v.shape
+
+  abbrev c : ℕ
+  c = class_of t
+
+  abbrev n : ℕ
+  n = slots c
+
+  abbrev m : ℕ
+  m = places c
+
+  abbrev ws : List ℕ
+  ws = (held o v).table
+
+  abbrev b : List ℕ
+  b = (held o v).block
+
+  abbrev fill : ℕ
+  fill = (known o v).table.fill
+
+  abbrev news : DictContent
+  news = dict_set pairs key value
+
+  abbrev called : Call
+  called = call.Dict o (dict.Set key value)
+
+  abbrev write : Write
+  write = dict_set_write v o t place key value
+
+  class_is : IsClass c
+  class_is = (in_bank v o t may.low may.possible may.mine names).0
+
+  long : length ws ≡ n + 8 * m
+  long = table_is_long v o t names
+
+  kind_eq : kind.Dict ≡ kind_in k.kinds o
+  kind_eq = sym (sym (kind_known v o may.mine may.possible) ∙ ap kind_of is_dict)
+
+  class_eq : (known o v).table.class ≡ Some c
+  class_eq = class_known k.texts (held o v) (known o v) t (held_stands v o may.low may.possible may.mine may.quiet) names
+
+  says : IsDictWords k.texts b (0 ∷ 0 ∷ ws) (Some c) fill pairs
+  says =
+      let s = held_stands v o may.low may.possible may.mine may.quiet in
+      let as_dict : IsDictWords k.texts b (0 ∷ 0 ∷ ws) (known o v).table.class fill pairs = subst (λ (z : Content). StandsAs k.texts b (0 ∷ 0 ∷ ws) (known o v).table z) is_dict s in
+      subst (λ (z : Option ℕ). IsDictWords k.texts b (0 ∷ 0 ∷ ws) z fill pairs) class_eq as_dict
+
+  shut : Shut (λ q. entry_at n q 0) m ws
+  shut = subst (λ (z : Kind). Shut (version_at z c) (rows z c) ws) (sym kind_eq) (held_shut v o t may.low may.possible may.mine may.quiet names)
+
+  -- the pair that the entry is of
+  in_order : IsDict pairs.next pairs.pairs
+  in_order = stands_for_dict k.texts b (0 ∷ 0 ∷ ws) (Some c) fill pairs says
+
+  abbrev walk : ℕ → List ℕ
+  walk hash = dict_walk hash (class_mask c) (class_mask c + 14)
+
+  within : (hash : ℕ) → All (λ slot. slot ≤ class_mask c) (walk hash)
+  within hash = dict_walk-within hash (class_mask c) (class_mask c + 14)
+
+  mine : (pair : DictPair) × (slice_get says.used place ≡ Some (used_pair pair)) × (pair.key ≡ key)
+  mine =
+      let room : dict_room (class_mask c) ≡ m = room_is first k.texts b c fill class_is pairs ws says in
+      let tells = live_tells walk (dict_room (class_mask c)) k.texts c class_is says.used ws says.table place key (omega (arith, room, low)) live in
+      let l = lives says.used pairs place tells.entry says.entries in_order tells.at tells.live in
+      let w = key_words tells.entry.key key tells.mine in
+      (l.0, tells.at ∙ ap (λ (z : UsedEntry). Some z) l.1, ap (λ (z : UsedEntry). z.key) (sym l.1) ∙ same_key tells.entry.key key tells.fits fits_key w.0 w.1)
+
+  next_is : news.next ≡ pairs.next
+  next_is = ap (λ (z : Key). (dict_set pairs z value).next) (sym mine.2) ∙ (serials says.used pairs place mine.0 value says.entries in_order mine.1).1
+
+  -- a version that is put into an entry changes nothing
+  version_put : (block : List ℕ) (l : List ℕ) (x : ℕ) (d : DictContent) → IsDictWords k.texts block (0 ∷ 0 ∷ l) (Some c) fill d → IsDictWords k.texts block (0 ∷ 0 ∷ slice_set l (entry_at n place 0) x) (Some c) fill d
+  unfolding slots
+  version_put block l x d is =
+      let r = (slots_range c class_is).0 in
+      let table : IsDictTable k.texts (class_mask c) is.used (0 ∷ 0 ∷ slice_set l (entry_at n place 0) x) = subst (λ (z : List ℕ). IsDictTable k.texts (class_mask c) is.used z) (after_header l (layout.entry_at (class_mask c) place 0) (entry_at n place 0) x (omega (arith, r))) (versions walk (dict_room (class_mask c)) k.texts (class_mask c) is.used (0 ∷ 0 ∷ l) place x within is.table) in
+      record { head = is.head; used = is.used; table = table; filled = is.filled; entries = is.entries }
+
+  abbrev ver : ℕ
+  ver = entry_of n ws place 0
+
+  abbrev opened : List ℕ
+  opened = slice_set ws (entry_at n place 0) (ver + 1)
+
+  open_says : IsDictWords k.texts b (0 ∷ 0 ∷ opened) (Some c) fill pairs
+  open_says = version_put b ws (ver + 1) pairs says
+
+  abbrev put : List ℕ
+  put = (at_commit v o write).table
+
+  same_words : with_stored (class_mask c) (0 ∷ 0 ∷ opened) place (Plain value) ≡ 0 ∷ 0 ∷ put
+  unfolding slots
+  same_words =
+      let r = (slots_range c class_is).0 in
+      ap (λ (l : List ℕ). slice_set l (layout.entry_at (class_mask c) place 5) (stored_payload (Plain value))) (after_header opened (layout.entry_at (class_mask c) place 4) (entry_at n place 4) (stored_kind (Plain value)) (omega (arith, r)))
+      ∙ after_header (slice_set opened (entry_at n place 4) (stored_kind (Plain value))) (layout.entry_at (class_mask c) place 5) (entry_at n place 5) (stored_payload (Plain value)) (omega (arith, r))
+
+  put_says : IsDictWords k.texts b (0 ∷ 0 ∷ put) (Some c) fill news
+  unfolding open_says version_put
+  put_says =
+      let used : slice_get open_says.used place ≡ Some (used_pair mine.0) = mine.1 in
+      subst (λ (z : List ℕ × Key). IsDictWords k.texts b z.0 (Some c) fill (dict_set pairs z.1 value)) (λ d. (same_words d, mine.2 d)) (follow k.texts b (0 ∷ 0 ∷ opened) c fill pairs open_says place mine.0 value used fits)
+
+  ends : IsDictWords k.texts b (0 ∷ 0 ∷ (at_end v o write).table) (Some c) fill news
+  ends = version_put b put (ver + 2) news put_says
+
+  -- ---- the puts
+
+  even : ver % 2 ≡ 0
+  even = shut place low
+
+  inside : (w : ℕ) → w < 8 → entry_at n place w < size c
+  inside w few = omega (arith, few, low)
+
+  early : MayPuts kind.Dict t (content.Dict pairs) false (held o v) (value_puts n ws place value)
+  early =
+      let kind_word = stored_kind (Plain value) in
+      let payload = stored_payload (Plain value) in
+      let time = value_time n m ws (under (content.Dict pairs)) (under (content.Dict news)) place key kind_word payload low long even live (version_at kind.Dict c) (λ q. refl) in
+      let second : List ℕ = slice_set opened (entry_at n place 4) kind_word in
+      let p3 : MayPut kind.Dict t (content.Dict pairs) false (record { block = b; table = second }) (to_table (entry_at n place 5) payload) = (names, inside 5 (omega arith), value_payload n m ws (under (content.Dict pairs)) (under (content.Dict news)) place key kind_word payload low long even live, time 5 payload (omega arith) (λ e. absurd (omega (arith, e)))) in
+      let p2 : MayPut kind.Dict t (content.Dict pairs) false (record { block = b; table = opened }) (to_table (entry_at n place 4) kind_word) = (names, inside 4 (omega arith), value_kind n m ws (under (content.Dict pairs)) (under (content.Dict news)) place key kind_word payload low long even live, time 4 kind_word (omega arith) (λ e. absurd (omega (arith, e)))) in
+      let p1 : MayPut kind.Dict t (content.Dict pairs) false (held o v) (to_table (entry_at n place 0) (ver + 1)) = (names, inside 0 (omega arith), value_open n m ws (under (content.Dict pairs)) (under (content.Dict news)) place key kind_word payload low long even live, time 0 (ver + 1) (omega arith) (λ _. let e = even in omega (arith, e))) in
+      (p1, (p2, (p3, tt)))
+
+  clear : Clear (walk_of kind.Dict k.texts c) n m put (under (content.Dict pairs)) (under (content.Dict news))
+  clear =
+      value_clear n m ws (under (content.Dict pairs)) (under (content.Dict news)) place key (stored_kind (Plain value)) (stored_payload (Plain value)) low long even live
+      (λ q a less l. dict_right first k.texts b c fill class_is pairs ws says q a less l)
+      (λ q a less l. dict_right first k.texts b c fill class_is news put put_says q a less l)
+      (λ a some. dict_live first k.texts b c fill class_is news put put_says a some)
+      (walk_of kind.Dict k.texts c)
+
+  late : MayPuts kind.Dict t (content.Dict news) true (at_commit v o write) (entry_closed n ws place)
+  late =
+      let e = even in
+      let careful =
+      value_late n m ws (under (content.Dict pairs)) (under (content.Dict news)) place key (stored_kind (Plain value)) (stored_payload (Plain value)) low long even live
+      (λ q a less l. dict_right first k.texts b c fill class_is pairs ws says q a less l)
+      (λ q a less l. dict_right first k.texts b c fill class_is news put put_says q a less l)
+      (λ a some. dict_live first k.texts b c fill class_is news put put_says a some) in
+      ((names, inside 0 (omega arith), careful, record { before = λ q less at one. absurd (omega (arith, one, e)); later = λ q less at two. refl }), tt)
+
+  -- ---- in each history that agrees with what the pass knows
+
+  module _ (calls : List Call) (agree : AgreesWith v (stored_newest k.kinds calls)) where
+    abbrev found : StoredWorld
+    found = stored_newest k.kinds calls
+
+    abbrev left : List Content
+    left = after_write found.world called
+
+    there : slice_index_or found.world o (content.List []) ≡ content.Dict pairs
+    there = ap (λ (z : Kept). z.content) (agree o may.low may.mine) ∙ is_dict
+
+    in_world : o < length found.world
+    in_world = subst (λ (z : ℕ). o < z) (sym (as_many k.kinds calls)) may.low
+
+    in_tables : o < length found.tables
+    in_tables = subst (λ (z : ℕ). o < z) (sym (tables_as_many k.kinds calls)) may.low
+
+    abbrev T : TableUse
+    T = table_at found.tables o
+
+    table_is : T ≡ (known o v).table
+    table_is = ap (λ (z : Kept). z.table) (agree o may.low may.mine)
+
+    dict_is : dict_at found.world o ≡ pairs
+    dict_is = ap dict_of (at_any found.world o (content.Dict empty_dict) (content.List []) in_world ∙ there)
+
+    answered : answer found.world no_hands called ≡ puts found.world no_hands o (content.Dict news) reply.Done
+    answered = ap (λ (z : DictContent). answer_dict found.world no_hands o z (dict.Set key value)) dict_is
+
+    left_at : (d : Content) → slice_index_or left o d ≡ content.Dict news
+    left_at d = ap (λ (z : Answer). slice_index_or z.world o d) answered ∙ get_or-set_same found.world o (content.Dict news) d in_world
+
+    left_is : dict_at left o ≡ news
+    left_is = ap dict_of (left_at (content.Dict empty_dict))
+
+    -- no serial is drawn, so no table is taken
+    none_drawn : (dict_at left o).next - (dict_at found.world o).next ≡ 0
+    none_drawn =
+        let a : (dict_at left o).next ≡ news.next = ap (λ (z : DictContent). z.next) left_is in
+        let e : (dict_at found.world o).next ≡ pairs.next = ap (λ (z : DictContent). z.next) dict_is in
+        let same = next_is in
+        omega (arith, a, e, same)
+
+    takes_none : takes_in found called ≡ None
+    takes_none = ap (λ (z : ℕ). if outgrows_dict T z then Some (dict_class (length (dict_at left o).pairs)) else None) none_drawn
+
+    table_after : table_at (after_stored found called).tables o ≡ (known o v).table
+    table_after =
+        let drawn = (dict_at left o).next - (dict_at found.world o).next in
+        let count = length (dict_at left o).pairs in
+        let fill_is : T.fill + drawn ≡ T.fill = let e = none_drawn in omega (arith, e) in
+        get_or-set_same found.tables o (grown_table T (takes_in found called) drawn count) no_table in_tables
+        ∙ (ap (λ (z : Option ℕ). grown_table T z drawn count) takes_none
+        ∙ ((λ d. record { class = T.class; fill = fill_is d }) ∙ table_is))
+
+    after : kept k.kinds (called ∷ calls) o ≡ record { content = content.Dict news; table = (known o v).table }
+    after = let c1 = left_at (content.List []) in let t1 = table_after in λ d. record { content = c1 d; table = t1 d }
+
+    short : length news.pairs ≤ most_pairs
+    short = dict_short first k.texts b c fill class_is news put put_says
+
+    passes_not : would_pass found.world called ≡ false
+    passes_not = ap (λ (z : Content). passes_cap z || false) (left_at (content.List [])) ∙ ap (λ (z : Bool). z || false) (le-ltb most_pairs (length news.pairs) short)
+
+    commits : MayCommit v o t write calls
+    commits =
+        let content_after = left_at (content.List []) in
+        let clear_as : ClearAs (kind_in k.kinds o) k.texts c put (known o v).content (kept k.kinds (called ∷ calls) o).content = subst (λ (z : Kind × Content × Content). ClearAs z.0 k.texts c put z.1 z.2) (λ d. (kind_eq d, sym is_dict d, sym content_after d)) clear in
+        let ends_as : Stands k.texts (at_end v o write) (record { content = content.Dict news; table = (known o v).table }) = subst (λ (z : Option ℕ). IsDictWords k.texts b (0 ∷ 0 ∷ (at_end v o write).table) z fill news) (sym class_eq) ends in
+        record {
+          replied = inr (sym (ap (λ (z : Answer). z.reply) answered));
+          within = passes_not;
+          declared = record { one = declared_at found.world o (content.Dict pairs) in_world there; both = tt; room = tt };
+          takes = λ class e. absurd (let none = may.none in omega (arith, e, none));
+          clear = λ q root. let same : t ≡ q = let r : suc t ≡ suc q = sym names ∙ root in omega (arith, r) in subst (λ (z : ℕ). ClearAs (kind_in k.kinds o) k.texts (class_of z) put (known o v).content (kept k.kinds (called ∷ calls) o).content) same clear_as;
+          late = subst (λ (z : Kind × Content). MayPuts z.0 t z.1 true (at_commit v o write) (entry_closed n ws place)) (λ d. (kind_eq d, sym content_after d)) late;
+          stands = subst (Stands k.texts (at_end v o write)) (sym after) ends_as;
+        }
+
+  shut_end : Shut (version_at (kind_in k.kinds o) c) (rows (kind_in k.kinds o) c) (at_end v o write).table
+  shut_end = subst (λ (z : Kind). Shut (version_at z c) (rows z c) (at_end v o write).table) kind_eq (value_shut n m ws (under (content.Dict pairs)) (under (content.Dict news)) place key (stored_kind (Plain value)) (stored_payload (Plain value)) low long even live shut)
+
+  may_write : MayWriteSo v o t write
+  may_write = record {
+    of = refl;
+    wrote = refl;
+    root = tt;
+    early = subst (λ (z : Kind × Content). MayPuts z.0 t z.1 false (held o v) (value_puts n ws place value)) (λ d. (kind_eq d, sym is_dict d)) early;
+    commit = commits;
+    shut = λ q root. let same : t ≡ q = let r : suc t ≡ suc q = sym names ∙ root in omega (arith, r) in subst (λ (z : ℕ). Shut (version_at (kind_in k.kinds o) (class_of z)) (rows (kind_in k.kinds o) (class_of z)) (at_end v o write).table) same shut_end;
+  }
+
+  pub value_possible : (start number : ℕ) × (s : Snap) × (stop : ℕ) × Possible (after_write_of v o t write start number s stop)
+  value_possible = write_possible v o t write (may_begin v o may) may_write
+
+pub values_may_be_put : EntryVersionsChangeNothing → WordsFollowAValue → LiveEntriesArePairs → ValuesKeepSerials → FirstEntriesArePairs → ValuesMayBePut
+values_may_be_put versions follow lives serials first v o t place key value pairs may is_dict names low live fits_key fits = value_possible versions follow lives serials first v o t place key value pairs may is_dict names low live fits_key fits

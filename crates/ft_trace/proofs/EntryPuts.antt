@@ -1,0 +1,147 @@
+-- That an entry of a dict or set may be put while others read it, on lists of words alone.
+use Rattle.std.proofs.Common.{◌≡◌, ◌≢◌, ◌⊎◌, ℕ, ◌+◌, ◌*◌, ◌%◌, ◌<◌, ◌≤◌, false, List, [], ◌∷◌, length, refl, sym, ap, ◌∙◌, subst, inl, inr, ⊎_elim, arith, length-set, get_or-set_same, get_or-set_other}
+use Rattle.std.specs.Prelude.{slice_index, slice_set}
+use mathlib.Core.Logic.{dite}
+use native.Mathlib.Decide.{ℕ_discrete}
+use Rattle.ft_model.specs.declared.data.Key.{Key}
+use Rattle.ft_layout.proofs.WordLaws.{gone_is, kind_range}
+use Rattle.ft_trace.specs.Words.{entry_at, entry_of}
+use Rattle.ft_trace.specs.Carefuls.{Pairs, said_of, IsLive, IsDead, Careful, Clear}
+use Rattle.ft_trace.specs.Openings.{Shut, Timely}
+
+-- the version of an entry is made odd, whose key isn't deleted
+pub entry_open : (n m : ℕ) (ws : List ℕ) (c : Pairs) (p : ℕ) → entry_of n ws p 0 % 2 ≡ 0 → entry_of n ws p 2 < 3 → Careful n m ws c (entry_at n p 0) (entry_of n ws p 0 + 1)
+entry_open n m ws c p even alive = record {
+  index = λ s less e. absurd (omega (arith, less, e));
+  names = λ s less e. absurd (omega (arith, less, e));
+  odd = λ q w less some few e. absurd (omega (arith, some, few, e));
+  key = λ q w less which e. ⊎_elim (λ (z : w ≡ 1). absurd (omega (arith, z, e))) (λ (z : w ≡ 3). absurd (omega (arith, z, e))) which;
+  kind = λ q less e. absurd (omega (arith, e));
+  dies = λ q less e. absurd (omega (arith, e));
+  version = λ q less e. let same : p ≡ q = omega (arith, e) in let v : entry_of n ws q 0 ≡ entry_of n ws p 0 = ap (λ (z : ℕ). entry_of n ws z 0) (sym same) in omega (arith, v);
+  opens = λ q less e odd. let same : p ≡ q = omega (arith, e) in subst (λ (z : ℕ). entry_of n ws z 2 < 3) same alive;
+  closes = λ q key less e two. absurd (omega (arith, two, even));
+  shuts = λ q key less e two. absurd (omega (arith, two, even));
+}
+
+-- a word of the value or the serial of an entry whose version is odd
+pub entry_value : (n m : ℕ) (ws : List ℕ) (c : Pairs) (p w x : ℕ) → 4 ≤ w → w < 8 → entry_of n ws p 0 % 2 ≡ 1 → Careful n m ws c (entry_at n p w) x
+entry_value n m ws c p w x high few odd = record {
+  index = λ s less e. absurd (omega (arith, less, e));
+  names = λ s less e. absurd (omega (arith, less, e));
+  odd = λ q u less some low e. let same : p ≡ q = omega (arith, high, few, some, low, e) in subst (λ (z : ℕ). entry_of n ws z 0 % 2 ≡ 1) same odd;
+  key = λ q u less which e. ⊎_elim (λ (z : u ≡ 1). absurd (omega (arith, z, e, high, few))) (λ (z : u ≡ 3). absurd (omega (arith, z, e, high, few))) which;
+  kind = λ q less e. absurd (omega (arith, e, high, few));
+  dies = λ q less e. absurd (omega (arith, e, high, few));
+  version = λ q less e. absurd (omega (arith, e, high, few));
+  opens = λ q less e. absurd (omega (arith, e, high, few));
+  closes = λ q key less e. absurd (omega (arith, e, high, few));
+  shuts = λ q key less e. absurd (omega (arith, e, high, few));
+}
+
+-- the version is made even, where the entry says what the content has
+pub entry_close : (n m : ℕ) (ws : List ℕ) (c : Pairs) (p x : ℕ) → x ≡ entry_of n ws p 0 + 1 → x % 2 ≡ 0 → ((key : Key) → IsLive n ws p key → c key ≡ said_of n ws p) → ((key : Key) → IsDead n ws p key → c key ≡ []) → Careful n m ws c (entry_at n p 0) x
+entry_close n m ws c p x is two right gone = record {
+  index = λ s less e. absurd (omega (arith, less, e));
+  names = λ s less e. absurd (omega (arith, less, e));
+  odd = λ q w less some few e. absurd (omega (arith, some, few, e));
+  key = λ q w less which e. ⊎_elim (λ (z : w ≡ 1). absurd (omega (arith, z, e))) (λ (z : w ≡ 3). absurd (omega (arith, z, e))) which;
+  kind = λ q less e. absurd (omega (arith, e));
+  dies = λ q less e. absurd (omega (arith, e));
+  version = λ q less e. let same : p ≡ q = omega (arith, e) in let v : entry_of n ws q 0 ≡ entry_of n ws p 0 = ap (λ (z : ℕ). entry_of n ws z 0) (sym same) in omega (arith, v, is);
+  opens = λ q less e odd. absurd (omega (arith, odd, two));
+  closes = λ q key less e _. let same : p ≡ q = omega (arith, e) in subst (λ (z : ℕ). IsLive n ws z key → c key ≡ said_of n ws z) same (right key);
+  shuts = λ q key less e _. let same : p ≡ q = omega (arith, e) in subst (λ (z : ℕ). IsDead n ws z key → c key ≡ []) same (gone key);
+}
+
+-- ---- another value in an entry that is live
+
+module _ (n m : ℕ) (ws : List ℕ) (c d : Pairs) (p : ℕ) (key : Key) (kind payload : ℕ) (low : p < m) (long : length ws ≡ n + 8 * m) (even : entry_of n ws p 0 % 2 ≡ 0) (live : IsLive n ws p key) where
+  abbrev ver : ℕ
+  ver = entry_of n ws p 0
+
+  abbrev b1 : List ℕ
+  b1 = slice_set ws (entry_at n p 0) (ver + 1)
+
+  abbrev b2 : List ℕ
+  b2 = slice_set b1 (entry_at n p 4) kind
+
+  abbrev b3 : List ℕ
+  b3 = slice_set b2 (entry_at n p 5) payload
+
+  abbrev b4 : List ℕ
+  b4 = slice_set b3 (entry_at n p 0) (ver + 2)
+
+  long1 : length b1 ≡ n + 8 * m
+  long1 = length-set ws (entry_at n p 0) (ver + 1) ∙ long
+
+  long2 : length b2 ≡ n + 8 * m
+  long2 = length-set b1 (entry_at n p 4) kind ∙ long1
+
+  long3 : length b3 ≡ n + 8 * m
+  long3 = length-set b2 (entry_at n p 5) payload ∙ long2
+
+  pub ver1 : entry_of n b1 p 0 ≡ ver + 1
+  ver1 = get_or-set_same ws (entry_at n p 0) (ver + 1) 0 (omega (arith, low, long))
+
+  pub ver2 : entry_of n b2 p 0 ≡ ver + 1
+  ver2 = get_or-set_other b1 (entry_at n p 4) (entry_at n p 0) kind 0 (λ e. omega arith) ∙ ver1
+
+  pub ver3 : entry_of n b3 p 0 ≡ ver + 1
+  ver3 = get_or-set_other b2 (entry_at n p 5) (entry_at n p 0) payload 0 (λ e. omega arith) ∙ ver2
+
+  pub else3 : (i : ℕ) → i ≢ entry_at n p 0 → i ≢ entry_at n p 4 → i ≢ entry_at n p 5 → slice_index b3 i ≡ slice_index ws i
+  else3 i n0 n4 n5 = get_or-set_other b2 (entry_at n p 5) i payload 0 n5 ∙ (get_or-set_other b1 (entry_at n p 4) i kind 0 n4 ∙ get_or-set_other ws (entry_at n p 0) i (ver + 1) 0 n0)
+
+  -- the key's words of each entry, and all words of the others
+  pub key3 : (q w : ℕ) → (w ≡ 2) ⊎ (w ≡ 3) → entry_of n b3 q w ≡ entry_of n ws q w
+  key3 q w = ⊎_elim (λ (z : w ≡ 2). else3 (entry_at n q w) (λ e. omega (arith, z, e)) (λ e. omega (arith, z, e)) (λ e. omega (arith, z, e))) (λ (z : w ≡ 3). else3 (entry_at n q w) (λ e. omega (arith, z, e)) (λ e. omega (arith, z, e)) (λ e. omega (arith, z, e)))
+
+  pub other3 : (q w : ℕ) → q ≢ p → w < 8 → entry_of n b3 q w ≡ entry_of n ws q w
+  other3 q w ne few = else3 (entry_at n q w) (λ e. ne (omega (arith, few, e))) (λ e. ne (omega (arith, few, e))) (λ e. ne (omega (arith, few, e)))
+
+  pub live3 : (q : ℕ) (k : Key) → IsLive n b3 q k → IsLive n ws q k
+  live3 q k l = (sym (key3 q 2 (inl refl)) ∙ l.0, sym (key3 q 3 (inr refl)) ∙ l.1)
+
+  pub value_open : Careful n m ws c (entry_at n p 0) (ver + 1)
+  value_open = let k = live.0 in let r = (kind_range key).1 in entry_open n m ws c p even (omega (arith, k, r))
+
+  pub value_kind : Careful n m b1 c (entry_at n p 4) kind
+  value_kind = let v = ver1 in entry_value n m b1 c p 4 kind (omega arith) (omega arith) (omega (arith, v, even))
+
+  pub value_payload : Careful n m b2 c (entry_at n p 5) payload
+  value_payload = let v = ver2 in entry_value n m b2 c p 5 payload (omega arith) (omega arith) (omega (arith, v, even))
+
+  -- where the words as they were say what c has, and the words as they are what d has
+  module _ (was : (q : ℕ) (k : Key) → q < m → IsLive n ws q k → c k ≡ said_of n ws q) (now : (q : ℕ) (k : Key) → q < m → IsLive n b3 q k → d k ≡ said_of n b3 q) (all : (k : Key) → d k ≢ [] → (q : ℕ) × (q < m) × IsLive n b3 q k) where
+    pub value_clear : (walk : Key → List ℕ) → Clear walk n m b3 c d
+    value_clear walk = record {
+      keeps = λ q k less two l.
+          dite (ℕ_discrete q p)
+          (λ (e : q ≡ p). let v : entry_of n b3 q 0 ≡ ver + 1 = ap (λ (z : ℕ). entry_of n b3 z 0) e ∙ ver3 in absurd (omega (arith, v, two, even)))
+          (λ ne.
+          let w4 = other3 q 4 ne (omega arith) in
+          let w5 = other3 q 5 ne (omega arith) in
+          let w6 = other3 q 6 ne (omega arith) in
+          let same : said_of n b3 q ≡ said_of n ws q = λ i. w4 i ∷ w5 i ∷ w6 i ∷ [] in
+          now q k less l ∙ (same ∙ sym (was q k less (live3 q k l))));
+      adds = λ k none some. let a = all k some in let x : [] ≡ said_of n ws a.0 = sym none ∙ was a.0 k a.1 (live3 a.0 k a.2) in absurd (cc);
+    }
+
+    pub value_late : Careful n m b3 d (entry_at n p 0) (ver + 2)
+    value_late =
+        let v = ver3 in
+        entry_close n m b3 d p (ver + 2) (omega (arith, v)) (omega (arith, even)) (λ k l. now p k low l)
+        (λ k dead. let g = gone_is k in let b = (kind_range k).0 in let h = (kind_range key).1 in let x = key3 p 2 (inl refl) in let l = live.0 in let e = dead.0 in absurd (omega (arith, g, b, h, x, l, e)))
+
+  pub value_shut : Shut (λ q. entry_at n q 0) m ws → Shut (λ q. entry_at n q 0) m b4
+  value_shut shut q less =
+      dite (ℕ_discrete q p)
+      (λ (e : q ≡ p). let v : entry_of n b4 q 0 ≡ ver + 2 = ap (λ (z : ℕ). entry_of n b4 z 0) e ∙ get_or-set_same b3 (entry_at n p 0) (ver + 2) 0 (let l = long3 in omega (arith, low, l)) in omega (arith, v, even))
+      (λ ne.
+      let v : entry_of n b4 q 0 ≡ entry_of n ws q 0 = get_or-set_other b3 (entry_at n p 0) (entry_at n q 0) (ver + 2) 0 (λ e. ne (omega (arith, e))) ∙ other3 q 0 ne (omega arith) in
+      let old = shut q less in
+      omega (arith, v, old))
+
+  pub value_time : (at : ℕ → ℕ) → ((q : ℕ) → at q ≡ entry_at n q 0) → (w x : ℕ) → w < 8 → (w ≡ 0 → x % 2 ≡ 1) → Timely at m (entry_at n p w) x false
+  value_time at is w x few odd = record { before = λ q less e one. refl; later = λ q less e two. absurd (let i = is q in let o = odd (omega (arith, few, e, i)) in omega (arith, two, o)) }

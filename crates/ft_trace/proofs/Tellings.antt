@@ -1,0 +1,176 @@
+-- What the words of a table that stands for a dict or a set say under each key: an entry that is live says what is there,
+-- and what is there has a live entry.
+use Rattle.std.proofs.Common.{◌≡◌, ◌≢◌, ℕ, zero, suc, ◌<◌, Bool, true, false, true≢false, cond, eqb, eq-eqb, eqb-true, List, [], ◌∷◌, length, get_or, find, Option, Some, None, refl, sym, ap, ◌∙◌, subst, arith}
+use Rattle.std.specs.Prelude.{◌&&◌, is_some, slice_get, option_map}
+use Rattle.std.specs.Option.{option_map_or}
+use Rattle.std.proofs.Math.Decide.{dec_lt}
+use Rattle.std.proofs.lemmas.Option.{slice_get-get_or, get_or_from_slice_get, slice_get_within}
+use mathlib.Core.Logic.{dite}
+use Rattle.ft_model.specs.declared.data.Key.{Key}
+use Rattle.ft_model.specs.Classes.{IsClass}
+use Rattle.ft_layout.specs.declared.slot.Stored.{Stored}
+use Rattle.ft_layout.specs.Words.{key_kind, key_payload, FitsKey, stored_kind, stored_payload, IsEntry}
+use Rattle.ft_layout.specs.Tables.{UsedEntry, is_live, hash_of, slot_with, slot_of, entry_word, IsTable}
+use Rattle.ft_layout.specs.Tables as layout
+use Rattle.ft_layout.specs.Containers.{class_mask}
+use Rattle.ft_layout.proofs.LiveLaws.{Differ, distinct-used}
+use Rattle.ft_layout.proofs.WordLaws.{gone_is, kind_range, same_key}
+use Rattle.ft_layout.proofs.Powers.{slots_range}
+use Rattle.ft_trace.specs.Addresses.{slots}
+use Rattle.ft_trace.specs.Words.{entry_at, entry_of}
+use Rattle.ft_trace.specs.Carefuls.{said_of, IsLive}
+use Rattle.ft_trace.specs.Kinds.{is_key}
+use Rattle.ft_trace.proofs.Known.{past_header}
+
+-- what a used entry says of its key, in words
+abbrev pub said_by : UsedEntry → List ℕ
+said_by entry = option_map_or (λ stored. stored_kind stored ∷ stored_payload stored ∷ entry.serial ∷ []) entry.stored []
+
+pub key_is : (a b : Key) → key_kind a ≡ key_kind b → key_payload a ≡ key_payload b → is_key a b ≡ true
+key_is a b k p = ap (λ (z : Bool). z && (eqb (key_payload a) (key_payload b))) (eq-eqb (key_kind a) (key_kind b) k) ∙ eq-eqb (key_payload a) (key_payload b) p
+
+both_true : (a b : Bool) → (a && b) ≡ true → (a ≡ true) × (b ≡ true)
+both_true true b e = (refl, e)
+both_true false b e = absurd (true≢false (sym e))
+
+pub key_words : (a b : Key) → is_key a b ≡ true → (key_kind a ≡ key_kind b) × (key_payload a ≡ key_payload b)
+key_words a b e = let h = both_true (eqb (key_kind a) (key_kind b)) (eqb (key_payload a) (key_payload b)) e in (eqb-true (key_kind a) (key_kind b) h.0, eqb-true (key_payload a) (key_payload b) h.1)
+
+-- ---- the first that passes a test
+
+find_first : {X : Type 0} (test : X → Bool) (xs : List X) (p : ℕ) (x : X) → slice_get xs p ≡ Some x → test x ≡ true → ((q : ℕ) (y : X) → q < p → slice_get xs q ≡ Some y → test y ≡ true → ⊥) → find test xs ≡ Some x
+find_first test [] p x at passed none = absurd (cc)
+find_first {X} test (y ∷ ys) zero x at passed none = let same : y ≡ x = cc in ap (λ (b : Bool). cond b (Some y) (find test ys)) (ap test same ∙ passed) ∙ ap (λ (z : X). Some z) same
+find_first test (y ∷ ys) (suc p) x at passed none =
+    let rest = find_first test ys p x at passed (λ q z less there passes. none (suc q) z (omega arith) there passes) in
+    elim (test y) as (λ b. test y ≡ b → find test (y ∷ ys) ≡ Some x) [
+      | true ↦ λ e. absurd (none 0 y (omega arith) refl e)
+      | false ↦ λ e. ap (λ (b : Bool). cond b (Some y) (find test ys)) e ∙ rest
+    ] refl
+
+found_at : {X : Type 0} (test : X → Bool) (xs : List X) (x : X) → find test xs ≡ Some x → (p : ℕ) × (slice_get xs p ≡ Some x) × (test x ≡ true)
+found_at test [] x e = absurd (cc)
+found_at {X} test (y ∷ ys) x e =
+    elim (test y) as (λ b. test y ≡ b → (p : ℕ) × (slice_get (y ∷ ys) p ≡ Some x) × (test x ≡ true)) [
+      | true ↦ λ yes. let same : Some y ≡ Some x = sym (ap (λ (b : Bool). cond b (Some y) (find test ys)) yes) ∙ e in let is : y ≡ x = cc in (0, same, ap test (sym is) ∙ yes)
+      | false ↦ λ no. let rest = found_at test ys x (sym (ap (λ (b : Bool). cond b (Some y) (find test ys)) no) ∙ e) in (suc rest.0, rest.1, rest.2)
+    ] refl
+
+-- ---- entries of a table
+
+module _ (walk : ℕ → List ℕ) (room : ℕ) (texts : List ℕ) (c : ℕ) (is_class : IsClass c) (used : List UsedEntry) (ws : List ℕ) (table : IsTable walk room texts (class_mask c) used (0 ∷ 0 ∷ ws)) where
+  abbrev n : ℕ
+  n = slots c
+
+  pub word_is : (p w : ℕ) → entry_word (class_mask c) (0 ∷ 0 ∷ ws) p w ≡ entry_of n ws p w
+  unfolding slots
+  word_is p w = let r = (slots_range c is_class).0 in past_header ws (layout.entry_at (class_mask c) p w) (entry_at n p w) (omega (arith, r))
+
+  -- what the words say of a used entry, where they are those of a key that is there
+  says : (word : ℕ → ℕ) (hash : ℕ) (mine key : Key) (serial : ℕ) (stored : Option Stored) → IsEntry word (slot_with hash mine serial stored) → word 2 ≡ key_kind key → word 3 ≡ key_payload key
+      → (is_some stored ≡ true) × (is_key mine key ≡ true) × (option_map_or (λ s. stored_kind s ∷ stored_payload s ∷ serial ∷ []) stored [] ≡ word 4 ∷ word 5 ∷ word 6 ∷ []) × FitsKey mine
+  says word hash mine key serial (Some s) is kind payload =
+      let k = is.value.kind_is in
+      let p = is.value.payload_is in
+      let o = is.serial in
+      (refl, key_is mine key (sym is.key.kind_is ∙ kind) (sym is.key.payload_is ∙ payload), (λ d. sym k d ∷ sym p d ∷ sym o d ∷ []), is.key.fits)
+  says word hash mine key serial None is kind payload =
+      let g = is.key_is.kind_is in
+      let a = gone_is mine in
+      let b = (kind_range mine).0 in
+      let h = (kind_range key).1 in
+      absurd (omega (arith, g, a, b, h, kind))
+
+  -- a live entry of a key
+  pub record Telling (p : ℕ) (key : Key) : Type 0 where
+    pub entry : UsedEntry
+    pub at : slice_get used p ≡ Some entry
+    pub live : is_live entry ≡ true
+    pub mine : is_key entry.key key ≡ true
+    pub said : said_by entry ≡ said_of n ws p
+    pub fits : FitsKey entry.key
+
+  pub live_tells : (p : ℕ) (key : Key) → p < room → IsLive n ws p key → Telling p key
+  live_tells p key low live =
+      let any : UsedEntry = record { key = key; serial = 0; stored = None } in
+      let kind : entry_word (class_mask c) (0 ∷ 0 ∷ ws) p 2 ≡ key_kind key = word_is p 2 ∙ live.0 in
+      let payload : entry_word (class_mask c) (0 ∷ 0 ∷ ws) p 3 ≡ key_payload key = word_is p 3 ∙ live.1 in
+      dite (dec_lt p (length used))
+      (λ (inside : p < length used).
+      let e = get_or used p any in
+      let s = says (entry_word (class_mask c) (0 ∷ 0 ∷ ws) p) (hash_of texts e.key) e.key key e.serial e.stored (table.entries p any inside) kind payload in
+      let w4 = word_is p 4 in
+      let w5 = word_is p 5 in
+      let w6 = word_is p 6 in
+      record { entry = e; at = slice_get-get_or used p any inside; live = s.0; mine = s.1; said = s.2 ∙ (λ d. w4 d ∷ w5 d ∷ w6 d ∷ []); fits = s.3 })
+      (λ past. let u = (table.unused p (omega (arith, past)) low).kind in let r = (kind_range key).0 in absurd (omega (arith, u, r, kind)))
+
+  -- no two live entries are of one key
+  pub one_tells : (p q : ℕ) (key : Key) → p < q → Telling p key → Telling q key → ⊥
+  one_tells p q key less a b =
+      let any = a.entry in
+      let low = slice_get_within used q b.entry b.at in
+      let at_p : get_or used p any ≡ a.entry = get_or_from_slice_get used p a.entry any a.at in
+      let at_q : get_or used q any ≡ b.entry = get_or_from_slice_get used q b.entry any b.at in
+      let differ : Differ a.entry b.entry = subst (λ (z : UsedEntry × UsedEntry). Differ z.0 z.1) (λ d. (at_p d, at_q d)) (distinct-used used table.distinct p q any less low) in
+      let k = key_words a.entry.key key a.mine in
+      let h = key_words b.entry.key key b.mine in
+      differ a.live b.live (same_key a.entry.key b.entry.key a.fits b.fits (k.0 ∙ sym h.0) (k.1 ∙ sym h.1))
+
+  alive_words : (word : ℕ → ℕ) (hash : ℕ) (mine : Key) (serial : ℕ) (stored : Option Stored) → is_some stored ≡ true → IsEntry word (slot_with hash mine serial stored) → (word 2 ≡ key_kind mine) × (word 3 ≡ key_payload mine)
+  alive_words word hash mine serial (Some s) live is = (is.key.kind_is, is.key.payload_is)
+  alive_words word hash mine serial None live is = absurd (true≢false (sym live))
+
+  -- a used entry that is live has its key in the words
+  pub used_tells : (p : ℕ) (entry : UsedEntry) (key : Key) → slice_get used p ≡ Some entry → is_live entry ≡ true → is_key entry.key key ≡ true → Telling p key × IsLive n ws p key
+  used_tells p entry key at live mine =
+      let low = slice_get_within used p entry at in
+      let word = entry_word (class_mask c) (0 ∷ 0 ∷ ws) p in
+      let is : IsEntry word (slot_of texts entry) = subst (λ (z : UsedEntry). IsEntry word (slot_of texts z)) (get_or_from_slice_get used p entry entry at) (table.entries p entry low) in
+      let w = alive_words word (hash_of texts entry.key) entry.key entry.serial entry.stored live is in
+      let k = key_words entry.key key mine in
+      let kind : word 2 ≡ key_kind key = w.0 ∙ k.0 in
+      let payload : word 3 ≡ key_payload key = w.1 ∙ k.1 in
+      let s = says word (hash_of texts entry.key) entry.key key entry.serial entry.stored is kind payload in
+      let w4 = word_is p 4 in
+      let w5 = word_is p 5 in
+      let w6 = word_is p 6 in
+      (record { entry = entry; at = at; live = live; mine = mine; said = s.2 ∙ (λ d. w4 d ∷ w5 d ∷ w6 d ∷ []); fits = s.3 }, (sym (word_is p 2) ∙ kind, sym (word_is p 3) ∙ payload))
+
+  -- ---- what there is under keys: `of` makes used entries of pairs or of elements
+
+  module _ {Y : Type 0} (of : Y → UsedEntry) (ys : List Y) (first : (test : UsedEntry → Bool) → find (λ entry. is_live entry && test entry) used ≡ option_map of (find (λ y. test (of y)) ys)) where
+    abbrev pub there_under : Key → List ℕ
+    there_under key = option_map_or (λ y. said_by (of y)) (find (λ y. is_key (of y).key key) ys) []
+
+    said_as : (o : Option Y) → option_map_or (λ y. said_by (of y)) o [] ≡ option_map_or said_by (option_map of o) []
+    said_as None = refl
+    said_as (Some y) = refl
+
+    there_is : (key : Key) → there_under key ≡ option_map_or said_by (find (λ entry. is_live entry && is_key entry.key key) used) []
+    there_is key = said_as (find (λ y. is_key (of y).key key) ys) ∙ ap (λ (o : Option UsedEntry). option_map_or said_by o []) (sym (first (λ entry. is_key entry.key key)))
+
+    -- a live entry says what there is
+    pub live_is_right : (p : ℕ) (key : Key) → p < room → IsLive n ws p key → there_under key ≡ said_of n ws p
+    live_is_right p key low live =
+        let t = live_tells p key low live in
+        let test : UsedEntry → Bool = λ entry. is_live entry && is_key entry.key key in
+        let passes : test t.entry ≡ true = ap (λ (z : Bool). z && is_key t.entry.key key) t.live ∙ t.mine in
+        let found : find test used ≡ Some t.entry =
+        find_first test used p t.entry t.at passes
+        (λ q y less at yes_too. let both = both_true (is_live y) (is_key y.key key) yes_too in one_tells q p key less (used_tells q y key at both.0 both.1).0 t) in
+        there_is key ∙ (ap (λ (o : Option UsedEntry). option_map_or said_by o []) found ∙ t.said)
+
+    -- and what there is has its live entry
+    pub right_is_live : (key : Key) → there_under key ≢ [] → (p : ℕ) × (p < length used) × IsLive n ws p key
+    right_is_live key some = by (find test used) refl
+      where
+        test : UsedEntry → Bool
+        test entry = is_live entry && is_key entry.key key
+
+        by : (o : Option UsedEntry) → find test used ≡ o → (p : ℕ) × (p < length used) × IsLive n ws p key
+        by None e = absurd (some (there_is key ∙ ap (λ (o : Option UsedEntry). option_map_or said_by o []) e))
+        by (Some entry) e =
+            let at = found_at test used entry e in
+            let both = both_true (is_live entry) (is_key entry.key key) at.2 in
+            (at.0, slice_get_within used at.0 entry at.1, (used_tells at.0 entry key at.1 both.0 both.1).1)

@@ -1,0 +1,53 @@
+-- Calls that put a value at a key of a dict, as whole writes. (profile)
+use Rattle.std.specs.Prelude.{◌≡◌, ℕ, suc, ◌+◌, ◌<◌, List, [], ◌∷◌, None}
+use Rattle.ft_model.specs.declared.call.Call.TheVariants as call
+use Rattle.ft_model.specs.declared.call.DictCall.TheVariants as dict
+use Rattle.ft_model.specs.declared.content.Content.TheVariants as content
+use Rattle.ft_model.specs.declared.data.Key.{Key}
+use Rattle.ft_model.specs.declared.data.Value.{Value}
+use Rattle.ft_model.specs.declared.reply.Reply.TheVariants as reply
+use Rattle.ft_model.specs.Contents.{DictContent}
+use Rattle.ft_layout.specs.declared.slot.Stored.TheVariants.{Plain}
+use Rattle.ft_layout.specs.Words.{FitsKey, FitsStored, stored_kind, stored_payload}
+use Rattle.ft_trace.specs.declared.Snap.{Snap}
+use Rattle.ft_trace.specs.declared.View.{View}
+use Rattle.ft_trace.specs.Addresses.{class_of, slots, places}
+use Rattle.ft_trace.specs.Words.{entry_at, entry_of, root_in}
+use Rattle.ft_trace.specs.Carefuls.{IsLive}
+use Rattle.ft_trace.specs.Holds.{held, known}
+use Rattle.ft_trace.specs.Traces.{Possible}
+use Rattle.ft_trace.specs.Grants.{MayWrite}
+use Rattle.ft_trace.specs.Writes.{Put, to_table, Write, after_write_of}
+
+-- before the commit the version of the entry is made odd, and the kind and payload of its value are put; n says how many
+-- index slots there are
+abbrev pub value_puts : ℕ → List ℕ → ℕ → Value → List Put
+value_puts n words place value =
+    to_table (entry_at n place 0) (entry_of n words place 0 + 1)
+    ∷ to_table (entry_at n place 4) (stored_kind (Plain value))
+    ∷ to_table (entry_at n place 5) (stored_payload (Plain value))
+    ∷ []
+
+-- after it the version is made even
+abbrev pub entry_closed : ℕ → List ℕ → ℕ → List Put
+entry_closed n words place = to_table (entry_at n place 0) (entry_of n words place 0 + 2) ∷ []
+
+-- d[k] = v for a key that is there, in the entry at this place
+abbrev pub dict_set_write : View → ℕ → ℕ → ℕ → Key → Value → Write
+dict_set_write v o t place key value =
+    record {
+      root = None;
+      early = value_puts (slots (class_of t)) (held o v).table place value;
+      call = call.Dict o (dict.Set key value);
+      reply = reply.Done;
+      late = entry_closed (slots (class_of t)) (held o v).table place;
+    }
+
+-- a pass with the lock of a dict may put another value at a key that is there, whatever other passes have done
+abbrev pub ValuesMayBePut : Type 0
+ValuesMayBePut =
+    (v : View) (o t place : ℕ) (key : Key) (value : Value) (pairs : DictContent) → MayWrite v o
+    → (known o v).content ≡ content.Dict pairs → root_in (held o v) ≡ suc t → place < places (class_of t)
+    → IsLive (slots (class_of t)) (held o v).table place key → FitsKey key → FitsStored (Plain value)
+    → (start number : ℕ) × (s : Snap) × (stop : ℕ)
+    × Possible (after_write_of v o t (dict_set_write v o t place key value) start number s stop)

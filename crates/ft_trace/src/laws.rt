@@ -2,6 +2,7 @@
 ghost use Rattle.ft_trace.specs.Grants.{ListsMayBeCleared, ClearedTablesMayBeGivenBack, TakingsEnd};
 ghost use Rattle.ft_trace.specs.Writes.{WritesMayBeMade};
 ghost use Rattle.ft_trace.specs.ItemWrites.{ItemsMayBePut};
+ghost use Rattle.ft_trace.specs.Replies.{RepliesMayBeGiven, MemoryErrorsMayBeAnswered};
 ghost use Rattle.ft_trace.specs.EntryWrites.{ValuesMayBePut};
 ghost use Rattle.ft_trace.specs.Laws.{StoredTablesAreInOrder, WordsLieApart, PairsAreUnderTheirKeys, ElementsAreUnderTheirKeys, OnePassIsAlone, StampsRise, MemoryErrorsAreEarned, LocksNameHolders, VersionsAreOddInWrites, EvenTablesAreShut, NumbersAreOnce, EntriesAreRight, OneHasAllEntries, EvenWordsStand, ZeroRootsHaveNothing, HoldersKnow, TablesAreSomewhere, TablesAreInOnePlace, CountsStand, TablesAreOwed, EmptyClassesAreEarned, AnnouncedNumbersAreLow, FoundTablesAreKept, GivenUpTablesRest, TablesAreSound, TableWordsStay, HitsAreRight, MissesAreRight, BareRootsAreRight, ItemsAreRight, ListsFitTheirTables, LooksAreRight, ChangedRootsAreNew, NumbersHaveRoom};
 
@@ -182,6 +183,16 @@ pub fn values_may_be_put()
     used_entries_follow_a_dict();
     words_follow_a_dict();
 }
+
+/// A reply may be given that is the plain containers' in each history that agrees with what the pass knows.
+pub fn replies_may_be_given()
+    ensures { RepliesMayBeGiven }
+{}
+
+/// A MemoryError of a class may be answered by a pass that found its count 0.
+pub fn memory_errors_may_be_answered()
+    ensures { MemoryErrorsMayBeAnswered }
+{}
 
 /// The table that a clear took out of the root may be retired and given back.
 pub fn cleared_tables_may_be_given_back()

@@ -1,0 +1,63 @@
+-- That replies may be given to calls that aren't writes.
+use Rattle.std.proofs.Common.{◌≡◌, ℕ, false, List, [], ◌∷◌, length, refl, sym, ap, ◌∙◌, subst, inl, true≢false, arith}
+use Rattle.ft_model.specs.declared.call.Call.{Call}
+use Rattle.ft_model.specs.declared.reply.Reply.{Reply}
+use Rattle.ft_model.specs.declared.call.Call.TheVariants as call
+use Rattle.ft_model.specs.Calls.{is_changing, can_add}
+use Rattle.ft_model.specs.Histories.{IsReplied}
+use Rattle.ft_model.specs.Tables.{stored_newest}
+use Rattle.std.specs.Prelude.{Bool, true, ◌&&◌}
+use Rattle.ft_trace.specs.declared.Act.{Act}
+use Rattle.ft_trace.specs.declared.Act.TheVariants.{Answer, ReadCounter}
+use Rattle.ft_trace.specs.Addresses.{counter}
+use Rattle.ft_trace.specs.Acts.{noted}
+use Rattle.ft_trace.specs.Worlds.{first_writes, reply_in}
+use Rattle.ft_trace.specs.Causes.{Loaded, HasCause}
+use Rattle.ft_trace.specs.Traces.{Event, did, run, word, history, May}
+use Rattle.ft_trace.specs.Replies.{lacks, RepliesMayBeGiven, MemoryErrorsMayBeAnswered}
+use Rattle.ft_trace.proofs.Sizes.{set_at}
+use Rattle.ft_trace.proofs.Words.{loaded}
+use Rattle.ft_trace.proofs.Contents.{counted}
+use Rattle.ft_trace.proofs.Stamps.{all_writes}
+use Rattle.ft_trace.proofs.Held.{agrees_now}
+
+pub replies_may_be_given : RepliesMayBeGiven
+replies_may_be_given v call said live p not_write right =
+    let k = v.shape in
+    let es = p.0 in
+    let id = p.1 in
+    let n = word k es counter in
+    let a : Act = ReadCounter n in
+    let u = noted a v in
+    let now : List Event = did id v a ∷ es in
+    let at = set_at (run k es).views id v u p.2.1 in
+    let same : word k now counter ≡ n = loaded k es id v a (λ m. refl) counter in
+    let number : n ≡ length (history es) = counted k es p.2.0 in
+    let all : first_writes n (history es) ≡ history es = ap (λ (z : ℕ). first_writes z (history es)) number ∙ all_writes (history es) in
+    let r = right (history es) n (agrees_now v es id p.2) in
+    let replied : IsReplied call said (reply_in (stored_newest k.kinds (first_writes n (history es))) call) = subst (λ (z : List Call). IsReplied call said (reply_in (stored_newest k.kinds z) call)) (sym all) r.0 in
+    let cause : HasCause (stored_newest k.kinds (first_writes n (history es))) u.log call said n = subst (λ (z : List Call). HasCause (stored_newest k.kinds z) u.log call said n) (sym all) r.1 in
+    let own : Loaded n u.log = record { newer = []; rest = v.log; is = refl; own = tt } in
+    let may : May k (run k now) (history now) u (Answer call said n) = (not_write, omega (arith, same), replied, own, cause) in
+    (n, (did id u (Answer call said n) ∷ now, id, (((p.2.0, (p.2.1, live, refl, tt)), (at, live, tt, may)), set_at (run k now).views id u (noted (Answer call said n) u) at)))
+
+never_writes : (b : Bool) → (b && false) ≡ false
+never_writes true = refl
+never_writes false = refl
+
+-- a call that can add may raise it
+memory_replied : (class : ℕ) (called : Call) → can_add called ≡ true → (plain : Reply) → IsReplied called (lacks class) plain
+memory_replied class (call.Dict o c) adds plain = inl refl
+memory_replied class (call.List o c) adds plain = inl refl
+memory_replied class (call.Set o c) adds plain = inl refl
+memory_replied class (call.Next cursor) adds plain = absurd (true≢false (sym adds))
+memory_replied class (call.Begin one other) adds plain = absurd (true≢false (sym adds))
+memory_replied class call.End adds plain = absurd (true≢false (sym adds))
+memory_replied class call.Quiesce adds plain = absurd (true≢false (sym adds))
+
+pub memory_errors_may_be_answered : MemoryErrorsMayBeAnswered
+memory_errors_may_be_answered v call class newer rest live p is own none right =
+    replies_may_be_given v call (lacks class) live p (never_writes (is_changing call))
+    (λ calls number agree.
+    let r = right calls agree in
+    (memory_replied class call r.0.adds (reply_in (stored_newest v.shape.kinds calls) call), (r.0, r.1, r.2, record { newer = []; mid = newer; rest = rest; is = ap (λ (l : List Act). ReadCounter number ∷ l) is; own = (tt, own); none = none })))

@@ -10,11 +10,12 @@ use Rattle.ft_layout.specs.declared.slot.Stored.TheVariants.{Plain}
 use Rattle.ft_layout.specs.Words.{FitsStored, stored_kind, stored_payload}
 use Rattle.ft_trace.specs.declared.Snap.{Snap}
 use Rattle.ft_trace.specs.declared.View.{View}
+use Rattle.ft_trace.specs.Addresses.{class_of, slots}
 use Rattle.ft_trace.specs.Words.{item_at, item_of, root_in}
 use Rattle.ft_trace.specs.Holds.{held, known}
 use Rattle.ft_trace.specs.Traces.{Possible}
 use Rattle.ft_trace.specs.Grants.{MayWrite}
-use Rattle.ft_trace.specs.Writes.{Put, to_table, Write, after_write_of}
+use Rattle.ft_trace.specs.Writes.{Put, to_block, to_table, Write, after_write_of}
 
 -- before the commit the version of the item is made odd, and its kind and payload are put
 abbrev pub item_puts : List ℕ → ℕ → Value → List Put
@@ -47,3 +48,23 @@ ItemsMayBePut =
     → index_in (length values) index ≡ Some place → place < length values → FitsStored (Plain value)
     → (start number : ℕ) × (s : Snap) × (stop : ℕ)
     × Possible (after_write_of v o t (list_set_write v o place index value) start number s stop)
+
+-- l.append(v), where the table has room: the length is put too, then the item after the last
+abbrev pub list_append_write : View → ℕ → ℕ → Value → Write
+list_append_write v o count value =
+    record {
+      root = None;
+      early = to_block 1 (count + 1) ∷ item_puts (held o v).table count value;
+      call = call.List o (list.Append value);
+      reply = reply.Done;
+      late = item_closed (held o v).table count;
+    }
+
+-- a pass with the lock of a list whose table has room may append an item, whatever other passes have done
+abbrev pub ItemsMayBeAppended : Type 0
+ItemsMayBeAppended =
+    (v : View) (o t : ℕ) (value : Value) (values : List Value) → MayWrite v o
+    → (known o v).content ≡ content.List values → root_in (held o v) ≡ suc t → length values < slots (class_of t)
+    → FitsStored (Plain value)
+    → (start number : ℕ) × (s : Snap) × (stop : ℕ)
+    × Possible (after_write_of v o t (list_append_write v o (length values) value) start number s stop)

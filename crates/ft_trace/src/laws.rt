@@ -1,7 +1,7 @@
 //! The parts of the bank's rule: what holds of every valid trace, for the bank and all that stands on it.
 ghost use Rattle.ft_trace.specs.Grants.{ListsMayBeCleared, ClearedTablesMayBeGivenBack, TakingsEnd};
 ghost use Rattle.ft_trace.specs.Writes.{WritesMayBeMade};
-ghost use Rattle.ft_trace.specs.ItemWrites.{ItemsMayBePut};
+ghost use Rattle.ft_trace.specs.ItemWrites.{ItemsMayBePut, ItemsMayBeAppended};
 ghost use Rattle.ft_trace.specs.Replies.{RepliesMayBeGiven, MemoryErrorsMayBeAnswered};
 ghost use Rattle.ft_trace.specs.EntryWrites.{ValuesMayBePut};
 ghost use Rattle.ft_trace.specs.Laws.{StoredTablesAreInOrder, WordsLieApart, PairsAreUnderTheirKeys, ElementsAreUnderTheirKeys, OnePassIsAlone, StampsRise, MemoryErrorsAreEarned, LocksNameHolders, VersionsAreOddInWrites, EvenTablesAreShut, NumbersAreOnce, EntriesAreRight, OneHasAllEntries, EvenWordsStand, ZeroRootsHaveNothing, HoldersKnow, TablesAreSomewhere, TablesAreInOnePlace, CountsStand, TablesAreOwed, EmptyClassesAreEarned, AnnouncedNumbersAreLow, FoundTablesAreKept, GivenUpTablesRest, TablesAreSound, TableWordsStay, HitsAreRight, MissesAreRight, BareRootsAreRight, ItemsAreRight, ListsFitTheirTables, LooksAreRight, ChangedRootsAreNew, NumbersHaveRoom};
@@ -169,6 +169,15 @@ pub fn writes_may_be_made()
 /// A pass with the lock of a list may put one of its items.
 pub fn items_may_be_put()
     ensures { ItemsMayBePut }
+{
+    versions_change_nothing();
+    puts_change_one_item();
+    words_follow_a_list();
+}
+
+/// A pass with the lock of a list whose table has room may append an item.
+pub fn items_may_be_appended()
+    ensures { ItemsMayBeAppended }
 {
     versions_change_nothing();
     puts_change_one_item();

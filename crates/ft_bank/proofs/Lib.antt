@@ -1,0 +1,6 @@
+pub mod Allowed
+pub mod Knowing
+pub mod Readying
+pub mod Starting
+pub mod Tables
+pub mod Putting

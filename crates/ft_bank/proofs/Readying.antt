@@ -1,0 +1,110 @@
+-- That the steps of a write may be made, whatever other passes have done.
+use Rattle.std.proofs.Common.{◌≡◌, ℕ, suc, ◌*◌, ◌^◌, ◌<◌, true, false, List, ◌∷◌, refl, ap, ◌∙◌, subst, arith}
+use Rattle.ft_model.specs.declared.call.Call.{Call}
+use Rattle.ft_model.specs.declared.reply.Reply.{Reply}
+use Rattle.ft_model.specs.Tables.{stored_newest}
+use Rattle.ft_trace.specs.declared.Snap.{Snap}
+use Rattle.ft_trace.specs.declared.View.{View}
+use Rattle.ft_trace.specs.declared.Act.TheVariants.{StartWrite, ReadTable, PutTable, PutFresh, Commit, StopWrite}
+use Rattle.ft_trace.specs.Addresses.{containers_in, class_of, size, IsTable}
+use Rattle.ft_trace.specs.Acts.{has_lock, is_writing, has_committed, stage, noted}
+use Rattle.ft_trace.specs.Worlds.{Kept, kept, kind_in, changes}
+use Rattle.ft_trace.specs.Words.{root_in, Stands}
+use Rattle.ft_trace.specs.Kinds.{rows, version_at, ClearAs}
+use Rattle.ft_trace.specs.Openings.{Shut}
+use Rattle.ft_trace.specs.Holds.{held, known, Committed}
+use Rattle.ft_trace.specs.Traces.{run, history, snap, Ready, ReadyAs, Sure}
+use Rattle.ft_trace.proofs.Rooms.{counter_room, version_room}
+use Rattle.ft_trace.proofs.Versions.{writer_has}
+use Rattle.ft_trace.proofs.Held.{content_known, root_known, table_known, stop_sure, put_sure, agrees_now}
+use Rattle.ft_trace.proofs.Untouched.{as_many}
+use Rattle.ft_trace.proofs.Orders.{in_order}
+use Rattle.ft_bank.specs.Rules.{Acted}
+use Rattle.ft_bank.specs.Writes.{MayHave, MayCommit, IsCareful, IsShut}
+
+-- the bank's calls are few enough for its words
+abbrev pub AreFew : View → Type 0
+AreFew v = v.shape.passes * v.shape.calls < 2 ^ 62
+
+-- what is stored is a world that the pass may expect
+pub has_now : (v : View) → Sure v (λ es. MayHave v (stored_newest v.shape.kinds (history es)))
+has_now v es id knows = record {
+  agrees = agrees_now v es id knows;
+  containers = as_many v.shape.kinds (history es);
+  order = in_order v.shape es knows.0;
+}
+
+pub start_ready : (v : View) (i o : ℕ) → AreFew v → o < containers_in v.shape → has_lock o v.log ≡ true → is_writing o v.log ≡ false → Ready v i (λ n. StartWrite o n)
+start_ready v i o few low mine quiet es id knows small =
+    let r = version_room v.shape es knows.0 o low in
+    (refl, (low, mine, quiet, omega (arith, r, few)))
+
+pub stop_ready : (v : View) (i o : ℕ) → AreFew v → o < containers_in v.shape → is_writing o v.log ≡ true → has_committed o v.log ≡ true → Stands v.shape.texts (held o v) (known o v) → IsShut o v → Ready v i (λ n. StopWrite o n)
+stop_ready v i o few low odd done stands shut es id knows small =
+    let mine = writer_has v.shape es knows.0 o id v knows.1 odd in
+    let r = version_room v.shape es knows.0 o low in (
+      refl,
+      (
+        low,
+        odd,
+        done,
+        stop_sure v o low mine stands es id knows,
+        omega (arith, r, few),
+        (λ t names.
+            let known_root = root_known v o low mine es id knows ∙ names in
+            subst (Shut (version_at (kind_in v.shape.kinds o) (class_of t)) (rows (kind_in v.shape.kinds o) (class_of t))) (table_known v o low t mine known_root es id knows).0 (shut t known_root)),
+      ),
+    )
+
+pub commit_ready : (v : View) (c : Call) (r : Reply) → AreFew v → MayCommit v c r → ReadyAs v 0 (λ n s. Commit c r n s)
+commit_ready v c r few may es id knows small =
+    let k = v.shape in
+    let o = changes c in
+    let low = may.container in
+    let mine = writer_has k es knows.0 o id v knows.1 may.odd in
+    let has = has_now v es id knows in
+    let room = counter_room k es knows.0 in
+    let now = stored_newest k.kinds (history es) in (
+      refl,
+      (
+        may.write,
+        may.odd,
+        omega (arith, room, few),
+        may.left,
+        may.reply_is now has,
+        (λ t names.
+            let known_root = root_known v o low mine es id knows ∙ names in
+            let words = (table_known v o low t mine known_root es id knows).0 in
+            let content = content_known v o mine es id knows in
+            subst (λ (x : List ℕ × Kept). ClearAs (kind_in k.kinds o) k.texts (class_of t) x.0 x.1.content (kept k.kinds (c ∷ history es) o).content) (λ d. (words d, content d)) (may.clear now t has known_root)),
+        low,
+        refl,
+        (λ class owed. may.takes now class has owed),
+        may.fits now has,
+        may.empties,
+        may.declared now has,
+      ),
+    )
+
+-- what the pass knows of every container after its write
+pub commit_leaves : (v : View) (c : Call) (r : Reply) (n : ℕ) (s : Snap) → Acted v (Commit c r n s) → Committed v (noted (Commit c r n s) v) c
+commit_leaves v c r n s d =
+    let k = v.shape in
+    let es = d.0 in
+    let is : s ≡ snap (run k es) (history es) = d.2.1.3.7 in record {
+      found = stored_newest k.kinds (history es);
+      agrees = agrees_now v es d.1 (d.2.0, d.2.1.0);
+      left = λ p. ap (λ (z : Snap). kept k.kinds (c ∷ z.calls) p) is;
+    }
+
+pub read_ready : (v : View) (j t i : ℕ) → IsTable v.shape t → i < size (class_of t) → Ready v j (λ n. ReadTable t i n)
+read_ready v j t i table small es id knows low = (refl, (table, small))
+
+pub fresh_ready : (v : View) (j t i x : ℕ) → IsTable v.shape t → i < size (class_of t) → stage t v.log ≡ 1 → Ready v j (λ n. PutFresh t i x)
+fresh_ready v j t i x table small mine es id knows low = (tt, (table, small, mine))
+
+pub put_ready : (v : View) (j o t i x : ℕ) → o < containers_in v.shape → IsTable v.shape t → i < size (class_of t) → is_writing o v.log ≡ true → root_in (held o v) ≡ suc t → IsCareful v o t i x → Ready v j (λ n. PutTable o t i x)
+put_ready v j o t i x low table small odd names careful es id knows less =
+    let mine = writer_has v.shape es knows.0 o id v knows.1 odd in
+    let s = put_sure v o low t i x mine names careful.care es id knows in
+    (tt, (low, table, small, odd, s.0, s.1, careful.timely))

@@ -1,0 +1,25 @@
+use Rattle.std.proofs.Common.{◌+◌, ◌%◌, ◌^◌, sym, ap, ◌∙◌, subst, arith}
+use Rattle.ft_trace.specs.declared.View.{View}
+use Rattle.ft_trace.specs.Addresses.{counter}
+use Rattle.ft_trace.specs.Traces.{Possible}
+use Rattle.ft_trace.proofs.Addresses.{at_low}
+use Rattle.ft_bank.specs.Shapes.{plan}
+use Rattle.ft_bank.proofs.Allowed.{kept, alive, acted_possible}
+use Rattle.ft_bank.proofs.bank.Bank.commit_as.Goals as goal
+
+pub fetch_add-number-requires : goal.fetch_add-number-requires
+fetch_add-number-requires g c =
+    let p = c.args.pass.now in
+    (c.requires.pass.0, omega (arith, c.args.self.now.wide, at_low (plan c.args.self.now.shape) counter tt), kept p.seat.me p.seat.id 0 (λ n. (n + 1) % 2 ^ 64) (alive _ _ p.numbered) g.A.Keeping.act c.requires.act c.requires.ready (plan c.args.self.now.table.shared.key) _)
+
+pub invariant_of-pass : goal.invariant_of-pass
+invariant_of-pass g c =
+    let p = c.args.pass.now in
+    let e = c.fetch_add-number.ensures.2.1 in
+    let l = p.leaves ∙ sym (c.requires.left c.fetch_add-number.result c.fetch_add-number.ensures.2.0) in record {
+      bare = e.1 ∙ p.bare;
+      numbered = ap (λ v. v.number) e.0 ∙ p.numbered;
+      following = p.following ∙ sym (ap (λ v. v.next) e.0);
+      leaves = omega (arith, l, ap (λ (v : View). v.left) e.0);
+      possible = ∣ subst Possible (sym e.0) (acted_possible p.seat.me.0 _ e.2) ∣₁;
+    }

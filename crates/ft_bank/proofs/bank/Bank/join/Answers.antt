@@ -1,0 +1,29 @@
+use Rattle.std.proofs.Common.{◌+◌, ◌*◌, ◌^◌, ◌<◌, sym, ap, ◌∙◌, subst, arith}
+use Rattle.ft_trace.specs.declared.Shape.{Shape}
+use Rattle.ft_trace.specs.declared.View.{View}
+use Rattle.ft_trace.specs.declared.Act.TheVariants.{ReadCounter}
+use Rattle.ft_trace.specs.Acts.{both}
+use Rattle.ft_trace.specs.Traces.{Possible}
+use Rattle.ft_bank.specs.Passes.{view}
+use Rattle.ft_bank.proofs.Allowed.{acted_possible}
+use Rattle.ft_bank.proofs.Knowing.{left_low}
+use Rattle.ft_bank.proofs.bank.Bank.join.Goals as goal
+
+pub overflow_add-pass : goal.overflow_add-pass
+overflow_add-pass c =
+    let v = view c.args.pass.now in
+    let d = c.settle_as.ensures.view in
+    let few : v.shape.passes * v.shape.calls < 2 ^ 62 = subst (λ (z : Shape). z.passes * z.calls < 2 ^ 62) (sym c.requires.passes.0.1) c.args.self.now.few in
+    omega (arith, left_low (both v (view c.args.other)) (ReadCounter d.0) d.2, few, c.args.pass.now.leaves, c.args.other.leaves)
+
+pub invariant_of-pass : goal.invariant_of-pass
+invariant_of-pass c =
+    let p = c.args.pass.now in
+    let d = c.settle_as.ensures.view in
+    let e = d.1 in record {
+      bare = c.settle_as.ensures.bare ∙ p.bare;
+      numbered = ap (λ (v : View). v.number) e ∙ p.numbered;
+      following = p.following ∙ sym (ap (λ (v : View). v.next) e);
+      leaves = (λ j. p.leaves j + c.args.other.leaves j) ∙ sym (ap (λ (v : View). v.left) e);
+      possible = ∣ subst Possible (sym e) (acted_possible (both (view p) (view c.args.other)) (ReadCounter d.0) d.2) ∣₁;
+    }

@@ -1,0 +1,22 @@
+use Rattle.std.proofs.Common.{◌≡◌, ◌<◌, refl, sym, subst}
+use Rattle.ft_trace.specs.declared.Shape.{Shape}
+use Rattle.ft_trace.specs.declared.View.{View}
+use Rattle.ft_trace.specs.declared.Act.TheVariants.{PutBlock}
+use Rattle.ft_trace.specs.Addresses.{containers_in}
+use Rattle.ft_trace.specs.Holds.{held}
+use Rattle.ft_bank.specs.Passes.{view}
+use Rattle.ft_bank.specs.Writes.{KeepsUnwritten, with_block}
+use Rattle.ft_bank.proofs.Knowing.{keeps_unwritten}
+use Rattle.ft_bank.proofs.Putting.{block_put}
+use Rattle.ft_bank.proofs.bank.Bank.put_block.Goals as goal
+
+pub returns-clause-keeps : goal.returns-clause-keeps
+returns-clause-keeps c =
+    let v = view c.args.pass.now in
+    subst (KeepsUnwritten v) (sym c.store_as.ensures.did.1) (keeps_unwritten v (PutBlock c.args.o c.args.word c.args.value) (λ p b. refl) c.store_as.ensures.acted)
+
+pub returns-clause-held : goal.returns-clause-held
+returns-clause-held c =
+    let v = view c.args.pass.now in
+    let low : c.args.o < containers_in v.shape = subst (λ (z : Shape). c.args.o < containers_in z) (sym c.requires.pass.1) c.requires.container in
+    subst (λ (w : View). held c.args.o w ≡ with_block (held c.args.o v) c.args.word c.args.value) (sym c.store_as.ensures.did.1) (block_put v c.args.o c.args.word c.args.value low c.requires.word.0 c.requires.word.1 c.requires.odd c.store_as.ensures.acted)

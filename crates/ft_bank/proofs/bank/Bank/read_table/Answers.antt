@@ -1,0 +1,30 @@
+use Rattle.std.proofs.Common.{ℕ, ◌+◌, ◌<◌, sym, subst}
+use Rattle.ft_trace.specs.declared.Shape.{Shape}
+use Rattle.ft_trace.specs.declared.Act.TheVariants.{ReadTable}
+use Rattle.ft_trace.specs.Addresses.{containers_in, IsTable}
+use Rattle.ft_trace.specs.Traces.{Ready}
+use Rattle.ft_bank.specs.Passes.{view, shape_of}
+use Rattle.ft_bank.specs.Rules.{Acted}
+use Rattle.ft_bank.specs.Tables.{name_of}
+use Rattle.ft_bank.proofs.Knowing.{table_found, fresh_found}
+use Rattle.ft_bank.proofs.Readying.{read_ready}
+use Rattle.ft_bank.proofs.Tables.{named}
+use Rattle.ft_bank.proofs.bank.Bank.read_table.Goals as goal
+
+pub load_as-requires-clause-ready : goal.load_as-requires-clause-ready
+load_as-requires-clause-ready c =
+    let v = view c.args.pass.now in
+    let table : IsTable v.shape (name_of c.args.t) = subst (λ (z : Shape). IsTable z (name_of c.args.t)) (sym c.requires.pass.1) (named (shape_of c.args.self.now) c.args.t c.requires.table) in
+    subst (λ (z : ℕ). Ready v (c.cell_of-start.result + c.args.word) (λ n. ReadTable z c.args.word n)) (sym c.name.ensures) (read_ready v (c.cell_of-start.result + c.args.word) (name_of c.args.t) c.args.word table c.requires.word)
+
+pub returns-clause-held : goal.returns-clause-held
+returns-clause-held c o small mine names =
+    let v = view c.args.pass.now in
+    let low : o < containers_in v.shape = subst (λ (z : Shape). o < containers_in z) (sym c.requires.pass.1) small in
+    table_found v o (name_of c.args.t) c.args.word c.load_as.result low c.requires.word mine names (subst (λ (z : ℕ). Acted v (ReadTable z c.args.word c.load_as.result)) c.name.ensures c.load_as.ensures.acted)
+
+pub returns-clause-fresh : goal.returns-clause-fresh
+returns-clause-fresh c mine =
+    let v = view c.args.pass.now in
+    let table : IsTable v.shape (name_of c.args.t) = subst (λ (z : Shape). IsTable z (name_of c.args.t)) (sym c.requires.pass.1) (named (shape_of c.args.self.now) c.args.t c.requires.table) in
+    fresh_found v (name_of c.args.t) c.args.word c.load_as.result table c.requires.word mine (subst (λ (z : ℕ). Acted v (ReadTable z c.args.word c.load_as.result)) c.name.ensures c.load_as.ensures.acted)

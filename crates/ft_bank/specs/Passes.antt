@@ -1,0 +1,29 @@
+-- What clauses say of a pass.
+use Rattle.std.specs.Prelude.{◌≡◌}
+use Rattle.ft_trace.specs.declared.Shape.{Shape}
+use Rattle.ft_trace.specs.declared.View.{View}
+use Rattle.ft_trace.specs.declared.Act.{Act}
+use Rattle.ft_trace.specs.Acts.{noted}
+use Rattle.ft_bank.specs.Shapes.{plan}
+use Rattle.ft_bank.specs.declared.bank.Bank.{Bank}
+use Rattle.ft_bank.specs.declared.pass.Pass.{Pass}
+
+-- the bank's shape
+abbrev pub shape_of : Bank → Shape
+shape_of b = plan b.shape
+
+-- what the pass knows
+abbrev pub view : Pass → View
+view p = p.seat.me.0
+
+-- the pass is one of the bank's
+abbrev pub IsPassOf : Bank → Pass → Type 0
+IsPassOf b p = (p.seat.table_id ≡ b.table.shared.table_id) × (p.seat.me.0.shape ≡ plan b.shape)
+
+-- the pass has done this, and nothing else
+abbrev pub Did : Act → Pass → Pass → Type 0
+Did a p q = (q.seat.table_id ≡ p.seat.table_id) × (q.seat.me.0 ≡ noted a p.seat.me.0)
+
+-- the pass has done nothing
+abbrev pub DidNothing : Pass → Pass → Type 0
+DidNothing p q = (q.seat.table_id ≡ p.seat.table_id) × (q.seat.me.0 ≡ p.seat.me.0)

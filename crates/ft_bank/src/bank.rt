@@ -1,0 +1,108 @@
+//! The bank: the table of its words with its shape. It is made with its first pass; passes make others,
+//! and take others in.
+ghost use Rattle.std.specs.Prelude.{◌≡◌, ◌<◌, ◌^◌, ◌*◌, [], length, IfOk, ℕ};
+ghost use Rattle.ft_trace.specs.declared.Act.TheVariants.{ReadCounter};
+ghost use Rattle.ft_trace.specs.Addresses.{extent};
+ghost use Rattle.ft_trace.specs.Acts.{starter, maker, made, both, noted};
+ghost use Rattle.ft_trace.specs.Traces.{MayFork, IsFree};
+ghost use Rattle.ft_bank.specs.Shapes.{plan, IsShape};
+ghost use Rattle.ft_bank.specs.Tables.{starts_from, sizes_from};
+
+use crate::opening::{class_sizes, class_starts, opening_words};
+use crate::pass::Pass;
+use crate::rule::{Law, Shares};
+use crate::shape::{MakeFault, Shape};
+use atomic_table::Table;
+use ft_trace::View;
+use std::alloc::Global;
+use std::marker::Brand;
+
+/// A bank of containers in one list of shared words.
+#[derive(Drop)]
+pub struct Bank {
+    pub(crate) table: Table<(), View, Shape, Law, Global>,
+    pub(crate) shape: Shape,
+    pub(crate) starts: Vec<u64>,
+    pub(crate) sizes: Vec<u64>,
+    ghost keyed: { table.shared.key ≡ shape },
+    ghost wide: { table.shared.table_id.words ≡ extent (plan shape) },
+    ghost bare: { table.shared.table_id.slots ≡ 0 },
+    ghost fits: { IsShape shape },
+    ghost low: { extent (plan shape) < 2 ^ 33 },
+    ghost few: { shape.passes * shape.calls < 2 ^ 62 },
+    ghost starting: { starts.items ≡ starts_from (plan shape) 3 14 },
+    ghost sizing: { sizes.items ≡ sizes_from 3 14 },
+}
+
+impl Bank {
+    ghost use Rattle.ft_bank.specs.Passes.{shape_of, view, IsPassOf};
+
+    /// A bank of this shape, and its first pass, which stands for all passes.
+    pub fn new(alloc: Global, shape: Shape) -> Result<(Bank, Pass), MakeFault>
+        requires { IsShape shape }
+        ensures shape { IfOk result (λ made. shape_of made.0 ≡ plan shape) }
+        ensures pass { IfOk result (λ made. IsPassOf made.0 made.1) }
+        ensures view { IfOk result (λ made. view made.1 ≡ starter (plan shape)) }
+    {
+        let words = opening_words(alloc, &shape)?;
+        let starts = class_starts(alloc, &shape)?;
+        let sizes = class_sizes(alloc)?;
+        let (table, seat) = Table::of_words(alloc, words.as_slice(), &shape)?;
+        let left = u64::from(shape.passes) * u64::from(shape.calls);
+        let bank = Bank {
+            table,
+            shape,
+            starts,
+            sizes,
+        };
+        let pass = Pass {
+            number: 0,
+            next: 2,
+            left,
+            seat,
+        };
+        Ok((bank, pass))
+    }
+
+    /// Makes another pass, which may make as many writes as the shape says for one. Only the first pass
+    /// may, while fewer than the shape's passes were made.
+    pub fn split(&self, pass: &mut Pass) -> Pass
+        requires pass { IsPassOf self.now pass.old }
+        requires may { MayFork (view pass.old) }
+        ensures passes { IsPassOf self.now pass.new × IsPassOf self.now result }
+        ensures maker { view pass.new ≡ maker (view pass.old) }
+        ensures made { view result ≡ made (view pass.old) }
+    {
+        let number = pass.next - 1;
+        let left = u64::from(self.shape.calls);
+        let seat = self.table.shared.split_seat::<Shares>(&mut pass.seat);
+        pass.next += 1;
+        pass.left -= left;
+        Pass {
+            number,
+            next: 0,
+            left,
+            seat,
+        }
+    }
+
+    /// Takes in another pass, which has no lock and no table in hand, is offline and has no pass to make:
+    /// what it wrote and read is the first one's from then on. The counter is loaded, so the first pass
+    /// knows a number of writes that are before this moment.
+    pub fn join(&self, pass: &mut Pass, other: Pass)
+        requires passes { IsPassOf self.now pass.old × IsPassOf self.now other }
+        requires last { (view other).next ≡ 0 }
+        requires free { IsFree (view other) }
+        ensures pass { IsPassOf self.now pass.new }
+        ensures view { (n : ℕ) × (view pass.new ≡ noted (ReadCounter n) (both (view pass.old) (view other))) }
+    {
+        let Pass {
+            number: _,
+            next: _,
+            left,
+            seat,
+        } = other;
+        self.settle_as::<Brand>(&mut pass.seat, seat);
+        pass.left += left;
+    }
+}

@@ -1,0 +1,25 @@
+//! The shared words of a bank of containers, and the single steps in which passes read and write them:
+//! the only crate over `atomic_table`.
+//!
+//! Between any two steps of any passes it keeps true, for all layers above, that there is a valid trace
+//! of `ft_trace` which gives the bank's words and what each pass knows. Each public step makes one
+//! atomic step, and its contract names the action that the pass did, which is one more event of that
+//! trace; the condition of a step is that of its action, in words of what the pass knows.
+#![tactic(auto)]
+
+mod bank;
+mod locks;
+mod opening;
+mod pass;
+mod places;
+mod reads;
+mod rule;
+mod shape;
+mod steps;
+mod table;
+mod writes;
+
+pub use crate::bank::Bank;
+pub use crate::pass::Pass;
+pub use crate::shape::{MakeFault, Shape};
+pub use crate::table::Table;

@@ -1,0 +1,102 @@
+//! The words of a bank at its start: no write was made, no pass is online, all tables are free, and all
+//! containers have nothing.
+ghost use Rattle.std.specs.Prelude.{◌≡◌, ◌≤◌, ◌<◌, ◌^◌, ◌++◌, length, IfOk, OnOk, replicate};
+ghost use Rattle.ft_layout.specs.Starts.{AreTables};
+ghost use Rattle.ft_trace.specs.Addresses.{opening, extent, free_counts, free_words};
+ghost use Rattle.ft_trace.specs.Bits.{full};
+ghost use Rattle.ft_bank.specs.Shapes.{IsShape, plan};
+ghost use Rattle.ft_bank.specs.Tables.{starts_from, sizes_from};
+
+use crate::shape::Shape;
+use ft_layout::{bank_size, table_size, table_start};
+use std::alloc::{AllocError, Global};
+
+/// How many words of bits there are for the free tables of all classes.
+const FREE_WORDS: u32 = 224;
+/// How many words there are for the announced numbers.
+const ANNOUNCED: usize = 64;
+/// How many words come before the first container's block.
+const BEFORE: usize = 304;
+
+/// All words of a bank of this shape.
+pub(crate) fn opening_words(alloc: Global, shape: &Shape) -> Result<Vec<u64>, AllocError>
+    requires { IsShape shape.now }
+    ensures words { IfOk result (λ v. v.items ≡ opening (plan shape.now)) }
+    ensures low { IfOk result (λ v. extent (plan shape.now) < 2 ^ 33) }
+{
+    let containers = shape.kinds.len() as u32;
+    let size = bank_size(
+        containers,
+        shape.heap,
+        shape.passes,
+        shape.tables.as_slice(),
+    );
+    let mut words = vec![in alloc; 0, 1]?;
+    let mut announced = vec![in alloc; 0u64; ANNOUNCED]?;
+    words.append(&mut announced)?;
+    push_counts(&mut words, shape.tables.as_slice())?;
+    push_free(&mut words, shape.tables.as_slice())?;
+    let mut rest = vec![in alloc; 0u64; size as usize - BEFORE]?;
+    words.append(&mut rest)?;
+    Ok(words)
+}
+
+/// The count of each class.
+fn push_counts(words: &mut Vec<u64>, tables: &[u32]) -> Result<(), AllocError>
+    requires { AreTables tables.now }
+    ensures { OnOk result (words.new.items ≡ words.old.items ++ free_counts tables.now 3 14) }
+{
+    for class in 0..14usize {
+        words.push(u64::from(tables[class]))?;
+    }
+    Ok(())
+}
+
+/// The free words of each class, a bit for each table.
+fn push_free(words: &mut Vec<u64>, tables: &[u32]) -> Result<(), AllocError>
+    requires { AreTables tables.now }
+    ensures { OnOk result (words.new.items ≡ words.old.items ++ free_words tables.now 0 224) }
+{
+    for word in 0..FREE_WORDS {
+        let count = tables[(word / 16) as usize];
+        let more = count.saturating_sub(64 * (word % 16));
+        words.push(ones(more.min(64)))?;
+    }
+    Ok(())
+}
+
+/// The word whose first bits are ones.
+fn ones(count: u32) -> u64
+    requires { count ≤ 64 }
+    ensures { result ≡ full count }
+{
+    if count == 64 {
+        return u64::MAX;
+    }
+    (1 << count) - 1
+}
+
+/// Where the tables of each class begin, class 3 first.
+pub(crate) fn class_starts(alloc: Global, shape: &Shape) -> Result<Vec<u64>, AllocError>
+    requires { IsShape shape.now }
+    ensures { IfOk result (λ v. v.items ≡ starts_from (plan shape.now) 3 14) }
+{
+    let containers = shape.kinds.len() as u32;
+    let mut starts = Vec::new(alloc);
+    for class in 0..14u32 {
+        let tables = shape.tables.as_slice();
+        starts.push(table_start(containers, shape.heap, shape.passes, tables, 3 + class, 0))?;
+    }
+    Ok(starts)
+}
+
+/// How many words the tables of each class have, class 3 first.
+pub(crate) fn class_sizes(alloc: Global) -> Result<Vec<u64>, AllocError>
+    ensures { IfOk result (λ v. v.items ≡ sizes_from 3 14) }
+{
+    let mut sizes = Vec::new(alloc);
+    for class in 0..14u32 {
+        sizes.push(table_size(3 + class))?;
+    }
+    Ok(sizes)
+}

@@ -1,0 +1,174 @@
+//! One atomic step on one word, as the action of a pass that its caller picks. Each public step is one
+//! of these. The numbers that a call gives beside the word are for the action.
+ghost use Rattle.std.specs.Prelude.{◌≡◌, ◌≢◌, ℕ, ◌+◌, ◌%◌, ◌^◌, ◌<◌, ◌==◌, suc, []};
+ghost use prog.Atomic.{either};
+ghost use Rattle.ft_trace.specs.declared.Snap.{Snap};
+ghost use Rattle.ft_trace.specs.Addresses.{extent, at};
+ghost use Rattle.ft_trace.specs.Acts.{place, word_after, left_next, noted, both};
+ghost use Rattle.ft_trace.specs.Traces.{IsFree, Ready, ReadyAs, Does as Acts, DoesAs};
+ghost use Rattle.ft_bank.specs.Rules.{Acted, LeavesWrites};
+
+use crate::bank::Bank;
+use crate::pass::Pass;
+use crate::rule::{Does, Finds, Keeping, Keeps, Saying, Shares};
+use atomic_table::Seat;
+use ft_model::{Call, Reply};
+use ft_trace::View;
+
+impl Bank {
+    ghost use Rattle.ft_bank.specs.Passes.{shape_of, view, IsPassOf, Did, DidNothing};
+
+    /// Loads a word.
+    pub(crate) fn load_as<A: Saying>(
+        &self,
+        pass: &mut Pass,
+        word: u64,
+        o: u32,
+        t: u64,
+        i: u64,
+    ) -> u64
+        requires pass { IsPassOf self.now pass.old }
+        requires word { word < extent (shape_of self.now) }
+        requires act { Acts (view pass.old) word (λ n. n) A.act }
+        requires ready { Ready (view pass.old) word A.act }
+        requires left { LeavesWrites (view pass.old) (λ n _. A.act n) }
+        ensures did { Did (A.act result) pass.old pass.new }
+        ensures acted { Acted (view pass.old) (A.act result) }
+    {
+        let _ = (o, t, i);
+        self.table
+            .shared
+            .load::<Does<A>>(&mut pass.seat, word as usize)
+    }
+
+    /// Stores a word.
+    pub(crate) fn store_as<A: Saying>(
+        &self,
+        pass: &mut Pass,
+        word: u64,
+        value: u64,
+        o: u32,
+        t: u64,
+        i: u64,
+    )
+        requires pass { IsPassOf self.now pass.old }
+        requires word { word < extent (shape_of self.now) }
+        requires act { Acts (view pass.old) word (λ _. value) (λ _. A.act 0) }
+        requires ready { Ready (view pass.old) word (λ _. A.act 0) }
+        requires same { A.act value ≡ A.act 0 }
+        requires left { LeavesWrites (view pass.old) (λ n _. A.act n) }
+        ensures did { Did (A.act 0) pass.old pass.new }
+        ensures acted { Acted (view pass.old) (A.act 0) }
+    {
+        let _ = (o, t, i);
+        self.table
+            .shared
+            .store::<Does<A>>(&mut pass.seat, word as usize, value);
+    }
+
+    /// Raises a word by one.
+    pub(crate) fn add_as<A: Saying>(&self, pass: &mut Pass, word: u64, o: u32) -> u64
+        requires pass { IsPassOf self.now pass.old }
+        requires word { word < extent (shape_of self.now) }
+        requires act { Acts (view pass.old) word (λ n. (n + 1) % 2 ^ 64) A.act }
+        requires ready { Ready (view pass.old) word A.act }
+        requires left { LeavesWrites (view pass.old) (λ n _. A.act n) }
+        ensures did { Did (A.act result) pass.old pass.new }
+        ensures acted { Acted (view pass.old) (A.act result) }
+    {
+        let _ = o;
+        self.table
+            .shared
+            .fetch_add::<Does<A>>(&mut pass.seat, word as usize, 1)
+    }
+
+    /// Loads a word, which is an action only where it isn't 0.
+    pub(crate) fn look_as<A: Keeping>(&self, pass: &mut Pass, word: u64, o: u32) -> u64
+        requires pass { IsPassOf self.now pass.old }
+        requires word { word < extent (shape_of self.now) }
+        requires act { (n : ℕ) (s : Snap) → n ≢ 0 → (at (view pass.old).shape (place (A.act n s)) ≡ word)
+            × (word_after (view pass.old).number (A.act n s) n ≡ n) }
+        requires ready { ReadyAs (view pass.old) word A.act }
+        requires left { LeavesWrites (view pass.old) A.act }
+        ensures none { result ≡ 0 → DidNothing pass.old pass.new }
+        ensures did { result ≢ 0 → (s : Snap) × Did (A.act result s) pass.old pass.new × Acted (view pass.old) (A.act result s) }
+    {
+        let _ = o;
+        self.table
+            .shared
+            .load::<Finds<A>>(&mut pass.seat, word as usize)
+    }
+
+    /// Puts the number of the pass into a word that is 0.
+    pub(crate) fn lock_as<A: Keeping>(&self, pass: &mut Pass, word: u64, o: u32) -> u64
+        requires pass { IsPassOf self.now pass.old }
+        requires word { word < extent (shape_of self.now) }
+        requires act { DoesAs (view pass.old) word (λ n. either (n == 0) (view pass.old).number n) A.act }
+        requires ready { ReadyAs (view pass.old) word A.act }
+        requires left { LeavesWrites (view pass.old) A.act }
+        ensures did { (s : Snap) × Did (A.act result s) pass.old pass.new × Acted (view pass.old) (A.act result s) }
+    {
+        let _ = o;
+        let number = u64::from(pass.number) + 1;
+        self.table
+            .shared
+            .compare_exchange::<Keeps<A>>(&mut pass.seat, word as usize, 0, number)
+    }
+
+    /// Raises the counter, which is a write.
+    pub(crate) fn commit_as<A: Keeping>(&self, pass: &mut Pass, call: &Call, reply: &Reply) -> u64
+        requires pass { IsPassOf self.now pass.old }
+        requires act { DoesAs (view pass.old) 0 (λ n. (n + 1) % 2 ^ 64) A.act }
+        requires ready { ReadyAs (view pass.old) 0 A.act }
+        requires room { 0 < (view pass.old).left }
+        requires left { (n : ℕ) (s : Snap) → left_next (A.act n s) (view pass.old).left + 1 ≡ (view pass.old).left }
+        ensures did { (s : Snap) × Did (A.act result s) pass.old pass.new × Acted (view pass.old) (A.act result s) }
+    {
+        let _ = call;
+        let _ = reply;
+        let number = self
+            .table
+            .shared
+            .fetch_add::<Keeps<A>>(&mut pass.seat, 0, 1);
+        pass.left -= 1;
+        number
+    }
+
+    /// Loads the counter, and makes the entry of a call.
+    pub(crate) fn answer_as<A: Saying>(
+        &self,
+        pass: &mut Pass,
+        call: &Call,
+        reply: &Reply,
+        number: u64,
+    )
+        requires pass { IsPassOf self.now pass.old }
+        requires act { Acts (view pass.old) 0 (λ n. n) A.act }
+        requires ready { Ready (view pass.old) 0 A.act }
+        requires left { LeavesWrites (view pass.old) (λ n _. A.act n) }
+        ensures { (n : ℕ) × Did (A.act n) pass.old pass.new }
+    {
+        let _ = call;
+        let _ = reply;
+        let _ = number;
+        self.table.shared.load::<Does<A>>(&mut pass.seat, 0);
+    }
+
+    /// Takes what another pass knows into this one's view, and loads the counter.
+    pub(crate) fn settle_as<A: Saying>(&self, seat: &mut Seat<(), View>, other: Seat<(), View>)
+        requires tables { (seat.old.table_id ≡ self.now.table.shared.table_id) × (other.table_id ≡ self.now.table.shared.table_id) }
+        requires bare { other.me.1 ≡ [] }
+        requires live { seat.old.me.0.number ≢ 0 }
+        requires last { other.me.0.next ≡ 0 }
+        requires free { IsFree other.me.0 }
+        requires act { Acts (both seat.old.me.0 other.me.0) 0 (λ n. n) A.act }
+        requires ready { Ready (both seat.old.me.0 other.me.0) 0 A.act }
+        ensures table { seat.new.table_id ≡ seat.old.table_id }
+        ensures view { (n : ℕ) × (seat.new.me.0 ≡ noted (A.act n) (both seat.old.me.0 other.me.0))
+            × Acted (both seat.old.me.0 other.me.0) (A.act n) }
+        ensures bare { seat.new.me.1 ≡ seat.old.me.1 }
+    {
+        self.table.shared.join_seat::<Shares>(seat, other);
+        self.table.shared.load::<Does<A>>(seat, 0);
+    }
+}

@@ -1,0 +1,26 @@
+//! Tables by name, for whoever reads a root or writes one.
+ghost use Rattle.std.specs.Prelude.{◌≡◌, ◌<◌};
+ghost use Rattle.ft_model.specs.Classes.{IsClass};
+ghost use Rattle.ft_bank.specs.Tables.{name_of, root_for};
+
+use ft_layout::root_word;
+
+/// A table of a bank.
+#[derive(Clone, Copy, Debug, PartialEq, Eq)]
+pub struct Table {
+    /// The class, from 3 to 16: the table has 2^class index slots, or items of a list.
+    pub class: u32,
+    /// The number among the tables of its class, from 0 on.
+    pub number: u32,
+}
+
+impl Table {
+    /// The name that traces have for the table: its root word less 1.
+    pub(crate) fn name(&self) -> u64
+        requires class { IsClass self.now.class }
+        requires number { self.now.number < 1024 }
+        ensures { result ≡ name_of self.now }
+    {
+        root_word(self.class, self.number) - 1
+    }
+}

@@ -1,0 +1,105 @@
+//! The steps of a write: by a pass with the lock, from an odd version over its puts and the counter, which
+//! is the write, to an even version.
+ghost use Rattle.std.specs.Prelude.{◌≡◌, ◌≢◌, ◌⊎◌, ℕ, suc, ◌<◌, ◌+◌, true, false, slice_set};
+ghost use Rattle.ft_trace.specs.declared.Act.TheVariants.{StartWrite, PutBlock, PutTable, PutFresh, Commit, StopWrite};
+ghost use Rattle.ft_trace.specs.declared.Snap.{Snap};
+ghost use Rattle.ft_trace.specs.Addresses.{containers_in, class_of, size};
+ghost use Rattle.ft_trace.specs.Acts.{has_lock, is_writing, has_committed, stage};
+ghost use Rattle.ft_trace.specs.Words.{root_in, Stands};
+ghost use Rattle.ft_trace.specs.Holds.{held, known, in_hand, Committed};
+ghost use Rattle.ft_bank.specs.Writes.{MayCommit, IsCareful, IsShut, KeepsUnwritten, with_block, with_table};
+ghost use Rattle.ft_bank.specs.Tables.{name_of, IsTableIn};
+
+use crate::bank::Bank;
+use crate::pass::Pass;
+use crate::table::Table;
+use ft_model::{Call, Reply};
+use std::marker::Brand;
+
+impl Bank {
+    ghost use Rattle.ft_bank.specs.Passes.{shape_of, view, IsPassOf, Did};
+
+    /// Makes the version of a container odd, and answers what it was.
+    pub fn start_write(&self, pass: &mut Pass, o: u32) -> u64
+        requires pass { IsPassOf self.now pass.old }
+        requires container { o < containers_in (shape_of self.now) }
+        requires locked { has_lock o (view pass.old).log ≡ true }
+        requires even { is_writing o (view pass.old).log ≡ false }
+        ensures { Did (StartWrite o result) pass.old pass.new }
+    {
+        let word = self.block_of(o) + 1;
+        self.add_as::<Brand>(pass, word, o)
+    }
+
+    /// Puts a word of a container's block that isn't its root, one of words 3 to 7, which are counted from
+    /// 1 on.
+    pub fn put_block(&self, pass: &mut Pass, o: u32, word: u64, value: u64)
+        requires pass { IsPassOf self.now pass.old }
+        requires container { o < containers_in (shape_of self.now) }
+        requires odd { is_writing o (view pass.old).log ≡ true }
+        requires word { (word ≢ 0) × (word < 6) }
+        ensures did { Did (PutBlock o word value) pass.old pass.new }
+        ensures held { held o (view pass.new) ≡ with_block (held o (view pass.old)) word value }
+        ensures keeps { KeepsUnwritten (view pass.old) (view pass.new) }
+    {
+        let start = self.block_of(o) + 2;
+        self.store_as::<Brand>(pass, start + word, value, o, 0, word);
+    }
+
+    /// Puts a word of the table that the root of a container names, counted from its header on, with
+    /// care for those who read it without the lock.
+    pub fn put_table(&self, pass: &mut Pass, o: u32, t: Table, word: u64, value: u64)
+        requires pass { IsPassOf self.now pass.old }
+        requires container { o < containers_in (shape_of self.now) }
+        requires table { IsTableIn (shape_of self.now) t }
+        requires word { word < size (class_of (name_of t)) }
+        requires odd { is_writing o (view pass.old).log ≡ true }
+        requires root { root_in (held o (view pass.old)) ≡ suc (name_of t) }
+        requires care { IsCareful (view pass.old) o (name_of t) word value }
+        ensures did { Did (PutTable o (name_of t) word value) pass.old pass.new }
+        ensures held { held o (view pass.new) ≡ with_table (held o (view pass.old)) word value }
+        ensures keeps { KeepsUnwritten (view pass.old) (view pass.new) }
+    {
+        let start = self.cell_of(t);
+        self.store_as::<Brand>(pass, start + word, value, o, t.name(), word);
+    }
+
+    /// Puts a word of a table that is fresh in hand, counted from its header on.
+    pub fn put_fresh(&self, pass: &mut Pass, t: Table, word: u64, value: u64)
+        requires pass { IsPassOf self.now pass.old }
+        requires table { IsTableIn (shape_of self.now) t }
+        requires word { word < size (class_of (name_of t)) }
+        requires fresh { stage (name_of t) (view pass.old).log ≡ 1 }
+        ensures did { Did (PutFresh (name_of t) word value) pass.old pass.new }
+        ensures fresh { in_hand (name_of t) (view pass.new) ≡
+            slice_set (in_hand (name_of t) (view pass.old)) word value }
+        ensures keeps { KeepsUnwritten (view pass.old) (view pass.new) }
+    {
+        let start = self.cell_of(t);
+        self.store_as::<Brand>(pass, start + word, value, 0, t.name(), word);
+    }
+
+    /// Raises the counter, which is the write, and answers its number.
+    pub fn commit(&self, pass: &mut Pass, call: &Call, reply: &Reply) -> u64
+        requires pass { IsPassOf self.now pass.old }
+        requires may { MayCommit (view pass.old) call.now reply.now }
+        ensures did { (s : Snap) × Did (Commit call.now reply.now result s) pass.old pass.new }
+        ensures committed { Committed (view pass.old) (view pass.new) call.now }
+    {
+        self.commit_as::<Brand>(pass, call, reply)
+    }
+
+    /// Makes the version of a container even again, whose words stand for what the pass knows of it.
+    pub fn stop_write(&self, pass: &mut Pass, o: u32) -> u64
+        requires pass { IsPassOf self.now pass.old }
+        requires container { o < containers_in (shape_of self.now) }
+        requires odd { is_writing o (view pass.old).log ≡ true }
+        requires committed { has_committed o (view pass.old).log ≡ true }
+        requires stands { Stands (shape_of self.now).texts (held o (view pass.old)) (known o (view pass.old)) }
+        requires shut { IsShut o (view pass.old) }
+        ensures { Did (StopWrite o result) pass.old pass.new }
+    {
+        let word = self.block_of(o) + 1;
+        self.add_as::<Brand>(pass, word, o)
+    }
+}

@@ -180,7 +180,7 @@ module _ (n m : ℕ) (ws : List ℕ) (c : Pairs) (i x : ℕ) (long : length ws �
   careful_sound walk old = record {
     right = λ p key low. careful_right p key low (old.right p key low);
     named = λ s p less low e. careful_named s p less low (old.named s p less low) e;
-    reached = λ key there. careful_reached (walk key) key there (old.reached key there);
+    reached = λ key fits there. careful_reached (walk key) key there (old.reached key fits there);
   }
 
 -- whether there is anything under a key
@@ -192,5 +192,5 @@ pub clear_sound : (walk : Key → List ℕ) (n m : ℕ) (ws : List ℕ) (c d : P
 clear_sound walk n m ws c d clear old = record {
   right = λ p key low even live. clear.keeps p key low even live ∙ old.right p key low even live;
   named = old.named;
-  reached = λ key there. ⊎_elim (λ (none : c key ≡ []). clear.adds key none there) (λ (some_one : c key ≢ []). old.reached key some_one) (none_or (c key));
+  reached = λ key fits there. ⊎_elim (λ (none : c key ≡ []). clear.adds key fits none there) (λ (some_one : c key ≢ []). old.reached key fits some_one) (none_or (c key));
 }

@@ -125,7 +125,7 @@ module _ (n m : ℕ) (ws : List ℕ) (c d : Pairs) (p : ℕ) (key : Key) (kind p
           let w6 = other3 q 6 ne (omega arith) in
           let same : said_of n b3 q ≡ said_of n ws q = λ i. w4 i ∷ w5 i ∷ w6 i ∷ [] in
           now q k less l ∙ (same ∙ sym (was q k less (live3 q k l))));
-      adds = λ k none some. let a = all k some in let x : [] ≡ said_of n ws a.0 = sym none ∙ was a.0 k a.1 (live3 a.0 k a.2) in absurd (cc);
+      adds = λ k fits none some. let a = all k some in let x : [] ≡ said_of n ws a.0 = sym none ∙ was a.0 k a.1 (live3 a.0 k a.2) in absurd (cc);
     }
 
     pub value_late : Careful n m b3 d (entry_at n p 0) (ver + 2)

@@ -8,7 +8,7 @@ use native.Mathlib.Decide.{ℕ_discrete}
 use lib.ListN.{get_elem?}
 use Rattle.ft_model.specs.declared.call.Call.{Call}
 use Rattle.ft_model.specs.declared.data.Key.{Key}
-use Rattle.ft_layout.specs.Words.{key_kind, gone_kind, key_payload}
+use Rattle.ft_layout.specs.Words.{FitsKey, key_kind, gone_kind, key_payload}
 use Rattle.ft_trace.specs.declared.Shape.{Shape}
 use Rattle.ft_trace.specs.declared.View.{View}
 use Rattle.ft_trace.specs.declared.Act.{Act}
@@ -169,16 +169,16 @@ passed_by k o key t j low keyed table start walk read s whom slot in_table probe
     (λ (b : Beyond walk t slot). beyond_table k o key t j low keyed table start walk read s whom slot r.place r.place in_table r.low r.low here r.mine r.alive b)
 
 -- from a moment at which no entry of the key is met
-absent_at : (k : Shape) (es : List Event) (valid : Valid k es) (o t : ℕ) (key : Key) (n : ℕ) (low : o < containers_in k) (keyed : IsKeyed (kind_in k.kinds o)) (table : IsTable k t) (j : ℕ) (start rest : List Act) (s : Spot k t j start rest) → Under s.es es → whose s.es t ≡ o → n ≡ count k s.es
+absent_at : (k : Shape) (es : List Event) (valid : Valid k es) (o t : ℕ) (key : Key) (n : ℕ) (fits : FitsKey key) (low : o < containers_in k) (keyed : IsKeyed (kind_in k.kinds o)) (table : IsTable k t) (j : ℕ) (start rest : List Act) (s : Spot k t j start rest) → Under s.es es → whose s.es t ≡ o → n ≡ count k s.es
     → (Reached (slots (class_of t)) (places (class_of t)) (tab k s.es t) (walk_of (kind_in k.kinds o) k.texts (class_of t) key) key → ⊥) → (n ≤ count k es) × (under (kept k.kinds (first_writes n (history es)) o).content key ≡ [])
-absent_at k es valid o t key n low keyed table j start rest s below whom is never =
+absent_at k es valid o t key n fits low keyed table j start rest s below whom is never =
     let names = named_by k s.es s.valid o t table s.now whom in
     let sound = keyed_sound (kind_in k.kinds o) keyed k.texts (class_of t) (tab k s.es t) (kept k.kinds (history s.es) o).content (sound_at k s.es s.valid o low t names) in
-    let none : under (kept k.kinds (history s.es) o).content key ≡ [] = ⊎_elim (λ e. e) (λ there. absurd (never (sound.reached key there))) (none_or (under (kept k.kinds (history s.es) o).content key)) in
+    let none : under (kept k.kinds (history s.es) o).content key ≡ [] = ⊎_elim (λ e. e) (λ there. absurd (never (sound.reached key fits there))) (none_or (under (kept k.kinds (history s.es) o).content key)) in
     let c = stamp_then k s.es es s.valid valid below n is in
     (c.0, ap (λ (cs : List Call). under (kept k.kinds cs o).content key) c.1 ∙ none)
 
-module _ (k : Shape) (es : List Event) (valid : Valid k es) (o t : ℕ) (key : Key) (n : ℕ) (low : o < containers_in k) (keyed : IsKeyed (kind_in k.kinds o)) (j : ℕ) (u : View) (at : get_elem? (run k es).views j ≡ some u) (h : Miss u.log o t (walk_of (kind_in k.kinds o) k.texts (class_of t) key) key n) where
+module _ (k : Shape) (es : List Event) (valid : Valid k es) (o t : ℕ) (key : Key) (n : ℕ) (fits : FitsKey key) (low : o < containers_in k) (keyed : IsKeyed (kind_in k.kinds o)) (j : ℕ) (u : View) (at : get_elem? (run k es).views j ≡ some u) (h : Miss u.log o t (walk_of (kind_in k.kinds o) k.texts (class_of t) key) key n) where
   abbrev probe : List ℕ
   probe = walk_of (kind_in k.kinds o) k.texts (class_of t) key
 
@@ -226,9 +226,9 @@ module _ (k : Shape) (es : List Event) (valid : Valid k es) (o t : ℕ) (key : K
 
   -- the miss
   pub miss_at : (n ≤ count k es) × (under (kept k.kinds (first_writes n (history es)) o).content key ≡ [])
-  miss_at = absent_at k es valid o t key n low keyed open_.table j start h.rest loaded.spot (under_trans then_ top.spot.es es loaded.under (under_trans top.spot.es open_.spot.es es top.under open_.under)) whom_then loaded.tells never
+  miss_at = absent_at k es valid o t key n fits low keyed open_.table j start h.rest loaded.spot (under_trans then_ top.spot.es es loaded.under (under_trans top.spot.es open_.spot.es es top.under open_.under)) whom_then loaded.tells never
 
-module _ (k : Shape) (es : List Event) (valid : Valid k es) (o t : ℕ) (key : Key) (n : ℕ) (low : o < containers_in k) (keyed : IsKeyed (kind_in k.kinds o)) (j : ℕ) (u : View) (at : get_elem? (run k es).views j ≡ some u) (h : Full u.log o t (walk_of (kind_in k.kinds o) k.texts (class_of t) key) key n) where
+module _ (k : Shape) (es : List Event) (valid : Valid k es) (o t : ℕ) (key : Key) (n : ℕ) (fits : FitsKey key) (low : o < containers_in k) (keyed : IsKeyed (kind_in k.kinds o)) (j : ℕ) (u : View) (at : get_elem? (run k es).views j ≡ some u) (h : Full u.log o t (walk_of (kind_in k.kinds o) k.texts (class_of t) key) key n) where
   abbrev begin : List Act
   begin = h.window.rest
 
@@ -241,7 +241,7 @@ module _ (k : Shape) (es : List Event) (valid : Valid k es) (o t : ℕ) (key : K
   -- the miss where every slot was used
   pub full_at : (n ≤ count k es) × (under (kept k.kinds (first_writes n (history es)) o).content key ≡ [])
   full_at =
-      absent_at k es valid o t key n low keyed opened_at.table j begin h.rest counted_at.spot (under_trans counted_at.spot.es opened_at.spot.es es counted_at.under opened_at.under) (counted_at.whom ∙ opened_at.whom) counted_at.tells
+      absent_at k es valid o t key n fits low keyed opened_at.table j begin h.rest counted_at.spot (under_trans counted_at.spot.es opened_at.spot.es es counted_at.under opened_at.under) (counted_at.whom ∙ opened_at.whom) counted_at.tells
       (λ r.
       let m = r.met in
       passed_by k o key t j low keyed opened_at.table begin h.rest h.window.before counted_at.spot (counted_at.whom ∙ opened_at.whom) (slice_index (walk_of (kind_in k.kinds o) k.texts (class_of t) key) m.step) (m.inside m.step (le_refl m.step)) (walk_of (kind_in k.kinds o) k.texts (class_of t) key) r m.here (h.visits m.step m.low))

@@ -149,7 +149,7 @@ hits_are_right k es valid o t p key n low keyed small j u at h =
     some_words a b = let z = sym a ∙ b in absurd (cc)
 
 pub misses_are_right : MissesAreRight
-misses_are_right k es valid o t key n low keyed j u at = ⊎_elim (λ h. misses.miss_at k es valid o t key n low keyed j u at h) (λ h. misses.full_at k es valid o t key n low keyed j u at h)
+misses_are_right k es valid o t key n fits low keyed j u at = ⊎_elim (λ h. misses.miss_at k es valid o t key n fits low keyed j u at h) (λ h. misses.full_at k es valid o t key n fits low keyed j u at h)
 
 pub bare_roots_are_right : BareRootsAreRight
 bare_roots_are_right = bare_at

@@ -2,7 +2,7 @@
 -- odd while its entry is being written. (profile)
 use Rattle.std.specs.Prelude.{◌≡◌, ◌≢◌, ◌⊎◌, ℕ, suc, ◌+◌, ◌%◌, ◌<◌, ◌≤◌, List, [], ◌∷◌}
 use Rattle.ft_model.specs.declared.data.Key.{Key}
-use Rattle.ft_layout.specs.Words.{key_kind, gone_kind, key_payload}
+use Rattle.ft_layout.specs.Words.{FitsKey, key_kind, gone_kind, key_payload}
 use Rattle.ft_trace.specs.Words.{index_of, entry_at, entry_of, Met}
 
 -- what a content has under each key, in words: the value's kind and payload, and the serial; nothing where the key is
@@ -31,11 +31,11 @@ pub record Reached (n m : ℕ) (ws walk : List ℕ) (key : Key) : Type 0 where
 
 -- what holds of a table that a root names at every moment, also while its container is written: a live entry with an
 -- even version says what the content has under its key; an index word names an entry with a key; the walk of each key
--- of the content meets its entry
+-- of the content that fits its words meets its entry
 pub record Sound (walk : Key → List ℕ) (n m : ℕ) (ws : List ℕ) (c : Pairs) : Type 0 where
   pub right : (p : ℕ) (key : Key) → p < m → entry_of n ws p 0 % 2 ≡ 0 → IsLive n ws p key → c key ≡ said_of n ws p
   pub named : (s p : ℕ) → s < n → p < m → index_of ws s ≡ suc p → entry_of n ws p 2 ≢ 0
-  pub reached : (key : Key) → c key ≢ [] → Reached n m ws (walk key) key
+  pub reached : (key : Key) → FitsKey key → c key ≢ [] → Reached n m ws (walk key) key
 
 -- word i may become x
 pub record Careful (n m : ℕ) (ws : List ℕ) (c : Pairs) (i x : ℕ) : Type 0 where
@@ -57,10 +57,10 @@ pub record Careful (n m : ℕ) (ws : List ℕ) (c : Pairs) (i x : ℕ) : Type 0 
   pub shuts : (p : ℕ) (key : Key) → p < m → i ≡ entry_at n p 0 → x % 2 ≡ 0 → IsDead n ws p key → c key ≡ []
 
 -- a write may be committed that leaves d of the content c: it changes nothing that an entry with an even version says,
--- and a key that it adds has its entry
+-- and a key that it adds, and that fits its words, has its entry
 pub record Clear (walk : Key → List ℕ) (n m : ℕ) (ws : List ℕ) (c d : Pairs) : Type 0 where
   pub keeps : (p : ℕ) (key : Key) → p < m → entry_of n ws p 0 % 2 ≡ 0 → IsLive n ws p key → d key ≡ c key
-  pub adds : (key : Key) → c key ≡ [] → d key ≢ [] → Reached n m ws (walk key) key
+  pub adds : (key : Key) → FitsKey key → c key ≡ [] → d key ≢ [] → Reached n m ws (walk key) key
 
 -- what stays between two moments in which one root names the table
 pub record Later (n m : ℕ) (ws zs : List ℕ) : Type 0 where

@@ -15,6 +15,7 @@ use Rattle.ft_model.specs.Worlds.{list_of}
 use Rattle.ft_model.specs.Tables.{stored_newest, takes_newest, passes_cap}
 use Rattle.ft_model.specs.Changes.{AreTablesInOrder}
 use Rattle.ft_layout.specs.Starts.{HasWord}
+use Rattle.ft_layout.specs.Words.{FitsKey}
 use Rattle.ft_trace.specs.declared.Act.{Act}
 use Rattle.ft_trace.specs.declared.Snap.{Snap}
 use Rattle.ft_trace.specs.Causes.{FoundEmpty, least_stamp}
@@ -243,10 +244,10 @@ HitsAreRight =
     × ((w f : ℕ) → w < 3 → Among (ReadTable t (entry_at (slots (class_of t)) p (4 + w)) f) h.mid
     → slice_index (under (kept k.kinds (first_writes n (history es)) o).content key) w ≡ f)
 
--- a key is absent at the stamp that was not found on its probe, up to a slot never used or over all its slots
+-- a key that fits its words is absent at the stamp that was not found on its probe, up to a slot never used or over all its slots
 abbrev pub MissesAreRight : Type 0
 MissesAreRight =
-    (k : Shape) (es : List Event) → Valid k es → (o t : ℕ) (key : Key) (n : ℕ) → o < containers_in k
+    (k : Shape) (es : List Event) → Valid k es → (o t : ℕ) (key : Key) (n : ℕ) → FitsKey key → o < containers_in k
     → IsKeyed (kind_in k.kinds o) → (j : ℕ) (u : View) → HasView k es j u
     → Miss u.log o t (walk_of (kind_in k.kinds o) k.texts (class_of t) key) key n
     ⊎ Full u.log o t (walk_of (kind_in k.kinds o) k.texts (class_of t) key) key n

@@ -37,8 +37,8 @@ use Rattle.ft_trace.specs.declared.Snap.{Snap}
 use Rattle.ft_trace.specs.declared.View.{View}
 use Rattle.ft_trace.specs.Addresses.{class_of, slots, places, size}
 use Rattle.ft_trace.specs.Worlds.{Kept, kept, kind_in}
-use Rattle.ft_trace.specs.Words.{root_in, Stands, entry_at, entry_of, walk_of}
-use Rattle.ft_trace.specs.Carefuls.{said_of, IsLive, Clear}
+use Rattle.ft_trace.specs.Words.{Picture, root_in, Stands, index_of, entry_at, entry_of, walk_of}
+use Rattle.ft_trace.specs.Carefuls.{said_of, IsLive, Reached, Clear}
 use Rattle.ft_trace.specs.Kinds.{under, rows, version_at, ClearAs}
 use Rattle.ft_trace.specs.Openings.{Shut}
 use Rattle.ft_trace.specs.Holds.{held, known, AgreesWith}
@@ -50,7 +50,7 @@ use Rattle.ft_trace.proofs.Held.{held_stands}
 use Rattle.ft_trace.proofs.Clearing.{held_shut}
 use Rattle.ft_trace.proofs.Untouched.{as_many}
 use Rattle.ft_trace.proofs.Known.{kind_known, class_known, declared_at, in_bank, table_is_long, after_header, at_any, tables_as_many}
-use Rattle.ft_trace.proofs.Tellings.{live_tells, live_is_right, right_is_live, key_words}
+use Rattle.ft_trace.proofs.Tellings.{live_tells, live_is_right, right_is_live, key_words, key_reached, key_named}
 use Rattle.ft_trace.proofs.EntryPuts.{value_open, value_kind, value_payload, value_clear, value_late, value_shut, value_time}
 use Rattle.ft_trace.proofs.ListWrites.{may_begin}
 use Rattle.ft_trace.proofs.Writing.{write_possible}
@@ -82,7 +82,7 @@ module _ (first : FirstEntriesArePairs) (texts block : List ℕ) (c fill : ℕ) 
   abbrev tried : ℕ → List ℕ
   tried hash = dict_walk hash (class_mask c) (class_mask c + 14)
 
-  room_is : dict_room (class_mask c) ≡ places c
+  pub room_is : dict_room (class_mask c) ≡ places c
   unfolding places
   room_is = (sizes_of_class c is_class).0
 
@@ -97,6 +97,16 @@ module _ (first : FirstEntriesArePairs) (texts block : List ℕ) (c fill : ℕ) 
       let low = r.1 in
       (r.0, omega (arith, f, e, low), r.2)
 
+  within_mask : (hash : ℕ) → All (λ slot. slot ≤ class_mask c) (tried hash)
+  within_mask hash = dict_walk-within hash (class_mask c) (class_mask c + 14)
+
+  pub dict_reached : (key : Key) → FitsKey key → under (content.Dict pairs) key ≢ [] → Reached (slots c) (places c) ws (walk_of kind.Dict texts c key) key
+  unfolding walk_of
+  dict_reached key fits some = key_reached tried (dict_room (class_mask c)) texts c is_class says.used ws says.table within_mask used_pair pairs.pairs (λ test. first says.used pairs test says.entries) (places c) (let r = room_is in omega (arith, r)) key fits some
+
+  pub dict_named : (s p : ℕ) → s < slots c → index_of ws s ≡ suc p → entry_of (slots c) ws p 2 ≢ 0
+  dict_named s p less names = key_named tried (dict_room (class_mask c)) texts c is_class says.used ws says.table within_mask s p less names
+
   -- no more pairs than entries, and so than the largest table has
   pub dict_short : length pairs.pairs ≤ most_pairs
   dict_short =
@@ -106,6 +116,83 @@ module _ (first : FirstEntriesArePairs) (texts block : List ℕ) (c fill : ℕ) 
       let e = (sizes_of_class c is_class).0 in
       let r = (slots_range c is_class).1 in
       omega (arith, a, b, f, e, r)
+
+-- words that stand for what a call leaves, where entries with even versions are as they were while they stood for what
+-- it found
+pub dict_clear : (first : FirstEntriesArePairs) (texts block before : List ℕ) (c fill more : ℕ) (is_class : IsClass c) (pairs news : DictContent) (ws zs : List ℕ) (says : IsDictWords texts before (0 ∷ 0 ∷ ws) (Some c) fill pairs) (now : IsDictWords texts block (0 ∷ 0 ∷ zs) (Some c) more news)
+    → ((q w : ℕ) → q < places c → entry_of (slots c) zs q 0 % 2 ≡ 0 → w < 8 → entry_of (slots c) zs q w ≡ entry_of (slots c) ws q w) → Clear (walk_of kind.Dict texts c) (slots c) (places c) zs (under (content.Dict pairs)) (under (content.Dict news))
+dict_clear first texts block before c fill more is_class pairs news ws zs says now same = record {
+  keeps = λ q key less two l.
+      let w : (i : ℕ) → i < 8 → entry_of (slots c) zs q i ≡ entry_of (slots c) ws q i = λ i few. same q i less two few in
+      let w4 = w 4 (omega arith) in
+      let w5 = w 5 (omega arith) in
+      let w6 = w 6 (omega arith) in
+      let old : IsLive (slots c) ws q key = (sym (w 2 (omega arith)) ∙ l.0, sym (w 3 (omega arith)) ∙ l.1) in
+      let said : said_of (slots c) zs q ≡ said_of (slots c) ws q = λ d. w4 d ∷ w5 d ∷ w6 d ∷ [] in
+      dict_right first texts block c more is_class news zs now q key less l ∙ (said ∙ sym (dict_right first texts before c fill is_class pairs ws says q key less old));
+  adds = λ key fits none some. dict_reached first texts block c more is_class news zs now key fits some;
+}
+
+-- ---- what a pass with the lock of a dict with a table knows of it
+
+module _ (v : View) (o t : ℕ) (pairs : DictContent) (may : MayWrite v o) (is_dict : (known o v).content ≡ content.Dict pairs) (names : root_in (held o v) ≡ suc t) where
+  pub dict_kind : kind.Dict ≡ kind_in v.shape.kinds o
+  dict_kind = sym (sym (kind_known v o may.mine may.possible) ∙ ap kind_of is_dict)
+
+  pub dict_class_is : (known o v).table.class ≡ Some (class_of t)
+  dict_class_is = class_known v.shape.texts (held o v) (known o v) t (held_stands v o may.low may.possible may.mine may.quiet) names
+
+  pub dict_says : IsDictWords v.shape.texts (held o v).block (0 ∷ 0 ∷ (held o v).table) (Some (class_of t)) (known o v).table.fill pairs
+  dict_says =
+      let block = (held o v).block in
+      let words = 0 ∷ 0 ∷ (held o v).table in
+      let fill = (known o v).table.fill in
+      let s = held_stands v o may.low may.possible may.mine may.quiet in
+      let as_dict : IsDictWords v.shape.texts block words (known o v).table.class fill pairs = subst (λ (z : Content). StandsAs v.shape.texts block words (known o v).table z) is_dict s in
+      subst (λ (z : Option ℕ). IsDictWords v.shape.texts block words z fill pairs) dict_class_is as_dict
+
+  pub dict_shut : Shut (λ q. entry_at (slots (class_of t)) q 0) (places (class_of t)) (held o v).table
+  dict_shut = subst (λ (z : Kind). Shut (version_at z (class_of t)) (rows z (class_of t)) (held o v).table) (sym dict_kind) (held_shut v o t may.low may.possible may.mine may.quiet names)
+
+  -- in each history that agrees with what it knows
+  module _ (calls : List Call) (agree : AgreesWith v (stored_newest v.shape.kinds calls)) where
+    abbrev stored : StoredWorld
+    stored = stored_newest v.shape.kinds calls
+
+    pub dict_there : slice_index_or stored.world o (content.List []) ≡ content.Dict pairs
+    dict_there = ap (λ (z : Kept). z.content) (agree o may.low may.mine) ∙ is_dict
+
+    pub dict_in : o < length stored.world
+    dict_in = subst (λ (z : ℕ). o < z) (sym (as_many v.shape.kinds calls)) may.low
+
+    pub dict_in_tables : o < length stored.tables
+    dict_in_tables = subst (λ (z : ℕ). o < z) (sym (tables_as_many v.shape.kinds calls)) may.low
+
+    pub dict_table_is : table_at stored.tables o ≡ (known o v).table
+    dict_table_is = ap (λ (z : Kept). z.table) (agree o may.low may.mine)
+
+    pub dict_found : dict_at stored.world o ≡ pairs
+    dict_found = ap dict_of (at_any stored.world o (content.Dict empty_dict) (content.List []) dict_in ∙ dict_there)
+
+    -- d[k] = v leaves the dict with that value at the key
+    module _ (key : Key) (value : Value) where
+      abbrev news_is : DictContent
+      news_is = dict_set pairs key value
+
+      abbrev set_call : Call
+      set_call = call.Dict o (dict.Set key value)
+
+      pub dict_answered : answer stored.world no_hands set_call ≡ puts stored.world no_hands o (content.Dict news_is) reply.Done
+      dict_answered = ap (λ (z : DictContent). answer_dict stored.world no_hands o z (dict.Set key value)) dict_found
+
+      pub dict_left_at : (d : Content) → slice_index_or (after_write stored.world set_call) o d ≡ content.Dict news_is
+      dict_left_at d = ap (λ (z : Answer). slice_index_or z.world o d) dict_answered ∙ get_or-set_same stored.world o (content.Dict news_is) d dict_in
+
+      pub dict_left : dict_at (after_write stored.world set_call) o ≡ news_is
+      dict_left = ap dict_of (dict_left_at (content.Dict empty_dict))
+
+      pub dict_passes_not : length news_is.pairs ≤ most_pairs → would_pass stored.world set_call ≡ false
+      dict_passes_not short = ap (λ (z : Content). passes_cap z || false) (dict_left_at (content.List [])) ∙ ap (λ (z : Bool). z || false) (le-ltb most_pairs (length news_is.pairs) short)
 
 -- ---- d[k] = v, where the key is there
 
@@ -148,19 +235,16 @@ module _ (versions : EntryVersionsChangeNothing) (follow : WordsFollowAValue) (l
   long = table_is_long v o t names
 
   kind_eq : kind.Dict ≡ kind_in k.kinds o
-  kind_eq = sym (sym (kind_known v o may.mine may.possible) ∙ ap kind_of is_dict)
+  kind_eq = dict_kind v o t pairs may is_dict names
 
   class_eq : (known o v).table.class ≡ Some c
-  class_eq = class_known k.texts (held o v) (known o v) t (held_stands v o may.low may.possible may.mine may.quiet) names
+  class_eq = dict_class_is v o t pairs may is_dict names
 
   says : IsDictWords k.texts b (0 ∷ 0 ∷ ws) (Some c) fill pairs
-  says =
-      let s = held_stands v o may.low may.possible may.mine may.quiet in
-      let as_dict : IsDictWords k.texts b (0 ∷ 0 ∷ ws) (known o v).table.class fill pairs = subst (λ (z : Content). StandsAs k.texts b (0 ∷ 0 ∷ ws) (known o v).table z) is_dict s in
-      subst (λ (z : Option ℕ). IsDictWords k.texts b (0 ∷ 0 ∷ ws) z fill pairs) class_eq as_dict
+  says = dict_says v o t pairs may is_dict names
 
   shut : Shut (λ q. entry_at n q 0) m ws
-  shut = subst (λ (z : Kind). Shut (version_at z c) (rows z c) ws) (sym kind_eq) (held_shut v o t may.low may.possible may.mine may.quiet names)
+  shut = dict_shut v o t pairs may is_dict names
 
   -- the pair that the entry is of
   in_order : IsDict pairs.next pairs.pairs
@@ -265,38 +349,17 @@ module _ (versions : EntryVersionsChangeNothing) (follow : WordsFollowAValue) (l
     abbrev left : List Content
     left = after_write found.world called
 
-    there : slice_index_or found.world o (content.List []) ≡ content.Dict pairs
-    there = ap (λ (z : Kept). z.content) (agree o may.low may.mine) ∙ is_dict
-
-    in_world : o < length found.world
-    in_world = subst (λ (z : ℕ). o < z) (sym (as_many k.kinds calls)) may.low
-
-    in_tables : o < length found.tables
-    in_tables = subst (λ (z : ℕ). o < z) (sym (tables_as_many k.kinds calls)) may.low
-
     abbrev T : TableUse
     T = table_at found.tables o
 
-    table_is : T ≡ (known o v).table
-    table_is = ap (λ (z : Kept). z.table) (agree o may.low may.mine)
-
-    dict_is : dict_at found.world o ≡ pairs
-    dict_is = ap dict_of (at_any found.world o (content.Dict empty_dict) (content.List []) in_world ∙ there)
-
-    answered : answer found.world no_hands called ≡ puts found.world no_hands o (content.Dict news) reply.Done
-    answered = ap (λ (z : DictContent). answer_dict found.world no_hands o z (dict.Set key value)) dict_is
-
-    left_at : (d : Content) → slice_index_or left o d ≡ content.Dict news
-    left_at d = ap (λ (z : Answer). slice_index_or z.world o d) answered ∙ get_or-set_same found.world o (content.Dict news) d in_world
-
     left_is : dict_at left o ≡ news
-    left_is = ap dict_of (left_at (content.Dict empty_dict))
+    left_is = dict_left v o t pairs may is_dict names calls agree key value
 
     -- no serial is drawn, so no table is taken
     none_drawn : (dict_at left o).next - (dict_at found.world o).next ≡ 0
     none_drawn =
         let a : (dict_at left o).next ≡ news.next = ap (λ (z : DictContent). z.next) left_is in
-        let e : (dict_at found.world o).next ≡ pairs.next = ap (λ (z : DictContent). z.next) dict_is in
+        let e : (dict_at found.world o).next ≡ pairs.next = ap (λ (z : DictContent). z.next) (dict_found v o t pairs may is_dict names calls agree) in
         let same = next_is in
         omega (arith, a, e, same)
 
@@ -308,28 +371,25 @@ module _ (versions : EntryVersionsChangeNothing) (follow : WordsFollowAValue) (l
         let drawn = (dict_at left o).next - (dict_at found.world o).next in
         let count = length (dict_at left o).pairs in
         let fill_is : T.fill + drawn ≡ T.fill = let e = none_drawn in omega (arith, e) in
-        get_or-set_same found.tables o (grown_table T (takes_in found called) drawn count) no_table in_tables
+        get_or-set_same found.tables o (grown_table T (takes_in found called) drawn count) no_table (dict_in_tables v o t pairs may is_dict names calls agree)
         ∙ (ap (λ (z : Option ℕ). grown_table T z drawn count) takes_none
-        ∙ ((λ d. record { class = T.class; fill = fill_is d }) ∙ table_is))
+        ∙ ((λ d. record { class = T.class; fill = fill_is d }) ∙ dict_table_is v o t pairs may is_dict names calls agree))
 
     after : kept k.kinds (called ∷ calls) o ≡ record { content = content.Dict news; table = (known o v).table }
-    after = let c1 = left_at (content.List []) in let t1 = table_after in λ d. record { content = c1 d; table = t1 d }
+    after = let c1 = dict_left_at v o t pairs may is_dict names calls agree key value (content.List []) in let t1 = table_after in λ d. record { content = c1 d; table = t1 d }
 
     short : length news.pairs ≤ most_pairs
     short = dict_short first k.texts b c fill class_is news put put_says
 
-    passes_not : would_pass found.world called ≡ false
-    passes_not = ap (λ (z : Content). passes_cap z || false) (left_at (content.List [])) ∙ ap (λ (z : Bool). z || false) (le-ltb most_pairs (length news.pairs) short)
-
     commits : MayCommit v o t write calls
     commits =
-        let content_after = left_at (content.List []) in
+        let content_after = dict_left_at v o t pairs may is_dict names calls agree key value (content.List []) in
         let clear_as : ClearAs (kind_in k.kinds o) k.texts c put (known o v).content (kept k.kinds (called ∷ calls) o).content = subst (λ (z : Kind × Content × Content). ClearAs z.0 k.texts c put z.1 z.2) (λ d. (kind_eq d, sym is_dict d, sym content_after d)) clear in
         let ends_as : Stands k.texts (at_end v o write) (record { content = content.Dict news; table = (known o v).table }) = subst (λ (z : Option ℕ). IsDictWords k.texts b (0 ∷ 0 ∷ (at_end v o write).table) z fill news) (sym class_eq) ends in
         record {
-          replied = inr (sym (ap (λ (z : Answer). z.reply) answered));
-          within = passes_not;
-          declared = record { one = declared_at found.world o (content.Dict pairs) in_world there; both = tt; room = tt };
+          replied = inr (sym (ap (λ (z : Answer). z.reply) (dict_answered v o t pairs may is_dict names calls agree key value)));
+          within = dict_passes_not v o t pairs may is_dict names calls agree key value short;
+          declared = record { one = declared_at found.world o (content.Dict pairs) (dict_in v o t pairs may is_dict names calls agree) (dict_there v o t pairs may is_dict names calls agree); both = tt; room = tt };
           takes = λ class e. absurd (let none = may.none in omega (arith, e, none));
           clear = λ q root. let same : t ≡ q = let r : suc t ≡ suc q = sym names ∙ root in omega (arith, r) in subst (λ (z : ℕ). ClearAs (kind_in k.kinds o) k.texts (class_of z) put (known o v).content (kept k.kinds (called ∷ calls) o).content) same clear_as;
           late = subst (λ (z : Kind × Content). MayPuts z.0 t z.1 true (at_commit v o write) (entry_closed n ws place)) (λ d. (kind_eq d, sym content_after d)) late;

@@ -1,24 +1,25 @@
 -- What the words of a table that stands for a dict or a set say under each key: an entry that is live says what is there,
 -- and what is there has a live entry.
-use Rattle.std.proofs.Common.{◌≡◌, ◌≢◌, ℕ, zero, suc, ◌<◌, Bool, true, false, true≢false, cond, eqb, eq-eqb, eqb-true, List, [], ◌∷◌, length, get_or, find, Option, Some, None, refl, sym, ap, ◌∙◌, subst, arith}
-use Rattle.std.specs.Prelude.{◌&&◌, is_some, slice_get, option_map}
+use Rattle.std.proofs.Common.{◌≤◌, ◌≡◌, ◌≢◌, ℕ, zero, suc, ◌<◌, Bool, true, false, true≢false, cond, eqb, eq-eqb, eqb-true, List, [], ◌∷◌, length, get_or, find, Option, Some, None, refl, sym, ap, ◌∙◌, subst, arith, ◌+◌, inl}
+use Rattle.std.specs.Prelude.{◌&&◌, All, AllPairs, IsTrue, is_some, pos, slice_get, slice_index, slice_index_or, option_map, filter}
 use Rattle.std.specs.Option.{option_map_or}
 use Rattle.std.proofs.Math.Decide.{dec_lt}
 use Rattle.std.proofs.lemmas.Option.{slice_get-get_or, get_or_from_slice_get, slice_get_within}
 use mathlib.Core.Logic.{dite}
 use Rattle.ft_model.specs.declared.data.Key.{Key}
+use Rattle.ft_model.specs.declared.data.Key.TheVariants.{Int}
 use Rattle.ft_model.specs.Classes.{IsClass}
 use Rattle.ft_layout.specs.declared.slot.Stored.{Stored}
 use Rattle.ft_layout.specs.Words.{key_kind, key_payload, FitsKey, stored_kind, stored_payload, IsEntry}
-use Rattle.ft_layout.specs.Tables.{UsedEntry, is_live, hash_of, slot_with, slot_of, entry_word, IsTable}
+use Rattle.ft_layout.specs.Tables.{UsedEntry, is_live, hash_of, slot_with, slot_of, entry_word, Meets, IsTable}
 use Rattle.ft_layout.specs.Tables as layout
 use Rattle.ft_layout.specs.Containers.{class_mask}
 use Rattle.ft_layout.proofs.LiveLaws.{Differ, distinct-used}
 use Rattle.ft_layout.proofs.WordLaws.{gone_is, kind_range, same_key}
 use Rattle.ft_layout.proofs.Powers.{slots_range}
 use Rattle.ft_trace.specs.Addresses.{slots}
-use Rattle.ft_trace.specs.Words.{entry_at, entry_of}
-use Rattle.ft_trace.specs.Carefuls.{said_of, IsLive}
+use Rattle.ft_trace.specs.Words.{index_of, entry_at, entry_of, Met}
+use Rattle.ft_trace.specs.Carefuls.{said_of, IsLive, Reached}
 use Rattle.ft_trace.specs.Kinds.{is_key}
 use Rattle.ft_trace.proofs.Known.{past_header}
 
@@ -174,3 +175,63 @@ module _ (walk : ℕ → List ℕ) (room : ℕ) (texts : List ℕ) (c : ℕ) (is
             let at = found_at test used entry e in
             let both = both_true (is_live entry) (is_key entry.key key) at.2 in
             (at.0, slice_get_within used at.0 entry at.1, (used_tells at.0 entry key at.1 both.0 both.1).1)
+
+-- ---- where the walk of a key meets its entry
+
+module _ (walk : ℕ → List ℕ) (room : ℕ) (texts : List ℕ) (c : ℕ) (is_class : IsClass c) (used : List UsedEntry) (ws : List ℕ) (table : IsTable walk room texts (class_mask c) used (0 ∷ 0 ∷ ws)) (within : (hash : ℕ) → All (λ slot. slot ≤ class_mask c) (walk hash)) where
+  index_is : (slot : ℕ) → layout.index_word (0 ∷ 0 ∷ ws) slot ≡ index_of ws slot
+  index_is slot = past_header ws (slot + 2) slot refl
+
+  in_slots : (hash j : ℕ) → j < length (walk hash) → slice_index (walk hash) j < slots c
+  unfolding slots
+  in_slots hash j low = let r = (slots_range c is_class).0 in let h = within hash j 0 low in omega (arith, r, h)
+
+  pub key_met : (p : ℕ) (entry : UsedEntry) (key : Key) → slice_get used p ≡ Some entry → entry.key ≡ key → Met (slots c) ws (walk (hash_of texts key)) (suc p)
+  key_met p entry key at same =
+      let low = slice_get_within used p entry at in
+      let is : (get_or used p entry).key ≡ key = ap (λ (e : UsedEntry). e.key) (get_or_from_slice_get used p entry entry at) ∙ same in
+      let m = subst (λ (k : Key). Meets (0 ∷ 0 ∷ ws) (walk (hash_of texts k)) p) is (table.met p entry low) in
+      let slot = slice_index (walk (hash_of texts key)) m.step in
+      let here = m.here in
+      record {
+        step = m.step;
+        low = m.low;
+        inside = λ j less. let l = m.low in in_slots (hash_of texts key) j (omega (arith, less, l));
+        here = sym (index_is slot) ∙ (here ∙ omega arith);
+        before = λ j less. λ e. m.before j less (index_is (slice_index (walk (hash_of texts key)) j) ∙ e);
+      }
+
+  -- an index word names an entry that has a key
+  pub key_named : (s p : ℕ) → s < slots c → index_of ws s ≡ suc p → entry_of (slots c) ws p 2 ≢ 0
+  unfolding slots
+  key_named s p less names =
+      let r = (slots_range c is_class).0 in
+      let n = table.names s (omega (arith, less, r)) in
+      let i = index_is s in
+      let low : p < length used = omega (arith, n, i, names) in
+      let any : UsedEntry = record { key = Int (pos 0); serial = 0; stored = None } in
+      let e = get_or used p any in
+      let k = by (entry_word (class_mask c) (0 ∷ 0 ∷ ws) p) (hash_of texts e.key) e.key e.serial e.stored (table.entries p any low) in
+      let w = word_is walk room texts c is_class used ws table p 2 in
+      λ z. absurd (omega (arith, k, w, z))
+    where
+      by : (word : ℕ → ℕ) (hash : ℕ) (mine : Key) (serial : ℕ) (stored : Option Stored) → IsEntry word (slot_with hash mine serial stored) → 1 ≤ word 2
+      by word hash mine serial (Some s) is = let k = is.key.kind_is in let r = (kind_range mine).0 in omega (arith, k, r)
+      by word hash mine serial None is = let k = is.key_is.kind_is in let r = (kind_range mine).0 in let g = gone_is mine in omega (arith, k, r, g)
+
+  -- what there is under a key that fits its words has an entry that the key's walk meets
+  pub key_reached : {Y : Type 0} (of : Y → UsedEntry) (ys : List Y) (first : (test : UsedEntry → Bool) → find (λ entry. is_live entry && test entry) used ≡ option_map of (find (λ y. test (of y)) ys)) (m : ℕ) → room ≤ m → (key : Key) → FitsKey key → there_under walk room texts c is_class used ws table of ys first key ≢ []
+      → Reached (slots c) m ws (walk (hash_of texts key)) key
+  key_reached of ys first m up key fits some =
+      let l = right_is_live walk room texts c is_class used ws table of ys first key some in
+      let f = table.fill in
+      let low = l.1 in
+      let t = live_tells walk room texts c is_class used ws table l.0 key (omega (arith, low, f)) l.2 in
+      let w = key_words t.entry.key key t.mine in
+      record {
+        place = l.0;
+        low = omega (arith, low, f, up);
+        mine = inl l.2;
+        met = key_met l.0 t.entry key t.at (same_key t.entry.key key t.fits fits w.0 w.1);
+        alive = inl l.2.0;
+      }

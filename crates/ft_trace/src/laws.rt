@@ -4,6 +4,7 @@ ghost use Rattle.ft_trace.specs.Writes.{WritesMayBeMade};
 ghost use Rattle.ft_trace.specs.ItemWrites.{ItemsMayBePut, ItemsMayBeAppended};
 ghost use Rattle.ft_trace.specs.Replies.{RepliesMayBeGiven, MemoryErrorsMayBeAnswered};
 ghost use Rattle.ft_trace.specs.EntryWrites.{ValuesMayBePut};
+ghost use Rattle.ft_trace.specs.KeyWrites.{KeysMayBeAdded};
 ghost use Rattle.ft_trace.specs.Laws.{StoredTablesAreInOrder, WordsLieApart, PairsAreUnderTheirKeys, ElementsAreUnderTheirKeys, OnePassIsAlone, StampsRise, MemoryErrorsAreEarned, LocksNameHolders, VersionsAreOddInWrites, EvenTablesAreShut, NumbersAreOnce, EntriesAreRight, OneHasAllEntries, EvenWordsStand, ZeroRootsHaveNothing, HoldersKnow, TablesAreSomewhere, TablesAreInOnePlace, CountsStand, TablesAreOwed, EmptyClassesAreEarned, AnnouncedNumbersAreLow, FoundTablesAreKept, GivenUpTablesRest, TablesAreSound, TableWordsStay, HitsAreRight, MissesAreRight, BareRootsAreRight, ItemsAreRight, ListsFitTheirTables, LooksAreRight, ChangedRootsAreNew, NumbersHaveRoom};
 
 use ft_layout::{
@@ -191,6 +192,14 @@ pub fn values_may_be_put()
     versions_change_nothing();
     used_entries_follow_a_dict();
     words_follow_a_dict();
+}
+
+/// A pass with the lock of a dict whose table has room may add a key.
+pub fn keys_may_be_added()
+    ensures { KeysMayBeAdded }
+{
+    versions_change_nothing();
+    used_entries_follow_a_dict();
 }
 
 /// A reply may be given that is the plain containers' in each history that agrees with what the pass knows.

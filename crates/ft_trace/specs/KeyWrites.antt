@@ -1,0 +1,67 @@
+-- A call that adds a key to a dict whose table has room, as a whole write. (profile)
+use Rattle.std.specs.Prelude.{◌≡◌, ℕ, suc, ◌+◌, ◌<◌, false, List, [], ◌∷◌, ◌++◌, length, Some, None}
+use Rattle.ft_model.specs.declared.call.Call.TheVariants as call
+use Rattle.ft_model.specs.declared.call.DictCall.TheVariants as dict
+use Rattle.ft_model.specs.declared.content.Content.TheVariants as content
+use Rattle.ft_model.specs.declared.data.Key.{Key}
+use Rattle.ft_model.specs.declared.data.Value.{Value}
+use Rattle.ft_model.specs.declared.reply.Reply.TheVariants as reply
+use Rattle.ft_model.specs.Contents.{DictContent, has_key, dict_set}
+use Rattle.ft_layout.specs.declared.slot.Stored.TheVariants.{Plain}
+use Rattle.ft_layout.specs.Words.{key_kind, key_payload, stored_kind, stored_payload}
+use Rattle.ft_layout.specs.Tables.{hash_of}
+use Rattle.ft_layout.specs.Containers.{IsDictWords}
+use Rattle.ft_trace.specs.declared.Snap.{Snap}
+use Rattle.ft_trace.specs.declared.View.{View}
+use Rattle.ft_trace.specs.Addresses.{class_of, slots, places}
+use Rattle.ft_trace.specs.Words.{index_of, entry_at, entry_of, root_in}
+use Rattle.ft_trace.specs.Holds.{held, known}
+use Rattle.ft_trace.specs.Traces.{Possible}
+use Rattle.ft_trace.specs.Grants.{MayWrite}
+use Rattle.ft_trace.specs.Writes.{Put, to_block, to_table, Write, at_commit, after_write_of}
+use Rattle.ft_trace.specs.EntryWrites.{entry_closed}
+
+-- the words of a new entry: its version is made odd, its kind is put last, and then the index slot that names it; n says
+-- how many index slots there are
+abbrev pub key_puts : ℕ → List ℕ → ℕ → ℕ → ℕ → Key → Value → ℕ → List Put
+key_puts n words place slot hash key value serial =
+    to_table (entry_at n place 0) (entry_of n words place 0 + 1)
+    ∷ to_table (entry_at n place 1) hash
+    ∷ to_table (entry_at n place 3) (key_payload key)
+    ∷ to_table (entry_at n place 4) (stored_kind (Plain value))
+    ∷ to_table (entry_at n place 5) (stored_payload (Plain value))
+    ∷ to_table (entry_at n place 6) serial
+    ∷ to_table (entry_at n place 2) (key_kind key)
+    ∷ to_table slot (place + 1)
+    ∷ []
+
+-- how many pairs there are, how many entries are used, and the next serial
+abbrev pub count_puts : ℕ → ℕ → ℕ → List Put
+count_puts count fill next = to_block 1 count ∷ to_block 2 fill ∷ to_block 3 next ∷ []
+
+-- d[k] = v for a key that isn't there: its entry is the next that was never used
+abbrev pub dict_add_write : View → ℕ → ℕ → ℕ → Key → Value → DictContent → Write
+dict_add_write v o t slot key value pairs =
+    record {
+      root = None;
+      early = count_puts (length pairs.pairs + 1) ((known o v).table.fill + 1) (pairs.next + 1)
+          ++ key_puts (slots (class_of t)) (held o v).table (known o v).table.fill slot
+          (hash_of v.shape.texts key) key value pairs.next;
+      call = call.Dict o (dict.Set key value);
+      reply = reply.Done;
+      late = entry_closed (slots (class_of t)) (held o v).table (known o v).table.fill;
+    }
+
+-- A pass with the lock of a dict whose table has room may add a key, whatever other passes have done, where the index
+-- slot was never used and the words that it puts stand for the dict with that key.
+abbrev pub KeysMayBeAdded : Type 0
+KeysMayBeAdded =
+    (v : View) (o t slot : ℕ) (key : Key) (value : Value) (pairs : DictContent) → MayWrite v o
+    → (known o v).content ≡ content.Dict pairs → root_in (held o v) ≡ suc t
+    → (known o v).table.fill < places (class_of t) → slot < slots (class_of t) → index_of (held o v).table slot ≡ 0
+    → has_key pairs.pairs key ≡ false
+    → IsDictWords v.shape.texts (at_commit v o (dict_add_write v o t slot key value pairs)).block
+    (0 ∷ 0 ∷ (at_commit v o (dict_add_write v o t slot key value pairs)).table) (Some (class_of t))
+    ((known o v).table.fill + 1) (dict_set pairs key value)
+    → (start number : ℕ) × (s : Snap) × (stop : ℕ)
+    × Possible (after_write_of v o t (dict_add_write v o t slot key value pairs) start number s stop)

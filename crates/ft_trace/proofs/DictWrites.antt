@@ -35,7 +35,8 @@ use Rattle.ft_layout.proofs.WordLaws.{same_key}
 use Rattle.ft_trace.specs.declared.Shape.{Shape}
 use Rattle.ft_trace.specs.declared.Snap.{Snap}
 use Rattle.ft_trace.specs.declared.View.{View}
-use Rattle.ft_trace.specs.Addresses.{class_of, slots, places, size}
+use Rattle.ft_trace.specs.Addresses.{containers_in, class_of, slots, places, size}
+use Rattle.ft_trace.specs.Acts.{has_lock}
 use Rattle.ft_trace.specs.Worlds.{Kept, kept, kind_in}
 use Rattle.ft_trace.specs.Words.{Picture, root_in, Stands, index_of, entry_at, entry_of, walk_of}
 use Rattle.ft_trace.specs.Carefuls.{said_of, IsLive, Reached, Clear}
@@ -154,45 +155,45 @@ module _ (v : View) (o t : ℕ) (pairs : DictContent) (may : MayWrite v o) (is_d
   pub dict_shut : Shut (λ q. entry_at (slots (class_of t)) q 0) (places (class_of t)) (held o v).table
   dict_shut = subst (λ (z : Kind). Shut (version_at z (class_of t)) (rows z (class_of t)) (held o v).table) (sym dict_kind) (held_shut v o t may.low may.possible may.mine may.quiet names)
 
-  -- in each history that agrees with what it knows
-  module _ (calls : List Call) (agree : AgreesWith v (stored_newest v.shape.kinds calls)) where
-    abbrev stored : StoredWorld
-    stored = stored_newest v.shape.kinds calls
+-- in each history that agrees with what it knows
+module _ (v : View) (o : ℕ) (pairs : DictContent) (low : o < containers_in v.shape) (mine : has_lock o v.log ≡ true) (is_dict : (known o v).content ≡ content.Dict pairs) (calls : List Call) (agree : AgreesWith v (stored_newest v.shape.kinds calls)) where
+  abbrev stored : StoredWorld
+  stored = stored_newest v.shape.kinds calls
 
-    pub dict_there : slice_index_or stored.world o (content.List []) ≡ content.Dict pairs
-    dict_there = ap (λ (z : Kept). z.content) (agree o may.low may.mine) ∙ is_dict
+  pub dict_there : slice_index_or stored.world o (content.List []) ≡ content.Dict pairs
+  dict_there = ap (λ (z : Kept). z.content) (agree o low mine) ∙ is_dict
 
-    pub dict_in : o < length stored.world
-    dict_in = subst (λ (z : ℕ). o < z) (sym (as_many v.shape.kinds calls)) may.low
+  pub dict_in : o < length stored.world
+  dict_in = subst (λ (z : ℕ). o < z) (sym (as_many v.shape.kinds calls)) low
 
-    pub dict_in_tables : o < length stored.tables
-    dict_in_tables = subst (λ (z : ℕ). o < z) (sym (tables_as_many v.shape.kinds calls)) may.low
+  pub dict_in_tables : o < length stored.tables
+  dict_in_tables = subst (λ (z : ℕ). o < z) (sym (tables_as_many v.shape.kinds calls)) low
 
-    pub dict_table_is : table_at stored.tables o ≡ (known o v).table
-    dict_table_is = ap (λ (z : Kept). z.table) (agree o may.low may.mine)
+  pub dict_table_is : table_at stored.tables o ≡ (known o v).table
+  dict_table_is = ap (λ (z : Kept). z.table) (agree o low mine)
 
-    pub dict_found : dict_at stored.world o ≡ pairs
-    dict_found = ap dict_of (at_any stored.world o (content.Dict empty_dict) (content.List []) dict_in ∙ dict_there)
+  pub dict_found : dict_at stored.world o ≡ pairs
+  dict_found = ap dict_of (at_any stored.world o (content.Dict empty_dict) (content.List []) dict_in ∙ dict_there)
 
-    -- d[k] = v leaves the dict with that value at the key
-    module _ (key : Key) (value : Value) where
-      abbrev news_is : DictContent
-      news_is = dict_set pairs key value
+  -- d[k] = v leaves the dict with that value at the key
+  module _ (key : Key) (value : Value) where
+    abbrev news_is : DictContent
+    news_is = dict_set pairs key value
 
-      abbrev set_call : Call
-      set_call = call.Dict o (dict.Set key value)
+    abbrev set_call : Call
+    set_call = call.Dict o (dict.Set key value)
 
-      pub dict_answered : answer stored.world no_hands set_call ≡ puts stored.world no_hands o (content.Dict news_is) reply.Done
-      dict_answered = ap (λ (z : DictContent). answer_dict stored.world no_hands o z (dict.Set key value)) dict_found
+    pub dict_answered : answer stored.world no_hands set_call ≡ puts stored.world no_hands o (content.Dict news_is) reply.Done
+    dict_answered = ap (λ (z : DictContent). answer_dict stored.world no_hands o z (dict.Set key value)) dict_found
 
-      pub dict_left_at : (d : Content) → slice_index_or (after_write stored.world set_call) o d ≡ content.Dict news_is
-      dict_left_at d = ap (λ (z : Answer). slice_index_or z.world o d) dict_answered ∙ get_or-set_same stored.world o (content.Dict news_is) d dict_in
+    pub dict_left_at : (d : Content) → slice_index_or (after_write stored.world set_call) o d ≡ content.Dict news_is
+    dict_left_at d = ap (λ (z : Answer). slice_index_or z.world o d) dict_answered ∙ get_or-set_same stored.world o (content.Dict news_is) d dict_in
 
-      pub dict_left : dict_at (after_write stored.world set_call) o ≡ news_is
-      dict_left = ap dict_of (dict_left_at (content.Dict empty_dict))
+    pub dict_left : dict_at (after_write stored.world set_call) o ≡ news_is
+    dict_left = ap dict_of (dict_left_at (content.Dict empty_dict))
 
-      pub dict_passes_not : length news_is.pairs ≤ most_pairs → would_pass stored.world set_call ≡ false
-      dict_passes_not short = ap (λ (z : Content). passes_cap z || false) (dict_left_at (content.List [])) ∙ ap (λ (z : Bool). z || false) (le-ltb most_pairs (length news_is.pairs) short)
+    pub dict_passes_not : length news_is.pairs ≤ most_pairs → would_pass stored.world set_call ≡ false
+    dict_passes_not short = ap (λ (z : Content). passes_cap z || false) (dict_left_at (content.List [])) ∙ ap (λ (z : Bool). z || false) (le-ltb most_pairs (length news_is.pairs) short)
 
 -- ---- d[k] = v, where the key is there
 
@@ -353,13 +354,13 @@ module _ (versions : EntryVersionsChangeNothing) (follow : WordsFollowAValue) (l
     T = table_at found.tables o
 
     left_is : dict_at left o ≡ news
-    left_is = dict_left v o t pairs may is_dict names calls agree key value
+    left_is = dict_left v o pairs may.low may.mine is_dict calls agree key value
 
     -- no serial is drawn, so no table is taken
     none_drawn : (dict_at left o).next - (dict_at found.world o).next ≡ 0
     none_drawn =
         let a : (dict_at left o).next ≡ news.next = ap (λ (z : DictContent). z.next) left_is in
-        let e : (dict_at found.world o).next ≡ pairs.next = ap (λ (z : DictContent). z.next) (dict_found v o t pairs may is_dict names calls agree) in
+        let e : (dict_at found.world o).next ≡ pairs.next = ap (λ (z : DictContent). z.next) (dict_found v o pairs may.low may.mine is_dict calls agree) in
         let same = next_is in
         omega (arith, a, e, same)
 
@@ -371,25 +372,25 @@ module _ (versions : EntryVersionsChangeNothing) (follow : WordsFollowAValue) (l
         let drawn = (dict_at left o).next - (dict_at found.world o).next in
         let count = length (dict_at left o).pairs in
         let fill_is : T.fill + drawn ≡ T.fill = let e = none_drawn in omega (arith, e) in
-        get_or-set_same found.tables o (grown_table T (takes_in found called) drawn count) no_table (dict_in_tables v o t pairs may is_dict names calls agree)
+        get_or-set_same found.tables o (grown_table T (takes_in found called) drawn count) no_table (dict_in_tables v o pairs may.low may.mine is_dict calls agree)
         ∙ (ap (λ (z : Option ℕ). grown_table T z drawn count) takes_none
-        ∙ ((λ d. record { class = T.class; fill = fill_is d }) ∙ dict_table_is v o t pairs may is_dict names calls agree))
+        ∙ ((λ d. record { class = T.class; fill = fill_is d }) ∙ dict_table_is v o pairs may.low may.mine is_dict calls agree))
 
     after : kept k.kinds (called ∷ calls) o ≡ record { content = content.Dict news; table = (known o v).table }
-    after = let c1 = dict_left_at v o t pairs may is_dict names calls agree key value (content.List []) in let t1 = table_after in λ d. record { content = c1 d; table = t1 d }
+    after = let c1 = dict_left_at v o pairs may.low may.mine is_dict calls agree key value (content.List []) in let t1 = table_after in λ d. record { content = c1 d; table = t1 d }
 
     short : length news.pairs ≤ most_pairs
     short = dict_short first k.texts b c fill class_is news put put_says
 
     commits : MayCommit v o t write calls
     commits =
-        let content_after = dict_left_at v o t pairs may is_dict names calls agree key value (content.List []) in
+        let content_after = dict_left_at v o pairs may.low may.mine is_dict calls agree key value (content.List []) in
         let clear_as : ClearAs (kind_in k.kinds o) k.texts c put (known o v).content (kept k.kinds (called ∷ calls) o).content = subst (λ (z : Kind × Content × Content). ClearAs z.0 k.texts c put z.1 z.2) (λ d. (kind_eq d, sym is_dict d, sym content_after d)) clear in
         let ends_as : Stands k.texts (at_end v o write) (record { content = content.Dict news; table = (known o v).table }) = subst (λ (z : Option ℕ). IsDictWords k.texts b (0 ∷ 0 ∷ (at_end v o write).table) z fill news) (sym class_eq) ends in
         record {
-          replied = inr (sym (ap (λ (z : Answer). z.reply) (dict_answered v o t pairs may is_dict names calls agree key value)));
-          within = dict_passes_not v o t pairs may is_dict names calls agree key value short;
-          declared = record { one = declared_at found.world o (content.Dict pairs) (dict_in v o t pairs may is_dict names calls agree) (dict_there v o t pairs may is_dict names calls agree); both = tt; room = tt };
+          replied = inr (sym (ap (λ (z : Answer). z.reply) (dict_answered v o pairs may.low may.mine is_dict calls agree key value)));
+          within = dict_passes_not v o pairs may.low may.mine is_dict calls agree key value short;
+          declared = record { one = declared_at found.world o (content.Dict pairs) (dict_in v o pairs may.low may.mine is_dict calls agree) (dict_there v o pairs may.low may.mine is_dict calls agree); both = tt; room = tt };
           takes = λ class e. absurd (let none = may.none in omega (arith, e, none));
           clear = λ q root. let same : t ≡ q = let r : suc t ≡ suc q = sym names ∙ root in omega (arith, r) in subst (λ (z : ℕ). ClearAs (kind_in k.kinds o) k.texts (class_of z) put (known o v).content (kept k.kinds (called ∷ calls) o).content) same clear_as;
           late = subst (λ (z : Kind × Content). MayPuts z.0 t z.1 true (at_commit v o write) (entry_closed n ws place)) (λ d. (kind_eq d, sym content_after d)) late;

@@ -216,15 +216,15 @@ module _ (versions : EntryVersionsChangeNothing) (first : FirstEntriesArePairs) 
     -- one serial is drawn, and the table has room for it
     one_drawn : (dict_at left o).next - (dict_at found.world o).next ≡ 1
     one_drawn =
-        let a : (dict_at left o).next ≡ news.next = ap (λ (z : DictContent). z.next) (dict_left v o t pairs may is_dict names calls agree key value) in
-        let e : (dict_at found.world o).next ≡ pairs.next = ap (λ (z : DictContent). z.next) (dict_found v o t pairs may is_dict names calls agree) in
+        let a : (dict_at left o).next ≡ news.next = ap (λ (z : DictContent). z.next) (dict_left v o pairs may.low may.mine is_dict calls agree key value) in
+        let e : (dict_at found.world o).next ≡ pairs.next = ap (λ (z : DictContent). z.next) (dict_found v o pairs may.low may.mine is_dict calls agree) in
         let s = next_is in
         omega (arith, a, e, s)
 
     not_outgrown : outgrows_dict T ((dict_at left o).next - (dict_at found.world o).next) ≡ false
     unfolding places
     not_outgrown =
-        let table_is = dict_table_is v o t pairs may is_dict names calls agree in
+        let table_is = dict_table_is v o pairs may.low may.mine is_dict calls agree in
         let class_here : T.class ≡ Some c = ap (λ (z : TableUse). z.class) table_is ∙ class_eq in
         let fill_here : T.fill ≡ p = ap (λ (z : TableUse). z.fill) table_is in
         let drawn = one_drawn in
@@ -238,24 +238,24 @@ module _ (versions : EntryVersionsChangeNothing) (first : FirstEntriesArePairs) 
     table_after =
         let drawn = (dict_at left o).next - (dict_at found.world o).next in
         let count = length (dict_at left o).pairs in
-        let table_is = dict_table_is v o t pairs may is_dict names calls agree in
+        let table_is = dict_table_is v o pairs may.low may.mine is_dict calls agree in
         let one = one_drawn in
-        get_or-set_same found.tables o (grown_table T (takes_in found called) drawn count) no_table (dict_in_tables v o t pairs may is_dict names calls agree)
+        get_or-set_same found.tables o (grown_table T (takes_in found called) drawn count) no_table (dict_in_tables v o pairs may.low may.mine is_dict calls agree)
         ∙ (ap (λ (z : Option ℕ). grown_table T z drawn count) takes_none
         ∙ (λ d. record { class = (table_is d).class; fill = (table_is d).fill + one d }))
 
     after : kept k.kinds (called ∷ calls) o ≡ record { content = content.Dict news; table = record { class = (known o v).table.class; fill = p + 1 } }
-    after = let c1 = dict_left_at v o t pairs may is_dict names calls agree key value (content.List []) in let t1 = table_after in λ d. record { content = c1 d; table = t1 d }
+    after = let c1 = dict_left_at v o pairs may.low may.mine is_dict calls agree key value (content.List []) in let t1 = table_after in λ d. record { content = c1 d; table = t1 d }
 
     commits : MayCommit v o t write calls
     commits =
-        let content_after = dict_left_at v o t pairs may is_dict names calls agree key value (content.List []) in
+        let content_after = dict_left_at v o pairs may.low may.mine is_dict calls agree key value (content.List []) in
         let clear_as : ClearAs (kind_in k.kinds o) k.texts c put (known o v).content (kept k.kinds (called ∷ calls) o).content = subst (λ (z : Kind × Content × Content). ClearAs z.0 k.texts c put z.1 z.2) (λ d. (kind_eq d, sym is_dict d, sym content_after d)) clear in
         let ends_as : Stands k.texts (at_end v o write) (record { content = content.Dict news; table = record { class = (known o v).table.class; fill = p + 1 } }) = subst (λ (z : Option ℕ). IsDictWords k.texts block (0 ∷ 0 ∷ (at_end v o write).table) z (p + 1) news) (sym class_eq) ends in
         record {
-          replied = inr (sym (ap (λ (z : Answer). z.reply) (dict_answered v o t pairs may is_dict names calls agree key value)));
-          within = dict_passes_not v o t pairs may is_dict names calls agree key value (dict_short first k.texts block c (p + 1) class_is news put now);
-          declared = record { one = declared_at found.world o (content.Dict pairs) (dict_in v o t pairs may is_dict names calls agree) (dict_there v o t pairs may is_dict names calls agree); both = tt; room = tt };
+          replied = inr (sym (ap (λ (z : Answer). z.reply) (dict_answered v o pairs may.low may.mine is_dict calls agree key value)));
+          within = dict_passes_not v o pairs may.low may.mine is_dict calls agree key value (dict_short first k.texts block c (p + 1) class_is news put now);
+          declared = record { one = declared_at found.world o (content.Dict pairs) (dict_in v o pairs may.low may.mine is_dict calls agree) (dict_there v o pairs may.low may.mine is_dict calls agree); both = tt; room = tt };
           takes = λ class e. absurd (let none = may.none in omega (arith, e, none));
           clear = λ q root. let same : t ≡ q = let r : suc t ≡ suc q = sym names_now ∙ root in omega (arith, r) in subst (λ (z : ℕ). ClearAs (kind_in k.kinds o) k.texts (class_of z) put (known o v).content (kept k.kinds (called ∷ calls) o).content) same clear_as;
           late = subst (λ (z : Kind × Content). MayPuts z.0 t z.1 true (at_commit v o write) (entry_closed n ws p)) (λ d. (kind_eq d, sym content_after d)) late;

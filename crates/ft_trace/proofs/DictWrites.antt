@@ -38,7 +38,7 @@ use Rattle.ft_trace.specs.declared.View.{View}
 use Rattle.ft_trace.specs.Addresses.{containers_in, class_of, slots, places, size}
 use Rattle.ft_trace.specs.Acts.{has_lock}
 use Rattle.ft_trace.specs.Worlds.{Kept, kept, kind_in}
-use Rattle.ft_trace.specs.Words.{Picture, root_in, Stands, index_of, entry_at, entry_of, walk_of}
+use Rattle.ft_trace.specs.Words.{root_in, Stands, index_of, entry_at, entry_of, walk_of}
 use Rattle.ft_trace.specs.Carefuls.{said_of, IsLive, Reached, Clear}
 use Rattle.ft_trace.specs.Kinds.{under, rows, version_at, ClearAs}
 use Rattle.ft_trace.specs.Openings.{Shut}

@@ -1,20 +1,18 @@
 -- That a key may be added to a dict by a pass that has its lock, where the table has room, as a whole write.
-use Rattle.std.proofs.Common.{◌≡◌, ◌≢◌, ℕ, zero, suc, ◌+◌, ◌-◌, ◌*◌, ◌%◌, ◌<◌, ◌≤◌, Bool, true, false, List, [], ◌∷◌, ◌++◌, length, find, Option, Some, None, refl, sym, ap, ◌∙◌, subst, inr, arith, get_or-set_same, get_or-set_other}
-use Rattle.std.specs.Prelude.{◌&&◌, All, nat_lt, slice_index, slice_index_or, slice_set, if◌then◌else◌}
-use Rattle.std.specs.Option.{option_map_or}
+use Rattle.std.proofs.Common.{◌≡◌, ℕ, suc, ◌+◌, ◌-◌, ◌*◌, ◌%◌, ◌<◌, ◌≤◌, Bool, true, false, List, [], ◌∷◌, ◌++◌, length, Option, Some, None, refl, sym, ap, ◌∙◌, subst, inr, arith, get_or-set_same, get_or-set_other}
+use Rattle.std.specs.Prelude.{◌&&◌, All, nat_lt, slice_index, slice_set, if◌then◌else◌}
 use Rattle.std.proofs.lemmas.Bool.{le-ltb}
 use Rattle.ft_model.specs.declared.call.Call.{Call}
 use Rattle.ft_model.specs.declared.call.Call.TheVariants as call
 use Rattle.ft_model.specs.declared.call.DictCall.TheVariants as dict
 use Rattle.ft_model.specs.declared.content.Content.{Content}
 use Rattle.ft_model.specs.declared.content.Content.TheVariants as content
-use Rattle.ft_model.specs.declared.content.DictPair.{DictPair}
 use Rattle.ft_model.specs.declared.data.Key.{Key}
 use Rattle.ft_model.specs.declared.data.Value.{Value}
 use Rattle.ft_model.specs.declared.script.Kind.{Kind}
 use Rattle.ft_model.specs.declared.script.Kind.TheVariants as kind
 use Rattle.ft_model.specs.Answers.{Answer, after_write}
-use Rattle.ft_model.specs.Classes.{IsClass, dict_entries, dict_class, most_pairs}
+use Rattle.ft_model.specs.Classes.{IsClass, dict_entries, dict_class}
 use Rattle.ft_model.specs.Contents.{DictContent, has_key, dict_set, with_value}
 use Rattle.ft_model.specs.Worlds.{dict_at}
 use Rattle.ft_model.specs.Tables.{TableUse, StoredWorld, no_table, stored_newest, takes_in, table_at, outgrows_dict, grown_table, after_stored}
@@ -25,13 +23,12 @@ use Rattle.ft_layout.specs.Words.{key_kind, key_payload, stored_kind, stored_pay
 use Rattle.ft_layout.specs.Tables.{UsedEntry, hash_of, dict_room, IsDictTable}
 use Rattle.ft_layout.specs.Tables as layout
 use Rattle.ft_layout.specs.Containers.{class_mask, IsDictWords}
-use Rattle.ft_layout.proofs.FieldLaws.{sizes_of_class}
 use Rattle.ft_layout.proofs.Powers.{slots_range}
 use Rattle.ft_trace.specs.declared.Shape.{Shape}
 use Rattle.ft_trace.specs.declared.Snap.{Snap}
 use Rattle.ft_trace.specs.declared.View.{View}
 use Rattle.ft_trace.specs.Addresses.{class_of, slots, places, size}
-use Rattle.ft_trace.specs.Worlds.{Kept, kept, kind_in}
+use Rattle.ft_trace.specs.Worlds.{kept, kind_in}
 use Rattle.ft_trace.specs.Words.{root_in, Stands, index_of, entry_at, entry_of, walk_of}
 use Rattle.ft_trace.specs.Carefuls.{Careful, Clear}
 use Rattle.ft_trace.specs.Kinds.{under, rows, version_at, ClearAs}
@@ -39,10 +36,10 @@ use Rattle.ft_trace.specs.Openings.{Shut, Timely}
 use Rattle.ft_trace.specs.Holds.{held, known, AgreesWith}
 use Rattle.ft_trace.specs.Traces.{Possible}
 use Rattle.ft_trace.specs.Grants.{MayWrite}
-use Rattle.ft_trace.specs.Writes.{Put, to_block, to_table, with_put, MayPut, MayPuts, Write, at_commit, at_end, after_write_of, MayCommit, MayWriteSo}
+use Rattle.ft_trace.specs.Writes.{to_block, to_table, MayPut, MayPuts, Write, at_commit, at_end, after_write_of, MayCommit, MayWriteSo}
 use Rattle.ft_trace.specs.EntryWrites.{entry_closed}
 use Rattle.ft_trace.specs.KeyWrites.{key_puts, count_puts, dict_add_write, KeysMayBeAdded}
-use Rattle.ft_trace.proofs.Known.{declared_at, in_bank, table_is_long, after_header, past_header}
+use Rattle.ft_trace.proofs.Known.{declared_at, in_bank, table_is_long, after_header}
 use Rattle.ft_trace.proofs.KeyPuts.{key_open, key_hash, key_pay, key_value_kind, key_value_pay, key_serial, key_kind_put, key_index, same8, key_late, key_shut}
 use Rattle.ft_trace.proofs.ListWrites.{may_begin}
 use Rattle.ft_trace.proofs.DictWrites.{EntryVersionsChangeNothing, FirstEntriesArePairs, dict_right, dict_short, dict_clear, dict_kind, dict_class_is, dict_says, dict_shut, dict_there, dict_in, dict_in_tables, dict_table_is, dict_found, dict_answered, dict_left_at, dict_left, dict_passes_not, room_is}

@@ -1,7 +1,7 @@
 -- What the words of a table that stands for a dict or a set say under each key: an entry that is live says what is there,
 -- and what is there has a live entry.
 use Rattle.std.proofs.Common.{◌≤◌, ◌≡◌, ◌≢◌, ℕ, zero, suc, ◌<◌, Bool, true, false, true≢false, cond, eqb, eq-eqb, eqb-true, List, [], ◌∷◌, length, get_or, find, Option, Some, None, refl, sym, ap, ◌∙◌, subst, arith, ◌+◌, inl}
-use Rattle.std.specs.Prelude.{◌&&◌, All, AllPairs, IsTrue, is_some, pos, slice_get, slice_index, slice_index_or, option_map, filter}
+use Rattle.std.specs.Prelude.{◌&&◌, All, is_some, pos, slice_get, slice_index, option_map}
 use Rattle.std.specs.Option.{option_map_or}
 use Rattle.std.proofs.Math.Decide.{dec_lt}
 use Rattle.std.proofs.lemmas.Option.{slice_get-get_or, get_or_from_slice_get, slice_get_within}

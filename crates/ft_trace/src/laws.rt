@@ -5,6 +5,7 @@ ghost use Rattle.ft_trace.specs.ItemWrites.{ItemsMayBePut, ItemsMayBeAppended};
 ghost use Rattle.ft_trace.specs.Replies.{RepliesMayBeGiven, MemoryErrorsMayBeAnswered};
 ghost use Rattle.ft_trace.specs.EntryWrites.{ValuesMayBePut};
 ghost use Rattle.ft_trace.specs.KeyWrites.{KeysMayBeAdded};
+ghost use Rattle.ft_trace.specs.GrowWrites.{DictsMayGrow};
 ghost use Rattle.ft_trace.specs.Laws.{StoredTablesAreInOrder, WordsLieApart, PairsAreUnderTheirKeys, ElementsAreUnderTheirKeys, OnePassIsAlone, StampsRise, MemoryErrorsAreEarned, LocksNameHolders, VersionsAreOddInWrites, EvenTablesAreShut, NumbersAreOnce, EntriesAreRight, OneHasAllEntries, EvenWordsStand, ZeroRootsHaveNothing, HoldersKnow, TablesAreSomewhere, TablesAreInOnePlace, CountsStand, TablesAreOwed, EmptyClassesAreEarned, AnnouncedNumbersAreLow, FoundTablesAreKept, GivenUpTablesRest, TablesAreSound, TableWordsStay, HitsAreRight, MissesAreRight, BareRootsAreRight, ItemsAreRight, ListsFitTheirTables, LooksAreRight, ChangedRootsAreNew, NumbersHaveRoom};
 
 use ft_layout::{
@@ -197,6 +198,15 @@ pub fn values_may_be_put()
 /// A pass with the lock of a dict whose table has room may add a key.
 pub fn keys_may_be_added()
     ensures { KeysMayBeAdded }
+{
+    versions_change_nothing();
+    used_entries_follow_a_dict();
+}
+
+/// A pass with the lock of a dict, and a fresh table in hand whose words stand for it with one more
+/// key, may put the table in the root and add the key.
+pub fn dicts_may_grow()
+    ensures { DictsMayGrow }
 {
     versions_change_nothing();
     used_entries_follow_a_dict();

@@ -1,9 +1,9 @@
 -- The words that a pass knows after it has put one.
-use Rattle.std.proofs.Common.{◌≡◌, ◌≢◌, ℕ, zero, suc, ◌+◌, ◌<◌, true, List, length, set, refl, sym, ap, ◌∙◌, inl, inr, arith, get_or-set_other}
+use Rattle.std.proofs.Common.{Option, Some, None, ◌≡◌, ◌≢◌, ℕ, zero, suc, ◌+◌, ◌<◌, true, List, length, set, refl, sym, ap, ◌∙◌, subst, inl, inr, arith, get_or-set_other, get_or-set_same}
 use Rattle.std.specs.Prelude.{slice_index, slice_set}
 use Rattle.ft_trace.specs.declared.Shape.{Shape}
 use Rattle.ft_trace.specs.declared.View.{View}
-use Rattle.ft_trace.specs.declared.Act.TheVariants.{PutBlock, PutTable, PutFresh}
+use Rattle.ft_trace.specs.declared.Act.TheVariants.{PutBlock, PutRoot, PutTable, PutFresh}
 use Rattle.ft_trace.specs.Addresses.{Word, block, cell, containers_in, class_of, size, IsTable, at, Inside}
 use Rattle.ft_trace.specs.Acts.{is_writing, stage, mem, noted}
 use Rattle.ft_trace.specs.Words.{block_of, root_of, inner, root_in}
@@ -16,7 +16,10 @@ use Rattle.ft_trace.proofs.Images.{imaged}
 use Rattle.ft_trace.proofs.Versions.{writer_has}
 use Rattle.ft_trace.proofs.Held.{root_known}
 use Rattle.ft_bank.specs.Rules.{Acted}
-use Rattle.ft_bank.specs.Writes.{with_block, with_table}
+use Rattle.ft_bank.specs.Writes.{with_block, with_root, with_table}
+use Rattle.ft_bank.specs.declared.table.Table.{Table}
+use Rattle.ft_bank.specs.Tables.{name_of, root_for, words_for}
+use Rattle.ft_bank.proofs.Readying.{root_names}
 
 -- a put leaves each other word
 else_at : (k : Shape) (ws : List ℕ) (x y : Word) (z : ℕ) → Inside k x → Inside k y → y ≢ x → slice_index (slice_set ws (at k x) z) (at k y) ≡ slice_index ws (at k y)
@@ -74,3 +77,22 @@ fresh_put v t i x table small mine d =
     let wide = (imaged k d.0 d.2.0 d.1 v d.2.1.0).wide (inr (t, mine)) in
     let there = at_low k (cell t i) (table, small) in
     table_set k t (mem k v.log) i x small (omega (arith, wide, there))
+
+inner_for : (root : Option Table) (v : View) → inner v.shape (root_for root) (mem v.shape v.log) ≡ words_for root v
+inner_for None v = refl
+inner_for (Some t) v = refl
+
+pub root_put : (v : View) (o : ℕ) (root : Option Table) (old : ℕ) → o < containers_in v.shape → ((t : Table) → root ≡ Some t → IsTable v.shape (name_of t)) → is_writing o v.log ≡ true → Acted v (PutRoot o (root_for root) old) → held o (noted (PutRoot o (root_for root) old) v) ≡ with_root (held o v) root v
+root_put v o root old low tables odd d =
+    let k = v.shape in
+    let r = root_for root in
+    let ws = mem k v.log in
+    let ys = slice_set ws (at k (block o 0)) r in
+    let mine = writer_has k d.0 d.2.0 o d.1 v d.2.1.0 odd in
+    let wide = (imaged k d.0 d.2.0 d.1 v d.2.1.0).wide (inl (o, mine)) in
+    let there = at_low k (block o 0) (low, omega arith) in
+    let words = block_set k o ws 0 r (omega arith) (omega (arith, wide, there)) in
+    let is : root_of k o ys ≡ r = get_or-set_same ws (at k (block o 0)) r 0 (omega (arith, wide, there)) in
+    let names : (t : ℕ) → r ≡ suc t → IsTable k t = λ t e. let q = root_names root t e in subst (IsTable k) q.2 (tables q.0 q.1) in
+    let inside = ap (λ (z : ℕ). inner k z ys) is ∙ (inner_stays k ws (block o 0) r r (low, omega arith) (in_block o 0) names ∙ inner_for root v) in
+    λ j. record { block = words j; table = inside j }

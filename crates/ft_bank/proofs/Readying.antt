@@ -1,26 +1,29 @@
 -- That the steps of a write may be made, whatever other passes have done.
-use Rattle.std.proofs.Common.{◌≡◌, ℕ, suc, ◌*◌, ◌^◌, ◌<◌, true, false, List, ◌∷◌, refl, ap, ◌∙◌, subst, arith}
+use Rattle.std.proofs.Common.{Option, Some, None, Bool, ◌≤◌, ◌≡◌, ℕ, suc, ◌*◌, ◌^◌, ◌<◌, true, false, List, ◌∷◌, refl, ap, ◌∙◌, subst, arith}
+use Rattle.std.specs.Prelude.{slice_index}
 use Rattle.ft_model.specs.declared.call.Call.{Call}
 use Rattle.ft_model.specs.declared.reply.Reply.{Reply}
 use Rattle.ft_model.specs.Tables.{stored_newest}
 use Rattle.ft_trace.specs.declared.Snap.{Snap}
 use Rattle.ft_trace.specs.declared.View.{View}
-use Rattle.ft_trace.specs.declared.Act.TheVariants.{StartWrite, ReadTable, PutTable, PutFresh, Commit, StopWrite}
-use Rattle.ft_trace.specs.Addresses.{containers_in, class_of, size, IsTable}
+use Rattle.ft_trace.specs.declared.Act.TheVariants.{StartWrite, ReadTable, PutRoot, PutTable, PutFresh, Commit, StopWrite}
+use Rattle.ft_trace.specs.Addresses.{containers_in, class_of, size, IsTable, counter}
 use Rattle.ft_trace.specs.Acts.{has_lock, is_writing, has_committed, stage, noted}
 use Rattle.ft_trace.specs.Worlds.{Kept, kept, kind_in, changes}
 use Rattle.ft_trace.specs.Words.{root_in, Stands}
 use Rattle.ft_trace.specs.Kinds.{rows, version_at, ClearAs}
-use Rattle.ft_trace.specs.Openings.{Shut}
-use Rattle.ft_trace.specs.Holds.{held, known, Committed}
-use Rattle.ft_trace.specs.Traces.{run, history, snap, Ready, ReadyAs, Sure}
+use Rattle.ft_trace.specs.Openings.{Shut, Low}
+use Rattle.ft_trace.specs.Holds.{held, known, Committed, in_hand}
+use Rattle.ft_trace.specs.Traces.{run, history, snap, Ready, ReadyAs, Sure, word, SoundFor, LowFor}
 use Rattle.ft_trace.proofs.Rooms.{counter_room, version_room}
 use Rattle.ft_trace.proofs.Versions.{writer_has}
-use Rattle.ft_trace.proofs.Held.{content_known, root_known, table_known, stop_sure, put_sure, agrees_now}
+use Rattle.ft_trace.proofs.Held.{content_known, root_known, table_known, stop_sure, put_sure, sound_sure, hand_known, agrees_now}
 use Rattle.ft_trace.proofs.Untouched.{as_many}
 use Rattle.ft_trace.proofs.Orders.{in_order}
+use Rattle.ft_bank.specs.declared.table.Table.{Table}
+use Rattle.ft_bank.specs.Tables.{name_of, root_for}
 use Rattle.ft_bank.specs.Rules.{Acted}
-use Rattle.ft_bank.specs.Writes.{MayHave, MayCommit, IsCareful, IsShut}
+use Rattle.ft_bank.specs.Writes.{MayHave, MayCommit, MayPutRoot, IsCareful, IsShut}
 
 -- the bank's calls are few enough for its words
 abbrev pub AreFew : View → Type 0
@@ -108,3 +111,46 @@ put_ready v j o t i x low table small odd names careful es id knows less =
     let mine = writer_has v.shape es knows.0 o id v knows.1 odd in
     let s = put_sure v o low t i x mine names careful.care es id knows in
     (tt, (low, table, small, odd, s.0, s.1, careful.timely))
+
+-- the root that names a table
+pub root_names : (root : Option Table) (t : ℕ) → root_for root ≡ suc t → (q : Table) × (root ≡ Some q) × (name_of q ≡ t)
+root_names None t e = absurd (omega (arith, e))
+root_names (Some q) t e = (q, refl, omega (arith, e))
+
+pub root_none : (root : Option Table) → root_for root ≡ 0 → root ≡ None
+root_none None e = refl
+root_none (Some q) e = absurd (omega (arith, e))
+
+-- versions of at most 1 are low
+young_low : (at : ℕ → ℕ) (m : ℕ) (ws : List ℕ) (count : ℕ) (committed : Bool) → ((p : ℕ) → p < m → (slice_index ws (at p) ≤ 1) × (committed ≡ true → slice_index ws (at p) ≡ 0)) → Low at m ws count committed
+young_low at m ws count committed young = record {
+  even = λ p low even. let y = (young p low).0 in omega (arith, y, even);
+  odd = λ p low. let y = (young p low).0 in omega (arith, y);
+  written = λ done p low. let y = (young p low).1 done in omega (arith, y);
+}
+
+pub root_ready : (v : View) (j o : ℕ) (root : Option Table) → o < containers_in v.shape → ((t : Table) → root ≡ Some t → IsTable v.shape (name_of t)) → MayPutRoot v o root → Ready v j (λ n. PutRoot o (root_for root) (root_in (held o v)))
+root_ready v j o root low tables may es id knows less =
+    let k = v.shape in
+    let kind = kind_in k.kinds o in
+    let mine = writer_has k es knows.0 o id v knows.1 may.odd in
+    let now = root_known v o low mine es id knows in (
+      tt,
+      (
+        low,
+        may.odd,
+        now,
+        (λ t e.
+            let q = root_names root t e in
+            subst (λ (z : ℕ). IsTable k z × (stage z v.log ≡ 1) × SoundFor k (run k es).words o z (kept k.kinds (history es) o).content) q.2 (tables q.0 q.1, may.fresh q.0 q.1, sound_sure v o low (name_of q.0) (tables q.0 q.1) mine (may.fresh q.0 q.1) (may.sound q.0 q.1) es id knows)),
+        (λ q names.
+            subst (Shut (version_at kind (class_of q)) (rows kind (class_of q))) (table_known v o low q mine names es id knows).0 (may.shut q names)),
+        may.spare,
+        (λ t e.
+            let q = root_names root t e in
+            let n = name_of q.0 in
+            subst (λ (z : ℕ). LowFor k (run k es).words o z (word k es counter) (has_committed o v.log)) q.2
+            (subst (λ (l : List ℕ). Low (version_at kind (class_of n)) (rows kind (class_of n)) l (word k es counter) (has_committed o v.log)) (hand_known v n (tables q.0 q.1) (may.fresh q.0 q.1) es id knows) (young_low (version_at kind (class_of n)) (rows kind (class_of n)) (in_hand n v) (word k es counter) (has_committed o v.log) (λ p less. may.young q.0 p q.1 less)))),
+        (λ e. may.early (root_none root e)),
+      ),
+    )

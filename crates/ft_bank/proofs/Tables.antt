@@ -1,5 +1,5 @@
 -- Where tables lie, by class and number.
-use Rattle.std.proofs.Common.{◌≡◌, ℕ, zero, suc, ◌+◌, ◌-◌, ◌*◌, ◌<◌, ◌≤◌, List, ◌∷◌, length, refl, sym, ap, ◌∙◌, subst, arith}
+use Rattle.std.proofs.Common.{Option, Some, ◌≡◌, ℕ, zero, suc, ◌+◌, ◌-◌, ◌*◌, ◌<◌, ◌≤◌, List, ◌∷◌, length, refl, sym, ap, ◌∙◌, subst, arith}
 use Rattle.std.specs.Prelude.{slice_index_or}
 use Rattle.ft_layout.specs.Sizes.{table_size}
 use Rattle.ft_layout.specs.Starts.{words_below, table_start}
@@ -79,3 +79,6 @@ cell_sum k t x y n is a b e =
     let p : n * y ≡ t.number * table_size t.class = λ d. e d * b d in
     let h = start_high k (name_of t) (named k t is) in
     (omega (arith, a, p, s), omega (arith, a, p, s, h))
+
+pub each_named : (k l : Shape) (root : Option Table) → l ≡ k → ((t : Table) → root ≡ Some t → IsTableIn k t) → (t : Table) → root ≡ Some t → IsTable l (name_of t)
+each_named k l root same is t e = subst (λ (z : Shape). IsTable z (name_of t)) (sym same) (named k t (is t e))

@@ -1,5 +1,5 @@
 -- What the steps of a write ask of the pass that makes them, in what it knows.
-use Rattle.std.specs.Prelude.{◌≡◌, ℕ, suc, ◌<◌, true, false, length, Option, Some, slice_set}
+use Rattle.std.specs.Prelude.{◌≡◌, ◌≢◌, ℕ, suc, ◌<◌, ◌≤◌, true, false, length, Option, Some, None, slice_index, slice_set}
 use Rattle.ft_model.specs.declared.call.Call.{Call}
 use Rattle.ft_model.specs.declared.reply.Reply.{Reply}
 use Rattle.ft_model.specs.Answers.{is_write}
@@ -9,14 +9,14 @@ use Rattle.ft_model.specs.Tables.{StoredWorld, after_stored, takes_in, would_pas
 use Rattle.ft_model.specs.Worlds.{no_hands, IsDeclared}
 use Rattle.ft_trace.specs.declared.View.{View}
 use Rattle.ft_trace.specs.Addresses.{containers_in, class_of}
-use Rattle.ft_trace.specs.Acts.{has_lock, is_writing, has_committed, has_emptied, owes}
+use Rattle.ft_trace.specs.Acts.{has_lock, is_writing, has_committed, has_emptied, owes, stage, used}
 use Rattle.ft_trace.specs.Worlds.{kept_at, kind_in, changes, may_empty, reply_in}
 use Rattle.ft_trace.specs.Words.{Picture, root_in}
-use Rattle.ft_trace.specs.Kinds.{rows, version_at, CarefulAs, ClearAs}
+use Rattle.ft_trace.specs.Kinds.{rows, version_at, SoundAs, CarefulAs, ClearAs}
 use Rattle.ft_trace.specs.Openings.{Shut, Timely}
-use Rattle.ft_trace.specs.Holds.{held, known, AgreesWith}
+use Rattle.ft_trace.specs.Holds.{held, known, in_hand, AgreesWith}
 use Rattle.ft_bank.specs.declared.table.Table.{Table}
-use Rattle.ft_bank.specs.Tables.{root_for, words_for}
+use Rattle.ft_bank.specs.Tables.{name_of, root_for, words_for}
 
 -- a stored world that the bank may have where a pass knows this: it has every container, those whose locks the pass has
 -- as the pass knows them, and its tables are in order
@@ -52,6 +52,23 @@ IsShut o v =
     (t : ℕ) → root_in (held o v) ≡ suc t
     → Shut (version_at (kind_in v.shape.kinds o) (class_of t)) (rows (kind_in v.shape.kinds o) (class_of t))
     (held o v).table
+
+-- The root of o may become this. A table that it names is fresh in hand, as it must be for readers of the content, and
+-- its versions are 0, or before the commit at most 1. No version is odd in the table that the root names now, and the
+-- pass has taken no other out of a root since its last commit. 0 is put before the commit alone.
+pub record MayPutRoot (v : View) (o : ℕ) (root : Option Table) : Type 0 where
+  pub odd : is_writing o v.log ≡ true
+  pub fresh : (t : Table) → root ≡ Some t → stage (name_of t) v.log ≡ 1
+  pub sound : (t : Table) → root ≡ Some t
+      → SoundAs (kind_in v.shape.kinds o) v.shape.texts (class_of (name_of t)) (in_hand (name_of t) v)
+      (known o v).content
+  pub young : (t : Table) (p : ℕ) → root ≡ Some t → p < rows (kind_in v.shape.kinds o) (class_of (name_of t))
+      → (slice_index (in_hand (name_of t) v) (version_at (kind_in v.shape.kinds o) (class_of (name_of t)) p) ≤ 1)
+      × (has_committed o v.log ≡ true
+      → slice_index (in_hand (name_of t) v) (version_at (kind_in v.shape.kinds o) (class_of (name_of t)) p) ≡ 0)
+  pub shut : IsShut o v
+  pub spare : root_in (held o v) ≢ 0 → used v.log ≡ false
+  pub early : root ≡ None → has_committed o v.log ≡ false
 
 -- the words of a container with one of its block changed that is not the root
 abbrev pub with_block : Picture → ℕ → ℕ → Picture

@@ -1,5 +1,6 @@
 //! Tables by name, for whoever reads a root or writes one.
-ghost use Rattle.std.specs.Prelude.{◌≡◌, ◌<◌};
+ghost use Rattle.std.specs.Prelude.{◌≡◌, ◌<◌, Some};
+ghost use Rattle.ft_bank.specs.declared.table.Table.{Table};
 ghost use Rattle.ft_model.specs.Classes.{IsClass};
 ghost use Rattle.ft_bank.specs.Tables.{name_of, root_for};
 
@@ -22,5 +23,16 @@ impl Table {
         ensures { result ≡ name_of self.now }
     {
         root_word(self.class, self.number) - 1
+    }
+}
+
+/// The root that names the table, or no table.
+pub(crate) fn root_value(root: Option<Table>) -> u64
+    requires { (t : Table) → root ≡ Some t → IsClass t.class × (t.number < 1024) }
+    ensures { result ≡ root_for root }
+{
+    match root {
+        Some(table) => root_word(table.class, table.number),
+        None => 0,
     }
 }

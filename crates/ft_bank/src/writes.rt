@@ -1,18 +1,19 @@
 //! The steps of a write: by a pass with the lock, from an odd version over its puts and the counter, which
 //! is the write, to an even version.
-ghost use Rattle.std.specs.Prelude.{◌≡◌, ◌≢◌, ◌⊎◌, ℕ, suc, ◌<◌, ◌+◌, true, false, slice_set};
-ghost use Rattle.ft_trace.specs.declared.Act.TheVariants.{StartWrite, PutBlock, PutTable, PutFresh, Commit, StopWrite};
+ghost use Rattle.std.specs.Prelude.{◌≡◌, ◌≢◌, ◌⊎◌, ℕ, suc, ◌<◌, ◌+◌, true, false, Some, slice_set};
+ghost use Rattle.ft_trace.specs.declared.Act.TheVariants.{StartWrite, PutBlock, PutRoot, PutTable, PutFresh, Commit, StopWrite};
 ghost use Rattle.ft_trace.specs.declared.Snap.{Snap};
 ghost use Rattle.ft_trace.specs.Addresses.{containers_in, class_of, size};
 ghost use Rattle.ft_trace.specs.Acts.{has_lock, is_writing, has_committed, stage};
 ghost use Rattle.ft_trace.specs.Words.{root_in, Stands};
 ghost use Rattle.ft_trace.specs.Holds.{held, known, in_hand, Committed};
-ghost use Rattle.ft_bank.specs.Writes.{MayCommit, IsCareful, IsShut, KeepsUnwritten, with_block, with_table};
-ghost use Rattle.ft_bank.specs.Tables.{name_of, IsTableIn};
+ghost use Rattle.ft_bank.specs.Writes.{MayCommit, MayPutRoot, IsCareful, IsShut, KeepsUnwritten, with_block, with_root, with_table};
+ghost use Rattle.ft_bank.specs.declared.table.Table.{Table};
+ghost use Rattle.ft_bank.specs.Tables.{name_of, root_for, IsTableIn};
 
 use crate::bank::Bank;
 use crate::pass::Pass;
-use crate::table::Table;
+use crate::table::{Table, root_value};
 use ft_model::{Call, Reply};
 use std::marker::Brand;
 
@@ -44,6 +45,22 @@ impl Bank {
     {
         let start = self.block_of(o) + 2;
         self.store_as::<Brand>(pass, start + word, value, o, 0, word);
+    }
+
+    /// Puts a root: that of a table which is fresh in hand and as it must be for readers, or 0 before
+    /// the commit. The table that the root named is then the pass's, to be retired.
+    pub fn put_root(&self, pass: &mut Pass, o: u32, root: Option<Table>)
+        requires pass { IsPassOf self.now pass.old }
+        requires container { o < containers_in (shape_of self.now) }
+        requires table { (t : Table) → root ≡ Some t → IsTableIn (shape_of self.now) t }
+        requires may { MayPutRoot (view pass.old) o root }
+        ensures did { Did (PutRoot o (root_for root) (root_in (held o (view pass.old)))) pass.old pass.new }
+        ensures held { held o (view pass.new) ≡ with_root (held o (view pass.old)) root (view pass.old) }
+        ensures keeps { KeepsUnwritten (view pass.old) (view pass.new) }
+    {
+        let word = self.block_of(o) + 2;
+        let value = root_value(root);
+        self.store_as::<Brand>(pass, word, value, o, value, 0);
     }
 
     /// Puts a word of the table that the root of a container names, counted from its header on, with

@@ -1,5 +1,5 @@
 -- Puts with care, on lists of words alone: tables of dicts and sets.
-use Rattle.std.proofs.Common.{◌≡◌, ◌≢◌, ◌⊎◌, ℕ, suc, ◌+◌, ◌*◌, ◌%◌, ◌<◌, ◌≤◌, List, [], ◌∷◌, length, refl, sym, ap, ◌∙◌, inl, inr, ⊎_elim, arith, get_or-set_other, get_or-set_same, le_refl, le_trans}
+use Rattle.std.proofs.Common.{◌≡◌, ◌≢◌, ◌⊎◌, ℕ, suc, ◌+◌, ◌%◌, ◌<◌, ◌≤◌, List, [], ◌∷◌, length, refl, sym, ap, ◌∙◌, inl, inr, ⊎_elim, arith, get_or-set_other, get_or-set_same, le_refl, le_trans}
 use Rattle.std.specs.Prelude.{slice_index, slice_set}
 use mathlib.Core.Logic.{dite}
 use native.Mathlib.Decide.{ℕ_discrete}
@@ -68,7 +68,7 @@ met_later n m ws zs walk x later ne met = record {
   before = λ j less none. met.before j less (sym (later.index (slice_index walk j) (met.inside j (omega arith)) (met.before j less)) ∙ none);
 }
 
-module _ (n m : ℕ) (ws : List ℕ) (c : Pairs) (i x : ℕ) (long : length ws ≡ n + 8 * m) (low_i : i < n + 8 * m) (care : Careful n m ws c i x) where
+module _ (n m long_is : ℕ) (ws : List ℕ) (c : Pairs) (i x : ℕ) (long : length ws ≡ long_is) (low_i : i < long_is) (care : Careful n m ws c i x) where
   abbrev zs : List ℕ
   zs = slice_set ws i x
 

@@ -13,29 +13,29 @@ use Rattle.ft_trace.specs.declared.Shape.{Shape}
 use Rattle.ft_trace.specs.declared.View.{View}
 use Rattle.ft_trace.specs.declared.Act.{Act}
 use Rattle.ft_trace.specs.declared.Act.TheVariants.{ReadTable, ReadCounter}
-use Rattle.ft_trace.specs.Addresses.{containers_in, IsTable, class_of, slots, places}
+use Rattle.ft_trace.specs.Addresses.{containers_in, IsTable, class_of, slots}
 use Rattle.ft_trace.specs.Acts.{reads}
 use Rattle.ft_trace.specs.Ages.{whose}
 use Rattle.ft_trace.specs.Worlds.{kept, first_writes, kind_in}
 use Rattle.ft_trace.specs.Words.{index_of, entry_at, entry_of, walk_of}
 use Rattle.ft_trace.specs.Carefuls.{IsLive, IsDead, Reached, Later}
-use Rattle.ft_trace.specs.Kinds.{under, IsKeyed}
+use Rattle.ft_trace.specs.Kinds.{rows, under, IsKeyed}
 use Rattle.ft_trace.specs.Finding.{OtherKind, OtherPayload, Dead, Beyond, Passed, Visit, Miss, Full}
 use Rattle.ft_trace.specs.Traces.{Event, run, history, Valid}
 use Rattle.ft_trace.proofs.Contents.{count, tab}
 use Rattle.ft_trace.proofs.Carefuls.{kind_is, later_used, later_dead, none_or}
-use Rattle.ft_trace.proofs.ByKind.{keyed_later, keyed_sound}
+use Rattle.ft_trace.proofs.ByKind.{keyed_low, keyed_later, keyed_sound}
 use Rattle.ft_trace.proofs.Sounds.{LaterIn, sound_at}
 use Rattle.ft_trace.proofs.Spots.{Under, under_trans, stamp_then, Spot, Back, go, Opened, open_window, named_by, found}
 
 -- an entry that was passed on the walk is not one that the key's walk meets
-module _ (k : Shape) (o : ℕ) (key : Key) (t j : ℕ) (low : o < containers_in k) (keyed : IsKeyed (kind_in k.kinds o)) (table : IsTable k t) (start walk : List Act) (read : reads t start ≡ true) (s : Spot k t j start walk) (whom : whose s.es t ≡ o) (slot place p : ℕ) (in_table : slot < slots (class_of t)) (low_place : place < places (class_of t)) (low_p : p < places (class_of t))
+module _ (k : Shape) (o : ℕ) (key : Key) (t j : ℕ) (low : o < containers_in k) (keyed : IsKeyed (kind_in k.kinds o)) (table : IsTable k t) (start walk : List Act) (read : reads t start ≡ true) (s : Spot k t j start walk) (whom : whose s.es t ≡ o) (slot place p : ℕ) (in_table : slot < slots (class_of t)) (low_place : place < rows (kind_in k.kinds o) (class_of t)) (low_p : p < rows (kind_in k.kinds o) (class_of t))
     (here : index_of (tab k s.es t) slot ≡ suc p) (mine : IsLive (slots (class_of t)) (tab k s.es t) p key ⊎ IsDead (slots (class_of t)) (tab k s.es t) p key) (alive : (entry_of (slots (class_of t)) (tab k s.es t) p 2 ≡ key_kind key) ⊎ (entry_of (slots (class_of t)) (tab k s.es t) p 0 % 2 ≡ 1)) where
   abbrev N : ℕ
   N = slots (class_of t)
 
   abbrev M : ℕ
-  M = places (class_of t)
+  M = rows (kind_in k.kinds o) (class_of t)
 
   back : (walk : List Act) (s : Spot k t j start walk) (xs : List Act) (a : Act) (rest : List Act) → walk ≡ xs ++ a ∷ rest → Back k t j start s.es a rest
   back walk s xs a rest is = go k t j start walk table read s xs a rest is
@@ -43,7 +43,7 @@ module _ (k : Shape) (o : ℕ) (key : Key) (t j : ℕ) (low : o < containers_in 
   later_from : (from : List Event) (a : Act) (rest : List Act) → whose from t ≡ o → (b : Back k t j start from a rest) → Later N M (tab k b.spot.es t) (tab k from t)
   later_from from a rest whom b = keyed_later (kind_in k.kinds o) keyed (class_of t) (tab k b.spot.es t) (tab k from t) (subst (λ (z : ℕ). LaterIn k z t (tab k b.spot.es t) (tab k from t)) whom b.later)
 
-  pub beyond_table : Beyond walk t slot → ⊥
+  pub beyond_table : Beyond walk t (rows (kind_in k.kinds o) (class_of t)) slot → ⊥
   beyond_table h =
       let ia : Act = ReadTable t slot (suc h.place) in
       let iw = back walk s h.newer ia h.rest h.is in
@@ -67,7 +67,7 @@ module _ (k : Shape) (o : ℕ) (key : Key) (t j : ℕ) (low : o < containers_in 
     iw = back (mid ++ ia ∷ rest) kw.spot mid ia rest refl
 
     word_read : f ≡ entry_of N (tab k kw.spot.es t) place w
-    word_read = found k t j (entry_at N place w) f start (mid ++ ia ∷ rest) s.es (omega arith) kw
+    word_read = found k t j (entry_at N place w) f start (mid ++ ia ∷ rest) s.es (keyed_low (kind_in k.kinds o) keyed (class_of t) place w low_place small) kw
 
     index_read : suc place ≡ index_of (tab k iw.spot.es t) slot
     index_read = found k t j slot (suc place) start rest kw.spot.es (omega arith) iw
@@ -138,8 +138,8 @@ module _ (k : Shape) (o : ℕ) (key : Key) (t j : ℕ) (low : o < containers_in 
       let i_later = later_from s.es ia h.older whom iw in
       let index_read : suc place ≡ index_of (tab k iw.spot.es t) slot = found k t j slot (suc place) start h.older s.es (omega arith) iw in
       let same : place ≡ p = (let x = i_later.index slot in_table (λ none. absurd (omega (arith, none, index_read))) in omega (arith, x, index_read, here)) in
-      let dead : gone_kind key ≡ entry_of N (tab k dw.spot.es t) place 2 = found k t j (entry_at N place 2) (gone_kind key) start h.rest vw.spot.es (omega arith) dw in
-      let version : h.version ≡ entry_of N (tab k vw.spot.es t) place 0 = found k t j (entry_at N place 0) h.version start (h.mid ++ da ∷ h.rest) s.es (omega arith) vw in
+      let dead : gone_kind key ≡ entry_of N (tab k dw.spot.es t) place 2 = found k t j (entry_at N place 2) (gone_kind key) start h.rest vw.spot.es (keyed_low (kind_in k.kinds o) keyed (class_of t) place 2 low_place (omega arith)) dw in
+      let version : h.version ≡ entry_of N (tab k vw.spot.es t) place 0 = found k t j (entry_at N place 0) h.version start (h.mid ++ da ∷ h.rest) s.es (keyed_low (kind_in k.kinds o) keyed (class_of t) place 0 low_place (omega arith)) vw in
       let ks = kind_is key in
       let k0 = ks.0 in
       let k1 = ks.1 in
@@ -156,21 +156,21 @@ module _ (k : Shape) (o : ℕ) (key : Key) (t j : ℕ) (low : o < containers_in 
 
 -- a slot that was passed is not one that the key's walk meets
 pub passed_by : (k : Shape) (o : ℕ) (key : Key) (t j : ℕ) (low : o < containers_in k) (keyed : IsKeyed (kind_in k.kinds o)) (table : IsTable k t) (start walk : List Act) (read : reads t start ≡ true) (s : Spot k t j start walk) (whom : whose s.es t ≡ o) (slot : ℕ) (in_table : slot < slots (class_of t)) (probe : List ℕ)
-    (r : Reached (slots (class_of t)) (places (class_of t)) (tab k s.es t) probe key) → index_of (tab k s.es t) slot ≡ suc r.place → Passed walk t slot key → ⊥
+    (r : Reached (slots (class_of t)) (rows (kind_in k.kinds o) (class_of t)) (tab k s.es t) probe key) → index_of (tab k s.es t) slot ≡ suc r.place → Passed walk t (rows (kind_in k.kinds o) (class_of t)) slot key → ⊥
 passed_by k o key t j low keyed table start walk read s whom slot in_table probe r here =
     ⊎_elim
-    (λ (v : Visit walk t slot key).
+    (λ (v : Visit walk t (rows (kind_in k.kinds o) (class_of t)) slot key).
     ⊎_elim
     (other_kind k o key t j low keyed table start walk read s whom slot v.place r.place in_table v.low r.low here r.mine r.alive)
     (λ rest. ⊎_elim
     (other_payload k o key t j low keyed table start walk read s whom slot v.place r.place in_table v.low r.low here r.mine r.alive)
     (dead_entry k o key t j low keyed table start walk read s whom slot v.place r.place in_table v.low r.low here r.mine r.alive) rest)
     v.how)
-    (λ (b : Beyond walk t slot). beyond_table k o key t j low keyed table start walk read s whom slot r.place r.place in_table r.low r.low here r.mine r.alive b)
+    (λ (b : Beyond walk t (rows (kind_in k.kinds o) (class_of t)) slot). beyond_table k o key t j low keyed table start walk read s whom slot r.place r.place in_table r.low r.low here r.mine r.alive b)
 
 -- from a moment at which no entry of the key is met
 absent_at : (k : Shape) (es : List Event) (valid : Valid k es) (o t : ℕ) (key : Key) (n : ℕ) (fits : FitsKey key) (low : o < containers_in k) (keyed : IsKeyed (kind_in k.kinds o)) (table : IsTable k t) (j : ℕ) (start rest : List Act) (s : Spot k t j start rest) → Under s.es es → whose s.es t ≡ o → n ≡ count k s.es
-    → (Reached (slots (class_of t)) (places (class_of t)) (tab k s.es t) (walk_of (kind_in k.kinds o) k.texts (class_of t) key) key → ⊥) → (n ≤ count k es) × (under (kept k.kinds (first_writes n (history es)) o).content key ≡ [])
+    → (Reached (slots (class_of t)) (rows (kind_in k.kinds o) (class_of t)) (tab k s.es t) (walk_of (kind_in k.kinds o) k.texts (class_of t) key) key → ⊥) → (n ≤ count k es) × (under (kept k.kinds (first_writes n (history es)) o).content key ≡ [])
 absent_at k es valid o t key n fits low keyed table j start rest s below whom is never =
     let names = named_by k s.es s.valid o t table s.now whom in
     let sound = keyed_sound (kind_in k.kinds o) keyed k.texts (class_of t) (tab k s.es t) (kept k.kinds (history s.es) o).content (sound_at k s.es s.valid o low t names) in
@@ -178,7 +178,7 @@ absent_at k es valid o t key n fits low keyed table j start rest s below whom is
     let c = stamp_then k s.es es s.valid valid below n is in
     (c.0, ap (λ (cs : List Call). under (kept k.kinds cs o).content key) c.1 ∙ none)
 
-module _ (k : Shape) (es : List Event) (valid : Valid k es) (o t : ℕ) (key : Key) (n : ℕ) (fits : FitsKey key) (low : o < containers_in k) (keyed : IsKeyed (kind_in k.kinds o)) (j : ℕ) (u : View) (at : get_elem? (run k es).views j ≡ some u) (h : Miss u.log o t (walk_of (kind_in k.kinds o) k.texts (class_of t) key) key n) where
+module _ (k : Shape) (es : List Event) (valid : Valid k es) (o t : ℕ) (key : Key) (n : ℕ) (fits : FitsKey key) (low : o < containers_in k) (keyed : IsKeyed (kind_in k.kinds o)) (j : ℕ) (u : View) (at : get_elem? (run k es).views j ≡ some u) (h : Miss u.log o t (rows (kind_in k.kinds o) (class_of t)) (walk_of (kind_in k.kinds o) k.texts (class_of t) key) key n) where
   abbrev probe : List ℕ
   probe = walk_of (kind_in k.kinds o) k.texts (class_of t) key
 
@@ -210,7 +210,7 @@ module _ (k : Shape) (es : List Event) (valid : Valid k es) (o t : ℕ) (key : K
       dite (ℕ_discrete (index_of (tab k then_ t) (slice_index probe h.steps)) 0) (λ e. e)
       (λ used. absurd (used (sym (l.index (slice_index probe h.steps) less used) ∙ sym free)))
 
-  never : Reached (slots (class_of t)) (places (class_of t)) (tab k then_ t) probe key → ⊥
+  never : Reached (slots (class_of t)) (rows (kind_in k.kinds o) (class_of t)) (tab k then_ t) probe key → ⊥
   never r =
       let m = r.met in
       dite (ℕ_discrete m.step h.steps)
@@ -228,7 +228,7 @@ module _ (k : Shape) (es : List Event) (valid : Valid k es) (o t : ℕ) (key : K
   pub miss_at : (n ≤ count k es) × (under (kept k.kinds (first_writes n (history es)) o).content key ≡ [])
   miss_at = absent_at k es valid o t key n fits low keyed open_.table j start h.rest loaded.spot (under_trans then_ top.spot.es es loaded.under (under_trans top.spot.es open_.spot.es es top.under open_.under)) whom_then loaded.tells never
 
-module _ (k : Shape) (es : List Event) (valid : Valid k es) (o t : ℕ) (key : Key) (n : ℕ) (fits : FitsKey key) (low : o < containers_in k) (keyed : IsKeyed (kind_in k.kinds o)) (j : ℕ) (u : View) (at : get_elem? (run k es).views j ≡ some u) (h : Full u.log o t (walk_of (kind_in k.kinds o) k.texts (class_of t) key) key n) where
+module _ (k : Shape) (es : List Event) (valid : Valid k es) (o t : ℕ) (key : Key) (n : ℕ) (fits : FitsKey key) (low : o < containers_in k) (keyed : IsKeyed (kind_in k.kinds o)) (j : ℕ) (u : View) (at : get_elem? (run k es).views j ≡ some u) (h : Full u.log o t (rows (kind_in k.kinds o) (class_of t)) (walk_of (kind_in k.kinds o) k.texts (class_of t) key) key n) where
   abbrev begin : List Act
   begin = h.window.rest
 

@@ -3,7 +3,7 @@ use Rattle.std.specs.Prelude.{◌≡◌, ◌≢◌, ◌⊎◌, ℕ, zero, suc, �
 use Rattle.ft_trace.specs.declared.Act.{Act}
 use Rattle.ft_trace.specs.declared.Act.TheVariants.{ReadRoot, ReadTable, ReadCounter, Version, Announce}
 use Rattle.ft_trace.specs.Acts.{reads}
-use Rattle.ft_trace.specs.Addresses.{class_of, slots, places}
+use Rattle.ft_trace.specs.Addresses.{class_of, slots}
 use Rattle.ft_model.specs.declared.data.Key.{Key}
 use Rattle.ft_layout.specs.Words.{key_kind, gone_kind, key_payload}
 use Rattle.ft_trace.specs.Words.{entry_at, item_at}
@@ -78,25 +78,25 @@ pub record Dead (walk : List Act) (t slot place : ℕ) (key : Key) : Type 0 wher
   pub older : List Act
   pub named : walk ≡ before ++ ReadTable t slot (suc place) ∷ older
 
-pub record Visit (walk : List Act) (t slot : ℕ) (key : Key) : Type 0 where
+pub record Visit (walk : List Act) (t m slot : ℕ) (key : Key) : Type 0 where
   pub place : ℕ
-  pub low : place < places (class_of t)
+  pub low : place < m
   pub how : OtherKind walk t slot place key ⊎ (OtherPayload walk t slot place key ⊎ Dead walk t slot place key)
 
--- the slot named no entry of the table
-pub record Beyond (walk : List Act) (t slot : ℕ) : Type 0 where
+-- the slot named none of the m entries of the table
+pub record Beyond (walk : List Act) (t m slot : ℕ) : Type 0 where
   pub place : ℕ
-  pub high : places (class_of t) ≤ place
+  pub high : m ≤ place
   pub newer : List Act
   pub rest : List Act
   pub is : walk ≡ newer ++ ReadTable t slot (suc place) ∷ rest
 
 -- the slot was passed by right
-abbrev pub Passed : List Act → ℕ → ℕ → Key → Type 0
-Passed walk t slot key = Visit walk t slot key ⊎ Beyond walk t slot
+abbrev pub Passed : List Act → ℕ → ℕ → ℕ → Key → Type 0
+Passed walk t m slot key = Visit walk t m slot key ⊎ Beyond walk t m slot
 
 -- the slots of the key's probe up to one that was read 0 after the counter was loaded
-pub record Miss (log : List Act) (o t : ℕ) (probe : List ℕ) (key : Key) (n : ℕ) : Type 0 where
+pub record Miss (log : List Act) (o t m : ℕ) (probe : List ℕ) (key : Key) (n : ℕ) : Type 0 where
   pub walk : List Act
   pub window : Window log o t walk
   pub steps : ℕ
@@ -105,16 +105,16 @@ pub record Miss (log : List Act) (o t : ℕ) (probe : List ℕ) (key : Key) (n :
   pub mid : List Act
   pub rest : List Act
   pub is : walk ≡ newer ++ ReadTable t (slice_index probe steps) 0 ∷ (mid ++ ReadCounter n ∷ rest)
-  pub visits : (j : ℕ) → j < steps → Passed rest t (slice_index probe j) key
+  pub visits : (j : ℕ) → j < steps → Passed rest t m (slice_index probe j) key
 
 -- every slot of the key's probe was passed before the counter was loaded
-pub record Full (log : List Act) (o t : ℕ) (probe : List ℕ) (key : Key) (n : ℕ) : Type 0 where
+pub record Full (log : List Act) (o t m : ℕ) (probe : List ℕ) (key : Key) (n : ℕ) : Type 0 where
   pub walk : List Act
   pub window : Window log o t walk
   pub mid : List Act
   pub rest : List Act
   pub is : walk ≡ mid ++ ReadCounter n ∷ rest
-  pub visits : (j : ℕ) → j < length probe → Passed rest t (slice_index probe j) key
+  pub visits : (j : ℕ) → j < length probe → Passed rest t m (slice_index probe j) key
 
 -- between two loads of the version of item p that found the same even number the counter was loaded
 pub record ItemHit (log : List Act) (o t p n : ℕ) : Type 0 where

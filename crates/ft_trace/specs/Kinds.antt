@@ -12,6 +12,7 @@ use Rattle.ft_model.specs.declared.script.Kind.TheVariants as kind
 use Rattle.ft_model.specs.Worlds.{list_of}
 use Rattle.ft_layout.specs.declared.slot.Stored.TheVariants.{Empty, Plain}
 use Rattle.ft_layout.specs.Words.{key_kind, key_payload, stored_kind, stored_payload}
+use Rattle.ft_model.specs.Classes.{set_entries}
 use Rattle.ft_trace.specs.Addresses.{slots, places}
 use Rattle.ft_trace.specs.Words.{walk_of, entry_at, item_at}
 use Rattle.ft_trace.specs.Carefuls.{Sound, Careful, Clear, Later}
@@ -37,7 +38,7 @@ under (content.List values) key = []
 abbrev pub rows : Kind → ℕ → ℕ
 rows kind.List class = slots class
 rows kind.Dict class = places class
-rows kind.Set class = places class
+rows kind.Set class = set_entries class
 
 abbrev pub version_at : Kind → ℕ → ℕ → ℕ
 version_at kind.List class p = item_at p 0
@@ -47,24 +48,24 @@ version_at kind.Set class p = entry_at (slots class) p 0
 abbrev pub SoundAs : Kind → List ℕ → ℕ → List ℕ → Content → Type 0
 SoundAs kind.List texts class ws c = ItemSound (slots class) ws (list_of c)
 SoundAs kind.Dict texts class ws c = Sound (walk_of kind.Dict texts class) (slots class) (places class) ws (under c)
-SoundAs kind.Set texts class ws c = Sound (walk_of kind.Set texts class) (slots class) (places class) ws (under c)
+SoundAs kind.Set texts class ws c = Sound (walk_of kind.Set texts class) (slots class) (set_entries class) ws (under c)
 
 abbrev pub CarefulAs : Kind → ℕ → List ℕ → Content → ℕ → ℕ → Type 0
 CarefulAs kind.List class ws c i x = ItemCareful (slots class) ws (list_of c) i x
 CarefulAs kind.Dict class ws c i x = Careful (slots class) (places class) ws (under c) i x
-CarefulAs kind.Set class ws c i x = Careful (slots class) (places class) ws (under c) i x
+CarefulAs kind.Set class ws c i x = Careful (slots class) (set_entries class) ws (under c) i x
 
 abbrev pub ClearAs : Kind → List ℕ → ℕ → List ℕ → Content → Content → Type 0
 ClearAs kind.List texts class ws c d = ItemClear (slots class) ws (list_of c) (list_of d)
 ClearAs kind.Dict texts class ws c d =
     Clear (walk_of kind.Dict texts class) (slots class) (places class) ws (under c) (under d)
 ClearAs kind.Set texts class ws c d =
-    Clear (walk_of kind.Set texts class) (slots class) (places class) ws (under c) (under d)
+    Clear (walk_of kind.Set texts class) (slots class) (set_entries class) ws (under c) (under d)
 
 abbrev pub LaterAs : Kind → ℕ → List ℕ → List ℕ → Type 0
 LaterAs kind.List class ws zs = ItemLater (slots class) ws zs
 LaterAs kind.Dict class ws zs = Later (slots class) (places class) ws zs
-LaterAs kind.Set class ws zs = Later (slots class) (places class) ws zs
+LaterAs kind.Set class ws zs = Later (slots class) (set_entries class) ws zs
 
 -- the kinds whose tables have entries under keys, and the one whose tables have items
 abbrev pub IsKeyed : Kind → Type 0

@@ -25,13 +25,13 @@ use Rattle.ft_trace.specs.declared.View.{View}
 use Rattle.ft_trace.specs.Bits.{bit}
 use Rattle.ft_trace.specs.Counts.{word_bits, taking, giving, owing}
 use Rattle.ft_trace.specs.Entries.{total, is_number, AllRight, Numbered}
-use Rattle.ft_trace.specs.Addresses.{Word, Inside, at, sizes_of, part_of, counter, write_number, announced_of, count_of_class, bits, lock_of, version_of, block, containers_in, tables_in, class_of, slots, places, IsTable, free_word_of, free_bit_of}
+use Rattle.ft_trace.specs.Addresses.{Word, Inside, at, sizes_of, part_of, counter, write_number, announced_of, count_of_class, bits, lock_of, version_of, block, containers_in, tables_in, class_of, slots, IsTable, free_word_of, free_bit_of}
 use Rattle.ft_trace.specs.Acts.{has_lock, is_writing, reads, stage, goal, clear, announces, owes}
 use Rattle.ft_trace.specs.Ages.{age, all_acts}
 use Rattle.ft_trace.specs.Worlds.{kept, first_writes, kind_in, reply_in}
 use Rattle.ft_trace.specs.Words.{entry_at, item_at, walk_of, table_of, picture}
 use Rattle.ft_trace.specs.Items.{words_at}
-use Rattle.ft_trace.specs.Kinds.{is_key, pair_words, element_words, under, LaterAs, IsKeyed, IsItems}
+use Rattle.ft_trace.specs.Kinds.{rows, is_key, pair_words, element_words, under, LaterAs, IsKeyed, IsItems}
 use Rattle.ft_trace.specs.Holds.{held, known, in_hand}
 use Rattle.ft_trace.specs.Reading.{Among, IsNothing, Looked}
 use Rattle.ft_trace.specs.Finding.{Hit, Miss, Full, Bare, ItemHit, ItemPast, IsNew}
@@ -237,7 +237,7 @@ TableWordsStay =
 abbrev pub HitsAreRight : Type 0
 HitsAreRight =
     (k : Shape) (es : List Event) → Valid k es → (o t p : ℕ) (key : Key) (n : ℕ) → o < containers_in k
-    → IsKeyed (kind_in k.kinds o) → p < places (class_of t) → (j : ℕ) (u : View) → HasView k es j u
+    → IsKeyed (kind_in k.kinds o) → p < rows (kind_in k.kinds o) (class_of t) → (j : ℕ) (u : View) → HasView k es j u
     → (h : Hit u.log o t p key n)
     → (n ≤ word k es counter)
     × (under (kept k.kinds (first_writes n (history es)) o).content key ≢ [])
@@ -249,8 +249,8 @@ abbrev pub MissesAreRight : Type 0
 MissesAreRight =
     (k : Shape) (es : List Event) → Valid k es → (o t : ℕ) (key : Key) (n : ℕ) → FitsKey key → o < containers_in k
     → IsKeyed (kind_in k.kinds o) → (j : ℕ) (u : View) → HasView k es j u
-    → Miss u.log o t (walk_of (kind_in k.kinds o) k.texts (class_of t) key) key n
-    ⊎ Full u.log o t (walk_of (kind_in k.kinds o) k.texts (class_of t) key) key n
+    → Miss u.log o t (rows (kind_in k.kinds o) (class_of t)) (walk_of (kind_in k.kinds o) k.texts (class_of t) key) key n
+    ⊎ Full u.log o t (rows (kind_in k.kinds o) (class_of t)) (walk_of (kind_in k.kinds o) k.texts (class_of t) key) key n
     → (n ≤ word k es counter) × (under (kept k.kinds (first_writes n (history es)) o).content key ≡ [])
 
 -- where the root was read 0 there is nothing at the stamp

@@ -5,3 +5,4 @@ pub mod Locks
 pub mod Writes
 pub mod Reads
 pub mod Tables
+pub mod Closings

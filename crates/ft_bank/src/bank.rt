@@ -8,6 +8,7 @@ ghost use Rattle.ft_trace.specs.Traces.{MayFork, IsFree};
 ghost use Rattle.ft_bank.specs.Shapes.{plan, IsShape};
 ghost use Rattle.ft_bank.specs.Tables.{starts_from, sizes_from};
 
+use crate::closed::Closed;
 use crate::opening::{class_sizes, class_starts, opening_words};
 use crate::pass::Pass;
 use crate::rule::{Law, Shares};
@@ -36,6 +37,7 @@ pub struct Bank {
 
 impl Bank {
     ghost use Rattle.ft_bank.specs.Passes.{shape_of, view, IsPassOf};
+    ghost use Rattle.ft_bank.specs.Closings.{shape_in, entries_in};
 
     /// A bank of this shape, and its first pass, which stands for all passes.
     pub fn new(alloc: Global, shape: Shape) -> Result<(Bank, Pass), MakeFault>
@@ -104,5 +106,22 @@ impl Bank {
         } = other;
         self.settle_as::<Brand>(&mut pass.seat, seat);
         pass.left += left;
+    }
+
+    /// Closes the bank, by a pass that has taken in all others and is free of locks and tables.
+    pub fn close(self, pass: Pass) -> Closed
+        requires pass { IsPassOf self pass }
+        requires free { IsFree (view pass) }
+        requires all { (view pass).parts ≡ (shape_of self).passes }
+        ensures shape { shape_in result ≡ shape_of self }
+        ensures entries { entries_in result ≡ (view pass).entries }
+    {
+        let Bank {
+            table: _,
+            shape,
+            starts: _,
+            sizes: _,
+        } = self;
+        Closed { shape, pass }
     }
 }

@@ -8,6 +8,7 @@
 #![tactic(auto)]
 
 mod bank;
+mod closed;
 mod locks;
 mod opening;
 mod pass;
@@ -20,6 +21,7 @@ mod table;
 mod writes;
 
 pub use crate::bank::Bank;
+pub use crate::closed::Closed;
 pub use crate::pass::Pass;
 pub use crate::shape::{MakeFault, Shape};
 pub use crate::table::Table;

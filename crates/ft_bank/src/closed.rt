@@ -1,0 +1,25 @@
+//! A bank that was closed, for whoever judges what its passes did: its shape, and the entries of them all.
+ghost use Rattle.ft_bank.specs.Shapes.{plan};
+ghost use Rattle.std.specs.Prelude.{◌≡◌};
+
+use crate::pass::Pass;
+use crate::shape::Shape;
+
+/// What is left of a bank: its shape, and the entries of all its passes. Only closing a bank makes one.
+#[derive(Drop)]
+pub struct Closed {
+    pub(crate) shape: Shape,
+    pub(crate) pass: Pass,
+    ghost of: { pass.seat.me.0.shape ≡ plan shape },
+    ghost all: { pass.seat.me.0.parts ≡ shape.passes },
+}
+
+impl Closed {
+    ghost use Rattle.ft_bank.specs.Closings.{IsWhole};
+
+    /// The entries have one history of writes: each write's number is its place there, each number is
+    /// that of one entry, and each entry has the reply of the plain containers at its stamp.
+    pub fn entries_are_whole(&self)
+        ensures { IsWhole self.now }
+    {}
+}

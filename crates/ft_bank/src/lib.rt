@@ -18,6 +18,8 @@ mod rule;
 mod shape;
 mod steps;
 mod table;
+#[cfg(test)]
+mod tests;
 mod writes;
 
 pub use crate::bank::Bank;

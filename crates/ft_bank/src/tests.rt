@@ -1,0 +1,50 @@
+//! One bank with two containers and two passes, through steps that need no table: numbers, starts and
+//! locks, worked by hand.
+ghost use Rattle.std.specs.Prelude.{◌≡◌, IfOk, length};
+
+use crate::{Bank, Shape};
+use ft_model::Kind;
+use std::alloc::Global;
+use std::test::Fail;
+
+fn small(alloc: Global) -> Result<Shape, Fail>
+    ensures { IfOk result (λ s. (length s.kinds.items ≡ 2) × (s.passes ≡ 2) × (s.calls ≡ 10)) }
+{
+    Ok(Shape {
+        kinds: vec![in alloc; Kind::List, Kind::Dict]?,
+        texts: Vec::new(alloc),
+        tables: vec![in alloc; 1u32; 14]?,
+        heap: 64,
+        passes: 2,
+        calls: 10,
+    })
+}
+
+#[test]
+fn the_lock_keeps_others_out(rt: HostRuntime) -> Result<(), Fail> {
+    let alloc = rt.alloc();
+    let shape = small(alloc)?;
+    if !shape.fits() {
+        return Err(Fail::from("a small shape fits"));
+    }
+    let Ok((bank, mut first)) = Bank::new(alloc, shape) else {
+        return Err(Fail::from("there is memory"));
+    };
+    let mut second = bank.split(&mut first);
+    assert_eq!(rt; first.number(), 0);
+    assert_eq!(rt; second.number(), 1);
+    assert_eq!(rt; first.left(), 10);
+    assert_eq!(rt; bank.seq(&mut first, 1), 0);
+    assert_eq!(rt; bank.read_block(&mut first, 1, 0), 0);
+    let Ok(()) = bank.try_lock(&mut first, 1) else {
+        return Err(Fail::from("the lock is free"));
+    };
+    let Err(other) = bank.try_lock(&mut second, 1) else {
+        return Err(Fail::from("the first pass has the lock"));
+    };
+    assert_eq!(rt; other, 0);
+    assert_eq!(rt; bank.start_write(&mut first, 1), 0);
+    assert_eq!(rt; bank.seq(&mut second, 1), 1);
+    assert_eq!(rt; bank.stamp(&mut second), 0);
+    Ok(())
+}

@@ -19,8 +19,8 @@ use Rattle.ft_trace.specs.Traces.{Possible}
 use Rattle.ft_trace.specs.Grants.{MayWrite}
 use Rattle.ft_trace.specs.Writes.{Put, to_table, Write, after_write_of}
 
--- before the commit the version of the entry is made odd, and the kind and payload of its value are put; n says how many
--- index slots there are
+-- before the commit the version of the entry is made odd, and the kind and payload of its value are put; n says how
+-- many index slots there are
 abbrev pub value_puts : ℕ → List ℕ → ℕ → Value → List Put
 value_puts n words place value =
     to_table (entry_at n place 0) (entry_of n words place 0 + 1)

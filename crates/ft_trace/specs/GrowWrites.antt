@@ -20,8 +20,8 @@ use Rattle.ft_trace.specs.Traces.{Possible}
 use Rattle.ft_trace.specs.Writes.{to_table, Write, at_commit, after_write_of, MayBegin}
 use Rattle.ft_trace.specs.KeyWrites.{count_puts}
 
--- The new root is put first, then the counts, and after the commit the version of the entry of the new key is made even,
--- which was 1 in the new table.
+-- The new root is put first, then the counts, and after the commit the version of the entry of the new key is made
+-- even, which was 1 in the new table.
 abbrev pub dict_grow_write : View → ℕ → ℕ → ℕ → Key → Value → DictContent → Write
 dict_grow_write v o t place key value pairs =
     record {
@@ -32,8 +32,8 @@ dict_grow_write v o t place key value pairs =
       late = to_table (entry_at (slots (class_of t)) place 0) 2 ∷ [];
     }
 
--- what the pass has in hand: a table of the class that the call takes, fresh, whose words stand for the dict with the new
--- key; of its versions that of the new key's entry is 1, and each other 0
+-- what the pass has in hand: a table of the class that the call takes, fresh, whose words stand for the dict with the
+-- new key; of its versions that of the new key's entry is 1, and each other 0
 pub record HasGrown (v : View) (o t place : ℕ) (key : Key) (value : Value) (pairs : DictContent) : Type 0 where
   pub table : IsTable v.shape t
   pub fresh : stage t v.log ≡ 1

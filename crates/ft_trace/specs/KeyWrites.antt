@@ -21,8 +21,8 @@ use Rattle.ft_trace.specs.Grants.{MayWrite}
 use Rattle.ft_trace.specs.Writes.{Put, to_block, to_table, Write, at_commit, after_write_of}
 use Rattle.ft_trace.specs.EntryWrites.{entry_closed}
 
--- the words of a new entry: its version is made odd, its kind is put last, and then the index slot that names it; n says
--- how many index slots there are
+-- the words of a new entry: its version is made odd, its kind is put last, and then the index slot that names it;
+-- n says how many index slots there are
 abbrev pub key_puts : ℕ → List ℕ → ℕ → ℕ → ℕ → Key → Value → ℕ → List Put
 key_puts n words place slot hash key value serial =
     to_table (entry_at n place 0) (entry_of n words place 0 + 1)

@@ -244,13 +244,16 @@ HitsAreRight =
     × ((w f : ℕ) → w < 3 → Among (ReadTable t (entry_at (slots (class_of t)) p (4 + w)) f) h.mid
     → slice_index (under (kept k.kinds (first_writes n (history es)) o).content key) w ≡ f)
 
--- a key that fits its words is absent at the stamp that was not found on its probe, up to a slot never used or over all its slots
+-- a key that fits its words is absent at the stamp that was not found on its probe, up to a slot never used or over all
+-- its slots
 abbrev pub MissesAreRight : Type 0
 MissesAreRight =
     (k : Shape) (es : List Event) → Valid k es → (o t : ℕ) (key : Key) (n : ℕ) → FitsKey key → o < containers_in k
     → IsKeyed (kind_in k.kinds o) → (j : ℕ) (u : View) → HasView k es j u
-    → Miss u.log o t (rows (kind_in k.kinds o) (class_of t)) (walk_of (kind_in k.kinds o) k.texts (class_of t) key) key n
-    ⊎ Full u.log o t (rows (kind_in k.kinds o) (class_of t)) (walk_of (kind_in k.kinds o) k.texts (class_of t) key) key n
+    → Miss u.log o t (rows (kind_in k.kinds o) (class_of t)) (walk_of (kind_in k.kinds o) k.texts (class_of t) key) key
+    n
+    ⊎ Full u.log o t (rows (kind_in k.kinds o) (class_of t)) (walk_of (kind_in k.kinds o) k.texts (class_of t) key) key
+    n
     → (n ≤ word k es counter) × (under (kept k.kinds (first_writes n (history es)) o).content key ≡ [])
 
 -- where the root was read 0 there is nothing at the stamp

@@ -34,8 +34,8 @@ RepliesMayBeGiven =
 abbrev pub lacks : ℕ → Reply
 lacks class = reply.Raised (raise.Memory class)
 
--- A pass that found the count of a class 0 since its last entry, and owed no count then, may answer a MemoryError of it to
--- a call that would take a table of that class.
+-- A pass that found the count of a class 0 since its last entry, and owed no count then, may answer a MemoryError of it
+-- to a call that would take a table of that class.
 abbrev pub MemoryErrorsMayBeAnswered : Type 0
 MemoryErrorsMayBeAnswered =
     (v : View) (call : Call) (class : ℕ) (newer rest : List Act) → v.number ≢ 0 → Possible v

@@ -1,5 +1,5 @@
--- A whole write of one container by a pass that has its lock, in pieces: a root that is put, puts before the commit, the
--- commit, and puts after it. Which words it may put is said of the words and the content that the pass knows alone.
+-- A whole write of one container by a pass that has its lock, in pieces: a root that is put, puts before the commit,
+-- the commit, and puts after it. Which words it may put is said of the words and the content that the pass knows alone.
 use Rattle.std.specs.Prelude.{◌≡◌, ◌≢◌, ℕ, zero, suc, ◌*◌, ◌^◌, ◌<◌, ◌≤◌, Bool, true, false, List, [], ◌∷◌, Option, Some, None, slice_index, slice_set}
 use Rattle.ft_model.specs.declared.call.Call.{Call}
 use Rattle.ft_model.specs.declared.reply.Reply.{Reply}
@@ -132,8 +132,8 @@ pub record MayBegin (v : View) (o : ℕ) : Type 0 where
   pub spare : used v.log ≡ false
   pub room : 0 < v.left
 
--- A root may be put that is 0, for a call that takes away what there is; or one that names a table which is fresh in the
--- pass's hand, as it must be for readers, with versions that were made odd once at most.
+-- A root may be put that is 0, for a call that takes away what there is; or one that names a table which is fresh in
+-- the pass's hand, as it must be for readers, with versions that were made odd once at most.
 abbrev pub MayReplace : View → ℕ → Call → Option ℕ → Type 0
 MayReplace v o call None = Unit {0}
 MayReplace v o call (Some zero) = may_empty call ≡ true

@@ -48,3 +48,21 @@ fn the_lock_keeps_others_out(rt: HostRuntime) -> Result<(), Fail> {
     assert_eq!(rt; bank.stamp(&mut second), 0);
     Ok(())
 }
+
+#[test]
+fn the_last_pass_closes_the_bank(rt: HostRuntime) -> Result<(), Fail> {
+    let alloc = rt.alloc();
+    let shape = small(alloc)?;
+    if !shape.fits() {
+        return Err(Fail::from("a small shape fits"));
+    }
+    let Ok((bank, mut first)) = Bank::new(alloc, shape) else {
+        return Err(Fail::from("there is memory"));
+    };
+    let second = bank.split(&mut first);
+    bank.join(&mut first, second);
+    assert_eq!(rt; first.left(), 20);
+    let closed = bank.close(first);
+    closed.entries_are_whole();
+    Ok(())
+}

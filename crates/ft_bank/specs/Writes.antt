@@ -86,7 +86,8 @@ with_root x root v = record { block = slice_set x.block 0 (root_for root); table
 -- entry or item becomes odd before the commit of the write, and even after it.
 pub record IsCareful (v : View) (o t i value : ℕ) : Type 0 where
   pub care : CarefulAs (kind_in v.shape.kinds o) (class_of t) (held o v).table (known o v).content i value
-  pub timely : Timely (version_at (kind_in v.shape.kinds o) (class_of t)) (rows (kind_in v.shape.kinds o) (class_of t)) i
+  pub timely : Timely (version_at (kind_in v.shape.kinds o) (class_of t))
+      (rows (kind_in v.shape.kinds o) (class_of t)) i
       value (has_committed o v.log)
 
 -- the pass knows the same as before of each container whose lock it has and that it doesn't write

@@ -54,7 +54,7 @@ fn are_tables(tables: &[u32]) -> bool
     tables.len() == CLASS_COUNT && tables.iter().all(|count| 1 <= *count && *count <= TABLES)
 }
 
-/// Whether a pass may have so many places for boxes.
+/// Whether a pass may have that number of places for boxes.
 fn is_heap(heap: u32) -> bool
     ensures { IsTrue result ↔ IsHeap heap }
 {

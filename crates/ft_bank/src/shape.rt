@@ -36,6 +36,7 @@ impl Shape {
         let texts = self.texts.len();
         let tables = are_tables(self.tables.as_slice());
         let heap = is_heap(self.heap);
+        // Its type alone bounds it; it is named so that the check sees that.
         let _calls = self.calls;
         if !tables || !heap {
             return false;

@@ -34,8 +34,7 @@ pub record FoundEmpty (class n : ℕ) (log : List Act) : Type 0 where
   pub none : owes rest ≡ 0
 
 -- A MemoryError of a class stands on a call that would take a table of it, where its count was found 0; one of a
--- content
--- past the largest table exactly where the call would leave that; no value is in a heap yet.
+-- content past the largest table exactly where the call would leave that; no value is in a heap yet.
 abbrev pub HasCause : StoredWorld → List Act → Call → Reply → ℕ → Type 0
 HasCause stored log call (reply.Raised (raise.Memory class)) n =
     CanLackMemory stored.world call
@@ -48,8 +47,7 @@ HasCause stored log call (reply.Raised raise.Heap) n = ⊥
 HasCause stored log call said n = would_pass stored.world call ≡ false
 
 -- what the stamp of the next entry is at least: one more than the number of the last entry that is a write, or the
--- stamp
--- of one that isn't
+-- stamp of one that isn't
 abbrev pub least_stamp : List Act → ℕ
 least_stamp [] = 0
 least_stamp (Commit c r f s ∷ l) = f + 1

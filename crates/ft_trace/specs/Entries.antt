@@ -28,8 +28,7 @@ IsNumber [] n c = ⊥
 IsNumber (d ∷ cs) n c = ((n ≡ length cs) × (c ≡ d)) ⊎ IsNumber cs n c
 
 -- The entry is that of the write with its number, or is no write. It has the plain containers' reply after as many
--- writes as
--- its stamp says, or that of a section, or a MemoryError.
+-- writes as its stamp says, or that of a section, or a MemoryError.
 pub record Right (kinds : List Kind) (cs : List Call) (e : Entry) : Type 0 where
   pub wrote : e.wrote ≡ is_write e.call e.reply
   pub write : e.wrote ≡ true → IsNumber cs e.stamp e.call

@@ -24,8 +24,7 @@ pub record Window (log : List Act) (o t : ℕ) (walk : List Act) : Type 0 where
   pub before : reads t rest ≡ true
 
 -- The search read that the entry p has the key, its payload after its kind; later, between two loads of its version
--- that
--- found the same even number, its kind was read as that of the key, and the counter loaded.
+-- that found the same even number, its kind was read as that of the key, and the counter loaded.
 pub record Hit (log : List Act) (o t p : ℕ) (key : Key) (n : ℕ) : Type 0 where
   pub walk : List Act
   pub window : Window log o t walk

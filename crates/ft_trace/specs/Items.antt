@@ -1,6 +1,5 @@
 -- What a writer may do to a table of a list while others read it without the lock. Items have versions; one is odd
--- while
--- its item is being written. (profile)
+-- while its item is being written. (profile)
 use Rattle.std.specs.Prelude.{◌≡◌, ℕ, suc, ◌%◌, ◌<◌, ◌≤◌, List, [], ◌∷◌, length, slice_get}
 use Rattle.std.specs.Option.{option_map_or}
 use Rattle.ft_model.specs.declared.data.Value.{Value}

@@ -97,8 +97,7 @@ StampsRise =
     × ((mid : List Act) (m n : ℕ) → u.log ≡ newer ++ ReadCounter m ∷ (mid ++ ReadCounter n ∷ rest) → n ≤ m)
 
 -- where a pass may answer a MemoryError of a class, writes before its stamp took the tables of the class, but for one
--- for
--- each other pass
+-- for each other pass
 abbrev pub MemoryErrorsAreEarned : Type 0
 MemoryErrorsAreEarned =
     (k : Shape) (es : List Event) → Valid k es → (j : ℕ) (u : View) → HasView k es j u → (class n : ℕ) → IsClass class
@@ -120,8 +119,7 @@ EvenWordsStand =
     → StandsFor k (run k es) (history es) o
 
 -- the table of each container is in order: it has room for what is stored, and so no container has more than the
--- largest
--- table holds
+-- largest table holds
 abbrev pub StoredTablesAreInOrder : Type 0
 StoredTablesAreInOrder =
     (k : Shape) (es : List Event) → Valid k es
@@ -175,8 +173,7 @@ CountsStand =
     + total (giving c) (run k es).views
 
 -- the tables of a class less its count are at most the writes that take one by the rule of tables, and one for each
--- view
--- that has lowered the count since its last commit and not raised it again
+-- view that has lowered the count since its last commit and not raised it again
 abbrev pub TablesAreOwed : Type 0
 TablesAreOwed =
     (k : Shape) (es : List Event) → Valid k es → (c : ℕ) → IsClass c

@@ -113,9 +113,8 @@ May k m cs v (StartWrite o f) =
 -- it has made the version odd
 May k m cs v (PutBlock o i x) = (o < containers_in k) × (i < 6) × (is_writing o v.log ≡ true) × (i ≢ 0)
 -- Besides: the new root names a table that is fresh in its hand and as it must be for readers, whose versions have
--- room;
--- no version in the table that the root names now is odd; and no other table was taken out of a root since the last
--- commit. 0 is put before the commit alone.
+-- room; no version in the table that the root names now is odd; and no other table was taken out of a root since the
+-- last commit. 0 is put before the commit alone.
 May k m cs v (PutRoot o r old) =
     (o < containers_in k)
     × (is_writing o v.log ≡ true)
@@ -139,12 +138,10 @@ May k m cs v (PutFresh t i x) = IsTable k t × (i < size (class_of t)) × (stage
 -- the goal of a table that it took out of a root
 May k m cs v (PutHeader t x) = IsTable k t × ((stage t v.log ≡ 3) ⊎ (stage t v.log ≡ 4))
 -- The call is a write of containers of its kind, the version of what it changes is odd by the pass, the reply is that
--- of the plain containers at
--- the counter, the pass has a call left and the counter has room. Each entry with an even version says the same of the
--- content after the call, and each key that is added has its entry. Where the pass has lowered a count and not raised
--- it
--- again, the call takes a table of that class. No content passes its greatest length. Where the pass has put 0 into the
--- root, the call is one that may.
+-- of the plain containers at the counter, the pass has a call left and the counter has room. Each entry with an even
+-- version says the same of the content after the call, and each key that is added has its entry. Where the pass has
+-- lowered a count and not raised it again, the call takes a table of that class. No content passes its greatest length.
+-- Where the pass has put 0 into the root, the call is one that may.
 May k m cs v (Commit c r f s) =
     (is_write c r ≡ true)
     × (is_writing (changes c) v.log ≡ true)

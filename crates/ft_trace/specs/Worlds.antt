@@ -48,8 +48,7 @@ abbrev pub reply_in : StoredWorld → Call → Reply
 reply_in stored called = (answer stored.world no_hands called).reply
 
 -- Whether a call is one that takes keys or items away and may put 0 into the root before its write: a clear, a copy,
--- and a
--- symmetric difference.
+-- and a symmetric difference.
 abbrev pub gives_up_root : TableChange → Bool
 gives_up_root change.Stays = false
 gives_up_root change.Grows = false

@@ -43,57 +43,64 @@ pub fn stamps_rise()
     ensures { StampsRise }
 {}
 
-/// A MemoryError of a class has its cause in the writes before its stamp.
+/// Where a pass may answer a MemoryError of a class, writes before its stamp took the tables of the
+/// class, but for one for each other pass.
 pub fn memory_errors_are_earned()
     ensures { MemoryErrorsAreEarned }
 {}
 
-/// Who stands for all passes has an entry for each write.
+/// A pass that stands for all passes has an entry for each write, and each of its entries is right.
 pub fn one_pass_has_all_entries()
     ensures { OneHasAllEntries }
 {}
 
-/// While the version is even the words stand for the content at the counter.
+/// While the version of a container is even, its words stand for its content after all writes so far,
+/// with the class and the fill of its table.
 pub fn words_stand_while_versions_are_even()
     ensures { EvenWordsStand }
 {}
 
-/// A root that is 0 is that of a container with nothing in it.
+/// A root that is 0 while the version is even is that of a container with no table and nothing in it.
 pub fn zero_roots_have_nothing()
     ensures { ZeroRootsHaveNothing }
 {}
 
-/// A pass knows what it has the lock of, and what it has in hand.
+/// A pass knows the words and the content of each container whose lock it has, and the words of each
+/// table that is fresh in its hand.
 pub fn holders_know()
     ensures { HoldersKnow }
 {}
 
-/// Each table is free, current or in a hand.
+/// Each table is free, or named by a root, or in the hand of a pass, or retired.
 pub fn tables_are_somewhere()
     ensures { TablesAreSomewhere }
 {}
 
-/// No table is in two of these places.
+/// No table is named by two roots or in two hands, and none is in two of these places: free, named by
+/// a root, in a hand.
 pub fn tables_are_in_one_place()
     ensures { TablesAreInOnePlace }
 {}
 
-/// The count word of a class, its bits, and the takings and givings on their way.
+/// A class has as many free tables as its count word says, and one more for each taking and each giving
+/// that has changed one of the two and not yet the other.
 pub fn counts_stand()
     ensures { CountsStand }
 {}
 
-/// The tables that are not counted were taken by writes, but for one for each view.
+/// The tables of a class that its count word leaves out are no more than the writes that took one, and
+/// one for each pass that has lowered the count since its last write.
 pub fn tables_are_owed()
     ensures { TablesAreOwed }
 {}
 
-/// Where a count was found 0, writes took the tables of the class.
+/// Where a pass found the count of a class 0, writes took the tables of the class, but for one for each
+/// other pass.
 pub fn empty_classes_are_earned()
     ensures { EmptyClassesAreEarned }
 {}
 
-/// An announced number is at most the write number.
+/// The announced number of a pass is what it announced last, and at most the write number.
 pub fn announced_numbers_are_low()
     ensures { AnnouncedNumbersAreLow }
 {}
@@ -103,57 +110,62 @@ pub fn found_tables_are_kept()
     ensures { FoundTablesAreKept }
 {}
 
-/// A table that was taken out of a root is written no more.
+/// The words of a table that is free, was taken out of a root or is retired stay as they are.
 pub fn given_up_tables_rest()
     ensures { GivenUpTablesRest }
 {}
 
-/// What holds at every moment of the table that a root names.
+/// The table that a root names is at every moment as readers without the lock need it, also while the
+/// version of its container is odd.
 pub fn tables_are_sound()
     ensures { TablesAreSound }
 {}
 
-/// What stays of it while the root names it.
+/// What readers without the lock have found in a table stays, while its root names it.
 pub fn table_words_stay()
     ensures { TableWordsStay }
 {}
 
-/// A key that was found without the lock.
+/// A key that was found without the lock is there at the stamp, with the words that were read of it.
 pub fn hits_are_right()
     ensures { HitsAreRight }
 {}
 
-/// A key that was not found without the lock.
+/// A key that fits its words and was not found without the lock, up to a slot never used or over all
+/// slots of its probe, is absent at the stamp.
 pub fn misses_are_right()
     ensures { MissesAreRight }
 {}
 
-/// A root that was read 0.
+/// Where a root was read 0 without the lock, the container has nothing at the stamp.
 pub fn bare_roots_are_right()
     ensures { BareRootsAreRight }
 {}
 
-/// An item that was read without the lock.
+/// An item that was read without the lock is the list's at the stamp.
 pub fn items_are_right()
     ensures { ItemsAreRight }
 {}
 
-/// A list is no longer than its table.
+/// At the stamp a list is no longer than the table that its root named.
 pub fn lists_fit_their_tables()
     ensures { ListsFitTheirTables }
 {}
 
-/// What was read between two equal even loads of a version.
+/// What a pass found between two loads of a version that gave the same even number is the reply at the
+/// stamp.
 pub fn looks_are_right()
     ensures { LooksAreRight }
 {}
 
-/// A root that changed names a table that was not found before.
+/// A root that changed since the pass read it names a table that the pass has not found since it last
+/// announced.
 pub fn changed_roots_are_new()
     ensures { ChangedRootsAreNew }
 {}
 
-/// No number wraps.
+/// The counter, the write number and the versions of containers stay below what the shape allows, so
+/// that none wraps.
 pub fn numbers_have_room()
     ensures { NumbersHaveRoom }
 {}
@@ -227,17 +239,17 @@ pub fn cleared_tables_may_be_given_back()
     ensures { ClearedTablesMayBeGivenBack }
 {}
 
-/// A taking may be begun, and ends.
+/// A pass that may lower the count of a class may go on to a table of it, or raise the count again.
 pub fn takings_end()
     ensures { TakingsEnd }
 {}
 
-/// What a dict has under a key, in words.
+/// A dict has under a key the words of its first pair with that key, and nothing where none has it.
 pub fn pairs_are_under_their_keys()
     ensures { PairsAreUnderTheirKeys }
 {}
 
-/// What a set has under a key, in words.
+/// A set has under a key the words of its first element with that key, and nothing where none has it.
 pub fn elements_are_under_their_keys()
     ensures { ElementsAreUnderTheirKeys }
 {}

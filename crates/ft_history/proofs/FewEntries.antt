@@ -23,6 +23,7 @@ use Rattle.ft_model.specs.Answers.{world_by}
 use Rattle.ft_model.specs.Histories.{writes, entries_of, calls_of}
 use Rattle.ft_model.specs.Judging.{IsNext}
 use Rattle.ft_model.proofs.FewSerials.{serials_by, room_for}
+use Rattle.ft_model.proofs.Takings.{sum_both}
 use Rattle.ft_history.specs.Internal.States.{world_before}
 use Rattle.ft_history.specs.Internal.Steps.{IsUnbrokenBefore}
 use Rattle.ft_history.proofs.Places.{by_places, take_next, filter_next}
@@ -34,10 +35,6 @@ use Rattle.ft_history.proofs.GoesAfterLemmas.{few_writes}
 sum_le : (f g : ℕ → ℕ) (xs : List ℕ) → ((x : ℕ) → f x ≤ g x) → sum_by f xs ≤ sum_by g xs
 sum_le f g [] each = omega arith
 sum_le f g (x ∷ xs) each = omega (arith, sum_by-cons f x xs, sum_by-cons g x xs, each x, sum_le f g xs each)
-
-sum_both : (f g h : ℕ → ℕ) (xs : List ℕ) → ((x : ℕ) → h x ≡ f x + g x) → sum_by h xs ≡ sum_by f xs + sum_by g xs
-sum_both f g h [] both = refl
-sum_both f g h (x ∷ xs) both = omega (arith, sum_by-cons f x xs, sum_by-cons g x xs, sum_by-cons h x xs, both x, sum_both f g h xs both)
 
 -- a number of a row is one of them
 abbrev one_at : ℕ → ℕ → ℕ

@@ -165,7 +165,7 @@ answer_containers world hands named h =
       | moved number cursor w s is ↦ ap (map kind_of) w
     ]
 
-slice_get-other : {X : Type 0} (xs : List X) (i other : ℕ) (x : X) → other ≢ i → slice_get (set xs i x) other ≡ slice_get xs other
+pub slice_get-other : {X : Type 0} (xs : List X) (i other : ℕ) (x : X) → other ≢ i → slice_get (set xs i x) other ≡ slice_get xs other
 slice_get-other [] i other x differ = refl
 slice_get-other (y ∷ xs) zero zero x differ = absurd (differ refl)
 slice_get-other (y ∷ xs) zero (suc other) x differ = refl

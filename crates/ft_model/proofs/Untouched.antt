@@ -17,6 +17,7 @@ use Rattle.ft_model.specs.Worlds.{WorldContent, HandsContent, cursor_at, dict_at
 use Rattle.ft_model.specs.Answers.{Answer, answer_dict, answer_list, answer_set, answer, after_write}
 use Rattle.ft_model.specs.Tables.{TableUse, StoredWorld, leaves_tables, takes_in, after_stored}
 use Rattle.ft_model.specs.Changes.{changed_by}
+use Rattle.ft_model.proofs.AnswerLaws.{slice_get-other}
 
 -- one list has what another has, or something else at the place that may change
 data Left {X : Type 0} (old : List X) (changed : Option ℕ) (new : List X) : Type 0 where
@@ -167,13 +168,6 @@ left-tables old new tables call.End takes = same refl
 left-tables old new tables call.Quiesce takes = same refl
 
 -- ---- the law
-
-slice_get-other : {X : Type 0} (xs : List X) (i other : ℕ) (x : X) → other ≢ i → slice_get (set xs i x) other ≡ slice_get xs other
-slice_get-other [] i other x differ = refl
-slice_get-other (y ∷ xs) zero zero x differ = absurd (differ refl)
-slice_get-other (y ∷ xs) zero (suc other) x differ = refl
-slice_get-other (y ∷ xs) (suc i) zero x differ = refl
-slice_get-other (y ∷ xs) (suc i) (suc other) x differ = slice_get-other xs i other x (λ same. differ (ap suc same))
 
 elsewhere : {X : Type 0} (old new : List X) (changed : Option ℕ) → Left old changed new → (place : ℕ) → changed ≢ Some place → slice_get new place ≡ slice_get old place
 elsewhere {X = X} old new changed (same is) place other = ap (λ (xs : List X). slice_get xs place) is

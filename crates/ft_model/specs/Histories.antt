@@ -209,7 +209,7 @@ needs_at script entries place entry =
     containers_used (hands_at script entries entry.thread place) entry.call
     ++ innermost (after_section place entry.call (sections_at entries entry.thread place))
 
--- a mark names another thread that has a call on a container that the marked call needs (profile)
+-- a mark names another thread that has a call on a container that the marked call needs: one that could have had the lock, which need not be the one that had it (profile)
 abbrev pub IsMarked : ScriptParts → List Entry → ℕ → Entry → Type 0
 IsMarked script entries place entry =
     IfSome entry.waited

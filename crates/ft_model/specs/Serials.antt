@@ -1,4 +1,4 @@
--- What a content keeps to, whichever calls were made: the rule of its kind, and how many keys and serials there are after so many calls.
+-- What a content keeps to, whichever calls were made: the rule of its kind, and how many keys and serials there can be after a number of calls.
 use Rattle.std.specs.Prelude.{ℕ, ◌*◌, ◌≤◌, length}
 use Rattle.ft_model.specs.declared.content.Content.{Content}
 use Rattle.ft_model.specs.declared.content.Content.TheVariants as content

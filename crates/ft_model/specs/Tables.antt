@@ -247,7 +247,7 @@ IsEarnedReply kinds tables threads calls mine call (reply.Raised raise.Over) =
 IsEarnedReply kinds tables threads calls mine call (reply.Raised raise.Heap) = ⊥
 IsEarnedReply kinds tables threads calls mine call _ = would_pass (stored_by kinds calls).world call ≡ false
 
--- containers that are plain never want memory; those on tables do where there is a cause
+-- plain containers are never out of memory; containers on tables are where there is a cause
 abbrev pub IsEarned : Storage → ScriptParts → List Call → List Entry → Entry → Type 0
 IsEarned storage.Plain script calls mine entry = is_memory entry.reply ≡ false
 IsEarned storage.Tables script calls mine entry =

@@ -29,7 +29,9 @@ pub fn is_replied(
         Call::Begin { .. } => Ok(matches!(entry.reply, Reply::Entered)),
         Call::End => Ok(matches!(entry.reply, Reply::Kept | Reply::Suspended(_))),
         Call::Quiesce => Ok(matches!(entry.reply, Reply::Done)),
-        _ => is_answered(alloc, world, hands, entry),
+        Call::Dict { .. } | Call::List { .. } | Call::Set { .. } | Call::Next { .. } => {
+            is_answered(alloc, world, hands, entry)
+        }
     }
 }
 

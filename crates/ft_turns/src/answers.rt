@@ -183,7 +183,7 @@ impl Answers {
             Call::Begin { .. } => Ok(Reply::Entered),
             Call::End => Ok(ended(self.tallies[thread as usize].inside())),
             Call::Quiesce => Ok(Reply::Done),
-            _ => apply(
+            Call::Dict { .. } | Call::List { .. } | Call::Set { .. } | Call::Next { .. } => apply(
                 alloc,
                 &mut self.world,
                 &mut self.hands[thread as usize],

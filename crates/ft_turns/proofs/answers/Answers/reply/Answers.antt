@@ -1,21 +1,21 @@
-use Rattle.std.proofs.Common.{◌≡◌, ℕ, ◌<◌, true, List, length, get_or, Option, refl, sym, subst, ◌∙◌}
+use Rattle.std.proofs.Common.{◌≡◌, ℕ, ◌<◌, true, List, length, get_or, Option, ◌⊎◌, inl, inr, refl, sym, subst, ◌∙◌}
 use Rattle.std.proofs.lemmas.List.{get_or_default}
 use Rattle.ft_model.specs.declared.cursor.Cursor.{Cursor}
 use Rattle.ft_model.specs.Worlds.{no_hands, IsDeclared, HasRoom}
 use Rattle.ft_model.specs.declared.call.Call.{Call}
 use Rattle.ft_model.specs.declared.call.Call.TheVariants as call
+use Rattle.ft_model.specs.declared.call.DictCall.{DictCall}
+use Rattle.ft_model.specs.declared.call.ListCall.{ListCall}
+use Rattle.ft_model.specs.declared.call.SetCall.{SetCall}
 use Rattle.ft_turns.specs.Answering.{Answers, asks_container, hands_in}
 use Rattle.ft_turns.proofs.answers.Answers.reply.Goals as goal
 
--- a call of no section and no `quiesce` asks a container
-asks : (called : Call) → ((first : ℕ) (second : Option ℕ) → called ≡ call.Begin first second → ⊥) → (called ≡ call.End → ⊥) → (called ≡ call.Quiesce → ⊥) → asks_container called ≡ true
-asks (call.Dict container dict_call) begins ends quiesces = refl
-asks (call.List container list_call) begins ends quiesces = refl
-asks (call.Set container set_call) begins ends quiesces = refl
-asks (call.Next cursor) begins ends quiesces = refl
-asks (call.Begin first second) begins ends quiesces = absurd (begins first second refl)
-asks call.End begins ends quiesces = absurd (ends refl)
-asks call.Quiesce begins ends quiesces = absurd (quiesces refl)
+-- one of a container's calls, or `next`, asks a container
+asks : (called : Call) → ((container : ℕ) × (asked : DictCall) × (called ≡ call.Dict container asked)) ⊎ ((container : ℕ) × (asked : ListCall) × (called ≡ call.List container asked)) ⊎ ((container : ℕ) × (asked : SetCall) × (called ≡ call.Set container asked)) ⊎ ((cursor : ℕ) × (called ≡ call.Next cursor)) → asks_container called ≡ true
+asks called (inl dict) = rw dict.2 refl
+asks called (inr (inl list)) = rw list.2 refl
+asks called (inr (inr (inl set))) = rw set.2 refl
+asks called (inr (inr (inr next))) = rw next.1 refl
 
 -- what holds of the answers holds of their parts
 declared_here : (view now : Answers) → view ≡ now → (thread : ℕ) (hands : List (Option Cursor)) (called : Call) → thread < length now.hands → hands ≡ get_or view.hands thread hands → IsDeclared now.world (hands_in now thread) called → IsDeclared view.world hands called
@@ -29,7 +29,7 @@ room_here view now same called room = subst (λ (a : Answers). HasRoom a.world c
 
 pub apply-requires : goal.apply-requires
 apply-requires c =
-    let container = asks c.args.call.now c.in_default.not-Begin c.in_default.not-End c.in_default.not-Quiesce in
+    let container = asks c.args.call.now c.in-Dict.is in
     record {
       declared = declared_here _ c.args.self.now c.self.view_is c.args.thread c.index_mut.result.now c.args.call.now c.requires.hands c.index_mut.ensures.value (c.requires.declared container);
       room = room_here _ c.args.self.now c.self.view_is c.args.call.now (c.requires.room container);

@@ -4,3 +4,4 @@ pub mod Readying
 pub mod Starting
 pub mod Tables
 pub mod Putting
+pub mod Whole

@@ -6,3 +6,4 @@ pub mod Writes
 pub mod Reads
 pub mod Tables
 pub mod Closings
+pub mod Whole

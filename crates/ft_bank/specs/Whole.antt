@@ -1,0 +1,113 @@
+-- What loads, puts and whole writes leave of what a pass knows, for all kinds of containers.
+use Rattle.std.specs.Prelude.{◌≡◌, ◌≢◌, ℕ, suc, ◌<◌, ◌==◌, true, false, cond, ◌∷◌}
+use Rattle.ft_model.specs.declared.call.Call.{Call}
+use Rattle.ft_model.specs.declared.reply.Reply.{Reply}
+use Rattle.ft_model.specs.Tables.{StoredWorld, after_stored}
+use Rattle.ft_trace.specs.declared.Act.TheVariants.{PutRoot}
+use Rattle.ft_trace.specs.declared.Entry.{Entry}
+use Rattle.ft_trace.specs.declared.View.{View}
+use Rattle.ft_trace.specs.Addresses.{containers_in}
+use Rattle.ft_trace.specs.Acts.{has_lock, is_writing, has_committed, has_emptied, stage, stage_next, announces, used, debt, debt_next, flight, owes, mem, past}
+use Rattle.ft_trace.specs.Worlds.{kept_at, changes}
+use Rattle.ft_trace.specs.Words.{root_in, Stands}
+use Rattle.ft_trace.specs.Holds.{held, known, AgreesWith}
+
+-- It is the same pass: it has the same locks, has made the same versions odd, announces the same, and is in the midst of
+-- the same taking or giving. (profile)
+pub record SamePass (v w : View) : Type 0 where
+  pub number : w.number ≡ v.number
+  pub next : w.next ≡ v.next
+  pub parts : w.parts ≡ v.parts
+  pub shape : w.shape ≡ v.shape
+  pub locks : (p : ℕ) → has_lock p w.log ≡ has_lock p v.log
+  pub writes : (p : ℕ) → is_writing p w.log ≡ is_writing p v.log
+  pub announced : announces w.log ≡ announces v.log
+  pub flight : flight w.log ≡ flight v.log
+
+-- The same pass has made no entry and no call, and has the same tables in hand; and each write that it has begun is as
+-- far as it was. (profile)
+pub record SameWork (v w : View) : Type 0 where
+  pub pass : SamePass v w
+  pub left : w.left ≡ v.left
+  pub entries : w.entries ≡ v.entries
+  pub committed : (p : ℕ) → has_committed p w.log ≡ has_committed p v.log
+  pub emptied : (p : ℕ) → has_emptied p w.log ≡ has_emptied p v.log
+  pub hands : (t : ℕ) → stage t w.log ≡ stage t v.log
+  pub used : used w.log ≡ used v.log
+  pub debt : debt w.log ≡ debt v.log
+  pub owes : owes w.log ≡ owes v.log
+  pub past : past w.log ≡ past v.log
+
+-- The pass has loaded words of the bank, and done nothing else. (profile)
+pub record OnlyLoaded (v w : View) : Type 0 where
+  pub work : SameWork v w
+  pub words : mem v.shape w.log ≡ mem v.shape v.log
+
+-- The pass has loaded words of the bank and put words of the container o, and done nothing else: of each other container
+-- whose lock it has and that it doesn't write it knows the same words. (profile)
+pub record OnlyPut (o : ℕ) (v w : View) : Type 0 where
+  pub work : SameWork v w
+  pub others : (p : ℕ) → p < containers_in v.shape → p ≢ o → has_lock p v.log ≡ true → is_writing p v.log ≡ false
+      → held p w ≡ held p v
+
+-- the entry of a write
+abbrev pub write_entry : Call → Reply → ℕ → Entry
+write_entry called said number = record { call = called; reply = said; stamp = number; wrote = true }
+
+-- The table in the pass's hand once a container that had one root has another: the one that the root named is taken out
+-- of it, and the one that it names now is in no hand. (profile)
+abbrev pub hand_after : ℕ → ℕ → ℕ → ℕ → ℕ → ℕ
+hand_after o old root t stands = cond (old == root) stands (stage_next t (PutRoot o root old) stands)
+
+-- How many tables it has to retire then. (profile)
+abbrev pub debt_after : ℕ → ℕ → ℕ → ℕ → ℕ
+debt_after o old root n = cond (old == root) n (debt_next (PutRoot o root old) n)
+
+-- The pass, which has made the version of a container odd and put its words, has made the call as its write there, and the
+-- version even again: the second half of a whole write. (profile)
+pub record EndsWrite (called : Call) (said : Reply) (number : ℕ) (v w : View) : Type 0 where
+  pub same_number : w.number ≡ v.number
+  pub next : w.next ≡ v.next
+  pub parts : w.parts ≡ v.parts
+  pub shape : w.shape ≡ v.shape
+  pub locks : (p : ℕ) → has_lock p w.log ≡ has_lock p v.log
+  pub even : is_writing (changes called) w.log ≡ false
+  pub writes : (p : ℕ) → p ≢ changes called → is_writing p w.log ≡ is_writing p v.log
+  pub announced : announces w.log ≡ announces v.log
+  pub flight : flight w.log ≡ flight v.log
+  pub left : v.left ≡ suc w.left
+  pub entries : w.entries ≡ write_entry called said number ∷ v.entries
+  pub hands : (t : ℕ) → stage t w.log ≡ stage t v.log
+  pub debt : debt w.log ≡ debt v.log
+  pub used : used w.log ≡ false
+  pub owes : owes w.log ≡ 0
+  pub root : root_in (held (changes called) w) ≡ root_in (held (changes called) v)
+  pub others : (p : ℕ) → p < containers_in v.shape → p ≢ changes called → has_lock p v.log ≡ true
+      → is_writing p v.log ≡ false
+      → (held p w ≡ held p v) × (known p w ≡ known p v)
+  pub found : StoredWorld
+  pub agrees : AgreesWith v found
+  pub content : known (changes called) w ≡ kept_at (after_stored found called) (changes called)
+  pub stands : Stands v.shape.texts (held (changes called) w) (known (changes called) w)
+
+-- The pass made this call as one whole write, with this reply, and the write has this number. It has one entry more, and
+-- a call less left. It knows the same of each other container whose lock it has and that it doesn't write. Of the
+-- container that the call changes it knows what the call makes of all that the containers had whose locks it has, and
+-- the words that it knows stand for that, with the class and the fill of its table. (profile)
+pub record Wrote (called : Call) (said : Reply) (number : ℕ) (v w : View) : Type 0 where
+  pub pass : SamePass v w
+  pub left : v.left ≡ suc w.left
+  pub entries : w.entries ≡ write_entry called said number ∷ v.entries
+  pub hands : (t : ℕ) → stage t w.log
+      ≡ hand_after (changes called) (root_in (held (changes called) v)) (root_in (held (changes called) w)) t (stage t v.log)
+  pub debt : debt w.log
+      ≡ debt_after (changes called) (root_in (held (changes called) v)) (root_in (held (changes called) w)) (debt v.log)
+  pub used : used w.log ≡ false
+  pub owes : owes w.log ≡ 0
+  pub others : (p : ℕ) → p < containers_in v.shape → p ≢ changes called → has_lock p v.log ≡ true
+      → is_writing p v.log ≡ false
+      → (held p w ≡ held p v) × (known p w ≡ known p v)
+  pub found : StoredWorld
+  pub agrees : AgreesWith v found
+  pub content : known (changes called) w ≡ kept_at (after_stored found called) (changes called)
+  pub stands : Stands v.shape.texts (held (changes called) w) (known (changes called) w)

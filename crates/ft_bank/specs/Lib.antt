@@ -1,6 +1,7 @@
 pub mod Shapes
 pub mod Rules
 pub mod Passes
+pub mod Series
 pub mod Locks
 pub mod Writes
 pub mod Reads

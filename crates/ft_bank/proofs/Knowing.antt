@@ -93,7 +93,7 @@ loaded_low v n l es id knows =
     let now : word k (w.newer ++ w.older) counter ≡ word k es counter = ap (λ (z : List Event). word k z counter) w.split in
     omega (arith, found, up, now)
 
--- the writes that are left to a pass are some of those of the bank
+-- the calls that are left to a pass are some of those of the bank
 pub left_low : (v : View) (a : Act) → Acted v a → v.left ≤ v.shape.passes * v.shape.calls
 left_low v a d =
     let t = total_set (λ (u : View). u.left) (run v.shape d.0).views d.1 v spent d.2.1.0 in

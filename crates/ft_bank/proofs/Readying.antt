@@ -15,6 +15,8 @@ use Rattle.ft_trace.specs.Kinds.{rows, version_at, ClearAs}
 use Rattle.ft_trace.specs.Openings.{Shut, Low}
 use Rattle.ft_trace.specs.Holds.{held, known, Committed, in_hand}
 use Rattle.ft_trace.specs.Traces.{run, history, snap, Ready, ReadyAs, Sure, word, SoundFor, LowFor}
+use Rattle.ft_trace.proofs.FitCalls.{contents_fit}
+use Rattle.ft_trace.proofs.Known.{kinds_stay}
 use Rattle.ft_trace.proofs.Rooms.{counter_room, version_room}
 use Rattle.ft_trace.proofs.Versions.{writer_has}
 use Rattle.ft_trace.proofs.Held.{content_known, root_known, table_known, stop_sure, put_sure, sound_sure, hand_known, agrees_now}
@@ -34,7 +36,9 @@ pub has_now : (v : View) → Sure v (λ es. MayHave v (stored_newest v.shape.kin
 has_now v es id knows = record {
   agrees = agrees_now v es id knows;
   containers = as_many v.shape.kinds (history es);
+  kinds = kinds_stay v.shape es knows.0;
   order = in_order v.shape es knows.0;
+  words = contents_fit v.shape es knows.0;
 }
 
 pub start_ready : (v : View) (i o : ℕ) → AreFew v → o < containers_in v.shape → has_lock o v.log ≡ true → is_writing o v.log ≡ false → Ready v i (λ n. StartWrite o n)
@@ -86,6 +90,7 @@ commit_ready v c r few may es id knows small =
         may.fits now has,
         may.empties,
         may.declared now has,
+        may.words,
       ),
     )
 

@@ -31,6 +31,6 @@ Grabs act st m n w = (s : Snap) × Notes (λ z. act z s) m n w
 abbrev pub Looks : {S : Type 0} → (ℕ → Snap → Act) → Step S → Me S View → ℕ → Me S View → Type 0
 Looks act st m n w = (n ≡ 0 → w ≡ m) × (n ≢ 0 → (s : Snap) × Notes (λ z. act z s) m n w)
 
--- the action is none that takes one of the writes that the pass may still make
+-- the action is none that takes one of the calls that the pass may still make
 abbrev pub LeavesWrites : View → (ℕ → Snap → Act) → Type 0
 LeavesWrites v act = (n : ℕ) (s : Snap) → left_next (act n s) v.left ≡ v.left

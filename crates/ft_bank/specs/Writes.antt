@@ -1,12 +1,12 @@
 -- What the steps of a write ask of the pass that makes them, in what it knows.
-use Rattle.std.specs.Prelude.{◌≡◌, ◌≢◌, ℕ, suc, ◌<◌, ◌≤◌, true, false, length, Option, Some, None, slice_index, slice_set}
+use Rattle.std.specs.Prelude.{All, map, ◌≡◌, ◌≢◌, ℕ, suc, ◌<◌, ◌≤◌, true, false, length, Option, Some, None, slice_index, slice_set}
 use Rattle.ft_model.specs.declared.call.Call.{Call}
 use Rattle.ft_model.specs.declared.reply.Reply.{Reply}
 use Rattle.ft_model.specs.Answers.{is_write}
 use Rattle.ft_model.specs.Changes.{AreTablesInOrder}
 use Rattle.ft_model.specs.Histories.{IsReplied}
 use Rattle.ft_model.specs.Tables.{StoredWorld, after_stored, takes_in, would_pass}
-use Rattle.ft_model.specs.Worlds.{no_hands, IsDeclared}
+use Rattle.ft_model.specs.Worlds.{kind_of, no_hands, IsDeclared}
 use Rattle.ft_trace.specs.declared.View.{View}
 use Rattle.ft_trace.specs.Addresses.{containers_in, class_of}
 use Rattle.ft_trace.specs.Acts.{has_lock, is_writing, has_committed, has_emptied, owes, stage, used}
@@ -14,28 +14,32 @@ use Rattle.ft_trace.specs.Worlds.{kept_at, kind_in, changes, may_empty, reply_in
 use Rattle.ft_trace.specs.Words.{Picture, root_in}
 use Rattle.ft_trace.specs.Kinds.{rows, version_at, SoundAs, CarefulAs, ClearAs}
 use Rattle.ft_trace.specs.Openings.{Shut, Timely}
+use Rattle.ft_trace.specs.FitCalls.{FitsCall, FitsContent}
 use Rattle.ft_trace.specs.Holds.{held, known, in_hand, AgreesWith}
 use Rattle.ft_bank.specs.declared.table.Table.{Table}
 use Rattle.ft_bank.specs.Tables.{name_of, root_for, words_for}
 
 -- a stored world that the bank may have where a pass knows this: it has every container, those whose locks the pass has
--- as the pass knows them, and its tables are in order
+-- as the pass knows them, each is of its kind, its tables are in order, and words can tell what it has
 pub record MayHave (v : View) (stored : StoredWorld) : Type 0 where
   pub agrees : AgreesWith v stored
   pub containers : length stored.world ≡ containers_in v.shape
+  pub kinds : map kind_of stored.world ≡ v.shape.kinds
   pub order : AreTablesInOrder stored
+  pub words : All FitsContent stored.world
 
 -- The call may be written with this reply, whatever the bank has that agrees with what the pass knows. It is a write of
--- a container whose version the pass has made odd, and the pass has a write left. The reply is that of the plain
--- containers, which have what the call names, and none passes its greatest length. In the table that stays each entry or
--- item with an even version says the same after the call, and each that is added is there. Where the pass has lowered a
--- count and not raised it again, the call takes a table of that class; where it has put 0 into the root, the call is one
--- that may.
+-- a container whose version the pass has made odd, words can tell its keys and values, and the pass has a call left. The
+-- reply is that of the plain containers, which have what the call names, and none passes its greatest length. In the
+-- table that stays each entry or item with an even version says the same after the call, and each that is added is
+-- there. Where the pass has lowered a count and not raised it again, the call takes a table of that class; where it has
+-- put 0 into the root, the call is one that may.
 pub record MayCommit (v : View) (call : Call) (reply : Reply) : Type 0 where
   pub write : is_write call reply ≡ true
   pub container : changes call < containers_in v.shape
   pub odd : is_writing (changes call) v.log ≡ true
   pub left : 0 < v.left
+  pub words : FitsCall call
   pub reply_is : (stored : StoredWorld) → MayHave v stored → IsReplied call reply (reply_in stored call)
   pub declared : (stored : StoredWorld) → MayHave v stored → IsDeclared stored.world no_hands call
   pub fits : (stored : StoredWorld) → MayHave v stored → would_pass stored.world call ≡ false

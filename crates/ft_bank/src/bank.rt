@@ -66,7 +66,7 @@ impl Bank {
         Ok((bank, pass))
     }
 
-    /// Makes another pass, which may make as many writes as the shape says for one. Only the first pass
+    /// Makes another pass, which may make as many calls as the shape says for one. Only the first pass
     /// may, while fewer than the shape's passes were made.
     pub fn split(&self, pass: &mut Pass) -> Pass
         requires pass { IsPassOf self.now pass.old }

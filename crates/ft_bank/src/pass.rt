@@ -1,5 +1,5 @@
 //! A pass, with what it keeps beside its part of the proofs: its number, the number of the next pass,
-//! and the writes that it may still make. What it knows is a view of `ft_trace`.
+//! and the calls that it may still make. What it knows is a view of `ft_trace`.
 ghost use Rattle.std.specs.Prelude.{◌≡◌, ◌+◌, [], suc};
 ghost use Rattle.ft_trace.specs.Traces.{Possible};
 
@@ -31,7 +31,7 @@ impl Pass {
         self.number
     }
 
-    /// How many writes the pass may still make.
+    /// How many calls the pass may still make: each entry takes one.
     pub fn left(&self) -> u64
         ensures { result ≡ (view self.now).left }
     {

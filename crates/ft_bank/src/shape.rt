@@ -23,7 +23,7 @@ pub struct Shape {
     pub heap: u32,
     /// How many passes there are, 1 to 64.
     pub passes: u32,
-    /// How many writes each pass may make.
+    /// How many calls each pass may make.
     pub calls: u32,
 }
 

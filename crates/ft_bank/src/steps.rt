@@ -145,13 +145,15 @@ impl Bank {
         requires pass { IsPassOf self.now pass.old }
         requires act { Acts (view pass.old) 0 (λ n. n) A.act }
         requires ready { Ready (view pass.old) 0 A.act }
-        requires left { LeavesWrites (view pass.old) (λ n _. A.act n) }
+        requires room { 0 < (view pass.old).left }
+        requires left { (n : ℕ) → left_next (A.act n) (view pass.old).left + 1 ≡ (view pass.old).left }
         ensures { (n : ℕ) × Did (A.act n) pass.old pass.new }
     {
         let _ = call;
         let _ = reply;
         let _ = number;
         self.table.shared.load::<Does<A>>(&mut pass.seat, 0);
+        pass.left -= 1;
     }
 
     /// Takes what another pass knows into this one's view, and loads the counter.

@@ -202,6 +202,7 @@ module _ (v : View) (o : ℕ) (values : List Value) (live : v.number ≢ 0) (pos
         refl,
         (λ _. refl),
         declared n es id knows,
+        tt,
       ))
 
   step5 : (n m : ℕ) (s : Snap) → Possible (c4 n m s) → (f : ℕ) × Possible (c5 n m s f)

@@ -404,6 +404,7 @@ module _ (versions : EntryVersionsChangeNothing) (follow : WordsFollowAValue) (l
   may_write = record {
     of = refl;
     wrote = refl;
+    fits = (fits_key, fits);
     root = tt;
     early = subst (λ (z : Kind × Content). MayPuts z.0 t z.1 false (held o v) (value_puts n ws place value)) (λ d. (kind_eq d, sym is_dict d)) early;
     commit = commits;

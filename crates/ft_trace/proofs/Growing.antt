@@ -43,6 +43,7 @@ use Rattle.ft_trace.specs.Traces.{Possible}
 use Rattle.ft_trace.specs.Writes.{to_block, to_table, MayPut, MayPuts, Write, with_root, at_commit, at_end, after_write_of, MayBegin, MayReplace, MayCommit, MayWriteSo}
 use Rattle.ft_trace.specs.KeyWrites.{count_puts}
 use Rattle.ft_trace.specs.GrowWrites.{dict_grow_write, HasGrown, DictsMayGrow}
+use Rattle.ft_trace.proofs.FitCalls.{dict_fits_words, set_fit}
 use Rattle.ft_trace.proofs.Pieces.{table_long}
 use Rattle.ft_trace.proofs.Known.{kind_known, declared_at, after_header}
 use Rattle.ft_trace.proofs.EntryPuts.{entry_close}
@@ -283,6 +284,7 @@ module _ (versions : EntryVersionsChangeNothing) (first : FirstEntriesArePairs) 
   may_write = record {
     of = refl;
     wrote = refl;
+    fits = set_fit pairs key value has.missing (dict_fits_words k.texts (at_commit v o write).block (0 ∷ 0 ∷ in_hand t v) (class_of t) (length pairs.pairs + 1) (dict_set pairs key value) has.words);
     root = replaces;
     early = early (kind_in k.kinds o) (known o v).content;
     commit = commits;

@@ -39,6 +39,7 @@ use Rattle.ft_trace.specs.Grants.{MayWrite}
 use Rattle.ft_trace.specs.Writes.{to_block, to_table, MayPut, MayPuts, Write, at_commit, at_end, after_write_of, MayCommit, MayWriteSo}
 use Rattle.ft_trace.specs.EntryWrites.{entry_closed}
 use Rattle.ft_trace.specs.KeyWrites.{key_puts, count_puts, dict_add_write, KeysMayBeAdded}
+use Rattle.ft_trace.proofs.FitCalls.{dict_fits_words, set_fit}
 use Rattle.ft_trace.proofs.Known.{declared_at, in_bank, table_is_long, after_header}
 use Rattle.ft_trace.proofs.KeyPuts.{key_open, key_hash, key_pay, key_value_kind, key_value_pay, key_serial, key_kind_put, key_index, same8, key_late, key_shut}
 use Rattle.ft_trace.proofs.ListWrites.{may_begin}
@@ -266,6 +267,7 @@ module _ (versions : EntryVersionsChangeNothing) (first : FirstEntriesArePairs) 
   may_write = record {
     of = refl;
     wrote = refl;
+    fits = set_fit pairs key value missing (dict_fits_words k.texts block (0 ∷ 0 ∷ put) c (p + 1) news now);
     root = tt;
     early = subst (λ (z : Kind × Content). MayPuts z.0 t z.1 false (held o v) write.early) (λ d. (kind_eq d, sym is_dict d)) early;
     commit = commits;

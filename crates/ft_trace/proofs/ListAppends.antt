@@ -231,6 +231,7 @@ module _ (versions : VersionsChangeNothing) (one : PutsChangeOneItem) (follow : 
   may_write = record {
     of = refl;
     wrote = refl;
+    fits = fits;
     root = tt;
     early = early;
     commit = commits;

@@ -195,6 +195,7 @@ module _ (versions : VersionsChangeNothing) (one : PutsChangeOneItem) (follow : 
   may_write = record {
     of = refl;
     wrote = refl;
+    fits = fits;
     root = tt;
     early = subst (λ (z : Kind × Content). MayPuts z.0 t z.1 false (held o v) (item_puts ws place value)) (λ d. (kind_eq d, sym is_list d)) (item_early t class_is b ws values news place value names long in_table shut same here short);
     commit = commits;

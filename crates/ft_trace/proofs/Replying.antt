@@ -22,7 +22,7 @@ use Rattle.ft_trace.proofs.Stamps.{all_writes}
 use Rattle.ft_trace.proofs.Held.{agrees_now}
 
 pub replies_may_be_given : RepliesMayBeGiven
-replies_may_be_given v call said live p not_write right =
+replies_may_be_given v call said live p some_call not_write right =
     let k = v.shape in
     let es = p.0 in
     let id = p.1 in
@@ -38,7 +38,7 @@ replies_may_be_given v call said live p not_write right =
     let replied : IsReplied call said (reply_in (stored_newest k.kinds (first_writes n (history es))) call) = subst (λ (z : List Call). IsReplied call said (reply_in (stored_newest k.kinds z) call)) (sym all) r.0 in
     let cause : HasCause (stored_newest k.kinds (first_writes n (history es))) u.log call said n = subst (λ (z : List Call). HasCause (stored_newest k.kinds z) u.log call said n) (sym all) r.1 in
     let own : Loaded n u.log = record { newer = []; rest = v.log; is = refl; own = tt } in
-    let may : May k (run k now) (history now) u (Answer call said n) = (not_write, omega (arith, same), replied, own, cause) in
+    let may : May k (run k now) (history now) u (Answer call said n) = (not_write, omega (arith, same), replied, own, cause, some_call) in
     (n, (did id u (Answer call said n) ∷ now, id, (((p.2.0, (p.2.1, live, refl, tt)), (at, live, tt, may)), set_at (run k now).views id u (noted (Answer call said n) u) at)))
 
 never_writes : (b : Bool) → (b && false) ≡ false
@@ -56,8 +56,8 @@ memory_replied class call.End adds plain = absurd (true≢false (sym adds))
 memory_replied class call.Quiesce adds plain = absurd (true≢false (sym adds))
 
 pub memory_errors_may_be_answered : MemoryErrorsMayBeAnswered
-memory_errors_may_be_answered v call class newer rest live p is own none right =
-    replies_may_be_given v call (lacks class) live p (never_writes (is_changing call))
+memory_errors_may_be_answered v call class newer rest live p some_call is own none right =
+    replies_may_be_given v call (lacks class) live p some_call (never_writes (is_changing call))
     (λ calls number agree.
     let r = right calls agree in
     (memory_replied class call r.0.adds (reply_in (stored_newest v.shape.kinds calls) call), (r.0, r.1, r.2, record { newer = []; mid = newer; rest = rest; is = ap (λ (l : List Act). ReadCounter number ∷ l) is; own = (tt, own); none = none })))

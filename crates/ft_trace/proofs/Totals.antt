@@ -1,5 +1,5 @@
 -- Sums over all views.
-use Rattle.std.proofs.Common.{◌≡◌, ◌≢◌, ℕ, zero, suc, ◌+◌, ◌*◌, ◌≤◌, List, [], ◌∷◌, ◌++◌, length, set, refl, sym, ap, ◌∙◌, arith}
+use Rattle.std.proofs.Common.{le_refl, ◌≡◌, ◌≢◌, ℕ, zero, suc, ◌+◌, ◌*◌, ◌≤◌, List, [], ◌∷◌, ◌++◌, length, set, refl, sym, ap, ◌∙◌, arith}
 use mathlib.Core.Option.{some, some-ne-none, some-injective}
 use lib.ListN.{get_elem?}
 use Rattle.ft_trace.specs.declared.Shape.{Shape}
@@ -67,20 +67,28 @@ parts_total k (did id v a ∷ es) valid = let t = total_set (λ (u : View). u.pa
 parts_total k (forked id v ∷ es) valid = let may = valid.1.3 in total_forked (λ (u : View). u.parts) (run k es).views id v (maker v) (made v) valid.1.0 (omega arith) ∙ parts_total k es valid.0
 parts_total k (joined id v other w ∷ es) valid = total_joined (λ (u : View). u.parts) (run k es).views id other v w (both v w) spent valid.1.0 valid.1.1 valid.1.2 (omega arith) ∙ parts_total k es valid.0
 
-left_by : (k : Shape) (m : Moment) (cs : List Call) (v : View) (b : Act) → May k m cs v b → left_next b v.left + length (writes_of b cs) ≡ v.left + length cs
+left_by : (k : Shape) (m : Moment) (cs : List Call) (v : View) (b : Act) → May k m cs v b → left_next b v.left + length (writes_of b cs) ≤ v.left + length cs
 left_by k m cs v (Commit c r f s) may = let room = may.3 in omega arith
-left_by k m cs v act may = refl
+left_by k m cs v (Answer c r n) may = omega arith
+left_by k m cs v act may = le_refl (v.left + length cs)
 
--- the writes made and those that are left
-pub left_total : (k : Shape) (es : List Event) → Valid k es → total (λ (u : View). u.left) (run k es).views + length (history es) ≡ k.passes * k.calls
+-- the writes made and the calls that are left
+pub left_total : (k : Shape) (es : List Event) → Valid k es → total (λ (u : View). u.left) (run k es).views + length (history es) ≤ k.passes * k.calls
 left_total k [] valid = omega arith
 left_total k (did id v a ∷ es) valid =
     let t = total_set (λ (u : View). u.left) (run k es).views id v (noted a v) valid.1.0 in
     let old = left_total k es valid.0 in
     let by = left_by k (run k es) (history es) v a valid.1.3 in
     omega arith
-left_total k (forked id v ∷ es) valid = let may = valid.1.4 in ap (λ (n : ℕ). n + length (history es)) (total_forked (λ (u : View). u.left) (run k es).views id v (maker v) (made v) valid.1.0 (omega arith)) ∙ left_total k es valid.0
-left_total k (joined id v other w ∷ es) valid = ap (λ (n : ℕ). n + length (history es)) (total_joined (λ (u : View). u.left) (run k es).views id other v w (both v w) spent valid.1.0 valid.1.1 valid.1.2 (omega arith)) ∙ left_total k es valid.0
+left_total k (forked id v ∷ es) valid =
+    let may = valid.1.4 in
+    let t = total_forked (λ (u : View). u.left) (run k es).views id v (maker v) (made v) valid.1.0 (omega arith) in
+    let old = left_total k es valid.0 in
+    omega (arith, t, old)
+left_total k (joined id v other w ∷ es) valid =
+    let t = total_joined (λ (u : View). u.left) (run k es).views id other v w (both v w) spent valid.1.0 valid.1.1 valid.1.2 (omega arith) in
+    let old = left_total k es valid.0 in
+    omega (arith, t, old)
 
 weight_by : (h : Entry → ℕ) (b : Act) (es fs : List Entry) → total h (entries_next b es) + total h fs ≡ total h (entries_next b fs) + total h es
 weight_by h (Commit c r f s) es fs = omega arith

@@ -276,6 +276,7 @@ module _ (v : View) (o t : ℕ) (write : Write) (begin : MayBegin v o) (may : Ma
         c.within,
         subst (λ (z : ℕ). has_emptied z log ≡ true → may_empty write.call ≡ true) (sym may.of) r.6,
         c.declared,
+        may.fits,
       )
 
   -- the rest, from the commit on

@@ -219,9 +219,10 @@ entries_next (Commit c r f s) es = record { call = c; reply = r; stamp = f; wrot
 entries_next (Answer c x s) es = record { call = c; reply = x; stamp = s; wrote = false } ∷ es
 entries_next act es = es
 
--- the writes that are left
+-- the calls that are left
 abbrev pub left_next : Act → ℕ → ℕ
 left_next (Commit c r f s) n = n - 1
+left_next (Answer c r x) n = n - 1
 left_next act n = n
 
 -- what a pass knows after one more action

@@ -33,6 +33,7 @@ use Rattle.ft_trace.specs.Words.{entry_at, item_at, walk_of, table_of, picture}
 use Rattle.ft_trace.specs.Items.{words_at}
 use Rattle.ft_trace.specs.Kinds.{rows, is_key, pair_words, element_words, under, LaterAs, IsKeyed, IsItems}
 use Rattle.ft_trace.specs.Holds.{held, known, in_hand}
+use Rattle.ft_trace.specs.FitCalls.{FitsContent}
 use Rattle.ft_trace.specs.Reading.{Among, IsNothing, Looked}
 use Rattle.ft_trace.specs.Finding.{Hit, Miss, Full, Bare, ItemHit, ItemPast, IsNew}
 use Rattle.ft_trace.specs.Traces.{Event, run, word, history, StandsFor, SoundFor, ShutFor, Valid, Knows}
@@ -125,6 +126,13 @@ StoredTablesAreInOrder =
     (k : Shape) (es : List Event) → Valid k es
     → AreTablesInOrder (stored_newest k.kinds (history es))
     × All (λ content. passes_cap content ≡ false) (stored_newest k.kinds (history es)).world
+
+-- words can tell each key and value that a container has, or had after the first writes of the history
+abbrev pub ContentsFit : Type 0
+ContentsFit =
+    (k : Shape) (es : List Event) → Valid k es
+    → All FitsContent (stored_newest k.kinds (history es)).world
+    × ((n : ℕ) → All FitsContent (stored_newest k.kinds (first_writes n (history es))).world)
 
 -- a root that is 0 while the version is even is that of a container with no table and nothing in it
 abbrev pub ZeroRootsHaveNothing : Type 0

@@ -1,5 +1,5 @@
 -- Replies that a pass may give to calls that aren't writes: conditions that callers can meet.
-use Rattle.std.specs.Prelude.{◌≡◌, ◌≢◌, ℕ, false, List, ◌∷◌, ◌++◌, Some}
+use Rattle.std.specs.Prelude.{◌≡◌, ◌≢◌, ℕ, ◌<◌, false, List, ◌∷◌, ◌++◌, Some}
 use Rattle.ft_model.specs.declared.call.Call.{Call}
 use Rattle.ft_model.specs.declared.reply.Reply.{Reply}
 use Rattle.ft_model.specs.declared.reply.Reply.TheVariants as reply
@@ -20,11 +20,11 @@ use Rattle.ft_trace.specs.Traces.{Possible}
 abbrev pub after_answer : View → Call → Reply → ℕ → View
 after_answer v call said number = noted (Answer call said number) (noted (ReadCounter number) v)
 
--- A pass may load the counter and give a reply with that stamp, where it is the plain containers' in each history that
+-- A pass with a call left may load the counter and give a reply with that stamp, where it is the plain containers' in each history that
 -- agrees with what the pass knows of the containers whose locks it has, and has its cause there.
 abbrev pub RepliesMayBeGiven : Type 0
 RepliesMayBeGiven =
-    (v : View) (call : Call) (said : Reply) → v.number ≢ 0 → Possible v → is_write call said ≡ false
+    (v : View) (call : Call) (said : Reply) → v.number ≢ 0 → Possible v → 0 < v.left → is_write call said ≡ false
     → ((calls : List Call) (number : ℕ) → AgreesWith v (stored_newest v.shape.kinds calls)
     → IsReplied call said (reply_in (stored_newest v.shape.kinds calls) call)
     × HasCause (stored_newest v.shape.kinds calls) (ReadCounter number ∷ v.log) call said number)
@@ -34,12 +34,12 @@ RepliesMayBeGiven =
 abbrev pub lacks : ℕ → Reply
 lacks class = reply.Raised (raise.Memory class)
 
--- A pass that found the count of a class 0 since its last entry, and owed no count then, may answer a MemoryError of it
+-- A pass with a call left that found the count of a class 0 since its last entry, and owed no count then, may answer a MemoryError of it
 -- to a call that would take a table of that class.
 abbrev pub MemoryErrorsMayBeAnswered : Type 0
 MemoryErrorsMayBeAnswered =
     (v : View) (call : Call) (class : ℕ) (newer rest : List Act) → v.number ≢ 0 → Possible v
-    → v.log ≡ newer ++ ReadCount class 0 ∷ rest → AreOfOneCall newer → owes rest ≡ 0
+    → 0 < v.left → v.log ≡ newer ++ ReadCount class 0 ∷ rest → AreOfOneCall newer → owes rest ≡ 0
     → ((calls : List Call) → AgreesWith v (stored_newest v.shape.kinds calls)
     → CanLackMemory (stored_newest v.shape.kinds calls).world call
     × (would_pass (stored_newest v.shape.kinds calls).world call ≡ false)

@@ -22,6 +22,7 @@ use Rattle.ft_trace.specs.Worlds.{kept, first_writes, kind_in, changes, may_empt
 use Rattle.ft_trace.specs.Words.{table_of, root_of, picture, Stands}
 use Rattle.ft_trace.specs.Kinds.{rows, version_at, SoundAs, CarefulAs, ClearAs}
 use Rattle.ft_trace.specs.Openings.{Shut, Timely, Low}
+use Rattle.ft_trace.specs.FitCalls.{FitsCall}
 use Rattle.ft_trace.specs.Causes.{Loaded, HasCause}
 
 pub record Moment : Type 0 where
@@ -141,7 +142,7 @@ May k m cs v (PutHeader t x) = IsTable k t × ((stage t v.log ≡ 3) ⊎ (stage 
 -- of the plain containers at the counter, the pass has a call left and the counter has room. Each entry with an even
 -- version says the same of the content after the call, and each key that is added has its entry. Where the pass has
 -- lowered a count and not raised it again, the call takes a table of that class. No content passes its greatest length.
--- Where the pass has put 0 into the root, the call is one that may.
+-- Where the pass has put 0 into the root, the call is one that may. Words can tell the keys and values of the call.
 May k m cs v (Commit c r f s) =
     (is_write c r ≡ true)
     × (is_writing (changes c) v.log ≡ true)
@@ -157,6 +158,7 @@ May k m cs v (Commit c r f s) =
     × (would_pass (stored_newest k.kinds cs).world c ≡ false)
     × (has_emptied (changes c) v.log ≡ true → may_empty c ≡ true)
     × IsDeclared (stored_newest k.kinds cs).world no_hands c
+    × FitsCall c
 -- It has made the version odd and has committed since. The words stand for the content at the counter, with its class
 -- and fill, and no version of an entry or item of the container is odd.
 May k m cs v (StopWrite o f) =
@@ -174,13 +176,14 @@ May k m cs v (ReadRoot o f) = (o < containers_in k) × (0 < announces v.log) × 
 May k m cs v (ReadTable t i f) = IsTable k t × (i < size (class_of t))
 May k m cs v (ReadCounter f) = Unit {0}
 -- The call is no write, and a load of the counter since the last entry gave its stamp. The reply is that of the plain
--- containers after as many writes, or that of a section, or a MemoryError that has its cause.
+-- containers after as many writes, or that of a section, or a MemoryError that has its cause. The pass has a call left.
 May k m cs v (Answer c r n) =
     (is_write c r ≡ false)
     × (n ≤ word_in k m counter)
     × IsReplied c r (reply_in (stored_newest k.kinds (first_writes n cs)) c)
     × Loaded n v.log
     × HasCause (stored_newest k.kinds (first_writes n cs)) v.log c r n
+    × (0 < v.left)
 -- from a count above 0, by a pass that is in the midst of no taking or giving and has lowered no count since its last
 -- commit that it hasn't raised again
 May k m cs v (LowerCount c old f) = IsClass c × (0 < old) × (flight v.log ≡ 0) × (owes v.log ≡ 0)

@@ -15,7 +15,7 @@
 //!     did 0 (StartWrite d)                             └──────┴───────┴─────┴──────┴───────┴───────┴────────┘
 //!     did 0 (Lock d)
 //!     forked 0                ──── run ───▶     views   of pass 0, of pass 1: number, log of its own actions,
-//!     (the start)                                       entries, how many passes it stands for, writes left
+//!     (the start)                                       entries, how many passes it stands for, calls left
 //! ```
 //!
 //! Each action is one atomic step on one word. An event is valid where its condition (`May`) held at
@@ -121,7 +121,7 @@ pub struct Shape {
     pub heap: u64,
     /// How many passes there are.
     pub passes: u64,
-    /// How many writes each pass may make.
+    /// How many calls each pass may make.
     pub calls: u64,
 }
 
@@ -133,7 +133,7 @@ pub struct View {
     pub next: u64,
     /// How many passes it stands for.
     pub parts: u64,
-    /// The writes that it may still make.
+    /// The calls that it may still make.
     pub left: u64,
     /// The bank's shape.
     pub shape: Shape,

@@ -1,5 +1,5 @@
 use Rattle.std.proofs.Common.{sym, ap, ◌∙◌, subst, arith}
-use Rattle.std.specs.Prelude.{[]}
+use Rattle.ft_trace.specs.declared.View.{View}
 use Rattle.ft_trace.specs.Addresses.{counter}
 use Rattle.ft_trace.specs.Traces.{Possible}
 use Rattle.ft_trace.proofs.Addresses.{at_low}
@@ -19,6 +19,6 @@ invariant_of-pass g c =
       bare = e.1 ∙ p.bare;
       numbered = ap (λ v. v.number) e.0 ∙ p.numbered;
       following = p.following ∙ sym (ap (λ v. v.next) e.0);
-      leaves = p.leaves ∙ (sym (c.requires.left _ (record { words = []; calls = [] })) ∙ sym (ap (λ v. v.left) e.0));
+      leaves = omega (arith, p.leaves, c.requires.left c.load.result, ap (λ (v : View). v.left) e.0);
       possible = ∣ subst Possible (sym e.0) (acted_possible p.seat.me.0 _ e.2) ∣₁;
     }

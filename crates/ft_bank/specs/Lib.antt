@@ -1,5 +1,6 @@
 pub mod Shapes
 pub mod Rules
+pub mod Sections
 pub mod Passes
 pub mod Series
 pub mod Locks

@@ -7,6 +7,7 @@ use Rattle.ft_trace.specs.Acts.{noted}
 use Rattle.ft_bank.specs.Shapes.{plan}
 use Rattle.ft_bank.specs.declared.bank.Bank.{Bank}
 use Rattle.ft_bank.specs.declared.pass.Pass.{Pass}
+use Rattle.ft_bank.specs.Sections.{stack_of}
 
 -- the bank's shape
 abbrev pub shape_of : Bank → Shape
@@ -20,10 +21,16 @@ view p = p.seat.me.0
 abbrev pub IsPassOf : Bank → Pass → Type 0
 IsPassOf b p = (p.seat.table_id ≡ b.table.shared.table_id) × (p.seat.me.0.shape ≡ plan b.shape)
 
--- the pass has done this, and nothing else
+-- the pass has done this, and nothing else; its sections stay
 abbrev pub Did : Act → Pass → Pass → Type 0
-Did a p q = (q.seat.table_id ≡ p.seat.table_id) × (q.seat.me.0 ≡ noted a p.seat.me.0)
+Did a p q =
+    (q.seat.table_id ≡ p.seat.table_id) × (q.seat.me.0 ≡ noted a p.seat.me.0) × (stack_of q ≡ stack_of p)
+
+-- the pass is of the same bank, and knows the same
+abbrev pub KeepsAll : Pass → Pass → Type 0
+KeepsAll p q = (q.seat.table_id ≡ p.seat.table_id) × (q.seat.me.0 ≡ p.seat.me.0)
 
 -- the pass has done nothing
 abbrev pub DidNothing : Pass → Pass → Type 0
-DidNothing p q = (q.seat.table_id ≡ p.seat.table_id) × (q.seat.me.0 ≡ p.seat.me.0)
+DidNothing p q =
+    (q.seat.table_id ≡ p.seat.table_id) × (q.seat.me.0 ≡ p.seat.me.0) × (stack_of q ≡ stack_of p)

@@ -12,6 +12,7 @@ use crate::closed::Closed;
 use crate::opening::{class_sizes, class_starts, opening_words};
 use crate::pass::Pass;
 use crate::rule::{Law, Shares};
+use crate::sections::{Sections, Taking};
 use crate::shape::{MakeFault, Shape};
 use atomic_table::Table;
 use ft_trace::View;
@@ -38,6 +39,7 @@ pub struct Bank {
 impl Bank {
     ghost use Rattle.ft_bank.specs.Passes.{shape_of, view, IsPassOf};
     ghost use Rattle.ft_bank.specs.Closings.{shape_in, entries_in};
+    ghost use Rattle.ft_bank.specs.Sections.{stack_of, no_sections};
 
     /// A bank of this shape, and its first pass, which stands for all passes.
     pub fn new(alloc: Global, shape: Shape) -> Result<(Bank, Pass), MakeFault>
@@ -45,6 +47,7 @@ impl Bank {
         ensures shape { IfOk result (λ made. shape_of made.0 ≡ plan shape) }
         ensures pass { IfOk result (λ made. IsPassOf made.0 made.1) }
         ensures view { IfOk result (λ made. view made.1 ≡ starter (plan shape)) }
+        ensures sections { IfOk result (λ made. stack_of made.1 ≡ no_sections) }
     {
         let words = opening_words(alloc, &shape)?;
         let starts = class_starts(alloc, &shape)?;
@@ -61,6 +64,9 @@ impl Bank {
             number: 0,
             next: 2,
             left,
+            sections: Sections::none(),
+            own: Taking::NONE,
+            mark: None,
             seat,
         };
         Ok((bank, pass))
@@ -74,6 +80,7 @@ impl Bank {
         ensures passes { IsPassOf self.now pass.new × IsPassOf self.now result }
         ensures maker { view pass.new ≡ maker (view pass.old) }
         ensures made { view result ≡ made (view pass.old) }
+        ensures sections { (stack_of pass.new ≡ stack_of pass.old) × (stack_of result ≡ no_sections) }
     {
         let number = pass.next - 1;
         let left = u64::from(self.shape.calls);
@@ -84,34 +91,43 @@ impl Bank {
             number,
             next: 0,
             left,
+            sections: Sections::none(),
+            own: Taking::NONE,
+            mark: None,
             seat,
         }
     }
 
-    /// Takes in another pass, which has no lock and no table in hand, is offline and has no pass to make:
-    /// what it wrote and read is the first one's from then on. The counter is loaded, so the first pass
+    /// Takes in another pass, which has no lock, no open section and no table in hand, is offline and has
+    /// no pass to make: what it wrote and read is the first one's from then on. The counter is loaded, so the first pass
     /// knows a number of writes that are before this moment.
     pub fn join(&self, pass: &mut Pass, other: Pass)
         requires passes { IsPassOf self.now pass.old × IsPassOf self.now other }
         requires last { (view other).next ≡ 0 }
         requires free { IsFree (view other) }
+        requires sections { (stack_of other).sections ≡ [] }
         ensures pass { IsPassOf self.now pass.new }
+        ensures sections { stack_of pass.new ≡ stack_of pass.old }
         ensures view { (n : ℕ) × (view pass.new ≡ noted (ReadCounter n) (both (view pass.old) (view other))) }
     {
         let Pass {
             number: _,
             next: _,
             left,
+            sections: _,
+            own: _,
+            mark: _,
             seat,
         } = other;
         self.settle_as::<Brand>(&mut pass.seat, seat);
         pass.left += left;
     }
 
-    /// Closes the bank, by a pass that has taken in all others and is free of locks and tables.
+    /// Closes the bank, by a pass that has taken in all others and is free of locks, sections and tables.
     pub fn close(self, pass: Pass) -> Closed
         requires pass { IsPassOf self pass }
         requires free { IsFree (view pass) }
+        requires sections { (stack_of pass).sections ≡ [] }
         requires all { (view pass).parts ≡ (shape_of self).passes }
         ensures shape { shape_in result ≡ shape_of self }
         ensures entries { entries_in result ≡ (view pass).entries }

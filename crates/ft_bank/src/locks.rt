@@ -15,6 +15,7 @@ use std::marker::Brand;
 
 impl Bank {
     ghost use Rattle.ft_bank.specs.Passes.{shape_of, view, IsPassOf, Did};
+    ghost use Rattle.ft_bank.specs.Sections.{noted_in, stack_of};
 
     /// Tries to take the lock of a container. It is loaded first, and put only where it is 0; where
     /// another pass has it, that pass is answered. With the lock the pass knows the container's words
@@ -41,12 +42,13 @@ impl Bank {
         Ok(())
     }
 
-    /// Lets go of the lock of a container, whose version is even.
+    /// Lets go of the lock of a container, whose version is even. No open section notes it as taken.
     pub fn unlock(&self, pass: &mut Pass, o: u32)
         requires pass { IsPassOf self.now pass.old }
         requires container { o < containers_in (shape_of self.now) }
         requires locked { has_lock o (view pass.old).log ≡ true }
         requires even { is_writing o (view pass.old).log ≡ false }
+        requires struck { noted_in o (stack_of pass.old).sections ≡ 0 }
         ensures { Did (Unlock o) pass.old pass.new }
     {
         let word = self.block_of(o);

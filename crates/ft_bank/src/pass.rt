@@ -1,8 +1,9 @@
 //! A pass, with what it keeps beside its part of the proofs: its number, the number of the next pass,
-//! and the calls that it may still make. What it knows is a view of `ft_trace`.
+//! the calls that it may still make, and its critical sections. What it knows is a view of `ft_trace`.
 ghost use Rattle.std.specs.Prelude.{◌≡◌, ◌+◌, [], suc};
 ghost use Rattle.ft_trace.specs.Traces.{Possible};
 
+use crate::sections::{Sections, Taking};
 use atomic_table::Seat;
 use ft_trace::View;
 
@@ -12,6 +13,9 @@ pub struct Pass {
     pub(crate) number: u32,
     pub(crate) next: u32,
     pub(crate) left: u64,
+    pub(crate) sections: Sections,
+    pub(crate) own: Taking,
+    pub(crate) mark: Option<u32>,
     pub(crate) seat: Seat<(), View>,
     ghost bare: { seat.me.1 ≡ [] },
     ghost numbered: { seat.me.0.number ≡ suc number },
@@ -21,7 +25,8 @@ pub struct Pass {
 }
 
 impl Pass {
-    ghost use Rattle.ft_bank.specs.Passes.{view};
+    ghost use Rattle.ft_bank.specs.Passes.{view, KeepsAll};
+    ghost use Rattle.ft_bank.specs.Sections.{stack_of};
 
     /// The number of the pass, from 0 on; the lock of a container names its holder by it.
     pub fn number(&self) -> u32
@@ -36,5 +41,50 @@ impl Pass {
         ensures { result ≡ (view self.now).left }
     {
         self.left
+    }
+
+    /// The open sections, for `ft_section`.
+    pub fn sections(&self) -> &Sections
+        ensures { result.now ≡ (stack_of self.now).sections }
+    {
+        &self.sections
+    }
+
+    /// Puts other open sections in their place, for `ft_section`.
+    pub fn put_sections(&mut self, sections: Sections)
+        ensures view { KeepsAll self.old self.new }
+        ensures stack { stack_of self.new ≡ record (stack_of self.old) { sections = sections } }
+    {
+        self.sections = sections;
+    }
+
+    /// The locks that the call in flight took itself, for `ft_section`.
+    pub fn own(&self) -> Taking
+        ensures { result ≡ (stack_of self.now).own }
+    {
+        self.own
+    }
+
+    /// Puts others in their place, for `ft_section`.
+    pub fn put_own(&mut self, own: Taking)
+        ensures view { KeepsAll self.old self.new }
+        ensures stack { stack_of self.new ≡ record (stack_of self.old) { own = own } }
+    {
+        self.own = own;
+    }
+
+    /// The mark of the call in flight: the number of the pass that it waited for first, for `ft_section`.
+    pub fn mark(&self) -> Option<u32>
+        ensures { result ≡ (stack_of self.now).mark }
+    {
+        self.mark
+    }
+
+    /// Puts another mark in its place, for `ft_section`.
+    pub fn put_mark(&mut self, mark: Option<u32>)
+        ensures view { KeepsAll self.old self.new }
+        ensures stack { stack_of self.new ≡ record (stack_of self.old) { mark = mark } }
+    {
+        self.mark = mark;
     }
 }

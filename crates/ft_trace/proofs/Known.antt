@@ -27,7 +27,7 @@ use Rattle.ft_trace.proofs.Held.{content_known, root_known}
 use Rattle.ft_trace.proofs.Pieces.{block_at, table_long}
 use Rattle.ft_trace.proofs.Places.{root_table}
 
-mapped : {A B : Type 0} (f : A → B) (l : List A) (i : ℕ) (d : A) → slice_index_or (map f l) i (f d) ≡ f (slice_index_or l i d)
+pub mapped : {A B : Type 0} (f : A → B) (l : List A) (i : ℕ) (d : A) → slice_index_or (map f l) i (f d) ≡ f (slice_index_or l i d)
 mapped f [] i d = refl
 mapped f (x ∷ xs) zero d = refl
 mapped f (x ∷ xs) (suc i) d = mapped f xs i d

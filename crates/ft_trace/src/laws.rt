@@ -3,6 +3,7 @@ ghost use Rattle.ft_trace.specs.Grants.{ListsMayBeCleared, ClearedTablesMayBeGiv
 ghost use Rattle.ft_trace.specs.Writes.{WritesMayBeMade};
 ghost use Rattle.ft_trace.specs.ItemWrites.{ItemsMayBePut, ItemsMayBeAppended};
 ghost use Rattle.ft_trace.specs.Replies.{RepliesMayBeGiven, MemoryErrorsMayBeAnswered};
+ghost use Rattle.ft_trace.specs.LookReplies.{DictHitsAreReplied, SetHitsAreReplied, MissesAreReplied, ItemsAreReplied, PastItemsAreReplied};
 ghost use Rattle.ft_trace.specs.EntryWrites.{ValuesMayBePut};
 ghost use Rattle.ft_trace.specs.KeyWrites.{KeysMayBeAdded};
 ghost use Rattle.ft_trace.specs.GrowWrites.{DictsMayGrow};
@@ -161,6 +162,32 @@ pub fn lists_fit_their_tables()
 /// stamp.
 pub fn looks_are_right()
     ensures { LooksAreRight }
+{}
+
+/// A key that was found in a dict without the lock is there at the stamp, with the value whose words
+/// were read; the dict replies so.
+pub fn dict_hits_are_replied()
+    ensures { DictHitsAreReplied }
+{}
+
+/// A key that was found in a set without the lock is there at the stamp.
+pub fn set_hits_are_replied()
+    ensures { SetHitsAreReplied }
+{}
+
+/// A key that was not found without the lock is not there at the stamp; the dict or set replies so.
+pub fn misses_are_replied()
+    ensures { MissesAreReplied }
+{}
+
+/// An item that was read without the lock is at its index at the stamp; the list replies so.
+pub fn items_are_replied()
+    ensures { ItemsAreReplied }
+{}
+
+/// A list has no item at an index past its table, and replies so.
+pub fn past_items_are_replied()
+    ensures { PastItemsAreReplied }
 {}
 
 /// A root that changed since the pass read it names a table that the pass has not found since it last

@@ -1,14 +1,14 @@
 -- One more event on a trace.
-use Rattle.std.proofs.Common.{◌≡◌, ◌≢◌, ℕ, ◌^◌, ◌<◌, List, ◌∷◌, sym, ap, ◌∙◌, subst}
+use Rattle.std.proofs.Common.{◌≡◌, ℕ, ◌^◌, ◌<◌, List, ◌∷◌, sym, ap, ◌∙◌, subst}
 use Rattle.std.specs.Prelude.{slice_index, slice_set}
 use Rattle.ft_trace.specs.declared.View.{View}
 use Rattle.ft_trace.specs.declared.Act.{Act}
 use Rattle.ft_trace.specs.Acts.{word_after, Reports, noted}
 use Rattle.ft_trace.specs.declared.Snap.{Snap}
-use Rattle.ft_trace.specs.Traces.{Event, did, run, history, snap, Valid, Knows, Possible, ReadyAs, DoesAs}
+use Rattle.ft_trace.specs.Traces.{Event, did, run, history, snap, Valid, Knows, Possible, ReadyAs, DoesAs, IsAwake}
 use Rattle.ft_trace.proofs.Sizes.{set_at}
 
-module _ (v : View) (id i : ℕ) (f : ℕ → ℕ) (act : ℕ → Snap → Act) (live : v.number ≢ 0) (does : DoesAs v i f act) (ready : ReadyAs v i act) (es : List Event) (knows : Knows v es id)
+module _ (v : View) (id i : ℕ) (f : ℕ → ℕ) (act : ℕ → Snap → Act) (live : IsAwake v) (does : DoesAs v i f act) (ready : ReadyAs v i act) (es : List Event) (knows : Knows v es id)
     (small : slice_index (run v.shape es).words i < 2 ^ 64) where
   abbrev words : List ℕ
   words = (run v.shape es).words
@@ -21,7 +21,7 @@ module _ (v : View) (id i : ℕ) (f : ℕ → ℕ) (act : ℕ → Snap → Act) 
       let r = ready es id knows small in
       let n = slice_index words i in
       let s = snap (run v.shape es) (history es) in
-      (knows.0, (knows.1, live, subst (λ (j : ℕ). Reports it (slice_index words j)) (sym (does n s).0) r.0, r.1))
+      (knows.0, (knows.1, live.0, subst (λ (j : ℕ). Reports it (slice_index words j)) (sym (does n s).0) r.0, r.1, live.1))
 
   pub one_more_words : (run v.shape (did id v it ∷ es)).words ≡ slice_set words i (f (slice_index words i))
   one_more_words =

@@ -10,9 +10,9 @@ use Rattle.ft_trace.specs.declared.Act.{Act}
 use Rattle.ft_trace.specs.declared.Act.TheVariants.{TakeTable, GiveTable, PutRoot, Retire, ReadRoot, Announce}
 use Rattle.ft_trace.specs.Bits.{bit}
 use Rattle.ft_trace.specs.Addresses.{IsTable, free_bit_of}
-use Rattle.ft_trace.specs.Acts.{reads, starter, noted, maker, made, both, spent}
+use Rattle.ft_trace.specs.Acts.{reads, starter, noted, maker, made, both, spent, sender, note}
 use Rattle.ft_trace.specs.Ages.{aged, age, gone_to, whose, seen, seen_next}
-use Rattle.ft_trace.specs.Traces.{Event, did, forked, joined, run, Valid}
+use Rattle.ft_trace.specs.Traces.{Event, did, forked, joined, sent, run, Valid}
 use Rattle.ft_trace.proofs.Sizes.{set_at, set_views, one_more, one_view}
 use Rattle.atomic_table.proofs.Lists.{set_else}
 use Rattle.ft_trace.proofs.Cases.{hit, miss, here, off}
@@ -44,6 +44,7 @@ ages_by act t g = step_same g
 pub ages_one : (e : Event) (es : List Event) (t : ℕ) → Step (age es t) (age (e ∷ es) t)
 ages_one (did id v a) es t = ages_by a t (age es t)
 ages_one (forked id v) es t = step_same (age es t)
+ages_one (sent id v given) es t = step_same (age es t)
 ages_one (joined id v other w) es t = step_same (age es t)
 
 pub ages_rise : (newer older : List Event) (t : ℕ) → age older t ≤ age (newer ++ older) t
@@ -69,6 +70,7 @@ whose_by act id t g w e = refl
 whose_one : (e : Event) (es : List Event) (t : ℕ) → age (e ∷ es) t ≡ age es t → whose (e ∷ es) t ≡ whose es t
 whose_one (did id v a) es t same = whose_by a id t (age es t) (whose es t) same
 whose_one (forked id v) es t same = refl
+whose_one (sent id v given) es t same = refl
 whose_one (joined id v other w) es t same = refl
 
 pub whose_same : (newer older : List Event) (t : ℕ) → age (newer ++ older) t ≡ age older t → whose (newer ++ older) t ≡ whose older t
@@ -131,6 +133,9 @@ within k (did id v a ∷ es) valid t table =
 within k (forked id v ∷ es) valid t table =
     let old = within k es valid.0 t table in
     one_more (Seen es t) _ (made v) (λ e. off e) (set_views (Seen es t) _ id (maker v) (old id v valid.1.0) (λ j u _ e. old j u e))
+within k (sent id v given ∷ es) valid t table =
+    let old = within k es valid.0 t table in
+    one_more (Seen es t) _ (note given v) (λ e. off e) (set_views (Seen es t) _ id (sender given v) (old id v valid.1.0) (λ j u _ e. old j u e))
 within k (joined id v other w ∷ es) valid t table =
     let old = within k es valid.0 t table in
     set_views (Seen es t) _ other spent (λ e. off e) (λ j u _. set_views (Seen es t) _ id (both v w) (old id v valid.1.0) (λ j u _ e. old j u e) j u)

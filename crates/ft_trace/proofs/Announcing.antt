@@ -7,9 +7,9 @@ use Rattle.ft_trace.specs.declared.View.{View}
 use Rattle.ft_trace.specs.declared.Act.{Act}
 use Rattle.ft_trace.specs.declared.Act.TheVariants.{Retire, Announce, ReadAnnounced, WriteNumber}
 use Rattle.ft_trace.specs.Addresses.{write_number, announced_of}
-use Rattle.ft_trace.specs.Acts.{announces, announces_next, starter, noted, maker, made, both, spent}
+use Rattle.ft_trace.specs.Acts.{announces, announces_next, starter, noted, maker, made, both, spent, sender, note}
 use Rattle.ft_trace.specs.Seats.{top}
-use Rattle.ft_trace.specs.Traces.{Fits, Event, did, forked, joined, run, word, history, May, Valid}
+use Rattle.ft_trace.specs.Traces.{Fits, Event, did, forked, joined, sent, run, word, history, May, Valid}
 use Rattle.ft_trace.proofs.Sizes.{set_views, one_more, one_view}
 use Rattle.ft_trace.proofs.Addresses.{ann_first}
 use Rattle.ft_trace.proofs.Words.{stays, moves, loaded}
@@ -42,6 +42,7 @@ top_up : (es : List Event) → 2 ≤ top es
 top_up [] = omega arith
 top_up (did id v a ∷ es) = top_up es
 top_up (forked id v ∷ es) = let h = top_up es in omega arith
+top_up (sent id v given ∷ es) = top_up es
 top_up (joined id v other w ∷ es) = top_up es
 
 -- there are at most 64 passes
@@ -60,6 +61,7 @@ quiet_later k (did id v a ∷ es) valid =
     (λ b aside ok. record { later = λ p two up low. (aside ok.1.3).said p (omega arith) low ∙ old.later p two up low })
     a valid
 quiet_later k (forked id v ∷ es) valid = let old = quiet_later k es valid.0 in record { later = λ p two up low. old.later p two (omega arith) low }
+quiet_later k (sent id v given ∷ es) valid = let old = quiet_later k es valid.0 in record { later = old.later }
 quiet_later k (joined id v other w ∷ es) valid = let old = quiet_later k es valid.0 in record { later = old.later }
 
 pub heard : (k : Shape) (es : List Event) → Valid k es → (j : ℕ) (u : View) → get_elem? (run k es).views j ≡ some u → Heard k es j u
@@ -103,6 +105,11 @@ heard k (forked id v ∷ es) valid =
     let next_is = ((seated k es valid.0 id v valid.1.0).next valid.1.2).0 in
     one_more (Heard k (forked id v ∷ es)) _ (made v) (record { word_is = λ _ low. (quiet_later k es valid.0).later v.next (omega (arith, next_is, top_up es)) (omega (arith, next_is)) low; low = omega arith })
     (set_views (Heard k (forked id v ∷ es)) _ id (maker v) (record { word_is = m.word_is; low = m.low }) (λ j u _ e. let o = old j u e in record { word_is = o.word_is; low = o.low }))
+heard k (sent id v given ∷ es) valid =
+    let old = heard k es valid.0 in
+    let m = old id v valid.1.0 in
+    one_more (Heard k (sent id v given ∷ es)) _ (note given v) (record { word_is = λ live. absurd (live refl); low = omega arith })
+    (set_views (Heard k (sent id v given ∷ es)) _ id (sender given v) (record { word_is = m.word_is; low = m.low }) (λ j u _ e. let o = old j u e in record { word_is = o.word_is; low = o.low }))
 heard k (joined id v other w ∷ es) valid =
     let old = heard k es valid.0 in
     let m = old id v valid.1.0 in

@@ -9,9 +9,9 @@ use Rattle.ft_trace.specs.declared.View.{View}
 use Rattle.ft_trace.specs.declared.Act.{Act}
 use Rattle.ft_trace.specs.declared.Act.TheVariants.{Answer, PutRoot, Commit, Retire, WriteNumber}
 use Rattle.ft_trace.specs.Addresses.{write_number}
-use Rattle.ft_trace.specs.Acts.{used, debt, starter, noted, maker, made, both, spent}
+use Rattle.ft_trace.specs.Acts.{used, debt, starter, noted, maker, made, both, spent, sender, note}
 use Rattle.ft_trace.specs.Entries.{total}
-use Rattle.ft_trace.specs.Traces.{Event, did, forked, joined, run, word, history, May, Valid}
+use Rattle.ft_trace.specs.Traces.{Event, did, forked, joined, sent, run, word, history, May, Valid}
 use Rattle.ft_trace.proofs.Sizes.{set_views, one_more, one_view}
 use Rattle.ft_trace.proofs.Cases.{here, miss}
 use Rattle.ft_trace.proofs.Words.{stays, moves, loaded}
@@ -27,6 +27,9 @@ some_part k (forked id v ∷ es) pos valid =
     let old = some_part k es pos valid.0 in
     let more = valid.1.3 in
     one_more (λ j u. u.number ≢ 0 → 0 < u.parts) _ (made v) (λ _. omega arith) (set_views (λ j u. u.number ≢ 0 → 0 < u.parts) _ id (maker v) (λ _. omega arith) (λ j u _ e. old j u e))
+some_part k (sent id v given ∷ es) pos valid =
+    let old = some_part k es pos valid.0 in
+    one_more (λ j u. u.number ≢ 0 → 0 < u.parts) _ (note given v) (λ no. absurd (no refl)) (set_views (λ j u. u.number ≢ 0 → 0 < u.parts) _ id (sender given v) (old id v valid.1.0) (λ j u _ e. old j u e))
 some_part k (joined id v other w ∷ es) pos valid =
     let old = some_part k es pos valid.0 in
     set_views (λ j u. u.number ≢ 0 → 0 < u.parts) _ other spent (λ no. absurd (no refl)) (λ j u _. set_views (λ j u. u.number ≢ 0 → 0 < u.parts) _ id (both v w) (λ live. let h = old id v valid.1.0 live in omega arith) (λ j u _ e. old j u e) j u)
@@ -86,6 +89,10 @@ budgets k (forked id v ∷ es) pos valid =
     let low = once_low (used v.log) in
     let t = total_forked budget (run k es).views id v (maker v) (made v) valid.1.0 (omega arith) in
     omega (arith, t, old)
+budgets k (sent id v given ∷ es) pos valid =
+    let old = budgets k es pos valid.0 in
+    let t = total_forked budget (run k es).views id v (sender given v) (note given v) valid.1.0 (omega arith) in
+    omega (arith, t, old)
 budgets k (joined id v other w ∷ es) pos valid =
     let old = budgets k es pos valid.0 in
     let one = some_part k es pos valid.0 id v valid.1.0 valid.1.3 in
@@ -103,4 +110,5 @@ pub number_low : (k : Shape) (es : List Event) → 0 < k.passes → Valid k es �
 number_low k [] pos valid = one_view (λ j u. u.number ≤ k.passes) (starter k) (omega arith)
 number_low k (did id v a ∷ es) pos valid = let old = number_low k es pos valid.0 in set_views (λ j u. u.number ≤ k.passes) _ id (noted a v) (old id v valid.1.0) (λ j u _ e. old j u e)
 number_low k (forked id v ∷ es) pos valid = let old = number_low k es pos valid.0 in one_more (λ j u. u.number ≤ k.passes) _ (made v) valid.1.5 (set_views (λ j u. u.number ≤ k.passes) _ id (maker v) (old id v valid.1.0) (λ j u _ e. old j u e))
+number_low k (sent id v given ∷ es) pos valid = let old = number_low k es pos valid.0 in one_more (λ j u. u.number ≤ k.passes) _ (note given v) (omega arith) (set_views (λ j u. u.number ≤ k.passes) _ id (sender given v) (old id v valid.1.0) (λ j u _ e. old j u e))
 number_low k (joined id v other w ∷ es) pos valid = let old = number_low k es pos valid.0 in set_views (λ j u. u.number ≤ k.passes) _ other spent (omega arith) (λ j u _. set_views (λ j u. u.number ≤ k.passes) _ id (both v w) (old id v valid.1.0) (λ j u _ e. old j u e) j u)

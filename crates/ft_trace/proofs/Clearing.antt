@@ -23,7 +23,7 @@ use Rattle.ft_trace.specs.Words.{root_of, inner, Picture, root_in, picture, Stan
 use Rattle.ft_trace.specs.Kinds.{rows, version_at}
 use Rattle.ft_trace.specs.Openings.{Shut}
 use Rattle.ft_trace.specs.Holds.{held, known}
-use Rattle.ft_trace.specs.Traces.{did, run, word, history, snap, May, Valid, Possible, Sure}
+use Rattle.ft_trace.specs.Traces.{did, run, word, history, snap, May, Valid, Possible, Sure, IsAwake}
 use Rattle.ft_trace.proofs.Sizes.{set_at}
 use Rattle.ft_trace.proofs.Cases.{hit}
 use Rattle.ft_trace.proofs.Addresses.{at_low, at_apart}
@@ -39,7 +39,7 @@ use Rattle.ft_trace.proofs.Nexts.{next_possible}
 use Rattle.ft_trace.proofs.Contents.{empty_stands}
 
 -- one more action with a snapshot
-pub snap_possible : (v : View) → v.number ≢ 0 → Possible v → (act : ℕ → Snap → Act) (x : Word) → ((n : ℕ) (s : Snap) → place (act n s) ≡ x) → ((n : ℕ) (s : Snap) → Reports (act n s) n) → Sure v (λ es. May v.shape (run v.shape es) (history es) v (act (word v.shape es x) (snap (run v.shape es) (history es)))) → (n : ℕ) × (s : Snap) × Possible (noted (act n s) v)
+pub snap_possible : (v : View) → IsAwake v → Possible v → (act : ℕ → Snap → Act) (x : Word) → ((n : ℕ) (s : Snap) → place (act n s) ≡ x) → ((n : ℕ) (s : Snap) → Reports (act n s) n) → Sure v (λ es. May v.shape (run v.shape es) (history es) v (act (word v.shape es x) (snap (run v.shape es) (history es)))) → (n : ℕ) × (s : Snap) × Possible (noted (act n s) v)
 snap_possible v live p act x is tells may =
     let k = v.shape in
     let es = p.0 in
@@ -47,7 +47,7 @@ snap_possible v live p act x is tells may =
     let s = snap (run k es) (history es) in
     let a = act n s in
     let found : Reports a (word k es (place a)) = subst (λ (z : Word). Reports a (word k es z)) (sym (is n s)) (tells n s) in
-    (n, s, (did p.1 v a ∷ es, p.1, ((p.2.0, (p.2.1, live, found, may es p.1 p.2)), set_at (run k es).views p.1 v (noted a v) p.2.1)))
+    (n, s, (did p.1 v a ∷ es, p.1, ((p.2.0, (p.2.1, live.0, found, may es p.1 p.2, live.1)), set_at (run k es).views p.1 v (noted a v) p.2.1)))
 
 -- two words of the bank
 other_word : (k : Shape) (ws : List ℕ) (x y : Word) (z : ℕ) → Inside k x → Inside k y → y ≢ x → slice_index (slice_set ws (at k x) z) (at k y) ≡ slice_index ws (at k y)
@@ -69,7 +69,7 @@ held_shut v o q low p mine quiet names =
     subst (Shut (version_at (kind_in v.shape.kinds o) (class_of q)) (rows (kind_in v.shape.kinds o) (class_of q))) (sym w.0) (holder_shut v.shape p.0 p.2.0 o low p.1 v p.2.1 mine quiet q w.1)
 
 -- start, root 0, length 0, commit, stop, unlock
-module _ (v : View) (o : ℕ) (values : List Value) (live : v.number ≢ 0) (possible : Possible v) (small : v.shape.passes * v.shape.calls < 2 ^ 62) (low : o < containers_in v.shape) (mine : has_lock o v.log ≡ true) (quiet : is_writing o v.log ≡ false) (spare : used v.log ≡ false) (none : owes v.log ≡ 0) (room : 0 < v.left) (is_list : (known o v).content ≡ content.List values) where
+module _ (v : View) (o : ℕ) (values : List Value) (live : IsAwake v) (possible : Possible v) (small : v.shape.passes * v.shape.calls < 2 ^ 62) (low : o < containers_in v.shape) (mine : has_lock o v.log ≡ true) (quiet : is_writing o v.log ≡ false) (spare : used v.log ≡ false) (none : owes v.log ≡ 0) (room : 0 < v.left) (is_list : (known o v).content ≡ content.List values) where
   abbrev k : Shape
   k = v.shape
 

@@ -10,12 +10,12 @@ use Rattle.ft_trace.specs.declared.Act.{Act}
 use Rattle.ft_trace.specs.declared.Act.TheVariants.{Commit, Answer}
 use Rattle.ft_model.specs.declared.call.Call.{Call}
 use Rattle.ft_trace.specs.declared.Entry.{Entry}
-use Rattle.ft_trace.specs.Acts.{place, Reports, starter, noted, entries_next, maker, made, both, spent}
+use Rattle.ft_trace.specs.Acts.{place, Reports, starter, noted, entries_next, maker, made, both, spent, sender, note}
 use Rattle.ft_model.specs.declared.script.Kind.{Kind}
 use Rattle.ft_model.specs.Histories.{IsReplied}
 use Rattle.ft_model.specs.Tables.{stored_newest}
 use Rattle.ft_trace.specs.Worlds.{first_writes, reply_in}
-use Rattle.ft_trace.specs.Traces.{Event, did, forked, joined, run, word, writes_of, history, May, Valid}
+use Rattle.ft_trace.specs.Traces.{Event, did, forked, joined, sent, run, word, writes_of, history, May, Valid}
 use Rattle.ft_trace.specs.Entries.{total, entries_of, IsNumber, Right, AllRight, is_number, Numbered}
 use Rattle.ft_trace.proofs.Sizes.{set_views, one_more, one_view}
 use Rattle.ft_trace.proofs.Stamps.{all_writes, writes_stay, grows_by}
@@ -61,6 +61,10 @@ all_right k (forked id v ∷ es) valid =
     let old = all_right k es valid.0 in
     let P : ℕ → View → Type 0 = λ j u. AllRight k.kinds (history es) u.entries in
     one_more P _ (made v) tt (set_views P _ id (maker v) (old id v valid.1.0) (λ j u _ e. old j u e))
+all_right k (sent id v given ∷ es) valid =
+    let old = all_right k es valid.0 in
+    let P : ℕ → View → Type 0 = λ j u. AllRight k.kinds (history es) u.entries in
+    one_more P _ (note given v) tt (set_views P _ id (sender given v) (old id v valid.1.0) (λ j u _ e. old j u e))
 all_right k (joined id v other w ∷ es) valid =
     let old = all_right k es valid.0 in
     let P : ℕ → View → Type 0 = λ j u. AllRight k.kinds (history es) u.entries in
@@ -86,6 +90,7 @@ pub once : (k : Shape) (es : List Event) → Valid k es → (n : ℕ) → total 
 once k [] valid n = sym (ap (λ (b : Bool). cond b 1 0) (le-ltb n 0 (omega arith)))
 once k (did id v a ∷ es) valid n = once_by k es (counted k es valid.0) a valid.1.2 n (once k es valid.0 n)
 once k (forked id v ∷ es) valid n = once k es valid.0 n
+once k (sent id v given ∷ es) valid n = once k es valid.0 n
 once k (joined id v other w ∷ es) valid n = once k es valid.0 n
 
 -- a pass that stands for none has no entry
@@ -102,6 +107,9 @@ stood k (forked id v ∷ es) valid some_pass =
     let old = stood k es valid.0 some_pass in
     let may = valid.1.3 in
     one_more (λ j u. Stood u) _ (made v) (record { live = λ _. omega arith; silent = λ _. refl }) (set_views (λ j u. Stood u) _ id (maker v) (record { live = λ _. omega arith; silent = λ e. absurd (valid.1.1 e) }) (λ j u _ e. old j u e))
+stood k (sent id v given ∷ es) valid some_pass =
+    let old = stood k es valid.0 some_pass in
+    one_more (λ j u. Stood u) _ (note given v) (record { live = λ live. absurd (live refl); silent = λ _. refl }) (set_views (λ j u. Stood u) _ id (sender given v) (record { live = (old id v valid.1.0).live; silent = λ e. absurd (valid.1.1 e) }) (λ j u _ e. old j u e))
 stood k (joined id v other w ∷ es) valid some_pass =
     let old = stood k es valid.0 some_pass in
     let mine = (old id v valid.1.0).live valid.1.3 in

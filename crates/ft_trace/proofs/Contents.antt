@@ -8,7 +8,7 @@ use lib.ListN.{get_elem?}
 use Rattle.ft_trace.specs.declared.Shape.{Shape}
 use Rattle.ft_trace.specs.declared.View.{View}
 use Rattle.ft_trace.specs.declared.Act.{Act}
-use Rattle.ft_trace.specs.declared.Act.TheVariants.{StartWrite, PutBlock, PutRoot, PutTable, PutFresh, Commit, StopWrite, ReadBlock, ReadRoot, ReadTable, ReadCounter, Answer}
+use Rattle.ft_trace.specs.declared.Act.TheVariants.{StartWrite, PutBlock, PutRoot, PutTable, PutFresh, Commit, StopWrite, ReadBlock, ReadRoot, ReadTable, ReadCounter, Answer, TakeFloor}
 use Rattle.ft_trace.specs.Addresses.{Word, counter, block, cell, Inside, containers_in}
 use Rattle.ft_trace.specs.Acts.{is_writing, noted}
 use Rattle.ft_model.specs.declared.script.Kind.{Kind}
@@ -19,7 +19,7 @@ use Rattle.std.specs.Prelude.{replicate, map, slice_index_or}
 use Rattle.ft_trace.specs.Worlds.{Kept, kept, kind_in}
 use Rattle.ft_trace.proofs.Untouched.{untouched}
 use Rattle.ft_trace.specs.Words.{table_of, inner, Picture, picture, Stands}
-use Rattle.ft_trace.specs.Traces.{Event, did, forked, joined, run, word, writes_of, history, StandsFor, May, Valid}
+use Rattle.ft_trace.specs.Traces.{Event, did, forked, joined, sent, run, word, writes_of, history, StandsFor, May, Valid}
 use Rattle.ft_trace.proofs.Sizes.{set_at}
 use Rattle.ft_trace.proofs.Cases.{hit, off}
 use Rattle.ft_trace.proofs.Addresses.{block_first}
@@ -37,6 +37,7 @@ tab k es t = table_of k t (run k es).words
 counts : (k : Shape) (es : List Event) (id : ℕ) (v : View) → count k es ≡ length (history es) → (b : Act) → May k (run k es) (history es) v b → count k (did id v b ∷ es) ≡ length (writes_of b (history es))
 counts k es id v old (Commit c r f s) may = moves k es id v (Commit c r f s) may ∙ (one_up (count k es) may.2 ∙ omega (arith, old))
 counts k es id v old (ReadCounter f) may = loaded k es id v (ReadCounter f) (λ n. refl) counter ∙ old
+counts k es id v old (TakeFloor f s) may = loaded k es id v (TakeFloor f s) (λ n. refl) counter ∙ old
 counts k es id v old (Answer c x n) may = loaded k es id v (Answer c x n) (λ n. refl) counter ∙ old
 counts k es id v old act may = stays k es id v act may counter tt (λ e. absurd (cc)) ∙ old
 
@@ -44,6 +45,7 @@ pub counted : (k : Shape) (es : List Event) → Valid k es → count k es ≡ le
 counted k [] valid = refl
 counted k (did id v a ∷ es) valid = counts k es id v (counted k es valid.0) a valid.1.3
 counted k (forked id v ∷ es) valid = counted k es valid.0
+counted k (sent id v given ∷ es) valid = counted k es valid.0
 counted k (joined id v other w ∷ es) valid = counted k es valid.0
 
 -- a word of the container's block, or of the table that its root names
@@ -102,6 +104,7 @@ unwritten k es id v a valid o low never =
 pub still : (k : Shape) (es : List Event) (e : Event) → Valid k (e ∷ es) → (o : ℕ) → o < containers_in k → version k es o % 2 ≡ 0 → Still k es (e ∷ es) o
 still k es (did id v a) valid o low even = unwritten k es id v a valid o low (λ w. writing_is_odd k es valid.0 o low id v valid.1.0 w even)
 still k es (forked id v) valid o low even = record { picture = refl; content = refl }
+still k es (sent id v given) valid o low even = record { picture = refl; content = refl }
 still k es (joined id v other w) valid o low even = record { picture = refl; content = refl }
 
 -- while an even version stays, nothing changes that it stands for
@@ -157,4 +160,5 @@ stands k (did id v a ∷ es) valid o low even =
     (λ b _ same ok now. absurd (odd (ap (λ (n : ℕ). n % 2) (sym (same ok.1.3)) ∙ now)))
     a valid even)
 stands k (forked id v ∷ es) valid o low even = stands k es valid.0 o low even
+stands k (sent id v given ∷ es) valid o low even = stands k es valid.0 o low even
 stands k (joined id v other w ∷ es) valid o low even = stands k es valid.0 o low even

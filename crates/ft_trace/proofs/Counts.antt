@@ -11,10 +11,10 @@ use Rattle.ft_trace.specs.declared.Act.{Act}
 use Rattle.ft_trace.specs.declared.Act.TheVariants.{LowerCount, RaiseCount, ReadCount, ReadFree, TakeTable, GiveTable}
 use Rattle.ft_trace.specs.Bits.{bit}
 use Rattle.ft_trace.specs.Addresses.{tables_in, count_of_class, bits, class_of, number_of, free_word_of, free_bit_of, IsTable}
-use Rattle.ft_trace.specs.Acts.{place, stage, flight, flight_next, noted, maker, made, both, spent}
+use Rattle.ft_trace.specs.Acts.{place, stage, flight, flight_next, noted, maker, made, both, spent, sender, note}
 use Rattle.ft_trace.specs.Entries.{total}
 use Rattle.ft_trace.specs.Counts.{sum_to, bit_of, set_bits, taking, giving}
-use Rattle.ft_trace.specs.Traces.{Event, did, forked, joined, run, word, history, May, Valid}
+use Rattle.ft_trace.specs.Traces.{Event, did, forked, joined, sent, run, word, history, May, Valid}
 use Rattle.ft_model.specs.Classes.{IsClass}
 use Rattle.ft_trace.proofs.Announcing.{fits}
 use Rattle.ft_trace.proofs.Cases.{miss, here, same_or}
@@ -302,6 +302,9 @@ counted_bits k (did id v a ∷ es) valid c low =
 counted_bits k (forked id v ∷ es) valid c low =
     let z : busy c 0 ≡ 0 = busy_not c 0 (λ z. omega arith) (λ z. omega arith) in
     counted_bits k es valid.0 c low ∙ ap (λ (n : ℕ). word k es (count_of_class c) + n) (sym (total_forked (busy_in c) (run k es).views id v (maker v) (made v) valid.1.0 (omega (arith, z))))
+counted_bits k (sent id v given ∷ es) valid c low =
+    let z : busy c 0 ≡ 0 = busy_not c 0 (λ z. omega arith) (λ z. omega arith) in
+    counted_bits k es valid.0 c low ∙ ap (λ (n : ℕ). word k es (count_of_class c) + n) (sym (total_forked (busy_in c) (run k es).views id v (sender given v) (note given v) valid.1.0 (omega (arith, z))))
 counted_bits k (joined id v other w ∷ es) valid c low =
     let z : busy c 0 ≡ 0 = busy_not c 0 (λ z. omega arith) (λ z. omega arith) in
     let none : busy_in c w ≡ 0 = ap (busy c) valid.1.5.3 ∙ z in

@@ -1,22 +1,22 @@
 -- That a table that was taken out of a root can be retired and given back: here by the one pass of a bank, which goes offline for it.
-use Rattle.std.proofs.Common.{◌≡◌, ◌≢◌, ℕ, eqb, eq-eqb, ltb, ◌*◌, ◌^◌, ◌<◌, ◌≤◌, Bool, true, cond, refl, ap, ◌∙◌, inr, arith}
+use Rattle.std.proofs.Common.{◌≡◌, ℕ, eqb, eq-eqb, ltb, ◌*◌, ◌^◌, ◌<◌, ◌≤◌, Bool, true, cond, refl, ap, ◌∙◌, inr, arith}
 use Rattle.ft_trace.specs.declared.Shape.{Shape}
 use Rattle.ft_trace.specs.declared.View.{View}
 use Rattle.ft_trace.specs.declared.Act.TheVariants.{Retire, Announce, ReadAnnounced, GiveTable}
 use Rattle.ft_trace.specs.Addresses.{write_number, announced_of, bits, IsTable, free_word_of}
 use Rattle.ft_trace.specs.Acts.{stage, debt, flight, clear, goal, noted}
-use Rattle.ft_trace.specs.Traces.{Possible}
+use Rattle.ft_trace.specs.Traces.{Possible, IsAwake}
 use Rattle.ft_trace.proofs.Cases.{hit}
 use Rattle.ft_trace.proofs.Announcing.{heard}
 use Rattle.ft_trace.proofs.Budgets.{goals_room}
 use Rattle.ft_trace.proofs.Nexts.{next_possible}
 
-module _ (v : View) (t : ℕ) (first : v.number ≡ 1) (possible : Possible v) (one : v.shape.passes ≡ 1) (small : v.shape.passes * v.shape.calls < 2 ^ 62) (table : IsTable v.shape t) (three : stage t v.log ≡ 3) (owed : 0 < debt v.log) (idle : flight v.log ≡ 0) where
+module _ (v : View) (t : ℕ) (first : v.number ≡ 1) (possible : Possible v) (one : v.shape.passes ≡ 1) (token : 0 < v.tokens) (small : v.shape.passes * v.shape.calls < 2 ^ 62) (table : IsTable v.shape t) (three : stage t v.log ≡ 3) (owed : 0 < debt v.log) (idle : flight v.log ≡ 0) where
   abbrev k : Shape
   k = v.shape
 
-  live : v.number ≢ 0
-  live none = absurd (omega (arith, none, first))
+  live : IsAwake v
+  live = ((λ none. absurd (omega (arith, none, first))), token)
 
   abbrev r1 : ℕ → View
   r1 f = noted (Retire t f) v
@@ -39,7 +39,7 @@ module _ (v : View) (t : ℕ) (first : v.number ≡ 1) (possible : Possible v) (
   unfolding next_possible
   step3 f q =
       let n = next_possible (r2 f) live q (λ h. ReadAnnounced v.number h) (announced_of v.number) (λ _. refl) (λ _. refl) (λ es id knows. let z : v.number ≤ k.passes = omega (arith, first, one) in (z, omega (arith, first), omega (arith, first))) in
-      let w = (heard k q.0 q.2.0 q.1 (r2 f) q.2.1).word_is live (omega (arith, first, one)) in
+      let w = (heard k q.0 q.2.0 q.1 (r2 f) q.2.1).word_is live.0 (omega (arith, first, one)) in
       (n.0, (n.1, w))
 
   passed : (f h : ℕ) → h ≡ 0 → (p : ℕ) → 0 < p → p ≤ k.passes → clear t p (r3 f h).log ≡ true

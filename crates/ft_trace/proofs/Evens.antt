@@ -15,7 +15,7 @@ use Rattle.ft_trace.specs.Worlds.{kind_in}
 use Rattle.ft_trace.specs.Kinds.{rows, version_at}
 use Rattle.ft_trace.specs.Openings.{Shut}
 use Rattle.ft_trace.specs.Ages.{aged, age, gone_to, whose}
-use Rattle.ft_trace.specs.Traces.{Event, did, forked, joined, run, history, ShutFor, May, Valid}
+use Rattle.ft_trace.specs.Traces.{Event, did, forked, joined, sent, run, history, ShutFor, May, Valid}
 use Rattle.ft_trace.proofs.Cases.{hit, miss, here}
 use Rattle.ft_trace.proofs.Words.{stays}
 use Rattle.ft_trace.proofs.Pieces.{table_same}
@@ -104,6 +104,7 @@ evens k (did id v a ∷ es) valid t table =
     (λ b c ok. calm_step k es id v t table old b c ok)
     a valid.1.2 valid.1.3 valid
 evens k (forked id v ∷ es) valid t table = evens k es valid.0 t table
+evens k (sent id v given ∷ es) valid t table = evens k es valid.0 t table
 evens k (joined id v other w ∷ es) valid t table = evens k es valid.0 t table
 
 -- the version of an entry or item is odd only in the table of a container whose version is odd

@@ -1,5 +1,5 @@
 -- That a taking and a giving of a table are possible in each of their steps, and end with nothing in flight.
-use Rattle.std.proofs.Common.{◌≡◌, ◌≢◌, ◌⊎◌, ℕ, ◌+◌, ◌*◌, ◌<◌, ◌∷◌, refl, ◌∙◌, inl}
+use Rattle.std.proofs.Common.{◌≡◌, ◌⊎◌, ℕ, ◌+◌, ◌*◌, ◌<◌, ◌∷◌, refl, ◌∙◌, inl}
 use mathlib.Core.Logic.{dite}
 use native.Mathlib.Decide.{ℕ_discrete}
 use Rattle.ft_trace.specs.declared.Snap.{Snap}
@@ -10,12 +10,12 @@ use Rattle.ft_model.specs.Classes.{IsClass}
 use Rattle.ft_trace.specs.Addresses.{count_of_class, bits, class_of, free_word_of, free_bit_of, IsTable}
 use Rattle.ft_trace.specs.Acts.{stage, flight, owes, noted}
 use Rattle.ft_trace.specs.Grants.{Ends}
-use Rattle.ft_trace.specs.Traces.{did, run, word, history, snap, Possible}
+use Rattle.ft_trace.specs.Traces.{did, run, word, history, snap, Possible, IsAwake}
 use Rattle.ft_trace.proofs.Sizes.{set_at}
 use Rattle.ft_trace.proofs.Cases.{miss, here}
 use Rattle.ft_trace.proofs.Nexts.{next_possible}
 
-module _ (v : View) (live : v.number ≢ 0) (possible : Possible v) where
+module _ (v : View) (live : IsAwake v) (possible : Possible v) where
   pub count_possible : (c : ℕ) → IsClass c → (f : ℕ) × Possible (noted (ReadCount c f) v)
   count_possible c low = next_possible v live possible (λ f. ReadCount c f) (count_of_class c) (λ _. refl) (λ _. refl) (λ es id knows. low)
 
@@ -33,13 +33,13 @@ module _ (v : View) (live : v.number ≢ 0) (possible : Possible v) where
       let k = v.shape in
       let f = word k es (bits (free_word_of t)) in
       let s = snap (run k es) (history es) in
-      (f, s, (did id v (TakeTable t f s) ∷ es, id, ((knows.0, (knows.1, live, refl, (table, none, refl, fl))), set_at (run k es).views id v (noted (TakeTable t f s) v) knows.1)))
+      (f, s, (did id v (TakeTable t f s) ∷ es, id, ((knows.0, (knows.1, live.0, refl, (table, none, refl, fl), live.1)), set_at (run k es).views id v (noted (TakeTable t f s) v) knows.1)))
 
   pub raise_possible : (c : ℕ) → IsClass c → (flight v.log ≡ 2 * c + 1) ⊎ (flight v.log ≡ 2 * c + 2) → (f : ℕ) × Possible (noted (RaiseCount c f) v)
   raise_possible c low fl = next_possible v live possible (λ f. RaiseCount c f) (count_of_class c) (λ _. refl) (λ _. refl) (λ es id knows. (low, fl))
 
 -- from a count that was found above 0: lowered, and a bit taken, or raised again
-pub taking_ends : (v : View) → v.number ≢ 0 → Possible v → (t old : ℕ) → IsTable v.shape t → 0 < old → flight v.log ≡ 0 → owes v.log ≡ 0 → stage t v.log ≡ 0 → Ends v
+pub taking_ends : (v : View) → IsAwake v → Possible v → (t old : ℕ) → IsTable v.shape t → 0 < old → flight v.log ≡ 0 → owes v.log ≡ 0 → stage t v.log ≡ 0 → Ends v
 taking_ends v live possible t old table up idle none mine =
     let c = class_of t in
     let a = lower_possible v live possible c old table.0 up idle none in

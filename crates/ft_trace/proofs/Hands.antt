@@ -10,9 +10,9 @@ use Rattle.ft_trace.specs.declared.Act.{Act}
 use Rattle.ft_trace.specs.declared.Act.TheVariants.{TakeTable, GiveTable, PutRoot, Retire, Announce}
 use Rattle.ft_trace.specs.Bits.{bit}
 use Rattle.ft_trace.specs.Addresses.{write_number, IsTable, free_bit_of}
-use Rattle.ft_trace.specs.Acts.{stage, stage_next, noted, maker, made, both, spent}
+use Rattle.ft_trace.specs.Acts.{stage, stage_next, noted, maker, made, both, spent, sender, note}
 use Rattle.ft_trace.specs.Ages.{aged, age, gone_to, whose}
-use Rattle.ft_trace.specs.Traces.{Event, did, forked, joined, run, word, history, May, Valid}
+use Rattle.ft_trace.specs.Traces.{Event, did, forked, joined, sent, run, word, history, May, Valid}
 use Rattle.ft_trace.proofs.Sizes.{set_at}
 use Rattle.atomic_table.proofs.Lists.{set_else, at_longer}
 use Rattle.ft_trace.proofs.Cases.{hit, miss, here}
@@ -78,6 +78,14 @@ handed k (forked id v ∷ es) valid t table free current out =
     let there : get_elem? (set (run k es).views id (maker v)) (whose es t) ≡ some (maker v) = ap (get_elem? (set (run k es).views id (maker v))) e ∙ set_at (run k es).views id v (maker v) valid.1.0 in
     record { by = maker v; at = at_longer (set (run k es).views id (maker v)) (made v ∷ []) (whose es t) (maker v) there; has = ap (λ (z : View). stage t z.log) (sym same) ∙ old.has })
     (λ ne. record { by = old.by; at = at_longer (set (run k es).views id (maker v)) (made v ∷ []) (whose es t) old.by (set_else (run k es).views id (whose es t) (maker v) ne ∙ old.at); has = old.has })
+handed k (sent id v given ∷ es) valid t table free current out =
+    let old = handed k es valid.0 t table free current out in
+    dite (ℕ_discrete (whose es t) id)
+    (λ (e : whose es t ≡ id).
+    let same : old.by ≡ v = some-injective old.by v (sym old.at ∙ (ap (get_elem? (run k es).views) e ∙ valid.1.0)) in
+    let there : get_elem? (set (run k es).views id (sender given v)) (whose es t) ≡ some (sender given v) = ap (get_elem? (set (run k es).views id (sender given v))) e ∙ set_at (run k es).views id v (sender given v) valid.1.0 in
+    record { by = sender given v; at = at_longer (set (run k es).views id (sender given v)) (note given v ∷ []) (whose es t) (sender given v) there; has = ap (λ (z : View). stage t z.log) (sym same) ∙ old.has })
+    (λ ne. record { by = old.by; at = at_longer (set (run k es).views id (sender given v)) (note given v ∷ []) (whose es t) old.by (set_else (run k es).views id (whose es t) (sender given v) ne ∙ old.at); has = old.has })
 handed k (joined id v other w ∷ es) valid t table free current out =
     let old = handed k es valid.0 t table free current out in
     let one = (run k es).views in
@@ -103,6 +111,7 @@ goals_one k es (did id v a) valid =
     (λ b aside may. let e = (aside may).drawn in omega (arith, e))
     a valid.1.3
 goals_one k es (forked id v) valid = le_refl (word k es write_number)
+goals_one k es (sent id v given) valid = le_refl (word k es write_number)
 goals_one k es (joined id v other w) valid = le_refl (word k es write_number)
 
 -- what a pass has loaded of it, it may announce

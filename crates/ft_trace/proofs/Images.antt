@@ -12,10 +12,10 @@ use Rattle.ft_trace.specs.declared.View.{View}
 use Rattle.ft_trace.specs.declared.Act.{Act}
 use Rattle.ft_trace.specs.declared.Act.TheVariants.{Lock, Unlock, PutBlock, PutRoot, PutTable, PutFresh, Commit, ReadBlock, ReadRoot, ReadTable, TakeTable, GiveTable, Retire}
 use Rattle.ft_trace.specs.Addresses.{Word, counter, write_number, announced_of, bits, count_of_class, lock_of, version_of, block, header, cell, Inside, at, extent}
-use Rattle.ft_trace.specs.Acts.{place, word_after, has_lock, is_writing, stage, stage_next, mem, past, starter, noted, maker, made, both, spent}
+use Rattle.ft_trace.specs.Acts.{place, word_after, has_lock, is_writing, stage, stage_next, mem, past, starter, noted, maker, made, both, spent, sender, note}
 use Rattle.ft_trace.specs.Worlds.{kept}
 use Rattle.ft_trace.specs.Addresses.{containers_in}
-use Rattle.ft_trace.specs.Traces.{Event, did, forked, joined, run, word, history, snap, May, Valid}
+use Rattle.ft_trace.specs.Traces.{Event, did, forked, joined, sent, run, word, history, snap, May, Valid}
 use Rattle.ft_trace.proofs.Sizes.{set_views, one_more, one_view}
 use Rattle.ft_trace.proofs.Cases.{same_or, hit, miss, off}
 use Rattle.ft_trace.proofs.Addresses.{at_low}
@@ -250,6 +250,7 @@ pub has_low : (k : Shape) (es : List Event) → Valid k es → (j : ℕ) (u : Vi
 has_low k [] valid = one_view (Low k) (starter k) (λ o no. off no)
 has_low k (did id v a ∷ es) valid = let old = has_low k es valid.0 in set_views (Low k) _ id (noted a v) (low_next k es v a valid.1.3 (old id v valid.1.0)) (λ j u _ e. old j u e)
 has_low k (forked id v ∷ es) valid = let old = has_low k es valid.0 in one_more (Low k) _ (made v) (λ o no. off no) (set_views (Low k) _ id (maker v) (old id v valid.1.0) (λ j u _ e. old j u e))
+has_low k (sent id v given ∷ es) valid = let old = has_low k es valid.0 in one_more (Low k) _ (note given v) (λ o no. off no) (set_views (Low k) _ id (sender given v) (old id v valid.1.0) (λ j u _ e. old j u e))
 has_low k (joined id v third w ∷ es) valid = let old = has_low k es valid.0 in set_views (Low k) _ third spent (λ o no. off no) (λ j u _. set_views (Low k) _ id (both v w) (old id v valid.1.0) (λ j u _ e. old j u e) j u)
 
 -- a pass that has nothing
@@ -285,6 +286,11 @@ imaged k (forked id v ∷ es) valid =
     let P : ℕ → View → Type 0 = λ j u. Imaged k (forked id v ∷ es) u in
     one_more P _ (made v) (nothing k (forked id v ∷ es) (made v) refl)
     (set_views P _ id (maker v) (let h = old id v valid.1.0 in record { wide = h.wide; words = h.words; content = h.content }) (λ j u _ e. let h = old j u e in record { wide = h.wide; words = h.words; content = h.content }))
+imaged k (sent id v given ∷ es) valid =
+    let old = imaged k es valid.0 in
+    let P : ℕ → View → Type 0 = λ j u. Imaged k (sent id v given ∷ es) u in
+    one_more P _ (note given v) (nothing k (sent id v given ∷ es) (note given v) refl)
+    (set_views P _ id (sender given v) (let h = old id v valid.1.0 in record { wide = h.wide; words = h.words; content = h.content }) (λ j u _ e. let h = old j u e in record { wide = h.wide; words = h.words; content = h.content }))
 imaged k (joined id v third w ∷ es) valid =
     let old = imaged k es valid.0 in
     let P : ℕ → View → Type 0 = λ j u. Imaged k (joined id v third w ∷ es) u in

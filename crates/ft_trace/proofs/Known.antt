@@ -22,7 +22,7 @@ use Rattle.ft_trace.specs.Acts.{has_lock, mem}
 use Rattle.ft_trace.specs.Worlds.{Kept, kept, kind_in}
 use Rattle.ft_trace.specs.Words.{root_of, inner, Picture, root_in, Stands}
 use Rattle.ft_trace.specs.Holds.{held, known}
-use Rattle.ft_trace.specs.Traces.{Event, did, forked, joined, run, writes_of, history, May, Valid, Possible}
+use Rattle.ft_trace.specs.Traces.{Event, did, forked, joined, sent, run, writes_of, history, May, Valid, Possible}
 use Rattle.ft_trace.proofs.Held.{content_known, root_known}
 use Rattle.ft_trace.proofs.Pieces.{block_at, table_long}
 use Rattle.ft_trace.proofs.Places.{root_table}
@@ -47,6 +47,7 @@ pub kinds_stay : (k : Shape) (es : List Event) → Valid k es → map kind_of (s
 kinds_stay k [] valid = kinds_at_start k.kinds
 kinds_stay k (did id v a ∷ es) valid = kinds_by k es v (kinds_stay k es valid.0) a valid.1.3
 kinds_stay k (forked id v ∷ es) valid = kinds_stay k es valid.0
+kinds_stay k (sent id v given ∷ es) valid = kinds_stay k es valid.0
 kinds_stay k (joined id v other w ∷ es) valid = kinds_stay k es valid.0
 
 pub kind_known : (v : View) (o : ℕ) → has_lock o v.log ≡ true → Possible v → kind_of (known o v).content ≡ kind_in v.shape.kinds o

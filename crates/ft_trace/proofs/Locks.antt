@@ -10,8 +10,8 @@ use Rattle.ft_trace.specs.declared.View.{View}
 use Rattle.ft_trace.specs.declared.Act.{Act}
 use Rattle.ft_trace.specs.declared.Act.TheVariants.{Lock, Unlock}
 use Rattle.ft_trace.specs.Addresses.{lock_of, containers_in}
-use Rattle.ft_trace.specs.Acts.{place, Reports, has_lock, has_lock_next, starter, noted, maker, made, both, spent}
-use Rattle.ft_trace.specs.Traces.{Event, did, forked, joined, run, word, history, May, Valid}
+use Rattle.ft_trace.specs.Acts.{place, Reports, has_lock, has_lock_next, starter, noted, maker, made, both, spent, sender, note}
+use Rattle.ft_trace.specs.Traces.{Event, did, forked, joined, sent, run, word, history, May, Valid}
 use Rattle.ft_trace.proofs.Sizes.{set_at, set_views, one_more, one_view}
 use Rattle.atomic_table.proofs.Lists.{set_else, at_longer}
 use Rattle.ft_trace.proofs.Cases.{hit, miss, here, off, same_or}
@@ -57,6 +57,9 @@ names k (did id v a ∷ es) valid o low =
 names k (forked id v ∷ es) valid o low =
     let old = names k es valid.0 o low in
     one_more (Names k (forked id v ∷ es) o) _ (made v) (λ no. off no) (set_views (Names k (forked id v ∷ es) o) _ id (maker v) (old id v valid.1.0) (λ j u _ e. old j u e))
+names k (sent id v given ∷ es) valid o low =
+    let old = names k es valid.0 o low in
+    one_more (Names k (sent id v given ∷ es) o) _ (note given v) (λ no. off no) (set_views (Names k (sent id v given ∷ es) o) _ id (sender given v) (old id v valid.1.0) (λ j u _ e. old j u e))
 names k (joined id v other w ∷ es) valid o low =
     let old = names k es valid.0 o low in
     set_views (Names k (joined id v other w ∷ es) o) _ other spent (λ no. off no)
@@ -95,6 +98,9 @@ holder k (did id v a ∷ es) valid o low here =
 holder k (forked id v ∷ es) valid o low some_one =
     let h = other_holds (run k es).views o id (maker v) v valid.1.0 (λ mine. mine) (holder k es valid.0 o low some_one) in
     (h.0, h.1, at_longer (set (run k es).views id (maker v)) (made v ∷ []) h.0 h.1 h.2, h.3)
+holder k (sent id v given ∷ es) valid o low some_one =
+    let h = other_holds (run k es).views o id (sender given v) v valid.1.0 (λ mine. mine) (holder k es valid.0 o low some_one) in
+    (h.0, h.1, at_longer (set (run k es).views id (sender given v)) (note given v ∷ []) h.0 h.1 h.2, h.3)
 holder k (joined id v other w ∷ es) valid o low some_one =
     let h = other_holds (run k es).views o id (both v w) v valid.1.0 (λ mine. mine) (holder k es valid.0 o low some_one) in
     other_holds (set (run k es).views id (both v w)) o other spent w (set_else (run k es).views id other (both v w) valid.1.1 ∙ valid.1.2) (λ mine. off (sym (valid.1.5.0 o) ∙ mine)) h

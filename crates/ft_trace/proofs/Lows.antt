@@ -11,12 +11,12 @@ use Rattle.ft_trace.specs.declared.View.{View}
 use Rattle.ft_trace.specs.declared.Act.{Act}
 use Rattle.ft_trace.specs.declared.Act.TheVariants.{PutRoot, PutTable, Commit, StartWrite, StopWrite}
 use Rattle.ft_trace.specs.Addresses.{counter, cell, class_of}
-use Rattle.ft_trace.specs.Acts.{is_writing, is_writing_next, has_committed, has_committed_next, noted, maker, made, both, spent}
+use Rattle.ft_trace.specs.Acts.{is_writing, is_writing_next, has_committed, has_committed_next, noted, maker, made, both, spent, sender, note}
 use Rattle.ft_trace.specs.Worlds.{kind_in}
 use Rattle.ft_trace.specs.Kinds.{rows, version_at}
 use Rattle.ft_trace.specs.Addresses.{containers_in}
 use Rattle.ft_trace.proofs.ByKind.{as_version, row_low}
-use Rattle.ft_trace.specs.Traces.{Event, did, forked, joined, run, writes_of, history, CarefulFor, TimelyFor, Valid}
+use Rattle.ft_trace.specs.Traces.{Event, did, forked, joined, sent, run, writes_of, history, CarefulFor, TimelyFor, Valid}
 use Rattle.ft_trace.proofs.Sizes.{set_views, one_more}
 use Rattle.ft_trace.proofs.Cases.{hit, miss, off, same_or}
 use Rattle.ft_trace.proofs.Addresses.{block_first}
@@ -155,6 +155,10 @@ lows k (forked id v ∷ es) valid o low t e =
     let old = lows k es valid.0 o low t e in
     let W : ℕ → View → Type 0 = λ j u. is_writing o u.log ≡ true → has_committed o u.log ≡ true → (p : ℕ) → p < R k o t → slice_index (tab k es t) (V k o t p) ≤ 2 * count k es in
     record { even = old.even; odd = old.odd; written = one_more W _ (made v) (λ no. off no) (set_views W _ id (maker v) (old.written id v valid.1.0) (λ j u _ at. old.written j u at)) }
+lows k (sent id v given ∷ es) valid o low t e =
+    let old = lows k es valid.0 o low t e in
+    let W : ℕ → View → Type 0 = λ j u. is_writing o u.log ≡ true → has_committed o u.log ≡ true → (p : ℕ) → p < R k o t → slice_index (tab k es t) (V k o t p) ≤ 2 * count k es in
+    record { even = old.even; odd = old.odd; written = one_more W _ (note given v) (λ no. off no) (set_views W _ id (sender given v) (old.written id v valid.1.0) (λ j u _ at. old.written j u at)) }
 lows k (joined id v other w ∷ es) valid o low t e =
     let old = lows k es valid.0 o low t e in
     let W : ℕ → View → Type 0 = λ j u. is_writing o u.log ≡ true → has_committed o u.log ≡ true → (p : ℕ) → p < R k o t → slice_index (tab k es t) (V k o t p) ≤ 2 * count k es in

@@ -8,10 +8,10 @@ use Rattle.ft_trace.specs.declared.Shape.{Shape}
 use Rattle.ft_trace.specs.declared.View.{View}
 use Rattle.ft_trace.specs.declared.Act.{Act}
 use Rattle.ft_trace.specs.declared.Act.TheVariants.{ReadRoot, Announce}
-use Rattle.ft_trace.specs.Acts.{place, Reports, reads, reads_next, starter, noted, maker, made, both, spent}
+use Rattle.ft_trace.specs.Acts.{place, Reports, reads, reads_next, starter, noted, maker, made, both, spent, sender, note}
 use Rattle.ft_trace.specs.Ages.{age, seen, seen_next}
 use Rattle.ft_trace.specs.Finding.{Online}
-use Rattle.ft_trace.specs.Traces.{Event, did, forked, joined, run, word, history, May, Valid}
+use Rattle.ft_trace.specs.Traces.{Event, did, forked, joined, sent, run, word, history, May, Valid}
 use Rattle.ft_trace.proofs.Sizes.{set_views, one_more, one_view}
 use Rattle.ft_trace.proofs.Cases.{hit, miss, here}
 
@@ -111,6 +111,10 @@ was k (forked id v ∷ es) valid =
     let old = was k es valid.0 in
     one_more (Each k (forked id v ∷ es)) _ (made v) (no_log k (forked id v ∷ es) (length (set (run k es).views id (maker v))))
     (set_views (Each k (forked id v ∷ es)) _ id (maker v) (λ xs a rest is. later k es (forked id v) id xs a rest (λ t. refl) (old id v valid.1.0 xs a rest is)) (λ j u _ e xs a rest is. later k es (forked id v) j xs a rest (λ t. refl) (old j u e xs a rest is)))
+was k (sent id v given ∷ es) valid =
+    let old = was k es valid.0 in
+    one_more (Each k (sent id v given ∷ es)) _ (note given v) (no_log k (sent id v given ∷ es) (length (set (run k es).views id (sender given v))))
+    (set_views (Each k (sent id v given ∷ es)) _ id (sender given v) (λ xs a rest is. later k es (sent id v given) id xs a rest (λ t. refl) (old id v valid.1.0 xs a rest is)) (λ j u _ e xs a rest is. later k es (sent id v given) j xs a rest (λ t. refl) (old j u e xs a rest is)))
 was k (joined id v other w ∷ es) valid =
     let old = was k es valid.0 in
     set_views (Each k (joined id v other w ∷ es)) _ other spent (no_log k (joined id v other w ∷ es) other)

@@ -16,7 +16,7 @@ use Rattle.ft_trace.proofs.Announcing.{fits}
 use Rattle.ft_trace.specs.Acts.{place, word_after}
 use Rattle.ft_trace.specs.Entries.{total}
 use Rattle.ft_trace.specs.Counts.{sum_to, bit_of, set_bits, ones, word_bits, taking, giving}
-use Rattle.ft_trace.specs.Traces.{Event, did, forked, joined, run, word, history, May, Valid}
+use Rattle.ft_trace.specs.Traces.{Event, did, forked, joined, sent, run, word, history, May, Valid}
 use Rattle.ft_trace.proofs.Addresses.{bt_low, num_is, class_of_number, number_of_number, bits_first}
 use Rattle.ft_trace.proofs.Bits.{off_else, on_else}
 use Rattle.ft_trace.proofs.Words.{stays, moves, loaded}
@@ -91,6 +91,7 @@ unused k [] valid t none =
     ap (bit (free_bit_of t)) (bits_first k (free_word_of t) (none_low k t none)) ∙ (ap (λ (z : ℕ). bit (free_bit_of t) (full z)) is ∙ full_off d (free_bit_of t) small)
 unused k (did id v a ∷ es) valid t none = unused_by k es id v t none a valid.1.3 ∙ unused k es valid.0 t none
 unused k (forked id v ∷ es) valid t none = unused k es valid.0 t none
+unused k (sent id v given ∷ es) valid t none = unused k es valid.0 t none
 unused k (joined id v other w ∷ es) valid t none = unused k es valid.0 t none
 
 sum_split : (f : ℕ → ℕ) (a b : ℕ) → sum_to f (a + b) ≡ sum_to f a + sum_to (λ i. f (a + i)) b

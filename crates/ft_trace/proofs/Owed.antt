@@ -10,10 +10,10 @@ use Rattle.ft_trace.specs.declared.View.{View}
 use Rattle.ft_trace.specs.declared.Act.{Act}
 use Rattle.ft_trace.specs.declared.Act.TheVariants.{LowerCount, RaiseCount, ReadCount, Commit}
 use Rattle.ft_trace.specs.Addresses.{tables_in, count_of_class}
-use Rattle.ft_trace.specs.Acts.{owes, owes_next, noted, maker, made, both, spent}
+use Rattle.ft_trace.specs.Acts.{owes, owes_next, noted, maker, made, both, spent, sender, note}
 use Rattle.ft_trace.specs.Entries.{total}
 use Rattle.ft_trace.specs.Counts.{owing, took}
-use Rattle.ft_trace.specs.Traces.{Event, did, forked, joined, run, word, history, May, Valid}
+use Rattle.ft_trace.specs.Traces.{Event, did, forked, joined, sent, run, word, history, May, Valid}
 use Rattle.ft_model.specs.Classes.{IsClass}
 use Rattle.ft_model.specs.Tables.{is_class, takes_in, stored_newest, takes_newest}
 use Rattle.ft_trace.proofs.Announcing.{fits}
@@ -118,6 +118,11 @@ owed k (forked id v ∷ es) valid c low =
     let z : own c 0 ≡ 0 = own_not c 0 (λ z. omega arith) in
     let t = total_forked (owing c) (run k es).views id v (maker v) (made v) valid.1.0 (omega (arith, z)) in
     omega (arith, old, t)
+owed k (sent id v given ∷ es) valid c low =
+    let old = owed k es valid.0 c low in
+    let z : own c 0 ≡ 0 = own_not c 0 (λ z. omega arith) in
+    let t = total_forked (owing c) (run k es).views id v (sender given v) (note given v) valid.1.0 (omega (arith, z)) in
+    omega (arith, old, t)
 owed k (joined id v other w ∷ es) valid c low =
     let old = owed k es valid.0 c low in
     let z : own c 0 ≡ 0 = own_not c 0 (λ z. omega arith) in
@@ -164,6 +169,7 @@ took_one c (did id v a) es = by a
     by (Commit d r f s) = omega arith
     by act = omega arith
 took_one c (forked id v) es = omega arith
+took_one c (sent id v given) es = omega arith
 took_one c (joined id v other w) es = omega arith
 
 took_up : (c : ℕ) (newer older : List Event) → took c older ≤ took c (newer ++ older)
@@ -198,4 +204,5 @@ pub took_low : (k : Shape) (es : List Event) → Valid k es → (c : ℕ) → to
 took_low k [] valid c = omega arith
 took_low k (did id v a ∷ es) valid c = took_by k es id v c a valid.1.3 (took_low k es valid.0 c)
 took_low k (forked id v ∷ es) valid c = took_low k es valid.0 c
+took_low k (sent id v given ∷ es) valid c = took_low k es valid.0 c
 took_low k (joined id v other w ∷ es) valid c = took_low k es valid.0 c

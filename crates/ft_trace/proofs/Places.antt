@@ -11,8 +11,8 @@ use Rattle.ft_trace.specs.declared.Act.{Act}
 use Rattle.ft_trace.specs.declared.Act.TheVariants.{PutBlock, PutRoot, ReadBlock, ReadRoot, ReadFree, TakeTable, GiveTable, Retire}
 use Rattle.ft_trace.specs.Bits.{bit}
 use Rattle.ft_trace.specs.Addresses.{Word, bits, block, IsTable, free_word_of, free_bit_of, containers_in}
-use Rattle.ft_trace.specs.Acts.{place, word_after, Reports, stage, stage_next, starter, noted, maker, made, both, spent}
-use Rattle.ft_trace.specs.Traces.{Event, did, forked, joined, run, word, history, May, Valid}
+use Rattle.ft_trace.specs.Acts.{place, word_after, Reports, stage, stage_next, starter, noted, maker, made, both, spent, sender, note}
+use Rattle.ft_trace.specs.Traces.{Event, did, forked, joined, sent, run, word, history, May, Valid}
 use Rattle.ft_trace.specs.Ages.{aged, age, gone_to, whose}
 use Rattle.ft_trace.proofs.Sizes.{set_views, one_more, one_view}
 use Rattle.ft_trace.proofs.Bits.{off_same, on_same, off_else, on_else, bit_small}
@@ -40,6 +40,7 @@ root_table k (did id v a ∷ es) valid o low t =
     let F : Act → Type 0 = λ b. May k (run k es) (history es) v b → root k (did id v b ∷ es) o ≡ suc t → IsTable k t in
     on_root k es id v o low F (λ r old may e. (may.3 t (sym (moves k es id v (PutRoot o r old) may) ∙ e)).0) (λ b same may e. root_table k es valid.0 o low t (sym (same may) ∙ e)) a valid.1.3
 root_table k (forked id v ∷ es) valid o low t = root_table k es valid.0 o low t
+root_table k (sent id v given ∷ es) valid o low t = root_table k es valid.0 o low t
 root_table k (joined id v other w ∷ es) valid o low t = root_table k es valid.0 o low t
 
 -- the action is nothing to where t is
@@ -275,6 +276,9 @@ placed k (did id v a ∷ es) valid t table =
 placed k (forked id v ∷ es) valid t table =
     let old = placed k es valid.0 t table in
     record { free_is = old.free_is; is_free = old.is_free; hands = one_more (Hand es t) _ (made v) (λ no. absurd (no refl)) (set_views (Hand es t) _ id (maker v) (old.hands id v valid.1.0) (λ j u _ e. old.hands j u e)); roots = old.roots; current = old.current }
+placed k (sent id v given ∷ es) valid t table =
+    let old = placed k es valid.0 t table in
+    record { free_is = old.free_is; is_free = old.is_free; hands = one_more (Hand es t) _ (note given v) (λ no. absurd (no refl)) (set_views (Hand es t) _ id (sender given v) (old.hands id v valid.1.0) (λ j u _ e. old.hands j u e)); roots = old.roots; current = old.current }
 placed k (joined id v other w ∷ es) valid t table =
     let old = placed k es valid.0 t table in
     record { free_is = old.free_is; is_free = old.is_free; hands = set_views (Hand es t) _ other spent (λ no. absurd (no refl)) (λ j u _. set_views (Hand es t) _ id (both v w) (old.hands id v valid.1.0) (λ j u _ e. old.hands j u e) j u); roots = old.roots; current = old.current }

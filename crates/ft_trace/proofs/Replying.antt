@@ -39,7 +39,7 @@ replies_may_be_given v call said live p some_call not_write right =
     let cause : HasCause (stored_newest k.kinds (first_writes n (history es))) u.log call said n = subst (λ (z : List Call). HasCause (stored_newest k.kinds z) u.log call said n) (sym all) r.1 in
     let own : Loaded n u.log = record { newer = []; rest = v.log; is = refl; own = tt } in
     let may : May k (run k now) (history now) u (Answer call said n) = (not_write, omega (arith, same), replied, own, cause, some_call) in
-    (n, (did id u (Answer call said n) ∷ now, id, (((p.2.0, (p.2.1, live, refl, tt)), (at, live, tt, may)), set_at (run k now).views id u (noted (Answer call said n) u) at)))
+    (n, (did id u (Answer call said n) ∷ now, id, (((p.2.0, (p.2.1, live.0, refl, tt, live.1)), (at, live.0, tt, may, live.1)), set_at (run k now).views id u (noted (Answer call said n) u) at)))
 
 never_writes : (b : Bool) → (b && false) ≡ false
 never_writes true = refl

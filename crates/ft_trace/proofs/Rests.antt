@@ -8,7 +8,7 @@ use Rattle.ft_trace.specs.declared.Act.{Act}
 use Rattle.ft_trace.specs.Addresses.{IsTable, containers_in}
 use Rattle.ft_trace.specs.Acts.{reads}
 use Rattle.ft_trace.specs.Ages.{age, seen}
-use Rattle.ft_trace.specs.Traces.{Event, did, forked, joined, run, history, May, Valid}
+use Rattle.ft_trace.specs.Traces.{Event, did, forked, joined, sent, run, history, May, Valid}
 use Rattle.ft_trace.proofs.Places.{root, placed}
 use Rattle.ft_trace.proofs.Contents.{tab}
 use Rattle.ft_trace.proofs.Ages.{within}
@@ -25,6 +25,7 @@ rests k es (did id v a) valid t table not_one not_two =
     (λ b same may. same may)
     a valid.1.3
 rests k es (forked id v) valid t table not_one not_two = refl
+rests k es (sent id v given) valid t table not_one not_two = refl
 rests k es (joined id v other w) valid t table not_one not_two = refl
 
 -- what a pass has found in a root since it last announced is current, taken out of a root or retired, and if it is in a root, it has been there since

@@ -11,9 +11,9 @@ use Rattle.ft_trace.specs.declared.Act.{Act}
 use Rattle.ft_trace.specs.declared.Act.TheVariants.{TakeTable, GiveTable, PutRoot, Retire, ReadAnnounced, ReadRoot, Announce}
 use Rattle.ft_trace.specs.Bits.{bit}
 use Rattle.ft_trace.specs.Addresses.{write_number, announced_of, bits, IsTable, free_word_of, free_bit_of}
-use Rattle.ft_trace.specs.Acts.{stage, stage_next, goal, goal_next, announces, reads, reads_next, clear, clear_next, starter, noted, maker, made, both, spent}
+use Rattle.ft_trace.specs.Acts.{stage, stage_next, goal, goal_next, announces, reads, reads_next, clear, clear_next, starter, noted, maker, made, both, spent, sender, note}
 use Rattle.ft_trace.specs.Ages.{aged, age, all_acts}
-use Rattle.ft_trace.specs.Traces.{Event, did, forked, joined, run, word, Valid}
+use Rattle.ft_trace.specs.Traces.{Event, did, forked, joined, sent, run, word, Valid}
 use Rattle.ft_trace.proofs.Sizes.{set_views, one_more, one_view}
 use Rattle.ft_trace.proofs.Cases.{hit, miss, here, off, same_or}
 use Rattle.ft_trace.proofs.Announcing.{heard, fits}
@@ -103,6 +103,10 @@ linked k (forked id v ∷ es) valid t table =
     let old = linked k es valid.0 t table in
     let m = old id v valid.1.0 in
     one_more (λ j u. Linked t (forked id v ∷ es) u) _ (made v) (none_yet t (forked id v ∷ es) (made v) refl) (set_views (λ j u. Linked t (forked id v ∷ es) u) _ id (maker v) (record { goal_is = m.goal_is; clear_is = m.clear_is }) (λ j u _ e. let o = old j u e in record { goal_is = o.goal_is; clear_is = o.clear_is }))
+linked k (sent id v given ∷ es) valid t table =
+    let old = linked k es valid.0 t table in
+    let m = old id v valid.1.0 in
+    one_more (λ j u. Linked t (sent id v given ∷ es) u) _ (note given v) (none_yet t (sent id v given ∷ es) (note given v) refl) (set_views (λ j u. Linked t (sent id v given ∷ es) u) _ id (sender given v) (record { goal_is = m.goal_is; clear_is = m.clear_is }) (λ j u _ e. let o = old j u e in record { goal_is = o.goal_is; clear_is = o.clear_is }))
 linked k (joined id v other w ∷ es) valid t table =
     let old = linked k es valid.0 t table in
     let m = old id v valid.1.0 in
@@ -242,6 +246,10 @@ safe k (forked id v ∷ es) valid t table =
     let old = safe k es valid.0 t table in
     let m = old id v valid.1.0 in
     one_more (λ j u. SafeAt k t (forked id v ∷ es) u) _ (made v) (record { read_is = λ e. off e; clear_is = λ g c e. off e }) (set_views (λ j u. SafeAt k t (forked id v ∷ es) u) _ id (maker v) (record { read_is = m.read_is; clear_is = m.clear_is }) (λ j u _ e. let o = old j u e in record { read_is = o.read_is; clear_is = o.clear_is }))
+safe k (sent id v given ∷ es) valid t table =
+    let old = safe k es valid.0 t table in
+    let m = old id v valid.1.0 in
+    one_more (λ j u. SafeAt k t (sent id v given ∷ es) u) _ (note given v) (record { read_is = λ e. off e; clear_is = λ g c e. off e }) (set_views (λ j u. SafeAt k t (sent id v given ∷ es) u) _ id (sender given v) (record { read_is = m.read_is; clear_is = m.clear_is }) (λ j u _ e. let o = old j u e in record { read_is = o.read_is; clear_is = o.clear_is }))
 safe k (joined id v other w ∷ es) valid t table =
     let old = safe k es valid.0 t table in
     let m = old id v valid.1.0 in

@@ -12,8 +12,8 @@ use Rattle.ft_trace.specs.declared.Shape.{Shape}
 use Rattle.ft_trace.specs.declared.View.{View}
 use Rattle.ft_trace.specs.declared.Act.{Act}
 use Rattle.ft_trace.specs.declared.Act.TheVariants.{StartWrite, Commit, StopWrite}
-use Rattle.ft_trace.specs.Acts.{has_lock, is_writing, is_writing_next, has_committed, has_committed_next, starter, noted, maker, made, both, spent}
-use Rattle.ft_trace.specs.Traces.{Event, did, forked, joined, run, writes_of, history, Valid}
+use Rattle.ft_trace.specs.Acts.{has_lock, is_writing, is_writing_next, has_committed, has_committed_next, starter, noted, maker, made, both, spent, sender, note}
+use Rattle.ft_trace.specs.Traces.{Event, did, forked, joined, sent, run, writes_of, history, Valid}
 use Rattle.ft_trace.proofs.Sizes.{set_at, set_views, one_more, one_view}
 use Rattle.ft_trace.proofs.Cases.{hit, off}
 use Rattle.ft_trace.proofs.Addresses.{version_first}
@@ -103,6 +103,10 @@ roomy k (forked id v ∷ es) valid o low =
     let old = roomy k es valid.0 o low in
     let W : ℕ → View → Type 0 = λ j u. is_writing o u.log ≡ true → has_committed o u.log ≡ true → version k es o + 1 ≤ 2 * count k es in
     record { odd = old.odd; even = old.even; written = one_more W _ (made v) (λ e. off e) (set_views W _ id (maker v) (old.written id v valid.1.0) (λ j u _ e. old.written j u e)) }
+roomy k (sent id v given ∷ es) valid o low =
+    let old = roomy k es valid.0 o low in
+    let W : ℕ → View → Type 0 = λ j u. is_writing o u.log ≡ true → has_committed o u.log ≡ true → version k es o + 1 ≤ 2 * count k es in
+    record { odd = old.odd; even = old.even; written = one_more W _ (note given v) (λ e. off e) (set_views W _ id (sender given v) (old.written id v valid.1.0) (λ j u _ e. old.written j u e)) }
 roomy k (joined id v other w ∷ es) valid o low =
     let old = roomy k es valid.0 o low in
     let W : ℕ → View → Type 0 = λ j u. is_writing o u.log ≡ true → has_committed o u.log ≡ true → version k es o + 1 ≤ 2 * count k es in

@@ -10,10 +10,10 @@ pub maker_possible : (v : View) → MayFork v → Possible v → Possible (maker
 maker_possible v may p =
     let es = p.0 in
     let at = set_at (run v.shape es).views p.1 v (maker v) p.2.1 in
-    (forked p.1 v ∷ es, p.1, ((p.2.0, (p.2.1, may.live, may.next, may.parts, may.left, may.few)), at_longer (set (run v.shape es).views p.1 (maker v)) (made v ∷ []) p.1 (maker v) at))
+    (forked p.1 v ∷ es, p.1, ((p.2.0, (p.2.1, may.live, may.next, may.parts, may.left, may.few, may.tokens)), at_longer (set (run v.shape es).views p.1 (maker v)) (made v ∷ []) p.1 (maker v) at))
 
 pub made_possible : (v : View) → MayFork v → Possible v → Possible (made v)
 made_possible v may p =
     let es = p.0 in
     let l = set (run v.shape es).views p.1 (maker v) in
-    (forked p.1 v ∷ es, length l, ((p.2.0, (p.2.1, may.live, may.next, may.parts, may.left, may.few)), at_last l (made v) (length l) refl))
+    (forked p.1 v ∷ es, length l, ((p.2.0, (p.2.1, may.live, may.next, may.parts, may.left, may.few, may.tokens)), at_last l (made v) (length l) refl))

@@ -5,8 +5,8 @@ use lib.ListN.{get_elem?}
 use Rattle.atomic_table.proofs.Lists.{at_set}
 use Rattle.ft_trace.specs.declared.Shape.{Shape}
 use Rattle.ft_trace.specs.declared.View.{View}
-use Rattle.ft_trace.specs.Acts.{starter, noted, maker, made, both, spent}
-use Rattle.ft_trace.specs.Traces.{Event, did, forked, joined, run, Valid}
+use Rattle.ft_trace.specs.Acts.{starter, noted, maker, made, both, spent, sender, note}
+use Rattle.ft_trace.specs.Traces.{Event, did, forked, joined, sent, run, Valid}
 
 at_end : (l : List View) (a b : View) (j : ℕ) → get_elem? (l ++ a ∷ []) j ≡ some b → (get_elem? l j ≡ some b) ⊎ ((j ≡ length l) × (a ≡ b))
 at_end [] a b zero e = inr (refl, some-injective a b e)
@@ -40,6 +40,9 @@ sized k (did id v a ∷ es) valid = set_views (λ j u. u.number ≢ 0 → u.shap
 sized k (forked id v ∷ es) valid =
     one_more (λ j u. u.number ≢ 0 → u.shape ≡ k) _ (made v) (λ live. sized k es valid.0 id v valid.1.0 valid.1.1)
     (set_views (λ j u. u.number ≢ 0 → u.shape ≡ k) _ id (maker v) (λ live. sized k es valid.0 id v valid.1.0 live) (λ j u _ e. sized k es valid.0 j u e))
+sized k (sent id v given ∷ es) valid =
+    one_more (λ j u. u.number ≢ 0 → u.shape ≡ k) _ (note given v) (λ live. absurd (live refl))
+    (set_views (λ j u. u.number ≢ 0 → u.shape ≡ k) _ id (sender given v) (λ live. sized k es valid.0 id v valid.1.0 live) (λ j u _ e. sized k es valid.0 j u e))
 sized k (joined id v other w ∷ es) valid =
     set_views (λ j u. u.number ≢ 0 → u.shape ≡ k) _ other spent (λ live. absurd (live refl))
     (λ j u _. set_views (λ j u. u.number ≢ 0 → u.shape ≡ k) _ id (both v w) (λ live. sized k es valid.0 id v valid.1.0 live) (λ j u _ e. sized k es valid.0 j u e) j u)

@@ -15,7 +15,7 @@ use Rattle.ft_model.specs.declared.content.Content.{Content}
 use Rattle.ft_trace.specs.Worlds.{Kept, kept, kind_in, changes}
 use Rattle.ft_trace.specs.Kinds.{SoundAs, LaterAs}
 use Rattle.ft_trace.specs.Ages.{age, whose}
-use Rattle.ft_trace.specs.Traces.{Event, did, forked, joined, run, writes_of, history, CarefulFor, ClearFor, May, Valid}
+use Rattle.ft_trace.specs.Traces.{Event, did, forked, joined, sent, run, writes_of, history, CarefulFor, ClearFor, May, Valid}
 use Rattle.ft_trace.proofs.Cases.{same_or}
 use Rattle.ft_trace.proofs.Addresses.{at_low, block_first}
 use Rattle.ft_trace.proofs.Words.{wide, stays, moves, loaded}
@@ -77,6 +77,7 @@ later_one k es (did id v a) valid t table two =
     (λ b same may. subst (LaterIn k o t ws) (sym (same may)) (in_self k o t ws))
     a valid.1.3
 later_one k es (forked id v) valid t table two = in_self k (whose es t) t (tab k es t)
+later_one k es (sent id v given) valid t table two = in_self k (whose es t) t (tab k es t)
 later_one k es (joined id v other w) valid t table two = in_self k (whose es t) t (tab k es t)
 
 -- while t is current
@@ -128,4 +129,5 @@ sound_at k (did id v a ∷ es) valid o low t e =
     b ok.1.3 then_)
     a valid e
 sound_at k (forked id v ∷ es) valid o low t e = sound_at k es valid.0 o low t e
+sound_at k (sent id v given ∷ es) valid o low t e = sound_at k es valid.0 o low t e
 sound_at k (joined id v other w ∷ es) valid o low t e = sound_at k es valid.0 o low t e

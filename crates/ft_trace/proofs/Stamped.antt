@@ -12,10 +12,10 @@ use Rattle.ft_trace.specs.declared.View.{View}
 use Rattle.ft_trace.specs.declared.Act.{Act}
 use Rattle.ft_trace.specs.declared.Act.TheVariants.{Commit, Answer, ReadCounter, ReadCount}
 use Rattle.ft_trace.specs.Addresses.{tables_in}
-use Rattle.ft_trace.specs.Acts.{noted, starter, maker, made, both, spent}
+use Rattle.ft_trace.specs.Acts.{noted, starter, maker, made, both, spent, sender, note}
 use Rattle.ft_trace.specs.Worlds.{first_writes}
 use Rattle.ft_trace.specs.Causes.{AreOfOneCall, Loaded, FoundEmpty, least_stamp}
-use Rattle.ft_trace.specs.Traces.{Event, did, forked, joined, run, history, Valid}
+use Rattle.ft_trace.specs.Traces.{Event, did, forked, joined, sent, run, history, Valid}
 use Rattle.ft_trace.proofs.Sizes.{set_views, one_more, one_view}
 use Rattle.ft_trace.proofs.Words.{moves}
 use Rattle.ft_trace.proofs.Versions.{one_up}
@@ -28,7 +28,7 @@ use Rattle.ft_trace.proofs.Owed.{earned_since, took_low}
 pub counter_rises : (k : Shape) (newer older : List Event) → Valid k (newer ++ older) → Valid k older → count k older ≤ count k (newer ++ older)
 counter_rises k newer older valid was_valid = let a = counted k older was_valid in let b = counted k (newer ++ older) valid in let c = grows newer older in omega (arith, a, b, c)
 
-one_rises : (k : Shape) (e : Event) (es : List Event) → Valid k (e ∷ es) → count k es ≤ count k (e ∷ es)
+pub one_rises : (k : Shape) (e : Event) (es : List Event) → Valid k (e ∷ es) → count k es ≤ count k (e ∷ es)
 one_rises k e es valid = let a = counted k es valid.0 in let b = counted k (e ∷ es) valid in let c = grows_one e es in omega (arith, a, b, c)
 
 least_by : (k : Shape) (es : List Event) (id : ℕ) (v : View) (b : Act) → Valid k (did id v b ∷ es) → least_stamp v.log ≤ count k es → least_stamp (b ∷ v.log) ≤ count k (did id v b ∷ es)
@@ -49,6 +49,10 @@ least_low k (forked id v ∷ es) valid =
     let old = least_low k es valid.0 in
     let P : ℕ → View → Type 0 = λ j u. least_stamp u.log ≤ count k es in
     one_more P _ (made v) (omega arith) (set_views P _ id (maker v) (old id v valid.1.0) (λ j u _ e. old j u e))
+least_low k (sent id v given ∷ es) valid =
+    let old = least_low k es valid.0 in
+    let P : ℕ → View → Type 0 = λ j u. least_stamp u.log ≤ count k es in
+    one_more P _ (note given v) (omega arith) (set_views P _ id (sender given v) (old id v valid.1.0) (λ j u _ e. old j u e))
 least_low k (joined id v other w ∷ es) valid =
     let old = least_low k es valid.0 in
     let P : ℕ → View → Type 0 = λ j u. least_stamp u.log ≤ count k es in

@@ -8,8 +8,8 @@ use Rattle.ft_trace.specs.declared.Act.{Act}
 use Rattle.ft_trace.specs.declared.Act.TheVariants.{Commit, Answer}
 use Rattle.ft_model.specs.declared.call.Call.{Call}
 use Rattle.ft_trace.specs.declared.Entry.{Entry}
-use Rattle.ft_trace.specs.Acts.{noted, entries_next, left_next, maker, made, both, spent}
-use Rattle.ft_trace.specs.Traces.{Moment, Event, did, forked, joined, run, writes_of, history, May, Valid}
+use Rattle.ft_trace.specs.Acts.{noted, entries_next, left_next, maker, made, both, spent, sender, note}
+use Rattle.ft_trace.specs.Traces.{Moment, Event, did, forked, joined, sent, run, writes_of, history, May, Valid}
 use Rattle.ft_trace.specs.Entries.{total, entries_of}
 use Rattle.atomic_table.proofs.Lists.{set_else}
 
@@ -65,6 +65,7 @@ pub parts_total : (k : Shape) (es : List Event) → Valid k es → total (λ (u 
 parts_total k [] valid = omega arith
 parts_total k (did id v a ∷ es) valid = let t = total_set (λ (u : View). u.parts) (run k es).views id v (noted a v) valid.1.0 in let old = parts_total k es valid.0 in omega arith
 parts_total k (forked id v ∷ es) valid = let may = valid.1.3 in total_forked (λ (u : View). u.parts) (run k es).views id v (maker v) (made v) valid.1.0 (omega arith) ∙ parts_total k es valid.0
+parts_total k (sent id v given ∷ es) valid = total_forked (λ (u : View). u.parts) (run k es).views id v (sender given v) (note given v) valid.1.0 (omega arith) ∙ parts_total k es valid.0
 parts_total k (joined id v other w ∷ es) valid = total_joined (λ (u : View). u.parts) (run k es).views id other v w (both v w) spent valid.1.0 valid.1.1 valid.1.2 (omega arith) ∙ parts_total k es valid.0
 
 left_by : (k : Shape) (m : Moment) (cs : List Call) (v : View) (b : Act) → May k m cs v b → left_next b v.left + length (writes_of b cs) ≤ v.left + length cs
@@ -83,6 +84,10 @@ left_total k (did id v a ∷ es) valid =
 left_total k (forked id v ∷ es) valid =
     let may = valid.1.4 in
     let t = total_forked (λ (u : View). u.left) (run k es).views id v (maker v) (made v) valid.1.0 (omega arith) in
+    let old = left_total k es valid.0 in
+    omega (arith, t, old)
+left_total k (sent id v given ∷ es) valid =
+    let t = total_forked (λ (u : View). u.left) (run k es).views id v (sender given v) (note given v) valid.1.0 (omega arith) in
     let old = left_total k es valid.0 in
     omega (arith, t, old)
 left_total k (joined id v other w ∷ es) valid =
@@ -104,5 +109,6 @@ entries_total h k (did id v a ∷ es) valid =
     let by = weight_by h a v.entries (entries_of es) in
     omega arith
 entries_total h k (forked id v ∷ es) valid = total_forked (weight h) (run k es).views id v (maker v) (made v) valid.1.0 (omega arith) ∙ entries_total h k es valid.0
+entries_total h k (sent id v given ∷ es) valid = total_forked (weight h) (run k es).views id v (sender given v) (note given v) valid.1.0 (omega arith) ∙ entries_total h k es valid.0
 entries_total h k (joined id v other w ∷ es) valid =
     total_joined (weight h) (run k es).views id other v w (both v w) spent valid.1.0 valid.1.1 valid.1.2 (omega (arith, total-append h w.entries v.entries)) ∙ entries_total h k es valid.0

@@ -9,8 +9,8 @@ use Rattle.ft_trace.specs.declared.View.{View}
 use Rattle.ft_trace.specs.declared.Act.{Act}
 use Rattle.ft_trace.specs.declared.Act.TheVariants.{StartWrite, StopWrite, Version}
 use Rattle.ft_trace.specs.Addresses.{version_of, containers_in}
-use Rattle.ft_trace.specs.Acts.{has_lock, is_writing, is_writing_next, starter, noted, maker, made, both, spent}
-use Rattle.ft_trace.specs.Traces.{Moment, Event, did, forked, joined, run, word, history, May, Valid}
+use Rattle.ft_trace.specs.Acts.{has_lock, is_writing, is_writing_next, starter, noted, maker, made, both, spent, sender, note}
+use Rattle.ft_trace.specs.Traces.{Moment, Event, did, forked, joined, sent, run, word, history, May, Valid}
 use Rattle.ft_trace.proofs.Sizes.{set_at, set_views, one_more, one_view}
 use Rattle.atomic_table.proofs.Lists.{set_else, at_longer}
 use Rattle.ft_trace.proofs.Cases.{hit, miss, same_or, off, not_true}
@@ -45,6 +45,9 @@ writer_has k (did id v a ∷ es) valid o =
 writer_has k (forked id v ∷ es) valid o =
     let old = writer_has k es valid.0 o in
     one_more (Covered o) _ (made v) (λ no. off no) (set_views (Covered o) _ id (maker v) (old id v valid.1.0) (λ j u _ e. old j u e))
+writer_has k (sent id v given ∷ es) valid o =
+    let old = writer_has k es valid.0 o in
+    one_more (Covered o) _ (note given v) (λ no. off no) (set_views (Covered o) _ id (sender given v) (old id v valid.1.0) (λ j u _ e. old j u e))
 writer_has k (joined id v other w ∷ es) valid o =
     let old = writer_has k es valid.0 o in
     set_views (Covered o) _ other spent (λ no. off no) (λ j u _. set_views (Covered o) _ id (both v w) (old id v valid.1.0) (λ j u _ e. old j u e) j u)
@@ -124,6 +127,13 @@ versioned k (forked id v ∷ es) valid o low =
       idle = λ even. one_more P _ (made v) refl (set_views P _ id (maker v) (old.idle even id v valid.1.0) (λ j u _ e. old.idle even j u e));
       busy = λ odd. let h = other_writes (run k es).views o id (maker v) v valid.1.0 (λ mine. mine) (old.busy odd) in (h.0, h.1, at_longer (set (run k es).views id (maker v)) (made v ∷ []) h.0 h.1 h.2, h.3);
     }
+versioned k (sent id v given ∷ es) valid o low =
+    let old = versioned k es valid.0 o low in
+    let P : ℕ → View → Type 0 = λ j u. is_writing o u.log ≡ false in
+    record {
+      idle = λ even. one_more P _ (note given v) refl (set_views P _ id (sender given v) (old.idle even id v valid.1.0) (λ j u _ e. old.idle even j u e));
+      busy = λ odd. let h = other_writes (run k es).views o id (sender given v) v valid.1.0 (λ mine. mine) (old.busy odd) in (h.0, h.1, at_longer (set (run k es).views id (sender given v)) (note given v ∷ []) h.0 h.1 h.2, h.3);
+    }
 versioned k (joined id v other w ∷ es) valid o low =
     let old = versioned k es valid.0 o low in
     let P : ℕ → View → Type 0 = λ j u. is_writing o u.log ≡ false in
@@ -152,6 +162,7 @@ rises_one k es (did id v a) valid o low =
     (λ b _ same may. let e = same may in omega (arith, e))
     a valid.1.3
 rises_one k es (forked id v) valid o low = le_refl (version k es o)
+rises_one k es (sent id v given) valid o low = le_refl (version k es o)
 rises_one k es (joined id v other w) valid o low = le_refl (version k es o)
 
 pub rises : (k : Shape) (newer older : List Event) → Valid k (newer ++ older) → (o : ℕ) → o < containers_in k → version k older o ≤ version k (newer ++ older) o

@@ -6,7 +6,7 @@ use Rattle.ft_trace.specs.declared.View.{View}
 use Rattle.ft_trace.specs.declared.Act.{Act}
 use Rattle.ft_trace.specs.Addresses.{Word, Inside, at, extent}
 use Rattle.ft_trace.specs.Acts.{place, word_after}
-use Rattle.ft_trace.specs.Traces.{Event, did, forked, joined, run, word, history, May}
+use Rattle.ft_trace.specs.Traces.{Event, did, forked, joined, sent, run, word, history, May}
 use Rattle.ft_trace.proofs.Addresses.{at_apart, at_low, opening_long}
 use Rattle.ft_trace.proofs.Cases.{inside}
 
@@ -14,6 +14,7 @@ pub wide : (k : Shape) (es : List Event) → length (run k es).words ≡ extent 
 wide k [] = opening_long k
 wide k (did id v a ∷ es) = length-set (run k es).words (at k (place a)) (word_after v.number a (word k es (place a))) ∙ wide k es
 wide k (forked id v ∷ es) = wide k es
+wide k (sent id v given ∷ es) = wide k es
 wide k (joined id v other w ∷ es) = wide k es
 
 module _ (k : Shape) (es : List Event) (id : ℕ) (v : View) (a : Act) (may : May k (run k es) (history es) v a) where

@@ -17,7 +17,7 @@ use Rattle.ft_trace.specs.Words.{table_of, block_of, root_of, inner, Picture, ro
 use Rattle.ft_trace.specs.Kinds.{rows, version_at, CarefulAs, ClearAs}
 use Rattle.ft_trace.specs.Openings.{Shut, Low, Timely}
 use Rattle.ft_trace.specs.Holds.{held, known, in_hand, AgreesWith}
-use Rattle.ft_trace.specs.Traces.{did, run, word, history, snap, SoundFor, ClearFor, May, Valid, Possible, Sure}
+use Rattle.ft_trace.specs.Traces.{did, run, word, history, snap, SoundFor, ClearFor, May, Valid, Possible, Sure, IsAwake}
 use Rattle.ft_trace.specs.Writes.{Put, to_block, to_table, log_of, with_put, with_puts, MayPuts, Write, log_of_root, with_root, at_commit, with_log, log_at_commit, after_write_of, MayBegin, MayReplace, MayWriteSo, WritesMayBeMade}
 use Rattle.ft_trace.proofs.Sizes.{set_at}
 use Rattle.ft_trace.proofs.Cases.{hit, off}
@@ -104,7 +104,7 @@ puts_alike o t (to_table i x ∷ puts) log = puts_alike o t puts (PutTable o t i
 
 -- ---- puts in a row
 
-module _ (v : View) (live : v.number ≢ 0) (o t : ℕ) (low : o < containers_in v.shape) where
+module _ (v : View) (live : IsAwake v) (o t : ℕ) (low : o < containers_in v.shape) where
   abbrev k : Shape
   k = v.shape
 
@@ -293,7 +293,7 @@ module _ (v : View) (o t : ℕ) (write : Write) (begin : MayBegin v o) (may : Ma
       let c = may.commit (history es) (agreeing log r es id knows) in
       let after : Kept = kept n.kinds (write.call ∷ history es) o in
       let w = noted a v in
-      let p4 : Possible (with_log w (a ∷ log)) = (did id u a ∷ es, id, ((knows.0, (knows.1, begin.live, refl, committed log r es id knows)), set_at (run n es).views id u (noted a u) knows.1)) in
+      let p4 : Possible (with_log w (a ∷ log)) = (did id u a ∷ es, id, ((knows.0, (knows.1, begin.live.0, refl, committed log r es id knows, begin.live.1)), set_at (run n es).views id u (noted a u) knows.1)) in
       let mine : has_lock o log ≡ true = r.2 o ∙ begin.mine in
       let puts = puts_possible w begin.live o t begin.low write.late (a ∷ log) (at_commit v o write) after.content true p4 mine r.3 refl r.1 refl c.late in
       let l5 = log_of o t write.late (a ∷ log) in

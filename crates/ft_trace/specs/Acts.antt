@@ -1,8 +1,8 @@
 -- What one action reads and writes, and what the actions of a pass say of it.
-use Rattle.std.specs.Prelude.{◌≡◌, ℕ, suc, ◌+◌, ◌-◌, ◌*◌, ◌^◌, ◌%◌, ◌==◌, nat_lt, Bool, true, false, cond, List, [], ◌∷◌, ◌++◌, slice_set}
+use Rattle.std.specs.Prelude.{◌≡◌, ℕ, suc, max, ◌+◌, ◌-◌, ◌*◌, ◌^◌, ◌%◌, ◌==◌, nat_lt, Bool, true, false, cond, List, [], ◌∷◌, ◌++◌, slice_index, slice_set}
 use prog.Atomic.{either}
 use Rattle.ft_trace.specs.declared.Act.{Act}
-use Rattle.ft_trace.specs.declared.Act.TheVariants.{Lock, Unlock, StartWrite, PutBlock, PutRoot, PutTable, PutFresh, PutHeader, Commit, StopWrite, Version, ReadBlock, ReadRoot, ReadTable, ReadCounter, Answer, LowerCount, RaiseCount, ReadCount, ReadFree, TakeTable, GiveTable, Retire, Announce, ReadAnnounced, WriteNumber}
+use Rattle.ft_trace.specs.declared.Act.TheVariants.{Lock, Unlock, StartWrite, PutBlock, PutRoot, PutTable, PutFresh, PutHeader, Commit, StopWrite, Version, ReadBlock, ReadRoot, ReadTable, ReadCounter, Answer, LowerCount, RaiseCount, ReadCount, ReadFree, TakeTable, GiveTable, Retire, Announce, ReadAnnounced, WriteNumber, TakeFloor}
 use Rattle.ft_trace.specs.declared.Entry.{Entry}
 use Rattle.ft_trace.specs.declared.Shape.{Shape}
 use Rattle.ft_model.specs.declared.call.Call.{Call}
@@ -38,6 +38,7 @@ place (Retire t f) = write_number
 place (Announce p x) = announced_of p
 place (ReadAnnounced p f) = announced_of p
 place (WriteNumber f) = write_number
+place (TakeFloor f s) = counter
 
 -- what the word becomes, by the pass of this number, where n was there
 abbrev pub word_after : ℕ → Act → ℕ → ℕ
@@ -78,6 +79,7 @@ Reports (TakeTable t f s) n = f ≡ n
 Reports (Retire t f) n = f ≡ n
 Reports (ReadAnnounced p f) n = f ≡ n
 Reports (WriteNumber f) n = f ≡ n
+Reports (TakeFloor f s) n = f ≡ n
 Reports act n = Unit {0}
 
 -- the pass has the lock of o
@@ -225,6 +227,35 @@ left_next (Commit c r f s) n = n - 1
 left_next (Answer c r x) n = n - 1
 left_next act n = n
 
+-- how many writes a log shows: the greatest of what loads of the counter gave, and each own write's number and one
+abbrev pub shown_next : Act → ℕ → ℕ
+shown_next (ReadCounter f) n = max n f
+shown_next (Commit c r f s) n = max n (f + 1)
+shown_next act n = n
+
+abbrev pub shown : List Act → ℕ
+shown [] = 0
+shown (a ∷ l) = shown_next a (shown l)
+
+-- how many writes the pass has seen, by itself or through notes and passes that it took in
+abbrev pub seen_writes : View → ℕ
+seen_writes v = max v.learnt (shown v.log)
+
+-- the pass has kept all tokens since it took the floor
+abbrev pub has_floor_next : Act → Bool → Bool
+has_floor_next (TakeFloor f s) b = true
+has_floor_next act b = b
+
+-- the words of the bank by the log of the pass with this number, right while no other pass may act
+abbrev pub floor_words_next : Shape → ℕ → Act → List ℕ → List ℕ
+floor_words_next k number (TakeFloor f s) ws = s.words
+floor_words_next k number act ws =
+    slice_set ws (at k (place act)) (word_after number act (slice_index ws (at k (place act))))
+
+abbrev pub floor_words : Shape → ℕ → List Act → List ℕ
+floor_words k number [] = []
+floor_words k number (a ∷ l) = floor_words_next k number a (floor_words k number l)
+
 -- what a pass knows after one more action
 abbrev pub noted : Act → View → View
 noted a v =
@@ -236,6 +267,10 @@ noted a v =
       shape = v.shape;
       log = a ∷ v.log;
       entries = entries_next a v.entries;
+      tokens = v.tokens;
+      learnt = v.learnt;
+      has_floor = has_floor_next a v.has_floor;
+      floor = [];
     }
 
 -- the first pass
@@ -249,6 +284,10 @@ starter k =
       shape = k;
       log = [];
       entries = [];
+      tokens = k.passes;
+      learnt = 0;
+      has_floor = false;
+      floor = [];
     }
 
 -- the pass that makes another, and the one that it makes
@@ -262,6 +301,10 @@ maker v =
       shape = v.shape;
       log = v.log;
       entries = v.entries;
+      tokens = v.tokens - 1;
+      learnt = v.learnt;
+      has_floor = false;
+      floor = [];
     }
 
 abbrev pub made : View → View
@@ -274,6 +317,10 @@ made v =
       shape = v.shape;
       log = [];
       entries = [];
+      tokens = 1;
+      learnt = 0;
+      has_floor = false;
+      floor = [];
     }
 
 -- what two passes know, in the first one's place, and the second afterwards
@@ -287,13 +334,69 @@ both v w =
       shape = v.shape;
       log = v.log;
       entries = w.entries ++ v.entries;
+      tokens = v.tokens + w.tokens;
+      learnt = max v.learnt (seen_writes w);
+      has_floor = v.has_floor;
+      floor = w.floor ++ v.floor;
     }
 
 abbrev pub no_shape : Shape
 no_shape = record { kinds = []; texts = []; tables = []; heap = 0; passes = 0; calls = 0 }
 
 abbrev pub spent : View
-spent = record { number = 0; next = 0; parts = 0; left = 0; shape = no_shape; log = []; entries = [] }
+spent =
+    record {
+      number = 0;
+      next = 0;
+      parts = 0;
+      left = 0;
+      shape = no_shape;
+      log = [];
+      entries = [];
+      tokens = 0;
+      learnt = 0;
+      has_floor = false;
+      floor = [];
+    }
+
+-- the words of the bank as the pass knows them, where it has the floor or was just given it
+abbrev pub floor_known : View → List ℕ
+floor_known v = cond v.has_floor (floor_words v.shape v.number v.log) v.floor
+
+-- The pass that gives this many of its tokens with a note. Who gives any no longer has the floor.
+abbrev pub sender : ℕ → View → View
+sender given v =
+    record {
+      number = v.number;
+      next = v.next;
+      parts = v.parts;
+      left = v.left;
+      shape = v.shape;
+      log = v.log;
+      entries = v.entries;
+      tokens = v.tokens - given;
+      learnt = v.learnt;
+      has_floor = cond (given == 0) v.has_floor false;
+      floor = cond (given == 0) v.floor [];
+    }
+
+-- The note: how many writes its maker had seen, and the tokens; with all of them the words, if the maker had the floor.
+-- It has no lock, no table, no writes and no entries.
+abbrev pub note : ℕ → View → View
+note given v =
+    record {
+      number = 0;
+      next = 0;
+      parts = 0;
+      left = 0;
+      shape = no_shape;
+      log = [];
+      entries = [];
+      tokens = given;
+      learnt = seen_writes v;
+      has_floor = false;
+      floor = cond (given == v.tokens) (floor_known v) [];
+    }
 
 -- the words of the bank, as the pass knows them: right for what it has
 abbrev pub mem_next : Shape → Act → List ℕ → List ℕ

@@ -6,7 +6,7 @@ use Rattle.ft_trace.specs.declared.Act.TheVariants.{TakeTable, GiveTable, PutRoo
 use Rattle.ft_trace.specs.Bits.{bit}
 use Rattle.ft_trace.specs.Addresses.{free_bit_of}
 use Rattle.ft_trace.specs.Acts.{reads}
-use Rattle.ft_trace.specs.Traces.{Event, did, forked, joined}
+use Rattle.ft_trace.specs.Traces.{Event, did, forked, joined, sent}
 
 abbrev pub aged : Act → ℕ → ℕ → ℕ
 aged (TakeTable p f s) t g = cond (p == t) (cond (bit (free_bit_of t) f == 1) (g + 1) g) g
@@ -20,6 +20,7 @@ age [] t = 0
 age (did id v a ∷ es) t = aged a t (age es t)
 age (forked id v ∷ es) t = age es t
 age (joined id v other w ∷ es) t = age es t
+age (sent id v given ∷ es) t = age es t
 
 -- the seat that has it, or the container whose root names it
 abbrev pub gone_to : ℕ → Act → ℕ → ℕ → ℕ
@@ -32,6 +33,7 @@ whose [] t = 0
 whose (did id v a ∷ es) t = gone_to id a t (whose es t)
 whose (forked id v ∷ es) t = whose es t
 whose (joined id v other w ∷ es) t = whose es t
+whose (sent id v given ∷ es) t = whose es t
 
 -- the age that the table had when the pass at seat j found it in a root, for the first time since it last announced
 abbrev pub seen_next : Act → Bool → ℕ → ℕ → ℕ → ℕ
@@ -43,6 +45,7 @@ seen [] j t = 0
 seen (did id v a ∷ es) j t = cond (id == j) (seen_next a (reads t v.log) t (age es t) (seen es j t)) (seen es j t)
 seen (forked id v ∷ es) j t = seen es j t
 seen (joined id v other w ∷ es) j t = seen es j t
+seen (sent id v given ∷ es) j t = seen es j t
 
 -- all actions, newest first
 abbrev pub all_acts : List Event → List Act
@@ -50,3 +53,4 @@ all_acts [] = []
 all_acts (did id v a ∷ es) = a ∷ all_acts es
 all_acts (forked id v ∷ es) = all_acts es
 all_acts (joined id v other w ∷ es) = all_acts es
+all_acts (sent id v given ∷ es) = all_acts es

@@ -7,7 +7,7 @@ use Rattle.ft_trace.specs.declared.Act.TheVariants.{Commit}
 use Rattle.ft_trace.specs.Bits.{bit}
 use Rattle.ft_trace.specs.Addresses.{tables_in, bits, free_word_of, free_bit_of}
 use Rattle.ft_trace.specs.Acts.{flight, owes}
-use Rattle.ft_trace.specs.Traces.{Event, did, forked, joined, word}
+use Rattle.ft_trace.specs.Traces.{Event, did, forked, joined, sent, word}
 
 -- f of the first n numbers, added up
 abbrev pub sum_to : (ℕ → ℕ) → ℕ → ℕ
@@ -51,3 +51,4 @@ took c [] = 0
 took c (did id v a ∷ es) = took_next c v a (took c es)
 took c (forked id v ∷ es) = took c es
 took c (joined id v other w ∷ es) = took c es
+took c (sent id v given ∷ es) = took c es

@@ -8,7 +8,7 @@ use Rattle.ft_model.specs.Tables.{stored_newest}
 use Rattle.ft_trace.specs.declared.Entry.{Entry}
 use Rattle.ft_trace.specs.Acts.{entries_next}
 use Rattle.ft_trace.specs.Worlds.{first_writes, reply_in}
-use Rattle.ft_trace.specs.Traces.{Event, did, forked, joined}
+use Rattle.ft_trace.specs.Traces.{Event, did, forked, joined, sent}
 
 -- a number of each, added up
 abbrev pub total : {A : Type 0} → (A → ℕ) → List A → ℕ
@@ -21,6 +21,7 @@ entries_of [] = []
 entries_of (did id v a ∷ es) = entries_next a (entries_of es)
 entries_of (forked id v ∷ es) = entries_of es
 entries_of (joined id v other w ∷ es) = entries_of es
+entries_of (sent id v given ∷ es) = entries_of es
 
 -- the write with this number, among writes from the newest to the first
 abbrev pub IsNumber : List Call → ℕ → Call → Type 0

@@ -1,5 +1,5 @@
 -- What a pass may do next, and go on to do: conditions that callers can meet.
-use Rattle.std.specs.Prelude.{◌≡◌, ◌≢◌, ℕ, suc, ◌*◌, ◌^◌, ◌<◌, true, false, List}
+use Rattle.std.specs.Prelude.{◌≡◌, ℕ, suc, ◌*◌, ◌^◌, ◌<◌, true, false, List}
 use Rattle.ft_model.specs.declared.call.Call.TheVariants as call
 use Rattle.ft_model.specs.declared.call.ListCall.TheVariants as list
 use Rattle.ft_model.specs.declared.content.Content.TheVariants as content
@@ -12,12 +12,12 @@ use Rattle.ft_trace.specs.Addresses.{containers_in, IsTable}
 use Rattle.ft_trace.specs.Acts.{has_lock, is_writing, used, owes, flight, stage, noted}
 use Rattle.ft_trace.specs.Words.{root_in}
 use Rattle.ft_trace.specs.Holds.{held, known}
-use Rattle.ft_trace.specs.Traces.{Possible}
+use Rattle.ft_trace.specs.Traces.{Possible, IsAwake}
 
 -- a pass that has the lock of o may begin to write it: it is in the midst of nothing, has a call left, and the bank's
 -- calls are few enough for its words
 pub record MayWrite (v : View) (o : ℕ) : Type 0 where
-  pub live : v.number ≢ 0
+  pub live : IsAwake v
   pub possible : Possible v
   pub few : v.shape.passes * v.shape.calls < 2 ^ 62
   pub low : o < containers_in v.shape
@@ -63,5 +63,5 @@ pub record Ends (v : View) : Type 0 where
 -- a pass that found a count above 0 may lower it and take a bit, or raise it again
 abbrev pub TakingsEnd : Type 0
 TakingsEnd =
-    (v : View) → v.number ≢ 0 → Possible v → (t old : ℕ) → IsTable v.shape t → 0 < old → flight v.log ≡ 0
+    (v : View) → IsAwake v → Possible v → (t old : ℕ) → IsTable v.shape t → 0 < old → flight v.log ≡ 0
     → owes v.log ≡ 0 → stage t v.log ≡ 0 → Ends v

@@ -1,5 +1,5 @@
 -- Replies that a pass may give to calls that aren't writes: conditions that callers can meet.
-use Rattle.std.specs.Prelude.{◌≡◌, ◌≢◌, ℕ, ◌<◌, false, List, ◌∷◌, ◌++◌, Some}
+use Rattle.std.specs.Prelude.{◌≡◌, ℕ, ◌<◌, false, List, ◌∷◌, ◌++◌, Some}
 use Rattle.ft_model.specs.declared.call.Call.{Call}
 use Rattle.ft_model.specs.declared.reply.Reply.{Reply}
 use Rattle.ft_model.specs.declared.reply.Reply.TheVariants as reply
@@ -14,7 +14,7 @@ use Rattle.ft_trace.specs.Acts.{owes, noted}
 use Rattle.ft_trace.specs.Worlds.{reply_in}
 use Rattle.ft_trace.specs.Causes.{AreOfOneCall, HasCause}
 use Rattle.ft_trace.specs.Holds.{AgreesWith}
-use Rattle.ft_trace.specs.Traces.{Possible}
+use Rattle.ft_trace.specs.Traces.{Possible, IsAwake}
 
 -- what a pass knows that loaded the counter and gave a reply with that stamp
 abbrev pub after_answer : View → Call → Reply → ℕ → View
@@ -24,7 +24,7 @@ after_answer v call said number = noted (Answer call said number) (noted (ReadCo
 -- agrees with what the pass knows of the containers whose locks it has, and has its cause there.
 abbrev pub RepliesMayBeGiven : Type 0
 RepliesMayBeGiven =
-    (v : View) (call : Call) (said : Reply) → v.number ≢ 0 → Possible v → 0 < v.left → is_write call said ≡ false
+    (v : View) (call : Call) (said : Reply) → IsAwake v → Possible v → 0 < v.left → is_write call said ≡ false
     → ((calls : List Call) (number : ℕ) → AgreesWith v (stored_newest v.shape.kinds calls)
     → IsReplied call said (reply_in (stored_newest v.shape.kinds calls) call)
     × HasCause (stored_newest v.shape.kinds calls) (ReadCounter number ∷ v.log) call said number)
@@ -38,7 +38,7 @@ lacks class = reply.Raised (raise.Memory class)
 -- to a call that would take a table of that class.
 abbrev pub MemoryErrorsMayBeAnswered : Type 0
 MemoryErrorsMayBeAnswered =
-    (v : View) (call : Call) (class : ℕ) (newer rest : List Act) → v.number ≢ 0 → Possible v
+    (v : View) (call : Call) (class : ℕ) (newer rest : List Act) → IsAwake v → Possible v
     → 0 < v.left → v.log ≡ newer ++ ReadCount class 0 ∷ rest → AreOfOneCall newer → owes rest ≡ 0
     → ((calls : List Call) → AgreesWith v (stored_newest v.shape.kinds calls)
     → CanLackMemory (stored_newest v.shape.kinds calls).world call

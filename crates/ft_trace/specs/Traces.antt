@@ -12,12 +12,12 @@ use Rattle.ft_model.specs.Worlds.{no_hands, IsDeclared}
 use Rattle.ft_model.specs.Tables.{stored_newest, takes_in, would_pass}
 use Rattle.ft_model.specs.Classes.{IsClass}
 use Rattle.ft_trace.specs.declared.Act.{Act}
-use Rattle.ft_trace.specs.declared.Act.TheVariants.{Lock, Unlock, StartWrite, PutBlock, PutRoot, PutTable, PutFresh, PutHeader, Commit, StopWrite, Version, ReadBlock, ReadRoot, ReadTable, ReadCounter, Answer, LowerCount, RaiseCount, ReadCount, ReadFree, TakeTable, GiveTable, Retire, Announce, ReadAnnounced, WriteNumber}
+use Rattle.ft_trace.specs.declared.Act.TheVariants.{Lock, Unlock, StartWrite, PutBlock, PutRoot, PutTable, PutFresh, PutHeader, Commit, StopWrite, Version, ReadBlock, ReadRoot, ReadTable, ReadCounter, Answer, LowerCount, RaiseCount, ReadCount, ReadFree, TakeTable, GiveTable, Retire, Announce, ReadAnnounced, WriteNumber, TakeFloor}
 use Rattle.ft_trace.specs.declared.Shape.{Shape}
 use Rattle.ft_trace.specs.declared.Snap.{Snap}
 use Rattle.ft_trace.specs.declared.View.{View}
 use Rattle.ft_trace.specs.Addresses.{Word, counter, write_number, version_of, containers_in, tables_in, class_of, size, IsTable, at, opening}
-use Rattle.ft_trace.specs.Acts.{place, word_after, Reports, has_lock, is_writing, has_committed, has_emptied, stage, announces, clear, used, debt, flight, owes, noted, starter, maker, made, both, spent}
+use Rattle.ft_trace.specs.Acts.{place, word_after, Reports, has_lock, is_writing, has_committed, has_emptied, stage, announces, clear, used, debt, flight, owes, noted, starter, maker, made, both, spent, sender, note}
 use Rattle.ft_trace.specs.Worlds.{kept, first_writes, kind_in, changes, may_empty, reply_in}
 use Rattle.ft_trace.specs.Words.{table_of, root_of, picture, Stands}
 use Rattle.ft_trace.specs.Kinds.{rows, version_at, SoundAs, CarefulAs, ClearAs}
@@ -37,9 +37,10 @@ pub data Event : Type 0 where
   did : ℕ → View → Act → Event
   forked : ℕ → View → Event
   joined : ℕ → View → ℕ → View → Event
+  sent : ℕ → View → ℕ → Event
 
--- what an event leaves: an action changes one word and the view of its pass, a fork splits a view, a join puts two
--- into one
+-- What an event leaves: an action changes one word and the view of its pass, a fork splits a view, a join puts two
+-- into one, and a note is split off with what its maker has seen and some of its tokens.
 abbrev pub happens : Shape → Event → Moment → Moment
 happens k (did id v a) m =
     record {
@@ -49,6 +50,8 @@ happens k (did id v a) m =
 happens k (forked id v) m = record { words = m.words; views = slice_set m.views id (maker v) ++ made v ∷ [] }
 happens k (joined id v other w) m =
     record { words = m.words; views = slice_set (slice_set m.views id (both v w)) other spent }
+happens k (sent id v given) m =
+    record { words = m.words; views = slice_set m.views id (sender given v) ++ note given v ∷ [] }
 
 -- the bank at the start
 abbrev pub opened : Shape → Moment
@@ -71,6 +74,7 @@ history [] = []
 history (did id v a ∷ es) = writes_of a (history es)
 history (forked id v ∷ es) = history es
 history (joined id v other w ∷ es) = history es
+history (sent id v given ∷ es) = history es
 
 -- the words of o stand for what the history makes of it
 abbrev pub StandsFor : Shape → Moment → List Call → ℕ → Type 0
@@ -208,6 +212,8 @@ May k m cs v (Announce p x) =
     (p ≡ v.number) × (p ≤ k.passes) × (x ≤ word_in k m write_number) × (0 < p) × (p ≤ 64)
 May k m cs v (ReadAnnounced p f) = (p ≤ k.passes) × (0 < p) × (p ≤ 64)
 May k m cs v (WriteNumber f) = Unit {0}
+-- it has all tokens, so no other pass may do anything
+May k m cs v (TakeFloor f s) = (v.tokens ≡ k.passes) × (s ≡ snap m cs)
 
 -- there are at most 64 passes and 1,024 tables of a class
 pub record Fits (k : Shape) : Type 0 where
@@ -227,20 +233,27 @@ IsFree v =
     × (announces v.log ≡ 0)
 
 -- An event of a view that stands where the event says it does: an action that reports what was there, and that the pass
--- may do; a fork by the first pass, which has parts and calls for another; a join of a pass that is free.
+-- may do, which has a token; a fork by the first pass, which has parts, tokens and calls for another; a join of a pass
+-- that is free, or of a note; a note of a pass, with some of its tokens.
 abbrev pub Might : Shape → Moment → List Call → Event → Type 0
 Might k m cs (did id v a) =
     (get_elem? m.views id ≡ some v) × (v.number ≢ 0) × Reports a (word_in k m (place a)) × May k m cs v a
+    × (0 < v.tokens)
 Might k m cs (forked id v) =
     (get_elem? m.views id ≡ some v) × (v.number ≢ 0) × (v.next ≢ 0) × (1 < v.parts) × (v.shape.calls ≤ v.left)
-    × (v.next ≤ k.passes)
+    × (v.next ≤ k.passes) × (1 < v.tokens)
 Might k m cs (joined id v other w) =
     (get_elem? m.views id ≡ some v) × (other ≢ id) × (get_elem? m.views other ≡ some w) × (v.number ≢ 0)
     × (w.next ≡ 0) × IsFree w
+Might k m cs (sent id v given) = (get_elem? m.views id ≡ some v) × (v.number ≢ 0) × (given ≤ v.tokens)
 
 abbrev pub Valid : Shape → List Event → Type 0
 Valid k [] = Fits k
 Valid k (e ∷ es) = Valid k es × Might k (run k es) (history es) e
+
+-- the pass may take steps: it is one of the bank's and has a token
+abbrev pub IsAwake : View → Type 0
+IsAwake v = (v.number ≢ 0) × (0 < v.tokens)
 
 -- the bank's rule: there is a trace
 abbrev pub Traced : Shape → List ℕ → List View → Type 0
@@ -284,3 +297,4 @@ pub record MayFork (v : View) : Type 0 where
   pub parts : 1 < v.parts
   pub left : v.shape.calls ≤ v.left
   pub few : v.next ≤ v.shape.passes
+  pub tokens : 1 < v.tokens

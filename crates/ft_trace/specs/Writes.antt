@@ -1,6 +1,6 @@
 -- A whole write of one container by a pass that has its lock, in pieces: a root that is put, puts before the commit,
 -- the commit, and puts after it. Which words it may put is said of the words and the content that the pass knows alone.
-use Rattle.std.specs.Prelude.{◌≡◌, ◌≢◌, ℕ, zero, suc, ◌*◌, ◌^◌, ◌<◌, ◌≤◌, Bool, true, false, List, [], ◌∷◌, Option, Some, None, slice_index, slice_set}
+use Rattle.std.specs.Prelude.{◌≡◌, ℕ, zero, suc, ◌*◌, ◌^◌, ◌<◌, ◌≤◌, Bool, true, false, List, [], ◌∷◌, Option, Some, None, slice_index, slice_set}
 use Rattle.ft_model.specs.declared.call.Call.{Call}
 use Rattle.ft_model.specs.declared.reply.Reply.{Reply}
 use Rattle.ft_model.specs.declared.content.Content.{Content}
@@ -21,7 +21,7 @@ use Rattle.ft_trace.specs.Kinds.{rows, version_at, SoundAs, CarefulAs, ClearAs}
 use Rattle.ft_trace.specs.FitCalls.{FitsCall}
 use Rattle.ft_trace.specs.Openings.{Shut, Timely}
 use Rattle.ft_trace.specs.Holds.{held, known, in_hand, AgreesWith}
-use Rattle.ft_trace.specs.Traces.{Possible}
+use Rattle.ft_trace.specs.Traces.{Possible, IsAwake}
 
 -- ---- puts
 
@@ -103,6 +103,10 @@ with_log v log =
       shape = v.shape;
       log = log;
       entries = v.entries;
+      tokens = v.tokens;
+      learnt = v.learnt;
+      has_floor = v.has_floor;
+      floor = [];
     }
 
 -- its log at the commit, where it found this version
@@ -124,7 +128,7 @@ after_write_of v o t write start number s stop =
 -- a pass that has the lock of o may begin to write it: it has a call left, has taken no table out of a root since its
 -- last commit, and the bank's calls are few enough for its words
 pub record MayBegin (v : View) (o : ℕ) : Type 0 where
-  pub live : v.number ≢ 0
+  pub live : IsAwake v
   pub possible : Possible v
   pub few : v.shape.passes * v.shape.calls < 2 ^ 62
   pub low : o < containers_in v.shape

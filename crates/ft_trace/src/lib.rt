@@ -95,6 +95,8 @@ pub enum Act {
     ReadAnnounced(u64, u64),
     /// Loads the write number.
     WriteNumber(u64),
+    /// Loads the counter and keeps what stands in the bank, by a pass that has all tokens.
+    TakeFloor(u64, Snap),
 }
 
 /// A call with its reply and its stamp.
@@ -141,6 +143,18 @@ pub struct View {
     pub log: LinkedList<Act>,
     /// Its entries, newest first.
     pub entries: LinkedList<Entry>,
+    /// How many of the bank's tokens it has, of which there are as many as passes. A pass with none
+    /// takes no step, so one with all of them is alone.
+    pub tokens: u64,
+    /// How many writes it knows of from notes and from passes that it took in; of a note, how many its
+    /// maker had seen.
+    pub learnt: u64,
+    /// Whether it has kept all tokens since it took the floor.
+    pub has_floor: bool,
+    /// The words of the bank, where a note that it learnt with all tokens had them, and it has done
+    /// nothing since.
+    pub floor: LinkedList<u64>,
 }
 
 pub mod laws;
+pub mod notes;

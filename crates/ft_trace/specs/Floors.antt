@@ -1,0 +1,26 @@
+-- The floor: one pass has all tokens, so no other may take a step, and the words are those that its log gives.
+use Rattle.std.specs.Prelude.{◌≡◌, ◌≢◌, ℕ, true, List, []}
+use Rattle.ft_trace.specs.declared.Shape.{Shape}
+use Rattle.ft_trace.specs.declared.View.{View}
+use Rattle.ft_trace.specs.Acts.{floor_words}
+use Rattle.ft_trace.specs.Entries.{total}
+use Rattle.ft_trace.specs.Laws.{HasView}
+use Rattle.ft_trace.specs.Traces.{Event, run, Valid}
+
+-- there are as many tokens as passes
+abbrev pub TokensAreAll : Type 0
+TokensAreAll =
+    (k : Shape) (es : List Event) → Valid k es → total (λ (u : View). u.tokens) (run k es).views ≡ k.passes
+
+-- while one view has all tokens no other has one, so no other pass takes a step
+abbrev pub AllTokensAreAlone : Type 0
+AllTokensAreAlone =
+    (k : Shape) (es : List Event) → Valid k es → (i j : ℕ) (u w : View) → HasView k es i u → HasView k es j w → i ≢ j
+    → u.tokens ≡ k.passes → w.tokens ≡ 0
+
+-- who has the floor has all tokens, and the words of the bank are those that its log gives
+abbrev pub FloorStands : Type 0
+FloorStands =
+    (k : Shape) (es : List Event) → Valid k es → (j : ℕ) (u : View) → HasView k es j u
+    → (u.has_floor ≡ true → (u.tokens ≡ k.passes) × (floor_words k u.number u.log ≡ (run k es).words))
+    × (u.floor ≢ [] → (u.tokens ≡ k.passes) × (u.floor ≡ (run k es).words))

@@ -1,0 +1,35 @@
+//! What notes, joins and the floor give: laws on every valid trace, for callers that meet and for one caller
+//! that holds all passes.
+ghost use Rattle.ft_trace.specs.Notes.{SeenIsLow, SeenIsHandedOn, LoadsSeeAll};
+ghost use Rattle.ft_trace.specs.Floors.{TokensAreAll, AllTokensAreAlone, FloorStands};
+
+/// A pass has seen no more writes than the counter says: its next load of the counter, and its next write,
+/// gives at least what it has seen.
+pub fn seen_is_low()
+    ensures { SeenIsLow }
+{}
+
+/// A note says all that its maker has seen, and who takes in a note or a pass has seen what the other had.
+pub fn seen_is_handed_on()
+    ensures { SeenIsHandedOn }
+{}
+
+/// Each load of the counter gives at least the number of writes that the pass had seen by itself.
+pub fn loads_see_all()
+    ensures { LoadsSeeAll }
+{}
+
+/// There are as many tokens as passes.
+pub fn tokens_are_all()
+    ensures { TokensAreAll }
+{}
+
+/// While one view has all tokens no other pass takes a step.
+pub fn all_tokens_are_alone()
+    ensures { AllTokensAreAlone }
+{}
+
+/// Who has the floor knows every word of the bank by its own log.
+pub fn floor_stands()
+    ensures { FloorStands }
+{}

@@ -13,7 +13,7 @@ use Rattle.ft_trace.specs.declared.Act.{Act}
 use Rattle.ft_trace.specs.declared.Snap.{Snap}
 use Rattle.ft_trace.specs.Addresses.{at}
 use Rattle.ft_trace.specs.Acts.{place, word_after, Reports, noted, maker, made, both, spent}
-use Rattle.ft_trace.specs.Traces.{Event, did, forked, joined, run, history, snap, Valid, Knows, Possible, Ready, ReadyAs, Does, DoesAs, MayFork, IsFree}
+use Rattle.ft_trace.specs.Traces.{Event, did, forked, joined, run, history, snap, Valid, Knows, Possible, Ready, ReadyAs, Does, DoesAs, MayFork, IsFree, IsAwake}
 use Rattle.ft_trace.proofs.Sizes.{sized, set_at}
 use Rattle.ft_bank.specs.Rules.{Holds, Notes, Acted}
 
@@ -28,7 +28,7 @@ set_own [] i = refl
 set_own (x ∷ xs) zero = refl
 set_own (x ∷ xs) (suc i) = ap (λ l. x ∷ l) (set_own xs i)
 
-module _ {S : Type 0} (me : Me S View) (id i : ℕ) (f : ℕ → ℕ) (act : ℕ → Snap → Act) (live : me.0.number ≢ 0) (ready : ReadyAs me.0 i act) where
+module _ {S : Type 0} (me : Me S View) (id i : ℕ) (f : ℕ → ℕ) (act : ℕ → Snap → Act) (live : IsAwake me.0) (ready : ReadyAs me.0 i act) where
   -- where n is found the action is on this word, which becomes f of n
   abbrev pub Fit : ℕ → Type 0
   Fit n = (s : Snap) → (at me.0.shape (place (act n s)) ≡ i) × (word_after me.0.number (act n s) n ≡ f n)
@@ -49,7 +49,7 @@ module _ {S : Type 0} (me : Me S View) (id i : ℕ) (f : ℕ → ℕ) (act : ℕ
       let z = snap (run k es) (history es) in
       let it = act n z in
       let r = ready es id knows small in
-      let valid : Valid k (did id v it ∷ es) = (knows.0, (knows.1, live, subst (λ (j : ℕ). Reports it (slice_index ws j)) (sym (fit z).0) r.0, r.1)) in (
+      let valid : Valid k (did id v it ∷ es) = (knows.0, (knows.1, live.0, subst (λ (j : ℕ). Reports it (slice_index ws j)) (sym (fit z).0) r.0, r.1, live.1)) in (
         z,
         (
           did id v it ∷ es,
@@ -72,7 +72,7 @@ module _ {S : Type 0} (me : Me S View) (id i : ℕ) (f : ℕ → ℕ) (act : ℕ
   pub noted_at : (k : Shape) (s : State S View) → Holds k s → get_elem? s.views id ≡ some me.0 → slice_index s.words i < 2 ^ 64 → Fit (slice_index s.words i) → Noted k s
   noted_at k s h at small fit =
       let here : get_elem? (run k h.0).views id ≡ some me.0 = subst (λ (l : List View). get_elem? l id ≡ some me.0) (sym h.3) at in
-      let same : me.0.shape ≡ k = sized k h.0 h.1 id me.0 here live in
+      let same : me.0.shape ≡ k = sized k h.0 h.1 id me.0 here live.0 in
       subst (λ (z : Shape). Valid z h.0 → (run z h.0).words ≡ s.words → (run z h.0).views ≡ s.views → Noted z s) same (at_own s h.0 at small fit) h.1 h.2 h.3
 
 -- what a pass that did this knows is possible
@@ -82,11 +82,15 @@ acted_knows v a d = (d.2, set_at (run v.shape d.0).views d.1 v (noted a v) d.2.1
 pub acted_possible : (v : View) (a : Act) → Acted v a → Possible (noted a v)
 acted_possible v a d = (did d.1 v a ∷ d.0, d.1, acted_knows v a d)
 
--- a pass that is there has a number
-pub alive : (number inside : ℕ) → inside ≡ suc number → inside ≢ 0
-alive number inside h e = omega (arith, h)
+-- a pass that is there has a number and a token
+pub alive : (number : ℕ) (v : View) → v.number ≡ suc number → 0 < v.tokens → IsAwake v
+alive number v h token = ((λ e. omega (arith, h, e)), token)
 
-module _ {S : Type 0} (me : Me S View) (id i : ℕ) (f : ℕ → ℕ) (live : me.0.number ≢ 0) where
+-- and a step leaves the tokens
+pub token_kept : (m n : ℕ) → m ≡ n → 0 < n → 0 < m
+token_kept m n same token = omega (arith, same, token)
+
+module _ {S : Type 0} (me : Me S View) (id i : ℕ) (f : ℕ → ℕ) (live : IsAwake me.0) where
   -- a step that keeps what stood in the bank
   pub kept : (act : ℕ → Snap → Act) → DoesAs me.0 i f act → ReadyAs me.0 i act → (k : Shape) (slots : ℕ) → Allows (Holds k) slots id me i f (λ n w. (z : Snap) × Notes (λ n'. act n' z) me n w)
   kept act does ready k slots s h deep at small =
@@ -109,7 +113,7 @@ module _ {S : Type 0} (me : Me S View) (id i : ℕ) (f : ℕ → ℕ) (live : me
       (noted (act 0) me.0, keeps, tt, r.1, (ap (λ (z : Act). noted z me.0) (sym same), refl, subst (Acted me.0) (sym same) r.2))
 
 -- a load that is an action only where it finds another number than 0
-pub looked : {S : Type 0} (me : Me S View) (id i : ℕ) → me.0.number ≢ 0 → (act : ℕ → Snap → Act) → ((n : ℕ) (z : Snap) → n ≢ 0 → (at me.0.shape (place (act n z)) ≡ i) × (word_after me.0.number (act n z) n ≡ n)) → ReadyAs me.0 i act → (k : Shape) (slots : ℕ)
+pub looked : {S : Type 0} (me : Me S View) (id i : ℕ) → IsAwake me.0 → (act : ℕ → Snap → Act) → ((n : ℕ) (z : Snap) → n ≢ 0 → (at me.0.shape (place (act n z)) ≡ i) × (word_after me.0.number (act n z) n ≡ n)) → ReadyAs me.0 i act → (k : Shape) (slots : ℕ)
     → Allows (Holds k) slots id me i (λ n. n) (λ n w. (n ≡ 0 → w ≡ me) × (n ≢ 0 → (z : Snap) × Notes (λ n'. act n' z) me n w))
 looked me id i live act fit ready k slots s h deep at small =
     let n = slice_index s.words i in
@@ -124,7 +128,7 @@ pub cuts : {S : Type 0} (k : Shape) (id : ℕ) (v : View) → MayFork v → Spli
 cuts k id v may s h at =
     let here : get_elem? (run k h.0).views id ≡ some v = subst (λ (l : List View). get_elem? l id ≡ some v) (sym h.3) at in
     let same : v.shape ≡ k = sized k h.0 h.1 id v here may.live in
-    (forked id v ∷ h.0, (h.1, (here, may.live, may.next, may.parts, may.left, subst (λ (z : Shape). v.next ≤ z.passes) same may.few)), h.2, ap (λ (l : List View). set l id (maker v) ++ made v ∷ []) h.3)
+    (forked id v ∷ h.0, (h.1, (here, may.live, may.next, may.parts, may.left, subst (λ (z : Shape). v.next ≤ z.passes) same may.few, may.tokens)), h.2, ap (λ (l : List View). set l id (maker v) ++ made v ∷ []) h.3)
 
 pub glues : {S : Type 0} (k : Shape) (id : ℕ) (v : View) (other : ℕ) (w : View) → v.number ≢ 0 → w.next ≡ 0 → IsFree w → Joins (Holds {S = S} k) id v other w (both v w) spent
 glues k id v other w live last free s h at ne there =

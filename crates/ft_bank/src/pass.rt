@@ -1,6 +1,6 @@
 //! A pass, with what it keeps beside its part of the proofs: its number, the number of the next pass,
 //! the calls that it may still make, and its critical sections. What it knows is a view of `ft_trace`.
-ghost use Rattle.std.specs.Prelude.{◌≡◌, ◌+◌, [], suc};
+ghost use Rattle.std.specs.Prelude.{◌≡◌, ◌+◌, ◌<◌, [], suc};
 ghost use Rattle.ft_trace.specs.Traces.{Possible};
 
 use crate::sections::{Sections, Taking};
@@ -21,6 +21,7 @@ pub struct Pass {
     ghost numbered: { seat.me.0.number ≡ suc number },
     ghost following: { next ≡ seat.me.0.next },
     ghost leaves: { left ≡ seat.me.0.left },
+    ghost awake: { 0 < seat.me.0.tokens },
     ghost possible: { ∥ Possible seat.me.0 ∥₁ },
 }
 

@@ -5,7 +5,7 @@ ghost use prog.Atomic.{either};
 ghost use Rattle.ft_trace.specs.declared.Snap.{Snap};
 ghost use Rattle.ft_trace.specs.Addresses.{extent, at};
 ghost use Rattle.ft_trace.specs.Acts.{place, word_after, left_next, noted, both};
-ghost use Rattle.ft_trace.specs.Traces.{IsFree, Ready, ReadyAs, Does as Acts, DoesAs};
+ghost use Rattle.ft_trace.specs.Traces.{IsFree, IsAwake, Ready, ReadyAs, Does as Acts, DoesAs};
 ghost use Rattle.ft_bank.specs.Rules.{Acted, LeavesWrites};
 
 use crate::bank::Bank;
@@ -160,7 +160,7 @@ impl Bank {
     pub(crate) fn settle_as<A: Saying>(&self, seat: &mut Seat<(), View>, other: Seat<(), View>)
         requires tables { (seat.old.table_id ≡ self.now.table.shared.table_id) × (other.table_id ≡ self.now.table.shared.table_id) }
         requires bare { other.me.1 ≡ [] }
-        requires live { seat.old.me.0.number ≢ 0 }
+        requires live { IsAwake seat.old.me.0 }
         requires last { other.me.0.next ≡ 0 }
         requires free { IsFree other.me.0 }
         requires act { Acts (both seat.old.me.0 other.me.0) 0 (λ n. n) A.act }

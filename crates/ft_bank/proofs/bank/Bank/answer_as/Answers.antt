@@ -4,13 +4,13 @@ use Rattle.ft_trace.specs.Addresses.{counter}
 use Rattle.ft_trace.specs.Traces.{Possible}
 use Rattle.ft_trace.proofs.Addresses.{at_low}
 use Rattle.ft_bank.specs.Shapes.{plan}
-use Rattle.ft_bank.proofs.Allowed.{found, alive, acted_possible}
+use Rattle.ft_bank.proofs.Allowed.{found, alive, acted_possible, token_kept}
 use Rattle.ft_bank.proofs.bank.Bank.answer_as.Goals as goal
 
 pub load-requires : goal.load-requires
 load-requires g c =
     let p = c.args.pass.now in
-    (c.requires.pass.0, omega (arith, c.args.self.now.wide, at_low (plan c.args.self.now.shape) counter tt), found p.seat.me p.seat.id 0 (λ n. n) (alive _ _ p.numbered) g.A.Saying.act c.requires.act c.requires.ready (plan c.args.self.now.table.shared.key) _)
+    (c.requires.pass.0, omega (arith, c.args.self.now.wide, at_low (plan c.args.self.now.shape) counter tt), found p.seat.me p.seat.id 0 (λ n. n) (alive _ p.seat.me.0 p.numbered p.awake) g.A.Saying.act c.requires.act c.requires.ready (plan c.args.self.now.table.shared.key) _)
 
 pub invariant_of-pass : goal.invariant_of-pass
 invariant_of-pass g c =
@@ -20,5 +20,6 @@ invariant_of-pass g c =
       numbered = ap (λ v. v.number) e.0 ∙ p.numbered;
       following = p.following ∙ sym (ap (λ v. v.next) e.0);
       leaves = omega (arith, p.leaves, c.requires.left c.load.result, ap (λ (v : View). v.left) e.0);
+      awake = token_kept _ _ (ap (λ v. v.tokens) e.0) p.awake;
       possible = ∣ subst Possible (sym e.0) (acted_possible p.seat.me.0 _ e.2) ∣₁;
     }

@@ -25,5 +25,6 @@ invariant_of-pass c =
       numbered = ap (λ (v : View). v.number) e ∙ p.numbered;
       following = p.following ∙ sym (ap (λ (v : View). v.next) e);
       leaves = (λ j. p.leaves j + c.args.other.leaves j) ∙ sym (ap (λ (v : View). v.left) e);
+      awake = (let token = p.awake in omega (arith, token, ap (λ (v : View). v.tokens) e));
       possible = ∣ subst Possible (sym e) (acted_possible (both (view p) (view c.args.other)) (ReadCounter d.0) d.2) ∣₁;
     }

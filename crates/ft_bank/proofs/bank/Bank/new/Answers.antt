@@ -16,6 +16,7 @@ invariant_of-pass c =
       numbered = ap (λ m. m.0.number) e;
       following = sym (ap (λ m. m.0.next) e);
       leaves = (λ d. c.from.ensures d * c.from-2.ensures d) ∙ sym (ap (λ m. m.0.left) e);
+      awake = (let some_pass = c.requires.passes.0 in omega (arith, some_pass, ap (λ m. m.0.tokens) e));
       possible = ∣ subst Possible (sym (ap (λ m. m.0) e)) ([], 0, (fits_of c.args.shape c.requires, refl)) ∣₁;
     }
 

@@ -21,6 +21,7 @@ invariant_of-pass c =
       numbered = ap (λ m. m.0.number) e ∙ p.numbered;
       following = omega (arith, p.following, ap (λ m. m.0.next) e);
       leaves = omega (arith, p.leaves, calls, ap (λ m. m.0.left) e);
+      awake = (let two = c.requires.may.tokens in omega (arith, two, ap (λ m. m.0.tokens) e));
       possible = ∥∥₁_map p.possible (λ x. subst Possible (sym (ap (λ m. m.0) e)) (maker_possible p.seat.me.0 c.requires.may x));
     }
 
@@ -33,6 +34,7 @@ invariant_of-result c =
       numbered = ap (λ m. m.0.number) e ∙ next_is p.next p.seat.me.0.next p.following c.requires.may.next;
       following = sym (ap (λ m. m.0.next) e);
       leaves = calls ∙ sym (ap (λ m. m.0.left) e);
+      awake = omega (arith, ap (λ m. m.0.tokens) e);
       possible = ∥∥₁_map p.possible (λ x. subst Possible (sym (ap (λ m. m.0) e)) (made_possible p.seat.me.0 c.requires.may x));
     }
   where

@@ -36,7 +36,7 @@ use Rattle.ft_trace.specs.declared.Act.{Act}
 use Rattle.ft_trace.specs.declared.Act.TheVariants.{Commit}
 use Rattle.ft_trace.specs.FitCalls.{FitsValue, FitsCall, FitsDictCall, FitsListCall, FitsSetCall, FitsContent}
 use Rattle.ft_trace.specs.Worlds.{first_writes}
-use Rattle.ft_trace.specs.Traces.{Event, did, forked, joined, run, writes_of, history, May, Valid}
+use Rattle.ft_trace.specs.Traces.{Event, did, forked, joined, sent, run, writes_of, history, May, Valid}
 
 abbrev FitsPair : DictPair → Type 0
 FitsPair pair = FitsKey pair.key × FitsValue pair.value
@@ -247,6 +247,7 @@ pub calls_fit : (k : Shape) (es : List Event) → Valid k es → All FitsCall (h
 calls_fit k [] valid = All-nil FitsCall
 calls_fit k (did id v a ∷ es) valid = call_fits k es v a valid.1.3 (calls_fit k es valid.0)
 calls_fit k (forked id v ∷ es) valid = calls_fit k es valid.0
+calls_fit k (sent id v given ∷ es) valid = calls_fit k es valid.0
 calls_fit k (joined id v other w ∷ es) valid = calls_fit k es valid.0
 
 pub contents_fit : (k : Shape) (es : List Event) → Valid k es → All FitsContent (stored_newest k.kinds (history es)).world

@@ -40,7 +40,7 @@ use Rattle.ft_trace.specs.FitCalls.{FitsValue, FitsContent}
 use Rattle.ft_trace.specs.Items.{value_words, words_at}
 use Rattle.ft_trace.specs.Kinds.{is_key, pair_words, element_words, under, rows, IsKeyed, IsItems}
 use Rattle.ft_trace.specs.Worlds.{kept, kept_at, kind_in, first_writes, reply_in}
-use Rattle.ft_trace.specs.Traces.{Event, did, forked, joined, history, writes_of, Valid}
+use Rattle.ft_trace.specs.Traces.{Event, did, forked, joined, sent, history, writes_of, Valid}
 use Rattle.ft_trace.specs.LookReplies.{key_reply, item_reply, DictReplies, stored_at, DictHitsAreReplied, SetHitsAreReplied, MissesAreReplied, ItemsAreReplied, PastItemsAreReplied}
 use Rattle.ft_trace.proofs.FitCalls.{contents_fit}
 use Rattle.ft_trace.proofs.Known.{mapped, kinds_stay}
@@ -68,6 +68,7 @@ pub earlier : (k : Shape) (es : List Event) → Valid k es → (n : ℕ) → Ear
 earlier k [] valid n = record { older = []; valid = valid; is = refl }
 earlier k (did id v a ∷ es) valid n = earlier_by k n id v es a valid (earlier k es valid.0 n)
 earlier k (forked id v ∷ es) valid n = earlier k es valid.0 n
+earlier k (sent id v given ∷ es) valid n = earlier k es valid.0 n
 earlier k (joined id v other w ∷ es) valid n = earlier k es valid.0 n
 
 -- ---- keys by their words

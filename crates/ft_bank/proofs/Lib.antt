@@ -5,3 +5,4 @@ pub mod Starting
 pub mod Tables
 pub mod Putting
 pub mod Whole
+pub mod Freeing

@@ -9,3 +9,4 @@ pub mod Reads
 pub mod Tables
 pub mod Closings
 pub mod Whole
+pub mod Takings

@@ -19,6 +19,7 @@ mod sections;
 mod shape;
 mod steps;
 mod table;
+mod takings;
 #[cfg(test)]
 mod tests;
 mod writes;
@@ -29,3 +30,4 @@ pub use crate::pass::Pass;
 pub use crate::sections::{OpenSection, Sections, Taking};
 pub use crate::shape::{MakeFault, Shape};
 pub use crate::table::Table;
+pub use crate::takings::Took;

@@ -1,6 +1,6 @@
 //! One atomic step on one word, as the action of a pass that its caller picks. Each public step is one
 //! of these. The numbers that a call gives beside the word are for the action.
-ghost use Rattle.std.specs.Prelude.{◌≡◌, ◌≢◌, ℕ, ◌+◌, ◌%◌, ◌^◌, ◌<◌, ◌==◌, suc, []};
+ghost use Rattle.std.specs.Prelude.{◌≡◌, ◌≢◌, ℕ, ◌+◌, ◌%◌, ◌^◌, ◌<◌, ◌==◌, suc, [], bit_and, bit_or};
 ghost use prog.Atomic.{either};
 ghost use Rattle.ft_trace.specs.declared.Snap.{Snap};
 ghost use Rattle.ft_trace.specs.Addresses.{extent, at};
@@ -80,6 +80,59 @@ impl Bank {
         self.table
             .shared
             .fetch_add::<Does<A>>(&mut pass.seat, word as usize, 1)
+    }
+
+    /// Puts a number into a word that has another; where it has not, the word stays.
+    pub(crate) fn exchange_as<A: Saying>(
+        &self,
+        pass: &mut Pass,
+        word: u64,
+        old: u64,
+        new: u64,
+        o: u32,
+    ) -> u64
+        requires pass { IsPassOf self.now pass.old }
+        requires word { word < extent (shape_of self.now) }
+        requires act { Acts (view pass.old) word (λ n. either (n == old) new n) A.act }
+        requires ready { Ready (view pass.old) word A.act }
+        requires left { LeavesWrites (view pass.old) (λ n _. A.act n) }
+        ensures did { Did (A.act result) pass.old pass.new }
+        ensures acted { Acted (view pass.old) (A.act result) }
+    {
+        let _ = o;
+        self.table
+            .shared
+            .compare_exchange::<Does<A>>(&mut pass.seat, word as usize, old, new)
+    }
+
+    /// Keeps of a word the bits that a mask has.
+    pub(crate) fn mask_as<A: Keeping>(&self, pass: &mut Pass, word: u64, mask: u64, t: u64) -> u64
+        requires pass { IsPassOf self.now pass.old }
+        requires word { word < extent (shape_of self.now) }
+        requires act { DoesAs (view pass.old) word (λ n. bit_and n mask) A.act }
+        requires ready { ReadyAs (view pass.old) word A.act }
+        requires left { LeavesWrites (view pass.old) A.act }
+        ensures did { (s : Snap) × Did (A.act result s) pass.old pass.new × Acted (view pass.old) (A.act result s) }
+    {
+        let _ = t;
+        self.table
+            .shared
+            .fetch_and::<Keeps<A>>(&mut pass.seat, word as usize, mask)
+    }
+
+    /// Sets in a word the bits that a mask has.
+    pub(crate) fn set_as<A: Saying>(&self, pass: &mut Pass, word: u64, mask: u64, t: u64)
+        requires pass { IsPassOf self.now pass.old }
+        requires word { word < extent (shape_of self.now) }
+        requires act { Acts (view pass.old) word (λ n. bit_or n mask) A.act }
+        requires ready { Ready (view pass.old) word A.act }
+        requires left { LeavesWrites (view pass.old) (λ n _. A.act n) }
+        ensures did { (n : ℕ) × Did (A.act n) pass.old pass.new × Acted (view pass.old) (A.act n) }
+    {
+        let _ = t;
+        self.table
+            .shared
+            .fetch_or::<Does<A>>(&mut pass.seat, word as usize, mask);
     }
 
     /// Loads a word, which is an action only where it isn't 0.

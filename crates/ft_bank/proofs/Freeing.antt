@@ -288,11 +288,11 @@ unclaimed v class j f n is low small one d =
     let found : f ≡ word k es (bits (free_word_of t)) = d.2.1.2 ∙ ap (λ (z : ℕ). word k es (bits z)) (sym w) in
     let set : bit (free_bit_of t) (word k es (bits (free_word_of t))) ≡ 1 = subst (λ (z : ℕ × ℕ). bit z.0 z.1 ≡ 1) (λ i. (sym b i, found i)) one in
     let there : 64 * j + n < tables_in k class =
-        dite (dec_lt (64 * j + n) (tables_in k class)) (λ l. l)
-        (λ no.
-        let none : IsNone k t = record { class = subst IsClass (sym c) is; number = omega (arith, m, less); none = (let e : tables_in k (class_of t) ≡ tables_in k class = ap (tables_in k) c in omega (arith, e, m, no)) } in
-        let z = unused k es d.2.0 t none in
-        absurd (omega (arith, z, set))) in
+    dite (dec_lt (64 * j + n) (tables_in k class)) (λ l. l)
+    (λ no.
+    let none : IsNone k t = record { class = subst IsClass (sym c) is; number = omega (arith, m, less); none = (let e : tables_in k (class_of t) ≡ tables_in k class = ap (tables_in k) c in omega (arith, e, m, no)) } in
+    let z = unused k es d.2.0 t none in
+    absurd (omega (arith, z, set))) in
     let table : IsTable k t = (subst IsClass (sym c) is, (let e : tables_in k (class_of t) ≡ tables_in k class = ap (tables_in k) c in omega (arith, e, m, there)), omega (arith, m, less)) in
     let its = placed k es d.2.0 t table in
     let age = its.free_is set in (

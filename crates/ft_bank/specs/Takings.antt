@@ -152,4 +152,3 @@ abbrev pub StaysIn : Took → ℕ → Type 0
 StaysIn (took.Taken q) t = NotTable q t
 StaysIn took.AllTaken t = Each t
 StaysIn (took.Moved a b) t = Each t
-

@@ -2,13 +2,13 @@
 //! are free stands in a count word. A taking lowers it before it looks for a table's bit, and a giving raises
 //! it once it has set the bit, so at no moment does it say more than there are bits; a taking that comes away
 //! with no bit raises it again.
-ghost use Rattle.std.specs.Prelude.{◌≡◌, ◌≢◌, ◌⊎◌, ℕ, suc, ◌+◌, ◌-◌, ◌*◌, ◌<◌, ◌==◌, [], ◌∷◌, List, cond};
+ghost use Rattle.std.specs.Prelude.{◌≡◌, ◌⊎◌, ℕ, suc, ◌+◌, ◌*◌, ◌<◌, ◌==◌, [], ◌∷◌, List, cond};
 ghost use Rattle.ft_model.specs.Classes.{IsClass};
 ghost use Rattle.ft_trace.specs.declared.Act.{Act};
 ghost use Rattle.ft_trace.specs.declared.Act.TheVariants.{LowerCount, RaiseCount, ReadCount, ReadFree, TakeTable, GiveTable};
 ghost use Rattle.ft_trace.specs.declared.Snap.{Snap};
 ghost use Rattle.ft_trace.specs.Acts.{flight, owes, stage};
-ghost use Rattle.ft_trace.specs.Addresses.{free_word_of, free_bit_of};
+ghost use Rattle.ft_trace.specs.Addresses.{free_bit_of};
 ghost use Rattle.ft_trace.specs.Bits.{bit};
 ghost use Rattle.ft_bank.specs.Takings.{Each, HasTook, IsSearch, IsTaking, KeepsBut, NotTable, StaysIn, HasFound, StaysInSearch, IsCleared, IsUnclaimed, MayGive, word_of_class};
 ghost use Rattle.ft_bank.specs.Tables.{name_of, IsTableIn};
@@ -152,7 +152,7 @@ impl Bank {
         }
     }
 
-    /// Sets the bit of a table that is fresh in hand.
+    /// Sets the bit of a table that may be given back.
     fn set_bit(&self, pass: &mut Pass, table: Table)
         requires pass { IsPassOf self.now pass.old }
         requires table { IsTableIn (shape_of self.now) table }

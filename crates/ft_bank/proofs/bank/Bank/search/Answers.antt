@@ -1,12 +1,9 @@
-use Rattle.std.proofs.Common.{◌≡◌, ℕ, ◌+◌, ◌*◌, ◌<◌, ◌∷◌, sym, ap, ◌∙◌, subst, arith}
+use Rattle.std.proofs.Common.{ℕ, ◌+◌, ◌*◌, ◌∷◌, ap, ◌∙◌, arith}
 use Rattle.std.specs.Int.{w64, trailing_zeros}
 use Rattle.ft_trace.specs.declared.Act.TheVariants.{ReadFree, TakeTable}
-use Rattle.ft_trace.specs.declared.View.{View}
-use Rattle.ft_trace.specs.Addresses.{free_bit_of}
 use Rattle.ft_trace.specs.Acts.{noted}
 use Rattle.ft_trace.specs.Bits.{bit}
 use Rattle.ft_bank.specs.declared.table.Table.{Table}
-use Rattle.ft_bank.specs.Passes.{view}
 use Rattle.ft_bank.specs.Tables.{name_of}
 use Rattle.ft_bank.specs.Takings.{word_of_class, loads_of_none}
 use Rattle.ft_bank.proofs.Freeing.{bit_is, word_is, search_ends, lowest_set}

@@ -1,12 +1,11 @@
-use Rattle.std.proofs.Common.{◌≡◌, ℕ, ◌<◌, ◌/◌, sym, ap, ◌∙◌, subst, arith}
+use Rattle.std.proofs.Common.{ℕ, ◌<◌, ◌/◌, sym, ap, ◌∙◌, subst, arith}
 use Rattle.ft_trace.specs.declared.Act.TheVariants.{GiveTable}
 use Rattle.ft_trace.specs.declared.Shape.{Shape}
-use Rattle.ft_trace.specs.declared.View.{View}
-use Rattle.ft_trace.specs.Addresses.{extent, free_word_of}
+use Rattle.ft_trace.specs.Addresses.{extent}
 use Rattle.ft_trace.specs.Acts.{noted}
 use Rattle.ft_bank.specs.Passes.{view, shape_of}
 use Rattle.ft_bank.specs.Rules.{Acted}
-use Rattle.ft_bank.specs.Tables.{name_of, IsTableIn}
+use Rattle.ft_bank.specs.Tables.{IsTableIn}
 use Rattle.ft_bank.specs.Takings.{KeepsBut, NotTable}
 use Rattle.ft_bank.proofs.Freeing.{word_low, word_at, on_at, give_ready, give_keeps}
 use Rattle.ft_bank.proofs.bank.Bank.set_bit.Goals as goal

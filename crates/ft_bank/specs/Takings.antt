@@ -18,13 +18,14 @@ use Rattle.ft_bank.specs.Tables.{name_of, IsTableIn}
 
 -- ---- what stays
 
--- The pass has the same number, shape, entries and calls left, the same locks and writes, and it knows the same of each
--- container whose lock it has. Of each table for which F holds it has as much as before, and knows its words where it is
--- fresh in its hand.
+-- The pass has the same number, shape, tokens, entries and calls left, the same locks and writes, and it knows the same
+-- of each container whose lock it has. Of each table for which F holds it has as much as before, and knows its words
+-- where it is fresh in its hand.
 pub record KeepsHeld (F : ℕ → Type 0) (v w : View) : Type 0 where
   pub number : w.number ≡ v.number
   pub next : w.next ≡ v.next
   pub parts : w.parts ≡ v.parts
+  pub tokens : w.tokens ≡ v.tokens
   pub left : w.left ≡ v.left
   pub shape : w.shape ≡ v.shape
   pub entries : w.entries ≡ v.entries

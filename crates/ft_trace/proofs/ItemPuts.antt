@@ -26,7 +26,7 @@ use Rattle.ft_trace.proofs.ByKind.{items_fit}
 use Rattle.ft_trace.proofs.Known.{after_header}
 
 -- the version of an item is made odd
-item_open : (n : ℕ) (ws : List ℕ) (values : List Value) (p : ℕ) → item_of ws p 0 % 2 ≡ 0 → ItemCareful n ws values (item_at p 0) (item_of ws p 0 + 1)
+pub item_open : (n : ℕ) (ws : List ℕ) (values : List Value) (p : ℕ) → item_of ws p 0 % 2 ≡ 0 → ItemCareful n ws values (item_at p 0) (item_of ws p 0 + 1)
 item_open n ws values p even = record {
   odd = λ q w less some few e. absurd (omega (arith, some, few, e));
   version = λ q less e. let same : p ≡ q = omega (arith, e) in let v : item_of ws q 0 ≡ item_of ws p 0 = ap (λ (z : ℕ). item_of ws z 0) (sym same) in omega (arith, v);
@@ -34,7 +34,7 @@ item_open n ws values p even = record {
 }
 
 -- a word of an item whose version is odd
-item_word_put : (n : ℕ) (ws : List ℕ) (values : List Value) (p w x : ℕ) → 0 < w → w < 4 → item_of ws p 0 % 2 ≡ 1 → ItemCareful n ws values (item_at p w) x
+pub item_word_put : (n : ℕ) (ws : List ℕ) (values : List Value) (p w x : ℕ) → 0 < w → w < 4 → item_of ws p 0 % 2 ≡ 1 → ItemCareful n ws values (item_at p w) x
 item_word_put n ws values p w x some few odd = record {
   odd = λ q u less more low e. let same : p ≡ q = omega (arith, some, few, more, low, e) in subst (λ (z : ℕ). item_of ws z 0 % 2 ≡ 1) same odd;
   version = λ q less e. absurd (omega (arith, some, few, e));
@@ -42,7 +42,7 @@ item_word_put n ws values p w x some few odd = record {
 }
 
 -- its version is made even where it says what the list has
-item_close : (n : ℕ) (ws : List ℕ) (values : List Value) (p x : ℕ) → x ≡ item_of ws p 0 + 1 → words_at values p ≡ said_at ws p → ItemCareful n ws values (item_at p 0) x
+pub item_close : (n : ℕ) (ws : List ℕ) (values : List Value) (p x : ℕ) → x ≡ item_of ws p 0 + 1 → words_at values p ≡ said_at ws p → ItemCareful n ws values (item_at p 0) x
 item_close n ws values p x is says = record {
   odd = λ q w less some few e. absurd (omega (arith, some, few, e));
   version = λ q less e. let same : p ≡ q = omega (arith, e) in let v : item_of ws q 0 ≡ item_of ws p 0 = ap (λ (z : ℕ). item_of ws z 0) (sym same) in omega (arith, v, is);

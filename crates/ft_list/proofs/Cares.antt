@@ -1,0 +1,112 @@
+-- That a word of an item may be put, by a pass that writes its list.
+use Rattle.std.proofs.Common.{◌≡◌, ◌≢◌, ℕ, zero, suc, ◌+◌, ◌*◌, ◌%◌, ◌<◌, ◌≤◌, Bool, true, false, List, [], ◌∷◌, length, refl, sym, ap, ◌∙◌, subst, arith}
+use Rattle.std.specs.Prelude.{slice_index, slice_set}
+use Rattle.ft_model.specs.declared.content.Content.{Content}
+use Rattle.ft_model.specs.declared.script.Kind.{Kind}
+use Rattle.ft_model.specs.declared.script.Kind.TheVariants as kind
+use Rattle.ft_model.specs.Classes.{IsClass}
+use Rattle.ft_model.specs.Worlds.{list_of}
+use Rattle.ft_layout.proofs.Powers.{slots_range}
+use Rattle.ft_trace.specs.declared.Shape.{Shape}
+use Rattle.ft_trace.specs.declared.Act.{Act}
+use Rattle.ft_trace.specs.declared.View.{View}
+use Rattle.ft_trace.specs.Addresses.{class_of, slots, size}
+use Rattle.ft_trace.specs.Acts.{has_committed, noted}
+use Rattle.ft_trace.specs.Worlds.{kind_in}
+use Rattle.ft_trace.specs.Words.{Picture, root_in, item_at, item_of}
+use Rattle.ft_trace.specs.Items.{said_at, words_at, ItemCareful}
+use Rattle.ft_trace.specs.Kinds.{rows, version_at, CarefulAs}
+use Rattle.ft_trace.specs.Openings.{Timely}
+use Rattle.ft_trace.specs.Holds.{held, known}
+use Rattle.ft_trace.proofs.ByKind.{items_fit}
+use Rattle.ft_trace.proofs.Known.{table_is_long}
+use Rattle.ft_trace.proofs.ItemPuts.{item_open, item_word_put, item_close}
+use Rattle.ft_bank.specs.declared.table.Table.{Table}
+use Rattle.ft_bank.specs.Tables.{name_of, IsTableIn}
+use Rattle.ft_bank.specs.Writes.{IsCareful}
+use Rattle.ft_bank.specs.Whole.{OnlyPut}
+use Rattle.ft_bank.proofs.Tables.{named}
+use Rattle.ft_bank.proofs.Whole.{IsLoad, loaded_by, loaded_put, loaded_held}
+use Rattle.ft_list.specs.Items.{WritesList}
+
+pub table_class : (k : Shape) (t : Table) → IsTableIn k t → IsClass (class_of (name_of t))
+table_class k t is = (named k t is).0
+
+-- places and words of items are few
+pub few_slots : (k : Shape) (t : Table) → IsTableIn k t → slots (class_of (name_of t)) ≤ 65536
+unfolding slots
+few_slots k t is = (slots_range (class_of (name_of t)) (table_class k t is)).1
+
+pub inside : (k : Shape) (t : Table) → IsTableIn k t → (place word : ℕ) → place < slots (class_of (name_of t)) → word < 4 → item_at place word < size (class_of (name_of t))
+inside k t is place word low few = let f = items_fit (class_of (name_of t)) (table_class k t is) in omega (arith, f, low, few)
+
+-- the pass still writes the list
+pub writes_on : (k : Shape) (o : ℕ) (table : Table) (v w : View) → OnlyPut o v w → root_in (held o w) ≡ root_in (held o v) → WritesList k o table v → WritesList k o table w
+writes_on k o table v w only root list = record {
+  container = list.container;
+  kind = list.kind;
+  table_in = list.table_in;
+  locked = only.work.pass.locks o ∙ list.locked;
+  odd = only.work.pass.writes o ∙ list.odd;
+  root = root ∙ list.root;
+}
+
+pub writes_loaded : (k : Shape) (o : ℕ) (table : Table) (a : Act) (v w : View) → IsLoad a → w ≡ noted a v → WritesList k o table v → WritesList k o table w
+writes_loaded k o table a v w load is list =
+    let l = loaded_by a v w load is in
+    writes_on k o table v w (loaded_put v w o l) (ap root_in (loaded_held v w o l)) list
+
+pub held_loaded : (o : ℕ) (a : Act) (v w : View) → IsLoad a → w ≡ noted a v → held o w ≡ held o v
+held_loaded o a v w load is = loaded_held v w o (loaded_by a v w load is)
+
+module _ (k : Shape) (o : ℕ) (table : Table) (v : View) (list : WritesList k o table v) (shape : v.shape ≡ k) where
+  abbrev t : ℕ
+  t = name_of table
+
+  abbrev c : ℕ
+  c = class_of t
+
+  abbrev ws : List ℕ
+  ws = (held o v).table
+
+  is_kind : kind_in v.shape.kinds o ≡ kind.List
+  is_kind = ap (λ (z : Shape). kind_in z.kinds o) shape ∙ list.kind
+
+  cares : (i x : ℕ) → ItemCareful (slots c) ws (list_of (known o v).content) i x → Timely (version_at kind.List c) (rows kind.List c) i x (has_committed o v.log) → IsCareful v o t i x
+  cares i x care timely = record {
+    care = subst (λ (z : Kind). CarefulAs z c ws (known o v).content i x) (sym is_kind) care;
+    timely = subst (λ (z : Kind). Timely (version_at z c) (rows z c) i x (has_committed o v.log)) (sym is_kind) timely;
+  }
+
+  pub open_care : (place version at : ℕ) → at ≡ item_at place 0 → has_committed o v.log ≡ false → version ≡ item_of ws place 0 → version % 2 ≡ 0 → IsCareful v o t at (version + 1)
+  open_care place version at is early found even =
+      subst (λ (i : ℕ). IsCareful v o t i (version + 1)) (sym is)
+      (subst (λ (n : ℕ). IsCareful v o t (item_at place 0) (n + 1)) (sym found)
+      (cares (item_at place 0) (item_of ws place 0 + 1) (item_open (slots c) ws (list_of (known o v).content) place (omega (arith, even, found)))
+      (record { before = λ q less e one. early; later = λ q less e two. absurd (omega (arith, two, even, found)) })))
+
+  pub word_care : (place word at x : ℕ) → at ≡ item_at place word → 0 < word → word < 4 → item_of ws place 0 % 2 ≡ 1 → IsCareful v o t at x
+  word_care place word at x is some few odd =
+      subst (λ (i : ℕ). IsCareful v o t i x) (sym is)
+      (cares (item_at place word) x (item_word_put (slots c) ws (list_of (known o v).content) place word x some few odd)
+      (record { before = λ q less e one. absurd (omega (arith, e, some, few)); later = λ q less e two. absurd (omega (arith, e, some, few)) }))
+
+  pub close_care : (place version at : ℕ) → at ≡ item_at place 0 → has_committed o v.log ≡ true → version ≡ item_of ws place 0 → version % 2 ≡ 1 → words_at (list_of (known o v).content) place ≡ said_at ws place → IsCareful v o t at (version + 1)
+  close_care place version at is late found odd says =
+      subst (λ (i : ℕ). IsCareful v o t i (version + 1)) (sym is)
+      (subst (λ (n : ℕ). IsCareful v o t (item_at place 0) (n + 1)) (sym found)
+      (cares (item_at place 0) (item_of ws place 0 + 1) (item_close (slots c) ws (list_of (known o v).content) place (item_of ws place 0 + 1) refl says)
+      (record { before = λ q less e one. absurd (omega (arith, one, odd, found)); later = λ q less e two. late })))
+
+-- the words of an item are there
+pub long_enough : (k : Shape) (o : ℕ) (table : Table) (v : View) → WritesList k o table v → (place : ℕ) → place < slots (class_of (name_of table)) → item_at place 3 ≤ length (held o v).table
+long_enough k o table v list place low =
+    let l = table_is_long v o (name_of table) list.root in
+    let i = inside k table list.table_in place 3 low (omega arith) in
+    omega (arith, l, i)
+
+-- words that are put where they stand
+pub set_own : (l : List ℕ) (i x : ℕ) → x ≡ slice_index l i → slice_set l i x ≡ l
+set_own [] i x is = refl
+set_own (y ∷ l) zero x is = ap (λ (z : ℕ). z ∷ l) is
+set_own (y ∷ l) (suc i) x is = ap (λ (z : List ℕ). y ∷ z) (set_own l i x is)

@@ -1,0 +1,43 @@
+use Rattle.std.proofs.Common.{◌≡◌, ℕ, ◌+◌, ◌*◌, ◌%◌, ◌<◌, ◌≤◌, length, sym, ap, ◌∙◌, subst, arith}
+use Rattle.ft_trace.specs.declared.View.{View}
+use Rattle.ft_trace.specs.Words.{Picture, item_at, item_of}
+use Rattle.ft_trace.specs.Holds.{held}
+use Rattle.ft_bank.specs.Passes.{shape_of, view}
+use Rattle.ft_list.specs.Items.{WritesList, PutsItem, with_word}
+use Rattle.ft_list.proofs.Cares.{long_enough}
+use Rattle.ft_list.proofs.Words.{version_one, version_two, item_put}
+use Rattle.ft_list.proofs.items.put_item.Goals as goal
+
+pub put_word-requires-clause-odd : goal.put_word-requires-clause-odd
+put_word-requires-clause-odd c =
+    let a = c.args in
+    let o = c.open_item.ensures.words in
+    let e = c.read_word-old_payload.ensures in
+    let u = view c.read_word-old_payload.new.pass in
+    let low = long_enough (shape_of a.bank.now) a.o a.table u e.list a.place c.requires.place in
+    ap (λ (z : Picture). item_of z.table a.place 0 % 2) o.2 ∙ (ap (λ (n : ℕ). n % 2) (version_one (held a.o u) a.place o.0 0 0 low) ∙ o.1)
+
+pub put_word-requires-2-clause-odd : goal.put_word-requires-2-clause-odd
+put_word-requires-2-clause-odd c =
+    let a = c.args in
+    let o = c.open_item.ensures.words in
+    let kind = c.stored_kind_of-kind.result in
+    let u = view c.read_word-old_payload.new.pass in
+    let low = long_enough (shape_of a.bank.now) a.o a.table u c.read_word-old_payload.ensures.list a.place c.requires.place in
+    ap (λ (z : Picture). item_of z.table a.place 0 % 2) (c.put_word.ensures.words ∙ ap (λ (z : Picture). with_word z a.place 1 kind) o.2)
+    ∙ (ap (λ (n : ℕ). n % 2) (version_two (held a.o u) a.place o.0 kind 0 low) ∙ o.1)
+
+pub returns-clause-item : goal.returns-clause-item
+returns-clause-item c =
+    let a = c.args in
+    let o = c.open_item.ensures.words in
+    let kind = c.stored_kind_of-kind.result in
+    let payload = c.stored_payload_of-payload.result in
+    let u = view c.read_word-old_payload.new.pass in
+    let w = view c.put_word-2.new.pass in
+    let low = long_enough (shape_of a.bank.now) a.o a.table u c.read_word-old_payload.ensures.list a.place c.requires.place in
+    let is : held a.o w ≡ with_word (with_word (with_word (held a.o u) a.place 0 o.0) a.place 1 kind) a.place 2 payload =
+        c.put_word-2.ensures.words ∙ (ap (λ (z : Picture). with_word z a.place 2 payload) c.put_word.ensures.words ∙ ap (λ (z : Picture). with_word (with_word z a.place 1 kind) a.place 2 payload) o.2) in
+    let same : held a.o u ≡ held a.o (view a.pass.now) = c.read_word-old_payload.ensures.held ∙ c.read_word-old_kind.ensures.held in
+    subst (λ (z : Picture). PutsItem a.place a.stored z (held a.o w)) same
+    (subst (λ (z : Picture). PutsItem a.place a.stored (held a.o u) z) (sym is) (item_put (held a.o u) a.place o.0 kind payload low a.stored c.stored_kind_of-kind.ensures c.stored_payload_of-payload.ensures o.1))

@@ -1,0 +1,50 @@
+-- Lists of a bank, and the words of their tables while a pass writes one.
+use Rattle.std.specs.Prelude.{◌≡◌, ◌⊎◌, ℕ, suc, ◌+◌, ◌%◌, ◌<◌, ◌≤◌, true, List, ◌∷◌, length, slice_index, slice_set}
+use Rattle.ft_model.specs.declared.data.Value.{Value}
+use Rattle.ft_model.specs.declared.script.Kind.TheVariants as kind
+use Rattle.ft_model.specs.Worlds.{list_of}
+use Rattle.ft_layout.specs.declared.slot.Stored.{Stored}
+use Rattle.ft_layout.specs.Words.{FitsStored, stored_kind, stored_payload}
+use Rattle.ft_layout.specs.Tables.{IsListTable}
+use Rattle.ft_layout.specs.Containers.{class_mask}
+use Rattle.ft_trace.specs.declared.Shape.{Shape}
+use Rattle.ft_trace.specs.declared.View.{View}
+use Rattle.ft_trace.specs.Addresses.{containers_in, class_of, slots}
+use Rattle.ft_trace.specs.Acts.{has_lock, is_writing}
+use Rattle.ft_trace.specs.Worlds.{kind_in}
+use Rattle.ft_trace.specs.Words.{Picture, root_in, item_at, item_of}
+use Rattle.ft_trace.specs.Items.{words_at}
+use Rattle.ft_trace.specs.Holds.{held, known}
+use Rattle.ft_bank.specs.declared.table.Table.{Table}
+use Rattle.ft_bank.specs.Tables.{name_of, IsTableIn}
+
+-- The pass writes the list o, whose root names the table. (profile)
+pub record WritesList (k : Shape) (o : ℕ) (table : Table) (v : View) : Type 0 where
+  pub container : o < containers_in k
+  pub kind : kind_in k.kinds o ≡ kind.List
+  pub table_in : IsTableIn k table
+  pub locked : has_lock o v.log ≡ true
+  pub odd : is_writing o v.log ≡ true
+  pub root : root_in (held o v) ≡ suc (name_of table)
+
+-- The words of a list once a word of an item is put. (profile)
+abbrev pub with_word : Picture → ℕ → ℕ → ℕ → Picture
+with_word words place word value =
+    record { block = words.block; table = slice_set words.table (item_at place word) value }
+
+-- The item at this place stores this: its words say so, and its version is odd unless they said so before. No other word
+-- of the list is changed. (profile)
+pub record PutsItem (place : ℕ) (stored : Stored) (old new : Picture) : Type 0 where
+  pub block : new.block ≡ old.block
+  pub size : length new.table ≡ length old.table
+  pub rest : (i : ℕ) → (i < item_at place 0) ⊎ (item_at place 3 ≤ i) → slice_index new.table i ≡ slice_index old.table i
+  pub kind : item_of new.table place 1 ≡ stored_kind stored
+  pub payload : item_of new.table place 2 ≡ stored_payload stored
+  pub version : (item_of new.table place 0 % 2 ≡ 1) ⊎ (new.table ≡ old.table)
+
+-- The words of a list's table while a pass writes it: they say at each index what it has now, and where the version of an
+-- item is even the list had the same there before. Each odd version lies in this range of places. (profile)
+pub record IsChanging (class : ℕ) (before now : List Value) (first past : ℕ) (words : List ℕ) : Type 0 where
+  pub table : IsListTable (class_mask class) now (0 ∷ 0 ∷ words)
+  pub shut : (p : ℕ) → p < slots class → item_of words p 0 % 2 ≡ 0 → words_at now p ≡ words_at before p
+  pub odd : (p : ℕ) → p < slots class → item_of words p 0 % 2 ≡ 1 → (first ≤ p) × (p < past)

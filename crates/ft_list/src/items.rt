@@ -1,0 +1,105 @@
+//! Single items of a list that a pass writes, for the calls on lists: each put of an item keeps true that
+//! its version is odd while its words differ from what the list had, so that readers without the lock
+//! take no half of it.
+ghost use Rattle.std.specs.Prelude.{◌≡◌, ℕ, ◌<◌, ◌%◌, ◌≤◌, false, true, slice_index};
+ghost use Rattle.ft_layout.specs.Words.{FitsStored};
+ghost use Rattle.ft_trace.specs.Acts.{has_committed};
+ghost use Rattle.ft_trace.specs.Addresses.{class_of, slots};
+ghost use Rattle.ft_trace.specs.Holds.{held};
+ghost use Rattle.ft_trace.specs.Words.{item_at, item_of};
+ghost use Rattle.ft_bank.specs.Passes.{shape_of, view, IsPassOf};
+ghost use Rattle.ft_bank.specs.Tables.{name_of};
+ghost use Rattle.ft_bank.specs.Whole.{OnlyLoaded, OnlyPut};
+ghost use Rattle.ft_list.specs.Items.{WritesList, PutsItem, with_word};
+
+use ft_bank::{Bank, Pass, Table};
+use ft_layout::{Stored, item_at, item_word, stored_kind_of, stored_payload_of};
+
+/// How many words of a table come before those that a bank counts.
+const HEADER: u64 = 2;
+
+/// Which word of a table this word of an item is, counted from the header on.
+pub(crate) fn word_at(place: u64, word: u64) -> u64
+    requires place { place < 65536 }
+    requires word { word < 4 }
+    ensures { result ≡ item_at place word }
+{
+    item_at(place, word) - HEADER
+}
+
+/// Loads a word of an item of a list that the pass writes.
+fn read_word(bank: &Bank, pass: &mut Pass, o: u32, table: Table, place: u64, word: u64) -> u64
+    requires pass { IsPassOf bank.now pass.old }
+    requires list { WritesList (shape_of bank.now) o table (view pass.old) }
+    requires place { place < slots (class_of (name_of table)) }
+    requires word { word < 4 }
+    ensures pass { IsPassOf bank.now pass.new }
+    ensures list { WritesList (shape_of bank.now) o table (view pass.new) }
+    ensures only { OnlyLoaded (view pass.old) (view pass.new) }
+    ensures held { held o (view pass.new) ≡ held o (view pass.old) }
+    ensures found { result ≡ item_of (held o (view pass.old)).table place word }
+{
+    let _ = o;
+    bank.read_table(pass, table, word_at(place, word))
+}
+
+/// Makes the version of an item odd before the commit, where it is even.
+fn open_item(bank: &Bank, pass: &mut Pass, o: u32, table: Table, place: u64)
+    requires pass { IsPassOf bank.now pass.old }
+    requires list { WritesList (shape_of bank.now) o table (view pass.old) }
+    requires early { has_committed o (view pass.old).log ≡ false }
+    requires place { place < slots (class_of (name_of table)) }
+    ensures pass { IsPassOf bank.now pass.new }
+    ensures list { WritesList (shape_of bank.now) o table (view pass.new) }
+    ensures only { OnlyPut o (view pass.old) (view pass.new) }
+    ensures words { (version : ℕ) × (version % 2 ≡ 1)
+        × (held o (view pass.new) ≡ with_word (held o (view pass.old)) place 0 version) }
+{
+    let version = read_word(bank, pass, o, table, place, item_word::VERSION);
+    if version % 2 == 0 {
+        bank.put_table(pass, o, table, word_at(place, item_word::VERSION), version + 1);
+    }
+}
+
+/// Puts a word of an item whose version is odd, where it isn't there.
+fn put_word(bank: &Bank, pass: &mut Pass, o: u32, table: Table, place: u64, word: u64, found: u64, value: u64)
+    requires pass { IsPassOf bank.now pass.old }
+    requires list { WritesList (shape_of bank.now) o table (view pass.old) }
+    requires place { place < slots (class_of (name_of table)) }
+    requires word { (0 < word) × (word < 4) }
+    requires odd { item_of (held o (view pass.old)).table place 0 % 2 ≡ 1 }
+    requires found { found ≡ item_of (held o (view pass.old)).table place word }
+    ensures pass { IsPassOf bank.now pass.new }
+    ensures list { WritesList (shape_of bank.now) o table (view pass.new) }
+    ensures only { OnlyPut o (view pass.old) (view pass.new) }
+    ensures words { held o (view pass.new) ≡ with_word (held o (view pass.old)) place word value }
+{
+    if found != value {
+        bank.put_table(pass, o, table, word_at(place, word), value);
+    }
+}
+
+/// Has an item store this, before the commit: its version is made odd, and its words are put that aren't
+/// there. An item that stores it already is left alone.
+pub(crate) fn put_item(bank: &Bank, pass: &mut Pass, o: u32, table: Table, place: u64, stored: Stored)
+    requires pass { IsPassOf bank.now pass.old }
+    requires list { WritesList (shape_of bank.now) o table (view pass.old) }
+    requires early { has_committed o (view pass.old).log ≡ false }
+    requires place { place < slots (class_of (name_of table)) }
+    requires fits { FitsStored stored }
+    ensures pass { IsPassOf bank.now pass.new }
+    ensures list { WritesList (shape_of bank.now) o table (view pass.new) }
+    ensures only { OnlyPut o (view pass.old) (view pass.new) }
+    ensures item { PutsItem place stored (held o (view pass.old)) (held o (view pass.new)) }
+{
+    let kind = stored_kind_of(stored);
+    let payload = stored_payload_of(stored);
+    let old_kind = read_word(bank, pass, o, table, place, item_word::VALUE_KIND);
+    let old_payload = read_word(bank, pass, o, table, place, item_word::VALUE);
+    if old_kind == kind && old_payload == payload {
+        return;
+    }
+    open_item(bank, pass, o, table, place);
+    put_word(bank, pass, o, table, place, item_word::VALUE_KIND, old_kind, kind);
+    put_word(bank, pass, o, table, place, item_word::VALUE, old_payload, payload);
+}

@@ -1,0 +1,10 @@
+//! Calls on lists whose words lie in a bank.
+//!
+//! A list's items lie in its table, each at its index: a version, the kind and the payload of a value.
+//! A pass with the lock of a list writes it in one order: it makes the list's version odd, makes odd the
+//! versions of just the items that it changes, puts their words and the list's length, raises the
+//! counter, which is the write, and makes the versions even again.
+#![tactic(auto)]
+
+mod items;
+

@@ -13,7 +13,7 @@ use Rattle.ft_trace.specs.Worlds.{Kept, kept, kind_in, changes}
 use Rattle.ft_trace.specs.Words.{root_in, Stands}
 use Rattle.ft_trace.specs.Kinds.{rows, version_at, ClearAs}
 use Rattle.ft_trace.specs.Openings.{Shut, Low}
-use Rattle.ft_trace.specs.Holds.{held, known, Committed, in_hand}
+use Rattle.ft_trace.specs.Holds.{held, known, in_hand}
 use Rattle.ft_trace.specs.Traces.{run, history, snap, Ready, ReadyAs, Sure, word, SoundFor, LowFor}
 use Rattle.ft_trace.proofs.FitCalls.{contents_fit}
 use Rattle.ft_trace.proofs.Known.{kinds_stay}
@@ -25,7 +25,7 @@ use Rattle.ft_trace.proofs.Orders.{in_order}
 use Rattle.ft_bank.specs.declared.table.Table.{Table}
 use Rattle.ft_bank.specs.Tables.{name_of, root_for}
 use Rattle.ft_bank.specs.Rules.{Acted}
-use Rattle.ft_bank.specs.Writes.{MayHave, MayCommit, MayPutRoot, IsCareful, IsShut}
+use Rattle.ft_bank.specs.Writes.{MayHave, Committed, MayCommit, MayPutRoot, IsCareful, IsShut}
 
 -- the bank's calls are few enough for its words
 abbrev pub AreFew : View → Type 0
@@ -101,7 +101,7 @@ commit_leaves v c r n s d =
     let es = d.0 in
     let is : s ≡ snap (run k es) (history es) = d.2.1.3.7 in record {
       found = stored_newest k.kinds (history es);
-      agrees = agrees_now v es d.1 (d.2.0, d.2.1.0);
+      has = has_now v es d.1 (d.2.0, d.2.1.0);
       left = λ p. ap (λ (z : Snap). kept k.kinds (c ∷ z.calls) p) is;
     }
 

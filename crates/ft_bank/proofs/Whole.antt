@@ -14,8 +14,8 @@ use Rattle.ft_trace.specs.Addresses.{containers_in}
 use Rattle.ft_trace.specs.Acts.{is_writing, stage, debt, mem, noted}
 use Rattle.ft_trace.specs.Worlds.{kept, changes}
 use Rattle.ft_trace.specs.Words.{picture, root_in, Stands}
-use Rattle.ft_trace.specs.Holds.{held, known, Committed}
-use Rattle.ft_bank.specs.Writes.{KeepsUnwritten}
+use Rattle.ft_trace.specs.Holds.{held, known}
+use Rattle.ft_bank.specs.Writes.{MayHave, Committed, KeepsUnwritten}
 use Rattle.ft_trace.proofs.Cases.{hit, miss}
 use Rattle.ft_trace.proofs.Untouched.{untouched_in}
 use Rattle.ft_bank.specs.Whole.{SamePass, SameWork, OnlyLoaded, OnlyPut, EndsWrite, Wrote, hand_after, debt_after, write_entry}
@@ -35,14 +35,14 @@ IsCalm (PutFresh t i x) = Unit {0}
 IsCalm act = ⊥
 
 pub calm : (a : Act) (v : View) → IsCalm a → SameWork v (noted a v)
-calm (Version o f) v ok = record { pass = record { number = refl; next = refl; parts = refl; shape = refl; locks = λ p. refl; writes = λ p. refl; announced = refl; flight = refl }; left = refl; entries = refl; committed = λ p. refl; emptied = λ p. refl; hands = λ t. refl; used = refl; debt = refl; owes = refl; past = refl }
-calm (ReadBlock o i f) v ok = record { pass = record { number = refl; next = refl; parts = refl; shape = refl; locks = λ p. refl; writes = λ p. refl; announced = refl; flight = refl }; left = refl; entries = refl; committed = λ p. refl; emptied = λ p. refl; hands = λ t. refl; used = refl; debt = refl; owes = refl; past = refl }
-calm (ReadTable t i f) v ok = record { pass = record { number = refl; next = refl; parts = refl; shape = refl; locks = λ p. refl; writes = λ p. refl; announced = refl; flight = refl }; left = refl; entries = refl; committed = λ p. refl; emptied = λ p. refl; hands = λ t. refl; used = refl; debt = refl; owes = refl; past = refl }
-calm (ReadCounter f) v ok = record { pass = record { number = refl; next = refl; parts = refl; shape = refl; locks = λ p. refl; writes = λ p. refl; announced = refl; flight = refl }; left = refl; entries = refl; committed = λ p. refl; emptied = λ p. refl; hands = λ t. refl; used = refl; debt = refl; owes = refl; past = refl }
-calm (ReadRoot o f) v ok = record { pass = record { number = refl; next = refl; parts = refl; shape = refl; locks = λ p. refl; writes = λ p. refl; announced = refl; flight = refl }; left = refl; entries = refl; committed = λ p. refl; emptied = λ p. refl; hands = λ t. refl; used = refl; debt = refl; owes = refl; past = refl }
-calm (PutBlock o i x) v ok = record { pass = record { number = refl; next = refl; parts = refl; shape = refl; locks = λ p. refl; writes = λ p. refl; announced = refl; flight = refl }; left = refl; entries = refl; committed = λ p. refl; emptied = λ p. refl; hands = λ t. refl; used = refl; debt = refl; owes = refl; past = refl }
-calm (PutTable o t i x) v ok = record { pass = record { number = refl; next = refl; parts = refl; shape = refl; locks = λ p. refl; writes = λ p. refl; announced = refl; flight = refl }; left = refl; entries = refl; committed = λ p. refl; emptied = λ p. refl; hands = λ t. refl; used = refl; debt = refl; owes = refl; past = refl }
-calm (PutFresh t i x) v ok = record { pass = record { number = refl; next = refl; parts = refl; shape = refl; locks = λ p. refl; writes = λ p. refl; announced = refl; flight = refl }; left = refl; entries = refl; committed = λ p. refl; emptied = λ p. refl; hands = λ t. refl; used = refl; debt = refl; owes = refl; past = refl }
+calm (Version o f) v ok = record { pass = record { number = refl; next = refl; parts = refl; shape = refl; locks = λ p. refl; writes = λ p. refl; announced = refl; flight = refl; begun = refl }; left = refl; entries = refl; committed = λ p. refl; emptied = λ p. refl; hands = λ t. refl; used = refl; debt = refl; owes = refl; past = refl }
+calm (ReadBlock o i f) v ok = record { pass = record { number = refl; next = refl; parts = refl; shape = refl; locks = λ p. refl; writes = λ p. refl; announced = refl; flight = refl; begun = refl }; left = refl; entries = refl; committed = λ p. refl; emptied = λ p. refl; hands = λ t. refl; used = refl; debt = refl; owes = refl; past = refl }
+calm (ReadTable t i f) v ok = record { pass = record { number = refl; next = refl; parts = refl; shape = refl; locks = λ p. refl; writes = λ p. refl; announced = refl; flight = refl; begun = refl }; left = refl; entries = refl; committed = λ p. refl; emptied = λ p. refl; hands = λ t. refl; used = refl; debt = refl; owes = refl; past = refl }
+calm (ReadCounter f) v ok = record { pass = record { number = refl; next = refl; parts = refl; shape = refl; locks = λ p. refl; writes = λ p. refl; announced = refl; flight = refl; begun = refl }; left = refl; entries = refl; committed = λ p. refl; emptied = λ p. refl; hands = λ t. refl; used = refl; debt = refl; owes = refl; past = refl }
+calm (ReadRoot o f) v ok = record { pass = record { number = refl; next = refl; parts = refl; shape = refl; locks = λ p. refl; writes = λ p. refl; announced = refl; flight = refl; begun = refl }; left = refl; entries = refl; committed = λ p. refl; emptied = λ p. refl; hands = λ t. refl; used = refl; debt = refl; owes = refl; past = refl }
+calm (PutBlock o i x) v ok = record { pass = record { number = refl; next = refl; parts = refl; shape = refl; locks = λ p. refl; writes = λ p. refl; announced = refl; flight = refl; begun = refl }; left = refl; entries = refl; committed = λ p. refl; emptied = λ p. refl; hands = λ t. refl; used = refl; debt = refl; owes = refl; past = refl }
+calm (PutTable o t i x) v ok = record { pass = record { number = refl; next = refl; parts = refl; shape = refl; locks = λ p. refl; writes = λ p. refl; announced = refl; flight = refl; begun = refl }; left = refl; entries = refl; committed = λ p. refl; emptied = λ p. refl; hands = λ t. refl; used = refl; debt = refl; owes = refl; past = refl }
+calm (PutFresh t i x) v ok = record { pass = record { number = refl; next = refl; parts = refl; shape = refl; locks = λ p. refl; writes = λ p. refl; announced = refl; flight = refl; begun = refl }; left = refl; entries = refl; committed = λ p. refl; emptied = λ p. refl; hands = λ t. refl; used = refl; debt = refl; owes = refl; past = refl }
 calm a v ok = absurd ok
 
 -- a load
@@ -66,7 +66,7 @@ pub loaded_by : (a : Act) (v w : View) → IsLoad a → w ≡ noted a v → Only
 loaded_by a v w ok is = subst (OnlyLoaded v) (sym is) (load_only a v ok)
 
 pub same_pass : (v : View) → SamePass v v
-same_pass v = record { number = refl; next = refl; parts = refl; shape = refl; locks = λ p. refl; writes = λ p. refl; announced = refl; flight = refl }
+same_pass v = record { number = refl; next = refl; parts = refl; shape = refl; locks = λ p. refl; writes = λ p. refl; announced = refl; flight = refl; begun = refl }
 
 pub same_work : (v : View) → SameWork v v
 same_work v = record { pass = same_pass v; left = refl; entries = refl; committed = λ p. refl; emptied = λ p. refl; hands = λ t. refl; used = refl; debt = refl; owes = refl; past = refl }
@@ -82,6 +82,7 @@ module _ (u v w : View) where
     writes = λ p. b.writes p ∙ a.writes p;
     announced = b.announced ∙ a.announced;
     flight = b.flight ∙ a.flight;
+    begun = b.begun ∙ a.begun;
   }
 
   pub work_then : SameWork u v → SameWork v w → SameWork u w
@@ -163,6 +164,7 @@ module _ (called : Call) (said : Reply) (number g : ℕ) (snap : Snap) (u c z w 
         writes = λ p ne. others_stop p ne ∙ p1.writes p;
         announced = p1.announced;
         flight = p1.flight;
+        begun = p1.begun;
         left = let l = w1.left in omega (arith, l, some);
         entries = w1.entries;
         hands = w1.hands;
@@ -172,10 +174,10 @@ module _ (called : Call) (said : Reply) (number g : ℕ) (snap : Snap) (u c z w 
         root = root;
         others = λ p low ne mine quiet. (
           puts.others p low ne mine quiet,
-          work_knows made z p w1 ∙ (committed.left p ∙ (untouched_in committed.found called p (λ e. ne (sym e)) ∙ committed.agrees p low mine)),
+          work_knows made z p w1 ∙ (committed.left p ∙ (untouched_in committed.found called p (λ e. ne (sym e)) ∙ committed.has.agrees p low mine)),
         );
         found = committed.found;
-        agrees = committed.agrees;
+        has = committed.has;
         content = work_knows made z o w1 ∙ committed.left o;
         stands = stands;
       }
@@ -221,6 +223,7 @@ module _ (called : Call) (said : Reply) (number f : ℕ) (v s u w : View) where
           writes = all_write true quiet puts ends;
           announced = ends.announced ∙ p1.announced;
           flight = ends.flight ∙ p1.flight;
+          begun = ends.begun ∙ p1.begun;
         };
         left = sym w1.left ∙ ends.left;
         entries = ends.entries ∙ ap (λ es. write_entry called said number ∷ es) w1.entries;
@@ -235,7 +238,13 @@ module _ (called : Call) (said : Reply) (number f : ℕ) (v s u w : View) where
               e.1 ∙ work_knows begun u p w1,
             );
         found = ends.found;
-        agrees = λ p low mine. ends.agrees p (subst (λ (k : Shape). p < containers_in k) (sym p1.shape) low) (p1.locks p ∙ mine) ∙ work_knows begun u p w1;
+        has = record {
+          agrees = λ p low mine. ends.has.agrees p (subst (λ (k : Shape). p < containers_in k) (sym p1.shape) low) (p1.locks p ∙ mine) ∙ work_knows begun u p w1;
+          containers = ends.has.containers ∙ ap containers_in p1.shape;
+          order = ends.has.order;
+          kinds = ends.has.kinds ∙ ap (λ (k : Shape). k.kinds) p1.shape;
+          words = ends.has.words;
+        };
         content = ends.content;
         stands = subst (λ (k : Shape). Stands k.texts (held o' w) (known o' w)) p1.shape ends.stands;
       }

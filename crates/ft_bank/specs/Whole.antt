@@ -8,12 +8,14 @@ use Rattle.ft_trace.specs.declared.Entry.{Entry}
 use Rattle.ft_trace.specs.declared.View.{View}
 use Rattle.ft_trace.specs.Addresses.{containers_in}
 use Rattle.ft_trace.specs.Acts.{has_lock, is_writing, has_committed, has_emptied, stage, stage_next, announces, used, debt, debt_next, flight, owes, mem, past}
+use Rattle.ft_trace.specs.Sections.{begun}
 use Rattle.ft_trace.specs.Worlds.{kept_at, changes}
 use Rattle.ft_trace.specs.Words.{root_in, Stands}
-use Rattle.ft_trace.specs.Holds.{held, known, AgreesWith}
+use Rattle.ft_trace.specs.Holds.{held, known}
+use Rattle.ft_bank.specs.Writes.{MayHave}
 
--- It is the same pass: it has the same locks, has made the same versions odd, announces the same, and is in the midst of
--- the same taking or giving. (profile)
+-- It is the same pass: it has the same locks, has made the same versions odd, announces the same, is in the midst of the
+-- same taking or giving, and has begun the same sections. (profile)
 pub record SamePass (v w : View) : Type 0 where
   pub number : w.number ≡ v.number
   pub next : w.next ≡ v.next
@@ -23,6 +25,7 @@ pub record SamePass (v w : View) : Type 0 where
   pub writes : (p : ℕ) → is_writing p w.log ≡ is_writing p v.log
   pub announced : announces w.log ≡ announces v.log
   pub flight : flight w.log ≡ flight v.log
+  pub begun : begun w.log ≡ begun v.log
 
 -- The same pass has made no entry and no call, and has the same tables in hand; and each write that it has begun is as
 -- far as it was. (profile)
@@ -75,6 +78,7 @@ pub record EndsWrite (called : Call) (said : Reply) (number : ℕ) (v w : View) 
   pub writes : (p : ℕ) → p ≢ changes called → is_writing p w.log ≡ is_writing p v.log
   pub announced : announces w.log ≡ announces v.log
   pub flight : flight w.log ≡ flight v.log
+  pub begun : begun w.log ≡ begun v.log
   pub left : v.left ≡ suc w.left
   pub entries : w.entries ≡ write_entry called said number ∷ v.entries
   pub hands : (t : ℕ) → stage t w.log ≡ stage t v.log
@@ -86,14 +90,14 @@ pub record EndsWrite (called : Call) (said : Reply) (number : ℕ) (v w : View) 
       → is_writing p v.log ≡ false
       → (held p w ≡ held p v) × (known p w ≡ known p v)
   pub found : StoredWorld
-  pub agrees : AgreesWith v found
+  pub has : MayHave v found
   pub content : known (changes called) w ≡ kept_at (after_stored found called) (changes called)
   pub stands : Stands v.shape.texts (held (changes called) w) (known (changes called) w)
 
 -- The pass made this call as one whole write, with this reply, and the write has this number. It has one entry more, and
 -- a call less left. It knows the same of each other container whose lock it has and that it doesn't write. Of the
--- container that the call changes it knows what the call makes of all that the containers had whose locks it has, and
--- the words that it knows stand for that, with the class and the fill of its table. (profile)
+-- container that the call changes it knows what the call makes of what the bank had, and the words that it knows stand
+-- for that, with the class and the fill of its table. (profile)
 pub record Wrote (called : Call) (said : Reply) (number : ℕ) (v w : View) : Type 0 where
   pub pass : SamePass v w
   pub left : v.left ≡ suc w.left
@@ -108,6 +112,6 @@ pub record Wrote (called : Call) (said : Reply) (number : ℕ) (v w : View) : Ty
       → is_writing p v.log ≡ false
       → (held p w ≡ held p v) × (known p w ≡ known p v)
   pub found : StoredWorld
-  pub agrees : AgreesWith v found
+  pub has : MayHave v found
   pub content : known (changes called) w ≡ kept_at (after_stored found called) (changes called)
   pub stands : Stands v.shape.texts (held (changes called) w) (known (changes called) w)

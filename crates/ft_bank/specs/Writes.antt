@@ -50,6 +50,13 @@ pub record MayCommit (v : View) (call : Call) (reply : Reply) : Type 0 where
       → takes_in stored call ≡ Some class
   pub empties : has_emptied (changes call) v.log ≡ true → may_empty call ≡ true
 
+-- What a commit leaves of the stored world that it finds, which is one that the bank may have: that is what the pass
+-- knows of every container then.
+pub record Committed (v w : View) (call : Call) : Type 0 where
+  pub found : StoredWorld
+  pub has : MayHave v found
+  pub left : (p : ℕ) → known p w ≡ kept_at (after_stored found call) p
+
 -- no version of an entry or item is odd in the table that the root of o names, as the pass knows it
 abbrev pub IsShut : ℕ → View → Type 0
 IsShut o v =

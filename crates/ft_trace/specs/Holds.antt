@@ -1,7 +1,6 @@
 -- What a pass knows of what it has.
 use Rattle.std.specs.Prelude.{◌≡◌, ℕ, ◌<◌, true, List}
-use Rattle.ft_model.specs.declared.call.Call.{Call}
-use Rattle.ft_model.specs.Tables.{StoredWorld, after_stored}
+use Rattle.ft_model.specs.Tables.{StoredWorld}
 use Rattle.ft_trace.specs.declared.View.{View}
 use Rattle.ft_trace.specs.Addresses.{containers_in}
 use Rattle.ft_trace.specs.Acts.{has_lock, mem, past}
@@ -23,9 +22,3 @@ in_hand t v = table_of v.shape t (mem v.shape v.log)
 -- this stored world has what the pass knows of the containers whose locks it has
 abbrev pub AgreesWith : View → StoredWorld → Type 0
 AgreesWith v t = (p : ℕ) → p < containers_in v.shape → has_lock p v.log ≡ true → kept_at t p ≡ known p v
-
--- what a commit leaves of the stored world that it finds
-pub record Committed (v w : View) (c : Call) : Type 0 where
-  pub found : StoredWorld
-  pub agrees : AgreesWith v found
-  pub left : (p : ℕ) → known p w ≡ kept_at (after_stored found c) p

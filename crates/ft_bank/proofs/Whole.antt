@@ -35,14 +35,14 @@ IsCalm (PutFresh t i x) = Unit {0}
 IsCalm act = ⊥
 
 pub calm : (a : Act) (v : View) → IsCalm a → SameWork v (noted a v)
-calm (Version o f) v ok = record { pass = record { number = refl; next = refl; parts = refl; shape = refl; locks = λ p. refl; writes = λ p. refl; announced = refl; flight = refl; begun = refl }; left = refl; entries = refl; committed = λ p. refl; emptied = λ p. refl; hands = λ t. refl; used = refl; debt = refl; owes = refl; past = refl }
-calm (ReadBlock o i f) v ok = record { pass = record { number = refl; next = refl; parts = refl; shape = refl; locks = λ p. refl; writes = λ p. refl; announced = refl; flight = refl; begun = refl }; left = refl; entries = refl; committed = λ p. refl; emptied = λ p. refl; hands = λ t. refl; used = refl; debt = refl; owes = refl; past = refl }
-calm (ReadTable t i f) v ok = record { pass = record { number = refl; next = refl; parts = refl; shape = refl; locks = λ p. refl; writes = λ p. refl; announced = refl; flight = refl; begun = refl }; left = refl; entries = refl; committed = λ p. refl; emptied = λ p. refl; hands = λ t. refl; used = refl; debt = refl; owes = refl; past = refl }
-calm (ReadCounter f) v ok = record { pass = record { number = refl; next = refl; parts = refl; shape = refl; locks = λ p. refl; writes = λ p. refl; announced = refl; flight = refl; begun = refl }; left = refl; entries = refl; committed = λ p. refl; emptied = λ p. refl; hands = λ t. refl; used = refl; debt = refl; owes = refl; past = refl }
-calm (ReadRoot o f) v ok = record { pass = record { number = refl; next = refl; parts = refl; shape = refl; locks = λ p. refl; writes = λ p. refl; announced = refl; flight = refl; begun = refl }; left = refl; entries = refl; committed = λ p. refl; emptied = λ p. refl; hands = λ t. refl; used = refl; debt = refl; owes = refl; past = refl }
-calm (PutBlock o i x) v ok = record { pass = record { number = refl; next = refl; parts = refl; shape = refl; locks = λ p. refl; writes = λ p. refl; announced = refl; flight = refl; begun = refl }; left = refl; entries = refl; committed = λ p. refl; emptied = λ p. refl; hands = λ t. refl; used = refl; debt = refl; owes = refl; past = refl }
-calm (PutTable o t i x) v ok = record { pass = record { number = refl; next = refl; parts = refl; shape = refl; locks = λ p. refl; writes = λ p. refl; announced = refl; flight = refl; begun = refl }; left = refl; entries = refl; committed = λ p. refl; emptied = λ p. refl; hands = λ t. refl; used = refl; debt = refl; owes = refl; past = refl }
-calm (PutFresh t i x) v ok = record { pass = record { number = refl; next = refl; parts = refl; shape = refl; locks = λ p. refl; writes = λ p. refl; announced = refl; flight = refl; begun = refl }; left = refl; entries = refl; committed = λ p. refl; emptied = λ p. refl; hands = λ t. refl; used = refl; debt = refl; owes = refl; past = refl }
+calm (Version o f) v ok = record { pass = record { number = refl; next = refl; parts = refl; shape = refl; locks = λ p. refl; writes = λ p. refl; announced = refl; flight = refl; begun = refl; tokens = refl; learnt = refl }; left = refl; entries = refl; committed = λ p. refl; emptied = λ p. refl; hands = λ t. refl; used = refl; debt = refl; owes = refl; past = refl }
+calm (ReadBlock o i f) v ok = record { pass = record { number = refl; next = refl; parts = refl; shape = refl; locks = λ p. refl; writes = λ p. refl; announced = refl; flight = refl; begun = refl; tokens = refl; learnt = refl }; left = refl; entries = refl; committed = λ p. refl; emptied = λ p. refl; hands = λ t. refl; used = refl; debt = refl; owes = refl; past = refl }
+calm (ReadTable t i f) v ok = record { pass = record { number = refl; next = refl; parts = refl; shape = refl; locks = λ p. refl; writes = λ p. refl; announced = refl; flight = refl; begun = refl; tokens = refl; learnt = refl }; left = refl; entries = refl; committed = λ p. refl; emptied = λ p. refl; hands = λ t. refl; used = refl; debt = refl; owes = refl; past = refl }
+calm (ReadCounter f) v ok = record { pass = record { number = refl; next = refl; parts = refl; shape = refl; locks = λ p. refl; writes = λ p. refl; announced = refl; flight = refl; begun = refl; tokens = refl; learnt = refl }; left = refl; entries = refl; committed = λ p. refl; emptied = λ p. refl; hands = λ t. refl; used = refl; debt = refl; owes = refl; past = refl }
+calm (ReadRoot o f) v ok = record { pass = record { number = refl; next = refl; parts = refl; shape = refl; locks = λ p. refl; writes = λ p. refl; announced = refl; flight = refl; begun = refl; tokens = refl; learnt = refl }; left = refl; entries = refl; committed = λ p. refl; emptied = λ p. refl; hands = λ t. refl; used = refl; debt = refl; owes = refl; past = refl }
+calm (PutBlock o i x) v ok = record { pass = record { number = refl; next = refl; parts = refl; shape = refl; locks = λ p. refl; writes = λ p. refl; announced = refl; flight = refl; begun = refl; tokens = refl; learnt = refl }; left = refl; entries = refl; committed = λ p. refl; emptied = λ p. refl; hands = λ t. refl; used = refl; debt = refl; owes = refl; past = refl }
+calm (PutTable o t i x) v ok = record { pass = record { number = refl; next = refl; parts = refl; shape = refl; locks = λ p. refl; writes = λ p. refl; announced = refl; flight = refl; begun = refl; tokens = refl; learnt = refl }; left = refl; entries = refl; committed = λ p. refl; emptied = λ p. refl; hands = λ t. refl; used = refl; debt = refl; owes = refl; past = refl }
+calm (PutFresh t i x) v ok = record { pass = record { number = refl; next = refl; parts = refl; shape = refl; locks = λ p. refl; writes = λ p. refl; announced = refl; flight = refl; begun = refl; tokens = refl; learnt = refl }; left = refl; entries = refl; committed = λ p. refl; emptied = λ p. refl; hands = λ t. refl; used = refl; debt = refl; owes = refl; past = refl }
 calm a v ok = absurd ok
 
 -- a load
@@ -66,7 +66,7 @@ pub loaded_by : (a : Act) (v w : View) → IsLoad a → w ≡ noted a v → Only
 loaded_by a v w ok is = subst (OnlyLoaded v) (sym is) (load_only a v ok)
 
 pub same_pass : (v : View) → SamePass v v
-same_pass v = record { number = refl; next = refl; parts = refl; shape = refl; locks = λ p. refl; writes = λ p. refl; announced = refl; flight = refl; begun = refl }
+same_pass v = record { number = refl; next = refl; parts = refl; shape = refl; locks = λ p. refl; writes = λ p. refl; announced = refl; flight = refl; begun = refl; tokens = refl; learnt = refl }
 
 pub same_work : (v : View) → SameWork v v
 same_work v = record { pass = same_pass v; left = refl; entries = refl; committed = λ p. refl; emptied = λ p. refl; hands = λ t. refl; used = refl; debt = refl; owes = refl; past = refl }
@@ -83,6 +83,8 @@ module _ (u v w : View) where
     announced = b.announced ∙ a.announced;
     flight = b.flight ∙ a.flight;
     begun = b.begun ∙ a.begun;
+    tokens = b.tokens ∙ a.tokens;
+    learnt = b.learnt ∙ a.learnt;
   }
 
   pub work_then : SameWork u v → SameWork v w → SameWork u w
@@ -165,6 +167,8 @@ module _ (called : Call) (said : Reply) (number g : ℕ) (snap : Snap) (u c z w 
         announced = p1.announced;
         flight = p1.flight;
         begun = p1.begun;
+        tokens = p1.tokens;
+        learnt = p1.learnt;
         left = let l = w1.left in omega (arith, l, some);
         entries = w1.entries;
         hands = w1.hands;
@@ -224,6 +228,8 @@ module _ (called : Call) (said : Reply) (number f : ℕ) (v s u w : View) where
           announced = ends.announced ∙ p1.announced;
           flight = ends.flight ∙ p1.flight;
           begun = ends.begun ∙ p1.begun;
+          tokens = ends.tokens ∙ p1.tokens;
+          learnt = ends.learnt ∙ p1.learnt;
         };
         left = sym w1.left ∙ ends.left;
         entries = ends.entries ∙ ap (λ es. write_entry called said number ∷ es) w1.entries;

@@ -26,6 +26,8 @@ pub record SamePass (v w : View) : Type 0 where
   pub announced : announces w.log ≡ announces v.log
   pub flight : flight w.log ≡ flight v.log
   pub begun : begun w.log ≡ begun v.log
+  pub tokens : w.tokens ≡ v.tokens
+  pub learnt : w.learnt ≡ v.learnt
 
 -- The same pass has made no entry and no call, and has the same tables in hand; and each write that it has begun is as
 -- far as it was. (profile)
@@ -79,6 +81,8 @@ pub record EndsWrite (called : Call) (said : Reply) (number : ℕ) (v w : View) 
   pub announced : announces w.log ≡ announces v.log
   pub flight : flight w.log ≡ flight v.log
   pub begun : begun w.log ≡ begun v.log
+  pub tokens : w.tokens ≡ v.tokens
+  pub learnt : w.learnt ≡ v.learnt
   pub left : v.left ≡ suc w.left
   pub entries : w.entries ≡ write_entry called said number ∷ v.entries
   pub hands : (t : ℕ) → stage t w.log ≡ stage t v.log

@@ -1,6 +1,7 @@
 pub mod Allowed
 pub mod Knowing
 pub mod Readying
+pub mod Showing
 pub mod Starting
 pub mod Tables
 pub mod Putting

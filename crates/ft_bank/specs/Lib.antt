@@ -10,3 +10,4 @@ pub mod Tables
 pub mod Closings
 pub mod Whole
 pub mod Takings
+pub mod Shown

@@ -17,6 +17,7 @@ mod reads;
 mod rule;
 mod sections;
 mod shape;
+pub mod shown;
 mod steps;
 mod table;
 mod takings;

@@ -3,6 +3,7 @@ use Rattle.std.proofs.Common.{◌≡◌, ℕ, false, List, [], ◌∷◌, length
 use Rattle.ft_model.specs.declared.call.Call.{Call}
 use Rattle.ft_model.specs.declared.reply.Reply.{Reply}
 use Rattle.ft_model.specs.declared.call.Call.TheVariants as call
+use Rattle.ft_model.specs.Answers.{is_memory}
 use Rattle.ft_model.specs.Calls.{is_changing, can_add}
 use Rattle.ft_model.specs.Histories.{IsReplied}
 use Rattle.ft_model.specs.Tables.{stored_newest}
@@ -41,23 +42,23 @@ replies_may_be_given v call said live p some_call not_write right =
     let may : May k (run k now) (history now) u (Answer call said n) = (not_write, omega (arith, same), replied, own, cause, some_call) in
     (n, (did id u (Answer call said n) ∷ now, id, (((p.2.0, (p.2.1, live.0, refl, tt, live.1)), (at, live.0, tt, may, live.1)), set_at (run k now).views id u (noted (Answer call said n) u) at)))
 
-never_writes : (b : Bool) → (b && false) ≡ false
+pub never_writes : (b : Bool) → (b && false) ≡ false
 never_writes true = refl
 never_writes false = refl
 
--- a call that can add may raise it
-memory_replied : (class : ℕ) (called : Call) → can_add called ≡ true → (plain : Reply) → IsReplied called (lacks class) plain
-memory_replied class (call.Dict o c) adds plain = inl refl
-memory_replied class (call.List o c) adds plain = inl refl
-memory_replied class (call.Set o c) adds plain = inl refl
-memory_replied class (call.Next cursor) adds plain = absurd (true≢false (sym adds))
-memory_replied class (call.Begin one other) adds plain = absurd (true≢false (sym adds))
-memory_replied class call.End adds plain = absurd (true≢false (sym adds))
-memory_replied class call.Quiesce adds plain = absurd (true≢false (sym adds))
+-- a call that can add may raise a MemoryError
+pub memory_replied : (said : Reply) → is_memory said ≡ true → (called : Call) → can_add called ≡ true → (plain : Reply) → IsReplied called said plain
+memory_replied said memory (call.Dict o c) adds plain = inl memory
+memory_replied said memory (call.List o c) adds plain = inl memory
+memory_replied said memory (call.Set o c) adds plain = inl memory
+memory_replied said memory (call.Next cursor) adds plain = absurd (true≢false (sym adds))
+memory_replied said memory (call.Begin one other) adds plain = absurd (true≢false (sym adds))
+memory_replied said memory call.End adds plain = absurd (true≢false (sym adds))
+memory_replied said memory call.Quiesce adds plain = absurd (true≢false (sym adds))
 
 pub memory_errors_may_be_answered : MemoryErrorsMayBeAnswered
 memory_errors_may_be_answered v call class newer rest live p some_call is own none right =
     replies_may_be_given v call (lacks class) live p some_call (never_writes (is_changing call))
     (λ calls number agree.
     let r = right calls agree in
-    (memory_replied class call r.0.adds (reply_in (stored_newest v.shape.kinds calls) call), (r.0, r.1, r.2, record { newer = []; mid = newer; rest = rest; is = ap (λ (l : List Act). ReadCounter number ∷ l) is; own = (tt, own); none = none })))
+    (memory_replied (lacks class) refl call r.0.adds (reply_in (stored_newest v.shape.kinds calls) call), (r.0, r.1, r.2, record { newer = []; mid = newer; rest = rest; is = ap (λ (l : List Act). ReadCounter number ∷ l) is; own = (tt, own); none = none })))

@@ -1,0 +1,5 @@
+use Rattle.ft_bank.proofs.Showing as proved
+use Rattle.ft_bank.proofs.shown.memory_errors_are_shown.Goals as goal
+
+pub returns : goal.returns
+returns c = proved.memory_errors_are_shown

@@ -4,7 +4,7 @@ use mathlib.Core.Logic.{dite}
 use native.Mathlib.Decide.{ℕ_discrete}
 use Rattle.ft_model.specs.declared.call.Call.{Call}
 use Rattle.ft_trace.specs.declared.Act.{Act}
-use Rattle.ft_trace.specs.declared.Act.TheVariants.{Lock, Unlock, StartWrite, PutBlock, PutRoot, PutTable, PutFresh, PutHeader, StopWrite, Version, ReadBlock, ReadRoot, ReadTable, LowerCount, RaiseCount, ReadCount, ReadFree, TakeTable, GiveTable, Announce, ReadAnnounced}
+use Rattle.ft_trace.specs.declared.Act.TheVariants.{Lock, Unlock, StartWrite, PutBlock, PutRoot, PutTable, PutFresh, PutHeader, ReadHeader, StopWrite, Version, ReadBlock, ReadRoot, ReadTable, LowerCount, RaiseCount, ReadCount, ReadFree, TakeTable, GiveTable, Announce, ReadAnnounced}
 use Rattle.ft_trace.specs.declared.Shape.{Shape}
 use Rattle.ft_trace.specs.declared.View.{View}
 use Rattle.ft_trace.specs.Addresses.{Inside}
@@ -41,6 +41,7 @@ inside k m cs v (PutRoot o r old) may = (may.0, omega arith)
 inside k m cs v (PutTable o t i x) may = (may.1, may.2)
 inside k m cs v (PutFresh t i x) may = (may.0, may.1)
 inside k m cs v (PutHeader t x) may = may.0
+inside k m cs v (ReadHeader t f) may = may
 inside k m cs v (StopWrite o f) may = may.0
 inside k m cs v (Version o f) may = may
 inside k m cs v (ReadBlock o i f) may = may

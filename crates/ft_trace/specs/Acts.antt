@@ -2,7 +2,7 @@
 use Rattle.std.specs.Prelude.{◌≡◌, ℕ, suc, max, ◌+◌, ◌-◌, ◌*◌, ◌^◌, ◌%◌, ◌==◌, nat_lt, Bool, true, false, cond, List, [], ◌∷◌, ◌++◌, slice_index, slice_set}
 use prog.Atomic.{either}
 use Rattle.ft_trace.specs.declared.Act.{Act}
-use Rattle.ft_trace.specs.declared.Act.TheVariants.{Lock, Unlock, StartWrite, PutBlock, PutRoot, PutTable, PutFresh, PutHeader, Commit, StopWrite, Version, ReadBlock, ReadRoot, ReadTable, ReadCounter, Answer, LowerCount, RaiseCount, ReadCount, ReadFree, TakeTable, GiveTable, Retire, Announce, ReadAnnounced, WriteNumber, TakeFloor}
+use Rattle.ft_trace.specs.declared.Act.TheVariants.{Lock, Unlock, StartWrite, PutBlock, PutRoot, PutTable, PutFresh, PutHeader, ReadHeader, Commit, StopWrite, Version, ReadBlock, ReadRoot, ReadTable, ReadCounter, Answer, LowerCount, RaiseCount, ReadCount, ReadFree, TakeTable, GiveTable, Retire, Announce, ReadAnnounced, WriteNumber, TakeFloor}
 use Rattle.ft_trace.specs.declared.Entry.{Entry}
 use Rattle.ft_trace.specs.declared.Shape.{Shape}
 use Rattle.ft_model.specs.declared.call.Call.{Call}
@@ -20,6 +20,7 @@ place (PutRoot o r old) = block o 0
 place (PutTable o t i x) = cell t i
 place (PutFresh t i x) = cell t i
 place (PutHeader t x) = header t
+place (ReadHeader t f) = header t
 place (Commit c r f s) = counter
 place (StopWrite o f) = version_of o
 place (Version o f) = version_of o
@@ -70,6 +71,7 @@ Reports (Version o f) n = f ≡ n
 Reports (ReadBlock o i f) n = f ≡ n
 Reports (ReadRoot o f) n = f ≡ n
 Reports (ReadTable t i f) n = f ≡ n
+Reports (ReadHeader t f) n = f ≡ n
 Reports (ReadCounter f) n = f ≡ n
 Reports (LowerCount c old f) n = f ≡ n
 Reports (RaiseCount c f) n = f ≡ n
@@ -142,6 +144,16 @@ goal_next t act g = g
 abbrev pub goal : ℕ → List Act → ℕ
 goal t [] = 0
 goal t (a ∷ l) = goal_next t a (goal t l)
+
+-- the goal of t, which the pass retired, stands in the header of t
+abbrev pub has_goal_next : ℕ → Act → Bool → Bool
+has_goal_next t (PutHeader p x) b = cond (p == t) true b
+has_goal_next t (GiveTable p) b = cond (p == t) false b
+has_goal_next t act b = b
+
+abbrev pub has_goal : ℕ → List Act → Bool
+has_goal t [] = false
+has_goal t (a ∷ l) = has_goal_next t a (has_goal t l)
 
 -- what the pass announces, 0 for offline
 abbrev pub announces_next : Act → ℕ → ℕ

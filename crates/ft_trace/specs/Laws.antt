@@ -25,8 +25,8 @@ use Rattle.ft_trace.specs.declared.View.{View}
 use Rattle.ft_trace.specs.Bits.{bit}
 use Rattle.ft_trace.specs.Counts.{word_bits, taking, giving, owing}
 use Rattle.ft_trace.specs.Entries.{total, is_number, AllRight, Numbered}
-use Rattle.ft_trace.specs.Addresses.{Word, Inside, at, sizes_of, part_of, counter, write_number, announced_of, count_of_class, bits, lock_of, version_of, block, containers_in, tables_in, class_of, slots, IsTable, free_word_of, free_bit_of}
-use Rattle.ft_trace.specs.Acts.{has_lock, is_writing, reads, stage, goal, clear, announces, owes}
+use Rattle.ft_trace.specs.Addresses.{Word, Inside, at, sizes_of, part_of, counter, write_number, announced_of, count_of_class, bits, lock_of, version_of, block, header, containers_in, tables_in, class_of, slots, IsTable, free_word_of, free_bit_of}
+use Rattle.ft_trace.specs.Acts.{has_lock, is_writing, reads, stage, goal, has_goal, clear, announces, owes}
 use Rattle.ft_trace.specs.Ages.{age, all_acts}
 use Rattle.ft_trace.specs.Worlds.{kept, first_writes, kind_in, reply_in}
 use Rattle.ft_trace.specs.Words.{entry_at, item_at, walk_of, table_of, picture}
@@ -214,6 +214,13 @@ FoundTablesAreKept =
     → (reads t u.log ≡ true → bit (free_bit_of t) (word k es (bits (free_word_of t))) ≢ 1)
     × (reads t u.log ≡ true → (2 ≤ age es t % 5) × (age es t % 5 ≡ 4 → announces u.log < goal t (all_acts es)))
     × (age es t % 5 ≡ 4 → clear t u.number (all_acts es) ≡ true → reads t u.log ≡ true → ⊥)
+
+-- where a pass has put the goal of a table into its header, the table is the pass's, retired, and its header says the
+-- goal, until the pass gives the table back
+abbrev pub GoalsStand : Type 0
+GoalsStand =
+    (k : Shape) (es : List Event) → Valid k es → (t : ℕ) → IsTable k t → (j : ℕ) (u : View) → HasView k es j u
+    → has_goal t u.log ≡ true → (stage t u.log ≡ 4) × (word k es (header t) ≡ goal t u.log)
 
 -- the words of a table that is free, was taken out of a root or is retired stay as they are
 abbrev pub GivenUpTablesRest : Type 0

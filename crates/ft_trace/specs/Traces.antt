@@ -12,12 +12,12 @@ use Rattle.ft_model.specs.Worlds.{no_hands, IsDeclared}
 use Rattle.ft_model.specs.Tables.{stored_newest, takes_in, would_pass}
 use Rattle.ft_model.specs.Classes.{IsClass}
 use Rattle.ft_trace.specs.declared.Act.{Act}
-use Rattle.ft_trace.specs.declared.Act.TheVariants.{Lock, Unlock, StartWrite, PutBlock, PutRoot, PutTable, PutFresh, PutHeader, Commit, StopWrite, Version, ReadBlock, ReadRoot, ReadTable, ReadCounter, Answer, LowerCount, RaiseCount, ReadCount, ReadFree, TakeTable, GiveTable, Retire, Announce, ReadAnnounced, WriteNumber, TakeFloor}
+use Rattle.ft_trace.specs.declared.Act.TheVariants.{Lock, Unlock, StartWrite, PutBlock, PutRoot, PutTable, PutFresh, PutHeader, ReadHeader, Commit, StopWrite, Version, ReadBlock, ReadRoot, ReadTable, ReadCounter, Answer, LowerCount, RaiseCount, ReadCount, ReadFree, TakeTable, GiveTable, Retire, Announce, ReadAnnounced, WriteNumber, TakeFloor}
 use Rattle.ft_trace.specs.declared.Shape.{Shape}
 use Rattle.ft_trace.specs.declared.Snap.{Snap}
 use Rattle.ft_trace.specs.declared.View.{View}
 use Rattle.ft_trace.specs.Addresses.{Word, counter, write_number, version_of, containers_in, tables_in, class_of, size, IsTable, at, opening}
-use Rattle.ft_trace.specs.Acts.{place, word_after, Reports, has_lock, is_writing, has_committed, has_emptied, stage, announces, clear, used, debt, flight, owes, noted, starter, maker, made, both, spent, sender, note}
+use Rattle.ft_trace.specs.Acts.{place, word_after, Reports, has_lock, is_writing, has_committed, has_emptied, stage, goal, announces, clear, used, debt, flight, owes, noted, starter, maker, made, both, spent, sender, note}
 use Rattle.ft_trace.specs.Worlds.{kept, first_writes, kind_in, changes, may_empty, reply_in}
 use Rattle.ft_trace.specs.Words.{table_of, root_of, picture, Stands}
 use Rattle.ft_trace.specs.Kinds.{rows, version_at, SoundAs, CarefulAs, ClearAs}
@@ -140,8 +140,8 @@ May k m cs v (PutTable o t i x) =
     × TimelyFor k o t i x (has_committed o v.log)
 -- a word of a table that it took and that has stood in no root since
 May k m cs v (PutFresh t i x) = IsTable k t × (i < size (class_of t)) × (stage t v.log ≡ 1)
--- the goal of a table that it took out of a root
-May k m cs v (PutHeader t x) = IsTable k t × ((stage t v.log ≡ 3) ⊎ (stage t v.log ≡ 4))
+-- the goal of a table that it retired
+May k m cs v (PutHeader t x) = IsTable k t × (stage t v.log ≡ 4) × (x ≡ goal t v.log)
 -- The call is a write of containers of its kind, the version of what it changes is odd by the pass, the reply is that
 -- of the plain containers at the counter, the pass has a call left and the counter has room. Each entry with an even
 -- version says the same of the content after the call, and each key that is added has its entry. Where the pass has
@@ -178,6 +178,7 @@ May k m cs v (ReadBlock o i f) = (o < containers_in k) × (i < 6)
 -- but for a root that is read to search its table without the lock: the pass is online
 May k m cs v (ReadRoot o f) = (o < containers_in k) × (0 < announces v.log) × (v.number ≤ k.passes)
 May k m cs v (ReadTable t i f) = IsTable k t × (i < size (class_of t))
+May k m cs v (ReadHeader t f) = IsTable k t
 May k m cs v (ReadCounter f) = Unit {0}
 -- The call is no write, and a load of the counter since the last entry gave its stamp. The reply is that of the plain
 -- containers after as many writes, or that of a section, or a MemoryError that has its cause. The pass has a call left.

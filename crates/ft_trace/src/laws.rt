@@ -7,7 +7,7 @@ ghost use Rattle.ft_trace.specs.LookReplies.{DictHitsAreReplied, SetHitsAreRepli
 ghost use Rattle.ft_trace.specs.EntryWrites.{ValuesMayBePut};
 ghost use Rattle.ft_trace.specs.KeyWrites.{KeysMayBeAdded};
 ghost use Rattle.ft_trace.specs.GrowWrites.{DictsMayGrow};
-ghost use Rattle.ft_trace.specs.Laws.{ContentsFit, StoredTablesAreInOrder, WordsLieApart, PairsAreUnderTheirKeys, ElementsAreUnderTheirKeys, OnePassIsAlone, StampsRise, MemoryErrorsAreEarned, LocksNameHolders, VersionsAreOddInWrites, EvenTablesAreShut, NumbersAreOnce, EntriesAreRight, OneHasAllEntries, EvenWordsStand, ZeroRootsHaveNothing, HoldersKnow, TablesAreSomewhere, TablesAreInOnePlace, CountsStand, TablesAreOwed, EmptyClassesAreEarned, AnnouncedNumbersAreLow, FoundTablesAreKept, GivenUpTablesRest, TablesAreSound, TableWordsStay, HitsAreRight, MissesAreRight, BareRootsAreRight, ItemsAreRight, ListsFitTheirTables, LooksAreRight, ChangedRootsAreNew, NumbersHaveRoom};
+ghost use Rattle.ft_trace.specs.Laws.{ContentsFit, StoredTablesAreInOrder, WordsLieApart, PairsAreUnderTheirKeys, ElementsAreUnderTheirKeys, OnePassIsAlone, StampsRise, MemoryErrorsAreEarned, LocksNameHolders, VersionsAreOddInWrites, EvenTablesAreShut, NumbersAreOnce, EntriesAreRight, OneHasAllEntries, EvenWordsStand, ZeroRootsHaveNothing, HoldersKnow, TablesAreSomewhere, TablesAreInOnePlace, CountsStand, TablesAreOwed, EmptyClassesAreEarned, AnnouncedNumbersAreLow, FoundTablesAreKept, GoalsStand, GivenUpTablesRest, TablesAreSound, TableWordsStay, HitsAreRight, MissesAreRight, BareRootsAreRight, ItemsAreRight, ListsFitTheirTables, LooksAreRight, ChangedRootsAreNew, NumbersHaveRoom};
 
 use ft_layout::{
     puts_change_one_item, used_entries_follow_a_dict, versions_change_nothing, words_follow_a_dict,
@@ -114,6 +114,11 @@ pub fn announced_numbers_are_low()
 /// A table that a pass has found in a root since it last announced is not free.
 pub fn found_tables_are_kept()
     ensures { FoundTablesAreKept }
+{}
+
+/// The header of a table that a pass retired says the goal, once the pass has put it there.
+pub fn goals_stand()
+    ensures { GoalsStand }
 {}
 
 /// The words of a table that is free, was taken out of a root or is retired stay as they are.

@@ -56,8 +56,10 @@ pub enum Act {
     PutTable(u64, u64, u64, u64),
     /// Puts a word of a table that stood in no root yet: the table, the word and what it becomes.
     PutFresh(u64, u64, u64),
-    /// Puts the goal of a table that was taken out of a root.
+    /// Puts the goal of a table that the pass retired into the table's header.
     PutHeader(u64, u64),
+    /// Loads the goal in the header of a table.
+    ReadHeader(u64, u64),
     /// Raises the counter, which is the write: the call, its reply, its number.
     Commit(Call, Reply, u64, Snap),
     /// Makes the version of a container even.

@@ -1,0 +1,6 @@
+mod Places
+mod Knowing
+mod Running
+mod Walking
+mod Closing
+mod Seeking

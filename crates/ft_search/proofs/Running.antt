@@ -1,0 +1,108 @@
+-- Steps of a pass, one after the other, and calls on words as such steps.
+use Rattle.std.proofs.Common.{◌≡◌, ℕ, suc, List, [], ◌∷◌, ◌++◌, map, true, refl, sym, ap, ◌∙◌, subst}
+use Rattle.ft_trace.specs.declared.Act.{Act}
+use Rattle.ft_trace.specs.declared.Act.TheVariants.{ReadRoot, ReadTable, ReadCounter, Version}
+use Rattle.ft_trace.specs.declared.Shape.{Shape}
+use Rattle.ft_trace.specs.declared.View.{View}
+use Rattle.ft_trace.specs.Acts.{noted, reads, announces}
+use Rattle.ft_trace.specs.Finding.{Online, Inner, Window}
+use Rattle.ft_trace.proofs.Cases.{hit}
+use Rattle.ft_keys.specs.declared.words.Access.{Access}
+use Rattle.ft_keys.specs.declared.words.Access.TheVariants.{Index, Entry, PutIndex, PutEntry, OldEntry}
+use Rattle.ft_keys.specs.Accesses.{Runs, IsLoad, AreLoads}
+use Rattle.ft_bank.specs.declared.pass.Pass.{Pass}
+use Rattle.ft_bank.specs.Passes.{shape_of, view}
+use Rattle.ft_bank.specs.Series.{noted_all, DidAll}
+use Rattle.ft_bank.specs.Tables.{name_of}
+use Rattle.ft_search.specs.declared.words.TableWords.{TableWords}
+use Rattle.ft_search.specs.Words.{act_of, SamePlace, Made}
+
+-- ---- steps in a row
+
+pub noted_append : (b a : List Act) (v : View) → noted_all (b ++ a) v ≡ noted_all b (noted_all a v)
+noted_append [] a v = refl
+noted_append (x ∷ b) a v = ap (noted x) (noted_append b a v)
+
+pub noted_log : (l : List Act) (v : View) → (noted_all l v).log ≡ l ++ v.log
+noted_log [] v = refl
+noted_log (a ∷ l) v = ap (λ (z : List Act). a ∷ z) (noted_log l v)
+
+pub did_none : (p : Pass) → DidAll [] p p
+did_none p = (refl, refl)
+
+pub did_trans : (b a : List Act) (p q r : Pass) → DidAll a p q → DidAll b q r → DidAll (b ++ a) p r
+did_trans b a p q r x y = (y.0 ∙ x.0, y.1 ∙ (ap (noted_all b) x.1 ∙ sym (noted_append b a p.seat.me.0)))
+
+pub did_log : (l : List Act) (p q : Pass) → DidAll l p q → (view q).log ≡ l ++ (view p).log
+did_log l p q m = ap (λ z. z.log) m.1 ∙ noted_log l (view p)
+
+-- ---- the same place
+
+pub same_self : (s : TableWords) → SamePlace s s
+same_self s = record { bank = refl; pass = refl; o = refl; table = refl; mask = refl }
+
+pub same_trans : (r s t : TableWords) → SamePlace r s → SamePlace s t → SamePlace r t
+same_trans r s t a b = record { bank = b.bank ∙ a.bank; pass = b.pass ∙ a.pass; o = b.o ∙ a.o; table = b.table ∙ a.table; mask = b.mask ∙ a.mask }
+
+-- what is said of the shape, the container and the table of one is said of the other
+pub at_same : (F : Shape → ℕ → ℕ → Type 0) (s t : TableWords) → SamePlace s t → F (shape_of t.bank.now) t.o (name_of t.table) → F (shape_of s.bank.now) s.o (name_of s.table)
+at_same F s t a = subst (λ (x : Shape × ℕ × ℕ). F x.0 x.1 x.2) (λ d. (shape_of (a.bank d).now, a.o d, name_of (a.table d)))
+
+pub back_same : (F : Shape → ℕ → ℕ → Type 0) (s t : TableWords) → SamePlace s t → F (shape_of s.bank.now) s.o (name_of s.table) → F (shape_of t.bank.now) t.o (name_of t.table)
+back_same F s t a = subst (λ (x : Shape × ℕ × ℕ). F x.0 x.1 x.2) (sym (λ d. (shape_of (a.bank d).now, a.o d, name_of (a.table d))))
+
+-- ---- calls on words
+
+pub ran : (s : TableWords) (calls : List Access) (t : TableWords) → Runs Made s calls t → SamePlace s t × DidAll (map (act_of s.o (name_of s.table)) calls) s.pass.now t.pass.now
+ran s [] t r = subst (λ (z : TableWords). SamePlace s z × DidAll [] s.pass.now z.pass.now) r (same_self s, did_none s.pass.now)
+ran s (a ∷ calls) t r =
+    let m = r.0 in
+    let old = ran s calls m r.1 in
+    let g = r.2 in
+    let act : DidAll (act_of s.o (name_of s.table) a ∷ []) m.pass.now t.pass.now = at_same (λ k o n. DidAll (act_of o n a ∷ []) m.pass.now t.pass.now) s m old.0 g.did in
+    (same_trans s m t old.0 g.same, did_trans (act_of s.o (name_of s.table) a ∷ []) (map (act_of s.o (name_of s.table)) calls) s.pass.now m.pass.now t.pass.now old.1 act)
+
+-- ---- loads that read no root and announce nothing
+
+pub inner_append : (b a : List Act) → Inner b → Inner a → Inner (b ++ a)
+inner_append [] a x y = y
+inner_append (Version o f ∷ b) a x y = inner_append b a x y
+inner_append (ReadTable t i f ∷ b) a x y = inner_append b a x y
+inner_append (ReadCounter f ∷ b) a x y = inner_append b a x y
+inner_append (act ∷ b) a x y = absurd x
+
+pub inner_calls : (o t : ℕ) (calls : List Access) → AreLoads calls → Inner (map (act_of o t) calls)
+inner_calls o t [] q = tt
+inner_calls o t (Index slot x ∷ calls) q = inner_calls o t calls q.1
+inner_calls o t (Entry place word x ∷ calls) q = inner_calls o t calls q.1
+inner_calls o t (PutIndex slot x ∷ calls) q = absurd q.0
+inner_calls o t (PutEntry place word x ∷ calls) q = absurd q.0
+inner_calls o t (OldEntry place word x ∷ calls) q = inner_calls o t calls q.1
+
+pub inner_online : (l : List Act) → Inner l → Online l
+inner_online [] q = tt
+inner_online (Version o f ∷ l) q = inner_online l q
+inner_online (ReadTable t i f ∷ l) q = inner_online l q
+inner_online (ReadCounter f ∷ l) q = inner_online l q
+inner_online (act ∷ l) q = absurd q
+
+pub inner_announces : (l rest : List Act) → Inner l → announces (l ++ rest) ≡ announces rest
+inner_announces [] rest q = refl
+inner_announces (Version o f ∷ l) rest q = inner_announces l rest q
+inner_announces (ReadTable t i f ∷ l) rest q = inner_announces l rest q
+inner_announces (ReadCounter f ∷ l) rest q = inner_announces l rest q
+inner_announces (act ∷ l) rest q = absurd q
+
+-- what was done between two reads of the root that named t
+pub window_of : (o t : ℕ) (part rest : List Act) (p q : Pass) → DidAll (ReadRoot o (suc t) ∷ part) p q → (view p).log ≡ ReadRoot o (suc t) ∷ rest → Inner part → Window (view q).log o t part
+window_of o t part rest p q did last inner = record {
+  newer = [];
+  rest = ReadRoot o (suc t) ∷ rest;
+  is = did_log (ReadRoot o (suc t) ∷ part) p q did ∙ ap (λ (z : List Act). ReadRoot o (suc t) ∷ (part ++ z)) last;
+  online = inner_online part inner;
+  before = hit (suc t) true (reads t rest);
+}
+
+-- what is the same over two steps
+pub same_mask : (s t : TableWords) (mask : ℕ) → SamePlace s t → s.mask ≡ mask → t.mask ≡ mask
+same_mask s t mask a is = a.mask ∙ is

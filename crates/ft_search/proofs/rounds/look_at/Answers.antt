@@ -1,0 +1,60 @@
+use Rattle.std.proofs.Common.{◌≡◌, List, [], ◌∷◌, ◌++◌, refl, sym, ◌∙◌, arith}
+use Rattle.ft_layout.specs.Words.{key_kind}
+use Rattle.ft_bank.specs.Passes.{shape_of}
+use Rattle.ft_bank.specs.Tables.{name_of}
+use Rattle.ft_search.specs.Rounds.{met_acts, seen_acts}
+use Rattle.ft_search.proofs.Running.{did_none}
+use Rattle.ft_search.proofs.Walking.{walked_more, walked_behind}
+use Rattle.ft_search.proofs.Closing.{beyond_passed, moved_passed, stops_seen, closes_here}
+use Rattle.ft_search.proofs.rounds.look_at.Goals as goal
+
+pub returns-then-place-entries-clause-turns : goal.returns-then-place-entries-clause-turns
+returns-then-place-entries-clause-turns c slot earlier left w =
+    let s = c.args.words.now in
+    let k = shape_of s.bank.now in
+    let t = name_of s.table in
+    let key = c.args.key in
+    let part = met_acts t slot c.args.place key (key_kind key) earlier in
+    let high = c.if-place-entries.true in
+    ([], tt, did_none s.pass.now, walked_behind k s.o t key slot left part w (beyond_passed k s.o t key slot c.args.place earlier (key_kind key) (omega (arith, high, c.requires.entries))))
+
+pub returns-then-not-stood-clause-turns : goal.returns-then-not-stood-clause-turns
+returns-then-not-stood-clause-turns c slot earlier left w =
+    let s = c.args.words.now in
+    let t = name_of s.table in
+    let seen = c.read_between-seen.result in
+    (seen_acts t c.args.place seen, tt, c.read_between-seen.ensures.did, stops_seen (shape_of s.bank.now) s.o t c.args.key slot c.args.place earlier seen (c.if-not-stood.ensures.no refl))
+
+pub returns-then-seen-kind_of-clause-turns : goal.returns-then-seen-kind_of-clause-turns
+returns-then-seen-kind_of-clause-turns c slot earlier left w =
+    let s = c.args.words.now in
+    let k = shape_of s.bank.now in
+    let t = name_of s.table in
+    let key = c.args.key in
+    let seen = c.read_between-seen.result in
+    let stood = c.if-not-stood.ensures.yes refl in
+    let part = met_acts t slot c.args.place key (key_kind key) earlier in
+    let new = seen_acts t c.args.place seen in (
+      new,
+      tt,
+      c.read_between-seen.ensures.did,
+      walked_behind k s.o t key slot left (new ++ part) (walked_more k s.o t key (slot ∷ left) new part w)
+          (moved_passed k s.o t key slot c.args.place earlier seen (key_kind key) stood.0 stood.1
+          (λ same. c.if-seen-kind_of.true (same ∙ sym c.kind_of.ensures))),
+    )
+
+pub returns-clause-turns : goal.returns-clause-turns
+returns-clause-turns c slot earlier left w =
+    let s = c.args.words.now in
+    let k = shape_of s.bank.now in
+    let t = name_of s.table in
+    let key = c.args.key in
+    let seen = c.read_between-seen.result in
+    let stood = c.if-not-stood.ensures.yes refl in
+    let low = c.if-place-entries.false in
+    let live : seen.key_kind ≡ key_kind key = omega (arith, c.if-seen-kind_of.false, c.kind_of.ensures) in (
+      seen_acts t c.args.place seen,
+      tt,
+      c.read_between-seen.ensures.did,
+      closes_here k s.o t key slot c.args.place earlier seen (omega (arith, low, c.requires.entries)) stood.0 stood.1 live,
+    )

@@ -1,0 +1,57 @@
+use Rattle.std.proofs.Common.{List, [], ◌∷◌, arith}
+use Rattle.ft_layout.specs.Words.{gone_kind}
+use Rattle.ft_trace.specs.declared.Act.{Act}
+use Rattle.ft_trace.specs.declared.Act.TheVariants.{ReadTable}
+use Rattle.ft_trace.specs.Addresses.{class_of, slots}
+use Rattle.ft_trace.specs.Words.{entry_at}
+use Rattle.ft_bank.specs.Passes.{shape_of}
+use Rattle.ft_bank.specs.Tables.{name_of}
+use Rattle.ft_search.specs.Rounds.{met_acts}
+use Rattle.ft_search.proofs.Running.{did_none, did_trans, at_same}
+use Rattle.ft_search.proofs.Walking.{walked_more, walked_behind}
+use Rattle.ft_search.proofs.Closing.{beyond_passed, deleted_passed, stops_deleted}
+use Rattle.ft_bank.specs.Series.{DidAll}
+use Rattle.ft_search.proofs.rounds.look_at_deleted.Goals as goal
+
+pub returns-then-place-entries-clause-turns : goal.returns-then-place-entries-clause-turns
+returns-then-place-entries-clause-turns c key slot earlier left w =
+    let s = c.args.words.now in
+    let k = shape_of s.bank.now in
+    let t = name_of s.table in
+    let part = met_acts t slot c.args.place key (gone_kind key) earlier in
+    let high = c.if-place-entries.true in
+    ([], tt, did_none s.pass.now, walked_behind k s.o t key slot left part w (beyond_passed k s.o t key slot c.args.place earlier (gone_kind key) (omega (arith, high, c.requires.entries))))
+
+pub returns-then-opened-eq0-clause-turns : goal.returns-then-opened-eq0-clause-turns
+returns-then-opened-eq0-clause-turns c key slot earlier left w =
+    let s = c.args.words.now in
+    let k = shape_of s.bank.now in
+    let t = name_of s.table in
+    let part = met_acts t slot c.args.place key (gone_kind key) earlier in
+    let opened = c.word-opened.result in
+    let load : Act = ReadTable t (entry_at (slots (class_of t)) c.args.place 0) opened in
+    let new : List Act = load ∷ [] in (
+      new,
+      tt,
+      c.word-opened.ensures.did,
+      walked_behind k s.o t key slot left (load ∷ part) (walked_more k s.o t key (slot ∷ left) new part w)
+          (deleted_passed k s.o t key slot c.args.place earlier opened (omega (arith, c.if-opened-eq0.true))),
+    )
+
+pub returns-clause-turns : goal.returns-clause-turns
+returns-clause-turns c key slot earlier left w =
+    let s = c.args.words.now in
+    let s1 = c.word-opened.new.self in
+    let s2 = c.word-closed.new.self in
+    let k = shape_of s.bank.now in
+    let t = name_of s.table in
+    let opened = c.word-opened.result in
+    let closed = c.word-closed.result in
+    let first : Act = ReadTable t (entry_at (slots (class_of t)) c.args.place 0) opened in
+    let second : Act = ReadTable t (entry_at (slots (class_of t)) c.args.place 0) closed in
+    let again : DidAll (second ∷ []) s1.pass.now s2.pass.now = at_same (λ _ _ n. DidAll (ReadTable n (entry_at (slots (class_of n)) c.args.place 0) closed ∷ []) s1.pass.now s2.pass.now) s s1 c.word-opened.ensures.same c.word-closed.ensures.did in (
+      second ∷ (first ∷ []),
+      tt,
+      did_trans (second ∷ []) (first ∷ []) s.pass.now s1.pass.now s2.pass.now c.word-opened.ensures.did again,
+      stops_deleted k s.o t key slot c.args.place earlier opened closed (λ even. c.if-opened-eq0.false even),
+    )

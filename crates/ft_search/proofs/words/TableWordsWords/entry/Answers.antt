@@ -1,0 +1,31 @@
+use Rattle.std.proofs.Common.{◌≡◌, ℕ, ◌+◌, ◌*◌, refl, sym, ap, ◌∙◌, subst}
+use Rattle.ft_bank.specs.Passes.{shape_of, view, Did}
+use Rattle.ft_bank.specs.Tables.{name_of}
+use Rattle.ft_trace.specs.Holds.{held}
+use Rattle.ft_trace.specs.declared.Act.TheVariants.{ReadTable}
+use Rattle.ft_search.proofs.Places.{entry_in, entry_is}
+use Rattle.ft_search.proofs.Knowing.{entry_after_header, loaded_leaves}
+use Rattle.ft_search.proofs.words.TableWordsWords.entry.Goals as goal
+
+pub read_table-requires-clause-word : goal.read_table-requires-clause-word
+read_table-requires-clause-word c =
+    let s = c.args.self.now in
+    entry_in (shape_of s.bank.now) s.table s.mask c.args.place c.args.word c.requires.can.table c.requires.can.mask
+    c.requires.place.0 c.requires.place.1
+
+pub returns-clause-gave : goal.returns-clause-gave
+returns-clause-gave c =
+    let s = c.args.self.now in
+    let t = name_of s.table in
+    let f = c.read_table.result in
+    let e = entry_is (shape_of s.bank.now) s.table s.mask c.args.place c.args.word c.requires.can.table c.requires.can.mask in
+    record {
+      same = record { bank = refl; pass = refl; o = refl; table = refl; mask = refl };
+      did = subst (λ (i : ℕ). Did (ReadTable t i f) s.pass.now c.read_table.new.pass) e c.read_table.ensures.did;
+      tells = λ k.
+          c.read_table.ensures.held s.o c.requires.can.container k.0 k.1
+          ∙ sym (entry_after_header (held s.o (view s.pass.now)).table s.mask c.args.place c.args.word);
+      left = λ k.
+          loaded_leaves (view s.pass.now) (view c.read_table.new.pass) s.o t
+          (8 * c.args.place + c.args.word + s.mask + 1) f c.read_table.ensures.did.1 k;
+    }

@@ -1,0 +1,26 @@
+use Rattle.std.proofs.Common.{refl, sym, ◌∙◌}
+use Rattle.ft_bank.specs.Passes.{shape_of, view}
+use Rattle.ft_bank.specs.Tables.{name_of}
+use Rattle.ft_trace.specs.Holds.{held}
+use Rattle.ft_search.proofs.Places.{slot_in}
+use Rattle.ft_search.proofs.Knowing.{after_header, loaded_leaves}
+use Rattle.ft_search.proofs.words.TableWordsWords.index.Goals as goal
+
+pub read_table-requires-clause-word : goal.read_table-requires-clause-word
+read_table-requires-clause-word c =
+    let s = c.args.self.now in
+    slot_in (shape_of s.bank.now) s.table s.mask c.args.slot c.requires.can.table c.requires.can.mask c.requires.slot
+
+pub returns-clause-gave : goal.returns-clause-gave
+returns-clause-gave c =
+    let s = c.args.self.now in
+    record {
+      same = record { bank = refl; pass = refl; o = refl; table = refl; mask = refl };
+      did = c.read_table.ensures.did;
+      tells = λ k.
+          c.read_table.ensures.held s.o c.requires.can.container k.0 k.1
+          ∙ sym (after_header (held s.o (view s.pass.now)).table c.args.slot);
+      left = λ k.
+          loaded_leaves (view s.pass.now) (view c.read_table.new.pass) s.o (name_of s.table) c.args.slot c.read_table.result
+          c.read_table.ensures.did.1 k;
+    }

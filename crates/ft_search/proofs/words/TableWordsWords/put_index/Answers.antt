@@ -1,0 +1,30 @@
+use Rattle.std.proofs.Common.{refl}
+use Rattle.std.specs.Prelude.{slice_set}
+use Rattle.ft_bank.specs.Passes.{shape_of, view}
+use Rattle.ft_bank.specs.Tables.{name_of}
+use Rattle.ft_trace.specs.Holds.{held}
+use Rattle.ft_layout.specs.Tables.{index_at}
+use Rattle.ft_search.specs.Words.{known_words}
+use Rattle.ft_search.proofs.Places.{slot_in}
+use Rattle.ft_search.proofs.Knowing.{put_after_header, put_leaves}
+use Rattle.ft_search.proofs.words.TableWordsWords.put_index.Goals as goal
+
+pub put_table-requires-clause-word : goal.put_table-requires-clause-word
+put_table-requires-clause-word c =
+    let s = c.args.self.now in
+    let can = c.requires.can.0 in
+    slot_in (shape_of s.bank.now) s.table s.mask c.args.slot can.table can.mask c.requires.slot
+
+pub returns-clause-gave : goal.returns-clause-gave
+returns-clause-gave c =
+    let s = c.args.self.now in
+    let t = name_of s.table in
+    record {
+      same = record { bank = refl; pass = refl; o = refl; table = refl; mask = refl };
+      did = c.put_table.ensures.did;
+      tells = λ k. tt;
+      left = λ k.
+          put_leaves (view s.pass.now) (view c.put_table.new.pass) s.o t c.args.slot c.args.value
+          (slice_set (known_words s) (index_at c.args.slot) c.args.value) c.put_table.ensures.did.1
+          c.put_table.ensures.held (put_after_header (held s.o (view s.pass.now)).table c.args.slot c.args.value) k;
+    }

@@ -1,0 +1,74 @@
+-- What a look-up of one key without the lock loads, and what its log then shows. (profile)
+use Rattle.std.specs.Prelude.{◌≡◌, ◌≢◌, ◌⊎◌, ℕ, suc, ◌+◌, ◌%◌, ◌<◌, List, [], ◌∷◌, ◌++◌}
+use Rattle.ft_model.specs.declared.data.Key.{Key}
+use Rattle.ft_layout.specs.Words.{key_kind, gone_kind, key_payload}
+use Rattle.ft_trace.specs.declared.Act.{Act}
+use Rattle.ft_trace.specs.declared.Act.TheVariants.{ReadRoot, ReadTable, ReadCounter, Version}
+use Rattle.ft_trace.specs.declared.Shape.{Shape}
+use Rattle.ft_trace.specs.Addresses.{class_of, slots}
+use Rattle.ft_trace.specs.Words.{entry_at, walk_of}
+use Rattle.ft_trace.specs.Kinds.{rows}
+use Rattle.ft_trace.specs.Worlds.{kind_in}
+use Rattle.ft_trace.specs.Reading.{Among}
+use Rattle.ft_trace.specs.Finding.{Hit, Miss, Full, Bare}
+use Rattle.ft_search.specs.declared.looks.Looked.{Looked}
+use Rattle.ft_search.specs.declared.looks.Looked.TheVariants.{Here, Absent, Contended}
+
+-- only loads of versions, roots, words of tables and the counter
+abbrev pub AreLooks : List Act → Type 0
+AreLooks [] = Unit {0}
+AreLooks (Version o f ∷ l) = AreLooks l
+AreLooks (ReadRoot o f ∷ l) = AreLooks l
+AreLooks (ReadTable t i f ∷ l) = AreLooks l
+AreLooks (ReadCounter f ∷ l) = AreLooks l
+AreLooks (act ∷ l) = ⊥
+
+-- The log shows that the key was there when the counter was n: the search met its entry, and between two loads of the
+-- entry's version that found the same even number these words of the value were read.
+pub record ShowsHere (k : Shape) (o : ℕ) (key : Key) (value_kind value n : ℕ) (log : List Act) : Type 0 where
+  pub t : ℕ
+  pub place : ℕ
+  pub low : place < rows (kind_in k.kinds o) (class_of t)
+  pub hit : Hit log o t place key n
+  pub kind_read : Among (ReadTable t (entry_at (slots (class_of t)) place 4) value_kind) hit.mid
+  pub value_read : Among (ReadTable t (entry_at (slots (class_of t)) place 5) value) hit.mid
+
+-- The log shows that the key was not there when the counter was n: in the table that the root named each slot of the
+-- key's probe was passed by right, up to one never used or all of them; or the root named no table.
+abbrev pub ShowsAbsent : Shape → ℕ → Key → ℕ → List Act → Type 0
+ShowsAbsent k o key n log =
+    ((t : ℕ)
+    × (Miss log o t (rows (kind_in k.kinds o) (class_of t)) (walk_of (kind_in k.kinds o) k.texts (class_of t) key) key n
+    ⊎ Full log o t (rows (kind_in k.kinds o) (class_of t)) (walk_of (kind_in k.kinds o) k.texts (class_of t) key) key n))
+    ⊎ Bare log o n
+
+-- Two loads of the version of one entry gave a and then b, and a is odd or they differ. Before that the entry was read
+-- to be the key's, or to be a deleted one of it.
+pub record StopsAtEntry (t : ℕ) (key : Key) (a b : ℕ) (part : List Act) : Type 0 where
+  pub place : ℕ
+  pub newer : List Act
+  pub mid : List Act
+  pub rest : List Act
+  pub is : part ≡ newer ++ ReadTable t (entry_at (slots (class_of t)) place 0) b ∷ (mid
+      ++ ReadTable t (entry_at (slots (class_of t)) place 0) a ∷ rest)
+  pub moved : (a % 2 ≢ 0) ⊎ (b ≢ a)
+  pub payload_read : Among (ReadTable t (entry_at (slots (class_of t)) place 3) (key_payload key)) rest
+  pub kind_read : Among (ReadTable t (entry_at (slots (class_of t)) place 2) (key_kind key)) rest
+      ⊎ Among (ReadTable t (entry_at (slots (class_of t)) place 2) (gone_kind key)) rest
+
+-- Two loads of the version of the container gave a and then b, and a is odd or they differ. Between them its root was
+-- read 0.
+pub record StopsAtContainer (o a b : ℕ) (part : List Act) : Type 0 where
+  pub newer : List Act
+  pub mid : List Act
+  pub rest : List Act
+  pub is : part ≡ newer ++ Version o b ∷ (mid ++ Version o a ∷ rest)
+  pub moved : (a % 2 ≢ 0) ⊎ (b ≢ a)
+  pub bare : Among (ReadRoot o 0) mid
+
+-- a look-up came to this, by its own loads (`part`) and those before (`log` has both)
+abbrev pub ShowsLooked : Shape → ℕ → Key → List Act → List Act → Looked → Type 0
+ShowsLooked k o key part log (Here value_kind value n) = ShowsHere k o key value_kind value n log × Among (ReadCounter n) part
+ShowsLooked k o key part log (Absent n) = ShowsAbsent k o key n log × Among (ReadCounter n) part
+ShowsLooked k o key part log (Contended a b) =
+    ((t : ℕ) × Among (ReadRoot o (suc t)) part × StopsAtEntry t key a b part) ⊎ StopsAtContainer o a b part

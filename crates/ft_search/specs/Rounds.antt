@@ -1,0 +1,92 @@
+-- What one round of a look-up comes to: a search of the table that a root named, or a look where it named none.
+use Rattle.std.specs.Prelude.{◌≡◌, ◌≢◌, ◌⊎◌, ℕ, zero, suc, ◌+◌, ◌*◌, ◌%◌, ◌<◌, ◌≤◌, true, false, List, [], ◌∷◌, ◌++◌, All, length, map, Option, Some, None}
+use Rattle.ft_model.specs.declared.data.Key.{Key}
+use Rattle.ft_layout.specs.Words.{key_payload}
+use Rattle.ft_model.specs.declared.script.Kind.{Kind}
+use Rattle.ft_model.specs.declared.script.Kind.TheVariants as kind
+use Rattle.ft_keys.specs.declared.walk.Way.{Way}
+use Rattle.ft_keys.specs.declared.walk.Way.TheVariants as way
+use Rattle.ft_trace.specs.declared.Act.{Act}
+use Rattle.ft_trace.specs.declared.Act.TheVariants.{ReadRoot, ReadTable, ReadCounter, Version}
+use Rattle.ft_trace.specs.declared.Shape.{Shape}
+use Rattle.ft_trace.specs.Acts.{reads}
+use Rattle.ft_trace.specs.Addresses.{class_of, slots, IsTable}
+use Rattle.ft_trace.specs.Words.{entry_at, walk_of}
+use Rattle.ft_trace.specs.Kinds.{rows}
+use Rattle.ft_trace.specs.Worlds.{kind_in}
+use Rattle.ft_trace.specs.Reading.{Among}
+use Rattle.ft_trace.specs.Finding.{Inner, Passed, Window}
+use Rattle.ft_bank.specs.declared.pass.Pass.{Pass}
+use Rattle.ft_bank.specs.Passes.{view}
+use Rattle.ft_bank.specs.Series.{DidAll}
+use Rattle.ft_search.specs.declared.looks.Looked.{Looked}
+use Rattle.ft_search.specs.declared.looks.Looked.TheVariants.{Here, Absent, Contended}
+use Rattle.ft_search.specs.declared.rounds.Round.{Round}
+use Rattle.ft_search.specs.declared.rounds.Round.TheVariants.{Ended, Moved}
+use Rattle.ft_search.specs.declared.reading.Seen.{Seen}
+use Rattle.ft_search.specs.Looks.{AreLooks, ShowsHere, ShowsAbsent, StopsAtEntry, StopsAtContainer, ShowsLooked}
+
+-- the kind of the containers that are searched this way
+abbrev pub kind_by : Way → Kind
+kind_by way.Dict = kind.Dict
+kind_by way.Set = kind.Set
+
+-- the loads of an entry between two loads of its version, newest first
+abbrev pub seen_acts : ℕ → ℕ → Seen → List Act
+seen_acts t place seen =
+    ReadTable t (entry_at (slots (class_of t)) place 0) seen.closed
+    ∷ (ReadCounter seen.number
+    ∷ (ReadTable t (entry_at (slots (class_of t)) place 5) seen.value
+    ∷ (ReadTable t (entry_at (slots (class_of t)) place 4) seen.value_kind
+    ∷ (ReadTable t (entry_at (slots (class_of t)) place 2) seen.key_kind
+    ∷ (ReadTable t (entry_at (slots (class_of t)) place 0) seen.opened ∷ [])))))
+
+-- these slots of the key's probe are left, and the others were passed by right
+pub record Walked (k : Shape) (o t : ℕ) (key : Key) (part : List Act) (left : List ℕ) : Type 0 where
+  pub passed : List ℕ
+  pub split : walk_of (kind_in k.kinds o) k.texts (class_of t) key ≡ passed ++ left
+  pub behind : All (λ slot. Passed part t (rows (kind_in k.kinds o) (class_of t)) slot key) passed
+
+-- what these loads of the table t show of the key, once the root is read again and still names the table
+abbrev pub ClosesAt : Shape → ℕ → ℕ → Key → List Act → Looked → Type 0
+ClosesAt k o t key part (Here value_kind value n) =
+    ((log : List Act) → Window log o t part → ShowsHere k o key value_kind value n log) × Among (ReadCounter n) part
+ClosesAt k o t key part (Absent n) =
+    ((log : List Act) → Window log o t part → ShowsAbsent k o key n log) × Among (ReadCounter n) part
+ClosesAt k o t key part (Contended a b) = StopsAtEntry t key a b part
+
+-- the loads by which a search met an entry of the key, of this kind, newest first, after earlier loads
+abbrev pub met_acts : ℕ → ℕ → ℕ → Key → ℕ → List Act → List Act
+met_acts t slot place key found earlier =
+    ReadTable t (entry_at (slots (class_of t)) place 3) (key_payload key)
+    ∷ (ReadTable t (entry_at (slots (class_of t)) place 2) found ∷ (ReadTable t slot (suc place) ∷ earlier))
+
+-- after these loads of the table t the walk goes on, with these slots left, or the look-up ends so
+abbrev pub Turns : Shape → ℕ → ℕ → Key → List Act → List ℕ → Option Looked → Type 0
+Turns k o t key part left None = Walked k o t key part left
+Turns k o t key part left (Some looked) = ClosesAt k o t key part looked
+
+-- the pass loaded more of the table, after which the walk goes on or the look-up ends so
+abbrev pub TurnsAfter : Shape → ℕ → ℕ → Key → List Act → List ℕ → Option Looked → Pass → Pass → Type 0
+TurnsAfter k o t key earlier left result p q =
+    (part : List Act) × Inner part × DidAll part p q × Turns k o t key (part ++ earlier) left result
+
+-- after these loads the root was read again: it names the table as before, or it has changed to r, which names none or a
+-- table that the pass had not found since it last announced
+abbrev pub IsFresh : Shape → ℕ → List Act → Type 0
+IsFresh k r log = (u : ℕ) → r ≡ suc u → IsTable k u × (reads u log ≡ false)
+
+-- a round over the table t, which the last read of the root named
+abbrev pub EndsTable : Shape → ℕ → Key → ℕ → Pass → Pass → Round → Type 0
+EndsTable k o key t p q (Ended looked) =
+    (part : List Act) × Inner part × DidAll (ReadRoot o (suc t) ∷ part) p q × ClosesAt k o t key part looked
+EndsTable k o key t p q (Moved r) =
+    (part : List Act) × Inner part × DidAll (ReadRoot o r ∷ part) p q × (r ≢ suc t) × IsFresh k r (part ++ (view p).log)
+
+-- a round at this root, which was read last
+abbrev pub EndsRound : Shape → ℕ → Key → ℕ → Pass → Pass → Round → Type 0
+EndsRound k o key root p q (Ended looked) =
+    (part : List Act) × AreLooks part × DidAll part p q
+    × ShowsLooked k o key (part ++ ReadRoot o root ∷ []) (view q).log looked
+EndsRound k o key root p q (Moved r) =
+    (part : List Act) × Inner part × DidAll (ReadRoot o r ∷ part) p q × (r ≢ root) × IsFresh k r (part ++ (view p).log)

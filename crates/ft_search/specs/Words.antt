@@ -1,0 +1,68 @@
+-- The words of a container's table in the bank, and what calls on them did. (profile)
+use Rattle.std.specs.Prelude.{◌≡◌, ℕ, suc, ◌+◌, ◌*◌, ◌<◌, ◌≤◌, true, List, [], ◌∷◌}
+use Rattle.ft_layout.specs.Containers.{class_mask}
+use Rattle.ft_trace.specs.declared.Act.{Act}
+use Rattle.ft_trace.specs.declared.Act.TheVariants.{ReadTable, PutTable}
+use Rattle.ft_trace.specs.Addresses.{containers_in, class_of, slots}
+use Rattle.ft_trace.specs.Acts.{has_lock, is_writing}
+use Rattle.ft_trace.specs.Words.{entry_at, root_in}
+use Rattle.ft_trace.specs.Holds.{held, known}
+use Rattle.ft_keys.specs.declared.words.Access.{Access}
+use Rattle.ft_keys.specs.declared.words.Access.TheVariants.{Index, Entry, PutIndex, PutEntry, OldEntry}
+use Rattle.ft_keys.specs.Accesses.{Tells, put_by}
+use Rattle.ft_bank.specs.Passes.{shape_of, view, IsPassOf, Did}
+use Rattle.ft_bank.specs.Tables.{name_of, IsTableIn}
+use Rattle.ft_bank.specs.Writes.{IsCareful}
+use Rattle.ft_search.specs.declared.words.TableWords.{TableWords}
+
+-- the action of a call on the words of table t, which is that of the container o where a word is put
+abbrev pub act_of : ℕ → ℕ → Access → Act
+act_of o t (Index slot value) = ReadTable t slot value
+act_of o t (Entry place word value) = ReadTable t (entry_at (slots (class_of t)) place word) value
+act_of o t (PutIndex slot value) = PutTable o t slot value
+act_of o t (PutEntry place word value) = PutTable o t (entry_at (slots (class_of t)) place word) value
+act_of o t (OldEntry place word value) = ReadTable t (entry_at (slots (class_of t)) place word) value
+
+-- a table of the bank, its last slot, a container and a pass of the bank
+pub record CanLoad (s : TableWords) : Type 0 where
+  pub pass : IsPassOf s.bank.now s.pass.now
+  pub container : s.o < containers_in (shape_of s.bank.now)
+  pub table : IsTableIn (shape_of s.bank.now) s.table
+  pub mask : s.mask ≡ class_mask s.table.class
+
+-- the same bank, pass, container and table
+pub record SamePlace (s t : TableWords) : Type 0 where
+  pub bank : t.bank ≡ s.bank
+  pub pass : t.pass.ghost_name ≡ s.pass.ghost_name
+  pub o : t.o ≡ s.o
+  pub table : t.table ≡ s.table
+  pub mask : t.mask ≡ s.mask
+
+-- the pass has the lock of the container, whose root names the table
+abbrev pub KnowsWords : TableWords → Type 0
+KnowsWords s =
+    (has_lock s.o (view s.pass.now).log ≡ true) × (root_in (held s.o (view s.pass.now)) ≡ suc (name_of s.table))
+
+-- the words of the table that the pass then knows, after a header that says nothing
+abbrev pub known_words : TableWords → List ℕ
+known_words s = 0 ∷ 0 ∷ (held s.o (view s.pass.now)).table
+
+-- words may be put while the pass writes the container
+abbrev pub MayPutAny : TableWords → Type 0
+MayPutAny s = KnowsWords s × (is_writing s.o (view s.pass.now).log ≡ true)
+
+-- a word may be put that is careful for readers without the lock
+abbrev pub MayMake : TableWords → Access → Type 0
+MayMake s (PutIndex slot value) = IsCareful (view s.pass.now) s.o (name_of s.table) slot value
+MayMake s (PutEntry place word value) =
+    IsCareful (view s.pass.now) s.o (name_of s.table) (entry_at (slots (class_of (name_of s.table))) place word) value
+MayMake s access = Unit {0}
+
+-- The call was one step of the bank. Where the pass knows the words, they answered it, and have what it put.
+pub record Made (s : TableWords) (access : Access) (t : TableWords) : Type 0 where
+  pub same : SamePlace s t
+  pub did : Did (act_of s.o (name_of s.table) access) s.pass.now t.pass.now
+  pub tells : KnowsWords s → Tells s.mask access (known_words s)
+  pub left : KnowsWords s → KnowsWords t × (known_words t ≡ put_by s.mask access (known_words s))
+      × ((held s.o (view t.pass.now)).block ≡ (held s.o (view s.pass.now)).block)
+      × (known s.o (view t.pass.now) ≡ known s.o (view s.pass.now))

@@ -1,0 +1,133 @@
+//! Loads of a table's words by a reader without the lock: a search on a walk, the words of an entry
+//! between two loads of its version, and the root again. Each says what the pass has loaded.
+ghost use Rattle.std.specs.Prelude.{◌≡◌, ◌≢◌, ◌⊎◌, ℕ, suc, ◌+◌, ◌%◌, ◌<◌, List, [], ◌∷◌, map, length, IsTrue, IsFalse};
+ghost use Rattle.ft_layout.specs.Tables.{dict_room};
+ghost use Rattle.ft_keys.specs.declared.words.Access.{Access};
+ghost use Rattle.ft_keys.specs.Searches.{IsWithin};
+ghost use Rattle.ft_keys.specs.Loads.{Loads};
+ghost use Rattle.ft_trace.specs.declared.Act.TheVariants.{ReadRoot, ReadTable, ReadCounter};
+ghost use Rattle.ft_trace.specs.Acts.{announces};
+ghost use Rattle.ft_trace.specs.Addresses.{class_of, slots, IsTable};
+ghost use Rattle.ft_trace.specs.Words.{entry_at};
+ghost use Rattle.ft_trace.specs.Finding.{IsNew};
+ghost use Rattle.ft_bank.specs.Passes.{shape_of, view};
+ghost use Rattle.ft_bank.specs.Series.{DidAll};
+ghost use Rattle.ft_bank.specs.Tables.{name_of};
+ghost use Rattle.ft_search.specs.Words.{CanLoad, SamePlace, act_of};
+ghost use Rattle.ft_search.specs.Rounds.{seen_acts};
+
+use crate::words::TableWords;
+use ft_keys::{Found, Steps, Walk, Words, find};
+use ft_layout::entry_word::{KEY_KIND, VALUE, VALUE_KIND, VERSION};
+use ft_model::Key;
+use std::sync::ledger::{Blank, Ledger};
+
+/// What was loaded of an entry, in the order of the loads: its version, words, the counter, its version.
+#[derive(Clone, Copy)]
+pub(crate) struct Seen {
+    /// The version at first.
+    pub(crate) opened: u64,
+    /// The kind of the key.
+    pub(crate) key_kind: u64,
+    /// The kind of the value.
+    pub(crate) value_kind: u64,
+    /// The payload of the value.
+    pub(crate) value: u64,
+    /// The counter.
+    pub(crate) number: u64,
+    /// The version at last.
+    pub(crate) closed: u64,
+}
+
+impl Seen {
+    /// Whether the version was even, and the same both times: nobody wrote the entry meanwhile.
+    pub(crate) fn stood(&self) -> bool
+        ensures yes { IsTrue result → (self.now.closed ≡ self.now.opened) × (self.now.opened % 2 ≡ 0) }
+        ensures no { IsFalse result → (self.now.opened % 2 ≢ 0) ⊎ (self.now.closed ≢ self.now.opened) }
+    {
+        if self.closed != self.opened {
+            return false;
+        }
+        self.opened % 2 == 0
+    }
+}
+
+impl<'a> TableWords<'a> {
+    /// Searches on for a key, from where the walk has come.
+    pub(crate) fn seek<L: Ledger>(&mut self, walk: &mut Walk, key: Key, blank: Blank) -> Found
+        requires can { CanLoad self.old }
+        requires mask { self.old.mask ≡ walk.old.mask }
+        requires name { blank.name ≡ L.name }
+        requires parts { (blank.parts ≡ L.parts) × (L.parts ≡ 1) }
+        ensures can { CanLoad self.new }
+        ensures same { SamePlace self.old self.new }
+        ensures walk { walk.new.mask ≡ walk.old.mask }
+        ensures count { walk.new.passed + length walk.new.left ≡ walk.old.passed + length walk.old.left }
+        ensures within { IsWithin self.old.mask result }
+        ensures loads { (calls : List Access)
+            × DidAll (map (act_of self.old.o (name_of self.old.table)) calls) self.old.pass.now self.new.pass.now
+            × Loads self.old.mask key walk.old.left walk.new.left result calls }
+    {
+        let mut steps: Steps<L> = Steps::new(blank);
+        find(self, walk, key, &mut steps)
+    }
+
+    /// Loads the counter.
+    pub(crate) fn stamp(&mut self) -> u64
+        requires can { CanLoad self.old }
+        ensures can { CanLoad self.new }
+        ensures same { SamePlace self.old self.new }
+        ensures did { DidAll (ReadCounter result ∷ []) self.old.pass.now self.new.pass.now }
+    {
+        self.bank.stamp(self.pass)
+    }
+
+    /// Loads a word of an entry.
+    pub(crate) fn word(&mut self, place: u64, word: u64) -> u64
+        requires can { CanLoad self.old }
+        requires place { (place < dict_room self.old.mask) × (word < 8) }
+        ensures can { CanLoad self.new }
+        ensures same { SamePlace self.old self.new }
+        ensures did { DidAll (ReadTable (name_of self.old.table)
+            (entry_at (slots (class_of (name_of self.old.table))) place word) result ∷ []) self.old.pass.now self.new.pass.now }
+    {
+        self.entry(place, word)
+    }
+
+    /// Loads an entry's words between two loads of its version.
+    pub(crate) fn read_between(&mut self, place: u64) -> Seen
+        requires can { CanLoad self.old }
+        requires place { place < dict_room self.old.mask }
+        ensures can { CanLoad self.new }
+        ensures same { SamePlace self.old self.new }
+        ensures did { DidAll (seen_acts (name_of self.old.table) place result) self.old.pass.now self.new.pass.now }
+    {
+        let opened = self.word(place, VERSION);
+        let key_kind = self.word(place, KEY_KIND);
+        let value_kind = self.word(place, VALUE_KIND);
+        let value = self.word(place, VALUE);
+        let number = self.stamp();
+        let closed = self.word(place, VERSION);
+        Seen {
+            opened,
+            key_kind,
+            value_kind,
+            value,
+            number,
+            closed,
+        }
+    }
+
+    /// Reads the root of the container.
+    pub(crate) fn root(&mut self) -> u64
+        requires can { CanLoad self.old }
+        requires online { 0 < announces (view self.old.pass.now).log }
+        ensures can { CanLoad self.new }
+        ensures same { SamePlace self.old self.new }
+        ensures did { DidAll (ReadRoot self.old.o result ∷ []) self.old.pass.now self.new.pass.now }
+        ensures table { (t : ℕ) → result ≡ suc t → IsTable (shape_of self.old.bank.now) t }
+        ensures changed { IsNew self.old.o result (view self.old.pass.now).log }
+    {
+        self.bank.read_root(self.pass, self.o)
+    }
+}

@@ -3,6 +3,7 @@ pub mod Rules
 pub mod Sections
 pub mod Passes
 pub mod Series
+pub mod Keys
 pub mod Locks
 pub mod Writes
 pub mod Reads

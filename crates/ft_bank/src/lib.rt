@@ -9,6 +9,7 @@
 
 mod bank;
 mod closed;
+mod keys;
 mod locks;
 mod opening;
 mod pass;

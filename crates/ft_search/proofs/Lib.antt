@@ -4,3 +4,4 @@ mod Running
 mod Walking
 mod Closing
 mod Seeking
+mod Rounding

@@ -2,10 +2,15 @@
 //! without the lock or with it, and the rounds of a look-up without the lock.
 #![tactic(auto)]
 
+mod bare;
+mod look;
 mod looks;
 mod reading;
 mod rounds;
+mod tables;
 mod words;
 
+pub use crate::look::look_up;
 pub use crate::looks::Looked;
+pub use crate::tables::{mask_of, table_named};
 pub use crate::words::TableWords;

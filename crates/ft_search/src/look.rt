@@ -1,0 +1,110 @@
+//! The look-up of one key without the lock, for `get` and its kin on dicts and sets: rounds, until one ends
+//! in the table that the root named all the while. A root changes at most twice for each table, since none
+//! comes back that the pass has found since it last announced.
+ghost use Rattle.std.specs.Prelude.{◌≡◌, ℕ, suc, ◌<◌, List, ◌∷◌};
+ghost use Rattle.ft_layout.specs.Tables.{hash_of};
+ghost use Rattle.ft_trace.specs.declared.Act.{Act};
+ghost use Rattle.ft_trace.specs.declared.Act.TheVariants.{ReadRoot};
+ghost use Rattle.ft_trace.specs.Acts.{announces};
+ghost use Rattle.ft_trace.specs.Addresses.{containers_in, IsTable};
+ghost use Rattle.ft_trace.specs.Worlds.{kind_in};
+ghost use Rattle.ft_bank.specs.Passes.{shape_of, view, IsPassOf};
+ghost use Rattle.ft_bank.specs.Series.{DidAll};
+ghost use Rattle.ft_bank.specs.Keys.{IsKeyIn};
+ghost use Rattle.ft_bank.specs.Tables.{name_of, IsTableIn};
+ghost use Rattle.ft_bank.specs.Whole.{OnlyLoaded};
+ghost use Rattle.ft_search.specs.Looks.{AreLooks, ShowsLooked};
+ghost use Rattle.ft_search.specs.Rounds.{kind_by, EndsTable, EndsRound};
+
+use crate::bare::look_bare;
+use crate::looks::Looked;
+use crate::rounds::{Round, search_table};
+use crate::tables::{mask_of, table_named};
+use crate::words::TableWords;
+use ft_bank::{Bank, Pass, Table};
+use ft_keys::Way;
+use ft_model::Key;
+
+/// A round over the table that the root named.
+fn look_in(
+    bank: &Bank,
+    pass: &mut Pass,
+    o: u32,
+    way: Way,
+    key: Key,
+    hash: u64,
+    root: u64,
+    table: Table,
+) -> Round
+    requires pass { IsPassOf bank.now pass.old }
+    requires container { o < containers_in (shape_of bank.now) }
+    requires way { kind_in (shape_of bank.now).kinds o ≡ kind_by way }
+    requires hash { hash ≡ hash_of (shape_of bank.now).texts key }
+    requires online { 0 < announces (view pass.old).log }
+    requires table { IsTableIn (shape_of bank.now) table }
+    requires root { root ≡ suc (name_of table) }
+    requires last { (rest : List Act) × ((view pass.old).log ≡ ReadRoot o root ∷ rest) }
+    ensures pass { IsPassOf bank.now pass.new }
+    ensures ended { EndsTable (shape_of bank.now) o key (name_of table) pass.old pass.new result }
+{
+    let mask = mask_of(table.class);
+    let mut words = TableWords {
+        bank,
+        pass,
+        o,
+        table,
+        mask,
+    };
+    search_table(&mut words, way, key, hash, root)
+}
+
+/// A round at whatever the root was.
+fn look_round(
+    bank: &Bank,
+    pass: &mut Pass,
+    o: u32,
+    way: Way,
+    key: Key,
+    hash: u64,
+    root: u64,
+) -> Round
+    requires pass { IsPassOf bank.now pass.old }
+    requires container { o < containers_in (shape_of bank.now) }
+    requires way { kind_in (shape_of bank.now).kinds o ≡ kind_by way }
+    requires hash { hash ≡ hash_of (shape_of bank.now).texts key }
+    requires online { 0 < announces (view pass.old).log }
+    requires table { (t : ℕ) → root ≡ suc t → IsTable (shape_of bank.now) t }
+    requires last { (rest : List Act) × ((view pass.old).log ≡ ReadRoot o root ∷ rest) }
+    ensures pass { IsPassOf bank.now pass.new }
+    ensures ended { EndsRound (shape_of bank.now) o key root pass.old pass.new result }
+{
+    match table_named(root) {
+        Some(table) => look_in(bank, pass, o, way, key, hash, root, table),
+        None => look_bare(bank, pass, o),
+    }
+}
+
+/// Looks for a key in a dict or a set without the lock; the pass is online.
+///
+/// Writes under other keys and growths never make it contended, unless the root was read 0: then the
+/// version of the container decides, else that of the key's own entry.
+pub fn look_up(bank: &Bank, pass: &mut Pass, o: u32, way: Way, key: Key) -> Looked
+    requires pass { IsPassOf bank.now pass.old }
+    requires container { o < containers_in (shape_of bank.now) }
+    requires way { kind_in (shape_of bank.now).kinds o ≡ kind_by way }
+    requires key { IsKeyIn (shape_of bank.now) key }
+    requires online { 0 < announces (view pass.old).log }
+    ensures pass { IsPassOf bank.now pass.new }
+    ensures keeps { OnlyLoaded (view pass.old) (view pass.new) }
+    ensures looked { (part : List Act) × AreLooks part × DidAll part pass.old pass.new
+        × ShowsLooked (shape_of bank.now) o key part (view pass.new).log result }
+{
+    let hash = bank.hash_of(key);
+    let mut root = bank.read_root(pass, o);
+    'rounds: loop {
+        match look_round(bank, pass, o, way, key, hash, root) {
+            Round::Ended(looked) => return looked,
+            Round::Moved(next) => root = next,
+        }
+    }
+}

@@ -1,5 +1,5 @@
 -- How a search of a table ends: what its loads show, once the root is read again.
-use Rattle.std.proofs.Common.{◌≡◌, ◌≢◌, ◌⊎◌, ℕ, zero, suc, ◌+◌, ◌*◌, ◌%◌, ◌<◌, ◌≤◌, List, [], ◌∷◌, ◌++◌, map, length, refl, sym, ap, ◌∙◌, subst, inl, inr, ⊎_elim, arith, All, append_assoc, append-nil, length-append}
+use Rattle.std.proofs.Common.{◌≡◌, ◌≢◌, ◌⊎◌, ℕ, suc, ◌%◌, ◌<◌, ◌≤◌, List, [], ◌∷◌, ◌++◌, length, refl, sym, ap, ◌∙◌, subst, inl, inr, arith, append-nil, length-append}
 use Rattle.std.specs.Prelude.{slice_index}
 use mathlib.Core.Logic.{dite}
 use native.Mathlib.Decide.{ℕ_discrete}
@@ -13,10 +13,10 @@ use Rattle.ft_trace.specs.Words.{entry_at, walk_of}
 use Rattle.ft_trace.specs.Kinds.{rows}
 use Rattle.ft_trace.specs.Worlds.{kind_in}
 use Rattle.ft_trace.specs.Reading.{Among}
-use Rattle.ft_trace.specs.Finding.{Passed, Window, Hit, Miss, Full}
+use Rattle.ft_trace.specs.Finding.{Passed, Hit, Miss, Full}
 use Rattle.ft_search.specs.declared.reading.Seen.{Seen}
-use Rattle.ft_search.specs.declared.looks.Looked.TheVariants.{Here, Absent, Contended}
-use Rattle.ft_search.specs.Looks.{ShowsHere, ShowsAbsent, StopsAtEntry}
+use Rattle.ft_search.specs.declared.looks.Looked.TheVariants.{Here, Absent}
+use Rattle.ft_search.specs.Looks.{StopsAtEntry}
 use Rattle.ft_search.specs.Rounds.{seen_acts, met_acts, Walked, ClosesAt}
 use Rattle.ft_search.proofs.Walking.{visit_or_beyond, slot_at, each_slot}
 
@@ -149,8 +149,7 @@ module _ (k : Shape) (o t : ℕ) (key : Key) (slot place : ℕ) (earlier : List 
               place = place;
               low = low;
               hit = hit;
-              kind_read = record { newer = stamped ∷ (value_load ∷ []); rest = live_load ∷ []; is = refl };
-              value_read = record { newer = stamped ∷ []; rest = kind_load ∷ (live_load ∷ []); is = refl };
+              read = (record { newer = stamped ∷ (value_load ∷ []); rest = live_load ∷ []; is = refl }, record { newer = stamped ∷ []; rest = kind_load ∷ (live_load ∷ []); is = refl });
             }),
         record { newer = entry 0 seen.closed ∷ []; rest = value_load ∷ (kind_load ∷ (entry 2 seen.key_kind ∷ (entry 0 seen.opened ∷ under))); is = refl },
       )

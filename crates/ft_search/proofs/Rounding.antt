@@ -1,5 +1,5 @@
 -- Rounds of a look-up, one after the other.
-use Rattle.std.proofs.Common.{◌≡◌, ◌≢◌, ◌⊎◌, ℕ, zero, suc, ◌+◌, ◌*◌, ◌/◌, ◌%◌, ◌^◌, ◌<◌, ◌≤◌, false, List, [], ◌∷◌, ◌++◌, refl, sym, ap, ◌∙◌, subst, inl, inr, ⊎_elim, arith, append_assoc}
+use Rattle.std.proofs.Common.{◌≡◌, ◌≢◌, ◌⊎◌, ℕ, zero, suc, ◌+◌, ◌*◌, ◌%◌, ◌<◌, ◌≤◌, false, List, [], ◌∷◌, ◌++◌, refl, sym, ap, ◌∙◌, subst, inl, inr, ⊎_elim, arith, append_assoc}
 use Rattle.ft_model.specs.declared.data.Key.{Key}
 use Rattle.ft_layout.specs.Words.{key_kind, gone_kind, key_payload}
 use Rattle.ft_trace.specs.declared.Act.{Act}
@@ -13,7 +13,7 @@ use Rattle.ft_trace.specs.Reading.{Among, Between}
 use Rattle.ft_trace.specs.Finding.{Inner, IsNew, Bare, unread}
 use Rattle.ft_trace.proofs.Anew.{unread_inner, unread_find, unread_less}
 use Rattle.ft_bank.specs.declared.pass.Pass.{Pass}
-use Rattle.ft_bank.specs.Passes.{view, Did}
+use Rattle.ft_bank.specs.Passes.{view}
 use Rattle.ft_bank.specs.Series.{noted_all, DidAll}
 use Rattle.ft_bank.specs.Whole.{OnlyLoaded}
 use Rattle.ft_bank.proofs.Whole.{loaded_by, loaded_then, same_work}
@@ -21,8 +21,8 @@ use Rattle.ft_search.specs.declared.looks.Looked.{Looked}
 use Rattle.ft_search.specs.declared.looks.Looked.TheVariants.{Here, Absent, Contended}
 use Rattle.ft_search.specs.declared.rounds.Round.{Round}
 use Rattle.ft_search.specs.declared.rounds.Round.TheVariants.{Ended, Moved}
-use Rattle.ft_search.specs.Looks.{AreLooks, ShowsHere, ShowsAbsent, StopsAtEntry, StopsAtContainer, ShowsLooked}
-use Rattle.ft_search.specs.Rounds.{ClosesAt, IsFresh, EndsTable, EndsRound}
+use Rattle.ft_search.specs.Looks.{AreLooks, StopsAtEntry, StopsAtContainer, ShowsLooked}
+use Rattle.ft_search.specs.Rounds.{EndsTable, EndsRound}
 use Rattle.ft_search.proofs.Running.{did_trans, did_log, window_of}
 
 pub looks_inner : (l : List Act) → Inner l → AreLooks l

@@ -9,7 +9,7 @@ use Rattle.ft_trace.specs.Finding.{Online, Inner, Window}
 use Rattle.ft_trace.proofs.Cases.{hit}
 use Rattle.ft_keys.specs.declared.words.Access.{Access}
 use Rattle.ft_keys.specs.declared.words.Access.TheVariants.{Index, Entry, PutIndex, PutEntry, OldEntry}
-use Rattle.ft_keys.specs.Accesses.{Runs, IsLoad, AreLoads}
+use Rattle.ft_keys.specs.Accesses.{Runs, AreLoads}
 use Rattle.ft_bank.specs.declared.pass.Pass.{Pass}
 use Rattle.ft_bank.specs.Passes.{shape_of, view}
 use Rattle.ft_bank.specs.Series.{noted_all, DidAll}
@@ -28,10 +28,10 @@ noted_log [] v = refl
 noted_log (a ∷ l) v = ap (λ (z : List Act). a ∷ z) (noted_log l v)
 
 pub did_none : (p : Pass) → DidAll [] p p
-did_none p = (refl, refl)
+did_none p = (refl, refl, refl)
 
 pub did_trans : (b a : List Act) (p q r : Pass) → DidAll a p q → DidAll b q r → DidAll (b ++ a) p r
-did_trans b a p q r x y = (y.0 ∙ x.0, y.1 ∙ (ap (noted_all b) x.1 ∙ sym (noted_append b a p.seat.me.0)))
+did_trans b a p q r x y = (y.0 ∙ x.0, y.1 ∙ (ap (noted_all b) x.1 ∙ sym (noted_append b a p.seat.me.0)), y.2 ∙ x.2)
 
 pub did_log : (l : List Act) (p q : Pass) → DidAll l p q → (view q).log ≡ l ++ (view p).log
 did_log l p q m = ap (λ z. z.log) m.1 ∙ noted_log l (view p)

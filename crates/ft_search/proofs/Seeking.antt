@@ -1,7 +1,6 @@
 -- A search on a walk, after a load of the counter.
-use Rattle.std.proofs.Common.{◌≡◌, ◌≢◌, ◌⊎◌, ℕ, zero, suc, ◌+◌, ◌*◌, ◌%◌, ◌<◌, ◌≤◌, List, [], ◌∷◌, ◌++◌, map, length, Option, Some, refl, sym, ap, ◌∙◌, subst, arith, append_assoc}
+use Rattle.std.proofs.Common.{◌≡◌, ℕ, ◌≤◌, List, [], ◌∷◌, ◌++◌, map, length, Option, Some, sym, ap, ◌∙◌, subst, append_assoc}
 use Rattle.ft_model.specs.declared.data.Key.{Key}
-use Rattle.ft_layout.specs.Words.{key_kind, gone_kind, key_payload}
 use Rattle.ft_layout.specs.Tables.{dict_room}
 use Rattle.ft_trace.specs.declared.Act.{Act}
 use Rattle.ft_trace.specs.declared.Act.TheVariants.{ReadTable, ReadCounter}
@@ -11,12 +10,11 @@ use Rattle.ft_trace.specs.Kinds.{rows}
 use Rattle.ft_trace.specs.Worlds.{kind_in}
 use Rattle.ft_trace.specs.Finding.{Inner}
 use Rattle.ft_keys.specs.declared.words.Access.{Access}
-use Rattle.ft_keys.specs.declared.words.Access.TheVariants.{Index, Entry}
+use Rattle.ft_keys.specs.declared.words.Access.TheVariants.{Index}
 use Rattle.ft_keys.specs.declared.search.Found.{Found}
-use Rattle.ft_keys.specs.declared.search.Found.TheVariants.{At, Was, Free, Spent}
+use Rattle.ft_keys.specs.declared.search.Found.TheVariants.{Free, Spent}
 use Rattle.ft_keys.specs.Loads.{Loads, TriesSlots, unpassed, NamesEntry}
 use Rattle.ft_keys.proofs.Loading.{loads-are}
-use Rattle.ft_bank.specs.declared.pass.Pass.{Pass}
 use Rattle.ft_bank.specs.Passes.{shape_of}
 use Rattle.ft_bank.specs.Series.{DidAll}
 use Rattle.ft_bank.specs.Tables.{name_of}
@@ -25,7 +23,7 @@ use Rattle.ft_search.specs.declared.looks.Looked.{Looked}
 use Rattle.ft_search.specs.declared.looks.Looked.TheVariants.{Absent}
 use Rattle.ft_search.specs.Words.{act_of, SamePlace}
 use Rattle.ft_search.specs.Rounds.{met_acts, Walked, Turns, TurnsAfter, ClosesAt}
-use Rattle.ft_search.proofs.Running.{did_trans, same_trans, at_same, inner_append, inner_calls}
+use Rattle.ft_search.proofs.Running.{did_trans, at_same, inner_append, inner_calls}
 use Rattle.ft_search.proofs.Walking.{walked_more, walked_on, none_passed}
 use Rattle.ft_search.proofs.Closing.{closes_free, closes_full}
 

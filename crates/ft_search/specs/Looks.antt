@@ -1,16 +1,17 @@
 -- What a look-up of one key without the lock loads, and what its log then shows. (profile)
-use Rattle.std.specs.Prelude.{◌≡◌, ◌≢◌, ◌⊎◌, ℕ, suc, ◌+◌, ◌%◌, ◌<◌, List, [], ◌∷◌, ◌++◌}
+use Rattle.std.specs.Prelude.{◌≡◌, ◌≢◌, ◌⊎◌, ℕ, suc, ◌%◌, ◌<◌, List, [], ◌∷◌, ◌++◌}
 use Rattle.ft_model.specs.declared.data.Key.{Key}
 use Rattle.ft_layout.specs.Words.{key_kind, gone_kind, key_payload}
 use Rattle.ft_trace.specs.declared.Act.{Act}
 use Rattle.ft_trace.specs.declared.Act.TheVariants.{ReadRoot, ReadTable, ReadCounter, Version}
 use Rattle.ft_trace.specs.declared.Shape.{Shape}
 use Rattle.ft_trace.specs.Addresses.{class_of, slots}
-use Rattle.ft_trace.specs.Words.{entry_at, walk_of}
+use Rattle.ft_trace.specs.Words.{entry_at}
 use Rattle.ft_trace.specs.Kinds.{rows}
 use Rattle.ft_trace.specs.Worlds.{kind_in}
 use Rattle.ft_trace.specs.Reading.{Among}
-use Rattle.ft_trace.specs.Finding.{Hit, Miss, Full, Bare}
+use Rattle.ft_trace.specs.Finding.{Hit, Bare}
+use Rattle.ft_trace.specs.LookReplies.{IsValueRead, IsAbsent}
 use Rattle.ft_search.specs.declared.looks.Looked.{Looked}
 use Rattle.ft_search.specs.declared.looks.Looked.TheVariants.{Here, Absent, Contended}
 
@@ -30,17 +31,12 @@ pub record ShowsHere (k : Shape) (o : ℕ) (key : Key) (value_kind value n : ℕ
   pub place : ℕ
   pub low : place < rows (kind_in k.kinds o) (class_of t)
   pub hit : Hit log o t place key n
-  pub kind_read : Among (ReadTable t (entry_at (slots (class_of t)) place 4) value_kind) hit.mid
-  pub value_read : Among (ReadTable t (entry_at (slots (class_of t)) place 5) value) hit.mid
+  pub read : IsValueRead t place value_kind value hit.mid
 
 -- The log shows that the key was not there when the counter was n: in the table that the root named each slot of the
 -- key's probe was passed by right, up to one never used or all of them; or the root named no table.
 abbrev pub ShowsAbsent : Shape → ℕ → Key → ℕ → List Act → Type 0
-ShowsAbsent k o key n log =
-    ((t : ℕ)
-    × (Miss log o t (rows (kind_in k.kinds o) (class_of t)) (walk_of (kind_in k.kinds o) k.texts (class_of t) key) key n
-    ⊎ Full log o t (rows (kind_in k.kinds o) (class_of t)) (walk_of (kind_in k.kinds o) k.texts (class_of t) key) key n))
-    ⊎ Bare log o n
+ShowsAbsent k o key n log = ((t : ℕ) × IsAbsent k log o t key n) ⊎ Bare log o n
 
 -- Two loads of the version of one entry gave a and then b, and a is odd or they differ. Before that the entry was read
 -- to be the key's, or to be a deleted one of it.

@@ -1,5 +1,5 @@
 -- What one round of a look-up comes to: a search of the table that a root named, or a look where it named none.
-use Rattle.std.specs.Prelude.{◌≡◌, ◌≢◌, ◌⊎◌, ℕ, zero, suc, ◌+◌, ◌*◌, ◌%◌, ◌<◌, ◌≤◌, true, false, List, [], ◌∷◌, ◌++◌, All, length, map, Option, Some, None}
+use Rattle.std.specs.Prelude.{◌≡◌, ◌≢◌, ℕ, suc, false, List, [], ◌∷◌, ◌++◌, All, Option, Some, None}
 use Rattle.ft_model.specs.declared.data.Key.{Key}
 use Rattle.ft_layout.specs.Words.{key_payload}
 use Rattle.ft_model.specs.declared.script.Kind.{Kind}
@@ -7,7 +7,7 @@ use Rattle.ft_model.specs.declared.script.Kind.TheVariants as kind
 use Rattle.ft_keys.specs.declared.walk.Way.{Way}
 use Rattle.ft_keys.specs.declared.walk.Way.TheVariants as way
 use Rattle.ft_trace.specs.declared.Act.{Act}
-use Rattle.ft_trace.specs.declared.Act.TheVariants.{ReadRoot, ReadTable, ReadCounter, Version}
+use Rattle.ft_trace.specs.declared.Act.TheVariants.{ReadRoot, ReadTable, ReadCounter}
 use Rattle.ft_trace.specs.declared.Shape.{Shape}
 use Rattle.ft_trace.specs.Acts.{reads}
 use Rattle.ft_trace.specs.Addresses.{class_of, slots, IsTable}
@@ -24,7 +24,7 @@ use Rattle.ft_search.specs.declared.looks.Looked.TheVariants.{Here, Absent, Cont
 use Rattle.ft_search.specs.declared.rounds.Round.{Round}
 use Rattle.ft_search.specs.declared.rounds.Round.TheVariants.{Ended, Moved}
 use Rattle.ft_search.specs.declared.reading.Seen.{Seen}
-use Rattle.ft_search.specs.Looks.{AreLooks, ShowsHere, ShowsAbsent, StopsAtEntry, StopsAtContainer, ShowsLooked}
+use Rattle.ft_search.specs.Looks.{AreLooks, ShowsHere, ShowsAbsent, StopsAtEntry, ShowsLooked}
 
 -- the kind of the containers that are searched this way
 abbrev pub kind_by : Way → Kind

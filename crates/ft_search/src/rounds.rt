@@ -157,7 +157,13 @@ fn search_walk(words: &mut TableWords, walk: &mut Walk, key: Key, entries: u64) 
 }
 
 /// Searches the table that the root named when it was read last, and reads the root again.
-pub(crate) fn search_table(words: &mut TableWords, way: Way, key: Key, hash: u64, root: u64) -> Round
+pub(crate) fn search_table(
+    words: &mut TableWords,
+    way: Way,
+    key: Key,
+    hash: u64,
+    root: u64,
+) -> Round
     requires can { CanLoad words.old }
     requires way { kind_in (shape_of words.old.bank.now).kinds words.old.o ≡ kind_by way }
     requires hash { hash ≡ hash_of (shape_of words.old.bank.now).texts key }

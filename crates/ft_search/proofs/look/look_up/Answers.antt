@@ -64,8 +64,8 @@ rounds-preserved c =
       pass = c.look_round.ensures.pass;
       table = λ t is. (e.4 t is).0;
       made = (
-          e.0 ++ old,
-          looks_append e.0 old (looks_inner e.0 e.1) m.1,
-          did_trans (ReadRoot c.args.o c.in-Moved.next ∷ e.0) old c.args.pass.now c.rounds.pass c.look_round.new.pass m.2 e.2,
-        );
+        e.0 ++ old,
+        looks_append e.0 old (looks_inner e.0 e.1) m.1,
+        did_trans (ReadRoot c.args.o c.in-Moved.next ∷ e.0) old c.args.pass.now c.rounds.pass c.look_round.new.pass m.2 e.2,
+      );
     }

@@ -1,4 +1,4 @@
-use Rattle.std.proofs.Common.{ℕ, sym, ap, ◌∙◌}
+use Rattle.std.proofs.Common.{sym, ap, ◌∙◌}
 use Rattle.ft_keys.specs.declared.walk.Way.{Way}
 use Rattle.ft_trace.specs.Addresses.{places}
 use Rattle.ft_trace.specs.Kinds.{rows}

@@ -1,4 +1,4 @@
-use Rattle.std.proofs.Common.{◌≡◌, List, [], ◌∷◌, ◌++◌, refl, sym, ◌∙◌, arith}
+use Rattle.std.proofs.Common.{◌≡◌, [], ◌∷◌, ◌++◌, refl, sym, ◌∙◌, arith}
 use Rattle.ft_layout.specs.Words.{key_kind}
 use Rattle.ft_bank.specs.Passes.{shape_of}
 use Rattle.ft_bank.specs.Tables.{name_of}

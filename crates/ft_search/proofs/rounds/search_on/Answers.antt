@@ -1,4 +1,4 @@
-use Rattle.std.proofs.Common.{◌≡◌, ◌≤◌, ℕ, List, ◌∷◌, length, refl, sym, ap, ◌∙◌, subst, arith}
+use Rattle.std.proofs.Common.{◌≤◌, ℕ, List, ◌∷◌, refl, arith}
 use Rattle.ft_layout.specs.Words.{key_kind, gone_kind}
 use Rattle.ft_layout.specs.Tables.{dict_room}
 use Rattle.ft_keys.specs.declared.search.Found.{Found}
@@ -9,11 +9,9 @@ use Rattle.ft_trace.specs.Kinds.{rows}
 use Rattle.ft_trace.specs.Worlds.{kind_in}
 use Rattle.ft_bank.specs.Passes.{shape_of}
 use Rattle.ft_bank.specs.Tables.{name_of}
-use Rattle.ft_bank.specs.Series.{DidAll}
-use Rattle.ft_trace.specs.declared.Act.TheVariants.{ReadCounter}
 use Rattle.ft_search.specs.Rounds.{met_acts, Walked, TurnsAfter}
 use Rattle.ft_search.proofs.Running.{same_trans, at_same}
-use Rattle.ft_search.proofs.Seeking.{Sought, sought, own, on, after_met, free_again, spent_at}
+use Rattle.ft_search.proofs.Seeking.{sought, own, on, after_met, free_again, spent_at}
 use Rattle.ft_search.proofs.rounds.search_on.Goals as goal
 
 pub returns-then-count-passed-clause-turns : goal.returns-then-count-passed-clause-turns
@@ -46,7 +44,7 @@ returns-in-At-clause-turns c part w =
     after_met s0 s2 key c.stamp-number.result first left found s part slot place (key_kind key) s3 c.look_at.result s.loads.ends few refl w
     (at_same
     (λ k o t. (slot : ℕ) (earlier : List Act) (left : List ℕ) → Walked k o t key (met_acts t slot place key (key_kind key) earlier) (slot ∷ left)
-        → TurnsAfter k o t key (met_acts t slot place key (key_kind key) earlier) left c.look_at.result s2.pass.now s3.pass.now)
+    → TurnsAfter k o t key (met_acts t slot place key (key_kind key) earlier) left c.look_at.result s2.pass.now s3.pass.now)
     s0 s2 same c.look_at.ensures.turns)
 
 pub returns-in-Was-clause-turns : goal.returns-in-Was-clause-turns
@@ -67,7 +65,7 @@ returns-in-Was-clause-turns c part w =
     after_met s0 s2 key c.stamp-number.result first left found s part slot place (gone_kind key) s3 c.look_at_deleted.result s.loads.ends few refl w
     (at_same
     (λ k o t. (slot : ℕ) (earlier : List Act) (left : List ℕ) → Walked k o t key (met_acts t slot place key (gone_kind key) earlier) (slot ∷ left)
-        → TurnsAfter k o t key (met_acts t slot place key (gone_kind key) earlier) left c.look_at_deleted.result s2.pass.now s3.pass.now)
+    → TurnsAfter k o t key (met_acts t slot place key (gone_kind key) earlier) left c.look_at_deleted.result s2.pass.now s3.pass.now)
     s0 s2 same (c.look_at_deleted.ensures.turns key))
 
 pub returns-else-count-passed-clause-turns : goal.returns-else-count-passed-clause-turns

@@ -1,21 +1,16 @@
-use Rattle.std.proofs.Common.{◌≡◌, ◌≢◌, ◌<◌, ◌≤◌, ℕ, suc, List, [], ◌∷◌, ◌++◌, refl, sym, ap, ◌∙◌, subst, arith}
-use Rattle.ft_layout.specs.Containers.{class_mask}
-use Rattle.ft_layout.specs.Tables.{hash_of}
+use Rattle.std.proofs.Common.{◌≡◌, ◌≢◌, ◌<◌, ℕ, suc, List, [], ◌∷◌, ◌++◌, sym, ap, ◌∙◌, subst, arith}
 use Rattle.ft_keys.specs.Ways.{walk_slots}
-use Rattle.ft_model.specs.declared.script.Kind.{Kind}
 use Rattle.ft_trace.specs.declared.Act.{Act}
 use Rattle.ft_trace.specs.declared.Act.TheVariants.{ReadRoot}
 use Rattle.ft_trace.specs.Acts.{reads, announces}
-use Rattle.ft_trace.specs.Addresses.{class_of, IsTable}
+use Rattle.ft_trace.specs.Addresses.{IsTable}
 use Rattle.ft_trace.specs.Words.{walk_of}
 use Rattle.ft_trace.specs.Kinds.{rows}
 use Rattle.ft_trace.specs.Finding.{IsNew}
-use Rattle.ft_trace.specs.Worlds.{kind_in}
 use Rattle.ft_bank.specs.Passes.{shape_of, view}
 use Rattle.ft_bank.specs.Series.{DidAll}
 use Rattle.ft_bank.specs.Tables.{name_of}
 use Rattle.ft_bank.proofs.Tables.{class_is}
-use Rattle.ft_search.specs.Rounds.{kind_by}
 use Rattle.ft_search.proofs.Running.{did_trans, did_log, at_same, inner_announces}
 use Rattle.ft_search.proofs.Places.{mask_is, room_for, walk_is}
 use Rattle.ft_search.proofs.rounds.search_table.Goals as goal

@@ -1,4 +1,4 @@
-use Rattle.std.proofs.Common.{◌≡◌, ℕ, ◌+◌, ◌*◌, refl, sym, ap, ◌∙◌, subst}
+use Rattle.std.proofs.Common.{ℕ, ◌+◌, ◌*◌, refl, sym, ◌∙◌, subst}
 use Rattle.ft_bank.specs.Passes.{shape_of, view, Did}
 use Rattle.ft_bank.specs.Tables.{name_of}
 use Rattle.ft_trace.specs.Holds.{held}

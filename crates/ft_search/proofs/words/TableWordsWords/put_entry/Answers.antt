@@ -1,4 +1,4 @@
-use Rattle.std.proofs.Common.{◌≡◌, ℕ, ◌+◌, ◌*◌, refl, sym, subst}
+use Rattle.std.proofs.Common.{ℕ, ◌+◌, ◌*◌, refl, sym, subst}
 use Rattle.std.specs.Prelude.{slice_set}
 use Rattle.ft_bank.specs.Passes.{shape_of, view, Did}
 use Rattle.ft_bank.specs.Tables.{name_of}

@@ -74,7 +74,7 @@ container_place_at script place differ low =
 
 -- ---- the word of a call
 
-word_back : (word : CallWord) → call_word_of (call_word_text word) ≡ Some word
+pub word_back : (word : CallWord) → call_word_of (call_word_text word) ≡ Some word
 unfolding call_word_of
 word_back Next = refl
 word_back Begin = refl

@@ -4,7 +4,7 @@ use Rattle.std.specs.Prelude.{IfSome, IfOk, All, min}
 use Rattle.std.specs.Option.{unwrap_or, is_some}
 use Rattle.std.specs.Str.{IsUtf8}
 use Rattle.std.proofs.lemmas.List.{length-map}
-use Rattle.std.proofs.lemmas.List.Elements.{All-map, All-nil, All-replicate, All-weaker, All-append, All-cons}
+use Rattle.std.proofs.lemmas.List.Elements.{All-nil, All-replicate, All-append, All-cons}
 use Rattle.ft_model.specs.declared.script.ScriptParts.{ScriptParts}
 use Rattle.ft_model.specs.Names.{IsString, is_container_name}
 use Rattle.ft_model.specs.Scripts.{IsCallOf, IsScript, IsThread, default_tables}

@@ -32,3 +32,5 @@ pub mod ReadScripts
 pub mod ReaderCalls
 pub mod TranscriptReading
 pub mod EntryChecks
+pub mod MadeScripts
+pub mod Making

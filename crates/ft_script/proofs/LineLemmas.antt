@@ -12,7 +12,7 @@ use Rattle.ft_script.specs.Lines.{with_first, lines_of}
 abbrev is_feed : ℕ → Bool
 is_feed b = eqb b 10
 
-lines_cons : (b : ℕ) (bytes : List ℕ) (is : Bool) → eqb b 10 ≡ is → lines_of (b ∷ bytes) ≡ cond is ([] ∷ lines_of bytes) (with_first b (lines_of bytes))
+pub lines_cons : (b : ℕ) (bytes : List ℕ) (is : Bool) → eqb b 10 ≡ is → lines_of (b ∷ bytes) ≡ cond is ([] ∷ lines_of bytes) (with_first b (lines_of bytes))
 unfolding lines_of
 lines_cons b bytes is same = rw same refl
 

@@ -54,14 +54,14 @@ turns_done draft names i whole past so_far =
 
 -- ---- lines
 
-abbrev after_line : ℕ → List (List ℕ) → Result Draft Fault → Result Draft ScriptFault
+abbrev pub after_line : ℕ → List (List ℕ) → Result Draft Fault → Result Draft ScriptFault
 after_line number lines read = elim (reported_at number read) [ Ok d ↦ read_lines (line_after number) d lines | Err found ↦ Err found ]
 
 lines_first : (number : ℕ) (draft : Draft) (line : List ℕ) (lines : List (List ℕ)) → read_lines number draft (line ∷ lines) ≡ after_line number lines (read_line draft line)
 unfolding read_lines
 lines_first number draft line lines = refl
 
-lines_cons : (number : ℕ) (draft : Draft) (line : List ℕ) (lines : List (List ℕ)) (next : Result Draft Fault) → read_line draft line ≡ next → read_lines number draft (line ∷ lines) ≡ after_line number lines next
+pub lines_cons : (number : ℕ) (draft : Draft) (line : List ℕ) (lines : List (List ℕ)) (next : Result Draft Fault) → read_line draft line ≡ next → read_lines number draft (line ∷ lines) ≡ after_line number lines next
 lines_cons number draft line lines next is = lines_first number draft line lines ∙ ap (after_line number lines) is
 
 lines_none : (number : ℕ) (draft : Draft) → read_lines number draft [] ≡ reported_at number (end_thread draft)

@@ -136,7 +136,7 @@ digits_word (d ∷ ds) some h =
     let low : 48 ≤ d = ends.0 in
     ((ne_eqb d 34 (λ e. omega arith), all_parts is_digit (d ∷ ds) digit_part h), (omega arith, ends.1))
 
-are_digits : (n : ℕ) → n < 2 ^ 64 → AreDigits (decimal n)
+pub are_digits : (n : ℕ) → n < 2 ^ 64 → AreDigits (decimal n)
 are_digits n low = own.from (decimal n) (decimal_is_IsNumeral n low).0.1
 
 some_digits : (n : ℕ) → n < 2 ^ 64 → 0 < length (decimal n)

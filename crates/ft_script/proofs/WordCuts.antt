@@ -74,7 +74,7 @@ one_byte_of : (at next : Place) (cut : List (List ℕ)) (part : List ℕ) (b : �
 one_byte_of at next cut part b None = refl
 one_byte_of at next cut part b (Some words) = ap (λ (l : List (List ℕ)). Some l) (one_byte at next cut part b words)
 
-abbrev after_byte : Place → ℕ → List ℕ → Option Place → Option (List (List ℕ))
+abbrev pub after_byte : Place → ℕ → List ℕ → Option Place → Option (List (List ℕ))
 after_byte at b bytes next = elim next [ None ↦ None | Some p ↦ option_map (joined at b p) (words_from p bytes) ]
 
 -- the definition, at a byte
@@ -86,7 +86,7 @@ at_byte place.String b bytes = refl
 at_byte place.Escape b bytes = refl
 at_byte place.Ended b bytes = refl
 
-from_byte : (at : Place) (b : ℕ) (bytes : List ℕ) (next : Option Place) → place_after at b ≡ next → words_from at (b ∷ bytes) ≡ after_byte at b bytes next
+pub from_byte : (at : Place) (b : ℕ) (bytes : List ℕ) (next : Option Place) → place_after at b ≡ next → words_from at (b ∷ bytes) ≡ after_byte at b bytes next
 from_byte at b bytes next is = at_byte at b bytes ∙ ap (after_byte at b bytes) is
 
 abbrev pub part : List ℕ → ℕ → ℕ → List ℕ

@@ -12,3 +12,4 @@ pub mod Transcripts
 pub mod Tokens
 pub mod Candidates
 pub mod Readers
+pub mod Generator

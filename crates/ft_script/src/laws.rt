@@ -1,11 +1,12 @@
 //! What holds of every script and transcript. The functions do nothing: their contracts are the laws.
-ghost use Rattle.std.specs.Prelude.{◌≡◌, ◌<◌, ℕ, List, Ok, length};
+ghost use Rattle.std.specs.Prelude.{◌≡◌, ◌<◌, ◌≤◌, ℕ, List, Ok, length};
 ghost use Rattle.ft_model.specs.declared.call.Call.{Call};
 ghost use Rattle.ft_model.specs.declared.entry.Entry.{Entry};
 ghost use Rattle.ft_model.specs.declared.script.ScriptParts.{ScriptParts};
 ghost use Rattle.ft_model.specs.Histories.{cursors_of};
 ghost use Rattle.ft_model.specs.Scripts.{IsCallOf, IsScript};
 ghost use Rattle.ft_script.specs.Drafts.{draft_at};
+ghost use Rattle.ft_script.specs.Generator.{made_script, made_text};
 ghost use Rattle.ft_script.specs.Reading.{call_in};
 ghost use Rattle.ft_script.specs.Scripts.{read_script};
 ghost use Rattle.ft_script.specs.Texts.{call_words};
@@ -31,4 +32,10 @@ pub fn one_transcript()
 /// No bytes are a transcript and have a first bad line.
 pub fn no_transcript_is_bad()
     ensures { (script : ScriptParts) (bytes : List ℕ) (entries : List Entry) (world : List (List ℕ)) (number : ℕ) → IsScript script → IsTranscript script bytes entries world → IsFirstBad script bytes number → ⊥ }
+{}
+
+/// The text that the generator makes for a number of calls is read as the script of that number,
+/// so it is one.
+pub fn made_scripts_are_read()
+    ensures { (calls : ℕ) → calls ≤ 500000 → read_script (made_text calls) ≡ Ok (made_script calls) }
 {}

@@ -10,6 +10,7 @@ mod draft;
 mod entries;
 mod fault;
 mod forms;
+mod generator;
 mod laws;
 mod lines;
 mod parser;
@@ -24,8 +25,10 @@ mod transcript;
 mod words;
 
 pub use fault::{ScriptFault, Which};
+pub use generator::make_script;
 pub use laws::{
-    calls_are_read_back, no_transcript_is_bad, one_transcript, what_is_read_is_a_script,
+    calls_are_read_back, made_scripts_are_read, no_transcript_is_bad, one_transcript,
+    what_is_read_is_a_script,
 };
 pub use parser::parse;
 pub use print::{print_entry, print_world, push_entry, push_world, push_world_line};

@@ -1,5 +1,5 @@
 -- Each step is the trace with one more event.
-use Rattle.std.proofs.Common.{◌≡◌, ◌≢◌, ℕ, zero, suc, ◌^◌, ◌<◌, ◌≤◌, List, [], ◌∷◌, ◌++◌, set, refl, sym, ap, ◌∙◌, subst, arith}
+use Rattle.std.proofs.Common.{◌≡◌, ◌≢◌, ℕ, zero, suc, ◌^◌, ◌<◌, ◌≤◌, List, [], ◌∷◌, ◌++◌, set, refl, sym, ap, ◌∙◌, subst, arith, le_trans}
 use Rattle.std.specs.Prelude.{slice_index, slice_set}
 use mathlib.Core.Option.{Option, some, some-injective}
 use mathlib.Core.Logic.{dite}
@@ -12,9 +12,10 @@ use Rattle.ft_trace.specs.declared.View.{View}
 use Rattle.ft_trace.specs.declared.Act.{Act}
 use Rattle.ft_trace.specs.declared.Snap.{Snap}
 use Rattle.ft_trace.specs.Addresses.{at}
-use Rattle.ft_trace.specs.Acts.{place, word_after, Reports, noted, maker, made, both, spent}
-use Rattle.ft_trace.specs.Traces.{Event, did, forked, joined, run, history, snap, Valid, Knows, Possible, Ready, ReadyAs, Does, DoesAs, MayFork, IsFree, IsAwake}
+use Rattle.ft_trace.specs.Acts.{place, word_after, Reports, noted, maker, made, both, spent, sender, note, shown}
+use Rattle.ft_trace.specs.Traces.{Event, did, forked, joined, sent, run, history, snap, Valid, Knows, Possible, Ready, ReadyAs, Does, DoesAs, MayFork, IsFree, IsAwake}
 use Rattle.ft_trace.proofs.Sizes.{sized, set_at}
+use Rattle.ft_trace.proofs.Seeing.{shown_up}
 use Rattle.ft_bank.specs.Rules.{Holds, Notes, Acted}
 
 -- what stands at a place may be put there
@@ -90,6 +91,13 @@ alive number v h token = ((λ e. omega (arith, h, e)), token)
 pub token_kept : (m n : ℕ) → m ≡ n → 0 < n → 0 < m
 token_kept m n same token = omega (arith, same, token)
 
+-- what it has learnt its log still shows
+pub same_settled : (w v : View) → w ≡ v → v.learnt ≤ shown v.log → w.learnt ≤ shown w.log
+same_settled w v same old = subst (λ (u : View). u.learnt ≤ shown u.log) (sym same) old
+
+pub still_settled : (v : View) (a : Act) (w : View) → w ≡ noted a v → v.learnt ≤ shown v.log → w.learnt ≤ shown w.log
+still_settled v a w same old = same_settled w (noted a v) same (le_trans old (shown_up a v.log))
+
 module _ {S : Type 0} (me : Me S View) (id i : ℕ) (f : ℕ → ℕ) (live : IsAwake me.0) where
   -- a step that keeps what stood in the bank
   pub kept : (act : ℕ → Snap → Act) → DoesAs me.0 i f act → ReadyAs me.0 i act → (k : Shape) (slots : ℕ) → Allows (Holds k) slots id me i f (λ n w. (z : Snap) × Notes (λ n'. act n' z) me n w)
@@ -136,3 +144,8 @@ glues k id v other w live last free s h at ne there =
     let it : get_elem? s.views other ≡ some w = sym (set_else s.views id other (both v w) ne) ∙ there in
     let its : get_elem? (run k h.0).views other ≡ some w = subst (λ (l : List View). get_elem? l other ≡ some w) (sym h.3) it in
     (joined id v other w ∷ h.0, (h.1, (here, ne, its, live, last, free)), h.2, ap (λ (l : List View). set (set l id (both v w)) other spent) h.3)
+
+pub sends : {S : Type 0} (k : Shape) (id : ℕ) (v : View) (given : ℕ) → v.number ≢ 0 → given ≤ v.tokens → Splits (Holds {S = S} k) id v (sender given v) (note given v)
+sends k id v given live low s h at =
+    let here : get_elem? (run k h.0).views id ≡ some v = subst (λ (l : List View). get_elem? l id ≡ some v) (sym h.3) at in
+    (sent id v given ∷ h.0, (h.1, (here, live, low)), h.2, ap (λ (l : List View). set l id (sender given v) ++ note given v ∷ []) h.3)

@@ -7,3 +7,4 @@ pub mod Tables
 pub mod Putting
 pub mod Whole
 pub mod Freeing
+mod Seen

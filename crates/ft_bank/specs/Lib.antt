@@ -12,3 +12,5 @@ pub mod Closings
 pub mod Whole
 pub mod Takings
 pub mod Shown
+pub mod Slips
+pub mod Notes

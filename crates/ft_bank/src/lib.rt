@@ -11,6 +11,8 @@ mod bank;
 mod closed;
 mod keys;
 mod locks;
+mod meetings;
+mod note;
 mod opening;
 mod pass;
 mod places;
@@ -28,6 +30,7 @@ mod writes;
 
 pub use crate::bank::Bank;
 pub use crate::closed::Closed;
+pub use crate::note::Note;
 pub use crate::pass::Pass;
 pub use crate::sections::{OpenSection, Sections, Taking};
 pub use crate::shape::{MakeFault, Shape};

@@ -1,6 +1,7 @@
 //! A pass, with what it keeps beside its part of the proofs: its number, the number of the next pass,
 //! the calls that it may still make, and its critical sections. What it knows is a view of `ft_trace`.
-ghost use Rattle.std.specs.Prelude.{◌≡◌, ◌+◌, ◌<◌, [], suc};
+ghost use Rattle.std.specs.Prelude.{◌≡◌, ◌+◌, ◌<◌, ◌≤◌, [], suc};
+ghost use Rattle.ft_trace.specs.Acts.{shown};
 ghost use Rattle.ft_trace.specs.Traces.{Possible};
 
 use crate::sections::{Sections, Taking};
@@ -22,6 +23,7 @@ pub struct Pass {
     ghost following: { next ≡ seat.me.0.next },
     ghost leaves: { left ≡ seat.me.0.left },
     ghost awake: { 0 < seat.me.0.tokens },
+    ghost settled: { seat.me.0.learnt ≤ shown seat.me.0.log },
     ghost possible: { ∥ Possible seat.me.0 ∥₁ },
 }
 

@@ -97,3 +97,14 @@ impl Join<View> for Shares {
 
     ghost spent = { spent };
 }
+
+/// How a pass makes a note. The note gets no token.
+pub struct Notes;
+
+impl Split<View> for Notes {
+    ghost use Rattle.ft_trace.specs.Acts.{sender, note};
+
+    ghost left = { sender 0 };
+
+    ghost right = { note 0 };
+}

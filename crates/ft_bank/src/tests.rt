@@ -66,3 +66,21 @@ fn the_last_pass_closes_the_bank(rt: HostRuntime) -> Result<(), Fail> {
     closed.entries_are_whole();
     Ok(())
 }
+
+#[test]
+fn a_note_is_learnt(rt: HostRuntime) -> Result<(), Fail> {
+    let alloc = rt.alloc();
+    let shape = small(alloc)?;
+    if !shape.fits() {
+        return Err(Fail::from("a small shape fits"));
+    }
+    let Ok((bank, mut first)) = Bank::new(alloc, shape) else {
+        return Err(Fail::from("there is memory"));
+    };
+    let mut second = bank.split(&mut first);
+    let note = bank.note(&mut first);
+    bank.learn(&mut second, note);
+    assert_eq!(rt; bank.stamp(&mut second), 0);
+    assert_eq!(rt; second.left(), 10);
+    Ok(())
+}

@@ -62,7 +62,7 @@ seen_is_low k es valid = (
   λ id n v c r s ok. let low = seen_low k es valid id v ok.1.0 in let found : n ≡ count k es = ok.1.2 in omega (arith, low, found),
 )
 
-shown_up : (a : Act) (l : List Act) → shown l ≤ shown (a ∷ l)
+pub shown_up : (a : Act) (l : List Act) → shown l ≤ shown (a ∷ l)
 shown_up (Commit c r f s) l = le-max_left (shown l) (f + 1)
 shown_up (ReadCounter f) l = le-max_left (shown l) f
 shown_up act l = le_refl (shown l)

@@ -4,7 +4,7 @@ use Rattle.ft_trace.specs.Addresses.{counter}
 use Rattle.ft_trace.specs.Traces.{Possible}
 use Rattle.ft_trace.proofs.Addresses.{at_low}
 use Rattle.ft_bank.specs.Shapes.{plan}
-use Rattle.ft_bank.proofs.Allowed.{found, alive, acted_possible, token_kept}
+use Rattle.ft_bank.proofs.Allowed.{found, alive, acted_possible, token_kept, still_settled}
 use Rattle.ft_bank.proofs.bank.Bank.answer_as.Goals as goal
 
 pub load-requires : goal.load-requires
@@ -21,5 +21,6 @@ invariant_of-pass g c =
       following = p.following ∙ sym (ap (λ v. v.next) e.0);
       leaves = omega (arith, p.leaves, c.requires.left c.load.result, ap (λ (v : View). v.left) e.0);
       awake = token_kept _ _ (ap (λ v. v.tokens) e.0) p.awake;
+      settled = still_settled p.seat.me.0 _ _ e.0 p.settled;
       possible = ∣ subst Possible (sym e.0) (acted_possible p.seat.me.0 _ e.2) ∣₁;
     }

@@ -7,6 +7,7 @@ use Rattle.ft_trace.specs.Traces.{Possible}
 use Rattle.ft_bank.specs.Passes.{view}
 use Rattle.ft_bank.proofs.Allowed.{acted_possible}
 use Rattle.ft_bank.proofs.Knowing.{left_low}
+use Rattle.ft_bank.proofs.Seen.{load_settles}
 use Rattle.ft_bank.proofs.bank.Bank.join.Goals as goal
 
 pub overflow_add-pass : goal.overflow_add-pass
@@ -26,5 +27,6 @@ invariant_of-pass c =
       following = p.following ∙ sym (ap (λ (v : View). v.next) e);
       leaves = (λ j. p.leaves j + c.args.other.leaves j) ∙ sym (ap (λ (v : View). v.left) e);
       awake = (let token = p.awake in omega (arith, token, ap (λ (v : View). v.tokens) e));
+      settled = load_settles (both (view p) (view c.args.other)) d.0 _ e d.2;
       possible = ∣ subst Possible (sym e) (acted_possible (both (view p) (view c.args.other)) (ReadCounter d.0) d.2) ∣₁;
     }

@@ -4,7 +4,7 @@ use mathlib.Core.Logic.{dite}
 use native.Mathlib.Decide.{ℕ_discrete}
 use Rattle.ft_trace.specs.Traces.{Possible}
 use Rattle.ft_bank.specs.Shapes.{plan}
-use Rattle.ft_bank.proofs.Allowed.{looked, alive, acted_possible, token_kept}
+use Rattle.ft_bank.proofs.Allowed.{looked, alive, acted_possible, token_kept, still_settled, same_settled}
 use Rattle.ft_bank.proofs.bank.Bank.look_as.Goals as goal
 
 pub load-requires : goal.load-requires
@@ -22,6 +22,7 @@ invariant_of-pass g c =
       following = p.following ∙ sym (ap (λ m. m.0.next) e);
       leaves = p.leaves ∙ sym (ap (λ m. m.0.left) e);
       awake = token_kept _ _ (ap (λ m. m.0.tokens) e) p.awake;
+      settled = same_settled _ _ (ap (λ m. m.0) e) p.settled;
       possible = ∥∥₁_map p.possible (λ x. subst Possible (sym (ap (λ m. m.0) e)) x);
     })
     (λ some_one. let f = c.load.ensures.2.1 some_one in let e = f.1 in record {
@@ -30,5 +31,6 @@ invariant_of-pass g c =
       following = p.following ∙ sym (ap (λ v. v.next) e.0);
       leaves = p.leaves ∙ (sym (c.requires.left _ f.0) ∙ sym (ap (λ v. v.left) e.0));
       awake = token_kept _ _ (ap (λ v. v.tokens) e.0) p.awake;
+      settled = still_settled p.seat.me.0 _ _ e.0 p.settled;
       possible = ∣ subst Possible (sym e.0) (acted_possible p.seat.me.0 _ e.2) ∣₁;
     })

@@ -4,6 +4,8 @@ use Rattle.ft_trace.specs.Traces.{Possible}
 use Rattle.ft_trace.proofs.Addresses.{opening_long}
 use Rattle.ft_bank.specs.Shapes.{plan}
 use Rattle.ft_bank.proofs.Starting.{fits_of}
+use Rattle.ft_bank.proofs.Allowed.{same_settled}
+use Rattle.ft_trace.specs.Acts.{starter}
 use Rattle.ft_bank.proofs.bank.Bank.new.Goals as goal
 
 pub of_words-requires : goal.of_words-requires
@@ -17,6 +19,7 @@ invariant_of-pass c =
       following = sym (ap (λ m. m.0.next) e);
       leaves = (λ d. c.from.ensures d * c.from-2.ensures d) ∙ sym (ap (λ m. m.0.left) e);
       awake = (let some_pass = c.requires.passes.0 in omega (arith, some_pass, ap (λ m. m.0.tokens) e));
+      settled = same_settled _ (starter (plan c.args.shape)) (ap (λ m. m.0) e) (omega arith);
       possible = ∣ subst Possible (sym (ap (λ m. m.0) e)) ([], 0, (fits_of c.args.shape c.requires, refl)) ∣₁;
     }
 

@@ -2,11 +2,12 @@ use Rattle.std.proofs.Common.{◌≡◌, ◌≢◌, ℕ, suc, ◌-◌, sym, ap, 
 use Rattle.std.proofs.Math.Logic.{∥∥₁_map}
 use Rattle.ft_trace.specs.declared.Shape.{Shape}
 use Rattle.ft_trace.specs.Addresses.{counter}
+use Rattle.ft_trace.specs.Acts.{maker, made}
 use Rattle.ft_trace.specs.Traces.{Possible}
 use Rattle.ft_trace.proofs.Addresses.{at_low}
 use Rattle.ft_trace.proofs.Sharing.{maker_possible, made_possible}
 use Rattle.ft_bank.specs.Shapes.{plan}
-use Rattle.ft_bank.proofs.Allowed.{cuts}
+use Rattle.ft_bank.proofs.Allowed.{cuts, same_settled}
 use Rattle.ft_bank.proofs.bank.Bank.split.Goals as goal
 
 pub split_seat-seat-requires : goal.split_seat-seat-requires
@@ -22,6 +23,7 @@ invariant_of-pass c =
       following = omega (arith, p.following, ap (λ m. m.0.next) e);
       leaves = omega (arith, p.leaves, calls, ap (λ m. m.0.left) e);
       awake = (let two = c.requires.may.tokens in omega (arith, two, ap (λ m. m.0.tokens) e));
+      settled = same_settled _ (maker p.seat.me.0) (ap (λ m. m.0) e) p.settled;
       possible = ∥∥₁_map p.possible (λ x. subst Possible (sym (ap (λ m. m.0) e)) (maker_possible p.seat.me.0 c.requires.may x));
     }
 
@@ -35,6 +37,7 @@ invariant_of-result c =
       following = sym (ap (λ m. m.0.next) e);
       leaves = calls ∙ sym (ap (λ m. m.0.left) e);
       awake = omega (arith, ap (λ m. m.0.tokens) e);
+      settled = same_settled _ (made p.seat.me.0) (ap (λ m. m.0) e) (omega arith);
       possible = ∥∥₁_map p.possible (λ x. subst Possible (sym (ap (λ m. m.0) e)) (made_possible p.seat.me.0 c.requires.may x));
     }
   where

@@ -1,0 +1,72 @@
+-- What a load of the counter shows of what a pass has learnt, and what a note leaves of it.
+use Rattle.std.proofs.Common.{◌≡◌, ℕ, ◌+◌, ◌-◌, ◌<◌, ◌≤◌, List, [], ◌∷◌, ◌++◌, refl, ap, arith, inl, le_trans, le_refl}
+use Rattle.std.specs.Prelude.{max}
+use Rattle.std.proofs.Math.Bridge.{le_prop}
+use Rattle.std.proofs.Math.Nat.{le-max_left, le-max_right, max-zero}
+use Rattle.std.proofs.Math.Logic.{∥∥₁_elim}
+use Rattle.ft_trace.specs.declared.View.{View}
+use Rattle.ft_trace.specs.declared.Act.{Act}
+use Rattle.ft_trace.specs.declared.Act.TheVariants.{ReadCounter}
+use Rattle.ft_trace.specs.Acts.{noted, both, sender, note, shown, seen_writes, floor_known}
+use Rattle.ft_trace.specs.Traces.{Possible, IsFree}
+use Rattle.ft_trace.proofs.Cases.{miss}
+use Rattle.ft_trace.proofs.Seeing.{shown_up, seen_is_low, loads_see_all}
+use Rattle.ft_bank.specs.Slips.{slip}
+use Rattle.ft_bank.specs.Notes.{knowing}
+use Rattle.ft_bank.specs.Rules.{Acted}
+use Rattle.ft_bank.proofs.Allowed.{same_settled}
+
+-- a load of the counter gives what the pass has seen, at least
+pub load_sees : (v : View) (n : ℕ) → Acted v (ReadCounter n) → seen_writes v ≤ n
+load_sees v n d = (seen_is_low v.shape d.0 d.2.0).1 d.1 n v d.2
+
+-- so the log shows what it has learnt
+pub load_settles : (v : View) (n : ℕ) (w : View) → w ≡ noted (ReadCounter n) v → Acted v (ReadCounter n) → w.learnt ≤ shown w.log
+load_settles v n w same d = same_settled w (noted (ReadCounter n) v) same (le_trans (le_trans (le-max_left v.learnt (shown v.log)) (load_sees v n d)) (le-max_right (shown v.log) n))
+
+add_none : (n : ℕ) → n + 0 ≡ n
+add_none n = omega arith
+
+-- what a pass knows that has learnt a note and loaded the counter
+pub knowing_is : (n m : ℕ) (v : View) → noted (ReadCounter m) (both v (slip n)) ≡ noted (ReadCounter m) (knowing n v)
+knowing_is n m v = λ i. record {
+  number = v.number;
+  next = v.next;
+  parts = add_none v.parts i;
+  left = add_none v.left i;
+  shape = v.shape;
+  log = ReadCounter m ∷ v.log;
+  entries = v.entries;
+  tokens = add_none v.tokens i;
+  learnt = max v.learnt (max-zero n i);
+  has_floor = v.has_floor;
+  floor = [];
+}
+
+less_none : (n : ℕ) → n - 0 ≡ n
+less_none n = omega arith
+
+-- who gives no tokens keeps what it knows
+pub sender_is : (v : View) → sender 0 v ≡ v
+sender_is v = ap (λ (n : ℕ). record v { tokens = n }) (less_none v.tokens)
+
+-- a note with no tokens
+pub note_is : (v : View) → 0 < v.tokens → note 0 v ≡ slip (seen_writes v)
+note_is v token = ap (λ (l : List ℕ). record (slip (seen_writes v)) { floor = l }) (miss 0 v.tokens (floor_known v) [] (λ e. omega (arith, e, token)))
+
+-- a later log shows no fewer writes
+pub seen_rises : (newer rest : List Act) → shown rest ≤ shown (newer ++ rest)
+seen_rises [] rest = le_refl (shown rest)
+seen_rises (a ∷ newer) rest = le_trans (seen_rises newer rest) (shown_up a (newer ++ rest))
+
+-- each load of the counter gave at least what the log showed before it
+pub stamp_seen : (v : View) → ∥ Possible v ∥₁ → (newer rest : List Act) (n : ℕ) → v.log ≡ newer ++ ReadCounter n ∷ rest → shown rest ≤ n
+stamp_seen v possible newer rest n is = ∥∥₁_elim possible le_prop (λ p. loads_see_all v.shape p.0 p.2.0 p.1 v p.2.1 newer rest n is)
+
+-- a note has no lock and no table
+pub slip_free : (n : ℕ) → IsFree (slip n)
+slip_free n = ((λ o. refl), (λ t. inl refl), refl, refl, refl, refl)
+
+-- what was taken in counts
+pub taken_in : (v w : View) → w.learnt ≤ (both v w).learnt
+taken_in v w = le_trans (le-max_left w.learnt (shown w.log)) (le-max_right v.learnt (seen_writes w))

@@ -1,0 +1,43 @@
+//! Callers that meet: a pass makes a note of what it has seen, and another pass of the bank learns it. So the
+//! two stand in one history that begins with what each had seen.
+ghost use Rattle.std.specs.Prelude.{◌≡◌, ◌≤◌, ℕ};
+ghost use Rattle.ft_trace.specs.declared.Act.TheVariants.{ReadCounter};
+ghost use Rattle.ft_trace.specs.Acts.{noted};
+ghost use Rattle.ft_bank.specs.Notes.{says, seen, knowing, IsNoteOf};
+
+use crate::bank::Bank;
+use crate::note::Note;
+use crate::pass::Pass;
+use crate::rule::Notes;
+use std::marker::Brand;
+
+impl Bank {
+    ghost use Rattle.ft_bank.specs.Passes.{view, IsPassOf, DidNothing};
+    ghost use Rattle.ft_bank.specs.Sections.{stack_of};
+
+    /// Makes a note of how many writes the pass has seen.
+    pub fn note(&self, pass: &mut Pass) -> Note
+        requires pass { IsPassOf self.now pass.old }
+        ensures pass { DidNothing pass.old pass.new }
+        ensures note { IsNoteOf self.now result }
+        ensures says { says result ≡ seen pass.old }
+    {
+        let seat = self.table.shared.split_seat::<Notes>(&mut pass.seat);
+        Note { seat }
+    }
+
+    /// Learns a note of a pass of this bank, and loads the counter: the pass has then seen all that the
+    /// note's maker had, so each number that the counter gives it from now on is at least that.
+    pub fn learn(&self, pass: &mut Pass, note: Note)
+        requires pass { IsPassOf self.now pass.old }
+        requires note { IsNoteOf self.now note }
+        ensures pass { IsPassOf self.now pass.new }
+        ensures sections { stack_of pass.new ≡ stack_of pass.old }
+        ensures view { (n : ℕ) × (view pass.new ≡ noted (ReadCounter n) (knowing (says note) (view pass.old)))
+            × (says note ≤ n) × (seen pass.old ≤ n) }
+        ensures seen { (says note ≤ seen pass.new) × (seen pass.old ≤ seen pass.new) }
+    {
+        let Note { seat } = note;
+        self.settle_as::<Brand>(&mut pass.seat, seat);
+    }
+}

@@ -3,7 +3,7 @@ use Rattle.std.specs.Prelude.{[]}
 use prog.Atomic.{either}
 use Rattle.ft_trace.specs.Traces.{Possible}
 use Rattle.ft_bank.specs.Shapes.{plan}
-use Rattle.ft_bank.proofs.Allowed.{found, alive, acted_possible, token_kept}
+use Rattle.ft_bank.proofs.Allowed.{found, alive, acted_possible, token_kept, still_settled}
 use Rattle.ft_bank.proofs.bank.Bank.exchange_as.Goals as goal
 
 pub compare_exchange-requires : goal.compare_exchange-requires
@@ -20,5 +20,6 @@ invariant_of-pass g c =
       following = p.following ∙ sym (ap (λ v. v.next) e.0);
       leaves = p.leaves ∙ (sym (c.requires.left _ (record { words = []; calls = [] })) ∙ sym (ap (λ v. v.left) e.0));
       awake = token_kept _ _ (ap (λ v. v.tokens) e.0) p.awake;
+      settled = still_settled p.seat.me.0 _ _ e.0 p.settled;
       possible = ∣ subst Possible (sym e.0) (acted_possible p.seat.me.0 _ e.2) ∣₁;
     }

@@ -2,7 +2,7 @@ use Rattle.std.proofs.Common.{sym, ap, ◌∙◌, subst, arith}
 use Rattle.std.specs.Prelude.{[], bit_or}
 use Rattle.ft_trace.specs.Traces.{Possible}
 use Rattle.ft_bank.specs.Shapes.{plan}
-use Rattle.ft_bank.proofs.Allowed.{found, alive, acted_possible, token_kept}
+use Rattle.ft_bank.proofs.Allowed.{found, alive, acted_possible, token_kept, still_settled}
 use Rattle.ft_bank.proofs.bank.Bank.set_as.Goals as goal
 
 pub fetch_or-requires : goal.fetch_or-requires
@@ -19,5 +19,6 @@ invariant_of-pass g c =
       following = p.following ∙ sym (ap (λ v. v.next) e.0);
       leaves = p.leaves ∙ (sym (c.requires.left _ (record { words = []; calls = [] })) ∙ sym (ap (λ v. v.left) e.0));
       awake = token_kept _ _ (ap (λ v. v.tokens) e.0) p.awake;
+      settled = still_settled p.seat.me.0 _ _ e.0 p.settled;
       possible = ∣ subst Possible (sym e.0) (acted_possible p.seat.me.0 _ e.2) ∣₁;
     }

@@ -36,12 +36,12 @@ use Rattle.ft_trace.specs.Traces.{Event, Valid, Knows, run, history, Sure}
 use Rattle.ft_trace.specs.LookReplies.{key_reply, item_reply, stored_at, DictReplies}
 use Rattle.ft_trace.proofs.LookReplies.{dict_hits_are_replied, set_hits_are_replied, misses_are_replied, items_are_replied, past_items_are_replied}
 use Rattle.ft_trace.proofs.Moments.{was}
-use Rattle.ft_trace.proofs.Optimistic.{looked_at}
+use Rattle.ft_trace.proofs.Optimistic.{looked_at, looked_at_both}
 use Rattle.ft_trace.proofs.Replying.{never_writes, memory_replied}
 use Rattle.ft_trace.proofs.Sizes.{sized}
 use Rattle.ft_trace.proofs.Spots.{stamp_then}
 use Rattle.ft_bank.specs.Reads.{IsShown}
-use Rattle.ft_bank.specs.Shown.{MayAsk, KeyIsShown, DictHitsAreShown, ValuesAreRead, SetHitsAreShown, MissesAreShown, ItemsAreShown, ItemsAreRead, PastItemsAreShown, LooksAreShown, KeepLocks, LoadedUnderLocks, RepliesUnderLocksAreShown, MemoryErrorsAreShown, OversAreShown}
+use Rattle.ft_bank.specs.Shown.{MayAsk, KeyIsShown, DictHitsAreShown, ValuesAreRead, SetHitsAreShown, MissesAreShown, ItemsAreShown, ItemsAreRead, PastItemsAreShown, LooksAreShown, LooksAtBothAreShown, KeepLocks, LoadedUnderLocks, RepliesUnderLocksAreShown, MemoryErrorsAreShown, OversAreShown}
 use Rattle.ft_bank.specs.Writes.{MayHave}
 use Rattle.ft_bank.proofs.Readying.{has_now}
 
@@ -168,6 +168,11 @@ pub looks_are_shown : LooksAreShown
 looks_are_shown v call o said n ask reads adds plain asks looked =
     plain_shown v o n ask call said reads adds plain
     (λ es id knows. subst (IsReplied call said) (sym (looked_at v.shape es knows.0 call o ask.low id v knows.1 said n looked).1) asks)
+
+pub looks_at_both_are_shown : LooksAtBothAreShown
+looks_at_both_are_shown v call o p said n ask low reads adds plain asks looked =
+    plain_shown v o n ask call said reads adds plain
+    (λ es id knows. subst (IsReplied call said) (sym (looked_at_both v.shape es knows.0 call o p ask.low low id v knows.1 said n looked).1) asks)
 
 -- ---- under locks
 

@@ -27,7 +27,7 @@ use Rattle.ft_trace.specs.Causes.{AreOfOneCall, Loaded, FoundEmpty, HasCause}
 use Rattle.ft_trace.specs.Finding.{Hit, Bare, ItemHit, ItemPast}
 use Rattle.ft_trace.specs.Kinds.{rows}
 use Rattle.ft_trace.specs.LookReplies.{IsValueRead, IsItemRead, IsAbsent, key_reply, item_reply}
-use Rattle.ft_trace.specs.Reading.{Looked}
+use Rattle.ft_trace.specs.Reading.{Looked, LookedAtBoth}
 use Rattle.ft_trace.specs.Traces.{Possible}
 use Rattle.ft_trace.specs.Worlds.{kind_in, reply_in}
 use Rattle.ft_bank.specs.Reads.{IsShown}
@@ -115,6 +115,13 @@ LooksAreShown =
     (v : View) (call : Call) (o : ℕ) (said : Reply) (n : ℕ) → MayAsk v o n → is_write call said ≡ false
     → can_add call ≡ false → is_memory said ≡ false → IsReplied call said said → Looked v.shape call o said n v.log
     → IsShown v call said n
+
+-- and one that was read of two containers
+abbrev pub LooksAtBothAreShown : Type 0
+LooksAtBothAreShown =
+    (v : View) (call : Call) (o p : ℕ) (said : Reply) (n : ℕ) → MayAsk v o n → p < containers_in v.shape
+    → is_write call said ≡ false → can_add call ≡ false → is_memory said ≡ false → IsReplied call said said
+    → LookedAtBoth v.shape call o p said n v.log → IsShown v call said n
 
 -- ---- under locks
 

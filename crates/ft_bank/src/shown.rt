@@ -1,7 +1,7 @@
 //! What the log of a pass has to show for the entry of a call that isn't a write, for whoever looks without
 //! a lock, or answers under one: each law's conclusion is the condition of `Bank::answer`, so that no layer
 //! above meets a trace.
-ghost use Rattle.ft_bank.specs.Shown.{DictHitsAreShown, ValuesAreRead, SetHitsAreShown, MissesAreShown, ItemsAreShown, ItemsAreRead, PastItemsAreShown, LooksAreShown, RepliesUnderLocksAreShown, MemoryErrorsAreShown, OversAreShown};
+ghost use Rattle.ft_bank.specs.Shown.{DictHitsAreShown, ValuesAreRead, SetHitsAreShown, MissesAreShown, ItemsAreShown, ItemsAreRead, PastItemsAreShown, LooksAreShown, LooksAtBothAreShown, RepliesUnderLocksAreShown, MemoryErrorsAreShown, OversAreShown};
 
 /// A key that was found in a dict without the lock, with the value whose words were read: the condition of
 /// `Bank::answer` for the calls that look it up.
@@ -43,6 +43,11 @@ pub fn past_items_are_shown()
 /// `Bank::answer`.
 pub fn looks_are_shown()
     ensures { LooksAreShown }
+{}
+
+/// A reply that was read likewise of two containers: the condition of `Bank::answer`.
+pub fn looks_at_both_are_shown()
+    ensures { LooksAtBothAreShown }
 {}
 
 /// A reply of a pass that had its locks since it loaded the counter: the condition of `Bank::answer`.

@@ -13,7 +13,7 @@ use Rattle.ft_model.specs.Tables.{StoredWorld, stored_newest}
 use Rattle.ft_trace.specs.Addresses.{containers_in}
 use Rattle.ft_trace.specs.Worlds.{kept_at, kept, first_writes, reply_in}
 use Rattle.ft_trace.specs.Words.{table_of, inner, Picture, root_of, root_in, picture, Stands}
-use Rattle.ft_trace.specs.Reading.{Between, Among, Agrees, IsNothing, Looked}
+use Rattle.ft_trace.specs.Reading.{Between, Among, Agrees, IsNothing, Looked, LookedAtBoth}
 use Rattle.ft_trace.proofs.Nothing.{no_table_stands}
 use Rattle.ft_trace.specs.Finding.{Bare}
 use Rattle.ft_trace.specs.Traces.{Event, run, history, Valid}
@@ -109,6 +109,23 @@ module _ (k : Shape) (es : List Event) (valid : Valid k es) (o : ℕ) (low : o <
 -- a call may be answered that was looked up so
 pub looked_at : (k : Shape) (es : List Event) (valid : Valid k es) (call : Call) (o : ℕ) → o < containers_in k → (j : ℕ) (u : View) → get_elem? (run k es).views j ≡ some u → (r : Reply) (n : ℕ) → Looked k call o r n u.log → (n ≤ count k es) × (reply_in (stored_newest k.kinds (first_writes n (history es))) call ≡ r)
 looked_at k es valid call o low j u at r n h = looked k es valid o low j u at h.mid h.between (λ t. reply_in t call ≡ r) h.answers n h.stamp
+
+-- and one that was looked up in two containers
+pub looked_at_both : (k : Shape) (es : List Event) (valid : Valid k es) (call : Call) (o p : ℕ) → o < containers_in k → p < containers_in k → (j : ℕ) (u : View) → get_elem? (run k es).views j ≡ some u → (r : Reply) (n : ℕ) → LookedAtBoth k call o p r n u.log
+    → (n ≤ count k es) × (reply_in (stored_newest k.kinds (first_writes n (history es))) call ≡ r)
+looked_at_both k es valid call o p low low_too j u at r n h =
+    let stored = stored_newest k.kinds (first_writes n (history es)) in
+    let a = at_stamp k es valid o low j u at h.one h.between.0 n h.stamp.0 in
+    let b = at_stamp k es valid p low_too j u at h.other h.between.1 n h.stamp.1 in
+    let s = stands k (now k es valid o low j u at h.one h.between.0) (top k es valid o low j u at h.one h.between.0).valid o low (even_now k es valid o low j u at h.one h.between.0) in
+    let t = stands k (now k es valid p low_too j u at h.other h.between.1) (top k es valid p low_too j u at h.other h.between.1).valid p low_too (even_now k es valid p low_too j u at h.other h.between.1) in (
+      a.0,
+      h.answers (shown k es valid o low j u at h.one h.between.0) (shown k es valid p low_too j u at h.other h.between.1) stored
+          (subst (Stands k.texts (shown k es valid o low j u at h.one h.between.0)) (sym a.1) s)
+          (subst (Stands k.texts (shown k es valid p low_too j u at h.other h.between.1)) (sym b.1) t)
+          (agrees k es valid o low j u at h.one h.between.0)
+          (agrees k es valid p low_too j u at h.other h.between.1),
+    )
 
 -- a root that is 0: there is no table at the counter that was loaded
 pub bare_at : (k : Shape) (es : List Event) (valid : Valid k es) (o n : ℕ) → o < containers_in k → (j : ℕ) (u : View) → get_elem? (run k es).views j ≡ some u → Bare u.log o n → (n ≤ count k es) × IsNothing (kept k.kinds (first_writes n (history es)) o)

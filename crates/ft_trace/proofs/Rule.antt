@@ -10,7 +10,7 @@ use Rattle.ft_trace.proofs.Moments.{valid_rest}
 use Rattle.ft_trace.specs.Entries.{is_number}
 use Rattle.ft_trace.specs.Words.{picture}
 use Rattle.ft_trace.specs.Traces.{run, history}
-use Rattle.ft_trace.specs.Laws.{StoredTablesAreInOrder, WordsLieApart, PairsAreUnderTheirKeys, ElementsAreUnderTheirKeys, OnePassIsAlone, StampsRise, MemoryErrorsAreEarned, LocksNameHolders, VersionsAreOddInWrites, EvenTablesAreShut, NumbersAreOnce, EntriesAreRight, OneHasAllEntries, EvenWordsStand, ZeroRootsHaveNothing, HoldersKnow, TablesAreSomewhere, TablesAreInOnePlace, CountsStand, TablesAreOwed, EmptyClassesAreEarned, AnnouncedNumbersAreLow, FoundTablesAreKept, GivenUpTablesRest, TablesAreSound, TableWordsStay, HitsAreRight, MissesAreRight, BareRootsAreRight, ItemsAreRight, ListsFitTheirTables, LooksAreRight, ChangedRootsAreNew, NumbersHaveRoom}
+use Rattle.ft_trace.specs.Laws.{StoredTablesAreInOrder, WordsLieApart, PairsAreUnderTheirKeys, ElementsAreUnderTheirKeys, OnePassIsAlone, StampsRise, MemoryErrorsAreEarned, LocksNameHolders, VersionsAreOddInWrites, EvenTablesAreShut, NumbersAreOnce, EntriesAreRight, OneHasAllEntries, EvenWordsStand, ZeroRootsHaveNothing, HoldersKnow, TablesAreSomewhere, TablesAreInOnePlace, CountsStand, TablesAreOwed, EmptyClassesAreEarned, AnnouncedNumbersAreLow, FoundTablesAreKept, GivenUpTablesRest, TablesAreSound, TableWordsStay, HitsAreRight, MissesAreRight, BareRootsAreRight, ItemsAreRight, ListsFitTheirTables, LooksAreRight, LooksAtBothAreRight, ChangedRootsAreNew, NumbersHaveRoom}
 use Rattle.ft_trace.proofs.Locks.{names, holder, one_holder}
 use Rattle.ft_trace.proofs.Versions.{versioned, writer_has, writing_is_odd}
 use Rattle.ft_trace.proofs.Contents.{counted, tab, stands}
@@ -43,7 +43,7 @@ use Rattle.ft_trace.proofs.Owed as owed_in
 use Rattle.ft_trace.proofs.Hits as hits
 use Rattle.ft_trace.proofs.Misses as misses
 use Rattle.ft_trace.proofs.ItemHits as items
-use Rattle.ft_trace.proofs.Optimistic.{bare_at, looked_at}
+use Rattle.ft_trace.proofs.Optimistic.{looked_at_both, bare_at, looked_at}
 use Rattle.ft_trace.proofs.Anew.{is_new}
 use Rattle.ft_trace.proofs.Rooms.{counter_room, version_room}
 use Rattle.ft_trace.proofs.Budgets.{goals_room, some_part}
@@ -162,6 +162,9 @@ lists_fit_their_tables k es valid o t n low is j u at h = items.item_past_at k e
 
 pub looks_are_right : LooksAreRight
 looks_are_right = looked_at
+
+pub looks_at_both_are_right : LooksAtBothAreRight
+looks_at_both_are_right = looked_at_both
 
 pub changed_roots_are_new : ChangedRootsAreNew
 changed_roots_are_new = is_new

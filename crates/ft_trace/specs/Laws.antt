@@ -34,7 +34,7 @@ use Rattle.ft_trace.specs.Items.{words_at}
 use Rattle.ft_trace.specs.Kinds.{rows, is_key, pair_words, element_words, under, LaterAs, IsKeyed, IsItems}
 use Rattle.ft_trace.specs.Holds.{held, known, in_hand}
 use Rattle.ft_trace.specs.FitCalls.{FitsContent}
-use Rattle.ft_trace.specs.Reading.{Among, IsNothing, Looked}
+use Rattle.ft_trace.specs.Reading.{Among, IsNothing, Looked, LookedAtBoth}
 use Rattle.ft_trace.specs.Finding.{Hit, Miss, Full, Bare, ItemHit, ItemPast, IsNew}
 use Rattle.ft_trace.specs.Traces.{Event, run, word, history, StandsFor, SoundFor, ShutFor, Valid, Knows}
 
@@ -297,6 +297,14 @@ LooksAreRight =
     (k : Shape) (es : List Event) → Valid k es → (call : Call) (o : ℕ) → o < containers_in k → (j : ℕ) (u : View)
     → HasView k es j u
     → (r : Reply) (n : ℕ) → Looked k call o r n u.log
+    → (n ≤ word k es counter) × (reply_in (stored_newest k.kinds (first_writes n (history es))) call ≡ r)
+
+-- and of two containers
+abbrev pub LooksAtBothAreRight : Type 0
+LooksAtBothAreRight =
+    (k : Shape) (es : List Event) → Valid k es → (call : Call) (o p : ℕ) → o < containers_in k → p < containers_in k
+    → (j : ℕ) (u : View) → HasView k es j u
+    → (r : Reply) (n : ℕ) → LookedAtBoth k call o p r n u.log
     → (n ≤ word k es counter) × (reply_in (stored_newest k.kinds (first_writes n (history es))) call ≡ r)
 
 -- a root that has changed since the pass read it names a table that the pass has not found since it last announced

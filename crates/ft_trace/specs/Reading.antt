@@ -48,3 +48,13 @@ pub record Looked (k : Shape) (call : Call) (o : ℕ) (r : Reply) (number : ℕ)
   pub between : Between log o mid
   pub stamp : Among (ReadCounter number) mid
   pub answers : AnswersOn k call o r mid
+
+-- the reply to a call about o and p was read likewise, of each between two loads of its version, and both times the
+-- counter was this
+pub record LookedAtBoth (k : Shape) (call : Call) (o p : ℕ) (r : Reply) (number : ℕ) (log : List Act) : Type 0 where
+  pub one : List Act
+  pub other : List Act
+  pub between : Between log o one × Between log p other
+  pub stamp : Among (ReadCounter number) one × Among (ReadCounter number) other
+  pub answers : (x y : Picture) (t : StoredWorld) → Stands k.texts x (kept_at t o) → Stands k.texts y (kept_at t p)
+      → Agrees k o one x → Agrees k p other y → reply_in t call ≡ r

@@ -1,5 +1,5 @@
 -- That another value may be put at a key of a dict by a pass that has its lock, as a whole write.
-use Rattle.std.proofs.Common.{◌≡◌, ◌≢◌, ℕ, suc, ◌+◌, ◌-◌, ◌*◌, ◌%◌, ◌<◌, ◌≤◌, Bool, true, false, List, [], ◌∷◌, length, find, Option, Some, None, refl, sym, ap, ◌∙◌, subst, inr, arith, get_or-set_same}
+use Rattle.std.proofs.Common.{◌≡◌, ◌≢◌, ℕ, suc, ◌+◌, ◌-◌, ◌*◌, ◌%◌, ◌<◌, ◌≤◌, Bool, true, false, List, [], ◌∷◌, length, find, Option, Some, None, refl, sym, ap, ◌∙◌, subst, inr, arith, get_or-set_same, inl, ◌⊎◌}
 use Rattle.std.specs.Prelude.{◌&&◌, ◌||◌, All, IsTrue, filter, slice_index_or, slice_set, slice_get, option_map, if◌then◌else◌}
 use Rattle.std.proofs.lemmas.Bool.{le-ltb}
 use Rattle.std.proofs.lemmas.List.{length-map}
@@ -232,8 +232,8 @@ module _ (versions : EntryVersionsChangeNothing) (follow : WordsFollowAValue) (l
   class_is : IsClass c
   class_is = (in_bank v o t may.low may.possible may.mine names).0
 
-  long : length ws ≡ n + 8 * m
-  long = table_is_long v o t names
+  long : n + 8 * m ≤ length ws
+  long = let l = table_is_long v o t names in omega (arith, l)
 
   kind_eq : kind.Dict ≡ kind_in k.kinds o
   kind_eq = dict_kind v o t pairs may is_dict names

@@ -4,6 +4,7 @@ use Rattle.std.specs.Prelude.{slice_index, slice_set}
 use mathlib.Core.Logic.{dite}
 use native.Mathlib.Decide.{ℕ_discrete}
 use Rattle.ft_model.specs.declared.data.Key.{Key}
+use Rattle.ft_layout.specs.Words.{key_kind, gone_kind, key_payload}
 use Rattle.ft_layout.proofs.WordLaws.{gone_is, kind_range}
 use Rattle.ft_trace.specs.Words.{entry_at, entry_of}
 use Rattle.ft_trace.specs.Carefuls.{Pairs, said_of, IsLive, IsDead, Careful, Clear}
@@ -56,7 +57,7 @@ entry_close n m ws c p x is two right gone = record {
 
 -- ---- another value in an entry that is live
 
-module _ (n m : ℕ) (ws : List ℕ) (c d : Pairs) (p : ℕ) (key : Key) (kind payload : ℕ) (low : p < m) (long : length ws ≡ n + 8 * m) (even : entry_of n ws p 0 % 2 ≡ 0) (live : IsLive n ws p key) where
+module _ (n m : ℕ) (ws : List ℕ) (c d : Pairs) (p : ℕ) (key : Key) (kind payload : ℕ) (low : p < m) (long : n + 8 * m ≤ length ws) (even : entry_of n ws p 0 % 2 ≡ 0) (live : IsLive n ws p key) where
   abbrev ver : ℕ
   ver = entry_of n ws p 0
 
@@ -72,14 +73,8 @@ module _ (n m : ℕ) (ws : List ℕ) (c d : Pairs) (p : ℕ) (key : Key) (kind p
   abbrev b4 : List ℕ
   b4 = slice_set b3 (entry_at n p 0) (ver + 2)
 
-  long1 : length b1 ≡ n + 8 * m
-  long1 = length-set ws (entry_at n p 0) (ver + 1) ∙ long
-
-  long2 : length b2 ≡ n + 8 * m
-  long2 = length-set b1 (entry_at n p 4) kind ∙ long1
-
-  long3 : length b3 ≡ n + 8 * m
-  long3 = length-set b2 (entry_at n p 5) payload ∙ long2
+  long3 : n + 8 * m ≤ length b3
+  long3 = let a = length-set ws (entry_at n p 0) (ver + 1) in let b = length-set b1 (entry_at n p 4) kind in let c = length-set b2 (entry_at n p 5) payload in omega (arith, a, b, c, long)
 
   pub ver1 : entry_of n b1 p 0 ≡ ver + 1
   ver1 = get_or-set_same ws (entry_at n p 0) (ver + 1) 0 (omega (arith, low, long))
@@ -145,3 +140,97 @@ module _ (n m : ℕ) (ws : List ℕ) (c d : Pairs) (p : ℕ) (key : Key) (kind p
 
   pub value_time : (at : ℕ → ℕ) → ((q : ℕ) → at q ≡ entry_at n q 0) → (w x : ℕ) → w < 8 → (w ≡ 0 → x % 2 ≡ 1) → Timely at m (entry_at n p w) x false
   value_time at is w x few odd = record { before = λ q less e one. refl; later = λ q less e two. absurd (let i = is q in let o = odd (omega (arith, few, e, i)) in omega (arith, two, o)) }
+
+-- the kind of an entry whose version is odd, from that of a key that is there to that of a deleted one
+pub entry_dies : (n m : ℕ) (ws : List ℕ) (c : Pairs) (p : ℕ) (key : Key) → entry_of n ws p 0 % 2 ≡ 1 → entry_of n ws p 2 ≡ key_kind key → Careful n m ws c (entry_at n p 2) (gone_kind key)
+entry_dies n m ws c p key odd live = record {
+  index = λ s less e. absurd (omega (arith, less, e));
+  names = λ s less e. absurd (omega (arith, less, e));
+  odd = λ q u less more low e. let same : p ≡ q = omega (arith, more, low, e) in subst (λ (z : ℕ). entry_of n ws z 0 % 2 ≡ 1) same odd;
+  key = λ q u less other e. ⊎_elim (λ (z : u ≡ 1). absurd (omega (arith, z, e))) (λ (z : u ≡ 3). absurd (omega (arith, z, e))) other;
+  kind = λ q less e. let g = gone_is key in λ z. absurd (omega (arith, g, z));
+  dies = λ q less e used.
+      let same : p ≡ q = omega (arith, e) in
+      let is : entry_of n ws q 2 ≡ key_kind key = ap (λ (z : ℕ). entry_of n ws z 2) (sym same) ∙ live in
+      let g = gone_is key in
+      let r = (kind_range key).1 in
+      (omega (arith, is, r), omega (arith, is, g));
+  version = λ q less e. absurd (omega (arith, e));
+  opens = λ q less e. absurd (omega (arith, e));
+  closes = λ q key less e. absurd (omega (arith, e));
+  shuts = λ q key less e. absurd (omega (arith, e));
+}
+
+-- ---- a live entry is deleted
+
+module _ (n m : ℕ) (ws : List ℕ) (p : ℕ) (key : Key) (low : p < m) (long : n + 8 * m ≤ length ws) (even : entry_of n ws p 0 % 2 ≡ 0) (live : IsLive n ws p key) where
+  abbrev was : ℕ
+  was = entry_of n ws p 0
+
+  abbrev d1 : List ℕ
+  d1 = slice_set ws (entry_at n p 0) (was + 1)
+
+  abbrev d2 : List ℕ
+  d2 = slice_set d1 (entry_at n p 2) (gone_kind key)
+
+  abbrev d3 : List ℕ
+  d3 = slice_set d2 (entry_at n p 0) (was + 2)
+
+  dead_long : n + 8 * m ≤ length d2
+  dead_long = let a = length-set ws (entry_at n p 0) (was + 1) in let b = length-set d1 (entry_at n p 2) (gone_kind key) in omega (arith, a, b, long)
+
+  odd1 : entry_of n d1 p 0 ≡ was + 1
+  odd1 = get_or-set_same ws (entry_at n p 0) (was + 1) 0 (omega (arith, low, long))
+
+  odd2 : entry_of n d2 p 0 ≡ was + 1
+  odd2 = get_or-set_other d1 (entry_at n p 2) (entry_at n p 0) (gone_kind key) 0 (λ e. omega arith) ∙ odd1
+
+  kind1 : entry_of n d1 p 2 ≡ key_kind key
+  kind1 = get_or-set_other ws (entry_at n p 0) (entry_at n p 2) (was + 1) 0 (λ e. omega arith) ∙ live.0
+
+  kind2 : entry_of n d2 p 2 ≡ gone_kind key
+  kind2 = let a = length-set ws (entry_at n p 0) (was + 1) in get_or-set_same d1 (entry_at n p 2) (gone_kind key) 0 (omega (arith, low, long, a))
+
+  pub dead_others : (q w : ℕ) → q ≢ p → w < 8 → entry_of n d2 q w ≡ entry_of n ws q w
+  dead_others q w ne few = get_or-set_other d1 (entry_at n p 2) (entry_at n q w) (gone_kind key) 0 (λ e. ne (omega (arith, few, e))) ∙ get_or-set_other ws (entry_at n p 0) (entry_at n q w) (was + 1) 0 (λ e. ne (omega (arith, few, e)))
+
+  pub dead_open : (c : Pairs) → Careful n m ws c (entry_at n p 0) (was + 1)
+  dead_open c = let k = live.0 in let r = (kind_range key).1 in entry_open n m ws c p even (omega (arith, k, r))
+
+  pub dead_kind : (c : Pairs) → Careful n m d1 c (entry_at n p 2) (gone_kind key)
+  dead_kind c = let v = odd1 in entry_dies n m d1 c p key (omega (arith, v, even)) kind1
+
+  -- entries with an even version are as they were
+  pub dead_same : (q w : ℕ) → q < m → entry_of n d2 q 0 % 2 ≡ 0 → w < 8 → entry_of n d2 q w ≡ entry_of n ws q w
+  dead_same q w less two few =
+      dite (ℕ_discrete q p)
+      (λ (e : q ≡ p). let v : entry_of n d2 q 0 ≡ was + 1 = ap (λ (z : ℕ). entry_of n d2 z 0) e ∙ odd2 in absurd (omega (arith, v, two, even)))
+      (λ ne. dead_others q w ne few)
+
+  -- the version is made even once the content has nothing under the key
+  pub dead_late : (d : Pairs) → ((k : Key) → IsDead n d2 p k → d k ≡ []) → Careful n m d2 d (entry_at n p 0) (was + 2)
+  dead_late d none =
+      let v = odd2 in
+      entry_close n m d2 d p (was + 2) (omega (arith, v)) (omega (arith, even))
+      (λ k l. let g = gone_is key in let b = (kind_range key).0 in let h = (kind_range k).1 in let y = kind2 in let e = l.0 in absurd (omega (arith, g, b, h, y, e)))
+      none
+
+  pub dead_shut : Shut (λ q. entry_at n q 0) m ws → Shut (λ q. entry_at n q 0) m d3
+  dead_shut shut q less =
+      let l = dead_long in
+      dite (ℕ_discrete q p)
+      (λ (e : q ≡ p). let v : entry_of n d3 q 0 ≡ was + 2 = ap (λ (z : ℕ). entry_of n d3 z 0) e ∙ get_or-set_same d2 (entry_at n p 0) (was + 2) 0 (omega (arith, low, l)) in omega (arith, v, even))
+      (λ ne.
+      let v : entry_of n d3 q 0 ≡ entry_of n ws q 0 = get_or-set_other d2 (entry_at n p 0) (entry_at n q 0) (was + 2) 0 (λ e. ne (omega (arith, e))) ∙ dead_others q 0 ne (omega arith) in
+      let old = shut q less in
+      omega (arith, v, old))
+
+  -- the key of a deleted entry
+  pub dead_is : (k : Key) → IsDead n d2 p k → (key_kind k ≡ key_kind key) × (key_payload k ≡ key_payload key)
+  dead_is k dead =
+      let g = gone_is k in
+      let h = gone_is key in
+      let y = kind2 in
+      let e = dead.0 in
+      let pay : entry_of n d2 p 3 ≡ entry_of n ws p 3 = get_or-set_other d1 (entry_at n p 2) (entry_at n p 3) (gone_kind key) 0 (λ e. omega arith) ∙ get_or-set_other ws (entry_at n p 0) (entry_at n p 3) (was + 1) 0 (λ e. omega arith) in
+      (omega (arith, g, h, y, e), sym dead.1 ∙ (pay ∙ live.1))

@@ -1,5 +1,5 @@
 -- That a new entry of a dict may be put while others read its table, on lists of words alone.
-use Rattle.std.proofs.Common.{◌≡◌, ◌≢◌, ◌⊎◌, ℕ, ◌+◌, ◌*◌, ◌%◌, ◌<◌, List, length, refl, sym, ap, ◌∙◌, subst, inl, inr, ⊎_elim, arith, length-set, get_or-set_same, get_or-set_other}
+use Rattle.std.proofs.Common.{◌≡◌, ◌≢◌, ◌⊎◌, ℕ, ◌+◌, ◌*◌, ◌%◌, ◌<◌, List, length, refl, sym, ap, ◌∙◌, subst, inl, inr, ⊎_elim, arith, length-set, get_or-set_same, get_or-set_other, ◌≤◌}
 use Rattle.std.specs.Prelude.{slice_set}
 use mathlib.Core.Logic.{dite}
 use native.Mathlib.Decide.{ℕ_discrete}
@@ -62,142 +62,106 @@ index_put n m ws c s p less free used = record {
 
 -- ---- a new entry, put word by word
 
-module _ (n m : ℕ) (ws : List ℕ) (c d : Pairs) (p slot hash : ℕ) (key : Key) (kind payload serial : ℕ) (low : p < m) (in_index : slot < n) (long : length ws ≡ n + 8 * m) (even : entry_of n ws p 0 % 2 ≡ 0) (none : entry_of n ws p 2 ≡ 0) (free : index_of ws slot ≡ 0) where
+module _ (n m : ℕ) (ws : List ℕ) (p slot : ℕ) (low : p < m) (in_index : slot < n) (long : n + 8 * m ≤ length ws) (even : entry_of n ws p 0 % 2 ≡ 0) (none : entry_of n ws p 2 ≡ 0) (free : index_of ws slot ≡ 0) where
   abbrev ver : ℕ
   ver = entry_of n ws p 0
 
   -- how far the puts have come, before the kind
-  record Stage (l : List ℕ) : Type 0 where
-    ver_is : entry_of n l p 0 ≡ ver + 1
-    none_yet : entry_of n l p 2 ≡ 0
-    still_free : index_of l slot ≡ 0
-    size : length l ≡ n + 8 * m
-    rest : (q w : ℕ) → q ≢ p → w < 8 → entry_of n l q w ≡ entry_of n ws q w
+  pub record Stage (l : List ℕ) : Type 0 where
+    pub ver_is : entry_of n l p 0 ≡ ver + 1
+    pub none_yet : entry_of n l p 2 ≡ 0
+    pub still_free : index_of l slot ≡ 0
+    pub size : n + 8 * m ≤ length l
+    pub rest : (q w : ℕ) → q ≢ p → w < 8 → entry_of n l q w ≡ entry_of n ws q w
 
-  stage_next : (l : List ℕ) → Stage l → (w x : ℕ) → w < 8 → w ≢ 0 → w ≢ 2 → Stage (slice_set l (entry_at n p w) x)
+  pub stage_next : (l : List ℕ) → Stage l → (w x : ℕ) → w < 8 → w ≢ 0 → w ≢ 2 → Stage (slice_set l (entry_at n p w) x)
   stage_next l s w x few n0 n2 = record {
     ver_is = get_or-set_other l (entry_at n p w) (entry_at n p 0) x 0 (λ e. n0 (omega (arith, e))) ∙ s.ver_is;
     none_yet = get_or-set_other l (entry_at n p w) (entry_at n p 2) x 0 (λ e. n2 (omega (arith, e))) ∙ s.none_yet;
     still_free = get_or-set_other l (entry_at n p w) slot x 0 (λ e. absurd (omega (arith, e, in_index))) ∙ s.still_free;
-    size = length-set l (entry_at n p w) x ∙ s.size;
+    size = let a = length-set l (entry_at n p w) x in let b = s.size in omega (arith, a, b);
     rest = λ q u ne small. get_or-set_other l (entry_at n p w) (entry_at n q u) x 0 (λ e. ne (omega (arith, e, few, small))) ∙ s.rest q u ne small;
   }
 
-  abbrev g1 : List ℕ
-  g1 = slice_set ws (entry_at n p 0) (ver + 1)
-
-  abbrev g2 : List ℕ
-  g2 = slice_set g1 (entry_at n p 1) hash
-
-  abbrev g3 : List ℕ
-  g3 = slice_set g2 (entry_at n p 3) (key_payload key)
-
-  abbrev g4 : List ℕ
-  g4 = slice_set g3 (entry_at n p 4) kind
-
-  abbrev g5 : List ℕ
-  g5 = slice_set g4 (entry_at n p 5) payload
-
-  abbrev g6 : List ℕ
-  g6 = slice_set g5 (entry_at n p 6) serial
-
-  abbrev g7 : List ℕ
-  g7 = slice_set g6 (entry_at n p 2) (key_kind key)
-
-  abbrev pub g8 : List ℕ
-  g8 = slice_set g7 slot (p + 1)
-
-  s1 : Stage g1
-  s1 = record {
+  -- the version is made odd
+  pub stage_first : Stage (slice_set ws (entry_at n p 0) (ver + 1))
+  stage_first = record {
     ver_is = get_or-set_same ws (entry_at n p 0) (ver + 1) 0 (omega (arith, low, long));
     none_yet = get_or-set_other ws (entry_at n p 0) (entry_at n p 2) (ver + 1) 0 (λ e. absurd (omega (arith, e))) ∙ none;
     still_free = get_or-set_other ws (entry_at n p 0) slot (ver + 1) 0 (λ e. absurd (omega (arith, e, in_index))) ∙ free;
-    size = length-set ws (entry_at n p 0) (ver + 1) ∙ long;
+    size = let a = length-set ws (entry_at n p 0) (ver + 1) in omega (arith, a, long);
     rest = λ q u ne small. get_or-set_other ws (entry_at n p 0) (entry_at n q u) (ver + 1) 0 (λ e. ne (omega (arith, e, small)));
   }
 
-  s2 : Stage g2
-  s2 = stage_next g1 s1 1 hash (omega arith) (λ e. absurd (omega (arith, e))) (λ e. absurd (omega (arith, e)))
+  pub stage_odd : (l : List ℕ) → Stage l → entry_of n l p 0 % 2 ≡ 1
+  stage_odd l s = let v = s.ver_is in omega (arith, v, even)
 
-  s3 : Stage g3
-  s3 = stage_next g2 s2 3 (key_payload key) (omega arith) (λ e. absurd (omega (arith, e))) (λ e. absurd (omega (arith, e)))
+  -- each put
+  pub new_open : (c : Pairs) → Careful n m ws c (entry_at n p 0) (ver + 1)
+  new_open c = entry_open n m ws c p even (omega (arith, none))
 
-  s4 : Stage g4
-  s4 = stage_next g3 s3 4 kind (omega arith) (λ e. absurd (omega (arith, e))) (λ e. absurd (omega (arith, e)))
+  pub new_key : (c : Pairs) (l : List ℕ) → Stage l → (w x : ℕ) → (w ≡ 1) ⊎ (w ≡ 3) → Careful n m l c (entry_at n p w) x
+  new_key c l s w x which = entry_key n m l c p w x which (stage_odd l s) s.none_yet
 
-  s5 : Stage g5
-  s5 = stage_next g4 s4 5 payload (omega arith) (λ e. absurd (omega (arith, e))) (λ e. absurd (omega (arith, e)))
+  pub new_value : (c : Pairs) (l : List ℕ) → Stage l → (w x : ℕ) → 4 ≤ w → w < 8 → Careful n m l c (entry_at n p w) x
+  new_value c l s w x high few = entry_value n m l c p w x high few (stage_odd l s)
 
-  s6 : Stage g6
-  s6 = stage_next g5 s5 6 serial (omega arith) (λ e. absurd (omega (arith, e))) (λ e. absurd (omega (arith, e)))
+  -- the last two puts: the kind, and the index word that names the entry
+  module _ (key : Key) (l : List ℕ) (s : Stage l) where
+    abbrev l7 : List ℕ
+    l7 = slice_set l (entry_at n p 2) (key_kind key)
 
-  odd_in : (l : List ℕ) → Stage l → entry_of n l p 0 % 2 ≡ 1
-  odd_in l s = let v = s.ver_is in omega (arith, v, even)
+    abbrev pub l8 : List ℕ
+    l8 = slice_set l7 slot (p + 1)
 
-  ver7 : entry_of n g7 p 0 ≡ ver + 1
-  ver7 = get_or-set_other g6 (entry_at n p 2) (entry_at n p 0) (key_kind key) 0 (λ e. absurd (omega (arith, e))) ∙ s6.ver_is
+    ver7 : entry_of n l7 p 0 ≡ ver + 1
+    ver7 = get_or-set_other l (entry_at n p 2) (entry_at n p 0) (key_kind key) 0 (λ e. absurd (omega (arith, e))) ∙ s.ver_is
 
-  kind7 : entry_of n g7 p 2 ≡ key_kind key
-  kind7 = let l = s6.size in get_or-set_same g6 (entry_at n p 2) (key_kind key) 0 (omega (arith, low, l))
+    kind7 : entry_of n l7 p 2 ≡ key_kind key
+    kind7 = let long = s.size in get_or-set_same l (entry_at n p 2) (key_kind key) 0 (omega (arith, low, long))
 
-  free7 : index_of g7 slot ≡ 0
-  free7 = get_or-set_other g6 (entry_at n p 2) slot (key_kind key) 0 (λ e. absurd (omega (arith, e, in_index))) ∙ s6.still_free
+    free7 : index_of l7 slot ≡ 0
+    free7 = get_or-set_other l (entry_at n p 2) slot (key_kind key) 0 (λ e. absurd (omega (arith, e, in_index))) ∙ s.still_free
 
-  -- the last puts an index word, which is none of an entry
-  entry8 : (q w : ℕ) → entry_of n g8 q w ≡ entry_of n g7 q w
-  entry8 q w = get_or-set_other g7 slot (entry_at n q w) (p + 1) 0 (λ e. absurd (omega (arith, e, in_index)))
+    -- the last puts an index word, which is none of an entry
+    entry8 : (q w : ℕ) → entry_of n l8 q w ≡ entry_of n l7 q w
+    entry8 q w = get_or-set_other l7 slot (entry_at n q w) (p + 1) 0 (λ e. absurd (omega (arith, e, in_index)))
 
-  pub ver8 : entry_of n g8 p 0 ≡ ver + 1
-  ver8 = entry8 p 0 ∙ ver7
+    ver8 : entry_of n l8 p 0 ≡ ver + 1
+    ver8 = entry8 p 0 ∙ ver7
 
-  pub rest8 : (q w : ℕ) → q ≢ p → w < 8 → entry_of n g8 q w ≡ entry_of n ws q w
-  rest8 q w ne few = entry8 q w ∙ (get_or-set_other g6 (entry_at n p 2) (entry_at n q w) (key_kind key) 0 (λ e. ne (omega (arith, e, few))) ∙ s6.rest q w ne few)
+    rest8 : (q w : ℕ) → q ≢ p → w < 8 → entry_of n l8 q w ≡ entry_of n ws q w
+    rest8 q w ne few = entry8 q w ∙ (get_or-set_other l (entry_at n p 2) (entry_at n q w) (key_kind key) 0 (λ e. ne (omega (arith, e, few))) ∙ s.rest q w ne few)
 
-  long8 : length g8 ≡ n + 8 * m
-  long8 = length-set g7 slot (p + 1) ∙ (length-set g6 (entry_at n p 2) (key_kind key) ∙ s6.size)
+    long8 : n + 8 * m ≤ length l8
+    long8 = let a = length-set l7 slot (p + 1) in let b = length-set l (entry_at n p 2) (key_kind key) in let long = s.size in omega (arith, a, b, long)
 
-  pub key_open : Careful n m ws c (entry_at n p 0) (ver + 1)
-  key_open = entry_open n m ws c p even (omega (arith, none))
+    pub new_kind : (c : Pairs) → Careful n m l c (entry_at n p 2) (key_kind key)
+    new_kind c = let r = (kind_range key).0 in entry_kind n m l c p (key_kind key) (λ e. absurd (omega (arith, e, r))) (stage_odd l s) s.none_yet
 
-  pub key_hash : Careful n m g1 c (entry_at n p 1) hash
-  key_hash = entry_key n m g1 c p 1 hash (inl refl) (odd_in g1 s1) s1.none_yet
+    pub new_index : (c : Pairs) → Careful n m l7 c slot (p + 1)
+    new_index c = let r = (kind_range key).0 in let k = kind7 in index_put n m l7 c slot p in_index free7 (λ e. absurd (omega (arith, e, r, k)))
 
-  pub key_pay : Careful n m g2 c (entry_at n p 3) (key_payload key)
-  key_pay = entry_key n m g2 c p 3 (key_payload key) (inr refl) (odd_in g2 s2) s2.none_yet
+    -- entries with an even version are as they were
+    pub new_same : (q w : ℕ) → q < m → entry_of n l8 q 0 % 2 ≡ 0 → w < 8 → entry_of n l8 q w ≡ entry_of n ws q w
+    new_same q w less two few =
+        dite (ℕ_discrete q p)
+        (λ (e : q ≡ p). let v : entry_of n l8 q 0 ≡ ver + 1 = ap (λ (z : ℕ). entry_of n l8 z 0) e ∙ ver8 in absurd (omega (arith, v, two, even)))
+        (λ ne. rest8 q w ne few)
 
-  pub key_value_kind : Careful n m g3 c (entry_at n p 4) kind
-  key_value_kind = entry_value n m g3 c p 4 kind (omega arith) (omega arith) (odd_in g3 s3)
+    -- the version is made even once the content has what the entry says
+    pub new_late : (d : Pairs) → ((k : Key) → IsLive n l8 p k → d k ≡ said_of n l8 p) → Careful n m l8 d (entry_at n p 0) (ver + 2)
+    new_late d right =
+        let v = ver8 in
+        entry_close n m l8 d p (ver + 2) (omega (arith, v)) (omega (arith, even)) right
+        (λ k dead. let g = gone_is k in let b = (kind_range k).0 in let h = (kind_range key).1 in let x = entry8 p 2 in let y = kind7 in let e = dead.0 in absurd (omega (arith, g, b, h, x, y, e)))
 
-  pub key_value_pay : Careful n m g4 c (entry_at n p 5) payload
-  key_value_pay = entry_value n m g4 c p 5 payload (omega arith) (omega arith) (odd_in g4 s4)
-
-  pub key_serial : Careful n m g5 c (entry_at n p 6) serial
-  key_serial = entry_value n m g5 c p 6 serial (omega arith) (omega arith) (odd_in g5 s5)
-
-  pub key_kind_put : Careful n m g6 c (entry_at n p 2) (key_kind key)
-  key_kind_put = let r = (kind_range key).0 in entry_kind n m g6 c p (key_kind key) (λ e. absurd (omega (arith, e, r))) (odd_in g6 s6) s6.none_yet
-
-  pub key_index : Careful n m g7 c slot (p + 1)
-  key_index = let r = (kind_range key).0 in let k = kind7 in index_put n m g7 c slot p in_index free7 (λ e. absurd (omega (arith, e, r, k)))
-
-  pub same8 : (q w : ℕ) → q < m → entry_of n g8 q 0 % 2 ≡ 0 → w < 8 → entry_of n g8 q w ≡ entry_of n ws q w
-  same8 q w less two few =
-      dite (ℕ_discrete q p)
-      (λ (e : q ≡ p). let v : entry_of n g8 q 0 ≡ ver + 1 = ap (λ (z : ℕ). entry_of n g8 z 0) e ∙ ver8 in absurd (omega (arith, v, two, even)))
-      (λ ne. rest8 q w ne few)
-
-  pub key_late : ((k : Key) → IsLive n g8 p k → d k ≡ said_of n g8 p) → Careful n m g8 d (entry_at n p 0) (ver + 2)
-  key_late right =
-      let v = ver8 in
-      entry_close n m g8 d p (ver + 2) (omega (arith, v)) (omega (arith, even)) right
-      (λ k dead. let g = gone_is k in let b = (kind_range k).0 in let h = (kind_range key).1 in let x = entry8 p 2 in let y = kind7 in let e = dead.0 in absurd (omega (arith, g, b, h, x, y, e)))
-
-  pub key_shut : Shut (λ q. entry_at n q 0) m ws → Shut (λ q. entry_at n q 0) m (slice_set g8 (entry_at n p 0) (ver + 2))
-  key_shut shut q less =
-      let l = long8 in
-      dite (ℕ_discrete q p)
-      (λ (e : q ≡ p). let v : entry_of n (slice_set g8 (entry_at n p 0) (ver + 2)) q 0 ≡ ver + 2 = ap (λ (z : ℕ). entry_of n (slice_set g8 (entry_at n p 0) (ver + 2)) z 0) e ∙ get_or-set_same g8 (entry_at n p 0) (ver + 2) 0 (omega (arith, low, l)) in omega (arith, v, even))
-      (λ ne.
-      let v : entry_of n (slice_set g8 (entry_at n p 0) (ver + 2)) q 0 ≡ entry_of n ws q 0 = get_or-set_other g8 (entry_at n p 0) (entry_at n q 0) (ver + 2) 0 (λ e. ne (omega (arith, e))) ∙ rest8 q 0 ne (omega arith) in
-      let old = shut q less in
-      omega (arith, v, old))
+    pub new_shut : Shut (λ q. entry_at n q 0) m ws → Shut (λ q. entry_at n q 0) m (slice_set l8 (entry_at n p 0) (ver + 2))
+    new_shut shut q less =
+        let long = long8 in
+        dite (ℕ_discrete q p)
+        (λ (e : q ≡ p). let v : entry_of n (slice_set l8 (entry_at n p 0) (ver + 2)) q 0 ≡ ver + 2 = ap (λ (z : ℕ). entry_of n (slice_set l8 (entry_at n p 0) (ver + 2)) z 0) e ∙ get_or-set_same l8 (entry_at n p 0) (ver + 2) 0 (omega (arith, low, long)) in omega (arith, v, even))
+        (λ ne.
+        let v : entry_of n (slice_set l8 (entry_at n p 0) (ver + 2)) q 0 ≡ entry_of n ws q 0 = get_or-set_other l8 (entry_at n p 0) (entry_at n q 0) (ver + 2) 0 (λ e. ne (omega (arith, e))) ∙ rest8 q 0 ne (omega arith) in
+        let old = shut q less in
+        omega (arith, v, old))

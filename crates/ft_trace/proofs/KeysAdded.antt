@@ -1,5 +1,5 @@
 -- That a key may be added to a dict by a pass that has its lock, where the table has room, as a whole write.
-use Rattle.std.proofs.Common.{◌≡◌, ℕ, suc, ◌+◌, ◌-◌, ◌*◌, ◌%◌, ◌<◌, ◌≤◌, Bool, true, false, List, [], ◌∷◌, ◌++◌, length, Option, Some, None, refl, sym, ap, ◌∙◌, subst, inr, arith, get_or-set_same, get_or-set_other}
+use Rattle.std.proofs.Common.{◌≡◌, ℕ, suc, ◌+◌, ◌-◌, ◌*◌, ◌%◌, ◌<◌, ◌≤◌, Bool, true, false, List, [], ◌∷◌, ◌++◌, length, Option, Some, None, refl, sym, ap, ◌∙◌, subst, inr, arith, get_or-set_same, get_or-set_other, inl, ◌⊎◌, ◌≢◌}
 use Rattle.std.specs.Prelude.{◌&&◌, All, nat_lt, slice_index, slice_set, if◌then◌else◌}
 use Rattle.std.proofs.lemmas.Bool.{le-ltb}
 use Rattle.ft_model.specs.declared.call.Call.{Call}
@@ -41,7 +41,7 @@ use Rattle.ft_trace.specs.EntryWrites.{entry_closed}
 use Rattle.ft_trace.specs.KeyWrites.{key_puts, count_puts, dict_add_write, KeysMayBeAdded}
 use Rattle.ft_trace.proofs.FitCalls.{dict_fits_words, set_fit}
 use Rattle.ft_trace.proofs.Known.{declared_at, in_bank, table_is_long, after_header}
-use Rattle.ft_trace.proofs.KeyPuts.{key_open, key_hash, key_pay, key_value_kind, key_value_pay, key_serial, key_kind_put, key_index, same8, key_late, key_shut}
+use Rattle.ft_trace.proofs.KeyPuts.{Stage, stage_first, stage_next, new_open, new_key, new_value, new_kind, new_index, new_same, new_late, new_shut}
 use Rattle.ft_trace.proofs.ListWrites.{may_begin}
 use Rattle.ft_trace.proofs.DictWrites.{EntryVersionsChangeNothing, FirstEntriesArePairs, dict_right, dict_short, dict_clear, dict_kind, dict_class_is, dict_says, dict_shut, dict_there, dict_in, dict_in_tables, dict_table_is, dict_found, dict_answered, dict_left_at, dict_left, dict_passes_not, room_is}
 use Rattle.ft_trace.proofs.Tellings.{word_is}
@@ -143,29 +143,66 @@ module _ (versions : EntryVersionsChangeNothing) (first : FirstEntriesArePairs) 
   table_put : (l : List ℕ) (i x : ℕ) → i < size c → Careful n m l (under (content.Dict pairs)) i x → ((q : ℕ) → i ≡ entry_at n q 0 → x % 2 ≡ 1) → MayPut kind.Dict t (content.Dict pairs) false (record { block = block; table = l }) (to_table i x)
   table_put l i x small care odd = (names_now, small, care, time i x odd)
 
+  at_least : n + 8 * m ≤ length ws
+  at_least = let l = long in omega (arith, l)
+
+  -- the puts of the entry before its kind
+  abbrev At : List ℕ → Type 0
+  At l = Stage n m ws p slot room in_index at_least even none free l
+
+  abbrev l1 : List ℕ
+  l1 = slice_set ws (entry_at n p 0) (ver + 1)
+
+  abbrev l2 : List ℕ
+  l2 = slice_set l1 (entry_at n p 1) (hash_of k.texts key)
+
+  abbrev l3 : List ℕ
+  l3 = slice_set l2 (entry_at n p 3) (key_payload key)
+
+  abbrev l4 : List ℕ
+  l4 = slice_set l3 (entry_at n p 4) (stored_kind (Plain value))
+
+  abbrev l5 : List ℕ
+  l5 = slice_set l4 (entry_at n p 5) (stored_payload (Plain value))
+
+  abbrev l6 : List ℕ
+  l6 = slice_set l5 (entry_at n p 6) pairs.next
+
+  next_stage : (l : List ℕ) → At l → (w x : ℕ) → w < 8 → w ≢ 0 → w ≢ 2 → At (slice_set l (entry_at n p w) x)
+  next_stage = stage_next n m ws p slot room in_index at_least even none free
+
+  s1 : At l1
+  s1 = stage_first n m ws p slot room in_index at_least even none free
+
+  s2 : At l2
+  s2 = next_stage l1 s1 1 (hash_of k.texts key) (omega arith) (λ e. absurd (omega (arith, e))) (λ e. absurd (omega (arith, e)))
+
+  s3 : At l3
+  s3 = next_stage l2 s2 3 (key_payload key) (omega arith) (λ e. absurd (omega (arith, e))) (λ e. absurd (omega (arith, e)))
+
+  s4 : At l4
+  s4 = next_stage l3 s3 4 (stored_kind (Plain value)) (omega arith) (λ e. absurd (omega (arith, e))) (λ e. absurd (omega (arith, e)))
+
+  s5 : At l5
+  s5 = next_stage l4 s4 5 (stored_payload (Plain value)) (omega arith) (λ e. absurd (omega (arith, e))) (λ e. absurd (omega (arith, e)))
+
+  s6 : At l6
+  s6 = next_stage l5 s5 6 pairs.next (omega arith) (λ e. absurd (omega (arith, e))) (λ e. absurd (omega (arith, e)))
+
   puts : MayPuts kind.Dict t (content.Dict pairs) false (record { block = block; table = ws }) (key_puts n ws p slot (hash_of k.texts key) key value pairs.next)
   puts =
       let before = under (content.Dict pairs) in
-      let after = under (content.Dict news) in
-      let h = hash_of k.texts key in
-      let vk = stored_kind (Plain value) in
-      let vp = stored_payload (Plain value) in
       let e = even in
-      let l1 : List ℕ = slice_set ws (entry_at n p 0) (ver + 1) in
-      let l2 : List ℕ = slice_set l1 (entry_at n p 1) h in
-      let l3 : List ℕ = slice_set l2 (entry_at n p 3) (key_payload key) in
-      let l4 : List ℕ = slice_set l3 (entry_at n p 4) vk in
-      let l5 : List ℕ = slice_set l4 (entry_at n p 5) vp in
-      let l6 : List ℕ = slice_set l5 (entry_at n p 6) pairs.next in
-      let l7 : List ℕ = slice_set l6 (entry_at n p 2) (key_kind key) in
-      let p1 = table_put ws (entry_at n p 0) (ver + 1) (inside 0 (omega arith)) (key_open n m ws before after p slot h key vk vp pairs.next room in_index long even none free) (λ q z. omega (arith, e)) in
-      let p2 = table_put l1 (entry_at n p 1) h (inside 1 (omega arith)) (key_hash n m ws before after p slot h key vk vp pairs.next room in_index long even none free) (λ q z. absurd (omega (arith, z))) in
-      let p3 = table_put l2 (entry_at n p 3) (key_payload key) (inside 3 (omega arith)) (key_pay n m ws before after p slot h key vk vp pairs.next room in_index long even none free) (λ q z. absurd (omega (arith, z))) in
-      let p4 = table_put l3 (entry_at n p 4) vk (inside 4 (omega arith)) (key_value_kind n m ws before after p slot h key vk vp pairs.next room in_index long even none free) (λ q z. absurd (omega (arith, z))) in
-      let p5 = table_put l4 (entry_at n p 5) vp (inside 5 (omega arith)) (key_value_pay n m ws before after p slot h key vk vp pairs.next room in_index long even none free) (λ q z. absurd (omega (arith, z))) in
-      let p6 = table_put l5 (entry_at n p 6) pairs.next (inside 6 (omega arith)) (key_serial n m ws before after p slot h key vk vp pairs.next room in_index long even none free) (λ q z. absurd (omega (arith, z))) in
-      let p7 = table_put l6 (entry_at n p 2) (key_kind key) (inside 2 (omega arith)) (key_kind_put n m ws before after p slot h key vk vp pairs.next room in_index long even none free) (λ q z. absurd (omega (arith, z))) in
-      let p8 = table_put l7 slot (p + 1) (omega (arith, in_index)) (key_index n m ws before after p slot h key vk vp pairs.next room in_index long even none free) (λ q z. absurd (omega (arith, z, in_index))) in
+      let of_key = new_key n m ws p slot room in_index at_least even none free before in
+      let of_value = new_value n m ws p slot room in_index at_least even none free before in
+      let p1 = table_put ws (entry_at n p 0) (ver + 1) (inside 0 (omega arith)) (new_open n m ws p slot room in_index at_least even none free before) (λ q z. omega (arith, e)) in
+      let p2 = table_put l1 (entry_at n p 1) (hash_of k.texts key) (inside 1 (omega arith)) (of_key l1 s1 1 (hash_of k.texts key) (inl refl)) (λ q z. absurd (omega (arith, z))) in
+      let p3 = table_put l2 (entry_at n p 3) (key_payload key) (inside 3 (omega arith)) (of_key l2 s2 3 (key_payload key) (inr refl)) (λ q z. absurd (omega (arith, z))) in
+      let p4 = table_put l3 (entry_at n p 4) (stored_kind (Plain value)) (inside 4 (omega arith)) (of_value l3 s3 4 (stored_kind (Plain value)) (omega arith) (omega arith)) (λ q z. absurd (omega (arith, z))) in
+      let p5 = table_put l4 (entry_at n p 5) (stored_payload (Plain value)) (inside 5 (omega arith)) (of_value l4 s4 5 (stored_payload (Plain value)) (omega arith) (omega arith)) (λ q z. absurd (omega (arith, z))) in
+      let p6 = table_put l5 (entry_at n p 6) pairs.next (inside 6 (omega arith)) (of_value l5 s5 6 pairs.next (omega arith) (omega arith)) (λ q z. absurd (omega (arith, z))) in
+      let p7 = table_put l6 (entry_at n p 2) (key_kind key) (inside 2 (omega arith)) (new_kind n m ws p slot room in_index at_least even none free key l6 s6 before) (λ q z. absurd (omega (arith, z))) in
+      let p8 = table_put (slice_set l6 (entry_at n p 2) (key_kind key)) slot (p + 1) (omega (arith, in_index)) (new_index n m ws p slot room in_index at_least even none free key l6 s6 before) (λ q z. absurd (omega (arith, z, in_index))) in
       (p1, (p2, (p3, (p4, (p5, (p6, (p7, (p8, tt))))))))
 
   early : MayPuts kind.Dict t (content.Dict pairs) false (held o v) (count_puts (length pairs.pairs + 1) (p + 1) (pairs.next + 1) ++ key_puts n ws p slot (hash_of k.texts key) key value pairs.next)
@@ -180,13 +217,13 @@ module _ (versions : EntryVersionsChangeNothing) (first : FirstEntriesArePairs) 
   clear : Clear (walk_of kind.Dict k.texts c) n m put (under (content.Dict pairs)) (under (content.Dict news))
   clear =
       dict_clear first k.texts block b0 c p (p + 1) class_is pairs news ws put says now
-      (λ q w less two few. same8 n m ws (under (content.Dict pairs)) (under (content.Dict news)) p slot (hash_of k.texts key) key (stored_kind (Plain value)) (stored_payload (Plain value)) pairs.next room in_index long even none free q w less two few)
+      (λ q w less two few. new_same n m ws p slot room in_index at_least even none free key l6 s6 q w less two few)
 
   late : MayPuts kind.Dict t (content.Dict news) true (at_commit v o write) (entry_closed n ws p)
   late =
       let e = even in
       let care =
-      key_late n m ws (under (content.Dict pairs)) (under (content.Dict news)) p slot (hash_of k.texts key) key (stored_kind (Plain value)) (stored_payload (Plain value)) pairs.next room in_index long even none free
+      new_late n m ws p slot room in_index at_least even none free key l6 s6 (under (content.Dict news))
       (λ a l. dict_right first k.texts block c (p + 1) class_is news put now p a room l) in
       ((names_now, inside 0 (omega arith), care, record { before = λ q less at one. absurd (omega (arith, one, e)); later = λ q less at two. refl }), tt)
 
@@ -261,7 +298,7 @@ module _ (versions : EntryVersionsChangeNothing) (first : FirstEntriesArePairs) 
         }
 
   shut_end : Shut (version_at (kind_in k.kinds o) c) (rows (kind_in k.kinds o) c) (at_end v o write).table
-  shut_end = subst (λ (z : Kind). Shut (version_at z c) (rows z c) (at_end v o write).table) kind_eq (key_shut n m ws (under (content.Dict pairs)) (under (content.Dict news)) p slot (hash_of k.texts key) key (stored_kind (Plain value)) (stored_payload (Plain value)) pairs.next room in_index long even none free shut)
+  shut_end = subst (λ (z : Kind). Shut (version_at z c) (rows z c) (at_end v o write).table) kind_eq (new_shut n m ws p slot room in_index at_least even none free key l6 s6 shut)
 
   may_write : MayWriteSo v o t write
   may_write = record {

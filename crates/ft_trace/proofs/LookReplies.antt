@@ -43,9 +43,10 @@ use Rattle.ft_trace.specs.Worlds.{kept, kept_at, kind_in, first_writes, reply_in
 use Rattle.ft_trace.specs.Traces.{Event, did, forked, joined, sent, history, writes_of, Valid}
 use Rattle.ft_trace.specs.LookReplies.{key_reply, item_reply, DictReplies, stored_at, DictHitsAreReplied, SetHitsAreReplied, MissesAreReplied, ItemsAreReplied, PastItemsAreReplied}
 use Rattle.ft_trace.proofs.FitCalls.{contents_fit}
-use Rattle.ft_trace.proofs.Known.{mapped, kinds_stay}
+use Rattle.ft_trace.proofs.Known.{at_any, mapped, kinds_stay}
 use Rattle.ft_trace.proofs.Tellings.{key_is, key_words}
 use Rattle.ft_trace.proofs.Untouched.{as_many}
+use Rattle.ft_trace.proofs.SameKeys.{same_keys, same_find, found_has, any_found}
 use Rattle.ft_trace.proofs.Rule.{hits_are_right, misses_are_right, bare_roots_are_right, items_are_right, lists_fit_their_tables}
 
 -- ---- an earlier history
@@ -71,46 +72,7 @@ earlier k (forked id v ∷ es) valid n = earlier k es valid.0 n
 earlier k (sent id v given ∷ es) valid n = earlier k es valid.0 n
 earlier k (joined id v other w ∷ es) valid n = earlier k es valid.0 n
 
--- ---- keys by their words
-
-bools : (a b : Bool) → (a ≡ true → b ≡ true) → (b ≡ true → a ≡ true) → a ≡ b
-bools true b one other = sym (one refl)
-bools false true one other = other refl
-bools false false one other = refl
-
-same_keys : (a b : Key) → FitsKey a → FitsKey b → is_key a b ≡ same_key a b
-same_keys a b f g =
-    bools (is_key a b) (same_key a b)
-    (λ e. let w = key_words a b e in let same : a ≡ b = words.same_key a b f g w.0 w.1 in ap (same_key a) (sym same) ∙ same_key-refl a)
-    (λ e. let same = same_key-true a b e in key_is a b (ap key_kind same) (ap key_payload same))
-
-module _ {X : Type 0} (test other : X → Bool) (P : X → Type 0) (same : (x : X) → P x → test x ≡ other x) where
-  same_find : (xs : List X) → All P xs → find test xs ≡ find other xs
-  same_find [] each = refl
-  same_find (x ∷ xs) each = (λ d. cond (same x (All-head P x xs each) d) (Some x) (same_find xs (All-tail P x xs each) d))
-
-found_has : {X : Type 0} (test : X → Bool) (P : X → Type 0) (xs : List X) (x : X) → All P xs → find test xs ≡ Some x → P x
-found_has test P [] x each e = absurd (cc)
-found_has {X} test P (y ∷ ys) x each e =
-    elim (test y) as (λ b. test y ≡ b → P x) [
-      | true ↦ λ yes. let same : Some y ≡ Some x = sym (ap (λ (b : Bool). cond b (Some y) (find test ys)) yes) ∙ e in let is : y ≡ x = cc in subst P is (All-head P y ys each)
-      | false ↦ λ no. found_has test P ys x (All-tail P y ys each) (sym (ap (λ (b : Bool). cond b (Some y) (find test ys)) no) ∙ e)
-    ] refl
-
-any_found : {X : Type 0} (test : X → Bool) (xs : List X) → list_any test xs ≡ is_some (find test xs)
-any_found test [] = refl
-any_found {X} test (x ∷ xs) =
-    elim (test x) as (λ b. test x ≡ b → list_any test (x ∷ xs) ≡ is_some (find test (x ∷ xs))) [
-      | true ↦ λ e. ap (λ (b : Bool). b || list_any test xs) e ∙ sym (ap (λ (b : Bool). is_some (cond b (Some x) (find test xs))) e)
-      | false ↦ λ e. ap (λ (b : Bool). b || list_any test xs) e ∙ (any_found test xs ∙ sym (ap (λ (b : Bool). is_some (cond b (Some x) (find test xs))) e))
-    ] refl
-
 -- ---- what stands at a place
-
-any_default : {X : Type 0} (xs : List X) (i : ℕ) (d e : X) → i < length xs → slice_index_or xs i d ≡ slice_index_or xs i e
-any_default [] i d e low = absurd (omega arith)
-any_default (x ∷ xs) zero d e low = refl
-any_default (x ∷ xs) (suc i) d e low = any_default xs i d e (omega arith)
 
 dict_is : (c : Content) → kind_of c ≡ kind.Dict → c ≡ content.Dict (dict_of c)
 dict_is (content.Dict dict) e = refl
@@ -239,10 +201,10 @@ module _ (k : Shape) (es : List Event) (valid : Valid k es) (o n : ℕ) (low : o
   kind_is = sym (mapped kind_of then_.world o (content.List [])) ∙ ap (λ (l : List Kind). slice_index_or l o kind.List) (ap (λ (z : StoredWorld). map kind_of z.world) (sym stored_is) ∙ kinds_stay k past.older past.valid)
 
   dict_there : kind_in k.kinds o ≡ kind.Dict → at ≡ content.Dict (dict_at then_.world o)
-  dict_there is = dict_is at (kind_is ∙ is) ∙ ap (λ (z : Content). content.Dict (dict_of z)) (any_default then_.world o (content.List []) (content.Dict empty_dict) many)
+  dict_there is = dict_is at (kind_is ∙ is) ∙ ap (λ (z : Content). content.Dict (dict_of z)) (at_any then_.world o (content.List []) (content.Dict empty_dict) many)
 
   set_there : kind_in k.kinds o ≡ kind.Set → at ≡ content.Set (set_at then_.world o)
-  set_there is = set_is at (kind_is ∙ is) ∙ ap (λ (z : Content). content.Set (set_of z)) (any_default then_.world o (content.List []) (content.Set empty_set) many)
+  set_there is = set_is at (kind_is ∙ is) ∙ ap (λ (z : Content). content.Set (set_of z)) (at_any then_.world o (content.List []) (content.Set empty_set) many)
 
   pairs_fit : (is : kind_in k.kinds o ≡ kind.Dict) → All (λ pair. FitsKey pair.key × FitsValue pair.value) (dict_at then_.world o).pairs
   pairs_fit is = subst FitsContent (dict_there is) fit

@@ -6,6 +6,7 @@ ghost use Rattle.ft_trace.specs.Replies.{RepliesMayBeGiven, MemoryErrorsMayBeAns
 ghost use Rattle.ft_trace.specs.LookReplies.{DictHitsAreReplied, SetHitsAreReplied, MissesAreReplied, ItemsAreReplied, PastItemsAreReplied};
 ghost use Rattle.ft_trace.specs.EntryWrites.{ValuesMayBePut};
 ghost use Rattle.ft_trace.specs.KeyWrites.{KeysMayBeAdded};
+ghost use Rattle.ft_trace.specs.DeleteWrites.{KeysMayBeDeleted};
 ghost use Rattle.ft_trace.specs.GrowWrites.{DictsMayGrow};
 ghost use Rattle.ft_trace.specs.Laws.{ContentsFit, StoredTablesAreInOrder, WordsLieApart, PairsAreUnderTheirKeys, ElementsAreUnderTheirKeys, OnePassIsAlone, StampsRise, MemoryErrorsAreEarned, LocksNameHolders, VersionsAreOddInWrites, EvenTablesAreShut, NumbersAreOnce, EntriesAreRight, OneHasAllEntries, EvenWordsStand, ZeroRootsHaveNothing, HoldersKnow, TablesAreSomewhere, TablesAreInOnePlace, CountsStand, TablesAreOwed, EmptyClassesAreEarned, AnnouncedNumbersAreLow, FoundTablesAreKept, GoalsStand, GivenUpTablesRest, TablesAreSound, TableWordsStay, HitsAreRight, MissesAreRight, BareRootsAreRight, ItemsAreRight, ListsFitTheirTables, LooksAreRight, LooksAtBothAreRight, ChangedRootsAreNew, NumbersHaveRoom};
 
@@ -253,6 +254,14 @@ pub fn values_may_be_put()
 /// A pass with the lock of a dict whose table has room may add a key.
 pub fn keys_may_be_added()
     ensures { KeysMayBeAdded }
+{
+    versions_change_nothing();
+    used_entries_follow_a_dict();
+}
+
+/// A pass with the lock of a dict may take out a key that is there.
+pub fn keys_may_be_deleted()
+    ensures { KeysMayBeDeleted }
 {
     versions_change_nothing();
     used_entries_follow_a_dict();

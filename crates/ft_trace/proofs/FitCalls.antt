@@ -29,7 +29,7 @@ use Rattle.ft_model.specs.Tables.{stored_newest}
 use Rattle.ft_layout.specs.declared.slot.Stored.{Stored}
 use Rattle.ft_layout.specs.Words.{FitsKey, FitsStored, IsEntry}
 use Rattle.ft_layout.specs.Tables.{UsedEntry, is_live, hash_of, slot_with, entry_word}
-use Rattle.ft_layout.specs.Containers.{class_mask, used_pair, IsDictWords}
+use Rattle.ft_layout.specs.Containers.{class_mask, used_pair, used_element, IsDictWords, IsSetWords}
 use Rattle.ft_trace.specs.declared.Shape.{Shape}
 use Rattle.ft_trace.specs.declared.View.{View}
 use Rattle.ft_trace.specs.declared.Act.{Act}
@@ -225,6 +225,11 @@ pub dict_fits_words : (texts block ws : List ℕ) (c fill : ℕ) (dict : DictCon
 dict_fits_words texts block ws c fill dict says =
     let all : All FitsUsed says.used = λ p any low. let e = get_or says.used p any in used_fits (entry_word (class_mask c) ws p) (hash_of texts e.key) e.key e.serial e.stored (says.table.entries p any low) in
     mapped FitsUsed used_pair dict.pairs (subst (All FitsUsed) says.entries.live (All-filter is_live FitsUsed says.used all))
+
+pub set_fits_words : (texts block ws : List ℕ) (c fill : ℕ) (elements : SetContent) → IsSetWords texts block ws (Some c) fill elements → All FitsElement elements.elements
+set_fits_words texts block ws c fill elements says =
+    let all : All FitsUsed says.used = λ p any low. let e = get_or says.used p any in used_fits (entry_word (class_mask c) ws p) (hash_of texts e.key) e.key e.serial e.stored (says.table.entries p any low) in
+    All-weaker (λ element. FitsUsed (used_element element)) FitsElement (λ element fits. fits.0) elements.elements (mapped FitsUsed used_element elements.elements (subst (All FitsUsed) says.entries.live (All-filter is_live FitsUsed says.used all)))
 
 -- a key that was set, and its value
 pub set_fit : (dict : DictContent) (key : Key) (value : Value) → has_key dict.pairs key ≡ false → All FitsPair (dict_set dict key value).pairs → FitsKey key × FitsValue value

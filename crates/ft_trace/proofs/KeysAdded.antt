@@ -47,7 +47,7 @@ use Rattle.ft_trace.proofs.DictWrites.{EntryVersionsChangeNothing, FirstEntriesA
 use Rattle.ft_trace.proofs.Tellings.{word_is}
 use Rattle.ft_trace.proofs.Writing.{write_possible}
 
-and_false : (b : Bool) → (b && false) ≡ false
+pub and_false : (b : Bool) → (b && false) ≡ false
 and_false true = refl
 and_false false = refl
 

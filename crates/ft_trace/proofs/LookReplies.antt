@@ -87,7 +87,7 @@ set_is (content.Set set) e = refl
 -- ---- what a dict, a set or a list replies
 
 module _ (stored : StoredWorld) (o : ℕ) where
-  replies : (key : Key) (found : Option Value) → dict_get (dict_at stored.world o).pairs key ≡ found → DictReplies stored o key found
+  pub replies : (key : Key) (found : Option Value) → dict_get (dict_at stored.world o).pairs key ≡ found → DictReplies stored o key found
   replies key found is =
       let pairs = (dict_at stored.world o).pairs in
       let has : has_key pairs key ≡ is_some found = any_found (is_at key) pairs ∙ (by_get (find (is_at key) pairs) ∙ ap is_some is) in
@@ -105,7 +105,7 @@ module _ (stored : StoredWorld) (o : ℕ) where
       by_found (Some value) = refl
       by_found None = refl
 
-  item_in : (place : ℕ) (found : Option Value) → slice_get (list_at stored.world o) place ≡ found → reply_in stored (call.List o (list.Get (pos place))) ≡ item_reply found
+  pub item_in : (place : ℕ) (found : Option Value) → slice_get (list_at stored.world o) place ≡ found → reply_in stored (call.List o (list.Get (pos place))) ≡ item_reply found
   item_in place found is = by_list (list_at stored.world o) place found is
     where
       answered : List Value → ℕ → Reply
@@ -137,21 +137,21 @@ module _ (dict : DictContent) (key : Key) (fits : FitsKey key) (each : All (λ p
   under_is : under (content.Dict dict) key ≡ option_map_or pair_words at_key []
   under_is = ap (λ (z : Option DictPair). option_map_or pair_words z []) (same_find (λ pair. is_key pair.key key) (is_at key) (λ pair. FitsKey pair.key × FitsValue pair.value) (λ pair f. same_keys pair.key key f.0 fits) dict.pairs each)
 
-  there : under (content.Dict dict) key ≢ [] → (pair : DictPair) × (at_key ≡ Some pair)
+  pub there : under (content.Dict dict) key ≢ [] → (pair : DictPair) × (at_key ≡ Some pair)
   there some_words = by at_key refl
     where
       by : (z : Option DictPair) → at_key ≡ z → (pair : DictPair) × (at_key ≡ Some pair)
       by (Some pair) e = (pair, e)
       by None e = absurd (some_words (under_is ∙ ap (λ (z : Option DictPair). option_map_or pair_words z []) e))
 
-  not_there : under (content.Dict dict) key ≡ [] → dict_get dict.pairs key ≡ None
+  pub not_there : under (content.Dict dict) key ≡ [] → dict_get dict.pairs key ≡ None
   not_there no_words = by at_key refl
     where
       by : (z : Option DictPair) → at_key ≡ z → dict_get dict.pairs key ≡ None
       by (Some pair) e = absurd (let w = sym no_words ∙ (under_is ∙ ap (λ (z : Option DictPair). option_map_or pair_words z []) e) in cc)
       by None e = ap (option_map (λ (pair : DictPair). pair.value)) e
 
-  value_there : (some_words : under (content.Dict dict) key ≢ []) (kind payload : ℕ) → slice_index (under (content.Dict dict) key) 0 ≡ kind → slice_index (under (content.Dict dict) key) 1 ≡ payload → (value : Value) × IsStored kind payload (Plain value) × (dict_get dict.pairs key ≡ Some value)
+  pub value_there : (some_words : under (content.Dict dict) key ≢ []) (kind payload : ℕ) → slice_index (under (content.Dict dict) key) 0 ≡ kind → slice_index (under (content.Dict dict) key) 1 ≡ payload → (value : Value) × IsStored kind payload (Plain value) × (dict_get dict.pairs key ≡ Some value)
   value_there some_words kind payload one two =
       let p = there some_words in
       let words = under_is ∙ ap (λ (z : Option DictPair). option_map_or pair_words z []) p.1 in
@@ -162,14 +162,14 @@ module _ (set : SetContent) (key : Key) (fits : FitsKey key) (each : All (λ ele
   set_under_is : under (content.Set set) key ≡ option_map_or element_words (find (λ element. same_key element.key key) set.elements) []
   set_under_is = ap (λ (z : Option Element). option_map_or element_words z []) (same_find (λ element. is_key element.key key) (λ element. same_key element.key key) (λ element. FitsKey element.key) (λ element f. same_keys element.key key f fits) set.elements each)
 
-  element_there : under (content.Set set) key ≢ [] → has_element set.elements key ≡ true
+  pub element_there : under (content.Set set) key ≢ [] → has_element set.elements key ≡ true
   element_there some_words = any_found (λ element. same_key element.key key) set.elements ∙ by (find (λ element. same_key element.key key) set.elements) refl
     where
       by : (z : Option Element) → find (λ element. same_key element.key key) set.elements ≡ z → is_some z ≡ true
       by (Some element) e = refl
       by None e = absurd (some_words (set_under_is ∙ ap (λ (z : Option Element). option_map_or element_words z []) e))
 
-  element_missing : under (content.Set set) key ≡ [] → has_element set.elements key ≡ false
+  pub element_missing : under (content.Set set) key ≡ [] → has_element set.elements key ≡ false
   element_missing no_words = any_found (λ element. same_key element.key key) set.elements ∙ by (find (λ element. same_key element.key key) set.elements) refl
     where
       by : (z : Option Element) → find (λ element. same_key element.key key) set.elements ≡ z → is_some z ≡ false

@@ -7,12 +7,13 @@ ghost use Rattle.ft_trace.specs.LookReplies.{DictHitsAreReplied, SetHitsAreRepli
 ghost use Rattle.ft_trace.specs.EntryWrites.{ValuesMayBePut};
 ghost use Rattle.ft_trace.specs.KeyWrites.{KeysMayBeAdded};
 ghost use Rattle.ft_trace.specs.DeleteWrites.{KeysMayBeDeleted};
+ghost use Rattle.ft_trace.specs.SetWrites.{ElementsMayBeAdded, ElementsMayBeDiscarded};
 ghost use Rattle.ft_trace.specs.GrowWrites.{DictsMayGrow};
 ghost use Rattle.ft_trace.specs.Laws.{ContentsFit, StoredTablesAreInOrder, WordsLieApart, PairsAreUnderTheirKeys, ElementsAreUnderTheirKeys, OnePassIsAlone, StampsRise, MemoryErrorsAreEarned, LocksNameHolders, VersionsAreOddInWrites, EvenTablesAreShut, NumbersAreOnce, EntriesAreRight, OneHasAllEntries, EvenWordsStand, ZeroRootsHaveNothing, HoldersKnow, TablesAreSomewhere, TablesAreInOnePlace, CountsStand, TablesAreOwed, EmptyClassesAreEarned, AnnouncedNumbersAreLow, FoundTablesAreKept, GoalsStand, GivenUpTablesRest, TablesAreSound, TableWordsStay, HitsAreRight, MissesAreRight, BareRootsAreRight, ItemsAreRight, ListsFitTheirTables, LooksAreRight, LooksAtBothAreRight, ChangedRootsAreNew, NumbersHaveRoom};
 
 use ft_layout::{
-    puts_change_one_item, used_entries_follow_a_dict, versions_change_nothing, words_follow_a_dict,
-    words_follow_a_list,
+    puts_change_one_item, used_entries_follow_a_dict, used_entries_follow_a_set,
+    versions_change_nothing, words_follow_a_dict, words_follow_a_list,
 };
 
 /// A lock word is the number of the one pass that has the lock.
@@ -265,6 +266,22 @@ pub fn keys_may_be_deleted()
 {
     versions_change_nothing();
     used_entries_follow_a_dict();
+}
+
+/// A pass with the lock of a set whose table has room may add a key.
+pub fn elements_may_be_added()
+    ensures { ElementsMayBeAdded }
+{
+    versions_change_nothing();
+    used_entries_follow_a_set();
+}
+
+/// A pass with the lock of a set may take out a key that is there.
+pub fn elements_may_be_discarded()
+    ensures { ElementsMayBeDiscarded }
+{
+    versions_change_nothing();
+    used_entries_follow_a_set();
 }
 
 /// A pass with the lock of a dict, and a fresh table in hand whose words stand for it with one more

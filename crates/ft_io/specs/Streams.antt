@@ -1,6 +1,11 @@
 -- What a source has left and a sink has taken in. A stream that doesn't tell its content has None.
 use Rattle.std.specs.Prelude.{ℕ, ◌+◌, ◌-◌, ◌^◌, min, List, ◌++◌, Option, option_map}
 
+-- What a stream tells of its bytes, those that a source has left or that a sink has taken in, and how often a call of it has failed. (profile)
+pub record Stream : Type 0 where
+  pub content : Option (List ℕ)
+  pub faults : ℕ
+
 -- The count of faults after one more. It stands still at the end of its range.
 abbrev pub raised : ℕ → ℕ
 raised count = min (count + 1) (2 ^ 64 - 1)

@@ -68,9 +68,7 @@ impl MemSource {
 }
 
 impl Source for MemSource {
-    ghost left = { λ s. Some s.left };
-
-    ghost faults = { λ s. s.faults };
+    ghost stream = { λ s. record { content = Some s.left; faults = s.faults } };
 
     /// Takes as many bytes as the greatest size, `buf` and what is left allow. A call that fails
     /// leaves all but the counts as it was. Past 2^64 - 1 calls each has that number.
@@ -180,9 +178,7 @@ impl MemSink {
 }
 
 impl Sink for MemSink {
-    ghost taken = { λ s. Some s.taken };
-
-    ghost faults = { λ s. s.faults };
+    ghost stream = { λ s. record { content = Some s.taken; faults = s.faults } };
 
     /// Puts as many bytes as the greatest size, `piece` and the room that is left allow. A call
     /// fails where it is reported to, and where `piece` has bytes and there is no room. It then leaves

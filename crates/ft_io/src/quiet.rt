@@ -31,9 +31,7 @@ impl QuietSource {
 }
 
 impl Source for QuietSource {
-    ghost left = { λ s. Some s };
-
-    ghost faults = { λ _. 0 };
+    ghost stream = { λ s. record { content = Some s; faults = 0 } };
 
     /// Takes as many bytes as `buf` and what is left allow. No call fails.
     fn take(&mut self, buf: &mut [u8]) -> Result<usize, Failed>
@@ -66,9 +64,7 @@ impl QuietSink {
 }
 
 impl Sink for QuietSink {
-    ghost taken = { λ _. None };
-
-    ghost faults = { λ _. 0 };
+    ghost stream = { λ _. record { content = None; faults = 0 } };
 
     /// Puts the whole piece. No call fails.
     fn put(&mut self, piece: &[u8]) -> Result<usize, Failed>

@@ -1,23 +1,21 @@
 //! What the tool asks of a place to which bytes go.
-ghost use Rattle.std.specs.Prelude.{◌≡◌, ℕ, ◌<◌, ◌≤◌, List, length, take, Option, IfOk, OnErr, MatchResult};
-ghost use Rattle.ft_io.specs.Streams.{raised, added};
+ghost use Rattle.std.specs.Prelude.{◌≡◌, ◌<◌, ◌≤◌, length, take, IfOk, OnErr, MatchResult};
+ghost use Rattle.ft_io.specs.Streams.{raised, added, Stream};
 
 use crate::Failed;
 
 /// Where bytes go.
 pub trait Sink {
-    /// The bytes that it has taken in, where the sink tells them.
-    ghost taken: { Self → Option (List ℕ) };
-
-    /// How often a call has failed. It never falls, and stands still at 2^64 - 1.
-    ghost faults: { Self → ℕ };
+    /// The bytes that it has taken in, where the sink tells them, and how often a call has failed. The
+    /// count never falls, and stands still at 2^64 - 1.
+    ghost stream: { Self → Stream };
 
     /// Puts a prefix of `piece`, and answers how many bytes were put: at least one, where
     /// `piece` isn't empty.
     fn put(&mut self, piece: &[u8]) -> Result<usize, Failed>
         ensures count { IfOk result (λ n. n ≤ length piece.now) }
         ensures progress { IfOk result (λ n. 0 < length piece.now → 0 < n) }
-        ensures bytes { IfOk result (λ n. taken self.new ≡ added (taken self.old) (take n piece.now)) }
-        ensures failed { OnErr result (taken self.new ≡ taken self.old) }
-        ensures faults { MatchResult result (λ _. faults self.new ≡ faults self.old) (λ _. faults self.new ≡ raised (faults self.old)) };
+        ensures bytes { IfOk result (λ n. (stream self.new).content ≡ added (stream self.old).content (take n piece.now)) }
+        ensures failed { OnErr result ((stream self.new).content ≡ (stream self.old).content) }
+        ensures faults { MatchResult result (λ _. (stream self.new).faults ≡ (stream self.old).faults) (λ _. (stream self.new).faults ≡ raised (stream self.old).faults) };
 }

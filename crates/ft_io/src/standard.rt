@@ -42,9 +42,7 @@ impl<R: Read> StdSource<R> {
 }
 
 impl<R: Read> Source for StdSource<R> {
-    ghost left = { λ _. None };
-
-    ghost faults = { λ s. s.faults };
+    ghost stream = { λ s. record { content = None; faults = s.faults } };
 
     /// Reads once. A read that a signal interrupts is tried again. Any other error is a fault.
     fn take(&mut self, buf: &mut [u8]) -> Result<usize, Failed>
@@ -114,9 +112,7 @@ impl<W: Write> StdSink<W> {
 }
 
 impl<W: Write> Sink for StdSink<W> {
-    ghost taken = { λ _. None };
-
-    ghost faults = { λ s. s.faults };
+    ghost stream = { λ s. record { content = None; faults = s.faults } };
 
     /// Writes once, and flushes. A write that a signal interrupts is tried again. Any other error
     /// is a fault, and so is a write of no byte of a piece that isn't empty. Where the flush fails,

@@ -158,6 +158,47 @@ fn a_sink_over_a_writer_counts_its_errors(rt: HostRuntime) {
     assert_eq!(rt; sink.faults(), 3);
 }
 
+// A writer that passes on what it was given only when it is flushed.
+#[derive(Drop)]
+struct Lazy {
+    held: Vec<u8>,
+    passed: Vec<u8>,
+    flushes: u8,
+}
+
+impl Write for Lazy {
+    fn write(&mut self, buf: &[u8]) -> io::Result<usize> {
+        if self.held.extend_from_slice(buf).is_err() {
+            return Err(ErrorKind::OutOfMemory.into());
+        }
+        Ok(buf.len())
+    }
+
+    fn flush(&mut self) -> io::Result<()> {
+        self.flushes = self.flushes.saturating_add(1);
+        if self.passed.extend_from_slice(&self.held).is_err() {
+            return Err(ErrorKind::OutOfMemory.into());
+        }
+        self.held.clear();
+        Ok(())
+    }
+}
+
+#[test]
+fn a_sink_over_a_writer_flushes_each_piece(rt: HostRuntime) -> Result<(), Fail> {
+    let mut lazy = Lazy {
+        held: Vec::new(rt.alloc()),
+        passed: Vec::new(rt.alloc()),
+        flushes: 0,
+    };
+    let mut sink = StdSink::new(&mut lazy);
+    check_puts(&rt, &mut sink, &[(b"ab", Some(2)), (b"cde", Some(3))]);
+    assert_eq!(rt; lazy.passed.as_slice(), b"abcde".as_slice());
+    assert_eq!(rt; lazy.held.len(), 0);
+    assert_eq!(rt; lazy.flushes, 2);
+    Ok(())
+}
+
 #[test]
 fn a_sink_over_a_writer_reaches_it(rt: HostRuntime) -> Result<(), Fail> {
     let mut held = Vec::new(rt.alloc());

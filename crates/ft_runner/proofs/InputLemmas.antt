@@ -1,11 +1,12 @@
 -- The input of `check`, read in two parts.
-use Rattle.std.proofs.Common.{◌≡◌, ◌<◌, ◌∙◌, ℕ, Bool, true, false, List, [], ◌++◌, Option, Ok, Err, length, refl, sym, subst, ap, arith, inl, inr}
+use Rattle.std.proofs.Common.{◌≡◌, ◌<◌, ◌∙◌, ℕ, Bool, true, false, List, [], ◌++◌, Option, Ok, Err, length, sym, subst, ap, arith, inl, inr}
+use Rattle.ft_io.specs.Streams.{Stream}
 use Rattle.std.proofs.lemmas.Bool.{false≢true}
 use Rattle.std.proofs.lemmas.List.{length-append}
-use Rattle.ft_runner.specs.declared.report.Fault.{Fault}
-use Rattle.ft_runner.specs.declared.report.Fault.TheVariants as fault
+use Rattle.ft_runner.specs.declared.reading.ReadFault.{ReadFault}
+use Rattle.ft_runner.specs.declared.reading.ReadFault.TheVariants as read
 use Rattle.ft_runner.specs.Checking.{EndsFilling, Fills, IsSeparatorOf, IsReadToItsEnd, IsScriptFew, IsScriptLong, IsWithin, StopsInput}
-use Rattle.ft_runner.specs.Streams.{Gives, Stream}
+use Rattle.ft_runner.specs.Streams.{Gives}
 use Rattle.ft_runner.proofs.SeparatorLemmas.{IsSeparatorOf-stays, IsScriptFew-stays, IsScriptLong-stays}
 use Rattle.ft_runner.proofs.StreamLemmas.{Gives-then}
 
@@ -21,32 +22,30 @@ gives_second a b d bytes new most ended gives p = subst (λ (read : List ℕ). G
 -- ---- reading stops
 
 -- before it is known whether the line begins within the limit
-pub stops_first : (a b : Stream) (f : Fault) (old new : List ℕ) → old ≡ [] → Fills a old 4194307 (Err f) new b → StopsInput f a b
-stops_first a b f old new none p =
+pub stops_first : (a b : Stream) (stop : ReadFault) (old new : List ℕ) → old ≡ [] → Fills a old 4194307 (Err stop) new b → StopsInput stop a b
+stops_first a b stop old new none p =
     record {
       came = p.0;
       gives = p.1;
-      too_long = λ long. absurd (false≢true (sym p.4 ∙ long));
+      too_long = λ long. absurd (false≢true (sym p.3 ∙ long));
       few = omega (arith, p.2);
       in_time = λ far. absurd (omega (arith, far, p.2));
-      cause = p.3;
     }
 
 -- and after that
-pub stops_second : (a b d : Stream) (f : Fault) (bytes new : List ℕ) → Gives a bytes false b → 4194307 < length bytes → IsScriptFew bytes → Fills b bytes 67108864 (Err f) new d → StopsInput f a d
-stops_second a b d f bytes new first far short p =
+pub stops_second : (a b d : Stream) (stop : ReadFault) (bytes new : List ℕ) → Gives a bytes false b → 4194307 < length bytes → IsScriptFew bytes → Fills b bytes 67108864 (Err stop) new d → StopsInput stop a d
+stops_second a b d stop bytes new first far short p =
     record {
       came = bytes ++ p.0;
       gives = Gives-then a b d bytes p.0 _ first p.1;
-      too_long = λ long. absurd (false≢true (sym p.4 ∙ long));
+      too_long = λ long. absurd (false≢true (sym p.3 ∙ long));
       few = omega (arith, p.2, length-append bytes p.0);
       in_time = λ more. IsScriptFew-stays bytes p.0 far short;
-      cause = p.3;
     }
 
 -- ---- it is too long
 
-pub long_script : (a b : Stream) (bytes : List ℕ) (ended : Bool) → Gives a bytes false b → EndsFilling ended 4194307 bytes b → IsScriptLong bytes → StopsInput fault.TooLong a b
+pub long_script : (a b : Stream) (bytes : List ℕ) (ended : Bool) → Gives a bytes false b → EndsFilling ended 4194307 bytes b → IsScriptLong bytes → StopsInput read.TooLong a b
 long_script a b bytes true gives ends long =
     record {
       came = bytes;
@@ -54,7 +53,6 @@ long_script a b bytes true gives ends long =
       too_long = λ is. inr (inr long, record { gives = gives; ended = ends.1 });
       few = omega (arith, ends.0);
       in_time = λ far. absurd (omega (arith, far, ends.0));
-      cause = refl;
     }
 long_script a b bytes false gives ends long =
     record {
@@ -63,10 +61,9 @@ long_script a b bytes false gives ends long =
       too_long = λ is. inl (λ more. inr (IsScriptLong-stays bytes more ends.0 long));
       few = omega (arith, ends.1);
       in_time = λ far. absurd (omega (arith, far, ends.1));
-      cause = refl;
     }
 
-pub long_input : (a b d : Stream) (bytes new : List ℕ) → Gives a bytes false b → 4194307 < length bytes → IsScriptFew bytes → Fills b bytes 67108864 (Ok false) new d → StopsInput fault.TooLong a d
+pub long_input : (a b d : Stream) (bytes new : List ℕ) → Gives a bytes false b → 4194307 < length bytes → IsScriptFew bytes → Fills b bytes 67108864 (Ok false) new d → StopsInput read.TooLong a d
 long_input a b d bytes new gives far short p =
     record {
       came = new;
@@ -74,7 +71,6 @@ long_input a b d bytes new gives far short p =
       too_long = λ is. inl (λ more. inl (omega (arith, p.3.0, length-append new more)));
       few = p.3.1;
       in_time = λ more. subst IsScriptFew (sym p.1) (IsScriptFew-stays bytes p.0 far short);
-      cause = refl;
     }
 
 -- ---- it is read to its end

@@ -1,21 +1,19 @@
 -- What is found of an input is one verdict.
-use Rattle.std.proofs.Common.{◌≡◌, ◌∙◌, ℕ, ◌+◌, ◌<◌, List, length, take, drop, Option, Result, Ok, refl, sym, ap, subst, inl, inr}
+use Rattle.std.proofs.Common.{◌≡◌, ◌∙◌, ℕ, ◌+◌, ◌<◌, List, length, take, drop, Result, Ok, refl, sym, ap, subst, inl, inr}
 use Rattle.std.specs.Prelude.{is_ok, slice_get}
 use Rattle.std.proofs.lemmas.Bool.{cases_order, true≢false}
 use Rattle.ft_history.proofs.OneVerdict.{one_verdict}
 use Rattle.ft_history.specs.declared.verdict.Verdict.{Verdict}
 use Rattle.ft_history.specs.declared.verdict.Verdict.TheVariants as verdict
 use Rattle.ft_model.specs.declared.entry.Entry.{Entry}
-use Rattle.ft_model.specs.declared.entry.Storage.TheVariants as storage
 use Rattle.ft_model.specs.declared.script.ScriptParts.{ScriptParts}
 use Rattle.ft_model.specs.Scripts.{IsScript}
 use Rattle.ft_script.specs.declared.fault.ScriptFault.{ScriptFault}
-use Rattle.ft_script.specs.declared.fault.Which.{Which}
 use Rattle.ft_script.specs.Scripts.{read_script}
 use Rattle.ft_script.specs.Transcripts.{IsFirstBad, IsTranscript}
 use Rattle.ft_script.proofs.TranscriptLaws.{not_bad, one_of_two}
 use Rattle.ft_turns.proofs.EntriesHaveRightReplies.{slice_get-take}
-use Rattle.ft_runner.specs.Findings.{IsBadAt, IsFirstDifference, IsFound, IsInput, IsParted, IsVerdictOn}
+use Rattle.ft_runner.specs.Findings.{stored, IsBadAt, IsFirstDifference, IsFound, IsInput, IsParted, IsVerdictOn}
 use Rattle.ft_runner.specs.Reports.{IsScriptFault}
 use Rattle.ft_runner.proofs.SeparatorLemmas.{no_separator, one_separator, one_script}
 use Rattle.ft_script.proofs.ReadScripts.{script_read}
@@ -40,13 +38,13 @@ one_place given wanted p q one other =
 module _ (script : ScriptParts) (entries : List Entry) (lines : List (List ℕ)) where
   one_verdict_on : (one other : Verdict) → IsVerdictOn script entries lines one → IsVerdictOn script entries lines other → one ≡ other
   one_verdict_on verdict.Legal verdict.Legal a b = refl
-  one_verdict_on verdict.Legal (verdict.Not q s) a (inl b) = one_verdict storage.Plain script entries verdict.Legal (verdict.Not q s) a.0 b
+  one_verdict_on verdict.Legal (verdict.Not q s) a (inl b) = one_verdict stored script entries verdict.Legal (verdict.Not q s) a.0 b
   one_verdict_on verdict.Legal (verdict.Not q s) a (inr b) = absurd (b.4.differs (ap (λ texts. slice_get texts b.2) a.1))
-  one_verdict_on (verdict.Not p r) verdict.Legal (inl a) b = one_verdict storage.Plain script entries (verdict.Not p r) verdict.Legal a b.0
+  one_verdict_on (verdict.Not p r) verdict.Legal (inl a) b = one_verdict stored script entries (verdict.Not p r) verdict.Legal a b.0
   one_verdict_on (verdict.Not p r) verdict.Legal (inr a) b = absurd (a.4.differs (ap (λ texts. slice_get texts a.2) b.1))
-  one_verdict_on (verdict.Not p r) (verdict.Not q s) (inl a) (inl b) = one_verdict storage.Plain script entries (verdict.Not p r) (verdict.Not q s) a b
-  one_verdict_on (verdict.Not p r) (verdict.Not q s) (inl a) (inr b) = absurd (let same : verdict.Not p r ≡ verdict.Legal = one_verdict storage.Plain script entries (verdict.Not p r) verdict.Legal a b.1 in cc)
-  one_verdict_on (verdict.Not p r) (verdict.Not q s) (inr a) (inl b) = absurd (let same : verdict.Legal ≡ verdict.Not q s = one_verdict storage.Plain script entries verdict.Legal (verdict.Not q s) a.1 b in cc)
+  one_verdict_on (verdict.Not p r) (verdict.Not q s) (inl a) (inl b) = one_verdict stored script entries (verdict.Not p r) (verdict.Not q s) a b
+  one_verdict_on (verdict.Not p r) (verdict.Not q s) (inl a) (inr b) = absurd (let same : verdict.Not p r ≡ verdict.Legal = one_verdict stored script entries (verdict.Not p r) verdict.Legal a b.1 in cc)
+  one_verdict_on (verdict.Not p r) (verdict.Not q s) (inr a) (inl b) = absurd (let same : verdict.Legal ≡ verdict.Not q s = one_verdict stored script entries verdict.Legal (verdict.Not q s) a.1 b in cc)
   one_verdict_on (verdict.Not p r) (verdict.Not q s) (inr a) (inr b) =
       let line : a.2 ≡ b.2 = one_place _ _ a.2 b.2 a.4 b.4 in
       let place : p ≡ q = a.3 ∙ ap (λ n. length entries + 1 + n) line ∙ sym b.3 in
@@ -55,11 +53,11 @@ module _ (script : ScriptParts) (entries : List Entry) (lines : List (List ℕ))
 
 -- ---- the input
 
-record IsSameParts (one other : ScriptParts) (above below : List ℕ) : Type 0 where
-  script : one ≡ other
-  after : above ≡ below
+pub record IsSameParts (one other : ScriptParts) (above below : List ℕ) : Type 0 where
+  pub script : one ≡ other
+  pub after : above ≡ below
 
-one_parting : (bytes : List ℕ) (one other : ScriptParts) (above below : List ℕ) → IsParted bytes one above → IsParted bytes other below → IsSameParts one other above below
+pub one_parting : (bytes : List ℕ) (one other : ScriptParts) (above below : List ℕ) → IsParted bytes one above → IsParted bytes other below → IsSameParts one other above below
 one_parting bytes one other above below a b =
     let place : a.place ≡ b.place = one_separator bytes a.place b.place a.separator b.separator in
     let read : ◌≡◌ {A = Result ScriptParts ScriptFault} (Ok one) (Ok other) = sym a.script_read ∙ ap (λ n. read_script (take n bytes)) place ∙ b.script_read in
@@ -88,7 +86,7 @@ module _ (bytes : List ℕ) (script : ScriptParts) (entries : List Entry) (lines
       let parts = one_parting bytes script bad.0 input.after bad.1 input.parted bad.2 in
       not_bad script input.after entries lines line is input.transcript_read (subst (λ text. IsFirstBad script text line) (sym parts.after) (subst (λ s. IsFirstBad s bad.1 line) (sym parts.script) bad.3))
 
-  pub no_script_fault : (line kind : ℕ) (limit : Option Which) → IsScriptFault bytes line kind limit → ⊥
-  no_script_fault line kind limit first =
+  pub no_script_fault : (refused : ScriptFault) → IsScriptFault bytes refused → ⊥
+  no_script_fault refused first =
       let part = one_script bytes (take input.parted.place bytes) first.0 (inr (input.parted.place, input.parted.separator, refl)) first.1 in
-      true≢false (ap (λ (r : Result ScriptParts ScriptFault). is_ok r) (sym input.parted.script_read ∙ ap read_script part ∙ first.2.refused))
+      true≢false (ap (λ (r : Result ScriptParts ScriptFault). is_ok r) (sym input.parted.script_read ∙ ap read_script part ∙ first.2.first))

@@ -1,9 +1,8 @@
 -- The line `---` in bytes that go on, and what is too long.
-use Rattle.std.proofs.Common.{◌≡◌, ◌∙◌, ℕ, ◌+◌, ◌-◌, ◌<◌, ◌≤◌, ◌==◌, ◌&&◌, ◌||◌, List, [], ◌++◌, Option, Some, None, length, take, drop, sym, ap, ap₂, subst, arith, inl, inr}
+use Rattle.std.proofs.Common.{◌≡◌, ◌∙◌, ℕ, ◌+◌, ◌-◌, ◌<◌, ◌≤◌, ◌==◌, ◌&&◌, ◌||◌, List, ◌++◌, Option, Some, None, length, take, drop, sym, ap, ap₂, arith, inl, inr}
 use Rattle.std.proofs.lemmas.Bool.{cases_lt, true≢false}
-use Rattle.std.proofs.lemmas.List.{append-nil, drop-append-le, get_or_append_left, length-append, length-drop, take-append-le}
-use Rattle.ft_runner.specs.Checking.{begins_line, is_separator, is_separator_at, HasNoSeparator, IsSeparator, IsSeparatorOf, IsPast, IsScriptFew, IsScriptLong, IsScriptPart, IsTooLong, IsWithin}
-use Rattle.ft_runner.specs.Streams.{Stream}
+use Rattle.std.proofs.lemmas.List.{drop-append-le, get_or_append_left, length-append, length-drop, take-append-le}
+use Rattle.ft_runner.specs.Checking.{begins_line, is_separator, is_separator_at, HasNoSeparator, IsSeparator, IsSeparatorOf, IsPast, IsScriptFew, IsScriptLong, IsScriptPart, IsWithin}
 
 -- ---- bytes that go on
 
@@ -65,7 +64,3 @@ past_within bytes (inr script) within =
       | inl few ↦ omega (arith, script.0)
       | inr separator ↦ true≢false (sym separator.2.here ∙ script.1 separator.0 separator.1)
     ]
-
-pub not_too_long : (before : Stream) (came : List ℕ) (after : Stream) → IsTooLong before came after → IsWithin came → ⊥
-not_too_long before came after (inl whatever) within = past_within came (subst IsPast (append-nil came) (whatever [])) within
-not_too_long before came after (inr whole) within = past_within came whole.0 within

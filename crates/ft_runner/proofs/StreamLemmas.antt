@@ -1,10 +1,10 @@
 -- One call of a source or a sink after others.
-use Rattle.std.proofs.Common.{◌≡◌, ℕ, ◌+◌, ◌<◌, ◌≤◌, get_or, ◌∷◌, take, drop, arith, Bool, true, false, List, [], ◌++◌, length, Option, Some, None, Result, Ok, Err, refl, sym, ap, ◌∙◌, append_assoc}
-use Rattle.std.proofs.lemmas.List.{append-nil, take-take, length-take}
+use Rattle.std.proofs.Common.{◌≡◌, ℕ, ◌+◌, ◌<◌, ◌≤◌, get_or, ◌∷◌, take, drop, Bool, true, false, List, [], ◌++◌, length, Option, Some, None, Result, Ok, Err, refl, sym, ap, ◌∙◌, append_assoc}
+use Rattle.std.proofs.lemmas.List.{append-nil}
 use Rattle.std.proofs.Math.Seq.{take-add}
-use Rattle.ft_io.specs.Streams.{raised, prepended, added}
+use Rattle.ft_io.specs.Streams.{raised, prepended, added, Stream}
 use Rattle.ft_io.specs.declared.source.Failed.{Failed}
-use Rattle.ft_runner.specs.Streams.{Stream, Gives, Receives, IsPart, Puts, IsBuffered}
+use Rattle.ft_runner.specs.Streams.{Gives, Receives, IsPart, Puts, IsBuffered}
 use Rattle.std.specs.List.{flat_map}
 use Rattle.std.proofs.lemmas.List.Concat.{flat_map-append}
 use Rattle.std.proofs.lemmas.List.{take-append-drop, take_more, take_all}
@@ -48,10 +48,9 @@ pub Receives-fails : (a b c : Stream) (x : List ℕ) → Receives a x false b �
 Receives-fails a b c x p same fault = record { content = same ∙ p.content; faults = fault ∙ ap raised p.faults }
 
 -- one more piece of the bytes from a place on
-pub Receives-piece : (a b c : Stream) (bytes : List ℕ) (done n most : ℕ) → n ≤ length (take most (drop done bytes)) → Receives a (take done bytes) false b → c.content ≡ added b.content (take n (take most (drop done bytes))) → c.faults ≡ b.faults → Receives a (take (done + n) bytes) false c
-Receives-piece a b c bytes done n most low p content faults =
-    let piece : take n (take most (drop done bytes)) ≡ take n (drop done bytes) = take-take n most (drop done bytes) (omega (arith, length-take most (drop done bytes))) in
-    let q : Receives b (take n (drop done bytes)) false c = record { content = content ∙ ap (added b.content) piece; faults = faults } in
+pub Receives-piece : (a b c : Stream) (bytes : List ℕ) (done n : ℕ) → Receives a (take done bytes) false b → c.content ≡ added b.content (take n (drop done bytes)) → c.faults ≡ b.faults → Receives a (take (done + n) bytes) false c
+Receives-piece a b c bytes done n p content faults =
+    let q : Receives b (take n (drop done bytes)) false c = record { content = content; faults = faults } in
     rw take-add (Receives-then a b c (take done bytes) (take n (drop done bytes)) false p q)
 
 -- ---- a buffer before a sink

@@ -10,7 +10,7 @@ use Rattle.ft_model.specs.declared.call.Call.{Call}
 use Rattle.ft_model.specs.declared.content.Content.{Content}
 use Rattle.ft_model.specs.declared.cursor.Cursor.{Cursor}
 use Rattle.ft_model.specs.declared.entry.Entry.{Entry}
-use Rattle.ft_model.specs.declared.entry.Storage.TheVariants as storage
+use Rattle.ft_runner.specs.Findings.{stored}
 use Rattle.ft_model.specs.declared.script.ScriptParts.{ScriptParts}
 use Rattle.ft_model.specs.Answers.{answer, after_write}
 use Rattle.ft_model.specs.Calls.{is_changing}
@@ -56,7 +56,7 @@ module _ (script : ScriptParts) where
         | false ↦ λ read. after_all entries world tail served
       ] refl
 
-  pub world_of_legal : (entries : List Entry) → All (IsEntryOf script) entries → IsLegal storage.Plain script entries → IsWorldOf script (world_at script entries (length (writes entries)))
+  pub world_of_legal : (entries : List Entry) → All (IsEntryOf script) entries → IsLegal stored script entries → IsWorldOf script (world_at script entries (length (writes entries)))
   world_of_legal entries of legal =
       let fair : All IsFair entries = λ place d low. record {
         entry_of = of place d low;

@@ -1,7 +1,7 @@
 -- What is reported of a text, where the source tells it and no stream fails. (profile)
 use Rattle.std.specs.Prelude.{◌≡◌, ◌≢◌, ◌<◌, ◌≤◌, ℕ, List, length, Option, Some, Ok}
 use Rattle.ft_history.specs.declared.verdict.Verdict.TheVariants as verdict
-use Rattle.ft_io.specs.Streams.{raised}
+use Rattle.ft_io.specs.Streams.{raised, Stream}
 use Rattle.ft_model.specs.declared.script.ScriptParts.{ScriptParts}
 use Rattle.ft_script.specs.declared.fault.Which.{Which}
 use Rattle.ft_script.specs.Scripts.{read_script}
@@ -14,7 +14,7 @@ use Rattle.ft_runner.specs.Checking.{IsPast, IsWithin}
 use Rattle.ft_runner.specs.Commands.{command_of}
 use Rattle.ft_runner.specs.Findings.{IsBadAt, IsFound}
 use Rattle.ft_runner.specs.Reports.{IsFirstFault, IsReport, IsScriptFault}
-use Rattle.ft_runner.specs.Streams.{script_limit, Stream}
+use Rattle.ft_runner.specs.Streams.{script_limit}
 
 -- the words are this command, the source has this text before the call, and no call of the source or the sink fails
 pub record IsReportOn (command : Subcommand) (text : List ℕ) (report : Report) : Type 0 where
@@ -35,22 +35,31 @@ pub record IsReportOn (command : Subcommand) (text : List ℕ) (report : Report)
 abbrev pub IsRunCause : List ℕ → Fault → Type 0
 IsRunCause text fault.Clean = (length text ≤ script_limit) × (script : ScriptParts) × (read_script text ≡ Ok script)
 IsRunCause text (fault.Script line kind) =
-    (length text ≤ script_limit) × (limit : Option Which) × IsFirstFault text line kind limit
+    (length text ≤ script_limit) × (limit : Option Which)
+    × IsFirstFault text (record { line = line; kind = kind; which = limit })
 IsRunCause text fault.TooLong = script_limit < length text
 IsRunCause text fault.Memory = Unit {0}
-IsRunCause text other = ⊥
+IsRunCause text fault.Usage = ⊥
+IsRunCause text fault.Read = ⊥
+IsRunCause text fault.Write = ⊥
+IsRunCause text (fault.NotLegal place rule) = ⊥
+IsRunCause text (fault.Transcript line) = ⊥
 
 -- and where it is checked
 abbrev pub IsCheckCause : List ℕ → Fault → Type 0
 IsCheckCause text fault.Clean = IsWithin text × IsFound text verdict.Legal
 IsCheckCause text (fault.NotLegal place rule) = IsWithin text × IsFound text (verdict.Not place rule)
 IsCheckCause text (fault.Transcript line) = IsWithin text × IsBadAt text line
-IsCheckCause text (fault.Script line kind) = IsWithin text × (limit : Option Which) × IsScriptFault text line kind limit
+IsCheckCause text (fault.Script line kind) =
+    IsWithin text × (limit : Option Which) × IsScriptFault text (record { line = line; kind = kind; which = limit })
 IsCheckCause text fault.TooLong = IsPast text
 IsCheckCause text fault.Memory = Unit {0}
-IsCheckCause text other = ⊥
+IsCheckCause text fault.Usage = ⊥
+IsCheckCause text fault.Read = ⊥
+IsCheckCause text fault.Write = ⊥
 
 -- what a text has where this is reported of it
 abbrev pub IsCause : Subcommand → List ℕ → Fault → Type 0
+IsCause subcommand.Run text reported = IsRunCause text reported
+IsCause subcommand.Turns text reported = IsRunCause text reported
 IsCause subcommand.Check text reported = IsCheckCause text reported
-IsCause command text reported = IsRunCause text reported

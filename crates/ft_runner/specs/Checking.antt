@@ -1,9 +1,10 @@
 -- What `check` reads. (profile)
-use Rattle.std.specs.Prelude.{◌≡◌, ◌≤◌, ◌<◌, ◌⊎◌, ℕ, ◌+◌, ◌-◌, ◌==◌, ◌&&◌, ◌||◌, Bool, true, false, List, ◌++◌, [], length, take, drop, codes, slice_index_or, Option, IfSome, MatchOption, Result, Ok, Err}
+use Rattle.std.specs.Prelude.{◌≡◌, ◌≤◌, ◌<◌, ◌⊎◌, ℕ, ◌+◌, ◌-◌, ◌==◌, ◌&&◌, ◌||◌, Bool, true, false, List, ◌++◌, length, take, drop, codes, slice_index_or, Option, MatchOption, Result, Ok, Err}
+use Rattle.ft_io.specs.Streams.{Stream}
 use Rattle.std.specs.Str.{bytes_eq}
 use Rattle.ft_runner.specs.declared.reading.Input.{Input}
-use Rattle.ft_runner.specs.declared.report.Fault.{Fault}
-use Rattle.ft_runner.specs.Streams.{script_limit, is_read, is_too_long, stops_reading, Gives, Stream}
+use Rattle.ft_runner.specs.declared.reading.ReadFault.{ReadFault}
+use Rattle.ft_runner.specs.Streams.{input_limit, piece, script_limit, has_failed, is_too_much, Gives, HasEnded}
 
 -- ---- the two parts of the input
 
@@ -40,10 +41,6 @@ IsScriptPart bytes text =
 
 -- ---- limits
 
--- the most bytes that a script and a transcript may have together
-abbrev pub input_limit : ℕ
-input_limit = 67108864
-
 -- the script is not too long: all bytes are few enough, or those before the first line that is `---`
 abbrev pub IsScriptFew : List ℕ → Type 0
 IsScriptFew bytes = (length bytes ≤ script_limit) ⊎ ((place : ℕ) × (place ≤ script_limit) × IsSeparator bytes place)
@@ -64,11 +61,11 @@ pub record IsWithin (bytes : List ℕ) : Type 0 where
 
 -- no more bytes are read than are taken and one piece
 abbrev pub most_checked : ℕ
-most_checked = input_limit + 65536
+most_checked = input_limit + piece
 
 -- the most bytes that are read before it is known whether a line `---` begins within the limit: those first places, its other three bytes, and one piece
 abbrev pub most_before_separator : ℕ
-most_before_separator = script_limit + 3 + 65536
+most_before_separator = script_limit + 3 + piece
 
 -- reading goes on past that only where such a line begins within the limit
 abbrev pub IsReadInTime : List ℕ → Type 0
@@ -77,7 +74,7 @@ IsReadInTime came = most_before_separator < length came → IsScriptFew came
 -- all that a source gives is read
 pub record IsReadToItsEnd (before : Stream) (bytes : List ℕ) (after : Stream) : Type 0 where
   pub gives : Gives before bytes false after
-  pub ended : IfSome after.content (λ rest. rest ≡ [])
+  pub ended : HasEnded after
 
 -- whatever follows the bytes is too long, or they are, and are all there is
 abbrev pub IsTooLong : Stream → List ℕ → Stream → Type 0
@@ -85,31 +82,31 @@ IsTooLong before came after =
     ((more : List ℕ) → IsPast (came ++ more)) ⊎ (IsPast came × IsReadToItsEnd before came after)
 
 -- reading stops at a fault, after the bytes that came
-pub record StopsInput (fault : Fault) (before after : Stream) : Type 0 where
+pub record StopsInput (stop : ReadFault) (before after : Stream) : Type 0 where
   pub came : List ℕ
-  pub gives : Gives before came (is_read fault) after
-  pub too_long : is_too_long fault ≡ true → IsTooLong before came after
+  pub gives : Gives before came (has_failed stop) after
+  pub too_long : is_too_much stop ≡ true → IsTooLong before came after
   pub few : length came ≤ most_checked
   pub in_time : IsReadInTime came
-  pub cause : stops_reading fault ≡ true
 
-abbrev pub ReadsInput : Stream → Result Input Fault → Stream → Type 0
+-- what reading a script, the line and a transcript comes to
+abbrev pub ReadsInput : Stream → Result Input ReadFault → Stream → Type 0
 ReadsInput before (Ok input) after =
     IsReadToItsEnd before input.bytes.items after × IsWithin input.bytes.items
     × IsSeparatorOf input.bytes.items input.separator
-ReadsInput before (Err fault) after = StopsInput fault before after
+ReadsInput before (Err stop) after = StopsInput stop before after
 
 -- ---- what is read in one part of it
 
 -- the source has ended, or more than that many bytes are there
 abbrev pub EndsFilling : Bool → ℕ → List ℕ → Stream → Type 0
-EndsFilling true most bytes after = (length bytes ≤ most) × IfSome after.content (λ rest. rest ≡ [])
-EndsFilling false most bytes after = (most < length bytes) × (length bytes ≤ most + 65536)
+EndsFilling true most bytes after = (length bytes ≤ most) × HasEnded after
+EndsFilling false most bytes after = (most < length bytes) × (length bytes ≤ most + piece)
 
 -- a source is read on after these bytes, until it ends or more than that many are there
-abbrev pub Fills : Stream → List ℕ → ℕ → Result Bool Fault → List ℕ → Stream → Type 0
+abbrev pub Fills : Stream → List ℕ → ℕ → Result Bool ReadFault → List ℕ → Stream → Type 0
 Fills before old most (Ok ended) new after =
     (came : List ℕ) × (new ≡ old ++ came) × Gives before came false after × EndsFilling ended most new after
-Fills before old most (Err fault) new after =
-    (came : List ℕ) × Gives before came (is_read fault) after × (length old + length came ≤ most + 65536)
-    × (stops_reading fault ≡ true) × (is_too_long fault ≡ false)
+Fills before old most (Err stop) new after =
+    (came : List ℕ) × Gives before came (has_failed stop) after × (length old + length came ≤ most + piece)
+    × (is_too_much stop ≡ false)

@@ -13,10 +13,11 @@ named word =
     if bytes_eq (codes "turns") word then Some subcommand.Turns else (
     if bytes_eq (codes "check") word then Some subcommand.Check else None))
 
--- `check` reads a transcript, and the others run a script
-abbrev pub is_check : Option Subcommand → Bool
-is_check (Some subcommand.Check) = true
-is_check other = false
+-- the commands that read a script and run it
+abbrev pub runs_script : Subcommand → Bool
+runs_script subcommand.Run = true
+runs_script subcommand.Turns = true
+runs_script subcommand.Check = false
 
 -- the command that the words are: the program's name and a subcommand's, and nothing after them but the mark that ends options
 abbrev pub command_of : List (List ℕ) → Option Subcommand

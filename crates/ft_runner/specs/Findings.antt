@@ -6,6 +6,7 @@ use Rattle.ft_model.specs.declared.content.Content.{Content}
 use Rattle.ft_model.specs.declared.entry.Entry.{Entry}
 use Rattle.ft_model.specs.declared.entry.Rule.{Rule}
 use Rattle.ft_model.specs.declared.entry.Rule.TheVariants as rule
+use Rattle.ft_model.specs.declared.entry.Storage.{Storage}
 use Rattle.ft_model.specs.declared.entry.Storage.TheVariants as storage
 use Rattle.ft_model.specs.declared.script.ScriptParts.{ScriptParts}
 use Rattle.ft_model.specs.Histories.{writes, world_at, IsLegal}
@@ -16,6 +17,10 @@ use Rattle.ft_script.specs.Scripts.{read_script}
 use Rattle.ft_script.specs.Texts.{world_line}
 use Rattle.ft_script.specs.Transcripts.{IsFirstBad, IsTranscript}
 use Rattle.ft_runner.specs.Checking.{HasNoSeparator, IsSeparator}
+
+-- how the containers of histories are stored: plainly, until a command has them on tables
+abbrev pub stored : Storage
+stored = storage.Plain
 
 -- ---- the input
 
@@ -62,15 +67,15 @@ pub record IsFirstDifference (given wanted : List (List ℕ)) (place : ℕ) : Ty
 -- the first rule that is broken, and where: one of the entries, or after them that of a line of contents
 abbrev pub IsBrokenBy : ScriptParts → List Entry → List (List ℕ) → ℕ → Rule → Type 0
 IsBrokenBy script entries lines place broken =
-    IsVerdict storage.Plain script entries (verdict.Not place broken)
-    ⊎ ((broken ≡ rule.World) × IsLegal storage.Plain script entries × (line : ℕ)
+    IsVerdict stored script entries (verdict.Not place broken)
+    ⊎ ((broken ≡ rule.World) × IsLegal stored script entries × (line : ℕ)
     × (place ≡ length entries + 1 + line)
     × IsFirstDifference (given_lines lines) (wanted_lines script entries) line)
 
 -- a legal history with the contents that it leaves, or the first rule that is broken
 abbrev pub IsVerdictOn : ScriptParts → List Entry → List (List ℕ) → Verdict → Type 0
 IsVerdictOn script entries lines verdict.Legal =
-    IsLegal storage.Plain script entries × (given_lines lines ≡ wanted_lines script entries)
+    IsLegal stored script entries × (given_lines lines ≡ wanted_lines script entries)
 IsVerdictOn script entries lines (verdict.Not place broken) = IsBrokenBy script entries lines place broken
 
 -- what is found of the transcript that the bytes have

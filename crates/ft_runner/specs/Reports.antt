@@ -1,29 +1,56 @@
 -- What the tool does and reports.
-use Rattle.std.specs.Prelude.{◌≡◌, ◌≢◌, ℕ, ◌==◌, Bool, true, false, nat_lt, if◌then◌else◌, IsTrue, ◌⊎◌, ◌≤◌, List, [], ◌++◌, length, Option, Some, None, is_none, IfSome, Result, Ok, Err, codes}
+use Rattle.std.specs.Prelude.{◌≡◌, ◌≢◌, ℕ, ◌==◌, Bool, true, false, nat_lt, if◌then◌else◌, ◌⊎◌, ◌≤◌, List, [], ◌++◌, length, Option, Some, None, is_none, Ok, Err, codes}
 use Rattle.std.specs.Fmt.{decimal}
 use Rattle.ft_history.specs.declared.verdict.Verdict.{Verdict}
 use Rattle.ft_history.specs.declared.verdict.Verdict.TheVariants as verdict
+use Rattle.ft_io.specs.Streams.{Stream}
 use Rattle.ft_model.specs.declared.entry.Entry.{Entry}
-use Rattle.ft_model.specs.declared.entry.Storage.TheVariants as storage
 use Rattle.ft_model.specs.declared.script.ScriptParts.{ScriptParts}
 use Rattle.ft_model.specs.Histories.{IsLegal}
 use Rattle.ft_script.specs.declared.fault.ScriptFault.{ScriptFault}
-use Rattle.ft_script.specs.declared.fault.Which.{Which}
 use Rattle.ft_script.specs.Faults.{kind_text}
 use Rattle.ft_script.specs.Scripts.{read_script}
 use Rattle.ft_script.specs.Texts.{transcript}
 use Rattle.ft_turns.specs.Orders.{IsOrderRun}
 use Rattle.ft_runner.specs.declared.command.Subcommand.{Subcommand}
 use Rattle.ft_runner.specs.declared.command.Subcommand.TheVariants as subcommand
+use Rattle.ft_runner.specs.declared.outcome.Outcome.{Outcome}
+use Rattle.ft_runner.specs.declared.outcome.Outcome.TheVariants as outcome
+use Rattle.ft_runner.specs.declared.reading.ReadFault.{ReadFault}
+use Rattle.ft_runner.specs.declared.reading.ReadFault.TheVariants as read
 use Rattle.ft_runner.specs.declared.report.Fault.{Fault}
 use Rattle.ft_runner.specs.declared.report.Fault.TheVariants as fault
 use Rattle.ft_runner.specs.declared.report.Report.{Report}
 use Rattle.ft_runner.specs.Checking.{most_checked, IsReadInTime, IsScriptPart, IsTooLong, IsWithin}
 use Rattle.ft_runner.specs.Commands.{command_of}
-use Rattle.ft_runner.specs.Findings.{broken_line, legal_line, IsBadAt, IsFound}
-use Rattle.ft_runner.specs.Streams.{is_read, is_too_long, most_read, script_limit, Gives, IsPart, IsPrefix, Receives, Stream, Reported}
+use Rattle.ft_runner.specs.Findings.{broken_line, legal_line, stored, IsBadAt, IsFound}
+use Rattle.ft_runner.specs.Streams.{most_read, script_limit, Gives, HasEnded, IsPrefix, Receives, Reported}
 
--- ---- faults
+-- ---- what a call comes to
+
+-- the fault that is reported
+abbrev pub fault_of : Outcome → Fault
+fault_of (outcome.Clean history) = fault.Clean
+fault_of (outcome.Script refused) = fault.Script refused.line refused.kind
+fault_of outcome.Usage = fault.Usage
+fault_of outcome.Read = fault.Read
+fault_of (outcome.Write history) = fault.Write
+fault_of outcome.Memory = fault.Memory
+fault_of outcome.TooLong = fault.TooLong
+fault_of (outcome.NotLegal place rule) = fault.NotLegal place rule
+fault_of (outcome.Transcript line) = fault.Transcript line
+
+-- the history that is reported, which is empty where none was written
+abbrev pub history_of : Outcome → List Entry
+history_of (outcome.Clean history) = history.items
+history_of (outcome.Script refused) = []
+history_of outcome.Usage = []
+history_of outcome.Read = []
+history_of (outcome.Write history) = history.items
+history_of outcome.Memory = []
+history_of outcome.TooLong = []
+history_of (outcome.NotLegal place rule) = []
+history_of (outcome.Transcript line) = []
 
 -- the status that the program ends with
 abbrev pub status_of : Fault → ℕ
@@ -37,18 +64,19 @@ status_of fault.TooLong = 6
 status_of (fault.NotLegal place rule) = 7
 status_of (fault.Transcript line) = 8
 
--- what the errors get, where a script passes this limit
-abbrev pub error_line : Fault → Option Which → List ℕ
-error_line fault.Clean limit = []
-error_line (fault.Script line kind) limit =
-    codes "ftpy: line " ++ decimal line ++ codes ": " ++ decimal kind ++ codes " " ++ kind_text kind limit ++ codes "\n"
-error_line fault.Usage limit = codes "ftpy: usage: run | turns | check | make N [turns]\n"
-error_line fault.Read limit = codes "ftpy: read fault\n"
-error_line fault.Write limit = codes "ftpy: write fault\n"
-error_line fault.Memory limit = codes "ftpy: want of memory\n"
-error_line fault.TooLong limit = codes "ftpy: too long\n"
-error_line (fault.NotLegal place rule) limit = []
-error_line (fault.Transcript line) limit = codes "ftpy: transcript line " ++ decimal line ++ codes "\n"
+-- the line that the errors get
+abbrev pub error_line : Outcome → List ℕ
+error_line (outcome.Clean history) = []
+error_line (outcome.Script refused) =
+    codes "ftpy: line " ++ decimal refused.line ++ codes ": " ++ decimal refused.kind ++ codes " "
+    ++ kind_text refused.kind refused.which ++ codes "\n"
+error_line outcome.Usage = codes "ftpy: usage: run | turns | check | make N [turns]\n"
+error_line outcome.Read = codes "ftpy: read fault\n"
+error_line (outcome.Write history) = codes "ftpy: write fault\n"
+error_line outcome.Memory = codes "ftpy: want of memory\n"
+error_line outcome.TooLong = codes "ftpy: too long\n"
+error_line (outcome.NotLegal place rule) = []
+error_line (outcome.Transcript line) = codes "ftpy: transcript line " ++ decimal line ++ codes "\n"
 
 -- whether a fault has such a line
 abbrev pub has_line : Fault → Bool
@@ -56,173 +84,178 @@ has_line fault.Clean = false
 has_line (fault.NotLegal place rule) = false
 has_line _ = true
 
-abbrev pub is_usage : Fault → Bool
-is_usage fault.Usage = true
+abbrev pub is_usage : Outcome → Bool
+is_usage outcome.Usage = true
 is_usage _ = false
 
-abbrev pub is_write : Fault → Bool
-is_write fault.Write = true
+abbrev pub is_read : Outcome → Bool
+is_read outcome.Read = true
+is_read _ = false
+
+abbrev pub is_write : Outcome → Bool
+is_write (outcome.Write history) = true
 is_write _ = false
 
-abbrev pub is_memory : Fault → Bool
-is_memory fault.Memory = true
+abbrev pub is_memory : Outcome → Bool
+is_memory outcome.Memory = true
 is_memory _ = false
 
--- the input was read to its end
-abbrev pub has_ended : Fault → Bool
-has_ended fault.Clean = true
-has_ended (fault.Script line kind) = true
-has_ended fault.Write = true
-has_ended (fault.NotLegal place rule) = true
-has_ended (fault.Transcript line) = true
-has_ended _ = false
+abbrev pub is_too_long : Outcome → Bool
+is_too_long outcome.TooLong = true
+is_too_long _ = false
 
--- ---- what a fault says
+-- all input was read, for a command that reads
+abbrev pub has_ended : Outcome → Bool
+has_ended (outcome.Clean history) = true
+has_ended (outcome.Script refused) = true
+has_ended outcome.Usage = false
+has_ended outcome.Read = false
+has_ended (outcome.Write history) = true
+has_ended outcome.Memory = false
+has_ended outcome.TooLong = false
+has_ended (outcome.NotLegal place rule) = true
+has_ended (outcome.Transcript line) = true
 
--- the history is one of the script that the bytes are, under `turns` the one of its turns, and this is its text
-pub record IsHistoryOf (command : Option Subcommand) (bytes : List ℕ) (history : List Entry)
-    (text : List ℕ) : Type 0 where
-  pub script : ScriptParts
-  pub read : read_script bytes ≡ Ok script
-  pub legal : IsLegal storage.Plain script history
-  pub order : command ≡ Some subcommand.Turns → IsOrderRun storage.Plain script history
-  pub written : text ≡ transcript script history
+-- work on bytes that are there can come to this: no word is wrong, and reading is over
+abbrev pub comes_of_text : Outcome → Bool
+comes_of_text (outcome.Clean history) = true
+comes_of_text (outcome.Script refused) = true
+comes_of_text outcome.Usage = false
+comes_of_text outcome.Read = false
+comes_of_text (outcome.Write history) = true
+comes_of_text outcome.Memory = true
+comes_of_text outcome.TooLong = false
+comes_of_text (outcome.NotLegal place rule) = true
+comes_of_text (outcome.Transcript line) = true
 
--- these bytes are a prefix of the text of such a history
-pub record IsHistoryBegun (command : Option Subcommand) (bytes : List ℕ) (history : List Entry)
-    (put : List ℕ) : Type 0 where
-  pub text : List ℕ
-  pub whole : IsHistoryOf command bytes history text
-  pub prefix : IsPrefix put text
+-- a text that is refused, or memory ran out before that was known
+abbrev pub refusal_of : ScriptFault → Outcome
+refusal_of refused = if refused.kind == 14 then outcome.Memory else outcome.Script refused
 
--- a script's first fault: its line, its kind, and the limit that is passed there; out of memory is none
-pub record IsFirstFault (bytes : List ℕ) (line kind : ℕ) (limit : Option Which) : Type 0 where
-  pub refused : read_script bytes ≡ Err (record { line = line; kind = kind; which = limit })
-  pub in_text : kind ≢ 14
-
--- what a fault says where a script is run: of the bytes that came, of the history, and of the bytes that were put
-abbrev pub MeansRun : Option Subcommand → Fault → Option Which → List ℕ → List Entry → List ℕ → Type 0
-MeansRun command fault.Clean limit came history put = IsHistoryOf command came history put
-MeansRun command fault.Write limit came history put = IsHistoryBegun command came history put
-MeansRun command (fault.Script line kind) limit came history put =
-    IsFirstFault came line kind limit × (history ≡ []) × (put ≡ [])
-MeansRun command fault.Usage limit came history put = (history ≡ []) × (put ≡ [])
-MeansRun command fault.Read limit came history put = (history ≡ []) × (put ≡ [])
-MeansRun command fault.TooLong limit came history put = (history ≡ []) × (put ≡ [])
-MeansRun command fault.Memory limit came history put =
-    (history ≡ []) × ((put ≡ []) ⊎ ((unsaid : List Entry) × IsHistoryBegun command came unsaid put))
-MeansRun command (fault.NotLegal place rule) limit came history put = ⊥
-MeansRun command (fault.Transcript line) limit came history put = ⊥
-
--- the fault of the script that stands before the line `---`
-abbrev pub IsScriptFault : List ℕ → ℕ → ℕ → Option Which → Type 0
-IsScriptFault bytes line kind limit = (text : List ℕ) × IsScriptPart bytes text × IsFirstFault text line kind limit
-
--- what a fault says where a transcript is checked; the line of a broken rule is said apart
-abbrev pub MeansChecked : Fault → Option Which → List ℕ → List ℕ → Type 0
-MeansChecked fault.Clean limit came put = IsFound came verdict.Legal × (put ≡ legal_line)
-MeansChecked fault.Write limit came put = IsFound came verdict.Legal × IsPrefix put legal_line
-MeansChecked (fault.NotLegal place rule) limit came put = IsFound came (verdict.Not place rule)
-MeansChecked (fault.Transcript line) limit came put = IsBadAt came line × (put ≡ [])
-MeansChecked (fault.Script line kind) limit came put = IsScriptFault came line kind limit × (put ≡ [])
-MeansChecked other limit came put = put ≡ []
-
-abbrev pub Means : Option Subcommand → Fault → Option Which → List ℕ → List Entry → List ℕ → Type 0
-Means (Some subcommand.Check) fault limit came history put = (history ≡ []) × MeansChecked fault limit came put
-Means command fault limit came history put = MeansRun command fault limit came history put
-
--- ---- the parts of a call
-
--- what the words ask: a command, or the fault that is reported instead
-abbrev pub IsAsked : Option Subcommand → Result Subcommand Fault → Type 0
-IsAsked command (Ok asked) = command ≡ Some asked
-IsAsked command (Err reported) = ((reported ≡ fault.Usage) × (command ≡ None)) ⊎ (reported ≡ fault.Memory)
-
--- what is reported of a text that is refused
-abbrev pub refusal_of : ScriptFault → Fault
-refusal_of refused = if refused.kind == 14 then fault.Memory else fault.Script refused.line refused.kind
-
--- bytes that were read whole have come to this, and to this history
-abbrev pub comes_of_text : Fault → Bool
-comes_of_text fault.Usage = false
-comes_of_text fault.Read = false
-comes_of_text fault.TooLong = false
-comes_of_text _ = true
-
--- what goes into the sink: the line of a broken rule, whole or a prefix where the sink failed; or else these bytes, and the sink failed exactly where that is the fault
-abbrev pub PutsFor : Fault → Stream → List ℕ → Stream → Type 0
-PutsFor (fault.NotLegal place rule) before put after =
-    ((put ≡ broken_line place rule) × Receives before put false after)
-    ⊎ (IsPrefix put (broken_line place rule) × Receives before put true after)
-PutsFor other before put after = Receives before put (is_write other) after
-
-pub record IsRunOf (command : Option Subcommand) (bytes : List ℕ) (sink sink' : Stream) (fault : Fault)
-    (limit : Option Which) (history : List Entry) : Type 0 where
-  pub put : List ℕ
-  pub writing : PutsFor fault sink put sink'
-  pub means : Means command fault limit bytes history put
-  pub cause : comes_of_text fault ≡ true
-
--- why the input of `check` is refused
-abbrev pub IsRefused : List ℕ → Fault → Option Which → Type 0
-IsRefused bytes (fault.Script line kind) limit = IsScriptFault bytes line kind limit
-IsRefused bytes (fault.Transcript line) limit = IsBadAt bytes line
-IsRefused bytes fault.Memory limit = Unit {0}
-IsRefused bytes other limit = ⊥
-
--- what is reported of a verdict, and what the sink gets of it
-abbrev pub TellsVerdict : Verdict → Fault → Stream → Stream → Type 0
-TellsVerdict verdict.Legal reported before after =
-    ((reported ≡ fault.Clean) × Receives before legal_line false after)
-    ⊎ ((reported ≡ fault.Write) × IsPart before legal_line true after)
-TellsVerdict (verdict.Not place rule) reported before after =
-    (reported ≡ fault.NotLegal place rule) × Reported before (broken_line place rule) after
+-- reading has stopped before the end
+abbrev pub stopped : ReadFault → Outcome
+stopped read.Failed = outcome.Read
+stopped read.Memory = outcome.Memory
+stopped read.TooLong = outcome.TooLong
 
 -- what is reported of a verdict, where no stream fails and memory is had
 abbrev pub reported_of : Verdict → Fault
 reported_of verdict.Legal = fault.Clean
 reported_of (verdict.Not place rule) = fault.NotLegal place rule
 
--- ---- the report
+-- ---- a script that is run
 
--- too long: more came than a script may have, which stops the reading
-abbrev pub LimitsRun : Fault → List ℕ → Type 0
-LimitsRun reported came = (is_too_long reported ≡ nat_lt script_limit (length came)) × (length came ≤ most_read)
+-- the history is one of the script that the bytes are, under `turns` the one of its turns, and this is its text
+pub record IsHistoryOf (command : Subcommand) (bytes : List ℕ) (history : List Entry) (text : List ℕ) : Type 0 where
+  pub script : ScriptParts
+  pub read : read_script bytes ≡ Ok script
+  pub legal : IsLegal stored script history
+  pub order : command ≡ subcommand.Turns → IsOrderRun stored script history
+  pub written : text ≡ transcript script history
 
--- or more than a script and a transcript may have, whatever follows; what was read to its end is within
-pub record LimitsCheck (reported : Fault) (source : Stream) (came : List ℕ) (source' : Stream) : Type 0 where
-  pub too_long : is_too_long reported ≡ true → IsTooLong source came source'
-  pub within : has_ended reported ≡ true → IsWithin came
+-- these bytes are a prefix of the text of such a history
+pub record IsHistoryBegun (command : Subcommand) (bytes : List ℕ) (history : List Entry) (put : List ℕ) : Type 0 where
+  pub text : List ℕ
+  pub whole : IsHistoryOf command bytes history text
+  pub prefix : IsPrefix put text
+
+-- a script's first fault; out of memory is none
+pub record IsFirstFault (bytes : List ℕ) (refused : ScriptFault) : Type 0 where
+  pub first : read_script bytes ≡ Err refused
+  pub in_text : refused.kind ≢ 14
+
+-- what it says of the bytes that came that running them came to this, and of the bytes that were put
+abbrev pub MeansRun : Subcommand → List ℕ → Outcome → List ℕ → Type 0
+MeansRun command came (outcome.Clean history) put = IsHistoryOf command came history.items put
+MeansRun command came (outcome.Write history) put = IsHistoryBegun command came history.items put
+MeansRun command came (outcome.Script refused) put = IsFirstFault came refused × (put ≡ [])
+MeansRun command came outcome.Read put = put ≡ []
+MeansRun command came outcome.TooLong put = put ≡ []
+MeansRun command came outcome.Memory put =
+    (put ≡ []) ⊎ ((unsaid : List Entry) × IsHistoryBegun command came unsaid put)
+MeansRun command came outcome.Usage put = ⊥
+MeansRun command came (outcome.NotLegal place rule) put = ⊥
+MeansRun command came (outcome.Transcript line) put = ⊥
+
+-- what a command that runs a script does: more than a script may have stops the reading, else it goes on to the end
+pub record DoesRun (command : Subcommand) (ended : Outcome) (came : List ℕ) (source' : Stream) (put : List ℕ) : Type 0 where
+  pub too_long : is_too_long ended ≡ nat_lt script_limit (length came)
+  pub few : length came ≤ most_read
+  pub to_end : has_ended ended ≡ true → HasEnded source'
+  pub means : MeansRun command came ended put
+
+-- ---- a transcript that is checked
+
+-- the first fault of the script that stands before the line `---`
+abbrev pub IsScriptFault : List ℕ → ScriptFault → Type 0
+IsScriptFault bytes refused = (text : List ℕ) × IsScriptPart bytes text × IsFirstFault text refused
+
+-- what it says of the bytes that came that checking them came to this, and of the bytes that were put; the line of a broken rule is said apart
+abbrev pub MeansChecked : List ℕ → Outcome → List ℕ → Type 0
+MeansChecked came (outcome.Clean history) put =
+    IsFound came verdict.Legal × (history.items ≡ []) × (put ≡ legal_line)
+MeansChecked came (outcome.Write history) put =
+    IsFound came verdict.Legal × (history.items ≡ []) × IsPrefix put legal_line
+MeansChecked came (outcome.NotLegal place rule) put = IsFound came (verdict.Not place rule)
+MeansChecked came (outcome.Transcript line) put = IsBadAt came line × (put ≡ [])
+MeansChecked came (outcome.Script refused) put = IsScriptFault came refused × (put ≡ [])
+MeansChecked came outcome.Read put = put ≡ []
+MeansChecked came outcome.TooLong put = put ≡ []
+MeansChecked came outcome.Memory put = put ≡ []
+MeansChecked came outcome.Usage put = ⊥
+
+-- what `check` does: more than a script and a transcript may have, whatever follows, stops the reading; what was read to its end is within
+pub record DoesCheck (ended : Outcome) (source : Stream) (came : List ℕ) (source' : Stream) (put : List ℕ) : Type 0 where
+  pub too_long : is_too_long ended ≡ true → IsTooLong source came source'
+  pub within : has_ended ended ≡ true → IsWithin came
   pub few : length came ≤ most_checked
   pub in_time : IsReadInTime came
+  pub to_end : has_ended ended ≡ true → HasEnded source'
+  pub means : MeansChecked came ended put
 
-abbrev pub Limits : Option Subcommand → Fault → Stream → List ℕ → Stream → Type 0
-Limits (Some subcommand.Check) reported source came source' = LimitsCheck reported source came source'
-Limits command reported source came source' = LimitsRun reported came
+-- ---- the parts that all commands have
 
--- what is done for this command, and the fault and the history that it comes to
-pub record IsDone (command : Option Subcommand) (source source' sink sink' : Stream) (fault : Fault)
-    (limit : Option Which) (history : List Entry) : Type 0 where
+-- what goes into the sink: the line of a broken rule, whole or a prefix where the sink failed; or else these bytes, and the sink failed exactly where that is the fault
+abbrev pub PutsFor : Outcome → Stream → List ℕ → Stream → Type 0
+PutsFor (outcome.NotLegal place rule) before put after =
+    ((put ≡ broken_line place rule) × Receives before put false after)
+    ⊎ (IsPrefix put (broken_line place rule) × Receives before put true after)
+PutsFor other before put after = Receives before put (is_write other) after
+
+-- the bytes that are there have come to this, which says so much of them and of the bytes that were put
+pub record ComesTo (Means : Outcome → List ℕ → Type 0) (sink sink' : Stream) (ended : Outcome) : Type 0 where
+  pub put : List ℕ
+  pub writing : PutsFor ended sink put sink'
+  pub means : Means ended put
+  pub cause : comes_of_text ended ≡ true
+
+-- what each command does; words that are none read and put nothing
+abbrev pub Does : Option Subcommand → Outcome → Stream → List ℕ → Stream → List ℕ → Type 0
+Does None ended source came source' put = (came ≡ []) × (put ≡ [])
+Does (Some subcommand.Run) ended source came source' put = DoesRun subcommand.Run ended came source' put
+Does (Some subcommand.Turns) ended source came source' put = DoesRun subcommand.Turns ended came source' put
+Does (Some subcommand.Check) ended source came source' put = DoesCheck ended source came source' put
+
+-- what is done for this command, and what it comes to
+pub record IsDone (command : Option Subcommand) (source source' sink sink' : Stream) (ended : Outcome) : Type 0 where
   -- the bytes that came, and those that were put
   pub came : List ℕ
   pub put : List ℕ
-  -- usage exactly where there is no command, unless memory ran out first; nothing is read then
-  pub usage : is_memory fault ≡ false → is_usage fault ≡ is_none command
-  pub unread : command ≡ None → came ≡ []
+  -- usage exactly where there is no command, unless memory ran out first
+  pub usage : is_memory ended ≡ false → is_usage ended ≡ is_none command
   -- a fault of reading or writing exactly where the count rose
-  pub reading : Gives source came (is_read fault) source'
-  pub writing : PutsFor fault sink put sink'
-  pub limits : Limits command fault source came source'
-  pub ended : IsTrue (has_ended fault) → IfSome source'.content (λ rest. rest ≡ [])
-  pub means : Means command fault limit came history put
+  pub reading : Gives source came (is_read ended) source'
+  pub writing : PutsFor ended sink put sink'
+  pub own : Does command ended source came source' put
 
 -- what the tool reports for these words, from what the source, the sink and the errors tell before it to what they tell after it
 pub record IsReport (words : List (List ℕ)) (source source' sink sink' errors errors' : Stream)
     (report : Report) : Type 0 where
-  -- the limit that a faulty script passes
-  pub limit : Option Which
-  pub done : IsDone (command_of words) source source' sink sink' report.fault limit report.history.items
+  pub ended : Outcome
+  pub done : IsDone (command_of words) source source' sink sink' ended
+  pub fault : report.fault ≡ fault_of ended
+  pub history : report.history.items ≡ history_of ended
   pub status : report.status ≡ status_of report.fault
   -- the errors get the line of the fault; where it has none, they are left alone
-  pub reported : Reported errors (error_line report.fault limit) errors'
+  pub reported : Reported errors (error_line ended) errors'
   pub untouched : has_line report.fault ≡ false → errors' ≡ errors

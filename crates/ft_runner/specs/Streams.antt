@@ -1,22 +1,14 @@
 -- What streams give and get.
-use Rattle.std.specs.Prelude.{◌≡◌, ℕ, Bool, true, false, nat_lt, if◌then◌else◌, ◌⊎◌, ◌≤◌, ◌+◌, List, [], ◌++◌, length, Option, IfSome, Result, Ok, Err, Vec}
+use Rattle.std.specs.Prelude.{◌≡◌, ℕ, Bool, true, false, nat_lt, if◌then◌else◌, ◌⊎◌, ◌≤◌, ◌+◌, List, [], ◌++◌, length, IfSome, Result, Ok, Err, Vec}
 use Rattle.std.specs.declared.alloc.Global.{Global}
 use Rattle.ft_io.specs.declared.source.Failed.{Failed}
-use Rattle.ft_io.specs.Streams.{raised, prepended, added}
-use Rattle.ft_runner.specs.declared.report.Fault.{Fault}
-use Rattle.ft_runner.specs.declared.report.Fault.TheVariants as fault
+use Rattle.ft_io.specs.Streams.{raised, prepended, added, Stream}
+use Rattle.ft_runner.specs.declared.reading.ReadFault.{ReadFault}
+use Rattle.ft_runner.specs.declared.reading.ReadFault.TheVariants as read
 use Rattle.ft_runner.specs.declared.writing.WriteFault.{WriteFault}
 use Rattle.ft_runner.specs.declared.writing.WriteFault.TheVariants as write
 
 -- ---- streams
-
--- what a stream tells of its bytes, and how often it has failed
-pub record Stream : Type 0 where
-  pub content : Option (List ℕ)
-  pub faults : ℕ
-
-abbrev pub stream : Option (List ℕ) → ℕ → Stream
-stream content faults = record { content = content; faults = faults }
 
 -- these bytes came from a source, whose last call failed or not
 pub record Gives (before : Stream) (came : List ℕ) (failed : Bool) (after : Stream) : Type 0 where
@@ -28,51 +20,65 @@ pub record Receives (before : Stream) (put : List ℕ) (failed : Bool) (after : 
   pub content : after.content ≡ added before.content put
   pub faults : after.faults ≡ (if failed then raised before.faults else before.faults)
 
+-- nothing is left in a source, where it tells that
+abbrev pub HasEnded : Stream → Type 0
+HasEnded source = IfSome source.content (λ rest. rest ≡ [])
+
 -- the first bytes of a text
 abbrev pub IsPrefix : List ℕ → List ℕ → Type 0
 IsPrefix prefix text = (rest : List ℕ) × (prefix ++ rest ≡ text)
 
--- ---- reading and writing
-
-abbrev pub is_read : Fault → Bool
-is_read fault.Read = true
-is_read _ = false
-
-abbrev pub is_too_long : Fault → Bool
-is_too_long fault.TooLong = true
-is_too_long _ = false
+-- ---- limits
 
 -- the most bytes that a script may have
 abbrev pub script_limit : ℕ
 script_limit = 4194304
 
+-- the most bytes that a script and a transcript may have together
+abbrev pub input_limit : ℕ
+input_limit = 67108864
+
+-- the most bytes that one call of a source is asked for
+abbrev pub piece : ℕ
+piece = 65536
+
+-- ---- reading
+
+-- reading stopped as the source failed
+abbrev pub has_failed : ReadFault → Bool
+has_failed read.Failed = true
+has_failed read.Memory = false
+has_failed read.TooLong = false
+
+-- reading stopped as too much came
+abbrev pub is_too_much : ReadFault → Bool
+is_too_much read.Failed = false
+is_too_much read.Memory = false
+is_too_much read.TooLong = true
+
 -- a source is read to its end, and gives no more than a script may have
 pub record IsWholeInput (before : Stream) (bytes : List ℕ) (after : Stream) : Type 0 where
   pub gives : Gives before bytes false after
   pub few : length bytes ≤ script_limit
-  pub ended : IfSome after.content (λ rest. rest ≡ [])
+  pub ended : HasEnded after
 
 -- no more bytes are read than a script may have and one piece
 abbrev pub most_read : ℕ
-most_read = script_limit + 65536
-
-abbrev pub stops_reading : Fault → Bool
-stops_reading fault.Read = true
-stops_reading fault.Memory = true
-stops_reading fault.TooLong = true
-stops_reading _ = false
+most_read = script_limit + piece
 
 -- reading stops at a fault, after the bytes that came
-pub record StopsReading (fault : Fault) (before after : Stream) : Type 0 where
+pub record StopsReading (stop : ReadFault) (before after : Stream) : Type 0 where
   pub came : List ℕ
-  pub gives : Gives before came (is_read fault) after
-  pub too_long : is_too_long fault ≡ nat_lt script_limit (length came)
+  pub gives : Gives before came (has_failed stop) after
+  pub too_long : is_too_much stop ≡ nat_lt script_limit (length came)
   pub few : length came ≤ most_read
-  pub cause : stops_reading fault ≡ true
 
-abbrev pub Reads : Stream → Result (Vec ℕ Global) Fault → Stream → Type 0
+-- what reading a script comes to
+abbrev pub Reads : Stream → Result (Vec ℕ Global) ReadFault → Stream → Type 0
 Reads before (Ok bytes) after = IsWholeInput before bytes.items after
-Reads before (Err fault) after = StopsReading fault before after
+Reads before (Err stop) after = StopsReading stop before after
+
+-- ---- writing
 
 -- a prefix of a text goes into a sink, which fails or not
 pub record IsPart (before : Stream) (text : List ℕ) (failed : Bool) (after : Stream) : Type 0 where
@@ -80,6 +86,7 @@ pub record IsPart (before : Stream) (text : List ℕ) (failed : Bool) (after : S
   pub is_prefix : IsPrefix prefix text
   pub receives : Receives before prefix failed after
 
+-- a text is put: whole, or a prefix where the sink fails
 abbrev pub Puts : Stream → List ℕ → Result (Unit {0}) Failed → Stream → Type 0
 Puts before text (Ok u) after = Receives before text false after
 Puts before text (Err e) after = IsPart before text true after

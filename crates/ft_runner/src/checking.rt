@@ -1,15 +1,14 @@
 //! Checks transcripts.
-ghost use Rattle.ft_runner.specs.declared.command.Subcommand.TheVariants as subcommand;
-ghost use Rattle.std.specs.Prelude.{◌≡◌, ◌≤◌, ◌↔◌, ◌∷◌, ◌++◌, [], All, IsTrue, Some, length, map, slice_get, MatchOption, IfErr, IfOk, IfSome};
+ghost use Rattle.std.specs.Prelude.{◌≡◌, ◌≤◌, ◌↔◌, ℕ, ◌∷◌, ◌++◌, List, [], All, IsTrue, Some, length, map, slice_get, MatchOption, IfErr, IfOk, IfSome};
 ghost use Rattle.ft_model.specs.Parts.{IsEntryOf, IsWorldOf};
 ghost use Rattle.ft_runner.specs.Checking.{IsSeparatorOf};
 ghost use Rattle.ft_runner.specs.Findings.{broken_line, given_lines, rule_word, world_lines, IsFirstDifference, IsFound, IsVerdictOn};
-ghost use Rattle.ft_runner.specs.Reports.{IsRefused, IsRunOf, TellsVerdict};
-ghost use Rattle.ft_runner.specs.Streams.{stream, Puts};
+ghost use Rattle.ft_io.specs.Streams.{Stream};
+ghost use Rattle.ft_runner.specs.Reports.{ComesTo, MeansChecked};
+ghost use Rattle.ft_runner.specs.Streams.{Puts};
 
 use crate::errors::put_number;
-use crate::outcome::{Outcome, Refusal};
-use crate::report::Fault;
+use crate::outcome::Outcome;
 use crate::separator::{after_separator, before_separator};
 use crate::writing::put_all;
 use ft_history::{Verdict, judge_with_world};
@@ -17,6 +16,9 @@ use ft_io::{Failed, Sink};
 use ft_model::{Entry, Rule, Script, ScriptParts, Storage, World};
 use ft_script::{TranscriptFault, parse, push_world_line, read_transcript};
 use std::alloc::{AllocError, Global};
+
+/// How the containers of histories are stored: plainly, until a command has them on tables.
+const STORED: Storage = Storage::Plain;
 
 /// Checks the script and the transcript that the bytes are, the line that parts them beginning at
 /// the separator, and writes what is found.
@@ -27,35 +29,35 @@ pub(crate) fn check_text<K: Sink>(
     sink: &mut K,
 ) -> Outcome
     requires { IsSeparatorOf bytes.now separator }
-    ensures { IsRunOf (Some subcommand.Check) bytes.now (stream (K.taken sink.old) (K.faults sink.old)) (stream (K.taken sink.new) (K.faults sink.new)) result.fault result.limit result.history.items }
+    ensures { ComesTo (MeansChecked bytes.now) (K.stream sink.old) (K.stream sink.new) result }
 {
     match find(alloc, bytes, separator) {
-        Ok(verdict) => Outcome::of(alloc, put_verdict(sink, verdict)),
-        Err(refusal) => Outcome::refused(alloc, refusal),
+        Ok(verdict) => put_verdict(alloc, sink, verdict),
+        Err(outcome) => outcome,
     }
 }
 
-/// What is found of the transcript that the bytes have, or why they are refused.
-fn find(alloc: Global, bytes: &[u8], separator: Option<usize>) -> Result<Verdict, Refusal>
+/// What is found of the transcript that the bytes have, or what they come to where they have none.
+fn find(alloc: Global, bytes: &[u8], separator: Option<usize>) -> Result<Verdict, Outcome>
     requires { IsSeparatorOf bytes.now separator }
     ensures found { IfOk result (λ found. IsFound bytes.now found) }
-    ensures refused { IfErr result (λ refusal. IsRefused bytes.now refusal.fault refusal.limit) }
+    ensures refused { IfErr result (λ ended. (sink : Stream) → ComesTo (MeansChecked bytes.now) sink sink ended) }
 {
     let script = match parse(alloc, before_separator(bytes, separator)) {
         Ok(script) => script,
-        Err(refused) => return Err(Refusal::script(refused)),
+        Err(refused) => return Err(Outcome::refused(refused)),
     };
     let Some(place) = separator else {
-        return Err(Refusal::of(Fault::Transcript(1)));
+        return Err(Outcome::Transcript(1));
     };
     let transcript = match read_transcript(alloc, &script, after_separator(bytes, place)) {
         Ok(transcript) => transcript,
-        Err(TranscriptFault::Line(line)) => return Err(Refusal::of(Fault::Transcript(line))),
-        Err(TranscriptFault::Memory) => return Err(Refusal::of(Fault::Memory)),
+        Err(TranscriptFault::Line(line)) => return Err(Outcome::Transcript(line)),
+        Err(TranscriptFault::Memory) => return Err(Outcome::Memory),
     };
     match verdict_on(alloc, &script, &transcript.entries, &transcript.world) {
         Ok(verdict) => Ok(verdict),
-        Err(AllocError) => Err(Refusal::of(Fault::Memory)),
+        Err(AllocError) => Err(Outcome::Memory),
     }
 }
 
@@ -70,7 +72,7 @@ fn verdict_on(
     requires { All (IsEntryOf script.now) entries.now }
     ensures { IfOk result (λ found. IsVerdictOn script.now entries.now (map (λ text. text.items) lines.now) found) }
 {
-    let judged = judge_with_world(alloc, Storage::Plain, script, entries)?;
+    let judged = judge_with_world(alloc, STORED, script, entries)?;
     if let Verdict::Not(..) = judged.verdict {
         return Ok(judged.verdict);
     }
@@ -130,26 +132,26 @@ fn is_fed(text: &[u8], line: &[u8]) -> bool
     }
 }
 
-/// Puts the line of a verdict, and answers the fault that is reported of it. A sink that fails changes
-/// nothing of what is reported where a rule is broken.
-fn put_verdict<K: Sink>(sink: &mut K, verdict: Verdict) -> Fault
-    ensures { TellsVerdict verdict result (stream (K.taken sink.old) (K.faults sink.old)) (stream (K.taken sink.new) (K.faults sink.new)) }
+/// Puts the line of a verdict, and answers what it comes to. A sink that fails changes nothing of what
+/// is reported where a rule is broken.
+fn put_verdict<K: Sink>(alloc: Global, sink: &mut K, verdict: Verdict) -> Outcome
+    ensures { (bytes : List ℕ) → IsFound bytes verdict → ComesTo (MeansChecked bytes) (K.stream sink.old) (K.stream sink.new) result }
 {
     match verdict {
         Verdict::Legal => match put_all(sink, b"legal\n") {
-            Ok(()) => Fault::Clean,
-            Err(Failed) => Fault::Write,
+            Ok(()) => Outcome::Clean(Vec::new(alloc)),
+            Err(Failed) => Outcome::Write(Vec::new(alloc)),
         },
         Verdict::Not(place, rule) => {
             let _ = put_broken(sink, place, rule);
-            Fault::NotLegal(place, rule)
+            Outcome::NotLegal(place, rule)
         }
     }
 }
 
 /// Puts the line of a broken rule.
 fn put_broken<K: Sink>(sink: &mut K, place: u64, rule: Rule) -> Result<(), Failed>
-    ensures { Puts (stream (K.taken sink.old) (K.faults sink.old)) (broken_line place rule) result (stream (K.taken sink.new) (K.faults sink.new)) }
+    ensures { Puts (K.stream sink.old) (broken_line place rule) result (K.stream sink.new) }
 {
     put_number(sink, b"not legal at ", place, b": ")?;
     put_all(sink, rule_word(rule).as_bytes())?;

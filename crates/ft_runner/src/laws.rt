@@ -9,13 +9,13 @@ ghost use Rattle.ft_runner.specs.declared.report.Fault.TheVariants as fault;
 ghost use Rattle.ft_runner.specs.declared.report.Report.{Report};
 ghost use Rattle.ft_runner.specs.Causes.{IsCause, IsReportOn};
 ghost use Rattle.ft_runner.specs.Checking.{IsPast, IsScriptPart, IsWithin};
-ghost use Rattle.ft_runner.specs.Commands.{is_check};
-ghost use Rattle.ft_runner.specs.Findings.{IsInput, IsVerdictOn};
+ghost use Rattle.ft_runner.specs.Commands.{runs_script};
+ghost use Rattle.ft_runner.specs.Findings.{IsBadAt, IsInput, IsVerdictOn};
 ghost use Rattle.ft_runner.specs.Streams.{script_limit};
-ghost use Rattle.ft_runner.specs.Reports.{refusal_of, reported_of};
+ghost use Rattle.ft_runner.specs.Reports.{fault_of, refusal_of, reported_of};
 ghost use Rattle.ft_script.specs.declared.fault.ScriptFault.{ScriptFault};
 ghost use Rattle.ft_script.specs.Scripts.{read_script};
-ghost use Rattle.std.specs.Prelude.{◌≡◌, ◌<◌, ◌≤◌, ◌⊎◌, ℕ, List, Ok, Err, Some, false, length};
+ghost use Rattle.std.specs.Prelude.{◌≡◌, ◌<◌, ◌≤◌, ◌⊎◌, ℕ, List, Ok, Err, true, length};
 
 /// Each report has its cause in the text: a script's first fault, the first line that is none of a
 /// transcript's, the first broken rule, or that it is too long. Memory may run out with any text.
@@ -27,7 +27,7 @@ pub fn reports_have_their_causes()
 /// A script within the limit is run, and all is done, or memory runs out.
 pub fn scripts_are_run()
     ensures { (command : Subcommand) (text : List ℕ) (report : Report) (script : ScriptParts)
-        → IsReportOn command text report → is_check (Some command) ≡ false
+        → IsReportOn command text report → runs_script command ≡ true
         → length text ≤ script_limit → read_script text ≡ Ok script
         → (report.fault ≡ fault.Clean) ⊎ (report.fault ≡ fault.Memory) }
 {}
@@ -36,11 +36,11 @@ pub fn scripts_are_run()
 /// long, or memory runs out.
 pub fn scripts_are_refused()
     ensures faulty { (command : Subcommand) (text : List ℕ) (report : Report) (refused : ScriptFault)
-        → IsReportOn command text report → is_check (Some command) ≡ false
+        → IsReportOn command text report → runs_script command ≡ true
         → length text ≤ script_limit → read_script text ≡ Err refused
-        → (report.fault ≡ refusal_of refused) ⊎ (report.fault ≡ fault.Memory) }
+        → (report.fault ≡ fault_of (refusal_of refused)) ⊎ (report.fault ≡ fault.Memory) }
     ensures long { (command : Subcommand) (text : List ℕ) (report : Report)
-        → IsReportOn command text report → is_check (Some command) ≡ false
+        → IsReportOn command text report → runs_script command ≡ true
         → script_limit < length text
         → (report.fault ≡ fault.TooLong) ⊎ (report.fault ≡ fault.Memory) }
 {}
@@ -61,4 +61,12 @@ pub fn verdicts_are_reported()
         → IsReportOn subcommand.Check text report
         → IsWithin text → IsInput text script entries lines → IsVerdictOn script entries lines found
         → (report.fault ≡ reported_of found) ⊎ (report.fault ≡ fault.Memory) }
+{}
+
+/// Where a text within the limits has a line that is none of a transcript's, that line is reported, as
+/// there is one first such line, or memory runs out.
+pub fn bad_lines_are_reported()
+    ensures { (text : List ℕ) (report : Report) (line : ℕ)
+        → IsReportOn subcommand.Check text report → IsWithin text → IsBadAt text line
+        → (report.fault ≡ fault.Transcript line) ⊎ (report.fault ≡ fault.Memory) }
 {}

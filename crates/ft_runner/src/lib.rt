@@ -5,6 +5,7 @@ mod checking;
 mod command;
 mod errors;
 mod laws;
+mod limits;
 mod outcome;
 mod program;
 mod reading;
@@ -17,8 +18,8 @@ mod writing;
 
 pub use command::Subcommand;
 pub use laws::{
-    reports_have_their_causes, scripts_are_refused, scripts_are_run, transcripts_are_checked,
-    verdicts_are_reported,
+    bad_lines_are_reported, reports_have_their_causes, scripts_are_refused, scripts_are_run,
+    transcripts_are_checked, verdicts_are_reported,
 };
 pub use program::run_program;
 pub use report::{Fault, Report};

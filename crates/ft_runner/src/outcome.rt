@@ -1,88 +1,91 @@
-//! What a command has come to, before it is reported.
-ghost use Rattle.std.specs.Prelude.{◌≡◌, None, []};
-ghost use Rattle.ft_runner.specs.Reports.{refusal_of};
+//! What a command has come to, before it is reported. A history stands only where one was written,
+//! and a limit only in the script's fault that passes it.
+ghost use Rattle.std.specs.Prelude.{◌≡◌};
+ghost use Rattle.ft_runner.specs.Reports.{fault_of, history_of, refusal_of, stopped};
 
+use crate::reading::ReadFault;
 use crate::report::Fault;
-use ft_model::Entry;
-use ft_script::{ScriptFault, Which};
+use ft_model::{Entry, Rule};
+use ft_script::ScriptFault;
 use std::alloc::Global;
-
-/// Why bytes are refused.
-#[derive(Clone, Copy, Debug)]
-pub(crate) struct Refusal {
-    pub(crate) fault: Fault,
-    /// The limit that a faulty script passes.
-    pub(crate) limit: Option<Which>,
-}
-
-impl Refusal {
-    /// A fault that is reported without a limit.
-    pub(crate) fn of(fault: Fault) -> Refusal
-        ensures fault { result.fault ≡ fault }
-        ensures limit { result.limit ≡ None }
-    {
-        Refusal { fault, limit: None }
-    }
-
-    /// What is reported of a text that is no script.
-    pub(crate) fn script(refused: ScriptFault) -> Refusal
-        ensures fault { result.fault ≡ refusal_of refused }
-        ensures limit { result.limit ≡ refused.which }
-    {
-        let fault = if refused.is_memory() {
-            Fault::Memory
-        } else {
-            Fault::Script(refused.line, refused.kind)
-        };
-        Refusal {
-            fault,
-            limit: refused.which,
-        }
-    }
-}
 
 /// What a command has come to.
 #[derive(Debug, Drop)]
-pub(crate) struct Outcome {
-    pub(crate) fault: Fault,
-    /// The limit that a faulty script passes.
-    pub(crate) limit: Option<Which>,
-    pub(crate) history: Vec<Entry>,
+pub(crate) enum Outcome {
+    /// All input was read and all output written: the history, which is empty where none is made.
+    Clean(Vec<Entry>),
+    /// The text is no script: its first fault.
+    Script(ScriptFault),
+    /// The words of the command line aren't a command.
+    Usage,
+    /// The source failed.
+    Read,
+    /// The sink failed: the history of which a part was written, empty where none is made.
+    Write(Vec<Entry>),
+    /// Memory ran out.
+    Memory,
+    /// More came than a script may have, or than a script and a transcript.
+    TooLong,
+    /// A transcript isn't legal: the place and the rule that is broken there.
+    NotLegal(u64, Rule),
+    /// The first line of a transcript that isn't in the grammar.
+    Transcript(u32),
 }
 
 impl Outcome {
-    /// A fault without a history.
-    pub(crate) fn of(alloc: Global, fault: Fault) -> Outcome
-        ensures fault { result.fault ≡ fault }
-        ensures limit { result.limit ≡ None }
-        ensures history { result.history.items ≡ [] }
+    /// What is reported of it.
+    pub(crate) fn fault(&self) -> Fault
+        ensures { result ≡ fault_of self.now }
     {
-        Outcome::refused(alloc, Refusal::of(fault))
-    }
-
-    /// What is reported of bytes that are refused.
-    pub(crate) fn refused(alloc: Global, refusal: Refusal) -> Outcome
-        ensures fault { result.fault ≡ refusal.fault }
-        ensures limit { result.limit ≡ refusal.limit }
-        ensures history { result.history.items ≡ [] }
-    {
-        Outcome {
-            fault: refusal.fault,
-            limit: refusal.limit,
-            history: Vec::new(alloc),
+        match self {
+            Outcome::Clean(_) => Fault::Clean,
+            Outcome::Script(refused) => Fault::Script(refused.line, refused.kind),
+            Outcome::Usage => Fault::Usage,
+            Outcome::Read => Fault::Read,
+            Outcome::Write(_) => Fault::Write,
+            Outcome::Memory => Fault::Memory,
+            Outcome::TooLong => Fault::TooLong,
+            Outcome::NotLegal(place, rule) => Fault::NotLegal(*place, *rule),
+            Outcome::Transcript(line) => Fault::Transcript(*line),
         }
     }
 
-    /// A history that was written, whole or in part.
-    pub(crate) fn with(fault: Fault, history: Vec<Entry>) -> Outcome
-        ensures fault { result.fault ≡ fault }
-        ensures limit { result.limit ≡ None }
-        ensures history { result.history.items ≡ history.items }
+    /// The history, which is empty where there is none.
+    pub(crate) fn into_history(self, alloc: Global) -> Vec<Entry>
+        ensures { result.items ≡ history_of self }
     {
-        Outcome {
-            fault,
-            limit: None,
-            history,
+        match self {
+            Outcome::Clean(history) => history,
+            Outcome::Write(history) => history,
+            Outcome::Script(_)
+            | Outcome::Usage
+            | Outcome::Read
+            | Outcome::Memory
+            | Outcome::TooLong
+            | Outcome::NotLegal(..)
+            | Outcome::Transcript(_) => Vec::new(alloc),
+        }
+    }
+
+    /// A text is no script, or memory ran out before that was known.
+    pub(crate) fn refused(refused: ScriptFault) -> Outcome
+        ensures { result ≡ refusal_of refused }
+    {
+        if refused.is_memory() {
+            Outcome::Memory
+        } else {
+            Outcome::Script(refused)
+        }
+    }
+
+    /// Reading has stopped before the end.
+    pub(crate) fn stopped(fault: ReadFault) -> Outcome
+        ensures { result ≡ stopped fault }
+    {
+        match fault {
+            ReadFault::Failed => Outcome::Read,
+            ReadFault::Memory => Outcome::Memory,
+            ReadFault::TooLong => Outcome::TooLong,
         }
     }
 }

@@ -1,6 +1,5 @@
 //! The program over its streams. It ends with the status of what is reported.
 ghost use Rattle.ft_runner.specs.Reports.{IsReport};
-ghost use Rattle.ft_runner.specs.Streams.{stream};
 ghost use Rattle.ft_runner.specs.declared.report.Report.{Report};
 ghost use Rattle.std.specs.Prelude.{◌≡◌, map, string_bytes};
 ghost use Rattle.std.specs.Process.{exit_status};
@@ -23,9 +22,9 @@ pub fn run_program<R: Threads + Wait + Sync, S: Source, K: Sink, E: Sink>(
     errors: &mut E,
 ) -> ExitCode
     ensures { (report : Report) × (exit_status result ≡ report.status) × IsReport (map string_bytes words.now)
-        (stream (S.left source.old) (S.faults source.old)) (stream (S.left source.new) (S.faults source.new))
-        (stream (K.taken sink.old) (K.faults sink.old)) (stream (K.taken sink.new) (K.faults sink.new))
-        (stream (E.taken errors.old) (E.faults errors.old)) (stream (E.taken errors.new) (E.faults errors.new)) report }
+        (S.stream source.old) (S.stream source.new)
+        (K.stream sink.old) (K.stream sink.new)
+        (E.stream errors.old) (E.stream errors.new) report }
 {
     let report = run_tool(rt, alloc, words, source, sink, errors, &NoGate);
     ExitCode::from(report.status)

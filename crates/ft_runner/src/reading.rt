@@ -1,21 +1,23 @@
 //! Reading all of the input, and no more once it is too long.
 ghost use Rattle.std.specs.Prelude.{◌≡◌, ◌≤◌, ◌+◌, length, IfOk, MatchBool};
 ghost use Rattle.ft_runner.specs.Checking.{Fills, IsSeparatorOf, IsScriptFew, IsScriptLong, ReadsInput};
-ghost use Rattle.ft_runner.specs.Streams.{stream, Reads};
+ghost use Rattle.ft_runner.specs.Streams.{input_limit, piece, Reads};
 
-use crate::report::Fault;
+use crate::limits::{INPUT_LIMIT, PIECE, SCRIPT_LIMIT};
 use crate::separator::separator_of;
 use ft_io::{Failed, Source};
 use std::alloc::{AllocError, Global};
 
-/// The most bytes that a script may have.
-const SCRIPT_LIMIT: usize = 4_194_304;
-
-/// The most bytes that a script and a transcript may have together.
-const INPUT_LIMIT: usize = 67_108_864;
-
-/// How many bytes are asked for at once.
-const PIECE: usize = 65_536;
+/// Why reading stopped before the end.
+#[derive(Clone, Copy, Debug, PartialEq, Eq, Hash)]
+pub(crate) enum ReadFault {
+    /// The source failed.
+    Failed,
+    /// Memory ran out.
+    Memory,
+    /// More came than is taken.
+    TooLong,
+}
 
 /// What `check` reads, and where the first line of it that is `---` begins.
 #[derive(Debug, Drop)]
@@ -25,26 +27,26 @@ pub(crate) struct Input {
 }
 
 /// Reads all there is. It stops as soon as more came than a script may have.
-pub(crate) fn read_all<S: Source>(alloc: Global, source: &mut S) -> Result<Vec<u8>, Fault>
-    ensures { Reads (stream (S.left source.old) (S.faults source.old)) result (stream (S.left source.new) (S.faults source.new)) }
+pub(crate) fn read_all<S: Source>(alloc: Global, source: &mut S) -> Result<Vec<u8>, ReadFault>
+    ensures { Reads (S.stream source.old) result (S.stream source.new) }
 {
     let Ok(mut buffer) = zeros(alloc, PIECE) else {
-        return Err(Fault::Memory);
+        return Err(ReadFault::Memory);
     };
     let mut bytes = Vec::new(alloc);
     for _ in 0..=SCRIPT_LIMIT {
         let count = match source.take(&mut buffer) {
             Ok(count) => count,
-            Err(Failed) => return Err(Fault::Read),
+            Err(Failed) => return Err(ReadFault::Failed),
         };
         if count == 0 {
             return Ok(bytes);
         }
         if count > SCRIPT_LIMIT - bytes.len() {
-            return Err(Fault::TooLong);
+            return Err(ReadFault::TooLong);
         }
         let Ok(()) = bytes.extend_from_slice(&buffer[..count]) else {
-            return Err(Fault::Memory);
+            return Err(ReadFault::Memory);
         };
     }
     unreachable!()
@@ -53,14 +55,14 @@ pub(crate) fn read_all<S: Source>(alloc: Global, source: &mut S) -> Result<Vec<u
 /// Reads a script, a line `---` and a transcript: all there is. It stops as soon as more came than
 /// they may have, whatever follows; of the script that is reported once the bytes of such a line came
 /// after it.
-pub(crate) fn read_input<S: Source>(alloc: Global, source: &mut S) -> Result<Input, Fault>
-    ensures { ReadsInput (stream (S.left source.old) (S.faults source.old)) result (stream (S.left source.new) (S.faults source.new)) }
+pub(crate) fn read_input<S: Source>(alloc: Global, source: &mut S) -> Result<Input, ReadFault>
+    ensures { ReadsInput (S.stream source.old) result (S.stream source.new) }
 {
     let mut bytes = Vec::new(alloc);
     let ended = fill(alloc, source, &mut bytes, SCRIPT_LIMIT + 3)?;
     let separator = separator_of(&bytes);
     if !is_script_few(&bytes, separator) {
-        return Err(Fault::TooLong);
+        return Err(ReadFault::TooLong);
     }
     if ended {
         return Ok(Input { bytes, separator });
@@ -68,7 +70,7 @@ pub(crate) fn read_input<S: Source>(alloc: Global, source: &mut S) -> Result<Inp
     if fill(alloc, source, &mut bytes, INPUT_LIMIT)? {
         Ok(Input { bytes, separator })
     } else {
-        Err(Fault::TooLong)
+        Err(ReadFault::TooLong)
     }
 }
 
@@ -94,24 +96,24 @@ fn fill<S: Source>(
     source: &mut S,
     bytes: &mut Vec<u8>,
     most: usize,
-) -> Result<bool, Fault>
-    requires few { length bytes.old.items ≤ most + 65536 }
-    requires most { most ≤ 67108864 }
-    ensures { Fills (stream (S.left source.old) (S.faults source.old)) bytes.old.items most result bytes.new.items (stream (S.left source.new) (S.faults source.new)) }
+) -> Result<bool, ReadFault>
+    requires few { length bytes.old.items ≤ most + piece }
+    requires most { most ≤ input_limit }
+    ensures { Fills (S.stream source.old) bytes.old.items most result bytes.new.items (S.stream source.new) }
 {
     let Ok(mut buffer) = zeros(alloc, PIECE) else {
-        return Err(Fault::Memory);
+        return Err(ReadFault::Memory);
     };
     while bytes.len() <= most {
         let count = match source.take(&mut buffer) {
             Ok(count) => count,
-            Err(Failed) => return Err(Fault::Read),
+            Err(Failed) => return Err(ReadFault::Failed),
         };
         if count == 0 {
             return Ok(true);
         }
         let Ok(()) = bytes.extend_from_slice(&buffer[..count]) else {
-            return Err(Fault::Memory);
+            return Err(ReadFault::Memory);
         };
     }
     Ok(false)

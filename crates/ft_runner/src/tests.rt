@@ -2,10 +2,8 @@
 //! last ten runs: they are what a second model of the turns gives, written apart from this one.
 
 use crate::{Fault, NoGate, Report, run_program, run_still, run_tool};
-use ft_history::{Verdict, judge};
 use ft_io::{MemSink, MemSource};
-use ft_model::{Rule, Storage};
-use ft_script::parse;
+use ft_model::Rule;
 use std::alloc::{AllocError, Global};
 use std::process::{Abort, ExitCode};
 use std::sync::Wait;
@@ -654,31 +652,53 @@ fn long_script(alloc: Global) -> Result<String, AllocError> {
     Ok(text)
 }
 
+/// How often a byte stands in the bytes.
+fn count_of(bytes: &[u8], wanted: u8) -> usize {
+    bytes.iter().filter(|b| **b == wanted).count()
+}
+
 #[test]
-fn a_long_script_is_run(rt: HostRuntime) -> Result<(), Fail> {
+fn a_long_script_is_run_and_checked(rt: HostRuntime) -> Result<(), Fail> {
     let alloc = rt.alloc();
-    let words = words_of(alloc, "run")?;
     let text = long_script(alloc)?;
     let input = text.as_bytes().to_vec(alloc)?;
     let mut source = MemSource::new(input, 65_536, Vec::new(alloc));
     let mut sink = MemSink::new(alloc, 200_000, 65_536, Vec::new(alloc))?;
     let mut errors = MemSink::new(alloc, 100, 100, Vec::new(alloc))?;
-    let report = run_tool(
-        &rt,
-        alloc,
-        &words,
-        &mut source,
-        &mut sink,
-        &mut errors,
-        &NoGate,
-    );
+    let words = words_of(alloc, "turns")?;
+    let report = run_still(alloc, &words, &mut source, &mut sink, &mut errors);
+    let report = report.ok_or("no report")?;
     assert_eq!(rt; report.status, 0);
-    let lines = sink.bytes().iter().filter(|b| **b == b'\n').count();
-    assert_eq!(rt; lines, 2002);
-    let Ok(script) = parse(alloc, text.as_bytes()) else {
-        return Err("no script".into());
-    };
-    let verdict = judge(alloc, Storage::Plain, &script, &report.history)?;
-    assert_eq!(rt; verdict, Verdict::Legal);
+    assert_eq!(rt; report.history.len(), 2001);
+    // The pairs of the reply to `items`, and those of the content.
+    assert_eq!(rt; count_of(sink.bytes(), b':'), 4000);
+    assert_eq!(rt; count_of(sink.bytes(), b'\n'), 2002);
+
+    let mut input = text.as_bytes().to_vec(alloc)?;
+    input.extend_from_slice(b"---\n")?;
+    input.extend_from_slice(sink.bytes())?;
+    let mut source = MemSource::new(input, 65_536, Vec::new(alloc));
+    let mut found = MemSink::new(alloc, 100, 100, Vec::new(alloc))?;
+    let words = words_of(alloc, "check")?;
+    let report = run_still(alloc, &words, &mut source, &mut found, &mut errors);
+    assert_eq!(rt; report.ok_or("no report")?.status, 0);
+    assert_eq!(rt; found.bytes(), b"legal\n".as_slice());
+    Ok(())
+}
+
+// A script and a transcript of as many bytes as they may have, and of one more.
+#[test]
+fn a_transcript_has_its_limit(rt: HostRuntime) -> Result<(), Fail> {
+    let alloc = rt.alloc();
+    for (count, status) in [(67_108_864, 8), (67_108_865, 6)] {
+        let mut input = vec![in alloc; b'\n'; count]?;
+        input[..3].copy_from_slice(b"---");
+        let mut source = MemSource::new(input, 1_000_000, Vec::new(alloc));
+        let mut sink = MemSink::new(alloc, 100, 100, Vec::new(alloc))?;
+        let mut errors = MemSink::new(alloc, 100, 100, Vec::new(alloc))?;
+        let words = words_of(alloc, "check")?;
+        let report = run_still(alloc, &words, &mut source, &mut sink, &mut errors);
+        assert_eq!(rt; report.ok_or("no report")?.status, status);
+    }
     Ok(())
 }

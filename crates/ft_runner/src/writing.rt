@@ -4,15 +4,16 @@ ghost use Rattle.std.specs.Prelude.{◌≡◌, true, ◌++◌, All, OnOk, OnErr}
 ghost use Rattle.ft_model.specs.Parts.{IsEntryOf, IsWorldOf};
 ghost use Rattle.ft_script.specs.Texts.{entry_line, world_text};
 ghost use Rattle.std.specs.List.{flat_map};
-ghost use Rattle.ft_runner.specs.Streams.{stream, IsPart, IsBuffered, Puts, Writes};
+ghost use Rattle.ft_runner.specs.Streams.{IsPart, IsBuffered, Puts, Writes};
 
+use crate::limits::PIECE;
 use ft_io::{Failed, Sink};
 use ft_model::{Entry, Script, World};
 use ft_script::{push_entry, push_world};
 use std::alloc::{AllocError, Global};
 
-/// How many bytes are put at once.
-const PIECE: usize = 65_536;
+/// The buffer goes out when it has so many bytes, so that no line of up to 4,096 bytes makes it grow.
+const FULL: usize = PIECE - 4_096;
 
 /// Why a text was not written to its end.
 #[derive(Clone, Copy, Debug, PartialEq, Eq, Hash)]
@@ -53,7 +54,7 @@ pub(crate) fn write_all<K: Sink>(
 ) -> Result<(), WriteFault>
     requires entries { All (IsEntryOf script.now) entries.now }
     requires world { IsWorldOf script.now world.now }
-    ensures { Writes (stream (K.taken sink.old) (K.faults sink.old)) (flat_map (entry_line script.now) entries.now ++ world_text script.now world.now) result (stream (K.taken sink.new) (K.faults sink.new)) }
+    ensures { Writes (K.stream sink.old) (flat_map (entry_line script.now) entries.now ++ world_text script.now world.now) result (K.stream sink.new) }
 {
     let mut buffer = Vec::with_capacity(alloc, PIECE)?;
     for entry in entries {
@@ -65,26 +66,25 @@ pub(crate) fn write_all<K: Sink>(
     Ok(())
 }
 
-/// Puts what the buffer has, where that fills a piece, and empties it.
+/// Puts what the buffer has, where it is full, and empties it.
 fn put_full<K: Sink>(sink: &mut K, buffer: &mut Vec<u8>) -> Result<(), Failed>
-    ensures ok { OnOk result (IsBuffered (stream (K.taken sink.old) (K.faults sink.old)) (stream (K.taken sink.new) (K.faults sink.new)) buffer.new.items buffer.old.items) }
-    ensures err { OnErr result (IsPart (stream (K.taken sink.old) (K.faults sink.old)) buffer.old.items true (stream (K.taken sink.new) (K.faults sink.new))) }
+    ensures ok { OnOk result (IsBuffered (K.stream sink.old) (K.stream sink.new) buffer.new.items buffer.old.items) }
+    ensures err { OnErr result (IsPart (K.stream sink.old) buffer.old.items true (K.stream sink.new)) }
 {
-    if buffer.len() >= PIECE {
+    if buffer.len() >= FULL {
         put_all(sink, buffer)?;
         buffer.clear();
     }
     Ok(())
 }
 
-/// Puts all bytes, in order and in pieces. Nothing is put after a put that failed.
+/// Puts all bytes, in order, in as few calls as the sink takes. Nothing is put after a put that failed.
 pub(crate) fn put_all<K: Sink>(sink: &mut K, bytes: &[u8]) -> Result<(), Failed>
-    ensures { Puts (stream (K.taken sink.old) (K.faults sink.old)) bytes.now result (stream (K.taken sink.new) (K.faults sink.new)) }
+    ensures { Puts (K.stream sink.old) bytes.now result (K.stream sink.new) }
 {
     let mut done = 0;
     while done < bytes.len() {
-        let rest = &bytes[done..];
-        done += sink.put(&rest[..rest.len().min(PIECE)])?;
+        done += sink.put(&bytes[done..])?;
     }
     Ok(())
 }

@@ -1,31 +1,31 @@
-use Rattle.std.proofs.Common.{◌≡◌, ◌≤◌, ◌<◌, ◌⊎◌, ◌∙◌, ℕ, true, false, List, Option, Result, Ok, Err, length, refl, sym, ap, subst, arith, inl, inr, if◌then◌else◌}
+use Rattle.std.proofs.Common.{◌≡◌, ◌≤◌, ◌<◌, ◌⊎◌, ◌∙◌, ℕ, true, false, List, Result, Err, length, refl, sym, ap, subst, arith, inl, inr, if◌then◌else◌}
 use Rattle.std.specs.Prelude.{◌==◌, is_ok}
 use Rattle.std.proofs.lemmas.Bool.{eqb-true, true≢false}
 use Rattle.ft_model.specs.declared.script.ScriptParts.{ScriptParts}
 use Rattle.ft_script.specs.declared.fault.ScriptFault.{ScriptFault}
-use Rattle.ft_script.specs.declared.fault.Which.{Which}
 use Rattle.ft_script.specs.Scripts.{read_script}
 use Rattle.ft_runner.specs.declared.report.Fault.{Fault}
 use Rattle.ft_runner.specs.declared.report.Fault.TheVariants as fault
+use Rattle.ft_runner.specs.declared.outcome.Outcome.TheVariants as outcome
 use Rattle.ft_runner.specs.Causes.{IsRunCause}
-use Rattle.ft_runner.specs.Reports.{refusal_of, IsFirstFault}
+use Rattle.ft_runner.specs.Reports.{fault_of, refusal_of, IsFirstFault}
 use Rattle.ft_runner.specs.Streams.{script_limit}
 use Rattle.ft_runner.proofs.CauseLemmas.{cause_of, run_cause_of}
 use Rattle.ft_runner.proofs.laws.scripts_are_refused.Goals as goal
 
 -- the first fault is this one
-one_fault : (text : List ℕ) (line kind : ℕ) (limit : Option Which) (refused : ScriptFault) → IsFirstFault text line kind limit → read_script text ≡ Err refused → fault.Script line kind ≡ refusal_of refused
-one_fault text line kind limit refused first read =
-    let same : ◌≡◌ {A = Result ScriptParts ScriptFault} (Err (record { line = line; kind = kind; which = limit })) (Err refused) = sym first.refused ∙ read in
-    let it : record { line = line; kind = kind; which = limit } ≡ refused = cc in
-    subst (λ (f : ScriptFault). fault.Script line kind ≡ refusal_of f) it
-    (elim (kind == 14) as (λ b. (kind == 14) ≡ b → fault.Script line kind ≡ (if b then fault.Memory else fault.Script line kind)) [
-      | true ↦ λ memory. absurd (first.in_text (eqb-true kind 14 memory))
+one_fault : (text : List ℕ) (reported refused : ScriptFault) → IsFirstFault text reported → read_script text ≡ Err refused → fault.Script reported.line reported.kind ≡ fault_of (refusal_of refused)
+one_fault text reported refused is found =
+    let same : ◌≡◌ {A = Result ScriptParts ScriptFault} (Err reported) (Err refused) = sym is.first ∙ found in
+    let it : reported ≡ refused = cc in
+    subst (λ (f : ScriptFault). fault.Script reported.line reported.kind ≡ fault_of (refusal_of f)) it
+    (elim (reported.kind == 14) as (λ b. (reported.kind == 14) ≡ b → fault.Script reported.line reported.kind ≡ fault_of (if b then outcome.Memory else outcome.Script reported)) [
+      | true ↦ λ memory. absurd (is.in_text (eqb-true reported.kind 14 memory))
       | false ↦ λ other. refl
     ] refl)
 
-refuses : (f : Fault) (text : List ℕ) (refused : ScriptFault) → IsRunCause text f → length text ≤ script_limit → read_script text ≡ Err refused → (f ≡ refusal_of refused) ⊎ (f ≡ fault.Memory)
-refuses (fault.Script line kind) text refused cause few read = inl (one_fault text line kind cause.1 refused cause.2 read)
+refuses : (f : Fault) (text : List ℕ) (refused : ScriptFault) → IsRunCause text f → length text ≤ script_limit → read_script text ≡ Err refused → (f ≡ fault_of (refusal_of refused)) ⊎ (f ≡ fault.Memory)
+refuses (fault.Script line kind) text refused cause few read = inl (one_fault text (record { line = line; kind = kind; which = cause.1 }) refused cause.2 read)
 refuses fault.Memory text refused cause few read = inr refl
 refuses fault.TooLong text refused cause few read = absurd (omega arith)
 refuses fault.Clean text refused cause few read = absurd (true≢false (ap (λ (r : Result ScriptParts ScriptFault). is_ok r) (sym cause.2 ∙ read)))

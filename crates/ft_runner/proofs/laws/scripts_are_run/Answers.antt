@@ -15,7 +15,7 @@ ends_well : (f : Fault) (text : List ℕ) (script : ScriptParts) → IsRunCause 
 ends_well fault.Clean text script cause few read = inl refl
 ends_well fault.Memory text script cause few read = inr refl
 ends_well fault.TooLong text script cause few read = absurd (omega arith)
-ends_well (fault.Script line kind) text script cause few read = absurd (true≢false (ap (λ (r : Result ScriptParts ScriptFault). is_ok r) (sym read ∙ cause.2.refused)))
+ends_well (fault.Script line kind) text script cause few read = absurd (true≢false (ap (λ (r : Result ScriptParts ScriptFault). is_ok r) (sym read ∙ cause.2.first)))
 ends_well fault.Usage text script cause few read = absurd cause
 ends_well fault.Read text script cause few read = absurd cause
 ends_well fault.Write text script cause few read = absurd cause

@@ -25,7 +25,7 @@ ends_well (fault.Transcript line) text part script cause within is read = inr (i
 ends_well fault.TooLong text part script cause within is read = absurd (past_within text cause within)
 ends_well (fault.Script line kind) text part script cause within is read =
     let first = cause.2 in
-    absurd (true≢false (ap (λ (r : Result ScriptParts ScriptFault). is_ok r) (sym read ∙ ap read_script (one_script text part first.0 is first.1) ∙ first.2.refused)))
+    absurd (true≢false (ap (λ (r : Result ScriptParts ScriptFault). is_ok r) (sym read ∙ ap read_script (one_script text part first.0 is first.1) ∙ first.2.first)))
 ends_well fault.Usage text part script cause within is read = absurd cause
 ends_well fault.Read text part script cause within is read = absurd cause
 ends_well fault.Write text part script cause within is read = absurd cause

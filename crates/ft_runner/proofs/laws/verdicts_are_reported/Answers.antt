@@ -1,4 +1,4 @@
-use Rattle.std.proofs.Common.{◌≡◌, ◌⊎◌, ◌∙◌, ℕ, List, refl, sym, ap, inl, inr}
+use Rattle.std.proofs.Common.{◌≡◌, ◌⊎◌, ℕ, List, refl, sym, ap, inl, inr}
 use Rattle.ft_history.specs.declared.verdict.Verdict.{Verdict}
 use Rattle.ft_history.specs.declared.verdict.Verdict.TheVariants as verdict
 use Rattle.ft_model.specs.declared.entry.Entry.{Entry}
@@ -21,7 +21,7 @@ module _ (text : List ℕ) (script : ScriptParts) (entries : List Entry) (lines 
   reported (fault.NotLegal place rule) cause = inl (ap reported_of (sym (one_finding text script entries lines input found (verdict.Not place rule) on cause.1)))
   reported fault.Memory cause = inr refl
   reported (fault.Transcript line) cause = absurd (no_bad_line text script entries lines input line cause.1)
-  reported (fault.Script line kind) cause = absurd (no_script_fault text script entries lines input line kind cause.1 cause.2)
+  reported (fault.Script line kind) cause = absurd (no_script_fault text script entries lines input (record { line = line; kind = kind; which = cause.1 }) cause.2)
   reported fault.TooLong cause = absurd (past_within text cause within)
   reported fault.Usage cause = absurd cause
   reported fault.Read cause = absurd cause

@@ -1,19 +1,19 @@
 use Rattle.std.proofs.Common.{◌≡◌, ℕ, List, [], ◌++◌, false, refl, sym, subst, arith, length, take, drop, ap, ◌∙◌, ◌+◌, append_assoc}
 use Rattle.std.proofs.lemmas.List.{append-nil, with_items_is, length-append, length-take-le}
-use Rattle.ft_runner.specs.Streams.{stream, Gives}
+use Rattle.ft_runner.specs.Streams.{Gives}
 use Rattle.ft_runner.proofs.StreamLemmas.{Gives-none, Gives-then, Gives-fails}
 use Rattle.ft_runner.proofs.reading.fill.Goals as goal
 
 pub returns-in_default : goal.returns-in_default
 returns-in_default g c =
     let source = g.S.Source in
-    ([], Gives-none (stream (source.left c.args.source.now) (source.faults c.args.source.now)), omega (arith, c.requires.few), refl, refl)
+    ([], Gives-none (source.stream c.args.source.now), omega (arith, c.requires.few), refl)
 
 pub loop-source-init : goal.loop-source-init
 loop-source-init g c =
     let source = g.S.Source in
     record {
-      came = ([], sym (append-nil c.args.bytes.now.items), Gives-none (stream (source.left c.args.source.now) (source.faults c.args.source.now)));
+      came = ([], sym (append-nil c.args.bytes.now.items), Gives-none (source.stream c.args.source.now));
       few = c.requires.few;
       buffer = c.in-Ok.ensures;
     }
@@ -23,9 +23,8 @@ returns-in-Err g c =
     let source = g.S.Source in
     let inv = c.loop-source.invariant in (
       inv.came.0,
-      Gives-fails (stream (source.left c.args.source.now) (source.faults c.args.source.now)) (stream (source.left c.loop-source.source) (source.faults c.loop-source.source)) (stream (source.left c.take.new.self) (source.faults c.take.new.self)) inv.came.0 inv.came.2 c.in-Err.ensures.failed c.in-Err.ensures.faults,
+      Gives-fails (source.stream c.args.source.now) (source.stream c.loop-source.source) (source.stream c.take.new.self) inv.came.0 inv.came.2 c.in-Err.ensures.failed c.in-Err.ensures.faults,
       omega (arith, inv.few, ap length inv.came.1, length-append c.args.bytes.now.items inv.came.0),
-      refl,
       refl,
     )
 
@@ -33,9 +32,9 @@ pub returns-then-count-eq0 : goal.returns-then-count-eq0
 returns-then-count-eq0 g c =
     let source = g.S.Source in
     let inv = c.loop-source.invariant in
-    let a = stream (source.left c.args.source.now) (source.faults c.args.source.now) in
-    let b = stream (source.left c.loop-source.source) (source.faults c.loop-source.source) in
-    let d = stream (source.left c.take.new.self) (source.faults c.take.new.self) in
+    let a = source.stream c.args.source.now in
+    let b = source.stream c.loop-source.source in
+    let d = source.stream c.take.new.self in
     let none : Gives b [] false d = record { content = rw c.if-count-eq0.true at c.in-Ok-take.ensures.bytes; faults = c.in-Ok-take.ensures.faults } in (
       inv.came.0,
       inv.came.1,
@@ -48,15 +47,14 @@ pub returns-in_default-extend_from_slice : goal.returns-in_default-extend_from_s
 returns-in_default-extend_from_slice g c =
     let source = g.S.Source in
     let inv = c.loop-source.invariant in
-    let a = stream (source.left c.args.source.now) (source.faults c.args.source.now) in
-    let b = stream (source.left c.loop-source.source) (source.faults c.loop-source.source) in
-    let d = stream (source.left c.take.new.self) (source.faults c.take.new.self) in
+    let a = source.stream c.args.source.now in
+    let b = source.stream c.loop-source.source in
+    let d = source.stream c.take.new.self in
     let piece = take c.in-Ok-take.count c.take.new.buf in
     let size : length piece ≡ c.in-Ok-take.count = length-take-le c.in-Ok-take.count c.take.new.buf (omega (arith, c.take.auto.buf, c.in-Ok-take.ensures.count)) in (
       inv.came.0 ++ piece,
       Gives-then a b d inv.came.0 piece false inv.came.2 (record { content = c.in-Ok-take.ensures.bytes; faults = c.in-Ok-take.ensures.faults }),
       omega (arith, size, length-append inv.came.0 piece, ap length inv.came.1, length-append c.args.bytes.now.items inv.came.0, c.loop-source-test.true, c.loop-source.bytes.ok.0, c.in-Ok-take.ensures.count, c.take.auto.buf, c.deref_mut.ensures.len, inv.buffer, c.loop-source.buffer.ok.0),
-      refl,
       refl,
     )
 
@@ -64,9 +62,9 @@ pub loop-source-preserved : goal.loop-source-preserved
 loop-source-preserved g c =
     let source = g.S.Source in
     let inv = c.loop-source.invariant in
-    let a = stream (source.left c.args.source.now) (source.faults c.args.source.now) in
-    let b = stream (source.left c.loop-source.source) (source.faults c.loop-source.source) in
-    let d = stream (source.left c.take.new.self) (source.faults c.take.new.self) in
+    let a = source.stream c.args.source.now in
+    let b = source.stream c.loop-source.source in
+    let d = source.stream c.take.new.self in
     let old = c.loop-source.bytes.items in
     let read = c.take.new.buf in
     let piece = take c.in-Ok-take.count read in

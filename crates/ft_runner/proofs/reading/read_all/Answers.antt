@@ -1,7 +1,7 @@
-use Rattle.std.proofs.Common.{◌≡◌, ℕ, List, [], ◌++◌, false, refl, sym, subst, arith, length, take, drop, ap, ◌∙◌, ◌+◌}
+use Rattle.std.proofs.Common.{◌≡◌, ℕ, List, [], ◌++◌, false, sym, subst, arith, length, take, drop, ap, ◌∙◌, ◌+◌}
 use Rattle.std.proofs.lemmas.Bool.{lt-ltb, le-ltb}
 use Rattle.std.proofs.lemmas.List.{append-nil, with_items_is, length-append, length-take-le}
-use Rattle.ft_runner.specs.Streams.{stream, Gives}
+use Rattle.ft_runner.specs.Streams.{Gives}
 use Rattle.ft_runner.proofs.StreamLemmas.{Gives-none, Gives-then, Gives-fails}
 use Rattle.ft_runner.proofs.reading.read_all.Goals as goal
 
@@ -9,7 +9,7 @@ pub loop-init : goal.loop-init
 loop-init g c =
     let source = g.S.Source in
     record {
-      gives = rw c.new-bytes.ensures.items (Gives-none (stream (source.left c.args.source.now) (source.faults c.args.source.now)));
+      gives = rw c.new-bytes.ensures.items (Gives-none (source.stream c.args.source.now));
       few = rw c.new-bytes.ensures.items (omega arith);
       turns = omega arith;
       buffer = c.in-Ok.ensures;
@@ -20,18 +20,17 @@ returns-in-Err g c =
     let source = g.S.Source in
     record {
       came = c.loop.bytes.items;
-      gives = Gives-fails (stream (source.left c.args.source.now) (source.faults c.args.source.now)) (stream (source.left c.loop.source) (source.faults c.loop.source)) (stream (source.left c.take.new.self) (source.faults c.take.new.self)) c.loop.bytes.items c.loop.invariant.gives c.in-Err.ensures.failed c.in-Err.ensures.faults;
+      gives = Gives-fails (source.stream c.args.source.now) (source.stream c.loop.source) (source.stream c.take.new.self) c.loop.bytes.items c.loop.invariant.gives c.in-Err.ensures.failed c.in-Err.ensures.faults;
       too_long = sym (le-ltb 4194304 (length c.loop.bytes.items) c.loop.invariant.few);
       few = omega (arith, c.loop.invariant.few);
-      cause = refl;
     }
 
 pub returns-then-count-eq0 : goal.returns-then-count-eq0
 returns-then-count-eq0 g c =
     let source = g.S.Source in
-    let a = stream (source.left c.args.source.now) (source.faults c.args.source.now) in
-    let b = stream (source.left c.loop.source) (source.faults c.loop.source) in
-    let d = stream (source.left c.take.new.self) (source.faults c.take.new.self) in
+    let a = source.stream c.args.source.now in
+    let b = source.stream c.loop.source in
+    let d = source.stream c.take.new.self in
     let none : Gives b [] false d = record { content = rw c.if-count-eq0.true at c.in-Ok-take.ensures.bytes; faults = c.in-Ok-take.ensures.faults } in
     record {
       gives = subst (λ (bytes : List ℕ). Gives a bytes false d) (append-nil c.loop.bytes.items) (Gives-then a b d c.loop.bytes.items [] false c.loop.invariant.gives none);
@@ -42,39 +41,37 @@ returns-then-count-eq0 g c =
 pub returns-then-count-len : goal.returns-then-count-len
 returns-then-count-len g c =
     let source = g.S.Source in
-    let a = stream (source.left c.args.source.now) (source.faults c.args.source.now) in
-    let b = stream (source.left c.loop.source) (source.faults c.loop.source) in
-    let d = stream (source.left c.take.new.self) (source.faults c.take.new.self) in
+    let a = source.stream c.args.source.now in
+    let b = source.stream c.loop.source in
+    let d = source.stream c.take.new.self in
     let piece = take c.in-Ok-take.count c.take.new.buf in
     record {
       came = c.loop.bytes.items ++ piece;
       gives = Gives-then a b d c.loop.bytes.items piece false c.loop.invariant.gives (record { content = c.in-Ok-take.ensures.bytes; faults = c.in-Ok-take.ensures.faults });
       too_long = sym (lt-ltb 4194304 (length (c.loop.bytes.items ++ piece)) (omega (arith, length-append c.loop.bytes.items piece, length-take-le c.in-Ok-take.count c.take.new.buf (omega (arith, c.take.auto.buf, c.in-Ok-take.ensures.count)))));
       few = omega (arith, length-append c.loop.bytes.items piece, length-take-le c.in-Ok-take.count c.take.new.buf (omega (arith, c.take.auto.buf, c.in-Ok-take.ensures.count)), c.in-Ok-take.ensures.count, c.take.auto.buf, c.deref_mut.ensures.len, c.loop.invariant.buffer, c.loop.buffer.ok.0, c.loop.invariant.few);
-      cause = refl;
     }
 
 pub returns-in_default-extend_from_slice : goal.returns-in_default-extend_from_slice
 returns-in_default-extend_from_slice g c =
     let source = g.S.Source in
-    let a = stream (source.left c.args.source.now) (source.faults c.args.source.now) in
-    let b = stream (source.left c.loop.source) (source.faults c.loop.source) in
-    let d = stream (source.left c.take.new.self) (source.faults c.take.new.self) in
+    let a = source.stream c.args.source.now in
+    let b = source.stream c.loop.source in
+    let d = source.stream c.take.new.self in
     let piece = take c.in-Ok-take.count c.take.new.buf in
     record {
       came = c.loop.bytes.items ++ piece;
       gives = Gives-then a b d c.loop.bytes.items piece false c.loop.invariant.gives (record { content = c.in-Ok-take.ensures.bytes; faults = c.in-Ok-take.ensures.faults });
       too_long = sym (le-ltb 4194304 (length (c.loop.bytes.items ++ piece)) (omega (arith, length-append c.loop.bytes.items piece, length-take-le c.in-Ok-take.count c.take.new.buf (omega (arith, c.take.auto.buf, c.in-Ok-take.ensures.count)))));
       few = omega (arith, length-append c.loop.bytes.items piece, length-take-le c.in-Ok-take.count c.take.new.buf (omega (arith, c.take.auto.buf, c.in-Ok-take.ensures.count)), c.in-Ok-take.ensures.count, c.take.auto.buf, c.deref_mut.ensures.len, c.loop.invariant.buffer, c.loop.buffer.ok.0, c.loop.invariant.few);
-      cause = refl;
     }
 
 pub loop-preserved : goal.loop-preserved
 loop-preserved g c =
     let source = g.S.Source in
-    let a = stream (source.left c.args.source.now) (source.faults c.args.source.now) in
-    let b = stream (source.left c.loop.source) (source.faults c.loop.source) in
-    let d = stream (source.left c.take.new.self) (source.faults c.take.new.self) in
+    let a = source.stream c.args.source.now in
+    let b = source.stream c.loop.source in
+    let d = source.stream c.take.new.self in
     let old = c.loop.bytes.items in
     let read = c.take.new.buf in
     let piece = take c.in-Ok-take.count read in

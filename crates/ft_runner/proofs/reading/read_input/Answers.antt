@@ -1,15 +1,14 @@
 use Rattle.std.proofs.Common.{List, ℕ, false, subst, true}
 use Rattle.std.proofs.lemmas.Result.{err_from_is_err_and}
 use Rattle.ft_runner.specs.Checking.{EndsFilling, IsSeparatorOf, IsScriptFew, IsScriptLong}
-use Rattle.ft_runner.specs.Streams.{stream}
 use Rattle.ft_runner.proofs.InputLemmas.{gives_first, long_input, long_script, stops_second, whole_input}
 use Rattle.ft_runner.proofs.reading.read_input.Goals as goal
 
 pub returns-then-not-is_script_few : goal.returns-then-not-is_script_few
 returns-then-not-is_script_few g c =
     let source = g.S.Source in
-    let a = stream (source.left c.args.source.now) (source.faults c.args.source.now) in
-    let b = stream (source.left c.fill.new.source) (source.faults c.fill.new.source) in
+    let a = source.stream c.args.source.now in
+    let b = source.stream c.fill.new.source in
     let bytes = c.fill.new.bytes.items in
     let first = c.in_ok-ended.ensures in
     let gives = gives_first a b c.new-bytes.result.items bytes 4194307 c.in_ok-ended.ended c.new-bytes.ensures.items first in
@@ -18,9 +17,9 @@ returns-then-not-is_script_few g c =
 pub returns-in_err-fill : goal.returns-in_err-fill
 returns-in_err-fill g c =
     let source = g.S.Source in
-    let a = stream (source.left c.args.source.now) (source.faults c.args.source.now) in
-    let b = stream (source.left c.fill.new.source) (source.faults c.fill.new.source) in
-    let d = stream (source.left c.fill-2.new.source) (source.faults c.fill-2.new.source) in
+    let a = source.stream c.args.source.now in
+    let b = source.stream c.fill.new.source in
+    let d = source.stream c.fill-2.new.source in
     let bytes = c.fill.new.bytes.items in
     let gives = gives_first a b c.new-bytes.result.items bytes 4194307 c.in_ok-ended.ended c.new-bytes.ensures.items c.in_ok-ended.ensures in
     let r = err_from_is_err_and c.from_residual-in_err-fill.result c.from_residual-in_err-fill.ensures.1 in
@@ -30,9 +29,9 @@ returns-in_err-fill g c =
 pub returns-then-branch : goal.returns-then-branch
 returns-then-branch g c =
     let source = g.S.Source in
-    let a = stream (source.left c.args.source.now) (source.faults c.args.source.now) in
-    let b = stream (source.left c.fill.new.source) (source.faults c.fill.new.source) in
-    let d = stream (source.left c.fill-2.new.source) (source.faults c.fill-2.new.source) in
+    let a = source.stream c.args.source.now in
+    let b = source.stream c.fill.new.source in
+    let d = source.stream c.fill-2.new.source in
     let bytes = c.fill.new.bytes.items in
     let first = c.in_ok-ended.ensures in
     let second = c.in_ok-fill.ensures in
@@ -44,9 +43,9 @@ returns-then-branch g c =
 pub returns-else-branch : goal.returns-else-branch
 returns-else-branch g c =
     let source = g.S.Source in
-    let a = stream (source.left c.args.source.now) (source.faults c.args.source.now) in
-    let b = stream (source.left c.fill.new.source) (source.faults c.fill.new.source) in
-    let d = stream (source.left c.fill-2.new.source) (source.faults c.fill-2.new.source) in
+    let a = source.stream c.args.source.now in
+    let b = source.stream c.fill.new.source in
+    let d = source.stream c.fill-2.new.source in
     let bytes = c.fill.new.bytes.items in
     let second = c.in_ok-fill.ensures in
     let gives = gives_first a b c.new-bytes.result.items bytes 4194307 c.in_ok-ended.ended c.new-bytes.ensures.items c.in_ok-ended.ensures in

@@ -1,7 +1,6 @@
 use Rattle.std.proofs.Common.{arith, take, drop}
-use Rattle.std.proofs.lemmas.List.{take-append-drop, take_rest, length-take, length-drop}
+use Rattle.std.proofs.lemmas.List.{take-append-drop, take_rest, length-drop}
 use Rattle.std.proofs.lemmas.Result.{err_from_is_err_and}
-use Rattle.ft_runner.specs.Streams.{stream}
 use Rattle.ft_runner.proofs.StreamLemmas.{Receives-fails, Receives-piece}
 use Rattle.ft_runner.proofs.writing.put_all.Goals as goal
 
@@ -13,7 +12,7 @@ returns-in_err-done g c =
     rw p.1 (record {
       prefix = take c.loop-done.done bytes;
       is_prefix = (drop c.loop-done.done bytes, take-append-drop c.loop-done.done bytes);
-      receives = Receives-fails (stream (sink.taken c.args.sink.now) (sink.faults c.args.sink.now)) (stream (sink.taken c.loop-done.sink) (sink.faults c.loop-done.sink)) (stream (sink.taken c.put.new.self) (sink.faults c.put.new.self)) (take c.loop-done.done bytes) c.loop-done.invariant.receives c.in_err-done.ensures.failed c.in_err-done.ensures.faults;
+      receives = Receives-fails (sink.stream c.args.sink.now) (sink.stream c.loop-done.sink) (sink.stream c.put.new.self) (take c.loop-done.done bytes) c.loop-done.invariant.receives c.in_err-done.ensures.failed c.in_err-done.ensures.faults;
     })
 
 pub loop-done-preserved : goal.loop-done-preserved
@@ -24,6 +23,6 @@ loop-done-preserved g c =
     let count = rw take_rest at c.in_ok-done.ensures.count in
     let more = rw take_rest at c.in_ok-done.ensures.bytes in
     record {
-      within = omega (arith, count, length-take c.min.result (drop done bytes), length-drop done bytes, c.loop-done.invariant.within);
-      receives = Receives-piece (stream (sink.taken c.args.sink.now) (sink.faults c.args.sink.now)) (stream (sink.taken c.loop-done.sink) (sink.faults c.loop-done.sink)) (stream (sink.taken c.put.new.self) (sink.faults c.put.new.self)) bytes done c.in_ok-done.field-0 c.min.result count c.loop-done.invariant.receives more c.in_ok-done.ensures.faults;
+      within = omega (arith, count, length-drop done bytes, c.loop-done.invariant.within);
+      receives = Receives-piece (sink.stream c.args.sink.now) (sink.stream c.loop-done.sink) (sink.stream c.put.new.self) bytes done c.in_ok-done.field-0 c.loop-done.invariant.receives more c.in_ok-done.ensures.faults;
     }

@@ -1,5 +1,5 @@
 use Rattle.std.proofs.Common.{false, ◌-◌, ◌≤◌, length, take}
-use Rattle.ft_runner.specs.Streams.{stream, Receives}
+use Rattle.ft_runner.specs.Streams.{Receives}
 use Rattle.ft_runner.proofs.writing.put_all.Given as goal
 
 abbrev pub invariant-loop-done : goal.invariant-loop-done
@@ -7,7 +7,7 @@ invariant-loop-done g l =
     let sink = g.K.Sink in
     record {
       within : l.done ≤ length l.bytes;
-      receives : Receives (stream (sink.taken l.fn.sink) (sink.faults l.fn.sink)) (take l.done l.bytes) false (stream (sink.taken l.sink) (sink.faults l.sink));
+      receives : Receives (sink.stream l.fn.sink) (take l.done l.bytes) false (sink.stream l.sink);
     }
 
 abbrev pub decreases-loop-done : goal.decreases-loop-done

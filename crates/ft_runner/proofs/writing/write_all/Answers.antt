@@ -4,15 +4,15 @@ use Rattle.std.proofs.lemmas.List.{append-nil}
 use Rattle.std.proofs.lemmas.Result.{err_from_is_err_and}
 use Rattle.ft_model.specs.declared.entry.Entry.{Entry}
 use Rattle.ft_script.specs.Texts.{entry_line, world_text}
-use Rattle.ft_runner.specs.Streams.{stream, IsPart, IsBuffered}
+use Rattle.ft_runner.specs.Streams.{IsPart, IsBuffered}
 use Rattle.ft_runner.proofs.StreamLemmas.{IsBuffered-then, IsBuffered-push, IsPart-put, IsPart-then, flat_map-split, flat_map-more, flat_map-all}
 use Rattle.ft_runner.proofs.writing.write_all.Goals as goal
 
 pub returns-in_err-push_entry : goal.returns-in_err-push_entry
 returns-in_err-push_entry g c =
     let sink = g.K.Sink in
-    let a = stream (sink.taken c.args.sink.now) (sink.faults c.args.sink.now) in
-    let b = stream (sink.taken c.loop-entry.sink) (sink.faults c.loop-entry.sink) in
+    let a = sink.stream c.args.sink.now in
+    let b = sink.stream c.loop-entry.sink in
     let lines = entry_line c.args.script.now in
     let i = c.loop-entry.entry-index in
     let world = world_text c.args.script.now c.args.world.now in
@@ -22,9 +22,9 @@ returns-in_err-push_entry g c =
 pub returns-in_err-put_full : goal.returns-in_err-put_full
 returns-in_err-put_full g c =
     let sink = g.K.Sink in
-    let a = stream (sink.taken c.args.sink.now) (sink.faults c.args.sink.now) in
-    let b = stream (sink.taken c.loop-entry.sink) (sink.faults c.loop-entry.sink) in
-    let d = stream (sink.taken c.put_full.new.sink) (sink.faults c.put_full.new.sink) in
+    let a = sink.stream c.args.sink.now in
+    let b = sink.stream c.loop-entry.sink in
+    let d = sink.stream c.put_full.new.sink in
     let lines = entry_line c.args.script.now in
     let entries = c.args.entries.now in
     let i = c.loop-entry.entry-index in
@@ -38,9 +38,9 @@ returns-in_err-put_full g c =
 pub loop-entry-preserved : goal.loop-entry-preserved
 loop-entry-preserved g c =
     let sink = g.K.Sink in
-    let a = stream (sink.taken c.args.sink.now) (sink.faults c.args.sink.now) in
-    let b = stream (sink.taken c.loop-entry.sink) (sink.faults c.loop-entry.sink) in
-    let d = stream (sink.taken c.put_full.new.sink) (sink.faults c.put_full.new.sink) in
+    let a = sink.stream c.args.sink.now in
+    let b = sink.stream c.loop-entry.sink in
+    let d = sink.stream c.put_full.new.sink in
     let lines = entry_line c.args.script.now in
     let entries = c.args.entries.now in
     let i = c.loop-entry.entry-index in
@@ -52,8 +52,8 @@ loop-entry-preserved g c =
 pub returns-in_err-push_world : goal.returns-in_err-push_world
 returns-in_err-push_world g c =
     let sink = g.K.Sink in
-    let a = stream (sink.taken c.args.sink.now) (sink.faults c.args.sink.now) in
-    let b = stream (sink.taken c.loop-entry.sink) (sink.faults c.loop-entry.sink) in
+    let a = sink.stream c.args.sink.now in
+    let b = sink.stream c.loop-entry.sink in
     let lines = entry_line c.args.script.now in
     let i = c.loop-entry.entry-index in
     let world = world_text c.args.script.now c.args.world.now in
@@ -63,9 +63,9 @@ returns-in_err-push_world g c =
 pub returns-in_err-put_all : goal.returns-in_err-put_all
 returns-in_err-put_all g c =
     let sink = g.K.Sink in
-    let a = stream (sink.taken c.args.sink.now) (sink.faults c.args.sink.now) in
-    let b = stream (sink.taken c.loop-entry.sink) (sink.faults c.loop-entry.sink) in
-    let d = stream (sink.taken c.put_all.new.sink) (sink.faults c.put_all.new.sink) in
+    let a = sink.stream c.args.sink.now in
+    let b = sink.stream c.loop-entry.sink in
+    let d = sink.stream c.put_all.new.sink in
     let lines = entry_line c.args.script.now in
     let entries = c.args.entries.now in
     let world = world_text c.args.script.now c.args.world.now in

@@ -1,11 +1,11 @@
 use Rattle.std.proofs.Common.{take}
 use Rattle.std.specs.List.{flat_map}
 use Rattle.ft_script.specs.Texts.{entry_line}
-use Rattle.ft_runner.specs.Streams.{stream, IsBuffered}
+use Rattle.ft_runner.specs.Streams.{IsBuffered}
 use Rattle.ft_runner.proofs.writing.write_all.Given as goal
 
 -- what was put, and then what the buffer has, are the lines so far
 abbrev pub invariant-loop-entry : goal.invariant-loop-entry
 invariant-loop-entry g l =
     let sink = g.K.Sink in
-    IsBuffered (stream (sink.taken l.fn.sink) (sink.faults l.fn.sink)) (stream (sink.taken l.sink) (sink.faults l.sink)) l.buffer.items (flat_map (entry_line l.script) (take l.entry-index l.entries))
+    IsBuffered (sink.stream l.fn.sink) (sink.stream l.sink) l.buffer.items (flat_map (entry_line l.script) (take l.entry-index l.entries))

@@ -4,6 +4,7 @@ pub mod Readying
 pub mod Showing
 pub mod Starting
 pub mod Tables
+pub mod Openings
 pub mod Putting
 pub mod Whole
 pub mod Freeing

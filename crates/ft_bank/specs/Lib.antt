@@ -2,6 +2,7 @@ pub mod Shapes
 pub mod Rules
 pub mod Sections
 pub mod Passes
+pub mod Openings
 pub mod Series
 pub mod Keys
 pub mod Locks

@@ -42,7 +42,7 @@ impl Bank {
     ghost use Rattle.ft_bank.specs.Sections.{stack_of, no_sections};
 
     /// A bank of this shape, and its first pass, which stands for all passes.
-    pub fn new(alloc: Global, shape: Shape) -> Result<(Bank, Pass), MakeFault>
+    pub(crate) fn with_first(alloc: Global, shape: Shape) -> Result<(Bank, Pass), MakeFault>
         requires { IsShape shape }
         ensures shape { IfOk result (λ made. shape_of made.0 ≡ plan shape) }
         ensures pass { IfOk result (λ made. IsPassOf made.0 made.1) }
@@ -74,7 +74,7 @@ impl Bank {
 
     /// Makes another pass, which may make as many calls as the shape says for one. Only the first pass
     /// may, while fewer than the shape's passes were made.
-    pub fn split(&self, pass: &mut Pass) -> Pass
+    pub(crate) fn split(&self, pass: &mut Pass) -> Pass
         requires pass { IsPassOf self.now pass.old }
         requires may { MayFork (view pass.old) }
         ensures passes { IsPassOf self.now pass.new × IsPassOf self.now result }

@@ -15,6 +15,7 @@ mod meetings;
 mod note;
 mod opening;
 mod pass;
+mod passes;
 mod places;
 mod reads;
 mod rule;

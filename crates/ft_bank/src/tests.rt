@@ -1,8 +1,9 @@
 //! One bank with two containers and two passes, through steps that need no table: numbers, starts and
 //! locks, worked by hand.
 ghost use Rattle.std.specs.Prelude.{◌≡◌, IfOk, length};
+ghost use Rattle.ft_bank.specs.Openings.{IsOpening, AreOpening};
 
-use crate::{Bank, Shape};
+use crate::{Bank, Pass, Shape};
 use ft_model::Kind;
 use std::alloc::Global;
 use std::test::Fail;
@@ -20,6 +21,22 @@ fn small(alloc: Global) -> Result<Shape, Fail>
     })
 }
 
+/// The two passes of a bank.
+fn two(bank: &Bank, passes: Vec<Pass>) -> Result<(Pass, Pass), Fail>
+    requires { AreOpening bank.now 0 passes.items }
+    ensures { IfOk result (λ p. IsOpening bank.now 0 p.0 × IsOpening bank.now 1 p.1) }
+{
+    let _ = bank;
+    let mut each = passes.into_iter();
+    let Some(first) = each.next() else {
+        return Err(Fail::from("there is pass 0"));
+    };
+    let Some(second) = each.next() else {
+        return Err(Fail::from("there is pass 1"));
+    };
+    Ok((first, second))
+}
+
 #[test]
 fn the_lock_keeps_others_out(rt: HostRuntime) -> Result<(), Fail> {
     let alloc = rt.alloc();
@@ -27,10 +44,10 @@ fn the_lock_keeps_others_out(rt: HostRuntime) -> Result<(), Fail> {
     if !shape.fits() {
         return Err(Fail::from("a small shape fits"));
     }
-    let Ok((bank, mut first)) = Bank::new(alloc, shape) else {
+    let Ok((bank, passes)) = Bank::new(alloc, shape) else {
         return Err(Fail::from("there is memory"));
     };
-    let mut second = bank.split(&mut first);
+    let (mut first, mut second) = two(&bank, passes)?;
     assert_eq!(rt; first.number(), 0);
     assert_eq!(rt; second.number(), 1);
     assert_eq!(rt; first.left(), 10);
@@ -56,10 +73,10 @@ fn the_last_pass_closes_the_bank(rt: HostRuntime) -> Result<(), Fail> {
     if !shape.fits() {
         return Err(Fail::from("a small shape fits"));
     }
-    let Ok((bank, mut first)) = Bank::new(alloc, shape) else {
+    let Ok((bank, passes)) = Bank::new(alloc, shape) else {
         return Err(Fail::from("there is memory"));
     };
-    let second = bank.split(&mut first);
+    let (mut first, second) = two(&bank, passes)?;
     bank.join(&mut first, second);
     assert_eq!(rt; first.left(), 20);
     let closed = bank.close(first);
@@ -74,10 +91,10 @@ fn a_note_is_learnt(rt: HostRuntime) -> Result<(), Fail> {
     if !shape.fits() {
         return Err(Fail::from("a small shape fits"));
     }
-    let Ok((bank, mut first)) = Bank::new(alloc, shape) else {
+    let Ok((bank, passes)) = Bank::new(alloc, shape) else {
         return Err(Fail::from("there is memory"));
     };
-    let mut second = bank.split(&mut first);
+    let (mut first, mut second) = two(&bank, passes)?;
     let note = bank.note(&mut first);
     bank.learn(&mut second, note);
     assert_eq!(rt; bank.stamp(&mut second), 0);

@@ -1,0 +1,36 @@
+use Rattle.std.proofs.Common.{ℕ, ◌*◌, List, length, [], refl, sym, ap, ◌∙◌, subst, arith}
+use Rattle.std.proofs.lemmas.Nat.{mul-le}
+use Rattle.ft_trace.specs.Traces.{Possible}
+use Rattle.ft_trace.proofs.Addresses.{opening_long}
+use Rattle.ft_bank.specs.Shapes.{plan}
+use Rattle.ft_bank.proofs.Starting.{fits_of}
+use Rattle.ft_bank.proofs.Allowed.{same_settled}
+use Rattle.ft_trace.specs.Acts.{starter}
+use Rattle.ft_bank.proofs.bank.Bank.with_first.Goals as goal
+
+pub of_words-requires : goal.of_words-requires
+of_words-requires c = ([], fits_of c.args.shape c.requires, sym (c.as_slice.ensures.value ∙ c.in_ok-words.ensures.words), refl)
+
+pub invariant_of-pass : goal.invariant_of-pass
+invariant_of-pass c =
+    let e = c.in_ok-table.ensures.4 in record {
+      bare = ap (λ m. m.1) e;
+      numbered = ap (λ m. m.0.number) e;
+      following = sym (ap (λ m. m.0.next) e);
+      leaves = (λ d. c.from.ensures d * c.from-2.ensures d) ∙ sym (ap (λ m. m.0.left) e);
+      awake = (let some_pass = c.requires.passes.0 in omega (arith, some_pass, ap (λ m. m.0.tokens) e));
+      settled = same_settled _ (starter (plan c.args.shape)) (ap (λ m. m.0) e) (omega arith);
+      possible = ∣ subst Possible (sym (ap (λ m. m.0) e)) ([], 0, (fits_of c.args.shape c.requires, refl)) ∣₁;
+    }
+
+pub invariant_of-bank : goal.invariant_of-bank
+invariant_of-bank c = record {
+  keyed = c.in_ok-table.ensures.5;
+  wide = c.in_ok-table.ensures.0 ∙ (ap (λ (l : List ℕ). length l) (c.as_slice.ensures.value ∙ c.in_ok-words.ensures.words) ∙ opening_long (plan c.args.shape));
+  bare = c.in_ok-table.ensures.1;
+  fits = c.requires;
+  starting = c.in_ok-starts.ensures;
+  sizing = c.in_ok-sizes.ensures;
+  low = c.in_ok-words.ensures.low;
+  few = let p = mul-le c.args.shape.passes c.args.shape.calls 64 4294967296 c.requires.passes.1 (omega (arith, c.requires.calls)) in omega (arith, p);
+}

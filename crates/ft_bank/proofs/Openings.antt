@@ -59,6 +59,7 @@ module _ (k : Shape) (i : ℕ) (v : View) (h : HasMade k i v) where
     where
       suc_is : (i : ℕ) → suc i ≡ i + 1
       suc_is i = omega arith
+
       no_next : (k : Shape) (i : ℕ) → 0 ≡ next_of k (i + 1)
       no_next k i = ap (next_of k) (suc_is i)
 

@@ -1,16 +1,19 @@
 -- That an item of a list may be put while others read it, on lists of words alone.
-use Rattle.std.proofs.Common.{◌≡◌, ◌≢◌, ℕ, suc, ◌+◌, ◌*◌, ◌%◌, ◌<◌, ◌≤◌, true, false, List, [], ◌∷◌, length, refl, sym, ap, ◌∙◌, subst, arith, Some, length-set, get_or-set_same, get_or-set_other}
-use Rattle.std.specs.Prelude.{slice_index, slice_set}
+use Rattle.std.proofs.Common.{zero, Option, None, ◌≡◌, ◌≢◌, ℕ, suc, ◌+◌, ◌*◌, ◌%◌, ◌<◌, ◌≤◌, true, false, List, [], ◌∷◌, length, refl, sym, ap, ◌∙◌, subst, arith, Some, length-set, get_or-set_same, get_or-set_other}
+use Rattle.std.specs.Prelude.{slice_index, slice_index_or, slice_get, slice_set}
+use Rattle.std.specs.Option.{option_map_or}
+use Rattle.std.proofs.Math.Decide.{dec_lt}
 use mathlib.Core.Logic.{dite}
 use native.Mathlib.Decide.{ℕ_discrete}
 use Rattle.ft_model.specs.declared.data.Value.{Value}
+use Rattle.ft_model.specs.declared.data.Value.TheVariants as value
 use Rattle.ft_model.specs.declared.content.Content.TheVariants as content
 use Rattle.ft_model.specs.declared.script.Kind.TheVariants as kind
 use Rattle.ft_model.specs.Classes.{IsClass}
 use Rattle.ft_layout.specs.declared.slot.Stored.{Stored}
 use Rattle.ft_layout.specs.declared.slot.Stored.TheVariants.{Plain}
 use Rattle.ft_layout.specs.Words.{FitsStored, stored_kind, stored_payload}
-use Rattle.ft_layout.specs.Tables.{IsListTable}
+use Rattle.ft_layout.specs.Tables.{item_word, IsListTable}
 use Rattle.ft_layout.specs.Tables as layout
 use Rattle.ft_layout.specs.Changes.{ChangesItem, SaysStored, with_item}
 use Rattle.ft_layout.specs.Containers.{class_mask, IsListWords}
@@ -23,7 +26,8 @@ use Rattle.ft_trace.specs.Openings.{Shut, Timely}
 use Rattle.ft_trace.specs.Writes.{to_table, MayPut, MayPuts}
 use Rattle.ft_trace.specs.ItemWrites.{item_puts, item_closed}
 use Rattle.ft_trace.proofs.ByKind.{items_fit}
-use Rattle.ft_trace.proofs.Known.{after_header}
+use Rattle.ft_trace.proofs.Known.{after_header, past_header}
+use Rattle.ft_trace.proofs.Untouched.{there_is}
 
 -- the version of an item is made odd
 pub item_open : (n : ℕ) (ws : List ℕ) (values : List Value) (p : ℕ) → item_of ws p 0 % 2 ≡ 0 → ItemCareful n ws values (item_at p 0) (item_of ws p 0 + 1)
@@ -191,3 +195,30 @@ module _ (versions : VersionsChangeNothing) (one : PutsChangeOneItem) (c : ℕ) 
   -- a list that the words of the open item stand for is that of the closed one
   pub item_closed_stands : (block : List ℕ) (x : ℕ) (news : List Value) → IsListWords block (0 ∷ 0 ∷ filled) (Some c) news → IsListWords block (0 ∷ 0 ∷ slice_set filled (item_at p 0) x) (Some c) news
   item_closed_stands block x news says = record { head = says.head; table = version_put filled x news says.table }
+
+-- ---- what the words of a list's table say at each index
+
+pub none_at : (values : List Value) (p : ℕ) → length values ≤ p → slice_get values p ≡ None
+none_at [] p high = refl
+none_at (x ∷ xs) zero high = absurd (omega (arith, high))
+none_at (x ∷ xs) (suc p) high = none_at xs p (omega (arith, high))
+
+pub items_says : (c : ℕ) → IsClass c → (values : List Value) (ws : List ℕ) → IsListTable (class_mask c) values (0 ∷ 0 ∷ ws) → (p : ℕ) → p < slots c → words_at values p ≡ said_at ws p
+unfolding slots
+items_says c is_class values ws table p low =
+    let r = (slots_range c is_class).0 in
+    let word : (w : ℕ) → item_word (0 ∷ 0 ∷ ws) p w ≡ item_of ws p w = λ w. past_header ws (layout.item_at p w) (item_at p w) (omega arith) in
+    let w1 = word 1 in
+    let w2 = word 2 in
+    dite (dec_lt p (length values))
+    (λ (inside : p < length values).
+    let any : Value = value.Nothing in
+    let is = table.items p any inside in
+    let k = is.kind_is in
+    let l = is.payload_is in
+    ap (λ (z : Option Value). option_map_or value_words z (0 ∷ 0 ∷ [])) (there_is values p any inside) ∙ (λ d. (sym k ∙ w1) d ∷ (sym l ∙ w2) d ∷ []))
+    (λ past.
+    let is = table.unused p (omega (arith, past)) (omega (arith, low, r)) in
+    let k = is.kind_is in
+    let l = is.payload_is in
+    ap (λ (z : Option Value). option_map_or value_words z (0 ∷ 0 ∷ [])) (none_at values p (omega (arith, past))) ∙ (λ d. (sym k ∙ w1) d ∷ (sym l ∙ w2) d ∷ []))

@@ -52,7 +52,7 @@ get_last : (values : List Value) (value : Value) → slice_get (values ++ value 
 get_last [] value = refl
 get_last (x ∷ xs) value = get_last xs value
 
-get_else : (values : List Value) (value : Value) (q : ℕ) → q ≢ length values → slice_get (values ++ value ∷ []) q ≡ slice_get values q
+pub get_else : (values : List Value) (value : Value) (q : ℕ) → q ≢ length values → slice_get (values ++ value ∷ []) q ≡ slice_get values q
 get_else [] value zero ne = absurd (ne refl)
 get_else [] value (suc q) ne = refl
 get_else (x ∷ xs) value zero ne = refl

@@ -43,6 +43,7 @@ use Rattle.ft_trace.specs.Worlds.{kept, kept_at, kind_in, first_writes, reply_in
 use Rattle.ft_trace.specs.Traces.{Event, did, forked, joined, sent, history, writes_of, Valid}
 use Rattle.ft_trace.specs.LookReplies.{key_reply, item_reply, DictReplies, stored_at, DictHitsAreReplied, SetHitsAreReplied, MissesAreReplied, ItemsAreReplied, PastItemsAreReplied}
 use Rattle.ft_trace.proofs.FitCalls.{contents_fit}
+use Rattle.ft_trace.proofs.ItemPuts.{none_at}
 use Rattle.ft_trace.proofs.Known.{at_any, mapped, kinds_stay}
 use Rattle.ft_trace.proofs.Tellings.{key_is, key_words}
 use Rattle.ft_trace.proofs.Untouched.{as_many}
@@ -232,11 +233,6 @@ empty_under (content.Set set) key none = by set.elements none
     by [] e = refl
     by (x ∷ xs) e = absurd (omega (arith, e))
 
-past_end : (items : List Value) (place : ℕ) → length items ≤ place → slice_get items place ≡ None
-past_end [] place low = refl
-past_end (x ∷ xs) zero low = absurd (omega (arith, low))
-past_end (x ∷ xs) (suc place) low = past_end xs place (omega (arith, low))
-
 empty_list : (c : Content) → length_of c ≡ 0 → length (list_of c) ≡ 0
 empty_list (content.Dict dict) none = refl
 empty_list (content.List items) none = none
@@ -316,7 +312,7 @@ pub past_items_are_replied : PastItemsAreReplied
 past_items_are_replied k es valid o index n low is j u at (inl p) =
     let short = (lists_fit_their_tables k es valid o p.0 n low (listed is) j u at p.2).1 in
     let beyond = p.1 in
-    item_in (stored_at k es n) o index None (past_end (list_at (stored_at k es n).world o) index (omega (arith, short, beyond)))
+    item_in (stored_at k es n) o index None (none_at (list_at (stored_at k es n).world o) index (omega (arith, short, beyond)))
 past_items_are_replied k es valid o index n low is j u at (inr bare) =
     let none = empty_list (kept k.kinds (first_writes n (history es)) o).content (bare_roots_are_right k es valid o n low j u at bare).1.1 in
-    item_in (stored_at k es n) o index None (past_end (list_at (stored_at k es n).world o) index (omega (arith, none)))
+    item_in (stored_at k es n) o index None (none_at (list_at (stored_at k es n).world o) index (omega (arith, none)))

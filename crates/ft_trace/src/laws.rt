@@ -9,6 +9,7 @@ ghost use Rattle.ft_trace.specs.KeyWrites.{KeysMayBeAdded};
 ghost use Rattle.ft_trace.specs.DeleteWrites.{KeysMayBeDeleted};
 ghost use Rattle.ft_trace.specs.SetWrites.{ElementsMayBeAdded, ElementsMayBeDiscarded};
 ghost use Rattle.ft_trace.specs.GrowWrites.{DictsMayGrow};
+ghost use Rattle.ft_trace.specs.ListGrowWrites.{ListsMayGrow};
 ghost use Rattle.ft_trace.specs.Laws.{ContentsFit, StoredTablesAreInOrder, WordsLieApart, PairsAreUnderTheirKeys, ElementsAreUnderTheirKeys, OnePassIsAlone, StampsRise, MemoryErrorsAreEarned, LocksNameHolders, VersionsAreOddInWrites, EvenTablesAreShut, NumbersAreOnce, EntriesAreRight, OneHasAllEntries, EvenWordsStand, ZeroRootsHaveNothing, HoldersKnow, TablesAreSomewhere, TablesAreInOnePlace, CountsStand, TablesAreOwed, EmptyClassesAreEarned, AnnouncedNumbersAreLow, FoundTablesAreKept, GoalsStand, GivenUpTablesRest, TablesAreSound, TableWordsStay, HitsAreRight, MissesAreRight, BareRootsAreRight, ItemsAreRight, ListsFitTheirTables, LooksAreRight, LooksAtBothAreRight, ChangedRootsAreNew, NumbersHaveRoom};
 
 use ft_layout::{
@@ -241,6 +242,14 @@ pub fn items_may_be_appended()
     versions_change_nothing();
     puts_change_one_item();
     words_follow_a_list();
+}
+
+/// A pass with the lock of a list, and a fresh table in hand whose words stand for it with one more
+/// item, may put the table in the root and append the item.
+pub fn lists_may_grow()
+    ensures { ListsMayGrow }
+{
+    versions_change_nothing();
 }
 
 /// A pass with the lock of a dict may put another value at a key that is there.

@@ -53,11 +53,11 @@ use Rattle.ft_trace.proofs.Writing.{write_possible}
 
 -- ---- what is under a key of a dict with one more pair
 
-find_more : {X : Type 0} (test : X → Bool) (xs : List X) (x : X) → test x ≡ false → find test (xs ++ x ∷ []) ≡ find test xs
+pub find_more : {X : Type 0} (test : X → Bool) (xs : List X) (x : X) → test x ≡ false → find test (xs ++ x ∷ []) ≡ find test xs
 find_more test [] x fails = ap (λ (b : Bool). cond b (Some x) None) fails
 find_more {X} test (y ∷ ys) x fails = ap (λ (o : Option X). cond (test y) (Some y) o) (find_more test ys x fails)
 
-find_still : {X : Type 0} (test : X → Bool) (xs : List X) (x : X) → find test xs ≢ None → find test (xs ++ x ∷ []) ≡ find test xs
+pub find_still : {X : Type 0} (test : X → Bool) (xs : List X) (x : X) → find test xs ≢ None → find test (xs ++ x ∷ []) ≡ find test xs
 find_still test [] x some = absurd (some refl)
 find_still {X} test (y ∷ ys) x some =
     elim (test y) as (λ b. test y ≡ b → find test ((y ∷ ys) ++ x ∷ []) ≡ find test (y ∷ ys)) [

@@ -9,6 +9,7 @@ ghost use Rattle.ft_trace.specs.KeyWrites.{KeysMayBeAdded};
 ghost use Rattle.ft_trace.specs.DeleteWrites.{KeysMayBeDeleted};
 ghost use Rattle.ft_trace.specs.SetWrites.{ElementsMayBeAdded, ElementsMayBeDiscarded};
 ghost use Rattle.ft_trace.specs.GrowWrites.{DictsMayGrow};
+ghost use Rattle.ft_trace.specs.SetGrowWrites.{SetsMayGrow};
 ghost use Rattle.ft_trace.specs.ListGrowWrites.{ListsMayGrow};
 ghost use Rattle.ft_trace.specs.Laws.{ContentsFit, StoredTablesAreInOrder, WordsLieApart, PairsAreUnderTheirKeys, ElementsAreUnderTheirKeys, OnePassIsAlone, StampsRise, MemoryErrorsAreEarned, LocksNameHolders, VersionsAreOddInWrites, EvenTablesAreShut, NumbersAreOnce, EntriesAreRight, OneHasAllEntries, EvenWordsStand, ZeroRootsHaveNothing, HoldersKnow, TablesAreSomewhere, TablesAreInOnePlace, CountsStand, TablesAreOwed, EmptyClassesAreEarned, AnnouncedNumbersAreLow, FoundTablesAreKept, GoalsStand, GivenUpTablesRest, TablesAreSound, TableWordsStay, HitsAreRight, MissesAreRight, BareRootsAreRight, ItemsAreRight, ListsFitTheirTables, LooksAreRight, LooksAtBothAreRight, ChangedRootsAreNew, NumbersHaveRoom};
 
@@ -300,6 +301,15 @@ pub fn dicts_may_grow()
 {
     versions_change_nothing();
     used_entries_follow_a_dict();
+}
+
+/// A pass with the lock of a set, and a fresh table in hand whose words stand for it with one more key,
+/// may put the table in the root and add the key.
+pub fn sets_may_grow()
+    ensures { SetsMayGrow }
+{
+    versions_change_nothing();
+    used_entries_follow_a_set();
 }
 
 /// A reply may be given that is the plain containers' in each history that agrees with what the pass knows.

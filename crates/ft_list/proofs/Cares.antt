@@ -1,5 +1,5 @@
 -- That a word of an item may be put, by a pass that writes its list.
-use Rattle.std.proofs.Common.{◌≡◌, ◌≢◌, ℕ, zero, suc, ◌+◌, ◌*◌, ◌%◌, ◌<◌, ◌≤◌, Bool, true, false, List, [], ◌∷◌, length, refl, sym, ap, ◌∙◌, subst, arith}
+use Rattle.std.proofs.Common.{◌≡◌, ◌≢◌, ℕ, zero, suc, ◌+◌, ◌*◌, ◌%◌, ◌<◌, ◌≤◌, ◌^◌, Bool, true, false, List, [], ◌∷◌, length, refl, sym, ap, ◌∙◌, subst, arith}
 use Rattle.std.specs.Prelude.{slice_index, slice_set}
 use Rattle.ft_model.specs.declared.content.Content.{Content}
 use Rattle.ft_model.specs.declared.script.Kind.{Kind}
@@ -10,7 +10,7 @@ use Rattle.ft_layout.proofs.Powers.{slots_range}
 use Rattle.ft_trace.specs.declared.Shape.{Shape}
 use Rattle.ft_trace.specs.declared.Act.{Act}
 use Rattle.ft_trace.specs.declared.View.{View}
-use Rattle.ft_trace.specs.Addresses.{class_of, slots, size}
+use Rattle.ft_trace.specs.Addresses.{containers_in, class_of, slots, size}
 use Rattle.ft_trace.specs.Acts.{has_committed, noted}
 use Rattle.ft_trace.specs.Worlds.{kind_in}
 use Rattle.ft_trace.specs.Words.{Picture, root_in, item_at, item_of}
@@ -18,6 +18,7 @@ use Rattle.ft_trace.specs.Items.{said_at, words_at, ItemCareful}
 use Rattle.ft_trace.specs.Kinds.{rows, version_at, CarefulAs}
 use Rattle.ft_trace.specs.Openings.{Timely}
 use Rattle.ft_trace.specs.Holds.{held, known}
+use Rattle.ft_trace.specs.Traces.{Possible}
 use Rattle.ft_trace.proofs.ByKind.{items_fit}
 use Rattle.ft_trace.proofs.Known.{table_is_long}
 use Rattle.ft_trace.proofs.ItemPuts.{item_open, item_word_put, item_close}
@@ -28,6 +29,7 @@ use Rattle.ft_bank.specs.Whole.{OnlyPut}
 use Rattle.ft_bank.proofs.Tables.{named}
 use Rattle.ft_bank.proofs.Whole.{IsLoad, loaded_by, loaded_put, loaded_held}
 use Rattle.ft_list.specs.Items.{WritesList}
+use Rattle.ft_list.proofs.Room.{version_room}
 
 pub table_class : (k : Shape) (t : Table) → IsTableIn k t → IsClass (class_of (name_of t))
 table_class k t is = (named k t is).0
@@ -97,6 +99,16 @@ module _ (k : Shape) (o : ℕ) (table : Table) (v : View) (list : WritesList k o
       (subst (λ (n : ℕ). IsCareful v o t (item_at place 0) (n + 1)) (sym found)
       (cares (item_at place 0) (item_of ws place 0 + 1) (item_close (slots c) ws (list_of (known o v).content) place (item_of ws place 0 + 1) refl says)
       (record { before = λ q less e one. absurd (omega (arith, one, odd, found)); later = λ q less e two. late })))
+
+-- a version has room for one more write
+pub item_room : (k : Shape) (o : ℕ) (table : Table) (v : View) → WritesList k o table v → v.shape ≡ k → ∥ Possible v ∥₁ → k.passes * k.calls < 2 ^ 62 → (place : ℕ) → place < slots (class_of (name_of table)) → item_of (held o v).table place 0 < 2 ^ 63
+item_room k o table v list shape possible few place low =
+    let t = name_of table in
+    let is_kind : kind_in v.shape.kinds o ≡ kind.List = ap (λ (z : Shape). kind_in z.kinds o) shape ∙ list.kind in
+    let here : o < containers_in v.shape = subst (λ (z : Shape). o < containers_in z) (sym shape) list.container in
+    let row : place < rows (kind_in v.shape.kinds o) (class_of t) = subst (λ (z : Kind). place < rows z (class_of t)) (sym is_kind) low in
+    let calls : v.shape.passes * v.shape.calls < 2 ^ 62 = subst (λ (z : Shape). z.passes * z.calls < 2 ^ 62) (sym shape) few in
+    subst (λ (z : Kind). slice_index (held o v).table (version_at z (class_of t) place) < 2 ^ 63) is_kind (version_room v o t place possible here list.locked list.root row calls)
 
 -- the words of an item are there
 pub long_enough : (k : Shape) (o : ℕ) (table : Table) (v : View) → WritesList k o table v → (place : ℕ) → place < slots (class_of (name_of table)) → item_at place 3 ≤ length (held o v).table

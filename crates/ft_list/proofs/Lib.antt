@@ -1,2 +1,4 @@
 pub mod Cares
 pub mod Words
+pub mod Room
+pub mod Finishing

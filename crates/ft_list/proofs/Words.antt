@@ -15,7 +15,8 @@ use Rattle.ft_layout.specs.Containers.{class_mask}
 use Rattle.ft_trace.specs.Addresses.{slots}
 use Rattle.ft_trace.specs.Words.{Picture, item_at, item_of}
 use Rattle.ft_trace.specs.Items.{said_at, value_words, words_at}
-use Rattle.ft_trace.proofs.Known.{past_header}
+use Rattle.ft_trace.proofs.ItemPuts.{VersionsChangeNothing}
+use Rattle.ft_trace.proofs.Known.{after_header, past_header}
 use Rattle.ft_trace.proofs.Untouched.{there_is}
 use Rattle.ft_list.specs.Items.{with_word, PutsItem, IsChanging}
 
@@ -112,7 +113,7 @@ module _ (class : ℕ) (before now : List Value) (first past : ℕ) (ws : List �
   unfolding slots
   mask_low p low = omega (arith, low)
 
-  says : (p : ℕ) → p < slots class → words_at now p ≡ said_at ws p
+  pub says : (p : ℕ) → p < slots class → words_at now p ≡ said_at ws p
   says p low = table_says (class_mask class) now ws p changing.table (mask_low p low)
 
   -- an item more that was put, in the range that may be odd
@@ -134,3 +135,29 @@ module _ (class : ℕ) (before now : List Value) (first past : ℕ) (ws : List �
           | inr else_ ↦ changing.odd q less (ap (λ (n : ℕ). n % 2) (sym (same q 0 else_ (omega arith))) ∙ one)
         ];
       }
+
+  -- the version of the first item that may be odd is made even, once the list says what it is to have
+  pub changing_closed : VersionsChangeNothing → (b : List ℕ) (new : Picture) (version : ℕ) → before ≡ now → version % 2 ≡ 0 → item_at first 0 < length ws → new ≡ with_word (record { block = b; table = ws }) first 0 version → IsChanging class before now (suc first) past new.table
+  changing_closed versions b new version same even low is =
+      let zs = slice_set ws (item_at first 0) version in
+      let else_ : (q : ℕ) → q ≢ first → item_of zs q 0 ≡ item_of ws q 0 = λ q ne. get_or-set_other ws (item_at first 0) (item_at q 0) version 0 (λ e. ne (omega (arith, e))) in
+      subst (λ (x : Picture). IsChanging class before now (suc first) past x.table) (sym is)
+      (record {
+        table = subst (λ (z : List ℕ). IsListTable (class_mask class) now z) (after_header ws (layout.item_at first 0) (item_at first 0) version (omega arith)) (versions (class_mask class) now (0 ∷ 0 ∷ ws) first version changing.table);
+        shut = λ q less two. ap (λ (vs : List Value). words_at vs q) (sym same);
+        odd = λ q less one. elim (cases_eq q first) [
+          | inl here ↦ absurd (let e : item_of zs q 0 ≡ version = ap (λ (z : ℕ). item_of zs z 0) here ∙ get_or-set_same ws (item_at first 0) version 0 low in omega (arith, e, even, one))
+          | inr differ ↦ let o = changing.odd q less (ap (λ (n : ℕ). n % 2) (sym (else_ q differ)) ∙ one) in (let a = o.0 in omega (arith, a, differ), o.1)
+        ];
+      })
+
+  -- the list has what it is to have, and versions alone are to be made even
+  pub changing_only : IsChanging class now now first past ws
+  changing_only = record { table = changing.table; shut = λ q less two. refl; odd = changing.odd }
+
+  -- no version is odd
+  pub all_shut : past ≤ first → (p : ℕ) → p < slots class → item_of ws p 0 % 2 ≡ 0
+  all_shut none p less = elim (cases_eq (item_of ws p 0 % 2) 1) [
+    | inl one ↦ let o = changing.odd p less one in absurd (let a = o.0 in let b = o.1 in omega (arith, none, a, b))
+    | inr two ↦ omega (arith, two)
+  ]

@@ -1,22 +1,27 @@
 -- Lists of a bank, and the words of their tables while a pass writes one.
-use Rattle.std.specs.Prelude.{◌≡◌, ◌⊎◌, ℕ, suc, ◌+◌, ◌%◌, ◌<◌, ◌≤◌, true, List, ◌∷◌, length, slice_index, slice_set}
+use Rattle.std.specs.Prelude.{◌≡◌, ◌⊎◌, ℕ, suc, ◌+◌, ◌%◌, ◌<◌, ◌≤◌, true, List, ◌∷◌, length, Some, slice_index, slice_set}
+use Rattle.ft_model.specs.declared.call.Call.{Call}
+use Rattle.ft_model.specs.declared.content.Content.TheVariants as content
+use Rattle.ft_model.specs.declared.reply.Reply.{Reply}
+use Rattle.ft_model.specs.Tables.{StoredWorld, after_stored}
 use Rattle.ft_model.specs.declared.data.Value.{Value}
 use Rattle.ft_model.specs.declared.script.Kind.TheVariants as kind
 use Rattle.ft_model.specs.Worlds.{list_of}
 use Rattle.ft_layout.specs.declared.slot.Stored.{Stored}
 use Rattle.ft_layout.specs.Words.{FitsStored, stored_kind, stored_payload}
 use Rattle.ft_layout.specs.Tables.{IsListTable}
-use Rattle.ft_layout.specs.Containers.{class_mask}
+use Rattle.ft_layout.specs.Containers.{class_mask, IsBlock}
 use Rattle.ft_trace.specs.declared.Shape.{Shape}
 use Rattle.ft_trace.specs.declared.View.{View}
 use Rattle.ft_trace.specs.Addresses.{containers_in, class_of, slots}
 use Rattle.ft_trace.specs.Acts.{has_lock, is_writing}
-use Rattle.ft_trace.specs.Worlds.{kind_in}
+use Rattle.ft_trace.specs.Worlds.{kept_at, kind_in, changes}
 use Rattle.ft_trace.specs.Words.{Picture, root_in, item_at, item_of}
 use Rattle.ft_trace.specs.Items.{words_at}
 use Rattle.ft_trace.specs.Holds.{held, known}
 use Rattle.ft_bank.specs.declared.table.Table.{Table}
 use Rattle.ft_bank.specs.Tables.{name_of, IsTableIn}
+use Rattle.ft_bank.specs.Writes.{MayHave, MayCommit}
 
 -- The pass writes the list o, whose root names the table. (profile)
 pub record WritesList (k : Shape) (o : ℕ) (table : Table) (v : View) : Type 0 where
@@ -48,3 +53,26 @@ pub record IsChanging (class : ℕ) (before now : List Value) (first past : ℕ)
   pub table : IsListTable (class_mask class) now (0 ∷ 0 ∷ words)
   pub shut : (p : ℕ) → p < slots class → item_of words p 0 % 2 ≡ 0 → words_at now p ≡ words_at before p
   pub odd : (p : ℕ) → p < slots class → item_of words p 0 % 2 ≡ 1 → (first ≤ p) × (p < past)
+
+-- The version of the item at this place is even, and no other word of the list is changed. (profile)
+pub record ClosesItem (place : ℕ) (old new : Picture) : Type 0 where
+  pub version : ℕ
+  pub even : version % 2 ≡ 0
+  pub words : new ≡ with_word old place 0 version
+
+-- what the pass knows of the items of a list
+abbrev pub items_of : ℕ → View → List Value
+items_of o v = list_of (known o v).content
+
+-- A pass that has put the words of the list o may commit this call, with this reply, and then make versions even: the call
+-- changes o, and leaves it with these items and a table of this class, which the words say already but for versions.
+pub record MayFinish (o : ℕ) (table : Table) (called : Call) (said : Reply) (first past : ℕ) (v : View) : Type 0 where
+  pub may : MayCommit v called said
+  pub changed : changes called ≡ o
+  pub before : List Value
+  pub after : List Value
+  pub left : (stored : StoredWorld) → MayHave v stored
+      → kept_at (after_stored stored called) o
+      ≡ record { content = content.List after; table = record { class = Some (class_of (name_of table)); fill = 0 } }
+  pub head : IsBlock (held o v).block (Some (class_of (name_of table))) (length after) 0 0
+  pub changing : IsChanging (class_of (name_of table)) before after first past (held o v).table

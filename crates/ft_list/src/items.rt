@@ -6,14 +6,17 @@ ghost use Rattle.ft_layout.specs.Words.{FitsStored};
 ghost use Rattle.ft_trace.specs.Acts.{has_committed};
 ghost use Rattle.ft_trace.specs.Addresses.{class_of, slots};
 ghost use Rattle.ft_trace.specs.Holds.{held};
+ghost use Rattle.ft_trace.specs.Items.{said_at, words_at};
 ghost use Rattle.ft_trace.specs.Words.{item_at, item_of};
 ghost use Rattle.ft_bank.specs.Passes.{shape_of, view, IsPassOf};
+ghost use Rattle.ft_bank.specs.Sections.{stack_of};
 ghost use Rattle.ft_bank.specs.Tables.{name_of};
-ghost use Rattle.ft_bank.specs.Whole.{OnlyLoaded, OnlyPut};
-ghost use Rattle.ft_list.specs.Items.{WritesList, PutsItem, with_word};
+ghost use Rattle.ft_bank.specs.Whole.{OnlyLoaded, OnlyPut, EndsWrite};
+ghost use Rattle.ft_list.specs.Items.{WritesList, PutsItem, ClosesItem, IsChanging, MayFinish, items_of, with_word};
 
 use ft_bank::{Bank, Pass, Table};
-use ft_layout::{Stored, item_at, item_word, stored_kind_of, stored_payload_of};
+use ft_model::{Call, Reply};
+use ft_layout::{Stored, item_at, item_word, stored_kind_of, stored_payload_of, versions_change_nothing};
 
 /// How many words of a table come before those that a bank counts.
 const HEADER: u64 = 2;
@@ -34,6 +37,7 @@ fn read_word(bank: &Bank, pass: &mut Pass, o: u32, table: Table, place: u64, wor
     requires place { place < slots (class_of (name_of table)) }
     requires word { word < 4 }
     ensures pass { IsPassOf bank.now pass.new }
+    ensures stack { stack_of pass.new ≡ stack_of pass.old }
     ensures list { WritesList (shape_of bank.now) o table (view pass.new) }
     ensures only { OnlyLoaded (view pass.old) (view pass.new) }
     ensures held { held o (view pass.new) ≡ held o (view pass.old) }
@@ -50,6 +54,7 @@ fn open_item(bank: &Bank, pass: &mut Pass, o: u32, table: Table, place: u64)
     requires early { has_committed o (view pass.old).log ≡ false }
     requires place { place < slots (class_of (name_of table)) }
     ensures pass { IsPassOf bank.now pass.new }
+    ensures stack { stack_of pass.new ≡ stack_of pass.old }
     ensures list { WritesList (shape_of bank.now) o table (view pass.new) }
     ensures only { OnlyPut o (view pass.old) (view pass.new) }
     ensures words { (version : ℕ) × (version % 2 ≡ 1)
@@ -70,6 +75,7 @@ fn put_word(bank: &Bank, pass: &mut Pass, o: u32, table: Table, place: u64, word
     requires odd { item_of (held o (view pass.old)).table place 0 % 2 ≡ 1 }
     requires found { found ≡ item_of (held o (view pass.old)).table place word }
     ensures pass { IsPassOf bank.now pass.new }
+    ensures stack { stack_of pass.new ≡ stack_of pass.old }
     ensures list { WritesList (shape_of bank.now) o table (view pass.new) }
     ensures only { OnlyPut o (view pass.old) (view pass.new) }
     ensures words { held o (view pass.new) ≡ with_word (held o (view pass.old)) place word value }
@@ -88,6 +94,7 @@ pub(crate) fn put_item(bank: &Bank, pass: &mut Pass, o: u32, table: Table, place
     requires place { place < slots (class_of (name_of table)) }
     requires fits { FitsStored stored }
     ensures pass { IsPassOf bank.now pass.new }
+    ensures stack { stack_of pass.new ≡ stack_of pass.old }
     ensures list { WritesList (shape_of bank.now) o table (view pass.new) }
     ensures only { OnlyPut o (view pass.old) (view pass.new) }
     ensures item { PutsItem place stored (held o (view pass.old)) (held o (view pass.new)) }
@@ -102,4 +109,63 @@ pub(crate) fn put_item(bank: &Bank, pass: &mut Pass, o: u32, table: Table, place
     open_item(bank, pass, o, table, place);
     put_word(bank, pass, o, table, place, item_word::VALUE_KIND, old_kind, kind);
     put_word(bank, pass, o, table, place, item_word::VALUE, old_payload, payload);
+}
+
+/// Makes the version of an item even after the commit, where it is odd: the item's words say what the
+/// list has.
+fn close_item(bank: &Bank, pass: &mut Pass, o: u32, table: Table, place: u64)
+    requires pass { IsPassOf bank.now pass.old }
+    requires list { WritesList (shape_of bank.now) o table (view pass.old) }
+    requires late { has_committed o (view pass.old).log ≡ true }
+    requires place { place < slots (class_of (name_of table)) }
+    requires says { words_at (items_of o (view pass.old)) place ≡ said_at (held o (view pass.old)).table place }
+    ensures pass { IsPassOf bank.now pass.new }
+    ensures stack { stack_of pass.new ≡ stack_of pass.old }
+    ensures list { WritesList (shape_of bank.now) o table (view pass.new) }
+    ensures only { OnlyPut o (view pass.old) (view pass.new) }
+    ensures item { ClosesItem place (held o (view pass.old)) (held o (view pass.new)) }
+{
+    let version = read_word(bank, pass, o, table, place, item_word::VERSION);
+    if version % 2 == 1 {
+        bank.put_table(pass, o, table, word_at(place, item_word::VERSION), version + 1);
+    }
+}
+
+/// Makes all versions of a list's items even after the commit, of which these alone can be odd.
+fn close_items(bank: &Bank, pass: &mut Pass, o: u32, table: Table, first: u64, past: u64)
+    requires pass { IsPassOf bank.now pass.old }
+    requires list { WritesList (shape_of bank.now) o table (view pass.old) }
+    requires late { has_committed o (view pass.old).log ≡ true }
+    requires places { past ≤ slots (class_of (name_of table)) }
+    requires changing { IsChanging (class_of (name_of table)) (items_of o (view pass.old))
+        (items_of o (view pass.old)) first past (held o (view pass.old)).table }
+    ensures pass { IsPassOf bank.now pass.new }
+    ensures stack { stack_of pass.new ≡ stack_of pass.old }
+    ensures list { WritesList (shape_of bank.now) o table (view pass.new) }
+    ensures only { OnlyPut o (view pass.old) (view pass.new) }
+    ensures block { (held o (view pass.new)).block ≡ (held o (view pass.old)).block }
+    ensures closed { IsChanging (class_of (name_of table)) (items_of o (view pass.old))
+        (items_of o (view pass.old)) past past (held o (view pass.new)).table }
+{
+    versions_change_nothing();
+    for place in first..past {
+        close_item(bank, pass, o, table, place);
+    }
+}
+
+/// Raises the counter for this call, which is the write, and makes the versions of the items and of the
+/// list even again. Answers the number of the write.
+pub(crate) fn finish(bank: &Bank, pass: &mut Pass, o: u32, table: Table, called: &Call, said: &Reply, first: u64, past: u64) -> u64
+    requires pass { IsPassOf bank.now pass.old }
+    requires list { WritesList (shape_of bank.now) o table (view pass.old) }
+    requires places { (first ≤ past) × (past ≤ slots (class_of (name_of table))) }
+    requires may { MayFinish o table called.now said.now first past (view pass.old) }
+    ensures pass { IsPassOf bank.now pass.new }
+    ensures stack { stack_of pass.new ≡ stack_of pass.old }
+    ensures ends { EndsWrite called.now said.now result (view pass.old) (view pass.new) }
+{
+    let number = bank.commit(pass, called, said);
+    close_items(bank, pass, o, table, first, past);
+    bank.stop_write(pass, o);
+    number
 }

@@ -1,0 +1,75 @@
+use Rattle.std.proofs.Common.{◌≡◌, ℕ, ◌<◌, ◌≤◌, length, List, [], ◌∷◌, Option, Some, refl, sym, ap, ◌∙◌, subst}
+use Rattle.std.specs.Prelude.{slice_index}
+use Rattle.ft_model.specs.declared.data.Value.{Value}
+use Rattle.ft_model.specs.declared.script.Kind.{Kind}
+use Rattle.ft_model.specs.declared.script.Kind.TheVariants as kind
+use Rattle.ft_model.specs.Worlds.{list_of}
+use Rattle.ft_layout.specs.Containers.{IsBlock, IsListWords}
+use Rattle.ft_trace.specs.declared.Shape.{Shape}
+use Rattle.ft_trace.specs.declared.View.{View}
+use Rattle.ft_trace.specs.Addresses.{class_of, slots}
+use Rattle.ft_trace.specs.declared.Act.TheVariants.{StopWrite}
+use Rattle.ft_trace.specs.Acts.{noted}
+use Rattle.ft_trace.specs.Worlds.{Kept, kept_at, kind_in, changes}
+use Rattle.ft_trace.specs.Words.{Picture, root_in, Stands}
+use Rattle.ft_trace.specs.Kinds.{rows, version_at}
+use Rattle.ft_trace.specs.Openings.{Shut}
+use Rattle.ft_trace.specs.Holds.{held, known}
+use Rattle.ft_bank.specs.Passes.{shape_of, view}
+use Rattle.ft_bank.specs.Tables.{name_of}
+use Rattle.ft_bank.specs.Whole.{OnlyPut, EndsWrite}
+use Rattle.ft_bank.proofs.Whole.{work_knows, write_ends}
+use Rattle.ft_list.specs.Items.{IsChanging, items_of}
+use Rattle.ft_list.proofs.Finishing.{kept_after, stands_at_end, list_is_shut}
+use Rattle.ft_list.proofs.Words.{changing_only}
+use Rattle.ft_list.proofs.items.finish.Goals as goal
+
+pub close_items-requires-clause-changing : goal.close_items-requires-clause-changing
+close_items-requires-clause-changing c =
+    let a = c.args in
+    let m = c.requires.may in
+    let class = class_of (name_of a.table) in
+    let u = view a.pass.now in
+    let w = view c.commit-number.new.pass in
+    let d = c.commit-number.ensures.did in
+    let items : m.after ≡ items_of a.o w = sym (ap (λ (z : Kept). list_of z.content) (kept_after a.o a.table a.called.now a.said.now a.first a.past u w m c.commit-number.ensures.committed)) in
+    let words : (held a.o u).table ≡ (held a.o w).table = sym (ap (λ (z : View). (held a.o z).table) d.1.1) in
+    subst (λ (l : List Value). IsChanging class l l a.first a.past (held a.o w).table) items
+    (subst (λ (ws : List ℕ). IsChanging class m.after m.after a.first a.past ws) words (changing_only class m.before m.after a.first a.past (held a.o u).table m.changing))
+
+pub stop_write-requires-clause-stands : goal.stop_write-requires-clause-stands
+stop_write-requires-clause-stands c =
+    let a = c.args in
+    let u = view a.pass.now in
+    let e = c.close_items.ensures in
+    stands_at_end a.bank.now.shape.texts.items a.o a.table a.called.now a.said.now a.first a.past u (view c.commit-number.new.pass) (view c.close_items.new.pass) c.requires.may c.commit-number.ensures.committed
+    (ap (λ (v : View). held a.o v) c.commit-number.ensures.did.1.1) e.only.work e.block e.closed
+
+pub stop_write-requires-clause-shut : goal.stop_write-requires-clause-shut
+stop_write-requires-clause-shut c =
+    let a = c.args in
+    let w = view c.commit-number.new.pass in
+    let e = c.close_items.ensures in
+    list_is_shut (shape_of a.bank.now) a.o a.table (view c.close_items.new.pass) (items_of a.o w) (items_of a.o w) a.past e.list e.pass.1 e.closed
+
+pub returns-clause-ends : goal.returns-clause-ends
+returns-clause-ends c =
+    let a = c.args in
+    let m = c.requires.may in
+    let called = a.called.now in
+    let u = view a.pass.now in
+    let w = view c.commit-number.new.pass in
+    let z = view c.close_items.new.pass in
+    let d = c.commit-number.ensures.did in
+    let e = c.close_items.ensures in
+    let at : a.o ≡ changes called = sym m.changed in
+    let root : root_in (held a.o z) ≡ root_in (held a.o u) = ap (λ (b : List ℕ). slice_index b 0) (e.block ∙ ap (λ (v : View). (held a.o v).block) d.1.1) in
+    let stands : Stands u.shape.texts (held a.o z) (known a.o z) = stands_at_end u.shape.texts a.o a.table called a.said.now a.first a.past u w z m c.commit-number.ensures.committed (ap (λ (v : View). held a.o v) d.1.1) e.only.work e.block e.closed in
+    write_ends called a.said.now c.commit-number.result c.stop_write.result d.0 u w z (view c.stop_write.new.pass)
+    d.1.1
+    c.commit-number.ensures.committed
+    m.may.left
+    (subst (λ (n : ℕ). OnlyPut n w z) at e.only)
+    (subst (λ (n : ℕ). root_in (held n z) ≡ root_in (held n u)) at root)
+    (subst (λ (n : ℕ). Stands u.shape.texts (held n z) (known n z)) at stands)
+    (subst (λ (n : ℕ). view c.stop_write.new.pass ≡ noted (StopWrite n c.stop_write.result) z) at c.stop_write.ensures.1)

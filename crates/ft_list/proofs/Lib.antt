@@ -2,3 +2,5 @@ pub mod Cares
 pub mod Words
 pub mod Room
 pub mod Finishing
+pub mod Commits
+pub mod Putting

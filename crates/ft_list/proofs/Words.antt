@@ -68,7 +68,7 @@ module _ (old : Picture) (place x kind payload : ℕ) (low : item_at place 3 ≤
 pub header_word : (ws : List ℕ) (p w : ℕ) → layout.item_word (0 ∷ 0 ∷ ws) p w ≡ item_of ws p w
 header_word ws p w = past_header ws (layout.item_at p w) (item_at p w) (omega arith)
 
-past_end : (values : List Value) (p : ℕ) → length values ≤ p → slice_get values p ≡ None
+pub past_end : (values : List Value) (p : ℕ) → length values ≤ p → slice_get values p ≡ None
 past_end [] p past = refl
 past_end (x ∷ xs) zero past = absurd (omega (arith, past))
 past_end (x ∷ xs) (suc p) past = past_end xs p (omega (arith, past))

@@ -1,5 +1,6 @@
 -- Lists of a bank, and the words of their tables while a pass writes one.
-use Rattle.std.specs.Prelude.{◌≡◌, ◌⊎◌, ℕ, suc, ◌+◌, ◌%◌, ◌<◌, ◌≤◌, true, List, ◌∷◌, length, Some, slice_index, slice_set}
+use Rattle.std.specs.Prelude.{◌≡◌, ◌⊎◌, ℕ, suc, ◌+◌, ◌%◌, ◌<◌, ◌≤◌, ◌==◌, true, cond, List, [], ◌∷◌, length, Some, slice_get, slice_index, slice_set}
+use Rattle.std.specs.Option.{option_map_or}
 use Rattle.ft_model.specs.declared.call.Call.{Call}
 use Rattle.ft_model.specs.declared.content.Content.TheVariants as content
 use Rattle.ft_model.specs.declared.reply.Reply.{Reply}
@@ -8,8 +9,9 @@ use Rattle.ft_model.specs.declared.data.Value.{Value}
 use Rattle.ft_model.specs.declared.script.Kind.TheVariants as kind
 use Rattle.ft_model.specs.Worlds.{list_of}
 use Rattle.ft_layout.specs.declared.slot.Stored.{Stored}
-use Rattle.ft_layout.specs.Words.{FitsStored, stored_kind, stored_payload}
-use Rattle.ft_layout.specs.Tables.{IsListTable}
+use Rattle.ft_layout.specs.declared.slot.Stored.TheVariants.{Empty, Plain}
+use Rattle.ft_layout.specs.Words.{IsStored, stored_kind, stored_payload}
+use Rattle.ft_layout.specs.Tables.{IsListTable, table_length}
 use Rattle.ft_layout.specs.Containers.{class_mask, IsBlock}
 use Rattle.ft_trace.specs.declared.Shape.{Shape}
 use Rattle.ft_trace.specs.declared.View.{View}
@@ -52,6 +54,27 @@ pub record PutsItem (place : ℕ) (stored : Stored) (old new : Picture) : Type 0
 pub record IsChanging (class : ℕ) (before now : List Value) (first past : ℕ) (words : List ℕ) : Type 0 where
   pub table : IsListTable (class_mask class) now (0 ∷ 0 ∷ words)
   pub shut : (p : ℕ) → p < slots class → item_of words p 0 % 2 ≡ 0 → words_at now p ≡ words_at before p
+  pub odd : (p : ℕ) → p < slots class → item_of words p 0 % 2 ≡ 1 → (first ≤ p) × (p < past)
+
+-- what a list stores at an index: its value, and nothing at its length and past it
+abbrev pub stored_at : List Value → ℕ → Stored
+stored_at values p = option_map_or Plain (slice_get values p) Empty
+
+-- the same but at one place
+abbrev pub but_at : (ℕ → Stored) → ℕ → Stored → ℕ → Stored
+but_at now place stored p = cond (p == place) stored (now p)
+
+-- the kind and the payload of what is stored
+abbrev pub words_for : Stored → List ℕ
+words_for stored = stored_kind stored ∷ stored_payload stored ∷ []
+
+-- The words of a list's table while a pass puts its items, before the commit: they store `now` at each place, and where the
+-- version of an item is even the list had the same there. Each odd version lies in this range of places. (profile)
+pub record IsPutting (class : ℕ) (before : List Value) (first past : ℕ) (now : ℕ → Stored) (words : List ℕ) : Type 0 where
+  pub size : length words + 2 ≡ table_length (class_mask class)
+  pub spare : (p : ℕ) → p < slots class → item_of words p 3 ≡ 0
+  pub items : (p : ℕ) → p < slots class → IsStored (item_of words p 1) (item_of words p 2) (now p)
+  pub shut : (p : ℕ) → p < slots class → item_of words p 0 % 2 ≡ 0 → words_for (now p) ≡ words_at before p
   pub odd : (p : ℕ) → p < slots class → item_of words p 0 % 2 ≡ 1 → (first ≤ p) × (p < past)
 
 -- The version of the item at this place is even, and no other word of the list is changed. (profile)

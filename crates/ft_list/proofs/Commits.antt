@@ -1,0 +1,132 @@
+-- That a call on a list may be committed, once the list's words say what the call leaves.
+use Rattle.std.proofs.Common.{◌≡◌, ◌≢◌, ℕ, zero, suc, ◌+◌, ◌<◌, ◌≤◌, Bool, true, false, true≢false, List, [], ◌∷◌, length, Option, Some, None, refl, sym, ap, ◌∙◌, subst, inr, arith, get_or-set_same}
+use Rattle.std.specs.Prelude.{◌&&◌, ◌||◌, not, nat_lt, IfSome, slice_index, slice_index_or, slice_set, if◌then◌else◌}
+use Rattle.std.specs.Option.{unwrap_or, option_map_or}
+use Rattle.std.proofs.lemmas.Bool.{le-ltb}
+use Rattle.ft_model.specs.declared.call.Call.{Call}
+use Rattle.ft_model.specs.declared.call.Call.TheVariants as call
+use Rattle.ft_model.specs.declared.call.ListCall.{ListCall}
+use Rattle.ft_model.specs.declared.call.TableChange.{TableChange}
+use Rattle.ft_model.specs.declared.call.TableChange.TheVariants as change
+use Rattle.ft_model.specs.declared.content.Content.{Content}
+use Rattle.ft_model.specs.declared.content.Content.TheVariants as content
+use Rattle.ft_model.specs.declared.data.Value.{Value}
+use Rattle.ft_model.specs.declared.reply.Reply.{Reply}
+use Rattle.ft_model.specs.declared.script.Kind.{Kind}
+use Rattle.ft_model.specs.declared.script.Kind.TheVariants as kind
+use Rattle.ft_model.specs.Answers.{Answer, answer, answer_list, puts, after_write, is_write, is_raised}
+use Rattle.ft_model.specs.Calls.{is_changing_list, other_list, cursor_of_list, list_change}
+use Rattle.ft_model.specs.Classes.{list_items, list_class}
+use Rattle.ft_model.specs.Tables.{TableUse, StoredWorld, no_table, takes_in, table_at, change_leaves, change_takes, outgrows_list, list_takes, grown_table, would_pass, after_stored}
+use Rattle.ft_model.specs.Worlds.{kind_of, list_of, list_at, no_hands, IsOfKind, IsDeclared}
+use Rattle.ft_layout.specs.Containers.{class_mask, IsBlock}
+use Rattle.ft_layout.proofs.Powers.{slots_range}
+use Rattle.ft_trace.specs.declared.Shape.{Shape}
+use Rattle.ft_trace.specs.declared.View.{View}
+use Rattle.ft_trace.specs.Addresses.{containers_in, class_of, slots}
+use Rattle.ft_trace.specs.Acts.{has_lock, is_writing, has_emptied, owes}
+use Rattle.ft_trace.specs.FitCalls.{FitsListCall}
+use Rattle.ft_trace.specs.Worlds.{Kept, kept_at, kind_in, changes, may_empty}
+use Rattle.ft_trace.specs.Words.{root_in}
+use Rattle.ft_trace.specs.Items.{ItemClear}
+use Rattle.ft_trace.specs.Kinds.{ClearAs}
+use Rattle.ft_trace.specs.Holds.{held, known}
+use Rattle.ft_trace.proofs.Known.{declared_at}
+use Rattle.ft_bank.specs.declared.table.Table.{Table}
+use Rattle.ft_bank.specs.Tables.{name_of}
+use Rattle.ft_bank.specs.Writes.{MayHave, MayCommit}
+use Rattle.ft_list.specs.Items.{WritesList, IsChanging, MayFinish}
+use Rattle.ft_list.specs.Calls.{Changes}
+use Rattle.ft_list.proofs.Cares.{table_class}
+
+module _ (o : ℕ) (lc : ListCall) (said : Reply) (values news : List Value) (v : View) (low : o < containers_in v.shape) (mine : has_lock o v.log ≡ true) (is_list : (known o v).content ≡ content.List values) (stored : StoredWorld) (has : MayHave v stored) where
+  abbrev world : List Content
+  world = stored.world
+
+  pub list_there : slice_index_or world o (content.List []) ≡ content.List values
+  list_there = ap (λ (z : Kept). z.content) (has.agrees o low mine) ∙ is_list
+
+  pub list_is : list_at world o ≡ values
+  list_is = ap list_of list_there
+
+  pub in_world : o < length world
+  in_world = subst (λ (n : ℕ). o < n) (sym has.containers) low
+
+  pub in_tables : o < length stored.tables
+  in_tables = subst (λ (n : ℕ). o < n) (sym (has.order.as_many ∙ has.containers)) low
+
+  module _ (answered : answer_list world no_hands o values lc ≡ puts world no_hands o (content.List news) said) where
+    pub answer_is : answer world no_hands (call.List o lc) ≡ puts world no_hands o (content.List news) said
+    answer_is = ap (λ (l : List Value). answer_list world no_hands o l lc) list_is ∙ answered
+
+    pub content_after : slice_index_or (after_write world (call.List o lc)) o (content.List []) ≡ content.List news
+    content_after = ap (λ (z : Answer). slice_index_or z.world o (content.List [])) answer_is ∙ get_or-set_same world o (content.List news) (content.List []) in_world
+
+  -- a call that stores nothing leaves the table
+  pub table_stays : list_change lc ≡ change.Stays → table_at (after_stored stored (call.List o lc)).tables o ≡ table_at stored.tables o
+  table_stays stays = ap (λ (z : TableChange). table_at (change_leaves stored.tables o z (grown_table (table_at stored.tables o) (takes_in stored (call.List o lc)) 0 0) no_table) o) stays
+
+module _ (k : Shape) (o : ℕ) (table : Table) (first past : ℕ) (lc : ListCall) (said : Reply) (values news : List Value) (v : View) (list : WritesList k o table v) (shape : v.shape ≡ k) (is_list : (known o v).content ≡ content.List values) (kept_table : (known o v).table ≡ record { class = Some (class_of (name_of table)); fill = 0 }) (call_is : Changes o lc said values news v) (changing : IsChanging (class_of (name_of table)) values news first past (held o v).table) where
+  abbrev called : Call
+  called = call.List o lc
+
+  abbrev class : ℕ
+  class = class_of (name_of table)
+
+  changed : changes called ≡ o
+  changed = ap (λ (b : Bool). unwrap_or (if b then Some o else None) 0) call_is.changing
+
+  low' : o < containers_in v.shape
+  low' = subst (λ (z : Shape). o < containers_in z) (sym shape) list.container
+
+  is_kind : kind.List ≡ kind_in v.shape.kinds o
+  is_kind = sym (ap (λ (z : Shape). kind_in z.kinds o) shape ∙ list.kind)
+
+  left_after : (stored : StoredWorld) → MayHave v stored → kept_at (after_stored stored called) o ≡ record { content = content.List news; table = record { class = Some class; fill = 0 } }
+  left_after stored has =
+      let c = content_after o lc said values news v low' list.locked is_list stored has (call_is.answered stored has) in
+      let t = call_is.table stored has ∙ (ap (λ (z : Kept). z.table) (has.agrees o low' list.locked) ∙ kept_table) in
+      λ d. record { content = c d; table = t d }
+
+  few : length news ≤ slots class
+  unfolding slots
+  few = let f = changing.table.fill in let r = (slots_range class (table_class k table list.table_in)).0 in omega (arith, f, r)
+
+  clear : ItemClear (slots class) (held o v).table values news
+  clear = record { keeps = changing.shut; short = few }
+
+  clears : (stored : StoredWorld) (t : ℕ) → MayHave v stored → root_in (held o v) ≡ suc t → ClearAs (kind_in v.shape.kinds o) v.shape.texts (class_of t) (held o v).table (known o v).content (kept_at (after_stored stored called) o).content
+  clears stored t has names =
+      let same : name_of table ≡ t = let e : suc (name_of table) ≡ suc t = sym list.root ∙ names in omega (arith, e) in
+      subst (λ (n : ℕ). ClearAs (kind_in v.shape.kinds o) v.shape.texts (class_of n) (held o v).table (known o v).content (kept_at (after_stored stored called) o).content) same
+      (subst (λ (z : Kind × Content × Content). ClearAs z.0 v.shape.texts class (held o v).table z.1 z.2) (λ d. (is_kind d, sym is_list d, sym (ap (λ (z : Kept). z.content) (left_after stored has)) d)) clear)
+
+  declared : (stored : StoredWorld) → MayHave v stored → IsDeclared stored.world no_hands called
+  declared stored has = record {
+    one = declared_at stored.world o (content.List values) (in_world o lc said values news v low' list.locked is_list stored has) (list_there o lc said values news v low' list.locked is_list stored has);
+    both = call_is.other stored has;
+    room = subst (λ (z : Option ℕ). IfSome z (λ (n : ℕ). n < 0)) (sym call_is.cursor) tt;
+  }
+
+  pub may_finish : 0 < v.left → owes v.log ≡ 0 → has_emptied o v.log ≡ false → IsBlock (held o v).block (Some class) (length news) 0 0 → MayFinish o table called said first past v
+  may_finish left none full head = record {
+    may = record {
+      write = (λ d. call_is.changing d && not (call_is.raises d));
+      container = subst (λ (n : ℕ). n < containers_in v.shape) (sym changed) low';
+      odd = subst (λ (n : ℕ). is_writing n v.log ≡ true) (sym changed) list.odd;
+      left = left;
+      words = call_is.fits;
+      reply_is = λ stored has. inr (sym (ap (λ (z : Answer). z.reply) (answer_is o lc said values news v low' list.locked is_list stored has (call_is.answered stored has))));
+      declared = declared;
+      fits = call_is.caps;
+      clear = subst (λ (n : ℕ). (stored : StoredWorld) (t : ℕ) → MayHave v stored → root_in (held n v) ≡ suc t → ClearAs (kind_in v.shape.kinds n) v.shape.texts (class_of t) (held n v).table (known n v).content (kept_at (after_stored stored called) n).content) (sym changed) clears;
+      takes = λ stored class has e. absurd (omega (arith, e, none));
+      empties = λ e. absurd (true≢false (sym e ∙ subst (λ (n : ℕ). has_emptied n v.log ≡ false) (sym changed) full));
+    };
+    changed = changed;
+    before = values;
+    after = news;
+    left = left_after;
+    head = head;
+    changing = changing;
+  }

@@ -1,0 +1,112 @@
+-- The words of a list's table while its items are put: from what the list had to what it is to have.
+use Rattle.std.proofs.Common.{◌≡◌, ◌≢◌, ◌⊎◌, ℕ, zero, suc, eqb, ◌+◌, ◌-◌, ◌*◌, ◌%◌, ◌^◌, ◌<◌, ◌≤◌, cond, List, [], ◌∷◌, length, Option, Some, None, refl, sym, ap, ◌∙◌, subst, inl, inr, arith}
+use Rattle.std.specs.Prelude.{slice_index, slice_index_or, slice_get}
+use Rattle.std.specs.Option.{option_map_or}
+use Rattle.std.proofs.lemmas.Bool.{cases_lt, cases_eq}
+use Rattle.ft_model.specs.declared.data.Value.{Value}
+use Rattle.ft_model.specs.declared.data.Value.TheVariants as value
+use Rattle.ft_layout.specs.declared.slot.Stored.{Stored}
+use Rattle.ft_layout.specs.declared.slot.Stored.TheVariants.{Empty, Plain}
+use Rattle.ft_layout.specs.Words.{FitsStored, IsStored, IsItem, stored_kind, stored_payload}
+use Rattle.ft_layout.specs.Tables.{IsListTable}
+use Rattle.ft_layout.specs.Tables as layout
+use Rattle.ft_layout.specs.Containers.{class_mask}
+use Rattle.ft_model.specs.Classes.{IsClass}
+use Rattle.ft_layout.proofs.Powers.{slots_range}
+use Rattle.ft_trace.specs.Addresses.{slots}
+use Rattle.ft_trace.specs.Words.{Picture, item_at, item_of}
+use Rattle.ft_trace.specs.Items.{value_words, words_at}
+use Rattle.ft_trace.proofs.Cases.{hit, miss, here}
+use Rattle.ft_trace.proofs.Untouched.{there_is}
+use Rattle.ft_list.specs.Items.{PutsItem, IsChanging, IsPutting, stored_at, but_at, words_for}
+use Rattle.ft_list.proofs.Words.{header_word, past_end}
+
+by : (found : Option Value) → words_for (option_map_or Plain found Empty) ≡ option_map_or value_words found (0 ∷ 0 ∷ [])
+by None = refl
+by (Some value) = refl
+
+-- the words of an item, with the header and without
+at_words : (ws : List ℕ) (p : ℕ) (s : Stored) → IsItem (layout.item_word (0 ∷ 0 ∷ ws) p) s → IsStored (item_of ws p 1) (item_of ws p 2) s
+at_words ws p s is = record { fits = is.fits; kind_is = sym (header_word ws p 1) ∙ is.kind_is; payload_is = sym (header_word ws p 2) ∙ is.payload_is }
+
+from_words : (ws : List ℕ) (p : ℕ) (s : Stored) → IsStored (item_of ws p 1) (item_of ws p 2) s → IsItem (layout.item_word (0 ∷ 0 ∷ ws) p) s
+from_words ws p s is = record { fits = is.fits; kind_is = header_word ws p 1 ∙ is.kind_is; payload_is = header_word ws p 2 ∙ is.payload_is }
+
+-- the words at an index are those of what is stored there
+pub words_stored : (values : List Value) (p : ℕ) → words_for (stored_at values p) ≡ words_at values p
+words_stored values p = by (slice_get values p)
+
+pub stored_some : (values : List Value) (p : ℕ) (any : Value) → p < length values → stored_at values p ≡ Plain (slice_index_or values p any)
+stored_some values p any low = ap (λ (z : Option Value). option_map_or Plain z Empty) (there_is values p any low)
+
+pub stored_none : (values : List Value) (p : ℕ) → length values ≤ p → stored_at values p ≡ Empty
+stored_none values p past = ap (λ (z : Option Value). option_map_or Plain z Empty) (past_end values p past)
+
+module _ (class : ℕ) (is_class : IsClass class) where
+  mask_is : class_mask class + 1 ≡ slots class
+  unfolding slots
+  mask_is = let r = (slots_range class is_class).0 in omega (arith, r)
+
+  -- nothing was put yet
+  pub putting_starts : (values : List Value) (ws : List ℕ) (first past : ℕ) → IsListTable (class_mask class) values (0 ∷ 0 ∷ ws) → ((p : ℕ) → p < slots class → item_of ws p 0 % 2 ≡ 0) → IsPutting class values first past (stored_at values) ws
+  putting_starts values ws first past table shut = record {
+    size = let s = table.size in omega (arith, s);
+    spare = λ p low. let m = mask_is in sym (header_word ws p 3) ∙ table.spare p (omega (arith, low, m));
+    items = λ p low. let m = mask_is in elim (cases_lt p (length values)) [
+      | inl less ↦ subst (λ (z : Stored). IsStored (item_of ws p 1) (item_of ws p 2) z) (sym (stored_some values p value.Nothing less)) (at_words ws p (Plain (slice_index_or values p value.Nothing)) (table.items p value.Nothing less))
+      | inr past_it ↦ subst (λ (z : Stored). IsStored (item_of ws p 1) (item_of ws p 2) z) (sym (stored_none values p past_it)) (at_words ws p Empty (table.unused p past_it (omega (arith, low, m))))
+    ];
+    shut = λ p low two. words_stored values p;
+    odd = λ p low one. let two = shut p low in absurd (omega (arith, one, two));
+  }
+
+  -- an item was put
+  pub putting_put : (before : List Value) (first past : ℕ) (now : ℕ → Stored) (old new : Picture) (place : ℕ) (stored : Stored) → IsPutting class before first past now old.table → PutsItem place stored old new → FitsStored stored → first ≤ place → place < past → IsPutting class before first past (but_at now place stored) new.table
+  putting_put before first past now old new place stored putting puts fits from to =
+      let same : (q w : ℕ) → q ≢ place → w < 4 → item_of new.table q w ≡ item_of old.table q w = λ q w ne few. puts.rest (item_at q w) (elim (cases_lt q place) [ inl less ↦ inl (omega (arith, less, few)) | inr more ↦ inr (omega (arith, more, few, ne)) ]) in
+      let now_else : (q : ℕ) → q ≢ place → but_at now place stored q ≡ now q = λ q ne. miss q place stored (now q) ne in
+      let now_here : (q : ℕ) → q ≡ place → but_at now place stored q ≡ stored = λ q e. here q place stored (now q) e in
+      record {
+        size = let s = puts.size in let z = putting.size in omega (arith, s, z);
+        spare = λ q low. elim (cases_eq q place) [
+          | inl e ↦ puts.rest (item_at q 3) (inr (omega (arith, e))) ∙ putting.spare q low
+          | inr ne ↦ same q 3 ne (omega arith) ∙ putting.spare q low
+        ];
+        items = λ q low. elim (cases_eq q place) [
+          | inl e ↦ subst (λ (z : Stored). IsStored (item_of new.table q 1) (item_of new.table q 2) z) (sym (now_here q e)) (subst (λ (n : ℕ). IsStored (item_of new.table n 1) (item_of new.table n 2) stored) (sym e) (record { fits = fits; kind_is = puts.kind; payload_is = puts.payload }))
+          | inr ne ↦ subst (λ (z : Stored). IsStored (item_of new.table q 1) (item_of new.table q 2) z) (sym (now_else q ne)) (subst (λ (x : ℕ × ℕ). IsStored x.0 x.1 (now q)) (λ d. (sym (same q 1 ne (omega arith)) d, sym (same q 2 ne (omega arith)) d)) (putting.items q low))
+        ];
+        shut = λ q low two. elim (cases_eq q place) [
+          | inl e ↦ elim puts.version [
+            | inl one ↦ absurd (let v : item_of new.table q 0 ≡ item_of new.table place 0 = ap (λ (z : ℕ). item_of new.table z 0) e in omega (arith, v, one, two))
+            | inr table ↦
+                let was = putting.items q low in
+                let k1 : stored_kind stored ≡ stored_kind (now q) = sym puts.kind ∙ (ap (λ (l : List ℕ). item_of l place 1) table ∙ (ap (λ (n : ℕ). item_of old.table n 1) (sym e) ∙ was.kind_is)) in
+                let p1 : stored_payload stored ≡ stored_payload (now q) = sym puts.payload ∙ (ap (λ (l : List ℕ). item_of l place 2) table ∙ (ap (λ (n : ℕ). item_of old.table n 2) (sym e) ∙ was.payload_is)) in
+                ap words_for (now_here q e) ∙ ((λ d. k1 d ∷ p1 d ∷ []) ∙ putting.shut q low (ap (λ (l : List ℕ). item_of l q 0 % 2) (sym table) ∙ two))
+          ]
+          | inr ne ↦ ap words_for (now_else q ne) ∙ putting.shut q low (ap (λ (n : ℕ). n % 2) (sym (same q 0 ne (omega arith))) ∙ two)
+        ];
+        odd = λ q low one. elim (cases_eq q place) [
+          | inl e ↦ (omega (arith, e, from), omega (arith, e, to))
+          | inr ne ↦ putting.odd q low (ap (λ (n : ℕ). n % 2) (sym (same q 0 ne (omega arith))) ∙ one)
+        ];
+      }
+
+  -- all items are those that the list is to have
+  pub putting_ends : (before news : List Value) (first past : ℕ) (now : ℕ → Stored) (ws : List ℕ) → IsPutting class before first past now ws → length news ≤ slots class → ((p : ℕ) → p < slots class → now p ≡ stored_at news p) → IsChanging class before news first past ws
+  putting_ends before news first past now ws putting few all =
+      let m = mask_is in
+      let size = putting.size in
+      record {
+        table = record {
+          size = omega (arith, size);
+          head = refl;
+          spare = λ p low. header_word ws p 3 ∙ putting.spare p (omega (arith, low, m));
+          fill = omega (arith, few, m);
+          items = λ p any less. from_words ws p (Plain (slice_index_or news p any)) (subst (λ (z : Stored). IsStored (item_of ws p 1) (item_of ws p 2) z) (all p (omega (arith, less, few)) ∙ stored_some news p any less) (putting.items p (omega (arith, less, few))));
+          unused = λ p past_it low. from_words ws p Empty (subst (λ (z : Stored). IsStored (item_of ws p 1) (item_of ws p 2) z) (all p (omega (arith, low, m)) ∙ stored_none news p past_it) (putting.items p (omega (arith, low, m))));
+        };
+        shut = λ p low two. sym (words_stored news p) ∙ (ap words_for (sym (all p low)) ∙ putting.shut p low two);
+        odd = putting.odd;
+      }

@@ -1,0 +1,54 @@
+-- What calls do to a list, and what a pass is to have that makes one.
+use Rattle.std.specs.Prelude.{◌≡◌, ℕ, suc, ◌<◌, true, false, List, IfSome, None}
+use Rattle.ft_model.specs.declared.call.Call.TheVariants as call
+use Rattle.ft_model.specs.declared.call.ListCall.{ListCall}
+use Rattle.ft_model.specs.declared.content.Content.TheVariants as content
+use Rattle.ft_model.specs.declared.data.Value.{Value}
+use Rattle.ft_model.specs.declared.reply.Reply.{Reply}
+use Rattle.ft_model.specs.declared.script.Kind.TheVariants as kind
+use Rattle.ft_model.specs.Answers.{answer_list, puts, is_raised}
+use Rattle.ft_model.specs.Calls.{is_changing_list, other_list, cursor_of_list}
+use Rattle.ft_model.specs.Tables.{StoredWorld, table_at, would_pass, after_stored}
+use Rattle.ft_model.specs.Worlds.{no_hands, IsOfKind}
+use Rattle.ft_trace.specs.declared.Shape.{Shape}
+use Rattle.ft_trace.specs.declared.View.{View}
+use Rattle.ft_trace.specs.Addresses.{containers_in}
+use Rattle.ft_trace.specs.Acts.{has_lock, is_writing, owes}
+use Rattle.ft_trace.specs.FitCalls.{FitsListCall}
+use Rattle.ft_trace.specs.Worlds.{kind_in}
+use Rattle.ft_trace.specs.Words.{root_in, Stands}
+use Rattle.ft_trace.specs.Holds.{held, known}
+use Rattle.ft_bank.specs.declared.table.Table.{Table}
+use Rattle.ft_bank.specs.Tables.{name_of, IsTableIn}
+use Rattle.ft_bank.specs.Writes.{MayHave}
+
+-- The pass may write the list o: it has its lock, and its words stand for what the pass knows of it; no version is odd there,
+-- the pass has lowered no count of a class that it hasn't raised again, and it has a call left. (profile)
+pub record MayWriteList (k : Shape) (o : ℕ) (v : View) : Type 0 where
+  pub container : o < containers_in k
+  pub kind : kind_in k.kinds o ≡ kind.List
+  pub locked : has_lock o v.log ≡ true
+  pub even : is_writing o v.log ≡ false
+  pub stands : Stands k.texts (held o v) (known o v)
+  pub owes : owes v.log ≡ 0
+  pub left : 0 < v.left
+
+-- the root of the list names this table
+pub record HasTable (k : Shape) (o : ℕ) (table : Table) (v : View) : Type 0 where
+  pub table_in : IsTableIn k table
+  pub root : root_in (held o v) ≡ suc (name_of table)
+
+-- A call is a write of the list o that leaves its table: the plain containers reply so to it, where the list has these
+-- values, and it has `news` then, whatever else the bank has that agrees with what the pass knows; no container passes its
+-- greatest length. (Python manual, Mutable Sequence Types)
+pub record Changes (o : ℕ) (lc : ListCall) (said : Reply) (values news : List Value) (v : View) : Type 0 where
+  pub changing : is_changing_list lc ≡ true
+  pub raises : is_raised said ≡ false
+  pub cursor : cursor_of_list lc ≡ None
+  pub fits : FitsListCall lc
+  pub answered : (stored : StoredWorld) → MayHave v stored
+      → answer_list stored.world no_hands o values lc ≡ puts stored.world no_hands o (content.List news) said
+  pub other : (stored : StoredWorld) → MayHave v stored → IfSome (other_list lc) (λ p. IsOfKind stored.world kind.List p)
+  pub caps : (stored : StoredWorld) → MayHave v stored → would_pass stored.world (call.List o lc) ≡ false
+  pub table : (stored : StoredWorld) → MayHave v stored
+      → table_at (after_stored stored (call.List o lc)).tables o ≡ table_at stored.tables o

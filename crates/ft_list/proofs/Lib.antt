@@ -4,3 +4,4 @@ pub mod Room
 pub mod Finishing
 pub mod Commits
 pub mod Putting
+pub mod Lists

@@ -2,7 +2,8 @@
 //! its version is odd while its words differ from what the list had, so that readers without the lock
 //! take no half of it.
 ghost use Rattle.std.specs.Prelude.{◌≡◌, ℕ, ◌<◌, ◌%◌, ◌≤◌, false, true, slice_index};
-ghost use Rattle.ft_layout.specs.Words.{FitsStored};
+ghost use Rattle.ft_layout.specs.declared.slot.Stored.{Stored};
+ghost use Rattle.ft_layout.specs.Words.{FitsStored, IsStored};
 ghost use Rattle.ft_trace.specs.Acts.{has_committed};
 ghost use Rattle.ft_trace.specs.Addresses.{class_of, slots};
 ghost use Rattle.ft_trace.specs.Holds.{held};
@@ -16,7 +17,7 @@ ghost use Rattle.ft_list.specs.Items.{WritesList, PutsItem, ClosesItem, IsChangi
 
 use ft_bank::{Bank, Pass, Table};
 use ft_model::{Call, Reply};
-use ft_layout::{Stored, item_at, item_word, stored_kind_of, stored_payload_of, versions_change_nothing};
+use ft_layout::{Stored, item_at, item_of, item_word, stored_kind_of, stored_payload_of, versions_change_nothing};
 
 /// How many words of a table come before those that a bank counts.
 const HEADER: u64 = 2;
@@ -66,6 +67,25 @@ fn open_item(bank: &Bank, pass: &mut Pass, o: u32, table: Table, place: u64)
     }
 }
 
+/// What an item stores of a list that the pass writes.
+pub(crate) fn item(bank: &Bank, pass: &mut Pass, o: u32, table: Table, place: u64) -> Stored
+    requires pass { IsPassOf bank.now pass.old }
+    requires list { WritesList (shape_of bank.now) o table (view pass.old) }
+    requires place { place < slots (class_of (name_of table)) }
+    ensures pass { IsPassOf bank.now pass.new }
+    ensures stack { stack_of pass.new ≡ stack_of pass.old }
+    ensures list { WritesList (shape_of bank.now) o table (view pass.new) }
+    ensures only { OnlyLoaded (view pass.old) (view pass.new) }
+    ensures held { held o (view pass.new) ≡ held o (view pass.old) }
+    ensures stored { (stored : Stored) →
+        IsStored (item_of (held o (view pass.old)).table place 1) (item_of (held o (view pass.old)).table place 2) stored →
+        result ≡ stored }
+{
+    let kind = read_word(bank, pass, o, table, place, item_word::VALUE_KIND);
+    let payload = read_word(bank, pass, o, table, place, item_word::VALUE);
+    item_of(&[0, kind, payload, 0]).unwrap_or(Stored::Empty)
+}
+
 /// Puts a word of an item whose version is odd, where it isn't there.
 fn put_word(bank: &Bank, pass: &mut Pass, o: u32, table: Table, place: u64, word: u64, found: u64, value: u64)
     requires pass { IsPassOf bank.now pass.old }
@@ -97,7 +117,8 @@ pub(crate) fn put_item(bank: &Bank, pass: &mut Pass, o: u32, table: Table, place
     ensures stack { stack_of pass.new ≡ stack_of pass.old }
     ensures list { WritesList (shape_of bank.now) o table (view pass.new) }
     ensures only { OnlyPut o (view pass.old) (view pass.new) }
-    ensures item { PutsItem place stored (held o (view pass.old)) (held o (view pass.new)) }
+    ensures block { (held o (view pass.new)).block ≡ (held o (view pass.old)).block }
+    ensures puts { PutsItem place stored (held o (view pass.old)) (held o (view pass.new)) }
 {
     let kind = stored_kind_of(stored);
     let payload = stored_payload_of(stored);

@@ -7,4 +7,4 @@
 #![tactic(auto)]
 
 mod items;
-
+mod writes;

@@ -27,8 +27,8 @@ put_word-requires-2-clause-odd c =
     ap (λ (z : Picture). item_of z.table a.place 0 % 2) (c.put_word.ensures.words ∙ ap (λ (z : Picture). with_word z a.place 1 kind) o.2)
     ∙ (ap (λ (n : ℕ). n % 2) (version_two (held a.o u) a.place o.0 kind 0 low) ∙ o.1)
 
-pub returns-clause-item : goal.returns-clause-item
-returns-clause-item c =
+pub returns-clause-puts : goal.returns-clause-puts
+returns-clause-puts c =
     let a = c.args in
     let o = c.open_item.ensures.words in
     let kind = c.stored_kind_of-kind.result in

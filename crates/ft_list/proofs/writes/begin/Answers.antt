@@ -1,0 +1,51 @@
+use Rattle.std.proofs.Common.{◌≡◌, ℕ, ◌<◌, ◌%◌, List, Option, Some, length, sym, ap, ◌∙◌, subst}
+use Rattle.ft_model.specs.declared.script.Kind.TheVariants as kind
+use Rattle.ft_layout.specs.Containers.{IsBlock}
+use Rattle.ft_trace.specs.declared.Shape.{Shape}
+use Rattle.ft_trace.specs.declared.View.{View}
+use Rattle.ft_trace.specs.Addresses.{containers_in, class_of}
+use Rattle.ft_trace.specs.Worlds.{kind_in}
+use Rattle.ft_trace.specs.Holds.{held}
+use Rattle.ft_bank.specs.Passes.{shape_of, view}
+use Rattle.ft_bank.specs.Tables.{name_of}
+use Rattle.ft_list.specs.Items.{IsPutting, items_of, stored_at}
+use Rattle.ft_list.proofs.Cares.{table_class}
+use Rattle.ft_list.proofs.Lists.{list_content, list_known, list_shut}
+use Rattle.ft_list.proofs.Putting.{putting_starts}
+use Rattle.ft_list.proofs.writes.begin.Goals as goal
+
+pub returns-clause-content : goal.returns-clause-content
+returns-clause-content c =
+    let a = c.args in
+    let is_kind : kind_in (view a.pass.now).shape.kinds a.o ≡ kind.List = ap (λ (z : Shape). kind_in z.kinds a.o) c.requires.pass.1 ∙ c.requires.may.kind in
+    list_content (view a.pass.now) a.o a.pass.now.possible c.requires.may.locked is_kind
+
+pub returns-clause-table : goal.returns-clause-table
+returns-clause-table c =
+    let a = c.args in
+    let v = view a.pass.now in
+    let is_kind : kind_in v.shape.kinds a.o ≡ kind.List = ap (λ (z : Shape). kind_in z.kinds a.o) c.requires.pass.1 ∙ c.requires.may.kind in
+    let content = list_content v a.o a.pass.now.possible c.requires.may.locked is_kind in
+    (list_known (shape_of a.bank.now).texts v a.o (name_of a.table) content c.requires.may.stands c.requires.table.root).1
+
+pub returns-clause-head : goal.returns-clause-head
+returns-clause-head c =
+    let a = c.args in
+    let v = view a.pass.now in
+    let is_kind : kind_in v.shape.kinds a.o ≡ kind.List = ap (λ (z : Shape). kind_in z.kinds a.o) c.requires.pass.1 ∙ c.requires.may.kind in
+    let content = list_content v a.o a.pass.now.possible c.requires.may.locked is_kind in
+    let words = (list_known (shape_of a.bank.now).texts v a.o (name_of a.table) content c.requires.may.stands c.requires.table.root).0 in
+    subst (λ (z : View). IsBlock (held a.o z).block (Some (class_of (name_of a.table))) (length (items_of a.o v)) 0 0) (sym c.start_write.ensures.1) words.head
+
+pub returns-clause-putting : goal.returns-clause-putting
+returns-clause-putting c first past =
+    let a = c.args in
+    let v = view a.pass.now in
+    let class = class_of (name_of a.table) in
+    let is_kind : kind_in v.shape.kinds a.o ≡ kind.List = ap (λ (z : Shape). kind_in z.kinds a.o) c.requires.pass.1 ∙ c.requires.may.kind in
+    let low : a.o < containers_in v.shape = subst (λ (z : Shape). a.o < containers_in z) (sym c.requires.pass.1) c.requires.may.container in
+    let content = list_content v a.o a.pass.now.possible c.requires.may.locked is_kind in
+    let words = (list_known (shape_of a.bank.now).texts v a.o (name_of a.table) content c.requires.may.stands c.requires.table.root).0 in
+    subst (λ (z : View). IsPutting class (items_of a.o v) first past (stored_at (items_of a.o v)) (held a.o z).table) (sym c.start_write.ensures.1)
+    (putting_starts class (table_class (shape_of a.bank.now) a.table c.requires.table.table_in) (items_of a.o v) (held a.o v).table first past words.table
+    (list_shut v a.o (name_of a.table) a.pass.now.possible low c.requires.may.locked c.requires.may.even is_kind c.requires.table.root))

@@ -5,3 +5,4 @@ pub mod Finishing
 pub mod Commits
 pub mod Putting
 pub mod Lists
+pub mod Whole

@@ -1,6 +1,6 @@
 -- The words of a list's table while its items are put: from what the list had to what it is to have.
 use Rattle.std.proofs.Common.{◌≡◌, ◌≢◌, ◌⊎◌, ℕ, zero, suc, eqb, ◌+◌, ◌-◌, ◌*◌, ◌%◌, ◌^◌, ◌<◌, ◌≤◌, cond, List, [], ◌∷◌, length, Option, Some, None, refl, sym, ap, ◌∙◌, subst, inl, inr, arith}
-use Rattle.std.specs.Prelude.{slice_index, slice_index_or, slice_get}
+use Rattle.std.specs.Prelude.{slice_index, slice_index_or, slice_get, slice_set}
 use Rattle.std.specs.Option.{option_map_or}
 use Rattle.std.proofs.lemmas.Bool.{cases_lt, cases_eq}
 use Rattle.ft_model.specs.declared.data.Value.{Value}
@@ -46,6 +46,9 @@ module _ (class : ℕ) (is_class : IsClass class) where
   mask_is : class_mask class + 1 ≡ slots class
   unfolding slots
   mask_is = let r = (slots_range class is_class).0 in omega (arith, r)
+
+  pub list_few : (values : List Value) (words : List ℕ) → IsListTable (class_mask class) values words → length values ≤ slots class
+  list_few values words table = let m = mask_is in let f = table.fill in omega (arith, m, f)
 
   -- nothing was put yet
   pub putting_starts : (values : List Value) (ws : List ℕ) (first past : ℕ) → IsListTable (class_mask class) values (0 ∷ 0 ∷ ws) → ((p : ℕ) → p < slots class → item_of ws p 0 % 2 ≡ 0) → IsPutting class values first past (stored_at values) ws
@@ -110,3 +113,23 @@ module _ (class : ℕ) (is_class : IsClass class) where
         shut = λ p low two. sym (words_stored news p) ∙ (ap words_for (sym (all p low)) ∙ putting.shut p low two);
         odd = putting.odd;
       }
+
+-- ---- what a list stores once one of its values is another
+
+get_set_same : (values : List Value) (p : ℕ) (value : Value) → p < length values → slice_get (slice_set values p value) p ≡ Some value
+get_set_same [] p value low = absurd (omega (arith, low))
+get_set_same (x ∷ xs) zero value low = refl
+get_set_same (x ∷ xs) (suc p) value low = get_set_same xs p value (omega (arith, low))
+
+get_set_other : (values : List Value) (p q : ℕ) (value : Value) → q ≢ p → slice_get (slice_set values p value) q ≡ slice_get values q
+get_set_other [] p q value ne = refl
+get_set_other (x ∷ xs) zero zero value ne = absurd (ne refl)
+get_set_other (x ∷ xs) zero (suc q) value ne = refl
+get_set_other (x ∷ xs) (suc p) zero value ne = refl
+get_set_other (x ∷ xs) (suc p) (suc q) value ne = get_set_other xs p q value (λ e. ne (ap suc e))
+
+pub stored_set : (values : List Value) (p q : ℕ) (value : Value) → p < length values → but_at (stored_at values) p (Plain value) q ≡ stored_at (slice_set values p value) q
+stored_set values p q value low = elim (cases_eq q p) [
+  | inl e ↦ here q p (Plain value) (stored_at values q) e ∙ sym (ap (λ (n : ℕ). stored_at (slice_set values p value) n) e ∙ ap (λ (z : Option Value). option_map_or Plain z Empty) (get_set_same values p value low))
+  | inr ne ↦ miss q p (Plain value) (stored_at values q) ne ∙ sym (ap (λ (z : Option Value). option_map_or Plain z Empty) (get_set_other values p q value ne))
+]

@@ -43,7 +43,35 @@ fn begin(bank: &Bank, pass: &mut Pass, o: u32, table: Table)
     ensures table { (known o (view pass.old)).table ≡ record { class = Some (class_of (name_of table)); fill = 0 } }
     ensures head { IsBlock (held o (view pass.new)).block (Some (class_of (name_of table)))
         (length (items_of o (view pass.old))) 0 0 }
+    ensures few { length (items_of o (view pass.old)) ≤ slots (class_of (name_of table)) }
 {
     let _ = table;
     bank.start_write(pass, o);
+}
+
+/// Has the item at a place store a value, as the write of this call. Answers the number of the write.
+pub(crate) fn set_item(
+    bank: &Bank,
+    pass: &mut Pass,
+    o: u32,
+    table: Table,
+    place: u64,
+    value: Value,
+    called: &Call,
+    said: &Reply,
+) -> u64
+    requires pass { IsPassOf bank.now pass.old }
+    requires may { MayWriteList (shape_of bank.now) o (view pass.old) }
+    requires table { HasTable (shape_of bank.now) o table (view pass.old) }
+    requires place { place < length (items_of o (view pass.old)) }
+    requires value { FitsStored (Plain value) }
+    requires call { (lc : ListCall) × (called.now ≡ call.List o lc) × Changes o lc said.now
+        (items_of o (view pass.old)) (slice_set (items_of o (view pass.old)) place value) (view pass.old) }
+    ensures pass { IsPassOf bank.now pass.new }
+    ensures stack { stack_of pass.new ≡ stack_of pass.old }
+    ensures wrote { Wrote called.now said.now result (view pass.old) (view pass.new) }
+{
+    begin(bank, pass, o, table);
+    put_item(bank, pass, o, table, place, Stored::Plain(value));
+    finish(bank, pass, o, table, called, said, place, place + 1)
 }

@@ -11,7 +11,7 @@ use Rattle.ft_bank.specs.Tables.{name_of}
 use Rattle.ft_list.specs.Items.{IsPutting, items_of, stored_at}
 use Rattle.ft_list.proofs.Cares.{table_class}
 use Rattle.ft_list.proofs.Lists.{list_content, list_known, list_shut}
-use Rattle.ft_list.proofs.Putting.{putting_starts}
+use Rattle.ft_list.proofs.Putting.{putting_starts, list_few}
 use Rattle.ft_list.proofs.writes.begin.Goals as goal
 
 pub returns-clause-content : goal.returns-clause-content
@@ -49,3 +49,11 @@ returns-clause-putting c first past =
     subst (λ (z : View). IsPutting class (items_of a.o v) first past (stored_at (items_of a.o v)) (held a.o z).table) (sym c.start_write.ensures.1)
     (putting_starts class (table_class (shape_of a.bank.now) a.table c.requires.table.table_in) (items_of a.o v) (held a.o v).table first past words.table
     (list_shut v a.o (name_of a.table) a.pass.now.possible low c.requires.may.locked c.requires.may.even is_kind c.requires.table.root))
+
+pub returns-clause-few : goal.returns-clause-few
+returns-clause-few c =
+    let a = c.args in
+    let v = view a.pass.now in
+    let is_kind : kind_in v.shape.kinds a.o ≡ kind.List = ap (λ (z : Shape). kind_in z.kinds a.o) c.requires.pass.1 ∙ c.requires.may.kind in
+    let content = list_content v a.o a.pass.now.possible c.requires.may.locked is_kind in
+    list_few (class_of (name_of a.table)) (table_class (shape_of a.bank.now) a.table c.requires.table.table_in) (items_of a.o v) _ (list_known (shape_of a.bank.now).texts v a.o (name_of a.table) content c.requires.may.stands c.requires.table.root).0.table

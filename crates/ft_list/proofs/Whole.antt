@@ -1,0 +1,79 @@
+-- A whole write of a list, from the version made odd to its end.
+use Rattle.std.proofs.Common.{◌≡◌, ℕ, suc, ◌<◌, ◌≤◌, Bool, true, false, List, length, Option, Some, refl, sym, ap, ◌∙◌, subst}
+use Rattle.std.specs.Prelude.{if◌then◌else◌, None}
+use Rattle.std.specs.Option.{unwrap_or}
+use Rattle.ft_model.specs.declared.call.Call.{Call}
+use Rattle.ft_model.specs.declared.call.Call.TheVariants as call
+use Rattle.ft_model.specs.declared.call.ListCall.{ListCall}
+use Rattle.ft_model.specs.declared.content.Content.TheVariants as content
+use Rattle.ft_model.specs.declared.data.Value.{Value}
+use Rattle.ft_model.specs.declared.reply.Reply.{Reply}
+use Rattle.ft_model.specs.declared.script.Kind.{Kind}
+use Rattle.ft_model.specs.Calls.{is_changing_list}
+use Rattle.ft_model.specs.Tables.{StoredWorld}
+use Rattle.ft_layout.specs.Containers.{IsBlock}
+use Rattle.ft_trace.specs.declared.Act.TheVariants.{StartWrite}
+use Rattle.ft_trace.specs.declared.Shape.{Shape}
+use Rattle.ft_trace.specs.declared.View.{View}
+use Rattle.ft_trace.specs.Addresses.{containers_in, class_of}
+use Rattle.ft_trace.specs.Acts.{has_lock, is_writing, has_emptied, owes, noted}
+use Rattle.ft_trace.specs.Worlds.{Kept, changes}
+use Rattle.ft_trace.specs.Words.{root_in}
+use Rattle.ft_trace.specs.Holds.{held, known}
+use Rattle.ft_trace.proofs.Cases.{hit}
+use Rattle.ft_bank.specs.declared.table.Table.{Table}
+use Rattle.ft_bank.specs.Tables.{name_of}
+use Rattle.ft_bank.specs.Writes.{MayHave}
+use Rattle.ft_bank.specs.Whole.{OnlyPut, EndsWrite, Wrote}
+use Rattle.ft_bank.proofs.Whole.{work_knows, plain_write}
+use Rattle.ft_list.specs.Items.{WritesList, IsChanging, MayFinish}
+use Rattle.ft_list.specs.Calls.{MayWriteList, Changes}
+use Rattle.ft_list.proofs.Commits.{may_finish}
+
+module _ (k : Shape) (o : ℕ) (table : Table) (v s u : View) (f : ℕ) (may : MayWriteList k o v) (begun : s ≡ noted (StartWrite o f) v) (puts : OnlyPut o s u) where
+  same_known : (p : ℕ) → known p u ≡ known p v
+  same_known p = work_knows s u p puts.work ∙ ap (λ (z : View). known p z) begun
+
+  same_shape : u.shape ≡ v.shape
+  same_shape = puts.work.pass.shape ∙ ap (λ (z : View). z.shape) begun
+
+  has_before : (stored : StoredWorld) → MayHave u stored → MayHave v stored
+  has_before stored has = record {
+    agrees = λ p low mine. has.agrees p (subst (λ (z : Shape). p < containers_in z) (sym same_shape) low) (puts.work.pass.locks p ∙ (ap (λ (z : View). has_lock p z.log) begun ∙ mine)) ∙ same_known p;
+    containers = has.containers ∙ ap containers_in same_shape;
+    kinds = has.kinds ∙ ap (λ (z : Shape). z.kinds) same_shape;
+    order = has.order;
+    words = has.words;
+  }
+
+  still_changes : (lc : ListCall) (said : Reply) (values news : List Value) → Changes o lc said values news v → Changes o lc said values news u
+  still_changes lc said values news call_is = record {
+    changing = call_is.changing;
+    raises = call_is.raises;
+    cursor = call_is.cursor;
+    fits = call_is.fits;
+    answered = λ stored has. call_is.answered stored (has_before stored has);
+    other = λ stored has. call_is.other stored (has_before stored has);
+    caps = λ stored has. call_is.caps stored (has_before stored has);
+    table = λ stored has. call_is.table stored (has_before stored has);
+  }
+
+  pub finishing : (first past : ℕ) (lc : ListCall) (called : Call) (said : Reply) (values news : List Value) → called ≡ call.List o lc → Changes o lc said values news v → (known o v).content ≡ content.List values → (known o v).table ≡ record { class = Some (class_of (name_of table)); fill = 0 } → WritesList k o table u → u.shape ≡ k → IsChanging (class_of (name_of table)) values news first past (held o u).table → IsBlock (held o u).block (Some (class_of (name_of table))) (length news) 0 0
+      → MayFinish o table called said first past u
+  finishing first past lc called said values news is call_is is_list kept list shape changing head =
+      subst (λ (z : Call). MayFinish o table z said first past u) (sym is)
+      (may_finish k o table first past lc said values news u list shape (ap (λ (z : Kept). z.content) (same_known o) ∙ is_list) (ap (λ (z : Kept). z.table) (same_known o) ∙ kept) (still_changes lc said values news call_is) changing
+      (subst (λ (n : ℕ). 0 < n) (sym (puts.work.left ∙ ap (λ (z : View). z.left) begun)) may.left)
+      (puts.work.owes ∙ (ap (λ (z : View). owes z.log) begun ∙ may.owes))
+      (puts.work.emptied o ∙ (ap (λ (z : View). has_emptied o z.log) begun ∙ hit o false (has_emptied o v.log)))
+      head)
+
+  pub list_wrote : (lc : ListCall) (called : Call) (said : Reply) (number : ℕ) (w : View) → called ≡ call.List o lc → is_changing_list lc ≡ true → EndsWrite called said number u w → root_in (held o u) ≡ root_in (held o v) → Wrote called said number v w
+  list_wrote lc called said number w is changing ends root =
+      let at : o ≡ changes called = sym (ap changes is ∙ ap (λ (b : Bool). unwrap_or (if b then Some o else None) 0) changing) in
+      plain_write called said number f v s u w
+      (subst (λ (n : ℕ). s ≡ noted (StartWrite n f) v) at begun)
+      (subst (λ (n : ℕ). is_writing n v.log ≡ false) at may.even)
+      (subst (λ (n : ℕ). OnlyPut n s u) at puts)
+      ends
+      (subst (λ (n : ℕ). root_in (held n u) ≡ root_in (held n v)) at root)

@@ -1,0 +1,55 @@
+use Rattle.std.proofs.Common.{◌≡◌, ℕ, ◌+◌, ◌<◌, ◌≤◌, List, length, Option, Some, sym, ap, ◌∙◌, subst, arith, length-set}
+use Rattle.std.specs.Prelude.{slice_set}
+use Rattle.ft_model.specs.declared.data.Value.{Value}
+use Rattle.ft_layout.specs.declared.slot.Stored.TheVariants.{Plain}
+use Rattle.ft_layout.specs.Containers.{IsBlock}
+use Rattle.ft_trace.specs.Addresses.{class_of, slots}
+use Rattle.ft_trace.specs.Words.{root_in}
+use Rattle.ft_trace.specs.Holds.{held}
+use Rattle.ft_bank.specs.Passes.{shape_of, view}
+use Rattle.ft_bank.specs.Tables.{name_of}
+use Rattle.ft_list.specs.Items.{items_of, stored_at, but_at}
+use Rattle.ft_list.proofs.Cares.{table_class}
+use Rattle.ft_list.proofs.Putting.{putting_put, putting_ends, stored_set}
+use Rattle.ft_list.proofs.Whole.{finishing, list_wrote}
+use Rattle.ft_list.proofs.writes.set_item.Goals as goal
+
+pub put_item-requires-clause-place : goal.put_item-requires-clause-place
+put_item-requires-clause-place c = let f = c.begin.ensures.few in let p = c.requires.place in omega (arith, f, p)
+
+pub finish-requires-clause-places : goal.finish-requires-clause-places
+finish-requires-clause-places c = let f = c.begin.ensures.few in let p = c.requires.place in (omega arith, omega (arith, f, p))
+
+pub finish-requires-clause-may : goal.finish-requires-clause-may
+finish-requires-clause-may c =
+    let a = c.args in
+    let k = shape_of a.bank.now in
+    let v = view a.pass.now in
+    let s = view c.begin.new.pass in
+    let u = view c.put_item.new.pass in
+    let b = c.begin.ensures in
+    let e = c.put_item.ensures in
+    let values = items_of a.o v in
+    let news = slice_set values a.place a.value in
+    let class = class_of (name_of a.table) in
+    let is_class = table_class k a.table c.requires.table.table_in in
+    let long : length news ≡ length values = length-set values a.place a.value in
+    let few = b.few in
+    let putting = putting_put class is_class values a.place (a.place + 1) (stored_at values) (held a.o s) (held a.o u) a.place (Plain a.value) (b.putting a.place (a.place + 1)) e.puts c.requires.value (omega arith) (omega arith) in
+    let changing = putting_ends class is_class values news a.place (a.place + 1) (but_at (stored_at values) a.place (Plain a.value)) (held a.o u).table putting (omega (arith, long, few)) (λ p low. stored_set values a.place p a.value c.requires.place) in
+    let head = subst (λ (n : ℕ). IsBlock (held a.o u).block (Some class) n 0 0) (sym long) (subst (λ (l : List ℕ). IsBlock l (Some class) (length values) 0 0) (sym e.block) b.head) in
+    let d = b.did in
+    let call_is = c.requires.call in
+    finishing k a.o a.table v s u d.0 c.requires.may d.1.1 e.only a.place (a.place + 1) call_is.0 a.called.now a.said.now values news call_is.1 call_is.2 b.content b.table e.list e.pass.1 changing head
+
+pub returns-clause-wrote : goal.returns-clause-wrote
+returns-clause-wrote c =
+    let a = c.args in
+    let k = shape_of a.bank.now in
+    let v = view a.pass.now in
+    let s = view c.begin.new.pass in
+    let u = view c.put_item.new.pass in
+    let d = c.begin.ensures.did in
+    let e = c.put_item.ensures in
+    let call_is = c.requires.call in
+    list_wrote k a.o a.table v s u d.0 c.requires.may d.1.1 e.only call_is.0 a.called.now a.said.now c.finish.result (view c.finish.new.pass) call_is.1 call_is.2.changing c.finish.ensures.ends (e.list.root ∙ sym c.requires.table.root)

@@ -1,6 +1,7 @@
 -- The words of a list's table while its items are put: from what the list had to what it is to have.
 use Rattle.std.proofs.Common.{◌≡◌, ◌≢◌, ◌⊎◌, ℕ, zero, suc, eqb, ◌+◌, ◌-◌, ◌*◌, ◌%◌, ◌^◌, ◌<◌, ◌≤◌, cond, List, [], ◌∷◌, length, Option, Some, None, refl, sym, ap, ◌∙◌, subst, inl, inr, arith}
 use Rattle.std.specs.Prelude.{slice_index, slice_index_or, slice_get, slice_set}
+use Rattle.std.specs.List.{insert, remove}
 use Rattle.std.specs.Option.{option_map_or}
 use Rattle.std.proofs.lemmas.Bool.{cases_lt, cases_eq}
 use Rattle.ft_model.specs.declared.data.Value.{Value}
@@ -18,7 +19,7 @@ use Rattle.ft_trace.specs.Words.{Picture, item_at, item_of}
 use Rattle.ft_trace.specs.Items.{value_words, words_at}
 use Rattle.ft_trace.proofs.Cases.{hit, miss, here}
 use Rattle.ft_trace.proofs.Untouched.{there_is}
-use Rattle.ft_list.specs.Items.{PutsItem, IsChanging, IsPutting, stored_at, but_at, words_for}
+use Rattle.ft_list.specs.Items.{PutsItem, IsChanging, IsPutting, IsMoving, stored_at, but_at, words_for}
 use Rattle.ft_list.proofs.Words.{header_word, past_end}
 
 by : (found : Option Value) → words_for (option_map_or Plain found Empty) ≡ option_map_or value_words found (0 ∷ 0 ∷ [])
@@ -133,3 +134,88 @@ stored_set values p q value low = elim (cases_eq q p) [
   | inl e ↦ here q p (Plain value) (stored_at values q) e ∙ sym (ap (λ (n : ℕ). stored_at (slice_set values p value) n) e ∙ ap (λ (z : Option Value). option_map_or Plain z Empty) (get_set_same values p value low))
   | inr ne ↦ miss q p (Plain value) (stored_at values q) ne ∙ sym (ap (λ (z : Option Value). option_map_or Plain z Empty) (get_set_other values p q value ne))
 ]
+
+-- ---- items that are put in order
+
+module _ (class : ℕ) (is_class : IsClass class) (values news : List Value) (first past : ℕ) where
+  pub moving_starts : (at : ℕ) (ws : List ℕ) → IsPutting class values first past (stored_at values) ws → ((p : ℕ) → p < at → stored_at values p ≡ stored_at news p) → IsMoving class values news first past at ws
+  moving_starts at ws putting same = record { now = stored_at values; putting = putting; done = same; rest = λ p from. refl }
+
+  -- what the next item stores
+  pub moving_finds : (at : ℕ) (ws : List ℕ) → IsMoving class values news first past at ws → at < slots class → IsStored (item_of ws at 1) (item_of ws at 2) (stored_at values at)
+  moving_finds at ws moving low = subst (λ (z : Stored). IsStored (item_of ws at 1) (item_of ws at 2) z) (moving.rest at (omega arith)) (moving.putting.items at low)
+
+  pub moving_further : (at q : ℕ) (ws : List ℕ) → IsMoving class values news first past at ws → at ≤ q → q < slots class → IsStored (item_of ws q 1) (item_of ws q 2) (stored_at values q)
+  moving_further at q ws moving from low = subst (λ (z : Stored). IsStored (item_of ws q 1) (item_of ws q 2) z) (moving.rest q from) (moving.putting.items q low)
+
+  pub moving_next : (at : ℕ) (old new : Picture) (stored : Stored) → IsMoving class values news first past at old.table → PutsItem at stored old new → FitsStored stored → stored ≡ stored_at news at → first ≤ at → at < past → IsMoving class values news first past (at + 1) new.table
+  moving_next at old new stored moving puts fits is from to = record {
+    now = but_at moving.now at stored;
+    putting = putting_put class is_class values first past moving.now old new at stored moving.putting puts fits from to;
+    done = λ p low. elim (cases_eq p at) [
+      | inl e ↦ here p at stored (moving.now p) e ∙ (is ∙ ap (λ (n : ℕ). stored_at news n) (sym e))
+      | inr ne ↦ miss p at stored (moving.now p) ne ∙ moving.done p (omega (arith, low, ne))
+    ];
+    rest = λ p more. miss p at stored (moving.now p) (λ e. omega (arith, more, e)) ∙ moving.rest p (omega (arith, more));
+  }
+
+  pub moving_ends : (at : ℕ) (ws : List ℕ) → IsMoving class values news first past at ws → length news ≤ slots class → ((p : ℕ) → at ≤ p → stored_at values p ≡ stored_at news p) → IsChanging class values news first past ws
+  moving_ends at ws moving few same = putting_ends class is_class values news first past moving.now ws moving.putting few
+      (λ p low. elim (cases_lt p at) [ inl less ↦ moving.done p less | inr more ↦ moving.rest p more ∙ same p more ])
+
+-- ---- what a list stores after an insertion, and after a removal
+
+get_insert_low : (values : List Value) (i q : ℕ) (value : Value) → q < i → i ≤ length values → slice_get (insert values i value) q ≡ slice_get values q
+get_insert_low [] i q value less low = absurd (omega (arith, less, low))
+get_insert_low (x ∷ xs) zero q value less low = absurd (omega (arith, less))
+get_insert_low (x ∷ xs) (suc i) zero value less low = refl
+get_insert_low (x ∷ xs) (suc i) (suc q) value less low = get_insert_low xs i q value (omega (arith, less)) (omega (arith, low))
+
+get_insert_here : (values : List Value) (i : ℕ) (value : Value) → i ≤ length values → slice_get (insert values i value) i ≡ Some value
+get_insert_here [] zero value low = refl
+get_insert_here [] (suc i) value low = absurd (omega (arith, low))
+get_insert_here (x ∷ xs) zero value low = refl
+get_insert_here (x ∷ xs) (suc i) value low = get_insert_here xs i value (omega (arith, low))
+
+get_insert_past : (values : List Value) (i q : ℕ) (value : Value) → i ≤ q → i ≤ length values → slice_get (insert values i value) (suc q) ≡ slice_get values q
+get_insert_past [] zero zero value from low = refl
+get_insert_past [] zero (suc q) value from low = refl
+get_insert_past [] (suc i) q value from low = absurd (omega (arith, low))
+get_insert_past (x ∷ xs) zero q value from low = refl
+get_insert_past (x ∷ xs) (suc i) zero value from low = absurd (omega (arith, from))
+get_insert_past (x ∷ xs) (suc i) (suc q) value from low = get_insert_past xs i q value (omega (arith, from)) (omega (arith, low))
+
+get_remove_low : (values : List Value) (i q : ℕ) → q < i → i < length values → slice_get (remove values i) q ≡ slice_get values q
+get_remove_low [] i q less low = absurd (omega (arith, low))
+get_remove_low (x ∷ xs) zero q less low = absurd (omega (arith, less))
+get_remove_low (x ∷ xs) (suc i) zero less low = refl
+get_remove_low (x ∷ xs) (suc i) (suc q) less low = get_remove_low xs i q (omega (arith, less)) (omega (arith, low))
+
+get_remove_past : (values : List Value) (i q : ℕ) → i ≤ q → i < length values → slice_get (remove values i) q ≡ slice_get values (suc q)
+get_remove_past [] i q from low = absurd (omega (arith, low))
+get_remove_past (x ∷ xs) zero q from low = refl
+get_remove_past (x ∷ xs) (suc i) zero from low = absurd (omega (arith, from))
+get_remove_past (x ∷ xs) (suc i) (suc q) from low = get_remove_past xs i q (omega (arith, from)) (omega (arith, low))
+
+pub long_remove : (values : List Value) (i : ℕ) → i < length values → length (remove values i) + 1 ≡ length values
+long_remove [] i low = absurd (omega (arith, low))
+long_remove (x ∷ xs) zero low = omega arith
+long_remove (x ∷ xs) (suc i) low = let e = long_remove xs i (omega (arith, low)) in omega (arith, e)
+
+stored_by : (values news : List Value) (p q : ℕ) → slice_get news q ≡ slice_get values p → stored_at values p ≡ stored_at news q
+stored_by values news p q e = ap (λ (z : Option Value). option_map_or Plain z Empty) (sym e)
+
+pub insert_low : (values : List Value) (i : ℕ) (value : Value) (q : ℕ) → i ≤ length values → q < i → stored_at values q ≡ stored_at (insert values i value) q
+insert_low values i value q low less = stored_by values (insert values i value) q q (get_insert_low values i q value less low)
+
+pub insert_here : (values : List Value) (i : ℕ) (value : Value) → i ≤ length values → Plain value ≡ stored_at (insert values i value) i
+insert_here values i value low = ap (λ (z : Option Value). option_map_or Plain z Empty) (sym (get_insert_here values i value low))
+
+pub insert_past : (values : List Value) (i : ℕ) (value : Value) (q : ℕ) → i ≤ length values → i ≤ q → stored_at values q ≡ stored_at (insert values i value) (q + 1)
+insert_past values i value q low from = let n : suc q ≡ q + 1 = omega arith in stored_by values (insert values i value) q (suc q) (get_insert_past values i q value from low) ∙ ap (λ (z : ℕ). stored_at (insert values i value) z) n
+
+pub remove_low : (values : List Value) (i q : ℕ) → i < length values → q < i → stored_at values q ≡ stored_at (remove values i) q
+remove_low values i q low less = stored_by values (remove values i) q q (get_remove_low values i q less low)
+
+pub remove_past : (values : List Value) (i q : ℕ) → i < length values → i ≤ q → stored_at values (q + 1) ≡ stored_at (remove values i) q
+remove_past values i q low from = let n : suc q ≡ q + 1 = omega arith in ap (λ (z : ℕ). stored_at values z) (sym n) ∙ stored_by values (remove values i) (suc q) q (get_remove_past values i q from low)

@@ -80,6 +80,7 @@ pub(crate) fn item(bank: &Bank, pass: &mut Pass, o: u32, table: Table, place: u6
     ensures stored { (stored : Stored) →
         IsStored (item_of (held o (view pass.old)).table place 1) (item_of (held o (view pass.old)).table place 2) stored →
         result ≡ stored }
+    ensures fits { FitsStored result }
 {
     let kind = read_word(bank, pass, o, table, place, item_word::VALUE_KIND);
     let payload = read_word(bank, pass, o, table, place, item_word::VALUE);

@@ -6,18 +6,20 @@ ghost use Rattle.ft_model.specs.declared.call.Call.TheVariants as call;
 ghost use Rattle.ft_model.specs.declared.call.ListCall.{ListCall};
 ghost use Rattle.ft_model.specs.declared.content.Content.TheVariants as content;
 ghost use Rattle.ft_model.specs.declared.data.Value.{Value};
-ghost use Rattle.ft_layout.specs.declared.slot.Stored.TheVariants.{Plain};
+ghost use Rattle.ft_layout.specs.declared.slot.Stored.{Stored};
+ghost use Rattle.ft_layout.specs.declared.slot.Stored.TheVariants.{Empty, Plain};
 ghost use Rattle.ft_layout.specs.Containers.{IsBlock};
-ghost use Rattle.ft_layout.specs.Words.{FitsStored};
+ghost use Rattle.ft_layout.specs.Words.{FitsStored, IsStored};
 ghost use Rattle.ft_trace.specs.declared.Act.TheVariants.{StartWrite};
 ghost use Rattle.ft_trace.specs.Acts.{has_committed, has_emptied, owes};
 ghost use Rattle.ft_trace.specs.Addresses.{class_of, slots};
 ghost use Rattle.ft_trace.specs.Holds.{held, known};
+ghost use Rattle.ft_trace.specs.Words.{item_of};
 ghost use Rattle.ft_bank.specs.Passes.{shape_of, view, IsPassOf, Did};
 ghost use Rattle.ft_bank.specs.Sections.{stack_of};
 ghost use Rattle.ft_bank.specs.Tables.{name_of};
-ghost use Rattle.ft_bank.specs.Whole.{OnlyPut, Wrote};
-ghost use Rattle.ft_list.specs.Items.{WritesList, IsPutting, items_of, stored_at};
+ghost use Rattle.ft_bank.specs.Whole.{OnlyLoaded, OnlyPut, Wrote};
+ghost use Rattle.ft_list.specs.Items.{WritesList, IsPutting, IsMoving, items_of, stored_at};
 ghost use Rattle.ft_list.specs.Calls.{MayWriteList, HasTable, Changes};
 
 use crate::items::{finish, item, put_item};
@@ -74,4 +76,109 @@ pub(crate) fn set_item(
     begin(bank, pass, o, table);
     put_item(bank, pass, o, table, place, Stored::Plain(value));
     finish(bank, pass, o, table, called, said, place, place + 1)
+}
+
+/// Puts a value at a place, and each item from there on at the next one.
+fn shift_up(bank: &Bank, pass: &mut Pass, o: u32, table: Table, place: u64, count: u64, value: Value)
+    requires pass { IsPassOf bank.now pass.old }
+    requires list { WritesList (shape_of bank.now) o table (view pass.old) }
+    requires early { has_committed o (view pass.old).log ≡ false }
+    requires place { (place ≤ count) × (count < slots (class_of (name_of table))) }
+    requires value { FitsStored (Plain value) }
+    requires before { (values : List Value) × (length values ≡ count)
+        × IsPutting (class_of (name_of table)) values place (count + 1) (stored_at values) (held o (view pass.old)).table }
+    ensures pass { IsPassOf bank.now pass.new }
+    ensures stack { stack_of pass.new ≡ stack_of pass.old }
+    ensures list { WritesList (shape_of bank.now) o table (view pass.new) }
+    ensures only { OnlyPut o (view pass.old) (view pass.new) }
+    ensures block { (held o (view pass.new)).block ≡ (held o (view pass.old)).block }
+    ensures moved { (values : List Value) → length values ≡ count →
+        IsPutting (class_of (name_of table)) values place (count + 1) (stored_at values) (held o (view pass.old)).table →
+        IsMoving (class_of (name_of table)) values (insert values place value) place (count + 1) (count + 1)
+        (held o (view pass.new)).table }
+{
+    let mut carried = Stored::Plain(value);
+    for at in place..count + 1 {
+        let found = item(bank, pass, o, table, at);
+        put_item(bank, pass, o, table, at, carried);
+        carried = found;
+    }
+}
+
+/// Inserts a value at a place of a list whose table has room for it, as the write of this call: each item
+/// from there on goes one place up. Answers the number of the write.
+pub(crate) fn insert_item(
+    bank: &Bank,
+    pass: &mut Pass,
+    o: u32,
+    table: Table,
+    place: u64,
+    count: u64,
+    value: Value,
+    called: &Call,
+    said: &Reply,
+) -> u64
+    requires pass { IsPassOf bank.now pass.old }
+    requires may { MayWriteList (shape_of bank.now) o (view pass.old) }
+    requires table { HasTable (shape_of bank.now) o table (view pass.old) }
+    requires count { count ≡ length (items_of o (view pass.old)) }
+    requires place { (place ≤ count) × (count < slots (class_of (name_of table))) }
+    requires value { FitsStored (Plain value) }
+    requires call { (lc : ListCall) × (called.now ≡ call.List o lc) × Changes o lc said.now
+        (items_of o (view pass.old)) (insert (items_of o (view pass.old)) place value) (view pass.old) }
+    ensures pass { IsPassOf bank.now pass.new }
+    ensures stack { stack_of pass.new ≡ stack_of pass.old }
+    ensures wrote { Wrote called.now said.now result (view pass.old) (view pass.new) }
+{
+    begin(bank, pass, o, table);
+    shift_up(bank, pass, o, table, place, count, value);
+    bank.put_block(pass, o, LENGTH, count + 1);
+    finish(bank, pass, o, table, called, said, place, count + 1)
+}
+
+/// Takes out the item at a place: each item after it goes one place down, and nothing is stored where the
+/// last one was.
+fn shift_down(bank: &Bank, pass: &mut Pass, o: u32, table: Table, place: u64, count: u64)
+    requires pass { IsPassOf bank.now pass.old }
+    requires list { WritesList (shape_of bank.now) o table (view pass.old) }
+    requires early { has_committed o (view pass.old).log ≡ false }
+    requires place { (place < count) × (count ≤ slots (class_of (name_of table))) }
+    requires before { (values : List Value) × (length values ≡ count)
+        × IsPutting (class_of (name_of table)) values place count (stored_at values) (held o (view pass.old)).table }
+    ensures pass { IsPassOf bank.now pass.new }
+    ensures stack { stack_of pass.new ≡ stack_of pass.old }
+    ensures list { WritesList (shape_of bank.now) o table (view pass.new) }
+    ensures only { OnlyPut o (view pass.old) (view pass.new) }
+    ensures block { (held o (view pass.new)).block ≡ (held o (view pass.old)).block }
+    ensures moved { (values : List Value) → length values ≡ count →
+        IsPutting (class_of (name_of table)) values place count (stored_at values) (held o (view pass.old)).table →
+        IsMoving (class_of (name_of table)) values (remove values place) place count count
+        (held o (view pass.new)).table }
+{
+    for at in place..count {
+        let next = item_or_none(bank, pass, o, table, at + 1, count);
+        put_item(bank, pass, o, table, at, next);
+    }
+}
+
+/// What a list stores at a place, which is nothing past its last item.
+fn item_or_none(bank: &Bank, pass: &mut Pass, o: u32, table: Table, place: u64, count: u64) -> Stored
+    requires pass { IsPassOf bank.now pass.old }
+    requires list { WritesList (shape_of bank.now) o table (view pass.old) }
+    requires count { count ≤ slots (class_of (name_of table)) }
+    ensures pass { IsPassOf bank.now pass.new }
+    ensures stack { stack_of pass.new ≡ stack_of pass.old }
+    ensures list { WritesList (shape_of bank.now) o table (view pass.new) }
+    ensures only { OnlyLoaded (view pass.old) (view pass.new) }
+    ensures held { held o (view pass.new) ≡ held o (view pass.old) }
+    ensures stored { (stored : Stored) → (place < count → IsStored
+        (item_of (held o (view pass.old)).table place 1) (item_of (held o (view pass.old)).table place 2) stored) →
+        (count ≤ place → stored ≡ Empty) → result ≡ stored }
+    ensures fits { FitsStored result }
+{
+    if place < count {
+        item(bank, pass, o, table, place)
+    } else {
+        Stored::Empty
+    }
 }

@@ -1,6 +1,6 @@
 -- What a list and its words are once its write is committed and its versions are even.
-use Rattle.std.proofs.Common.{◌≡◌, ℕ, suc, ◌+◌, ◌<◌, ◌≤◌, List, [], ◌∷◌, length, Option, Some, refl, sym, ap, ◌∙◌, subst, arith}
-use Rattle.std.specs.Prelude.{slice_index}
+use Rattle.std.proofs.Common.{◌≡◌, ℕ, suc, ◌+◌, ◌<◌, ◌≤◌, List, [], ◌∷◌, length, Option, Some, refl, sym, ap, ◌∙◌, subst, arith, ◌≢◌, length-set, get_or-set_same, get_or-set_other}
+use Rattle.std.specs.Prelude.{slice_index, slice_set}
 use Rattle.ft_model.specs.declared.call.Call.{Call}
 use Rattle.ft_model.specs.declared.content.Content.{Content}
 use Rattle.ft_model.specs.declared.content.Content.TheVariants as content
@@ -9,7 +9,7 @@ use Rattle.ft_model.specs.declared.reply.Reply.{Reply}
 use Rattle.ft_model.specs.declared.script.Kind.{Kind}
 use Rattle.ft_model.specs.declared.script.Kind.TheVariants as kind
 use Rattle.ft_model.specs.Worlds.{list_of}
-use Rattle.ft_layout.specs.Containers.{IsBlock, IsListWords}
+use Rattle.ft_layout.specs.Containers.{IsRoot, IsBlock, IsListWords}
 use Rattle.ft_trace.specs.declared.Shape.{Shape}
 use Rattle.ft_trace.specs.declared.View.{View}
 use Rattle.ft_trace.specs.Addresses.{class_of, slots}
@@ -20,7 +20,7 @@ use Rattle.ft_trace.specs.Openings.{Shut}
 use Rattle.ft_trace.specs.Holds.{held, known}
 use Rattle.ft_bank.specs.declared.table.Table.{Table}
 use Rattle.ft_bank.specs.Tables.{name_of}
-use Rattle.ft_bank.specs.Writes.{Committed, IsShut}
+use Rattle.ft_bank.specs.Writes.{Committed, IsShut, with_block}
 use Rattle.ft_bank.specs.Whole.{SameWork}
 use Rattle.ft_bank.proofs.Whole.{work_knows}
 use Rattle.ft_list.specs.Items.{IsChanging, MayFinish, WritesList, items_of}
@@ -57,3 +57,21 @@ stands_at_end texts o table called said first past u w z m committed same work b
     (work_knows w z o work ∙ after)
     (subst (λ (b : List ℕ). IsBlock b (Some class) (length m.after) 0 0) blocks m.head)
     (subst (λ (l : List Value). IsChanging class l l past past (held o z).table) items closed)
+
+-- a block that counts another number of items
+pub with_count : (b : List ℕ) (class : Option ℕ) (old new : ℕ) → IsBlock b class old 0 0 → IsBlock (slice_set b 1 new) class new 0 0
+with_count b class old new h =
+    let size_is = h.size in
+    let other : (i : ℕ) → i ≢ 1 → slice_index (slice_set b 1 new) i ≡ slice_index b i = λ i ne. get_or-set_other b 1 i new 0 ne in
+    record {
+      size = length-set b 1 new ∙ h.size;
+      root = subst (λ (r : ℕ). IsRoot r class) (sym (other 0 (λ e. absurd (omega (arith, e))))) h.root;
+      count_is = get_or-set_same b 1 new 0 (omega (arith, size_is));
+      fill_is = other 2 (λ e. absurd (omega (arith, e))) ∙ h.fill_is;
+      next_is = other 3 (λ e. absurd (omega (arith, e))) ∙ h.next_is;
+      spare = (other 4 (λ e. absurd (omega (arith, e))) ∙ h.spare.0, other 5 (λ e. absurd (omega (arith, e))) ∙ h.spare.1);
+    }
+
+-- a put of another word of the block leaves the root
+pub root_stays : (old new : Picture) (i x : ℕ) → 0 < i → new ≡ with_block old i x → root_in new ≡ root_in old
+root_stays old new i x some is = ap root_in is ∙ get_or-set_other old.block i 0 x 0 (λ e. omega (arith, e, some))

@@ -100,6 +100,7 @@ module _ (mask : ℕ) (values : List Value) (old new : Picture) (place : ℕ) (s
     size = ap (λ (n : ℕ). suc (suc n)) puts.size;
     rest = rest;
   }
+
   pub put_says : SaysStored (0 ∷ 0 ∷ new.table) place stored
   put_says = record {
     says = record { fits = fits; kind_is = header_word new.table place 1 ∙ puts.kind; payload_is = header_word new.table place 2 ∙ puts.payload };

@@ -16,8 +16,10 @@ ghost use Rattle.ft_bank.specs.Whole.{OnlyLoaded, OnlyPut, EndsWrite};
 ghost use Rattle.ft_list.specs.Items.{WritesList, PutsItem, ClosesItem, IsChanging, MayFinish, items_of, with_word};
 
 use ft_bank::{Bank, Pass, Table};
+use ft_layout::{
+    Stored, item_at, item_of, item_word, stored_kind_of, stored_payload_of, versions_change_nothing,
+};
 use ft_model::{Call, Reply};
-use ft_layout::{Stored, item_at, item_of, item_word, stored_kind_of, stored_payload_of, versions_change_nothing};
 
 /// How many words of a table come before those that a bank counts.
 const HEADER: u64 = 2;
@@ -63,7 +65,13 @@ fn open_item(bank: &Bank, pass: &mut Pass, o: u32, table: Table, place: u64)
 {
     let version = read_word(bank, pass, o, table, place, item_word::VERSION);
     if version % 2 == 0 {
-        bank.put_table(pass, o, table, word_at(place, item_word::VERSION), version + 1);
+        bank.put_table(
+            pass,
+            o,
+            table,
+            word_at(place, item_word::VERSION),
+            version + 1,
+        );
     }
 }
 
@@ -88,7 +96,16 @@ pub(crate) fn item(bank: &Bank, pass: &mut Pass, o: u32, table: Table, place: u6
 }
 
 /// Puts a word of an item whose version is odd, where it isn't there.
-fn put_word(bank: &Bank, pass: &mut Pass, o: u32, table: Table, place: u64, word: u64, found: u64, value: u64)
+fn put_word(
+    bank: &Bank,
+    pass: &mut Pass,
+    o: u32,
+    table: Table,
+    place: u64,
+    word: u64,
+    found: u64,
+    value: u64,
+)
     requires pass { IsPassOf bank.now pass.old }
     requires list { WritesList (shape_of bank.now) o table (view pass.old) }
     requires place { place < slots (class_of (name_of table)) }
@@ -108,7 +125,14 @@ fn put_word(bank: &Bank, pass: &mut Pass, o: u32, table: Table, place: u64, word
 
 /// Has an item store this, before the commit: its version is made odd, and its words are put that aren't
 /// there. An item that stores it already is left alone.
-pub(crate) fn put_item(bank: &Bank, pass: &mut Pass, o: u32, table: Table, place: u64, stored: Stored)
+pub(crate) fn put_item(
+    bank: &Bank,
+    pass: &mut Pass,
+    o: u32,
+    table: Table,
+    place: u64,
+    stored: Stored,
+)
     requires pass { IsPassOf bank.now pass.old }
     requires list { WritesList (shape_of bank.now) o table (view pass.old) }
     requires early { has_committed o (view pass.old).log ≡ false }
@@ -129,8 +153,26 @@ pub(crate) fn put_item(bank: &Bank, pass: &mut Pass, o: u32, table: Table, place
         return;
     }
     open_item(bank, pass, o, table, place);
-    put_word(bank, pass, o, table, place, item_word::VALUE_KIND, old_kind, kind);
-    put_word(bank, pass, o, table, place, item_word::VALUE, old_payload, payload);
+    put_word(
+        bank,
+        pass,
+        o,
+        table,
+        place,
+        item_word::VALUE_KIND,
+        old_kind,
+        kind,
+    );
+    put_word(
+        bank,
+        pass,
+        o,
+        table,
+        place,
+        item_word::VALUE,
+        old_payload,
+        payload,
+    );
 }
 
 /// Makes the version of an item even after the commit, where it is odd: the item's words say what the
@@ -149,7 +191,13 @@ fn close_item(bank: &Bank, pass: &mut Pass, o: u32, table: Table, place: u64)
 {
     let version = read_word(bank, pass, o, table, place, item_word::VERSION);
     if version % 2 == 1 {
-        bank.put_table(pass, o, table, word_at(place, item_word::VERSION), version + 1);
+        bank.put_table(
+            pass,
+            o,
+            table,
+            word_at(place, item_word::VERSION),
+            version + 1,
+        );
     }
 }
 
@@ -177,7 +225,16 @@ fn close_items(bank: &Bank, pass: &mut Pass, o: u32, table: Table, first: u64, p
 
 /// Raises the counter for this call, which is the write, and makes the versions of the items and of the
 /// list even again. Answers the number of the write.
-pub(crate) fn finish(bank: &Bank, pass: &mut Pass, o: u32, table: Table, called: &Call, said: &Reply, first: u64, past: u64) -> u64
+pub(crate) fn finish(
+    bank: &Bank,
+    pass: &mut Pass,
+    o: u32,
+    table: Table,
+    called: &Call,
+    said: &Reply,
+    first: u64,
+    past: u64,
+) -> u64
     requires pass { IsPassOf bank.now pass.old }
     requires list { WritesList (shape_of bank.now) o table (view pass.old) }
     requires places { (first ≤ past) × (past ≤ slots (class_of (name_of table))) }

@@ -79,7 +79,15 @@ pub(crate) fn set_item(
 }
 
 /// Puts a value at a place, and each item from there on at the next one.
-fn shift_up(bank: &Bank, pass: &mut Pass, o: u32, table: Table, place: u64, count: u64, value: Value)
+fn shift_up(
+    bank: &Bank,
+    pass: &mut Pass,
+    o: u32,
+    table: Table,
+    place: u64,
+    count: u64,
+    value: Value,
+)
     requires pass { IsPassOf bank.now pass.old }
     requires list { WritesList (shape_of bank.now) o table (view pass.old) }
     requires early { has_committed o (view pass.old).log ≡ false }
@@ -162,7 +170,14 @@ fn shift_down(bank: &Bank, pass: &mut Pass, o: u32, table: Table, place: u64, co
 }
 
 /// What a list stores at a place, which is nothing past its last item.
-fn item_or_none(bank: &Bank, pass: &mut Pass, o: u32, table: Table, place: u64, count: u64) -> Stored
+fn item_or_none(
+    bank: &Bank,
+    pass: &mut Pass,
+    o: u32,
+    table: Table,
+    place: u64,
+    count: u64,
+) -> Stored
     requires pass { IsPassOf bank.now pass.old }
     requires list { WritesList (shape_of bank.now) o table (view pass.old) }
     requires count { count ≤ slots (class_of (name_of table)) }
@@ -181,4 +196,33 @@ fn item_or_none(bank: &Bank, pass: &mut Pass, o: u32, table: Table, place: u64, 
     } else {
         Stored::Empty
     }
+}
+
+/// Takes the item at a place out of a list, as the write of this call: each item after it goes one place
+/// down. Answers the number of the write.
+pub(crate) fn remove_item(
+    bank: &Bank,
+    pass: &mut Pass,
+    o: u32,
+    table: Table,
+    place: u64,
+    count: u64,
+    called: &Call,
+    said: &Reply,
+) -> u64
+    requires pass { IsPassOf bank.now pass.old }
+    requires may { MayWriteList (shape_of bank.now) o (view pass.old) }
+    requires table { HasTable (shape_of bank.now) o table (view pass.old) }
+    requires count { count ≡ length (items_of o (view pass.old)) }
+    requires place { place < count }
+    requires call { (lc : ListCall) × (called.now ≡ call.List o lc) × Changes o lc said.now
+        (items_of o (view pass.old)) (remove (items_of o (view pass.old)) place) (view pass.old) }
+    ensures pass { IsPassOf bank.now pass.new }
+    ensures stack { stack_of pass.new ≡ stack_of pass.old }
+    ensures wrote { Wrote called.now said.now result (view pass.old) (view pass.new) }
+{
+    begin(bank, pass, o, table);
+    shift_down(bank, pass, o, table, place, count);
+    bank.put_block(pass, o, LENGTH, count - 1);
+    finish(bank, pass, o, table, called, said, place, count)
 }

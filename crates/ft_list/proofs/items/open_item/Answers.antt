@@ -33,8 +33,7 @@ returns-else-version-eq0-clause-words c =
     let a = c.args in
     let v = view a.pass.now in
     let e = c.read_word-version.ensures in
-    let odd : c.read_word-version.result % 2 ≡ 1 = let n = c.if-version-eq0.false in omega (arith, n) in
-    (
+    let odd : c.read_word-version.result % 2 ≡ 1 = let n = c.if-version-eq0.false in omega (arith, n) in (
       c.read_word-version.result,
       odd,
       e.held ∙ (λ d. record { block = (held a.o v).block; table = sym (set_own (held a.o v).table (item_at a.place 0) c.read_word-version.result e.found) d }),

@@ -37,7 +37,7 @@ returns-clause-puts c =
     let w = view c.put_word-2.new.pass in
     let low = long_enough (shape_of a.bank.now) a.o a.table u c.read_word-old_payload.ensures.list a.place c.requires.place in
     let is : held a.o w ≡ with_word (with_word (with_word (held a.o u) a.place 0 o.0) a.place 1 kind) a.place 2 payload =
-        c.put_word-2.ensures.words ∙ (ap (λ (z : Picture). with_word z a.place 2 payload) c.put_word.ensures.words ∙ ap (λ (z : Picture). with_word (with_word z a.place 1 kind) a.place 2 payload) o.2) in
+    c.put_word-2.ensures.words ∙ (ap (λ (z : Picture). with_word z a.place 2 payload) c.put_word.ensures.words ∙ ap (λ (z : Picture). with_word (with_word z a.place 1 kind) a.place 2 payload) o.2) in
     let same : held a.o u ≡ held a.o (view a.pass.now) = c.read_word-old_payload.ensures.held ∙ c.read_word-old_kind.ensures.held in
     subst (λ (z : Picture). PutsItem a.place a.stored z (held a.o w)) same
     (subst (λ (z : Picture). PutsItem a.place a.stored (held a.o u) z) (sym is) (item_put (held a.o u) a.place o.0 kind payload low a.stored c.stored_kind_of-kind.ensures c.stored_payload_of-payload.ensures o.1))

@@ -61,9 +61,9 @@ loop-at-preserved c =
     let low : at < slots class = omega (arith, test, p) in
     let b = c.requires.before in
     let found : (values : List Value) → length values ≡ a.count → IsPutting class values a.place (a.count + 1) (stored_at values) (held a.o v).table → IsStored (item_of (held a.o x).table at 1) (item_of (held a.o x).table at 2) (stored_at values at) =
-        λ values long putting. moving_finds class is_class values (insert values a.place a.value) a.place (a.count + 1) at (held a.o x).table (i.moving values long putting).1 low in
+    λ values long putting. moving_finds class is_class values (insert values a.place a.value) a.place (a.count + 1) at (held a.o x).table (i.moving values long putting).1 low in
     let is : (values : List Value) → length values ≡ a.count → IsPutting class values a.place (a.count + 1) (stored_at values) (held a.o v).table → c.item-found.result ≡ stored_at values at =
-        λ values long putting. f.stored (stored_at values at) (found values long putting) in
+    λ values long putting. f.stored (stored_at values at) (found values long putting) in
     record {
       pass = e.pass;
       stack = e.stack ∙ (f.stack ∙ i.stack);
@@ -78,8 +78,8 @@ loop-at-preserved c =
           let less : a.place ≤ length values = let q = p.0 in omega (arith, q, long) in (
             is values long putting ∙ insert_past values a.place a.value at less i.from,
             moving_next class is_class values (insert values a.place a.value) a.place (a.count + 1) at (held a.o y) (held a.o z) c.loop-at.carried
-            (subst (λ (w : Picture). IsMoving class values (insert values a.place a.value) a.place (a.count + 1) at w.table) (sym f.held) m.1)
-            e.puts i.fits m.0 i.from test,
+                (subst (λ (w : Picture). IsMoving class values (insert values a.place a.value) a.place (a.count + 1) at w.table) (sym f.held) m.1)
+                e.puts i.fits m.0 i.from test,
           );
     }
 

@@ -1,0 +1,72 @@
+use Rattle.std.proofs.Common.{◌≡◌, ℕ, ◌+◌, ◌-◌, ◌<◌, ◌≤◌, List, length, Option, Some, refl, sym, ap, ◌∙◌, subst, arith}
+use Rattle.std.specs.Prelude.{slice_set}
+use Rattle.std.specs.List.{insert, remove}
+use Rattle.std.proofs.lemmas.List.Edits.{length-insert}
+use Rattle.ft_model.specs.declared.data.Value.{Value}
+use Rattle.ft_layout.specs.Containers.{IsBlock}
+use Rattle.ft_trace.specs.declared.Act.TheVariants.{PutBlock}
+use Rattle.ft_trace.specs.declared.View.{View}
+use Rattle.ft_trace.specs.Addresses.{class_of, slots}
+use Rattle.ft_trace.specs.Words.{Picture}
+use Rattle.ft_trace.specs.Holds.{held}
+use Rattle.ft_bank.specs.Passes.{shape_of, view}
+use Rattle.ft_bank.specs.Tables.{name_of}
+use Rattle.ft_bank.specs.Whole.{OnlyPut}
+use Rattle.ft_bank.proofs.Whole.{put_by, put_then}
+use Rattle.ft_list.specs.Items.{WritesList, IsMoving, items_of, stored_at}
+use Rattle.ft_list.proofs.Cares.{table_class, writes_on}
+use Rattle.ft_list.proofs.Finishing.{with_count, root_stays}
+use Rattle.ft_list.proofs.Putting.{stored_none, moving_ends, long_remove}
+use Rattle.ft_list.proofs.Whole.{finishing, list_wrote}
+use Rattle.ft_list.proofs.writes.insert_item.Goals as goal
+
+pub shift_up-requires-clause-before : goal.shift_up-requires-clause-before
+shift_up-requires-clause-before c = (items_of c.args.o (view c.args.pass.now), sym c.requires.count, c.begin.ensures.putting c.args.place (c.args.count + 1))
+
+pub finish-requires-clause-may : goal.finish-requires-clause-may
+finish-requires-clause-may c =
+    let a = c.args in
+    let k = shape_of a.bank.now in
+    let v = view a.pass.now in
+    let s = view c.begin.new.pass in
+    let y = view c.shift_up.new.pass in
+    let u = view c.put_block.new.pass in
+    let b = c.begin.ensures in
+    let e = c.shift_up.ensures in
+    let values = items_of a.o v in
+    let news = insert values a.place a.value in
+    let class = class_of (name_of a.table) in
+    let is_class = table_class k a.table c.requires.table.table_in in
+    let count : length values ≡ a.count = sym c.requires.count in
+    let place = c.requires.place in
+    let few = b.few in
+    let long : length news ≡ a.count + 1 = length-insert values a.place a.value (omega (arith, count, place)) ∙ ap (λ (n : ℕ). n + 1) count in
+    let held_is = c.put_block.ensures.held in
+    let last = put_by (PutBlock a.o 1 (a.count + 1)) y u a.o tt c.put_block.ensures.did.1 c.put_block.ensures.keeps in
+    let only : OnlyPut a.o s u = put_then s y u a.o e.only last in
+    let moving = subst (λ (w : Picture). IsMoving class values news a.place (a.count + 1) (a.count + 1) w.table) (sym held_is) (e.moved values count (b.putting a.place (a.count + 1))) in
+    let changing = moving_ends class is_class values news a.place (a.count + 1) (a.count + 1) (held a.o u).table moving (omega (arith, long, place))
+    (λ p more. stored_none values p (omega (arith, more, count)) ∙ sym (stored_none news p (omega (arith, more, long, count, place)))) in
+    let block : (held a.o y).block ≡ (held a.o s).block = e.block in
+    let head = subst (λ (w : Picture). IsBlock w.block (Some class) (length news) 0 0) (sym held_is)
+    (subst (λ (n : ℕ). IsBlock (slice_set (held a.o y).block 1 (a.count + 1)) (Some class) n 0 0) (sym long)
+    (with_count (held a.o y).block (Some class) (length values) (a.count + 1) (subst (λ (l : List ℕ). IsBlock l (Some class) (length values) 0 0) (sym block) b.head))) in
+    let list = writes_on k a.o a.table y u last (root_stays _ _ _ _ (omega arith) c.put_block.ensures.held) e.list in
+    let d = b.did in
+    let call_is = c.requires.call in
+    finishing k a.o a.table v s u d.0 c.requires.may d.1.1 only a.place (a.count + 1) call_is.0 a.called.now a.said.now values news call_is.1 call_is.2 b.content b.table list (ap (λ (z : View). z.shape) c.put_block.ensures.did.1 ∙ e.pass.1) changing head
+
+pub returns-clause-wrote : goal.returns-clause-wrote
+returns-clause-wrote c =
+    let a = c.args in
+    let k = shape_of a.bank.now in
+    let v = view a.pass.now in
+    let s = view c.begin.new.pass in
+    let y = view c.shift_up.new.pass in
+    let u = view c.put_block.new.pass in
+    let d = c.begin.ensures.did in
+    let e = c.shift_up.ensures in
+    let last = put_by (PutBlock a.o 1 (a.count + 1)) y u a.o tt c.put_block.ensures.did.1 c.put_block.ensures.keeps in
+    let call_is = c.requires.call in
+    list_wrote k a.o a.table v s u d.0 c.requires.may d.1.1 (put_then s y u a.o e.only last) call_is.0 a.called.now a.said.now c.finish.result (view c.finish.new.pass) call_is.1 call_is.2.changing c.finish.ensures.ends
+    ((root_stays _ _ _ _ (omega arith) c.put_block.ensures.held) ∙ (e.list.root ∙ sym c.requires.table.root))

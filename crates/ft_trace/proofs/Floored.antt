@@ -1,5 +1,5 @@
 -- Who has the floor has all tokens and knows all words.
-use Rattle.std.proofs.Common.{◌≡◌, ◌≢◌, ◌⊎◌, ℕ, Bool, true, false, cond, List, [], ◌∷◌, ◌++◌, refl, sym, ap, ◌∙◌, inl, inr, ⊎_elim, arith, append-nil}
+use Rattle.std.proofs.Common.{◌≡◌, ◌≢◌, ◌⊎◌, ℕ, eqb, Bool, true, false, cond, List, [], ◌∷◌, ◌++◌, refl, sym, ap, ◌∙◌, inl, inr, ⊎_elim, subst, arith, append-nil}
 use Rattle.std.specs.Prelude.{slice_index, slice_set}
 use mathlib.Core.Option.{some}
 use mathlib.Core.Logic.{dite}
@@ -11,9 +11,9 @@ use Rattle.ft_trace.specs.declared.View.{View}
 use Rattle.ft_trace.specs.declared.Act.{Act}
 use Rattle.ft_trace.specs.declared.Act.TheVariants.{TakeFloor}
 use Rattle.ft_trace.specs.Addresses.{at, counter}
-use Rattle.ft_trace.specs.Acts.{place, word_after, noted, starter, maker, made, both, spent, sender, note, floor_words, floor_known, has_floor_next}
-use Rattle.ft_trace.specs.Floors.{TokensAreAll, AllTokensAreAlone, FloorStands}
-use Rattle.ft_trace.specs.Traces.{Event, did, forked, joined, sent, run, history, May, Valid}
+use Rattle.ft_trace.specs.Acts.{place, word_after, noted, starter, maker, made, both, spent, sender, note, floor_words, floor_known, has_floor_next, Reports}
+use Rattle.ft_trace.specs.Floors.{TokensAreAll, AllTokensAreAlone, FloorStands, FoundAsKnown, FloorTells}
+use Rattle.ft_trace.specs.Traces.{Event, did, forked, joined, sent, run, word, history, May, Valid}
 use Rattle.ft_trace.proofs.Sizes.{set_views, one_more, one_view, sized}
 use Rattle.ft_trace.proofs.Cases.{off, here, miss}
 use Rattle.ft_trace.proofs.Announcing.{fits}
@@ -143,3 +143,32 @@ floored k (joined id v other w ∷ es) valid =
 
 pub floor_stands : FloorStands
 floor_stands k es valid j u at = let f = floored k es valid j u at in (f.has, f.given)
+
+-- ---- answers
+
+abbrev Tells : Shape → ℕ → View → Type 0
+Tells k j u = u.has_floor ≡ true → FoundAsKnown k u.number u.log
+
+module _ (k : Shape) (es : List Event) (id : ℕ) (v : View) where
+  tells_own : (a : Act) → Reports a (word k es (place a)) → (v.has_floor ≡ true → floor_words k v.number v.log ≡ (run k es).words) → Tells k id v → has_floor_next a v.has_floor ≡ true → FoundAsKnown k v.number (a ∷ v.log)
+  tells_own (TakeFloor f s) found words old has = tt
+  tells_own act found words old has = (subst (λ (ws : List ℕ). Reports act (slice_index ws (at k (place act)))) (sym (words has)) found, old has)
+
+by_given : (b c : Bool) → cond b c false ≡ true → c ≡ true
+by_given true c e = e
+by_given false c e = off e
+
+pub floor_tells : FloorTells
+floor_tells k [] valid = one_view (Tells k) (starter k) (λ no. off no)
+floor_tells k (did id v a ∷ es) valid =
+    let old = floor_tells k es valid.0 in
+    set_views (Tells k) _ id (noted a v) (tells_own k es id v a valid.1.2 (λ has. ((floored k es valid.0 id v valid.1.0).has has).1) (old id v valid.1.0)) (λ j u _ e. old j u e)
+floor_tells k (forked id v ∷ es) valid =
+    let old = floor_tells k es valid.0 in
+    one_more (Tells k) _ (made v) (λ no. off no) (set_views (Tells k) _ id (maker v) (λ no. off no) (λ j u _ e. old j u e))
+floor_tells k (sent id v given ∷ es) valid =
+    let old = floor_tells k es valid.0 in
+    one_more (Tells k) _ (note given v) (λ no. off no) (set_views (Tells k) _ id (sender given v) (λ has. old id v valid.1.0 (by_given (eqb given 0) v.has_floor has)) (λ j u _ e. old j u e))
+floor_tells k (joined id v other w ∷ es) valid =
+    let old = floor_tells k es valid.0 in
+    set_views (Tells k) _ other spent (λ no. off no) (λ j u _. set_views (Tells k) _ id (both v w) (old id v valid.1.0) (λ j u _ e. old j u e) j u)

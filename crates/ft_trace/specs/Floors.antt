@@ -1,8 +1,11 @@
 -- The floor: one pass has all tokens, so no other may take a step, and the words are those that its log gives.
-use Rattle.std.specs.Prelude.{◌≡◌, ◌≢◌, ℕ, true, List, []}
+use Rattle.std.specs.Prelude.{◌≡◌, ◌≢◌, ℕ, true, List, [], ◌∷◌, slice_index}
+use Rattle.ft_trace.specs.declared.Act.{Act}
+use Rattle.ft_trace.specs.declared.Act.TheVariants.{TakeFloor}
 use Rattle.ft_trace.specs.declared.Shape.{Shape}
 use Rattle.ft_trace.specs.declared.View.{View}
-use Rattle.ft_trace.specs.Acts.{floor_words}
+use Rattle.ft_trace.specs.Addresses.{at}
+use Rattle.ft_trace.specs.Acts.{place, Reports, floor_words}
 use Rattle.ft_trace.specs.Entries.{total}
 use Rattle.ft_trace.specs.Laws.{HasView}
 use Rattle.ft_trace.specs.Traces.{Event, run, Valid}
@@ -24,3 +27,18 @@ FloorStands =
     (k : Shape) (es : List Event) → Valid k es → (j : ℕ) (u : View) → HasView k es j u
     → (u.has_floor ≡ true → (u.tokens ≡ k.passes) × (floor_words k u.number u.log ≡ (run k es).words))
     × (u.floor ≢ [] → (u.tokens ≡ k.passes) × (u.floor ≡ (run k es).words))
+
+abbrev pub FoundNext : Shape → ℕ → Act → List Act → Type 0 → Type 0
+FoundNext k number (TakeFloor f s) l before = Unit {0}
+FoundNext k number act l before = Reports act (slice_index (floor_words k number l) (at k (place act))) × before
+
+-- since the pass took the floor each action has found what its word had, as the log before it gives the words
+abbrev pub FoundAsKnown : Shape → ℕ → List Act → Type 0
+FoundAsKnown k number [] = Unit {0}
+FoundAsKnown k number (a ∷ l) = FoundNext k number a l (FoundAsKnown k number l)
+
+-- so who has the floor knows each answer beforehand
+abbrev pub FloorTells : Type 0
+FloorTells =
+    (k : Shape) (es : List Event) → Valid k es → (j : ℕ) (u : View) → HasView k es j u → u.has_floor ≡ true
+    → FoundAsKnown k u.number u.log

@@ -1,7 +1,7 @@
 //! What notes, joins and the floor give: laws on every valid trace, for callers that meet and for one caller
 //! that holds all passes.
 ghost use Rattle.ft_trace.specs.Notes.{SeenIsLow, SeenIsHandedOn, LoadsSeeAll};
-ghost use Rattle.ft_trace.specs.Floors.{TokensAreAll, AllTokensAreAlone, FloorStands};
+ghost use Rattle.ft_trace.specs.Floors.{TokensAreAll, AllTokensAreAlone, FloorStands, FloorTells};
 
 /// A pass has seen no more writes than the counter says: its next load of the counter, and its next write,
 /// gives at least what it has seen.
@@ -32,4 +32,9 @@ pub fn all_tokens_are_alone()
 /// Who has the floor knows every word of the bank by its own log.
 pub fn floor_stands()
     ensures { FloorStands }
+{}
+
+/// Who has the floor knows what each of its steps finds.
+pub fn floor_tells()
+    ensures { FloorTells }
 {}

@@ -11,6 +11,7 @@ pub mod Reads
 pub mod Tables
 pub mod Closings
 pub mod Whole
+pub mod Answered
 pub mod Takings
 pub mod Shown
 pub mod Slips

@@ -1,7 +1,8 @@
 mod Places
 mod Knowing
-mod Running
+pub mod Running
 mod Walking
 mod Closing
 mod Seeking
 mod Rounding
+pub mod Asking

@@ -1,5 +1,5 @@
 -- What a look-up of one key without the lock loads, and what its log then shows. (profile)
-use Rattle.std.specs.Prelude.{◌≡◌, ◌≢◌, ◌⊎◌, ℕ, suc, ◌%◌, ◌<◌, List, [], ◌∷◌, ◌++◌}
+use Rattle.std.specs.Prelude.{◌≡◌, ◌≢◌, ◌⊎◌, ℕ, suc, ◌%◌, ◌<◌, false, List, [], ◌∷◌, ◌++◌}
 use Rattle.ft_model.specs.declared.data.Key.{Key}
 use Rattle.ft_layout.specs.Words.{key_kind, gone_kind, key_payload}
 use Rattle.ft_trace.specs.declared.Act.{Act}
@@ -13,7 +13,13 @@ use Rattle.ft_trace.specs.Reading.{Among}
 use Rattle.ft_trace.specs.Finding.{Hit, Bare}
 use Rattle.ft_trace.specs.LookReplies.{IsValueRead, IsAbsent}
 use Rattle.ft_search.specs.declared.looks.Looked.{Looked}
-use Rattle.ft_search.specs.declared.looks.Looked.TheVariants.{Here, Absent, Contended}
+use Rattle.ft_search.specs.declared.looks.Looked.TheVariants as looked
+use Rattle.ft_section.specs.declared.answers.Look.{Look}
+use Rattle.ft_section.specs.declared.answers.Look.TheVariants as look
+use Rattle.ft_model.specs.declared.call.Call.{Call}
+use Rattle.ft_trace.specs.declared.View.{View}
+use Rattle.ft_bank.specs.Answered.{Answered}
+use Rattle.ft_bank.specs.Whole.{OnlyLoaded}
 
 -- only loads of versions, roots, words of tables and the counter
 abbrev pub AreLooks : List Act → Type 0
@@ -62,9 +68,31 @@ pub record StopsAtContainer (o a b : ℕ) (part : List Act) : Type 0 where
   pub moved : (a % 2 ≢ 0) ⊎ (b ≢ a)
   pub bare : Among (ReadRoot o 0) mid
 
+-- Two loads of one version gave a and then b, and a is odd or they differ: the version of an entry of the key in a table
+-- that the root named, or the container's where the root was read 0.
+abbrev pub Stops : ℕ → Key → ℕ → ℕ → List Act → Type 0
+Stops o key a b part =
+    ((t : ℕ) × Among (ReadRoot o (suc t)) part × StopsAtEntry t key a b part) ⊎ StopsAtContainer o a b part
+
 -- a look-up came to this, by its own loads (`part`) and those before (`log` has both)
 abbrev pub ShowsLooked : Shape → ℕ → Key → List Act → List Act → Looked → Type 0
-ShowsLooked k o key part log (Here value_kind value n) = ShowsHere k o key value_kind value n log × Among (ReadCounter n) part
-ShowsLooked k o key part log (Absent n) = ShowsAbsent k o key n log × Among (ReadCounter n) part
-ShowsLooked k o key part log (Contended a b) =
-    ((t : ℕ) × Among (ReadRoot o (suc t)) part × StopsAtEntry t key a b part) ⊎ StopsAtContainer o a b part
+ShowsLooked k o key part log (looked.Here value_kind value n) =
+    ShowsHere k o key value_kind value n log × Among (ReadCounter n) part
+ShowsLooked k o key part log (looked.Absent n) = ShowsAbsent k o key n log × Among (ReadCounter n) part
+ShowsLooked k o key part log (looked.Contended a b) = Stops o key a b part
+
+-- The pass loaded words of the bank and did nothing else, and the version of the key's own entry stopped the look-up; or
+-- the container's, where its root was read 0.
+pub record IsContended (o : ℕ) (key : Key) (a b : ℕ) (v w : View) : Type 0 where
+  pub loaded : OnlyLoaded v w
+  pub part : List Act
+  pub looks : AreLooks part
+  pub own : w.log ≡ part ++ v.log
+  pub stops : Stops o key a b part
+
+-- What a call answers that looks up a key without the lock. It gave a reply, which is the one that its entry has, with a
+-- stamp that it loaded; or it was contended. It takes no memory.
+abbrev pub IsLookOf : ℕ → Key → Call → View → View → Look → Type 0
+IsLookOf o key called v w (look.Done said stamp) = Answered called said stamp.number v w × (stamp.wrote ≡ false)
+IsLookOf o key called v w (look.Contended a b) = IsContended o key a b v w
+IsLookOf o key called v w look.NoMemory = ⊥

@@ -11,6 +11,6 @@ mod tables;
 mod words;
 
 pub use crate::look::look_up;
-pub use crate::looks::Looked;
+pub use crate::looks::{Looked, answer_look};
 pub use crate::tables::{mask_of, table_named};
 pub use crate::words::TableWords;

@@ -3,6 +3,7 @@
 //! comes back that the pass has found since it last announced.
 ghost use Rattle.std.specs.Prelude.{◌≡◌, ℕ, suc, ◌<◌, List, ◌∷◌};
 ghost use Rattle.ft_layout.specs.Tables.{hash_of};
+ghost use Rattle.ft_layout.specs.Words.{FitsKey};
 ghost use Rattle.ft_trace.specs.declared.Act.{Act};
 ghost use Rattle.ft_trace.specs.declared.Act.TheVariants.{ReadRoot};
 ghost use Rattle.ft_trace.specs.Acts.{announces};
@@ -84,6 +85,20 @@ fn look_round(
     }
 }
 
+/// A key has what words tell of it.
+fn key_fits(key: Key)
+    ensures { FitsKey key }
+{
+    match key {
+        Key::Int(integer) => {
+            let _word = integer;
+        }
+        Key::Text(sym) => {
+            let _number = sym.0;
+        }
+    }
+}
+
 /// Looks for a key in a dict or a set without the lock; the pass is online.
 ///
 /// Writes under other keys and growths never make it contended, unless the root was read 0: then the
@@ -95,10 +110,12 @@ pub fn look_up(bank: &Bank, pass: &mut Pass, o: u32, way: Way, key: Key) -> Look
     requires key { IsKeyIn (shape_of bank.now) key }
     requires online { 0 < announces (view pass.old).log }
     ensures pass { IsPassOf bank.now pass.new }
+    ensures key { FitsKey key }
     ensures keeps { OnlyLoaded (view pass.old) (view pass.new) }
     ensures looked { (part : List Act) × AreLooks part × DidAll part pass.old pass.new
         × ShowsLooked (shape_of bank.now) o key part (view pass.new).log result }
 {
+    key_fits(key);
     let hash = bank.hash_of(key);
     let mut root = bank.read_root(pass, o);
     'rounds: loop {

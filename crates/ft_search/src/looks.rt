@@ -1,4 +1,13 @@
-//! What a look-up of one key comes to, for the calls that give replies by it.
+//! What a look-up of one key comes to, and the entry of a call that gives its reply by one.
+ghost use Rattle.std.specs.Prelude.{◌≡◌, false};
+ghost use Rattle.ft_trace.specs.declared.Act.TheVariants.{Answer};
+ghost use Rattle.ft_bank.specs.Passes.{view, IsPassOf, Did};
+ghost use Rattle.ft_bank.specs.Reads.{IsShown};
+ghost use Rattle.ft_section.specs.declared.answers.Look.TheVariants.{Done};
+
+use ft_bank::{Bank, Pass};
+use ft_model::{Call, Reply};
+use ft_section::{Look, Stamp};
 
 /// What a look-up of one key without the lock came to.
 #[derive(Clone, Copy, Debug, PartialEq, Eq)]
@@ -9,4 +18,19 @@ pub enum Looked {
     Absent(u64),
     /// A write may be under way: two loads of one version, the first odd or the two different.
     Contended(u64, u64),
+}
+
+/// Gives the reply of a call that isn't a write, which the pass's loads show at this stamp.
+pub fn answer_look(bank: &Bank, pass: &mut Pass, call: &Call, reply: Reply, number: u64) -> Look
+    requires pass { IsPassOf bank.now pass.old }
+    requires shown { IsShown (view pass.old) call.now reply number }
+    ensures did { Did (Answer call.now reply number) pass.old pass.new }
+    ensures done { result ≡ Done reply (record { number = number; wrote = false }) }
+{
+    bank.answer(pass, call, &reply, number);
+    let stamp = Stamp {
+        number,
+        wrote: false,
+    };
+    Look::Done(reply, stamp)
 }

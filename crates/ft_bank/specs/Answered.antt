@@ -1,0 +1,20 @@
+-- What a call without locks leaves that gave a reply.
+use Rattle.std.specs.Prelude.{◌≡◌, ℕ, List, ◌++◌}
+use Rattle.ft_model.specs.declared.call.Call.{Call}
+use Rattle.ft_model.specs.declared.reply.Reply.{Reply}
+use Rattle.ft_trace.specs.declared.Act.{Act}
+use Rattle.ft_trace.specs.declared.Act.TheVariants.{Answer, ReadCounter}
+use Rattle.ft_trace.specs.declared.View.{View}
+use Rattle.ft_trace.specs.Acts.{noted}
+use Rattle.ft_trace.specs.Reading.{Among}
+use Rattle.ft_bank.specs.Whole.{OnlyLoaded}
+
+-- The pass loaded words of the bank, and then gave this reply to the call, with a number that one of these loads of the
+-- counter gave; it has done nothing else. (profile)
+pub record Answered (called : Call) (said : Reply) (number : ℕ) (v w : View) : Type 0 where
+  pub before : View
+  pub loaded : OnlyLoaded v before
+  pub part : List Act
+  pub own : before.log ≡ part ++ v.log
+  pub counted : Among (ReadCounter number) part
+  pub answered : w ≡ noted (Answer called said number) before

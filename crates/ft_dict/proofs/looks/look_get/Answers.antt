@@ -1,0 +1,23 @@
+use Rattle.std.proofs.Common.{refl, sym, subst}
+use Rattle.ft_bank.specs.Passes.{view}
+use Rattle.ft_bank.specs.Reads.{IsShown}
+use Rattle.ft_model.specs.declared.call.Call.TheVariants as call
+use Rattle.ft_model.specs.declared.call.DictCall.TheVariants as dict
+use Rattle.ft_search.specs.Looks.{IsLookOf}
+use Rattle.ft_search.proofs.Asking.{answered_after}
+use Rattle.ft_dict.proofs.looks.look_get.Goals as goal
+
+pub answer_look-requires-clause-shown : goal.answer_look-requires-clause-shown
+answer_look-requires-clause-shown c =
+    subst (λ said. IsShown (view c.find_value.new.pass) (call.Dict c.args.d (dict.Get c.args.key)) said c.in-Found.number)
+    (sym c.reply_of.ensures) c.in-Found.ensures.found.1.get
+
+pub returns-in-Found-clause-looked : goal.returns-in-Found-clause-looked
+returns-in-Found-clause-looked c =
+    let v = view c.args.pass.now in
+    let w = view c.find_value.new.pass in
+    let z = view c.answer_look.new.pass in
+    let called = call.Dict c.args.d (dict.Get c.args.key) in
+    let f = c.in-Found.ensures.found in
+    subst (λ r. IsLookOf c.args.d c.args.key called v z r) (sym c.answer_look.ensures.done)
+    (answered_after v w z called c.reply_of.result c.in-Found.number f.2.0 f.0 f.2.1 f.2.2 c.answer_look.ensures.did.1, refl)

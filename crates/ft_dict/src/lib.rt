@@ -1,0 +1,9 @@
+//! Dicts of a bank (Python manual, Mapping Types): calls that look up a key without the lock.
+//!
+//! Between any two steps of any passes it keeps true, for whoever runs calls, that each call adds one
+//! entry to the pass at most, and that this entry has the reply of the plain dict at its stamp.
+#![tactic(auto)]
+
+mod looks;
+
+pub use crate::looks::{look_get, look_getd, look_has};

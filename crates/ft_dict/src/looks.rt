@@ -1,0 +1,175 @@
+//! Look-ups of one key of a dict without the lock. Sets, deletions and growths for other keys never make
+//! them contended, unless the root was read 0.
+ghost use Rattle.std.specs.Prelude.{◌≡◌, ◌↔◌, ◌<◌, Some};
+ghost use Rattle.ft_layout.specs.declared.slot.Stored.TheVariants.{Plain};
+ghost use Rattle.ft_layout.specs.Words.{IsStored};
+ghost use Rattle.ft_model.specs.declared.call.Call.TheVariants as call;
+ghost use Rattle.ft_model.specs.declared.call.DictCall.TheVariants as dict;
+ghost use Rattle.ft_model.specs.declared.data.Value.{Value};
+ghost use Rattle.ft_model.specs.declared.script.Kind.TheVariants as kind;
+ghost use Rattle.ft_trace.specs.Acts.{announces};
+ghost use Rattle.ft_trace.specs.Addresses.{containers_in};
+ghost use Rattle.ft_trace.specs.LookReplies.{key_reply};
+ghost use Rattle.ft_trace.specs.Worlds.{kind_in};
+ghost use Rattle.ft_bank.specs.Keys.{IsKeyIn};
+ghost use Rattle.ft_bank.specs.Passes.{shape_of, view, IsPassOf};
+ghost use Rattle.ft_bank.specs.Sections.{stack_of};
+ghost use Rattle.ft_search.specs.Looks.{IsLookOf};
+ghost use Rattle.ft_dict.specs.Looks.{IsFoundAt};
+
+use ft_bank::{Bank, Pass};
+use ft_keys::Way;
+use ft_layout::{Stored, item_of};
+use ft_model::{Call, DictCall, Key, Raise, Reply, Value};
+use ft_search::{Looked, answer_look, look_up};
+use ft_section::{Look, Object};
+
+/// What is found at a key without the lock.
+#[derive(Clone, Copy)]
+pub(crate) enum AtKey {
+    /// The value, or none, and the stamp.
+    Found(Option<Value>, u64),
+    /// Two loads of one version: the first is odd, or they differ.
+    Contended(u64, u64),
+}
+
+/// The value that is stored in place, if one is.
+fn plain_of(stored: Stored) -> Option<Value>
+    ensures { (value : Value) → (stored ≡ Plain value) ↔ (result ≡ Some value) }
+{
+    match stored {
+        Stored::Plain(value) => Some(value),
+        Stored::Empty | Stored::Boxed(_) => None,
+    }
+}
+
+/// The value that a kind and a payload stand for, which lie in an entry as they do in an item.
+fn value_of(kind: u64, payload: u64) -> Option<Value>
+    ensures { (value : Value) → IsStored kind payload (Plain value) ↔ (result ≡ Some value) }
+{
+    match item_of(&[0, kind, payload, 0]) {
+        Some(stored) => plain_of(stored),
+        None => None,
+    }
+}
+
+/// What `d[k]` replies: the value, or a KeyError.
+fn reply_of(found: Option<Value>) -> Reply
+    ensures { result ≡ key_reply found }
+{
+    match found {
+        Some(value) => Reply::Value(value),
+        None => Reply::Raised(Raise::NoKey),
+    }
+}
+
+/// Looks for the value at a key.
+fn find_value(bank: &Bank, pass: &mut Pass, d: Object, key: Key) -> AtKey
+    requires pass { IsPassOf bank.now pass.old }
+    requires container { d < containers_in (shape_of bank.now) }
+    requires dict { kind_in (shape_of bank.now).kinds d ≡ kind.Dict }
+    requires key { IsKeyIn (shape_of bank.now) key }
+    requires online { 0 < announces (view pass.old).log }
+    requires left { 0 < (view pass.old).left }
+    ensures pass { IsPassOf bank.now pass.new }
+    ensures sections { stack_of pass.new ≡ stack_of pass.old }
+    ensures found { IsFoundAt d key (view pass.old) (view pass.new) result }
+{
+    match look_up(bank, pass, d, Way::Dict, key) {
+        Looked::Here(kind, payload, number) => match value_of(kind, payload) {
+            Some(value) => AtKey::Found(Some(value), number),
+            None => {
+                // No pass can be so: its loads show a value.
+                let _number = pass.number();
+                unreachable!()
+            }
+        },
+        Looked::Absent(number) => AtKey::Found(None, number),
+        Looked::Contended(first, second) => AtKey::Contended(first, second),
+    }
+}
+
+/// `d[k]`, a KeyError where the key isn't there, without the lock (Python manual, Mapping Types).
+///
+/// # Errors
+///
+/// `Contended` where two loads of the version of the key's own entry gave an odd number or two different
+/// ones; of the container's version, where its root was read 0. It never answers `NoMemory`.
+pub fn look_get(bank: &Bank, pass: &mut Pass, d: Object, key: Key) -> Look
+    requires pass { IsPassOf bank.now pass.old }
+    requires container { d < containers_in (shape_of bank.now) }
+    requires dict { kind_in (shape_of bank.now).kinds d ≡ kind.Dict }
+    requires key { IsKeyIn (shape_of bank.now) key }
+    requires online { 0 < announces (view pass.old).log }
+    requires left { 0 < (view pass.old).left }
+    ensures pass { IsPassOf bank.now pass.new }
+    ensures sections { stack_of pass.new ≡ stack_of pass.old }
+    ensures looked { IsLookOf d key (call.Dict d (dict.Get key)) (view pass.old) (view pass.new) result }
+{
+    let call = Call::Dict {
+        container: d,
+        call: DictCall::Get { key },
+    };
+    match find_value(bank, pass, d, key) {
+        AtKey::Found(found, number) => { answer_look(bank, pass, &call, reply_of(found), number) }
+        AtKey::Contended(first, second) => Look::Contended(first, second),
+    }
+}
+
+/// `d.get(k, v)`: the value at the key, or the default, without the lock (Python manual, Mapping Types).
+///
+/// # Errors
+///
+/// Those of [`look_get`].
+pub fn look_getd(bank: &Bank, pass: &mut Pass, d: Object, key: Key, default: Value) -> Look
+    requires pass { IsPassOf bank.now pass.old }
+    requires container { d < containers_in (shape_of bank.now) }
+    requires dict { kind_in (shape_of bank.now).kinds d ≡ kind.Dict }
+    requires key { IsKeyIn (shape_of bank.now) key }
+    requires online { 0 < announces (view pass.old).log }
+    requires left { 0 < (view pass.old).left }
+    ensures pass { IsPassOf bank.now pass.new }
+    ensures sections { stack_of pass.new ≡ stack_of pass.old }
+    ensures looked { IsLookOf d key (call.Dict d (dict.GetOr key default)) (view pass.old) (view pass.new) result }
+{
+    let call = Call::Dict {
+        container: d,
+        call: DictCall::GetOr { key, default },
+    };
+    match find_value(bank, pass, d, key) {
+        AtKey::Found(found, number) => {
+            let reply = Reply::Value(found.unwrap_or(default));
+            answer_look(bank, pass, &call, reply, number)
+        }
+        AtKey::Contended(first, second) => Look::Contended(first, second),
+    }
+}
+
+/// `k in d`, without the lock (Python manual, Mapping Types).
+///
+/// # Errors
+///
+/// Those of [`look_get`].
+pub fn look_has(bank: &Bank, pass: &mut Pass, d: Object, key: Key) -> Look
+    requires pass { IsPassOf bank.now pass.old }
+    requires container { d < containers_in (shape_of bank.now) }
+    requires dict { kind_in (shape_of bank.now).kinds d ≡ kind.Dict }
+    requires key { IsKeyIn (shape_of bank.now) key }
+    requires online { 0 < announces (view pass.old).log }
+    requires left { 0 < (view pass.old).left }
+    ensures pass { IsPassOf bank.now pass.new }
+    ensures sections { stack_of pass.new ≡ stack_of pass.old }
+    ensures looked { IsLookOf d key (call.Dict d (dict.Has key)) (view pass.old) (view pass.new) result }
+{
+    let call = Call::Dict {
+        container: d,
+        call: DictCall::Has { key },
+    };
+    match find_value(bank, pass, d, key) {
+        AtKey::Found(found, number) => {
+            let reply = Reply::Truth(found.is_some());
+            answer_look(bank, pass, &call, reply, number)
+        }
+        AtKey::Contended(first, second) => Look::Contended(first, second),
+    }
+}

@@ -1,0 +1,93 @@
+-- From what a look-up shows to what a call may answer, for dicts and sets.
+use Rattle.std.proofs.Common.{◌≡◌, ℕ, ◌<◌, List, [], ◌∷◌, ◌++◌, Some, None, sym, ap, ◌∙◌, subst, true, false, append_assoc}
+use Rattle.ft_model.specs.declared.call.Call.{Call}
+use Rattle.ft_model.specs.declared.call.Call.TheVariants as call
+use Rattle.ft_model.specs.declared.call.SetCall.TheVariants as set
+use Rattle.ft_model.specs.declared.data.Key.{Key}
+use Rattle.ft_model.specs.declared.data.Value.{Value}
+use Rattle.ft_model.specs.declared.reply.Reply.{Reply}
+use Rattle.ft_model.specs.declared.reply.Reply.TheVariants as reply
+use Rattle.ft_model.specs.declared.script.Kind.TheVariants as kind
+use Rattle.ft_layout.specs.declared.slot.Stored.TheVariants.{Plain}
+use Rattle.ft_layout.specs.Words.{FitsKey, IsStored}
+use Rattle.ft_trace.specs.declared.Act.{Act}
+use Rattle.ft_trace.specs.declared.Act.TheVariants.{ReadRoot, ReadTable, ReadCounter, Version, Answer}
+use Rattle.ft_trace.specs.declared.Shape.{Shape}
+use Rattle.ft_trace.specs.declared.View.{View}
+use Rattle.ft_trace.specs.Acts.{noted}
+use Rattle.ft_trace.specs.Addresses.{containers_in, class_of}
+use Rattle.ft_trace.specs.Causes.{AreOfOneCall}
+use Rattle.ft_trace.specs.Kinds.{rows}
+use Rattle.ft_trace.specs.Reading.{Among}
+use Rattle.ft_trace.specs.Traces.{Possible}
+use Rattle.ft_trace.specs.Worlds.{kind_in}
+use Rattle.ft_bank.specs.Answered.{Answered}
+use Rattle.ft_bank.specs.Reads.{IsShown}
+use Rattle.ft_bank.specs.Shown.{MayAsk, KeyIsShown}
+use Rattle.ft_bank.specs.Whole.{OnlyLoaded}
+use Rattle.ft_bank.proofs.Showing.{dict_hits_are_shown, values_are_read, set_hits_are_shown, misses_are_shown}
+use Rattle.ft_search.specs.Looks.{AreLooks, ShowsHere, ShowsAbsent, Stops, IsContended}
+
+-- loads make no entry
+looks_own : (l : List Act) → AreLooks l → AreOfOneCall l
+looks_own [] q = tt
+looks_own (Version o f ∷ l) q = looks_own l q
+looks_own (ReadRoot o f ∷ l) q = looks_own l q
+looks_own (ReadTable t i f ∷ l) q = looks_own l q
+looks_own (ReadCounter f ∷ l) q = looks_own l q
+looks_own (act ∷ l) q = absurd q
+
+looks_newer : (newer rest : List Act) → AreLooks (newer ++ rest) → AreLooks newer
+looks_newer [] rest q = tt
+looks_newer (Version o f ∷ l) rest q = looks_newer l rest q
+looks_newer (ReadRoot o f ∷ l) rest q = looks_newer l rest q
+looks_newer (ReadTable t i f ∷ l) rest q = looks_newer l rest q
+looks_newer (ReadCounter f ∷ l) rest q = looks_newer l rest q
+looks_newer (act ∷ l) rest q = absurd q
+
+module _ (v w : View) (k : Shape) (o : ℕ) (key : Key) (n : ℕ) (part : List Act) (loaded : OnlyLoaded v w) (looks : AreLooks part) (own : w.log ≡ part ++ v.log) (counted : Among (ReadCounter n) part) (same : w.shape ≡ k) (low : o < containers_in k) (left : 0 < v.left) (fits : FitsKey key) where
+  may_ask : MayAsk w o n
+  may_ask = record {
+    low = subst (λ (z : Shape). o < containers_in z) (sym same) low;
+    left = subst (λ (z : ℕ). 0 < z) (sym loaded.work.left) left;
+    loaded = record {
+      newer = counted.newer;
+      rest = counted.rest ++ v.log;
+      is = own ∙ (ap (λ (z : List Act). z ++ v.log) counted.is ∙ append_assoc counted.newer (ReadCounter n ∷ counted.rest) v.log);
+      own = looks_own counted.newer (looks_newer counted.newer (ReadCounter n ∷ counted.rest) (subst AreLooks counted.is looks));
+    };
+  }
+
+  pub key_absent : kind_in k.kinds o ≡ kind.Dict → ShowsAbsent k o key n w.log → KeyIsShown w o key None n
+  key_absent is shows =
+      let here : (kind_in w.shape.kinds o ≡ kind.Dict) × ShowsAbsent w.shape o key n w.log = subst (λ (z : Shape). (kind_in z.kinds o ≡ kind.Dict) × ShowsAbsent z o key n w.log) (sym same) (is, shows) in
+      (misses_are_shown w o key n may_ask fits here.1).0 here.0
+
+  pub element_absent : kind_in k.kinds o ≡ kind.Set → ShowsAbsent k o key n w.log → IsShown w (call.Set o (set.Has key)) (reply.Truth false) n
+  element_absent is shows =
+      let here : (kind_in w.shape.kinds o ≡ kind.Set) × ShowsAbsent w.shape o key n w.log = subst (λ (z : Shape). (kind_in z.kinds o ≡ kind.Set) × ShowsAbsent z o key n w.log) (sym same) (is, shows) in
+      (misses_are_shown w o key n may_ask fits here.1).1 here.0
+
+  module _ (value_kind payload : ℕ) (shows : ShowsHere k o key value_kind payload n w.log) where
+    pub key_here : kind_in k.kinds o ≡ kind.Dict → (value : Value) → IsStored value_kind payload (Plain value) → KeyIsShown w o key (Some value) n
+    key_here is value stored =
+        let here : kind_in w.shape.kinds o ≡ kind.Dict = ap (λ (z : Shape). kind_in z.kinds o) same ∙ is in
+        (dict_hits_are_shown w o shows.t shows.place key n may_ask here fits (subst (λ z. shows.place < rows z (class_of shows.t)) is shows.low) shows.hit).1 value_kind payload shows.read value stored
+
+    -- the words that were read are those of a value
+    pub value_here : Possible w → kind_in k.kinds o ≡ kind.Dict → (value : Value) × IsStored value_kind payload (Plain value)
+    value_here possible is =
+        let here : kind_in w.shape.kinds o ≡ kind.Dict = ap (λ (z : Shape). kind_in z.kinds o) same ∙ is in
+        values_are_read w o shows.t shows.place key n possible may_ask.low here fits (subst (λ z. shows.place < rows z (class_of shows.t)) is shows.low) shows.hit value_kind payload shows.read
+
+    pub element_here : kind_in k.kinds o ≡ kind.Set → IsShown w (call.Set o (set.Has key)) (reply.Truth true) n
+    element_here is =
+        let here : kind_in w.shape.kinds o ≡ kind.Set = ap (λ (z : Shape). kind_in z.kinds o) same ∙ is in
+        set_hits_are_shown w o shows.t shows.place key n may_ask here fits (subst (λ z. shows.place < rows z (class_of shows.t)) is shows.low) shows.hit
+
+-- an entry that follows such loads
+pub answered_after : (v w z : View) (called : Call) (said : Reply) (n : ℕ) (part : List Act) → OnlyLoaded v w → w.log ≡ part ++ v.log → Among (ReadCounter n) part → z ≡ noted (Answer called said n) w → Answered called said n v z
+answered_after v w z called said n part loaded own counted is = record { before = w; loaded = loaded; part = part; own = own; counted = counted; answered = is }
+
+pub contended_after : (v w : View) (o : ℕ) (key : Key) (a b : ℕ) (part : List Act) → OnlyLoaded v w → AreLooks part → w.log ≡ part ++ v.log → Stops o key a b part → IsContended o key a b v w
+contended_after v w o key a b part loaded looks own stops = record { loaded = loaded; part = part; looks = looks; own = own; stops = stops }

@@ -30,7 +30,7 @@ impl Bank {
     }
 
     /// Loads a word of a container's block, one of words 2 to 7, which are counted from 0 on. With the
-    /// lock it is the word that the pass knows.
+    /// lock it is the word that the pass knows. Word 0 is the root, which names a table of the bank.
     pub fn read_block(&self, pass: &mut Pass, o: u32, word: u64) -> u64
         requires pass { IsPassOf self.now pass.old }
         requires container { o < containers_in (shape_of self.now) }
@@ -38,6 +38,7 @@ impl Bank {
         ensures did { Did (ReadBlock o word result) pass.old pass.new }
         ensures held { has_lock o (view pass.old).log ≡ true →
             result ≡ slice_index (held o (view pass.old)).block word }
+        ensures table { (t : ℕ) → word ≡ 0 → result ≡ suc t → IsTable (shape_of self.now) t }
     {
         let start = self.block_of(o) + 2;
         self.load_as::<Brand>(pass, start + word, o, 0, word)

@@ -9,3 +9,5 @@ pub mod Putting
 pub mod Whole
 pub mod Freeing
 mod Seen
+pub mod Retiring
+pub mod Reusing

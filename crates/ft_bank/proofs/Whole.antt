@@ -15,7 +15,7 @@ use Rattle.ft_trace.specs.Acts.{is_writing, stage, debt, mem, noted}
 use Rattle.ft_trace.specs.Worlds.{kept, changes}
 use Rattle.ft_trace.specs.Words.{picture, root_in, Stands}
 use Rattle.ft_trace.specs.Holds.{held, known}
-use Rattle.ft_bank.specs.Writes.{MayHave, Committed, KeepsUnwritten}
+use Rattle.ft_bank.specs.Writes.{Committed, KeepsUnwritten}
 use Rattle.ft_trace.proofs.Cases.{hit, miss}
 use Rattle.ft_trace.proofs.Untouched.{untouched_in}
 use Rattle.ft_bank.specs.Whole.{SamePass, SameWork, OnlyLoaded, OnlyPut, EndsWrite, Wrote, hand_after, debt_after, write_entry}

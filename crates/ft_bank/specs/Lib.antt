@@ -9,6 +9,8 @@ pub mod Locks
 pub mod Writes
 pub mod Reads
 pub mod Tables
+pub mod Retired
+pub mod Reuse
 pub mod Closings
 pub mod Whole
 pub mod Answered

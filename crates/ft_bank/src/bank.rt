@@ -11,6 +11,7 @@ ghost use Rattle.ft_bank.specs.Tables.{starts_from, sizes_from};
 use crate::closed::Closed;
 use crate::opening::{class_sizes, class_starts, opening_words};
 use crate::pass::Pass;
+use crate::retired::RETIRED;
 use crate::rule::{Law, Shares};
 use crate::sections::{Sections, Taking};
 use crate::shape::{MakeFault, Shape};
@@ -67,6 +68,7 @@ impl Bank {
             sections: Sections::none(),
             own: Taking::NONE,
             mark: None,
+            retired: [0; RETIRED],
             seat,
         };
         Ok((bank, pass))
@@ -94,6 +96,7 @@ impl Bank {
             sections: Sections::none(),
             own: Taking::NONE,
             mark: None,
+            retired: [0; RETIRED],
             seat,
         }
     }
@@ -117,6 +120,7 @@ impl Bank {
             sections: _,
             own: _,
             mark: _,
+            retired: _,
             seat,
         } = other;
         self.settle_as::<Brand>(&mut pass.seat, seat);

@@ -18,6 +18,8 @@ mod pass;
 mod passes;
 mod places;
 mod reads;
+mod retired;
+mod reuse;
 mod rule;
 mod sections;
 mod shape;

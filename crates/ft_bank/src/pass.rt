@@ -3,7 +3,9 @@
 ghost use Rattle.std.specs.Prelude.{◌≡◌, ◌+◌, ◌<◌, ◌≤◌, [], suc};
 ghost use Rattle.ft_trace.specs.Acts.{shown};
 ghost use Rattle.ft_trace.specs.Traces.{Possible};
+ghost use Rattle.ft_bank.specs.Retired.{AreRetired};
 
+use crate::retired::RETIRED;
 use crate::sections::{Sections, Taking};
 use atomic_table::Seat;
 use ft_trace::View;
@@ -17,6 +19,7 @@ pub struct Pass {
     pub(crate) sections: Sections,
     pub(crate) own: Taking,
     pub(crate) mark: Option<u32>,
+    pub(crate) retired: [u64; RETIRED],
     pub(crate) seat: Seat<(), View>,
     ghost bare: { seat.me.1 ≡ [] },
     ghost numbered: { seat.me.0.number ≡ suc number },
@@ -24,6 +27,7 @@ pub struct Pass {
     ghost leaves: { left ≡ seat.me.0.left },
     ghost awake: { 0 < seat.me.0.tokens },
     ghost settled: { seat.me.0.learnt ≤ shown seat.me.0.log },
+    ghost retiring: { AreRetired retired seat.me.0 },
     ghost possible: { ∥ Possible seat.me.0 ∥₁ },
 }
 

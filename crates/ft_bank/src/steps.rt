@@ -6,11 +6,16 @@ ghost use Rattle.ft_trace.specs.declared.Snap.{Snap};
 ghost use Rattle.ft_trace.specs.Addresses.{extent, at};
 ghost use Rattle.ft_trace.specs.Acts.{place, word_after, left_next, noted, both};
 ghost use Rattle.ft_trace.specs.Traces.{IsFree, IsAwake, Ready, ReadyAs, Does as Acts, DoesAs};
+ghost use Rattle.ft_trace.specs.declared.Act.TheVariants.{GiveTable, PutHeader};
+ghost use Rattle.ft_bank.specs.Retired.{LeavesRetired};
+ghost use Rattle.ft_bank.specs.Tables.{name_of, IsTableIn};
 ghost use Rattle.ft_bank.specs.Rules.{Acted, LeavesWrites};
 
 use crate::bank::Bank;
 use crate::pass::Pass;
+use crate::retired::{clear_bit, set_bit};
 use crate::rule::{Does, Finds, Keeping, Keeps, Saying, Shares};
+use crate::table::Table;
 use atomic_table::Seat;
 use ft_model::{Call, Reply};
 use ft_trace::View;
@@ -32,6 +37,7 @@ impl Bank {
         requires act { Acts (view pass.old) word (λ n. n) A.act }
         requires ready { Ready (view pass.old) word A.act }
         requires left { LeavesWrites (view pass.old) (λ n _. A.act n) }
+        requires retired { LeavesRetired (λ n _. A.act n) }
         ensures did { Did (A.act result) pass.old pass.new }
         ensures acted { Acted (view pass.old) (A.act result) }
     {
@@ -57,6 +63,7 @@ impl Bank {
         requires ready { Ready (view pass.old) word (λ _. A.act 0) }
         requires same { A.act value ≡ A.act 0 }
         requires left { LeavesWrites (view pass.old) (λ n _. A.act n) }
+        requires retired { LeavesRetired (λ n _. A.act n) }
         ensures did { Did (A.act 0) pass.old pass.new }
         ensures acted { Acted (view pass.old) (A.act 0) }
     {
@@ -73,6 +80,7 @@ impl Bank {
         requires act { Acts (view pass.old) word (λ n. (n + 1) % 2 ^ 64) A.act }
         requires ready { Ready (view pass.old) word A.act }
         requires left { LeavesWrites (view pass.old) (λ n _. A.act n) }
+        requires retired { LeavesRetired (λ n _. A.act n) }
         ensures did { Did (A.act result) pass.old pass.new }
         ensures acted { Acted (view pass.old) (A.act result) }
     {
@@ -96,6 +104,7 @@ impl Bank {
         requires act { Acts (view pass.old) word (λ n. either (n == old) new n) A.act }
         requires ready { Ready (view pass.old) word A.act }
         requires left { LeavesWrites (view pass.old) (λ n _. A.act n) }
+        requires retired { LeavesRetired (λ n _. A.act n) }
         ensures did { Did (A.act result) pass.old pass.new }
         ensures acted { Acted (view pass.old) (A.act result) }
     {
@@ -112,6 +121,7 @@ impl Bank {
         requires act { DoesAs (view pass.old) word (λ n. bit_and n mask) A.act }
         requires ready { ReadyAs (view pass.old) word A.act }
         requires left { LeavesWrites (view pass.old) A.act }
+        requires retired { LeavesRetired A.act }
         ensures did { (s : Snap) × Did (A.act result s) pass.old pass.new × Acted (view pass.old) (A.act result s) }
     {
         let _ = t;
@@ -120,19 +130,38 @@ impl Bank {
             .fetch_and::<Keeps<A>>(&mut pass.seat, word as usize, mask)
     }
 
-    /// Sets in a word the bits that a mask has.
-    pub(crate) fn set_as<A: Saying>(&self, pass: &mut Pass, word: u64, mask: u64, t: u64)
+    /// Sets in a free word the bits that a mask has, which gives back a table: the pass keeps it no longer.
+    pub(crate) fn give_as<A: Saying>(&self, pass: &mut Pass, word: u64, mask: u64, table: Table)
         requires pass { IsPassOf self.now pass.old }
         requires word { word < extent (shape_of self.now) }
+        requires table { IsTableIn (shape_of self.now) table }
         requires act { Acts (view pass.old) word (λ n. bit_or n mask) A.act }
         requires ready { Ready (view pass.old) word A.act }
-        requires left { LeavesWrites (view pass.old) (λ n _. A.act n) }
-        ensures did { (n : ℕ) × Did (A.act n) pass.old pass.new × Acted (view pass.old) (A.act n) }
+        requires is { (n : ℕ) → A.act n ≡ GiveTable (name_of table) }
+        ensures did { Did (GiveTable (name_of table)) pass.old pass.new }
+        ensures acted { Acted (view pass.old) (GiveTable (name_of table)) }
     {
-        let _ = t;
         self.table
             .shared
             .fetch_or::<Does<A>>(&mut pass.seat, word as usize, mask);
+        clear_bit(&mut pass.retired, table);
+    }
+
+    /// Puts the goal of a retired table into its header: from then on the pass keeps it.
+    pub(crate) fn goal_as<A: Saying>(&self, pass: &mut Pass, word: u64, goal: u64, table: Table)
+        requires pass { IsPassOf self.now pass.old }
+        requires word { word < extent (shape_of self.now) }
+        requires table { IsTableIn (shape_of self.now) table }
+        requires act { Acts (view pass.old) word (λ _. goal) (λ _. A.act 0) }
+        requires ready { Ready (view pass.old) word (λ _. A.act 0) }
+        requires is { (n : ℕ) → A.act n ≡ PutHeader (name_of table) goal }
+        ensures did { Did (PutHeader (name_of table) goal) pass.old pass.new }
+        ensures acted { Acted (view pass.old) (PutHeader (name_of table) goal) }
+    {
+        self.table
+            .shared
+            .store::<Does<A>>(&mut pass.seat, word as usize, goal);
+        set_bit(&mut pass.retired, table);
     }
 
     /// Loads a word, which is an action only where it isn't 0.
@@ -143,6 +172,7 @@ impl Bank {
             × (word_after (view pass.old).number (A.act n s) n ≡ n) }
         requires ready { ReadyAs (view pass.old) word A.act }
         requires left { LeavesWrites (view pass.old) A.act }
+        requires retired { LeavesRetired A.act }
         ensures none { result ≡ 0 → DidNothing pass.old pass.new }
         ensures did { result ≢ 0 → (s : Snap) × Did (A.act result s) pass.old pass.new × Acted (view pass.old) (A.act result s) }
     {
@@ -159,6 +189,7 @@ impl Bank {
         requires act { DoesAs (view pass.old) word (λ n. either (n == 0) (view pass.old).number n) A.act }
         requires ready { ReadyAs (view pass.old) word A.act }
         requires left { LeavesWrites (view pass.old) A.act }
+        requires retired { LeavesRetired A.act }
         ensures did { (s : Snap) × Did (A.act result s) pass.old pass.new × Acted (view pass.old) (A.act result s) }
     {
         let _ = o;
@@ -175,6 +206,7 @@ impl Bank {
         requires ready { ReadyAs (view pass.old) 0 A.act }
         requires room { 0 < (view pass.old).left }
         requires left { (n : ℕ) (s : Snap) → left_next (A.act n s) (view pass.old).left + 1 ≡ (view pass.old).left }
+        requires retired { LeavesRetired A.act }
         ensures did { (s : Snap) × Did (A.act result s) pass.old pass.new × Acted (view pass.old) (A.act result s) }
     {
         let _ = call;
@@ -200,6 +232,7 @@ impl Bank {
         requires ready { Ready (view pass.old) 0 A.act }
         requires room { 0 < (view pass.old).left }
         requires left { (n : ℕ) → left_next (A.act n) (view pass.old).left + 1 ≡ (view pass.old).left }
+        requires retired { LeavesRetired (λ n _. A.act n) }
         ensures { (n : ℕ) × Did (A.act n) pass.old pass.new }
     {
         let _ = call;

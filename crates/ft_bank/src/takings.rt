@@ -153,7 +153,7 @@ impl Bank {
     }
 
     /// Sets the bit of a table that may be given back.
-    fn set_bit(&self, pass: &mut Pass, table: Table)
+    pub(crate) fn set_bit(&self, pass: &mut Pass, table: Table)
         requires pass { IsPassOf self.now pass.old }
         requires table { IsTableIn (shape_of self.now) table }
         requires may { MayGive (name_of table) (view pass.old) }
@@ -163,7 +163,7 @@ impl Bank {
     {
         let word = free_word(table.class, table.number / BITS);
         let bit = table.number % BITS;
-        self.set_as::<Brand>(pass, word, 1 << bit, table.name());
+        self.give_as::<Brand>(pass, word, 1 << bit, table);
     }
 
     /// Loads the count of a class.
@@ -192,7 +192,7 @@ impl Bank {
     }
 
     /// Raises the count of a class by one, at the end of a giving, or of a taking that found no bit.
-    fn raise_count(&self, pass: &mut Pass, class: u32)
+    pub(crate) fn raise_count(&self, pass: &mut Pass, class: u32)
         requires pass { IsPassOf self.now pass.old }
         requires class { IsClass class }
         requires flight { (flight (view pass.old).log ≡ 2 * class + 1) ⊎ (flight (view pass.old).log ≡ 2 * class + 2) }

@@ -1,3 +1,4 @@
+use Rattle.std.specs.Prelude.{[]}
 use Rattle.std.proofs.Common.{sym, ap, ◌∙◌, subst, arith}
 use Rattle.ft_trace.specs.declared.View.{View}
 use Rattle.ft_trace.specs.Addresses.{counter}
@@ -5,6 +6,7 @@ use Rattle.ft_trace.specs.Traces.{Possible}
 use Rattle.ft_trace.proofs.Addresses.{at_low}
 use Rattle.ft_bank.specs.Shapes.{plan}
 use Rattle.ft_bank.proofs.Allowed.{found, alive, acted_possible, token_kept, still_settled}
+use Rattle.ft_bank.proofs.Retiring.{retired_by}
 use Rattle.ft_bank.proofs.bank.Bank.answer_as.Goals as goal
 
 pub load-requires : goal.load-requires
@@ -22,5 +24,6 @@ invariant_of-pass g c =
       leaves = omega (arith, p.leaves, c.requires.left c.load.result, ap (λ (v : View). v.left) e.0);
       awake = token_kept _ _ (ap (λ v. v.tokens) e.0) p.awake;
       settled = still_settled p.seat.me.0 _ _ e.0 p.settled;
+      retiring = retired_by _ _ _ _ e.0 (λ t b. c.requires.retired _ (record { words = []; calls = [] }) t b) p.retiring;
       possible = ∣ subst Possible (sym e.0) (acted_possible p.seat.me.0 _ e.2) ∣₁;
     }

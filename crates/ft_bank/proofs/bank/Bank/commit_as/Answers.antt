@@ -5,6 +5,7 @@ use Rattle.ft_trace.specs.Traces.{Possible}
 use Rattle.ft_trace.proofs.Addresses.{at_low}
 use Rattle.ft_bank.specs.Shapes.{plan}
 use Rattle.ft_bank.proofs.Allowed.{kept, alive, acted_possible, token_kept, still_settled}
+use Rattle.ft_bank.proofs.Retiring.{retired_by}
 use Rattle.ft_bank.proofs.bank.Bank.commit_as.Goals as goal
 
 pub fetch_add-number-requires : goal.fetch_add-number-requires
@@ -23,5 +24,6 @@ invariant_of-pass g c =
       leaves = omega (arith, l, ap (λ (v : View). v.left) e.0);
       awake = token_kept _ _ (ap (λ v. v.tokens) e.0) p.awake;
       settled = still_settled p.seat.me.0 _ _ e.0 p.settled;
+      retiring = retired_by _ _ _ _ e.0 (λ t b. c.requires.retired _ c.fetch_add-number.ensures.2.0 t b) p.retiring;
       possible = ∣ subst Possible (sym e.0) (acted_possible p.seat.me.0 _ e.2) ∣₁;
     }

@@ -1,4 +1,4 @@
-use Rattle.std.proofs.Common.{◌+◌, ◌*◌, ◌^◌, ◌<◌, sym, ap, ◌∙◌, subst, arith}
+use Rattle.std.proofs.Common.{refl, ◌+◌, ◌*◌, ◌^◌, ◌<◌, sym, ap, ◌∙◌, subst, arith}
 use Rattle.ft_trace.specs.declared.Shape.{Shape}
 use Rattle.ft_trace.specs.declared.View.{View}
 use Rattle.ft_trace.specs.declared.Act.TheVariants.{ReadCounter}
@@ -8,6 +8,7 @@ use Rattle.ft_bank.specs.Passes.{view}
 use Rattle.ft_bank.proofs.Allowed.{acted_possible}
 use Rattle.ft_bank.proofs.Knowing.{left_low}
 use Rattle.ft_bank.proofs.Seen.{load_settles}
+use Rattle.ft_bank.proofs.Retiring.{retired_by, retired_same}
 use Rattle.ft_bank.proofs.bank.Bank.join.Goals as goal
 
 pub overflow_add-pass : goal.overflow_add-pass
@@ -28,5 +29,6 @@ invariant_of-pass c =
       leaves = (λ j. p.leaves j + c.args.other.leaves j) ∙ sym (ap (λ (v : View). v.left) e);
       awake = (let token = p.awake in omega (arith, token, ap (λ (v : View). v.tokens) e));
       settled = load_settles (both (view p) (view c.args.other)) d.0 _ e d.2;
+      retiring = retired_by _ (both (view p) (view c.args.other)) _ (ReadCounter d.0) e (λ t b. refl) (retired_same _ (view p) (both (view p) (view c.args.other)) refl (λ t. refl) p.retiring);
       possible = ∣ subst Possible (sym e) (acted_possible (both (view p) (view c.args.other)) (ReadCounter d.0) d.2) ∣₁;
     }

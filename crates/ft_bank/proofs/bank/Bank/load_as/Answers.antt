@@ -3,6 +3,7 @@ use Rattle.std.specs.Prelude.{[]}
 use Rattle.ft_trace.specs.Traces.{Possible}
 use Rattle.ft_bank.specs.Shapes.{plan}
 use Rattle.ft_bank.proofs.Allowed.{found, alive, acted_possible, token_kept, still_settled}
+use Rattle.ft_bank.proofs.Retiring.{retired_by}
 use Rattle.ft_bank.proofs.bank.Bank.load_as.Goals as goal
 
 pub load-requires : goal.load-requires
@@ -20,5 +21,6 @@ invariant_of-pass g c =
       leaves = p.leaves ∙ (sym (c.requires.left _ (record { words = []; calls = [] })) ∙ sym (ap (λ v. v.left) e.0));
       awake = token_kept _ _ (ap (λ v. v.tokens) e.0) p.awake;
       settled = still_settled p.seat.me.0 _ _ e.0 p.settled;
+      retiring = retired_by _ _ _ _ e.0 (λ t b. c.requires.retired _ (record { words = []; calls = [] }) t b) p.retiring;
       possible = ∣ subst Possible (sym e.0) (acted_possible p.seat.me.0 _ e.2) ∣₁;
     }

@@ -9,6 +9,8 @@ use Rattle.ft_bank.specs.Shapes.{plan}
 use Rattle.ft_bank.specs.Slips.{slip}
 use Rattle.ft_bank.proofs.Allowed.{alive, sends, same_settled, token_kept}
 use Rattle.ft_bank.proofs.Seen.{note_is, sender_is}
+use Rattle.ft_trace.specs.Acts.{has_goal}
+use Rattle.ft_bank.proofs.Retiring.{retired_same}
 use Rattle.ft_bank.proofs.bank.Bank.note.Goals as goal
 
 pub split_seat-seat-requires : goal.split_seat-seat-requires
@@ -27,6 +29,7 @@ invariant_of-pass c =
       leaves = p.leaves ∙ sym (ap (λ (v : View). v.left) same);
       awake = token_kept _ _ (ap (λ (v : View). v.tokens) same) p.awake;
       settled = same_settled _ _ same p.settled;
+      retiring = retired_same _ _ _ (ap (λ (v : View). v.shape) same) (λ t. ap (λ (v : View). has_goal t v.log) same) p.retiring;
       possible = ∥∥₁_map p.possible (λ x. subst Possible (sym same) x);
     }
 

@@ -1,5 +1,6 @@
 use Rattle.ft_trace.specs.declared.Act.TheVariants.{GiveTable}
+use Rattle.ft_bank.specs.Tables.{name_of}
 use Rattle.ft_bank.proofs.bank.Bank.set_bit.Given as goal
 
-abbrev pub ghosts-set_as : goal.ghosts-set_as
-ghosts-set_as a = record { act = λ n. GiveTable a.t }
+abbrev pub ghosts-give_as : goal.ghosts-give_as
+ghosts-give_as a = record { act = λ n. GiveTable (name_of a.table) }

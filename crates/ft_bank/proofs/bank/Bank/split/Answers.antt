@@ -8,6 +8,8 @@ use Rattle.ft_trace.proofs.Addresses.{at_low}
 use Rattle.ft_trace.proofs.Sharing.{maker_possible, made_possible}
 use Rattle.ft_bank.specs.Shapes.{plan}
 use Rattle.ft_bank.proofs.Allowed.{cuts, same_settled}
+use Rattle.ft_trace.specs.Acts.{has_goal}
+use Rattle.ft_bank.proofs.Retiring.{retired_same, retired_none}
 use Rattle.ft_bank.proofs.bank.Bank.split.Goals as goal
 
 pub split_seat-seat-requires : goal.split_seat-seat-requires
@@ -24,6 +26,7 @@ invariant_of-pass c =
       leaves = omega (arith, p.leaves, calls, ap (λ m. m.0.left) e);
       awake = (let two = c.requires.may.tokens in omega (arith, two, ap (λ m. m.0.tokens) e));
       settled = same_settled _ (maker p.seat.me.0) (ap (λ m. m.0) e) p.settled;
+      retiring = retired_same _ _ _ (ap (λ m. m.0.shape) e) (λ t. ap (λ m. has_goal t m.0.log) e) p.retiring;
       possible = ∥∥₁_map p.possible (λ x. subst Possible (sym (ap (λ m. m.0) e)) (maker_possible p.seat.me.0 c.requires.may x));
     }
 
@@ -38,6 +41,7 @@ invariant_of-result c =
       leaves = calls ∙ sym (ap (λ m. m.0.left) e);
       awake = omega (arith, ap (λ m. m.0.tokens) e);
       settled = same_settled _ (made p.seat.me.0) (ap (λ m. m.0) e) (omega arith);
+      retiring = retired_none _ (ap (λ m. m.0.log) e);
       possible = ∥∥₁_map p.possible (λ x. subst Possible (sym (ap (λ m. m.0) e)) (made_possible p.seat.me.0 c.requires.may x));
     }
   where

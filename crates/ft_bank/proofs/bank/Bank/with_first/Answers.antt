@@ -6,6 +6,7 @@ use Rattle.ft_bank.specs.Shapes.{plan}
 use Rattle.ft_bank.proofs.Starting.{fits_of}
 use Rattle.ft_bank.proofs.Allowed.{same_settled}
 use Rattle.ft_trace.specs.Acts.{starter}
+use Rattle.ft_bank.proofs.Retiring.{retired_none}
 use Rattle.ft_bank.proofs.bank.Bank.with_first.Goals as goal
 
 pub of_words-requires : goal.of_words-requires
@@ -20,6 +21,7 @@ invariant_of-pass c =
       leaves = (λ d. c.from.ensures d * c.from-2.ensures d) ∙ sym (ap (λ m. m.0.left) e);
       awake = (let some_pass = c.requires.passes.0 in omega (arith, some_pass, ap (λ m. m.0.tokens) e));
       settled = same_settled _ (starter (plan c.args.shape)) (ap (λ m. m.0) e) (omega arith);
+      retiring = retired_none _ (ap (λ m. m.0.log) e);
       possible = ∣ subst Possible (sym (ap (λ m. m.0) e)) ([], 0, (fits_of c.args.shape c.requires, refl)) ∣₁;
     }
 

@@ -1,0 +1,169 @@
+-- The bits of retired tables after a step of their pass.
+use Rattle.std.proofs.Common.{◌≡◌, ◌≢◌, ◌⊎◌, ℕ, ◌+◌, ◌-◌, ◌*◌, ◌/◌, ◌%◌, ◌^◌, ◌<◌, ◌≤◌, Bool, true, false, true≢false, List, [], length, refl, sym, ap, ◌∙◌, subst, inl, inr, ⊎_elim, arith, length-set, get_or-set_same, get_or-set_other}
+use Rattle.std.specs.Prelude.{slice_index, slice_set, replicate}
+use mathlib.Core.Logic.{dite}
+use native.Mathlib.Decide.{ℕ_discrete}
+use Rattle.ft_model.specs.Classes.{IsClass}
+use Rattle.ft_trace.specs.declared.Act.TheVariants.{GiveTable, PutHeader}
+use Rattle.ft_trace.specs.Addresses.{free_word_of, free_bit_of, tables_in}
+use Rattle.ft_trace.proofs.Addresses.{fw_low, bt_low, same_bit}
+use Rattle.ft_trace.proofs.Bits.{off_same, off_else, on_same, on_else}
+use Rattle.ft_trace.proofs.Cases.{miss, here as here_as}
+use Rattle.ft_bank.proofs.Freeing.{word_is, bit_is}
+use Rattle.ft_bank.proofs.Tables.{named}
+use Rattle.std.proofs.lemmas.List.{get_or-replicate}
+use native.Mathlib.Nat.{zero-div}
+use Rattle.ft_trace.specs.declared.Act.{Act}
+use Rattle.ft_trace.specs.declared.Shape.{Shape}
+use Rattle.ft_trace.specs.declared.View.{View}
+use Rattle.ft_trace.specs.Acts.{has_goal, has_goal_next, noted}
+use Rattle.ft_trace.specs.Bits.{bit, bit_on, bit_off}
+use Rattle.ft_bank.specs.declared.table.Table.{Table}
+use Rattle.ft_bank.specs.Tables.{name_of, IsTableIn}
+use Rattle.ft_bank.specs.Retired.{AreRetired, table_of_bit}
+
+-- the same tables are retired
+pub retired_same : (words : List ℕ) (v w : View) → w.shape ≡ v.shape → ((t : ℕ) → has_goal t w.log ≡ has_goal t v.log) → AreRetired words v → AreRetired words w
+retired_same words v w shape same old = record {
+  long = old.long;
+  some = λ n b low small one.
+      let o = old.some n b low small one in
+      (subst (λ (z : Shape). IsTableIn z (table_of_bit n b)) (sym shape) o.0, same (name_of (table_of_bit n b)) ∙ o.1);
+  all = λ t table has. old.all t (subst (λ (z : Shape). IsTableIn z t) shape table) (sym (same (name_of t)) ∙ has);
+}
+
+pub retired_by : (words : List ℕ) (v w : View) (a : Act) → w ≡ noted a v → ((t : ℕ) (b : Bool) → has_goal_next t a b ≡ b) → AreRetired words v → AreRetired words w
+retired_by words v w a is leaves old = retired_same words v w (ap (λ (u : View). u.shape) is) (λ t. ap (λ (u : View). has_goal t u.log) is ∙ leaves t (has_goal t v.log)) old
+
+bit_zero : (b : ℕ) → bit b 0 ≡ 0
+unfolding bit
+bit_zero b = ap (λ (z : ℕ). z % 2) (zero-div (2 ^ b))
+
+-- at first none is
+pub retired_none : (v : View) → v.log ≡ [] → AreRetired (replicate 224 0) v
+retired_none v none = record {
+  long = refl;
+  some = λ n b low small one. absurd (let z = ap (bit b) (get_or-replicate 224 n 0 0 low) ∙ bit_zero b in omega (arith, z, one));
+  all = λ t table has. absurd (true≢false (sym (sym (ap (has_goal (name_of t)) none) ∙ has)));
+}
+
+-- the bit of a table is its own
+pub bits_of : (n b : ℕ) → n < 224 → b < 64 → (free_word_of (name_of (table_of_bit n b)) ≡ n) × (free_bit_of (name_of (table_of_bit n b)) ≡ b)
+bits_of n b low small =
+    let q = table_of_bit n b in
+    let less : 64 * (n % 16) + b < 1024 = omega (arith, low, small) in
+    let class : IsClass (3 + n / 16) = record { least = omega arith; greatest = omega (arith, low) } in
+    let w = word_is q class less in
+    let c = bit_is q less in
+    (omega (arith, w, small), omega (arith, c, small))
+
+-- the table of the word and bit that a table has is the table
+table_named : (t : Table) (n b : ℕ) → n ≡ 16 * (t.class - 3) + t.number / 64 → b ≡ t.number % 64 → 3 ≤ t.class → t.number < 1024 → name_of t ≡ name_of (table_of_bit n b)
+table_named t n b e f class low =
+    let c : 3 + n / 16 ≡ t.class = omega (arith, e, class, low) in
+    let m : 64 * (n % 16) + b ≡ t.number = omega (arith, e, f, low) in
+    omega (arith, c, m)
+
+named_back : (k : Shape) (t q : Table) → IsTableIn k t → name_of t ≡ name_of q → q.number < 1024 + 64 → IsTableIn k q
+named_back k t q is same less =
+    let low = is.2 in
+    let c : q.class ≡ t.class = omega (arith, same, less, low) in
+    let n : q.number ≡ t.number = omega (arith, same, less, low) in
+    subst (λ (z : ℕ × ℕ). IsClass z.0 × (z.1 < tables_in k z.0) × (z.1 < 1024)) (λ i. (sym c i, sym n i)) is
+
+abbrev pub word_set : List ℕ → Table → ℕ → List ℕ
+word_set words t x = slice_set words (free_word_of (name_of t)) x
+
+module _ (words : List ℕ) (v w : View) (t : Table) (table : IsTableIn v.shape t) (old : AreRetired words v) where
+  abbrev fw : ℕ
+  fw = free_word_of (name_of t)
+
+  abbrev fb : ℕ
+  fb = free_bit_of (name_of t)
+
+  there : fw < length words
+  there = let l = old.long in let low = fw_low v.shape (name_of t) (named v.shape t table) in omega (arith, l, low)
+
+  -- a word after one bit of it was changed
+  at_word : (x n : ℕ) → n ≡ fw → slice_index (word_set words t x) n ≡ x
+  at_word x n e = ap (slice_index (word_set words t x)) e ∙ get_or-set_same words fw x 0 there
+
+  at_else : (x n : ℕ) → n ≢ fw → slice_index (word_set words t x) n ≡ slice_index words n
+  at_else x n ne = get_or-set_other words fw n x 0 ne
+
+  -- another bit is another table's
+  apart : (n b : ℕ) → n < 224 → b < 64 → ((n ≡ fw → b ≢ fb)) → name_of t ≢ name_of (table_of_bit n b)
+  apart n b low small ne e = let o = bits_of n b low small in ne (sym o.0 ∙ ap free_word_of (sym e)) (sym o.1 ∙ ap free_bit_of (sym e))
+
+  pub given_back : w ≡ noted (GiveTable (name_of t)) v → AreRetired (word_set words t (bit_off fb (slice_index words fw))) w
+  given_back is = record {
+    long = length-set words fw (bit_off fb (slice_index words fw)) ∙ old.long;
+    some = λ n b low small one.
+        let x = bit_off fb (slice_index words fw) in
+        let was : ((n ≡ fw → b ≢ fb)) × (bit b (slice_index words n) ≡ 1) =
+        dite (ℕ_discrete n fw)
+        (λ (e : n ≡ fw).
+        let now : bit b x ≡ 1 = sym (ap (bit b) (at_word x n e)) ∙ one in
+        dite (ℕ_discrete b fb)
+        (λ (f : b ≡ fb). absurd (let z = off_same fb (slice_index words fw) (bt_low (name_of t)) in let y : bit fb x ≡ 1 = ap (λ (i : ℕ). bit i x) (sym f) ∙ now in omega (arith, z, y)))
+        (λ far. ((λ _. far), ap (λ (i : ℕ). bit b (slice_index words i)) e ∙ (sym (off_else fb b (slice_index words fw) (bt_low (name_of t)) small (λ z. far (sym z))) ∙ now))))
+        (λ far. ((λ e. absurd (far e)), sym (ap (bit b) (at_else x n far)) ∙ one)) in
+        let o = old.some n b low small was.1 in (
+          subst (λ (z : Shape). IsTableIn z (table_of_bit n b)) (sym (ap (λ (u : View). u.shape) is)) o.0,
+          ap (λ (u : View). has_goal (name_of (table_of_bit n b)) u.log) is ∙ (miss (name_of t) (name_of (table_of_bit n b)) false _ (apart n b low small was.0) ∙ o.1),
+        );
+    all = λ q inside has.
+        let x = bit_off fb (slice_index words fw) in
+        let here : IsTableIn v.shape q = subst (λ (z : Shape). IsTableIn z q) (ap (λ (u : View). u.shape) is) inside in
+        let now : has_goal_next (name_of q) (GiveTable (name_of t)) (has_goal (name_of q) v.log) ≡ true = sym (ap (λ (u : View). has_goal (name_of q) u.log) is) ∙ has in
+        let ne : name_of t ≢ name_of q = λ e. true≢false (sym now ∙ here_as (name_of t) (name_of q) false _ e) in
+        let o = old.all q here (sym (miss (name_of t) (name_of q) false _ ne) ∙ now) in
+        dite (ℕ_discrete (free_word_of (name_of q)) fw)
+        (λ (e : free_word_of (name_of q) ≡ fw).
+        let far : fb ≢ free_bit_of (name_of q) = λ z. ne (same_bit v.shape (name_of t) (name_of q) (named v.shape t table) (named v.shape q here) (sym e) z) in
+        ap (bit (free_bit_of (name_of q))) (at_word x (free_word_of (name_of q)) e) ∙ (off_else fb (free_bit_of (name_of q)) (slice_index words fw) (bt_low (name_of t)) (bt_low (name_of q)) far ∙ (ap (λ (i : ℕ). bit (free_bit_of (name_of q)) (slice_index words i)) (sym e) ∙ o)))
+        (λ far. ap (bit (free_bit_of (name_of q))) (at_else x (free_word_of (name_of q)) far) ∙ o);
+  }
+
+  pub goal_put : (g : ℕ) → w ≡ noted (PutHeader (name_of t) g) v → AreRetired (word_set words t (bit_on fb (slice_index words fw))) w
+  goal_put g is = record {
+    long = length-set words fw (bit_on fb (slice_index words fw)) ∙ old.long;
+    some = λ n b low small one.
+        let x = bit_on fb (slice_index words fw) in
+        let q = table_of_bit n b in
+        let mine : (n ≡ fw) → (b ≡ fb) → name_of t ≡ name_of q =
+        λ e f. (let less = table.2 in let class = table.0.least in let wi = word_is t table.0 less in let bi = bit_is t less in table_named t n b (e ∙ wi) (f ∙ bi) class less) in
+        let was : ((n ≡ fw) × (b ≡ fb)) ⊎ (((n ≡ fw → b ≢ fb)) × (bit b (slice_index words n) ≡ 1)) =
+        dite (ℕ_discrete n fw)
+        (λ (e : n ≡ fw).
+        let now : bit b x ≡ 1 = sym (ap (bit b) (at_word x n e)) ∙ one in
+        dite (ℕ_discrete b fb) (λ (f : b ≡ fb). inl (e, f))
+        (λ far. inr ((λ _. far), ap (λ (i : ℕ). bit b (slice_index words i)) e ∙ (sym (on_else fb b (slice_index words fw) (bt_low (name_of t)) (λ z. far (sym z))) ∙ now))))
+        (λ far. inr ((λ e. absurd (far e)), sym (ap (bit b) (at_else x n far)) ∙ one)) in
+        ⊎_elim
+        (λ (z : (n ≡ fw) × (b ≡ fb)). (
+          subst (λ (y : Shape). IsTableIn y q) (sym (ap (λ (u : View). u.shape) is)) (named_back v.shape t q table (mine z.0 z.1) (omega (arith, small))),
+          ap (λ (u : View). has_goal (name_of q) u.log) is ∙ here_as (name_of t) (name_of q) true _ (mine z.0 z.1),
+        ))
+        (λ (z : ((n ≡ fw → b ≢ fb)) × (bit b (slice_index words n) ≡ 1)).
+        let o = old.some n b low small z.1 in (
+          subst (λ (y : Shape). IsTableIn y q) (sym (ap (λ (u : View). u.shape) is)) o.0,
+          ap (λ (u : View). has_goal (name_of q) u.log) is ∙ (miss (name_of t) (name_of q) true _ (apart n b low small z.0) ∙ o.1),
+        )) was;
+    all = λ q inside has.
+        let x = bit_on fb (slice_index words fw) in
+        let here : IsTableIn v.shape q = subst (λ (z : Shape). IsTableIn z q) (ap (λ (u : View). u.shape) is) inside in
+        dite (ℕ_discrete (name_of t) (name_of q))
+        (λ (e : name_of t ≡ name_of q).
+        let w_is = ap free_word_of e in
+        let b_is = ap free_bit_of e in
+        ap (bit (free_bit_of (name_of q))) (at_word x (free_word_of (name_of q)) (sym w_is)) ∙ (ap (λ (i : ℕ). bit i x) (sym b_is) ∙ on_same fb (slice_index words fw) (bt_low (name_of t))))
+        (λ ne.
+        let now : has_goal_next (name_of q) (PutHeader (name_of t) g) (has_goal (name_of q) v.log) ≡ true = sym (ap (λ (u : View). has_goal (name_of q) u.log) is) ∙ has in
+        let o = old.all q here (sym (miss (name_of t) (name_of q) true _ ne) ∙ now) in
+        dite (ℕ_discrete (free_word_of (name_of q)) fw)
+        (λ (e : free_word_of (name_of q) ≡ fw).
+        let far : fb ≢ free_bit_of (name_of q) = λ z. ne (same_bit v.shape (name_of t) (name_of q) (named v.shape t table) (named v.shape q here) (sym e) z) in
+        ap (bit (free_bit_of (name_of q))) (at_word x (free_word_of (name_of q)) e) ∙ (on_else fb (free_bit_of (name_of q)) (slice_index words fw) (bt_low (name_of t)) far ∙ (ap (λ (i : ℕ). bit (free_bit_of (name_of q)) (slice_index words i)) (sym e) ∙ o)))
+        (λ far. ap (bit (free_bit_of (name_of q))) (at_else x (free_word_of (name_of q)) far) ∙ o));
+  }

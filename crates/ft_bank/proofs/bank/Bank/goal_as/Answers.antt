@@ -1,0 +1,32 @@
+use Rattle.std.proofs.Common.{◌≡◌, sym, ap, ◌∙◌, subst, arith}
+use Rattle.ft_trace.specs.declared.Act.{Act}
+use Rattle.ft_trace.specs.declared.Shape.{Shape}
+use Rattle.ft_trace.specs.Acts.{left_next, noted}
+use Rattle.ft_trace.specs.Traces.{Possible}
+use Rattle.ft_bank.specs.Retired.{AreRetired}
+use Rattle.ft_bank.specs.Shapes.{plan}
+use Rattle.ft_bank.specs.Tables.{IsTableIn}
+use Rattle.ft_bank.proofs.Allowed.{stored, alive, acted_possible, token_kept, still_settled}
+use Rattle.ft_bank.proofs.Retiring.{goal_put}
+use Rattle.ft_bank.proofs.bank.Bank.goal_as.Goals as goal
+
+pub store-requires : goal.store-requires
+store-requires g c =
+    let p = c.args.pass.now in
+    (c.requires.pass.0, omega (arith, c.args.self.now.wide), stored p.seat.me p.seat.id c.args.word (λ _. c.args.goal) (alive _ p.seat.me.0 p.numbered p.awake) c.args.goal g.A.Saying.act (c.requires.is c.args.goal ∙ sym (c.requires.is 0)) c.requires.act c.requires.ready (plan c.args.self.now.table.shared.key) _)
+
+pub invariant_of-pass : goal.invariant_of-pass
+invariant_of-pass g c =
+    let p = c.args.pass.now in
+    let e = c.store.ensures.2 in
+    let is = c.requires.is c.args.goal in
+    let left : left_next (g.A.Saying.act c.args.goal) p.seat.me.0.left ≡ p.seat.me.0.left = ap (λ (a : Act). left_next a p.seat.me.0.left) is in record {
+      bare = e.1 ∙ p.bare;
+      numbered = ap (λ v. v.number) e.0 ∙ p.numbered;
+      following = p.following ∙ sym (ap (λ v. v.next) e.0);
+      leaves = p.leaves ∙ (sym left ∙ sym (ap (λ v. v.left) e.0));
+      awake = token_kept _ _ (ap (λ v. v.tokens) e.0) p.awake;
+      settled = still_settled p.seat.me.0 _ _ e.0 p.settled;
+      retiring = subst (λ l. AreRetired l c.store.new.seat.me.0) (sym c.set_bit.ensures) (goal_put p.retired p.seat.me.0 c.store.new.seat.me.0 c.args.table (subst (λ (z : Shape). IsTableIn z c.args.table) (sym c.requires.pass.1) c.requires.table) p.retiring c.args.goal (e.0 ∙ ap (λ (a : Act). noted a p.seat.me.0) is));
+      possible = ∣ subst Possible (sym e.0) (acted_possible p.seat.me.0 _ e.2) ∣₁;
+    }

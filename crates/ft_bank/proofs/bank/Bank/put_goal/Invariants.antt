@@ -1,0 +1,6 @@
+use Rattle.ft_trace.specs.declared.Act.TheVariants.{PutHeader}
+use Rattle.ft_bank.specs.Tables.{name_of}
+use Rattle.ft_bank.proofs.bank.Bank.put_goal.Given as goal
+
+abbrev pub ghosts-goal_as : goal.ghosts-goal_as
+ghosts-goal_as a = record { act = λ n. PutHeader (name_of a.table) a.goal }

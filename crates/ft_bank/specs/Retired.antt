@@ -1,0 +1,27 @@
+-- Which tables a pass keeps retired: a bit for each, in words like the bank's free words. (profile)
+use Rattle.std.specs.Prelude.{◌≡◌, ℕ, ◌+◌, ◌*◌, ◌/◌, ◌%◌, ◌<◌, Bool, true, List, length, slice_index}
+use Rattle.ft_trace.specs.declared.Act.{Act}
+use Rattle.ft_trace.specs.declared.Snap.{Snap}
+use Rattle.ft_trace.specs.declared.View.{View}
+use Rattle.ft_trace.specs.Addresses.{free_word_of, free_bit_of}
+use Rattle.ft_trace.specs.Acts.{has_goal, has_goal_next}
+use Rattle.ft_trace.specs.Bits.{bit}
+use Rattle.ft_bank.specs.declared.table.Table.{Table}
+use Rattle.ft_bank.specs.Tables.{name_of, IsTableIn}
+
+-- the table of a bit of the free words
+abbrev pub table_of_bit : ℕ → ℕ → Table
+table_of_bit word b = record { class = 3 + word / 16; number = 64 * (word % 16) + b }
+
+-- Each bit that is set is that of a table of the bank which the pass has retired and whose goal stands in its header, and
+-- each such table has its bit set.
+pub record AreRetired (words : List ℕ) (v : View) : Type 0 where
+  pub long : length words ≡ 224
+  pub some : (w b : ℕ) → w < 224 → b < 64 → bit b (slice_index words w) ≡ 1
+      → IsTableIn v.shape (table_of_bit w b) × (has_goal (name_of (table_of_bit w b)) v.log ≡ true)
+  pub all : (t : Table) → IsTableIn v.shape t → has_goal (name_of t) v.log ≡ true
+      → bit (free_bit_of (name_of t)) (slice_index words (free_word_of (name_of t))) ≡ 1
+
+-- the action puts no goal into a header, and gives no table back
+abbrev pub LeavesRetired : (ℕ → Snap → Act) → Type 0
+LeavesRetired act = (n : ℕ) (s : Snap) (t : ℕ) (b : Bool) → has_goal_next t (act n s) b ≡ b

@@ -7,7 +7,7 @@ use lib.ListN.{get_elem?}
 use Rattle.ft_trace.specs.declared.Shape.{Shape}
 use Rattle.ft_trace.specs.declared.View.{View}
 use Rattle.ft_trace.specs.declared.Act.{Act}
-use Rattle.ft_trace.specs.declared.Act.TheVariants.{Commit, ReadCounter}
+use Rattle.ft_trace.specs.declared.Act.TheVariants.{Commit, ReadCounter, TakeFloor}
 use Rattle.ft_trace.specs.Acts.{noted, shown, seen_writes, starter, maker, made, both, spent, sender, note}
 use Rattle.ft_trace.specs.Notes.{SeenIsLow, SeenIsHandedOn, LoadsSeeAll}
 use Rattle.ft_trace.specs.Traces.{Event, did, forked, joined, sent, run, Valid}
@@ -25,6 +25,10 @@ shown_low k es id v (Commit c r f s) ok low =
     max-le (omega (arith, up, low)) (omega (arith, up, found))
 shown_low k es id v (ReadCounter f) ok low =
     let up = one_rises k (did id v (ReadCounter f)) es ok in
+    let found : f ≡ count k es = ok.1.2 in
+    max-le (le_trans low up) (omega (arith, up, found))
+shown_low k es id v (TakeFloor f s) ok low =
+    let up = one_rises k (did id v (TakeFloor f s)) es ok in
     let found : f ≡ count k es = ok.1.2 in
     max-le (le_trans low up) (omega (arith, up, found))
 shown_low k es id v act ok low = le_trans low (one_rises k (did id v act) es ok)
@@ -65,6 +69,7 @@ seen_is_low k es valid = (
 pub shown_up : (a : Act) (l : List Act) → shown l ≤ shown (a ∷ l)
 shown_up (Commit c r f s) l = le-max_left (shown l) (f + 1)
 shown_up (ReadCounter f) l = le-max_left (shown l) f
+shown_up (TakeFloor f s) l = le-max_left (shown l) f
 shown_up act l = le_refl (shown l)
 
 pub seen_up : (a : Act) (v : View) → seen_writes v ≤ seen_writes (noted a v)

@@ -243,6 +243,7 @@ left_next act n = n
 abbrev pub shown_next : Act → ℕ → ℕ
 shown_next (ReadCounter f) n = max n f
 shown_next (Commit c r f s) n = max n (f + 1)
+shown_next (TakeFloor f s) n = max n f
 shown_next act n = n
 
 abbrev pub shown : List Act → ℕ

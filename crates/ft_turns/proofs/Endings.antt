@@ -12,7 +12,7 @@ use Rattle.ft_model.specs.Histories.{calls_of}
 use Rattle.ft_turns.specs.declared.machine.ThreadState.{ThreadState as StoredThread}
 use Rattle.ft_turns.specs.Orders.{ThreadState, fresh_thread, count_of_calls}
 use Rattle.ft_turns.specs.Ends.{AreFinished}
-use Rattle.ft_turns.specs.ThreadStates.{state_of, machine_with, marks_made, IsReady}
+use Rattle.ft_turns.specs.Internal.ThreadStates.{state_of, machine_with, marks_made, IsReady}
 
 -- ---- sums
 

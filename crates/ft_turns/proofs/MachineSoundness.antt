@@ -13,7 +13,7 @@ use Rattle.ft_model.specs.declared.script.ScriptParts.{ScriptParts}
 use Rattle.ft_model.specs.Histories.{calls_of, cursors_of}
 use Rattle.ft_model.specs.Scripts.{IsScript, IsThread, IsCallOf, AreNested}
 use Rattle.ft_turns.specs.Orders.{ThreadState, Machine, Locking, fresh_thread, start_machine, lower_first, locks_taken, take_locks, holder_of, thread_at, next_call, section_locks, innermost_containers, turn}
-use Rattle.ft_turns.specs.ThreadStates.{Tried, not_tried, answer_tried, finish_tried, answer_part, finish_part, newly_answered, placed}
+use Rattle.ft_turns.specs.Internal.ThreadStates.{Tried, not_tried, answer_tried, finish_tried, answer_part, finish_part, newly_answered, placed}
 use Rattle.ft_turns.specs.Wants.{so_far}
 use Rattle.ft_turns.specs.Ends.{steps_made}
 use Rattle.ft_turns.proofs.TurnParts.{turn_is, idle_turn}

@@ -16,11 +16,11 @@ use Rattle.ft_turns.specs.declared.order.Turn.{Turn}
 use Rattle.ft_turns.specs.declared.order.Turns.{Turns}
 use Rattle.ft_turns.specs.Orders.{ThreadState, Machine, start_machine, take_locks, thread_at, next_call, turn, turns_of}
 use Rattle.ft_turns.specs.Ends.{AreFinished}
-use Rattle.ft_turns.specs.ThreadStates.{state_of, machine_of, not_tried, answer_tried, answer_part, newly_answered, fixed_by}
-use Rattle.ft_turns.specs.Turning.{turns_left, IsTurning, IsTurn, IsOver}
+use Rattle.ft_turns.specs.Internal.ThreadStates.{state_of, machine_of, not_tried, answer_tried, answer_part, newly_answered, fixed_by}
+use Rattle.ft_turns.specs.Internal.Turning.{turns_left, IsTurning, IsTurn, IsOver}
 use Rattle.ft_turns.specs.Answering.{Answers, start_answers, Progress, start_progress, has_answered, has_finished, mark_given, with_turn, answered_turn, last_progress, marked_entry, answered_turns}
 use Rattle.ft_turns.specs.Chronicling.{IsAnswerable}
-use Rattle.ft_turns.specs.Runs.{call_followed, followed, IsAsked, IsAskedTurn}
+use Rattle.ft_turns.specs.Internal.Runs.{call_followed, followed, IsAsked, IsAskedTurn}
 use Rattle.ft_turns.proofs.Answerable.{answerable}
 use Rattle.ft_turns.proofs.Chronicled.{turn_machine}
 use Rattle.ft_turns.proofs.MachineSteps.{wanted}

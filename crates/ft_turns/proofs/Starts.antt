@@ -9,9 +9,9 @@ use Rattle.ft_model.specs.declared.script.ScriptParts.{ScriptParts}
 use Rattle.ft_model.specs.Histories.{calls_of, cursors_of}
 use Rattle.ft_model.specs.Calls.{container_list}
 use Rattle.ft_turns.specs.declared.machine.ThreadState.{ThreadState as StoredThread}
-use Rattle.ft_turns.specs.Cursors.{AreCursors, no_containers}
+use Rattle.ft_turns.specs.Internal.Cursors.{AreCursors, no_containers}
 use Rattle.ft_turns.specs.Orders.{fresh_thread}
-use Rattle.ft_turns.specs.ThreadStates.{state_of, IsReady, IsReadyThread, AreFresh}
+use Rattle.ft_turns.specs.Internal.ThreadStates.{state_of, IsReady, IsReadyThread, AreFresh}
 
 -- no holders
 pub none_held : {X : Type 0} (xs : List X) → replicate (length xs) None ≡ map (λ x. let none : Option ℕ = None in none) xs

@@ -5,7 +5,7 @@ use Rattle.std.proofs.lemmas.List.Sums.{fold-append}
 use Rattle.std.specs.Prelude.{slice_set, None}
 use Rattle.ft_turns.specs.declared.machine.OpenSection.{OpenSection as StoredSection}
 use Rattle.ft_turns.specs.Orders.{without_locks, section_locks, let_go}
-use Rattle.ft_turns.specs.ThreadStates.{section_of}
+use Rattle.ft_turns.specs.Internal.ThreadStates.{section_of}
 
 pub let_go-append : (holders : List (Option ℕ)) (a b : List ℕ) → let_go holders (a ++ b) ≡ let_go (let_go holders a) b
 let_go-append holders a b = fold-append (λ left container. slice_set left container None) holders a b

@@ -7,7 +7,7 @@ use Rattle.ft_model.specs.declared.call.Call.{Call}
 use Rattle.ft_model.specs.declared.script.ScriptParts.{ScriptParts}
 use Rattle.ft_model.specs.Histories.{calls_of}
 use Rattle.ft_turns.specs.Orders.{ThreadState, Machine, Locking, fresh_thread, lower_first, locks_taken, take_locks, thread_at, next_call, waiting_machine, answered_machine, finished_machine, locked, relocked, try_answer, try_finish, innermost_containers, turn}
-use Rattle.ft_turns.specs.ThreadStates.{Tried, not_tried, tried_in_vain, answer_tried, finish_tried, answer_part, finish_part, newly_answered, placed}
+use Rattle.ft_turns.specs.Internal.ThreadStates.{Tried, not_tried, tried_in_vain, answer_tried, finish_tried, answer_part, finish_part, newly_answered, placed}
 
 same_answered : (machine : Machine) (thread : ℕ) (tried : Tried) → record machine { holders = tried.holders; threads = set machine.threads thread tried.state } ≡ placed machine thread tried []
 same_answered machine thread tried =

@@ -7,7 +7,7 @@ use Rattle.ft_model.specs.declared.script.ScriptParts.{ScriptParts}
 use Rattle.ft_model.specs.Histories.{calls_of}
 use Rattle.ft_model.specs.Calls.{containers_of}
 use Rattle.ft_turns.specs.Orders.{OpenSection, ThreadState, lower_first, locks_taken, take_locks, let_go, next_call, with_own, answered_thread, finished_thread, lets_go, innermost_containers}
-use Rattle.ft_turns.specs.ThreadStates.{Tried, not_tried, tried_in_vain, answer_tried, finish_tried, answer_part, finish_part}
+use Rattle.ft_turns.specs.Internal.ThreadStates.{Tried, not_tried, tried_in_vain, answer_tried, finish_tried, answer_part, finish_part}
 use Rattle.ft_turns.proofs.Wanting.{AreTwo, AreRising, rising}
 use Rattle.ft_turns.proofs.Soundness.{wanted, AreSections, IsSound, IsApart, Waits, wait_sound, answer_sound, finish_sound}
 

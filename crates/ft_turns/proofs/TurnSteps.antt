@@ -13,9 +13,9 @@ use Rattle.ft_model.specs.declared.script.ScriptParts.{ScriptParts}
 use Rattle.ft_model.specs.Histories.{calls_of, cursors_of}
 use Rattle.ft_turns.specs.declared.machine.ThreadState.{ThreadState as StoredThread}
 use Rattle.ft_turns.specs.declared.machine.Turned.{Turned}
-use Rattle.ft_turns.specs.Cursors.{AreCursors}
+use Rattle.ft_turns.specs.Internal.Cursors.{AreCursors}
 use Rattle.ft_turns.specs.Orders.{ThreadState, Machine, Locking, fresh_thread, thread_at, next_call, take_locks, lower_first, locks_taken, innermost_containers, turn}
-use Rattle.ft_turns.specs.ThreadStates.{state_of, machine_with, Tried, not_tried, answer_tried, finish_tried, answer_part, finish_part, newly_answered, placed, turned_of, marks_made, IsTried, IsReady, IsReadyThread}
+use Rattle.ft_turns.specs.Internal.ThreadStates.{state_of, machine_with, Tried, not_tried, answer_tried, finish_tried, answer_part, finish_part, newly_answered, placed, turned_of, marks_made, IsTried, IsReady, IsReadyThread}
 use Rattle.ft_turns.proofs.TurnParts.{turn_is, idle_turn}
 
 -- ---- marks

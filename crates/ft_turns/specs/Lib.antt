@@ -1,10 +1,6 @@
+pub mod Internal
 pub mod Answering
 pub mod Chronicling
-pub mod Cursors
 pub mod Ends
 pub mod Orders
-pub mod Schedules
-pub mod ThreadStates
-pub mod Turning
 pub mod Wants
-pub mod Runs

@@ -3,7 +3,7 @@ ghost use Rattle.std.specs.Prelude.{◌≡◌, ◌^◌, ◌-◌, ◌<◌, true, 
 ghost use Rattle.ft_model.specs.Worlds.{IsDeclared, HasRoom};
 ghost use Rattle.ft_model.specs.Answers.{answer};
 ghost use Rattle.ft_turns.specs.Answering.{asks_container, ended_reply, waited_inside, tally_after, start_answers, hands_in, tally_in, reply_now, with_answer, with_mark};
-ghost use Rattle.ft_turns.specs.Runs.{call_followed, IsAsked};
+ghost use Rattle.ft_turns.specs.Internal.Runs.{call_followed, IsAsked};
 
 use crate::machine::Turned;
 use ft_model::{Call, Entry, Hands, Reply, ScriptParts, World, apply};

@@ -6,7 +6,7 @@ ghost use Rattle.ft_model.specs.declared.call.Call.TheVariants as call;
 ghost use Rattle.ft_model.specs.Calls.{container_list, containers_of, locks_of};
 ghost use Rattle.ft_model.specs.Scripts.{cursor_of};
 ghost use Rattle.ft_turns.specs.Orders.{lower_first, locks_taken, holder_of, take_locks, let_go};
-ghost use Rattle.ft_turns.specs.Cursors.{AreCursors};
+ghost use Rattle.ft_turns.specs.Internal.Cursors.{AreCursors};
 
 use ft_model::{Call, Containers};
 use std::alloc::AllocError;

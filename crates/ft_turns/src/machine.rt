@@ -4,8 +4,8 @@ ghost use Rattle.std.specs.Prelude.{◌≡◌, ℕ, ◌+◌, ◌<◌, slice_inde
 ghost use Rattle.ft_model.specs.declared.call.Call.{Call};
 ghost use Rattle.ft_model.specs.Scripts.{cursor_of, IsScript};
 ghost use Rattle.ft_turns.specs.Orders.{without_locks, section_locks, let_go, lets_go, waiting_thread, answered_thread, finished_thread, take_locks, lower_first, locks_taken, innermost_containers, turn};
-ghost use Rattle.ft_turns.specs.Cursors.{AreCursors};
-ghost use Rattle.ft_turns.specs.ThreadStates.{section_of, state_of, answer_tried, finish_tried, machine_with, machine_of, turned_of, fixed_by, IsTried, IsReady, AreFresh, marks_made, finishes_of};
+ghost use Rattle.ft_turns.specs.Internal.Cursors.{AreCursors};
+ghost use Rattle.ft_turns.specs.Internal.ThreadStates.{section_of, state_of, answer_tried, finish_tried, machine_with, machine_of, turned_of, fixed_by, IsTried, IsReady, AreFresh, marks_made, finishes_of};
 
 use crate::locks::{cursor_made, in_order, let_all_go, locks_needed, take_all};
 use ft_model::{Call, Containers, ScriptParts, Thread};
@@ -249,7 +249,7 @@ fn turn(
 impl ThreadState {
     ghost use Rattle.std.specs.Prelude.{replicate};
     ghost use Rattle.ft_turns.specs.Orders.{fresh_thread};
-    ghost use Rattle.ft_turns.specs.Cursors.{no_containers};
+    ghost use Rattle.ft_turns.specs.Internal.Cursors.{no_containers};
 
     /// A thread before its first turn, with room for that many cursors.
     pub(crate) fn start(alloc: Global, cursors: usize) -> Result<ThreadState, AllocError>

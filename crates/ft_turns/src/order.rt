@@ -3,8 +3,8 @@
 ghost use Rattle.std.specs.Prelude.{◌≡◌, [], IfOk, OnOk, IfSome, IfNone, if◌then◌else◌};
 ghost use Rattle.ft_model.specs.Scripts.{IsScript};
 ghost use Rattle.ft_turns.specs.Orders.{count_of_calls};
-ghost use Rattle.ft_turns.specs.ThreadStates.{finishes_of, machine_of};
-ghost use Rattle.ft_turns.specs.Turning.{turns_left, IsTurning, IsTurn, IsOver};
+ghost use Rattle.ft_turns.specs.Internal.ThreadStates.{finishes_of, machine_of};
+ghost use Rattle.ft_turns.specs.Internal.Turning.{turns_left, IsTurning, IsTurn, IsOver};
 
 use crate::machine::{Machine, Turned};
 use crate::schedule::Schedule;

@@ -7,8 +7,8 @@ ghost use Rattle.ft_model.specs.Parts.{IsEntryOf, IsWorldOf};
 ghost use Rattle.ft_model.specs.Scripts.{IsScript};
 ghost use Rattle.ft_turns.specs.Orders.{thread_at, IsOrderRun};
 ghost use Rattle.ft_turns.specs.Answering.{last_progress, marked_entry, answered_turns};
-ghost use Rattle.ft_turns.specs.ThreadStates.{machine_of};
-ghost use Rattle.ft_turns.specs.Runs.{followed, IsAskedTurn};
+ghost use Rattle.ft_turns.specs.Internal.ThreadStates.{machine_of};
+ghost use Rattle.ft_turns.specs.Internal.Runs.{followed, IsAskedTurn};
 
 use crate::answers::Answers;
 use crate::machine::Machine;

@@ -1,7 +1,7 @@
 //! Whose turn it is.
 
 ghost use Rattle.std.specs.Prelude.{◌≡◌, ℕ, ◌<◌, ◌≤◌, List, [], ◌∷◌, length, All, IfSome, IfNone};
-ghost use Rattle.ft_turns.specs.Schedules.{scheduled};
+ghost use Rattle.ft_turns.specs.Internal.Schedules.{scheduled};
 
 /// How far the turns have come: first those that the script's order says, and then rounds, each of
 /// one turn for every thread in the order of declaration.

@@ -1,5 +1,5 @@
 use Rattle.std.proofs.Common.{◌≡◌, take, length}
-use Rattle.ft_turns.specs.ThreadStates.{AreFresh}
+use Rattle.ft_turns.specs.Internal.ThreadStates.{AreFresh}
 use Rattle.ft_turns.proofs.machine.fresh_threads.Given as goal
 
 abbrev pub invariant-loop-thread : goal.invariant-loop-thread

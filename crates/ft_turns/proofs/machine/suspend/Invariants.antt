@@ -1,6 +1,6 @@
 use Rattle.std.proofs.Common.{◌≡◌, map, take, drop}
 use Rattle.ft_turns.specs.Orders.{without_locks, section_locks, let_go}
-use Rattle.ft_turns.specs.ThreadStates.{section_of}
+use Rattle.ft_turns.specs.Internal.ThreadStates.{section_of}
 use Rattle.ft_turns.proofs.machine.suspend.Given as goal
 
 abbrev pub invariant-loop-section : goal.invariant-loop-section

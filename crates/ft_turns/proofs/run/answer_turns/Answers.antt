@@ -2,8 +2,8 @@ use Rattle.std.proofs.Common.{◌≡◌, [], Option, None, Some, IfNone, length,
 use Rattle.std.proofs.lemmas.List.{length-map, take_at}
 use Rattle.ft_turns.specs.declared.machine.Machine.{Machine as LockMachine}
 use Rattle.ft_turns.specs.Answering.{marked_entry}
-use Rattle.ft_turns.specs.ThreadStates.{machine_of}
-use Rattle.ft_turns.specs.Turning.{IsTurn, IsOver}
+use Rattle.ft_turns.specs.Internal.ThreadStates.{machine_of}
+use Rattle.ft_turns.specs.Internal.Turning.{IsTurn, IsOver}
 use Rattle.ft_turns.proofs.Running.{run_asks, run_goes_on, world_at_end, entries_at_end}
 use Rattle.ft_turns.proofs.run.answer_turns.Goals as goal
 

@@ -1,5 +1,5 @@
 use Rattle.std.proofs.Common.{length}
-use Rattle.ft_turns.specs.Turning.{turns_left}
+use Rattle.ft_turns.specs.Internal.Turning.{turns_left}
 use Rattle.ft_turns.proofs.Running.{IsRunning}
 use Rattle.ft_turns.proofs.run.answer_turns.Given as goal
 

@@ -1,4 +1,4 @@
-use Rattle.ft_turns.specs.Runs.{IsAskedTurn}
+use Rattle.ft_turns.specs.Internal.Runs.{IsAskedTurn}
 use Rattle.ft_turns.proofs.run.follow.Goals as goal
 
 pub follow-requires : goal.follow-requires

@@ -4,7 +4,7 @@ use Rattle.std.proofs.lemmas.List.Edits.{map_over_more}
 use Rattle.ft_model.specs.declared.entry.Entry.{Entry}
 use Rattle.ft_turns.specs.Answering.{marked_entry}
 use Rattle.ft_turns.specs.Orders.{thread_at}
-use Rattle.ft_turns.specs.ThreadStates.{machine_of}
+use Rattle.ft_turns.specs.Internal.ThreadStates.{machine_of}
 use Rattle.ft_turns.proofs.run.mark_all.Goals as goal
 
 pub loop-entry-preserved : goal.loop-entry-preserved

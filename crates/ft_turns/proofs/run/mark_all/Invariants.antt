@@ -1,6 +1,6 @@
 use Rattle.std.proofs.Common.{◌≡◌, [], ◌++◌, map, take, drop}
 use Rattle.ft_turns.specs.Answering.{marked_entry}
-use Rattle.ft_turns.specs.ThreadStates.{machine_of}
+use Rattle.ft_turns.specs.Internal.ThreadStates.{machine_of}
 use Rattle.ft_turns.proofs.run.mark_all.Given as goal
 
 abbrev pub invariant-loop-entry : goal.invariant-loop-entry

@@ -1,7 +1,7 @@
 use Rattle.std.proofs.Common.{◌≡◌, [], arith, inr}
 use Rattle.std.proofs.lemmas.Bool.Decides.{nat_tests}
 use Rattle.ft_turns.specs.Orders.{count_of_calls}
-use Rattle.ft_turns.specs.ThreadStates.{marks_made}
+use Rattle.ft_turns.specs.Internal.ThreadStates.{marks_made}
 use Rattle.ft_turns.proofs.Endings.{all_finished}
 use Rattle.ft_turns.proofs.order.Turns.next.Goals as goal
 

@@ -1,5 +1,5 @@
 use Rattle.std.proofs.Common.{◌≡◌, length, arith, ap, refl}
-use Rattle.ft_turns.specs.ThreadStates.{marks_made}
+use Rattle.ft_turns.specs.Internal.ThreadStates.{marks_made}
 use Rattle.ft_turns.proofs.Endings.{none_made}
 use Rattle.ft_turns.proofs.ScheduleLemmas.{round_over}
 use Rattle.ft_turns.proofs.order.Turns.start.Goals as goal

@@ -11,7 +11,7 @@ use Rattle.ft_turns.specs.declared.machine.OpenSection.{OpenSection as StoredSec
 use Rattle.ft_turns.specs.declared.machine.ThreadState.{ThreadState as StoredThread}
 use Rattle.ft_turns.specs.declared.machine.Turned.{Turned}
 use Rattle.ft_model.specs.declared.script.Thread.{Thread}
-use Rattle.ft_turns.specs.Cursors.{AreCursors, no_containers}
+use Rattle.ft_turns.specs.Internal.Cursors.{AreCursors, no_containers}
 use Rattle.ft_turns.specs.Orders.{OpenSection, ThreadState, Machine, Locking, fresh_thread, lower_first, locks_taken, take_locks, let_go, with_own, section_locks, waiting_thread, answered_thread, finished_thread, lets_go, innermost_containers, thread_at, next_call, turn}
 
 -- ---- what is kept in memory

@@ -1,0 +1,6 @@
+-- What the machine of turns keeps while it goes through a script. Only its private functions and its proofs cite it: none of it is needed to say what the order of turns is.
+pub mod Cursors
+pub mod Runs
+pub mod Schedules
+pub mod ThreadStates
+pub mod Turning

@@ -5,6 +5,8 @@ ghost use Rattle.ft_trace.specs.ItemWrites.{ItemsMayBePut, ItemsMayBeAppended};
 ghost use Rattle.ft_trace.specs.Replies.{RepliesMayBeGiven, MemoryErrorsMayBeAnswered};
 ghost use Rattle.ft_trace.specs.LookReplies.{DictHitsAreReplied, SetHitsAreReplied, MissesAreReplied, ItemsAreReplied, PastItemsAreReplied};
 ghost use Rattle.ft_trace.specs.EntryWrites.{ValuesMayBePut};
+ghost use Rattle.ft_trace.specs.Earnings.{EntriesAreEarned};
+ghost use Rattle.ft_trace.specs.Roots.{ZeroRootsHaveCauses, RetiredTablesAreApart};
 ghost use Rattle.ft_trace.specs.KeyWrites.{KeysMayBeAdded};
 ghost use Rattle.ft_trace.specs.DeleteWrites.{KeysMayBeDeleted};
 ghost use Rattle.ft_trace.specs.SetWrites.{ElementsMayBeAdded, ElementsMayBeDiscarded};
@@ -54,6 +56,12 @@ pub fn memory_errors_are_earned()
     ensures { MemoryErrorsAreEarned }
 {}
 
+/// Each entry with a MemoryError has its cause in the writes before its stamp, and each other passes no
+/// greatest length.
+pub fn entries_are_earned()
+    ensures { EntriesAreEarned }
+{}
+
 /// A pass that stands for all passes has an entry for each write, and each of its entries is right.
 pub fn one_pass_has_all_entries()
     ensures { OneHasAllEntries }
@@ -75,6 +83,12 @@ pub fn zero_roots_have_nothing()
     ensures { ZeroRootsHaveNothing }
 {}
 
+/// A root that is 0 while the version is odd was put by the pass that writes, for a call that may, or
+/// its container had no table before the write.
+pub fn zero_roots_have_causes()
+    ensures { ZeroRootsHaveCauses }
+{}
+
 /// A pass knows the words and the content of each container whose lock it has, and the words of each
 /// table that is fresh in its hand.
 pub fn holders_know()
@@ -90,6 +104,11 @@ pub fn tables_are_somewhere()
 /// a root, in a hand.
 pub fn tables_are_in_one_place()
     ensures { TablesAreInOnePlace }
+{}
+
+/// A retired table is not free, and no root names it.
+pub fn retired_tables_are_apart()
+    ensures { RetiredTablesAreApart }
 {}
 
 /// A class has as many free tables as its count word says, and one more for each taking and each giving

@@ -6,6 +6,7 @@ ghost use Rattle.ft_trace.specs.Replies.{RepliesMayBeGiven, MemoryErrorsMayBeAns
 ghost use Rattle.ft_trace.specs.LookReplies.{DictHitsAreReplied, SetHitsAreReplied, MissesAreReplied, ItemsAreReplied, PastItemsAreReplied};
 ghost use Rattle.ft_trace.specs.EntryWrites.{ValuesMayBePut};
 ghost use Rattle.ft_trace.specs.Earnings.{EntriesAreEarned};
+ghost use Rattle.ft_trace.specs.InOrder.{NumberedEntriesAreInOrder};
 ghost use Rattle.ft_trace.specs.Roots.{ZeroRootsHaveCauses, RetiredTablesAreApart};
 ghost use Rattle.ft_trace.specs.KeyWrites.{KeysMayBeAdded};
 ghost use Rattle.ft_trace.specs.DeleteWrites.{KeysMayBeDeleted};
@@ -60,6 +61,11 @@ pub fn memory_errors_are_earned()
 /// greatest length.
 pub fn entries_are_earned()
     ensures { EntriesAreEarned }
+{}
+
+/// Entries that are numbered and earned stand so beside the writes in their order, the oldest first.
+pub fn numbered_entries_are_in_order()
+    ensures { NumberedEntriesAreInOrder }
 {}
 
 /// A pass that stands for all passes has an entry for each write, and each of its entries is right.

@@ -18,7 +18,8 @@ impl Closed {
     ghost use Rattle.ft_bank.specs.Closings.{IsWhole};
 
     /// The entries have one history of writes: each write's number is its place there, each number is
-    /// that of one entry, and each entry has the reply of the plain containers at its stamp.
+    /// that of one entry, and each entry has the reply of the plain containers at its stamp; a
+    /// MemoryError has its cause there.
     pub fn entries_are_whole(&self)
         ensures { IsWhole self.now }
     {}

@@ -1,13 +1,13 @@
 -- Each entry with a MemoryError has its cause in the writes before its stamp.
-use Rattle.std.proofs.Common.{◌≡◌, ℕ, ◌≤◌, false, true, true≢false, List, [], ◌∷◌, ◌++◌, length, refl, sym, ap, ◌∙◌, subst, arith}
-use Rattle.std.specs.Prelude.{not, ◌&&◌, Bool}
+use Rattle.std.proofs.Common.{◌≡◌, ℕ, false, true, true≢false, List, [], ◌∷◌, ◌++◌, length, refl, sym, ap, ◌∙◌, subst, arith}
+use Rattle.std.specs.Prelude.{◌&&◌, Bool}
 use mathlib.Core.Option.{some}
 use lib.ListN.{get_elem?}
 use Rattle.ft_model.specs.declared.call.Call.{Call}
 use Rattle.ft_model.specs.declared.reply.Reply.{Reply}
 use Rattle.ft_model.specs.declared.reply.Reply.TheVariants as reply
 use Rattle.ft_model.specs.declared.reply.Raise.TheVariants as raise
-use Rattle.ft_model.specs.Answers.{is_memory, is_raised, is_write}
+use Rattle.ft_model.specs.Answers.{is_memory, is_write}
 use Rattle.ft_model.specs.Calls.{is_changing}
 use Rattle.ft_model.specs.Tables.{stored_newest, would_pass}
 use Rattle.ft_trace.specs.declared.Act.{Act}
@@ -16,13 +16,13 @@ use Rattle.ft_trace.specs.declared.Entry.{Entry}
 use Rattle.ft_trace.specs.declared.Shape.{Shape}
 use Rattle.ft_trace.specs.declared.View.{View}
 use Rattle.ft_trace.specs.Acts.{place, Reports, noted, starter, maker, made, note, sender, both, spent, entries_next}
-use Rattle.ft_trace.specs.Causes.{FoundEmpty, HasCause}
+use Rattle.ft_trace.specs.Causes.{HasCause}
 use Rattle.ft_trace.specs.Earnings.{IsEarnedSo, AllEarned, EntriesAreEarned}
-use Rattle.ft_trace.specs.Entries.{Right, AllRight}
+use Rattle.ft_trace.specs.Entries.{AllRight}
 use Rattle.ft_trace.specs.Worlds.{first_writes}
 use Rattle.ft_trace.specs.Traces.{Event, did, forked, sent, joined, run, word, writes_of, history, May, Valid}
 use Rattle.ft_trace.proofs.Closing.{all_right}
-use Rattle.ft_trace.proofs.Contents.{count, counted}
+use Rattle.ft_trace.proofs.Contents.{counted}
 use Rattle.ft_trace.proofs.Moments.{was}
 use Rattle.ft_trace.proofs.Sizes.{set_views, one_more, one_view}
 use Rattle.ft_trace.proofs.Stamped.{empty_earned}

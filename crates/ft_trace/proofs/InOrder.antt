@@ -1,5 +1,5 @@
 -- From writes from the newest to the first, by which traces are, to writes in their order, by which histories are.
-use Rattle.std.proofs.Common.{◌≡◌, ℕ, zero, suc, ◌+◌, ◌<◌, ◌≤◌, inl, inr, Bool, true, false, cond, List, [], ◌∷◌, ◌++◌, length, take, reverse, Option, Some, None, refl, sym, ap, ◌∙◌, subst, arith}
+use Rattle.std.proofs.Common.{◌≡◌, ℕ, zero, suc, ◌<◌, ◌≤◌, inl, inr, Bool, cond, List, [], ◌∷◌, ◌++◌, length, take, reverse, Some, refl, sym, ap, ◌∙◌, subst, arith}
 use Rattle.std.specs.Prelude.{All, slice_get}
 use Rattle.std.proofs.Math.Decide.{dec_lt}
 use Rattle.std.proofs.lemmas.Bool.{lt-ltb, le-ltb}
@@ -21,9 +21,9 @@ use Rattle.ft_model.proofs.StoredLaws.{newest_stored, newest_takes, stored_world
 use Rattle.ft_trace.specs.declared.Entry.{Entry}
 use Rattle.ft_trace.specs.declared.Shape.{Shape}
 use Rattle.ft_trace.specs.Earnings.{IsEarnedSo, AllEarned}
-use Rattle.ft_trace.specs.Entries.{IsNumber, Right, AllRight, Numbered}
-use Rattle.ft_trace.specs.InOrder.{StandsInOrder, AreInOrder, NumberedEntriesAreInOrder}
-use Rattle.ft_trace.specs.Worlds.{first_writes, reply_in}
+use Rattle.ft_trace.specs.Entries.{IsNumber, Right, AllRight}
+use Rattle.ft_trace.specs.InOrder.{StandsInOrder, NumberedEntriesAreInOrder}
+use Rattle.ft_trace.specs.Worlds.{first_writes}
 
 -- ---- lists from the newest to the first, and in order
 

@@ -1,10 +1,10 @@
 -- That a new entry of a dict may be put while others read its table, on lists of words alone.
-use Rattle.std.proofs.Common.{◌≡◌, ◌≢◌, ◌⊎◌, ℕ, ◌+◌, ◌*◌, ◌%◌, ◌<◌, List, length, refl, sym, ap, ◌∙◌, subst, inl, inr, ⊎_elim, arith, length-set, get_or-set_same, get_or-set_other, ◌≤◌}
+use Rattle.std.proofs.Common.{◌≡◌, ◌≢◌, ◌⊎◌, ℕ, ◌+◌, ◌*◌, ◌%◌, ◌<◌, List, length, sym, ap, ◌∙◌, subst, ⊎_elim, arith, length-set, get_or-set_same, get_or-set_other, ◌≤◌}
 use Rattle.std.specs.Prelude.{slice_set}
 use mathlib.Core.Logic.{dite}
 use native.Mathlib.Decide.{ℕ_discrete}
 use Rattle.ft_model.specs.declared.data.Key.{Key}
-use Rattle.ft_layout.specs.Words.{key_kind, key_payload}
+use Rattle.ft_layout.specs.Words.{key_kind}
 use Rattle.ft_layout.proofs.WordLaws.{gone_is, kind_range}
 use Rattle.ft_trace.specs.Words.{index_of, entry_at, entry_of}
 use Rattle.ft_trace.specs.Carefuls.{Pairs, said_of, IsLive, Careful}

@@ -1,6 +1,6 @@
 -- That a list may get another table by a pass that has its lock, as a whole write.
-use Rattle.std.proofs.Common.{◌≡◌, ◌≢◌, ℕ, zero, suc, ◌+◌, ◌%◌, ◌<◌, ◌≤◌, Bool, true, false, List, [], ◌∷◌, ◌++◌, length, Option, Some, None, refl, sym, ap, ◌∙◌, subst, inr, arith, length-set, get_or-set_same, get_or-set_other}
-use Rattle.std.specs.Prelude.{◌&&◌, ◌||◌, nat_lt, slice_index, slice_index_or, slice_set, slice_get, if◌then◌else◌}
+use Rattle.std.proofs.Common.{◌≡◌, ◌≢◌, ℕ, suc, ◌+◌, ◌%◌, ◌<◌, ◌≤◌, Bool, true, false, List, [], ◌∷◌, ◌++◌, length, Option, Some, refl, sym, ap, ◌∙◌, subst, inr, arith, length-set, get_or-set_same, get_or-set_other}
+use Rattle.std.specs.Prelude.{◌||◌, slice_index, slice_index_or, slice_set}
 use Rattle.std.specs.Option.{option_map_or}
 use Rattle.std.proofs.lemmas.Bool.{le-ltb}
 use Rattle.std.proofs.lemmas.List.{length_push}
@@ -14,33 +14,28 @@ use Rattle.ft_model.specs.declared.reply.Reply.TheVariants as reply
 use Rattle.ft_model.specs.declared.script.Kind.{Kind}
 use Rattle.ft_model.specs.declared.script.Kind.TheVariants as kind
 use Rattle.ft_model.specs.Answers.{Answer, answer, answer_list, puts, after_write}
-use Rattle.ft_model.specs.Classes.{IsClass, list_items, list_class, most_items}
+use Rattle.ft_model.specs.Classes.{IsClass, most_items}
 use Rattle.ft_model.specs.Worlds.{kind_of, list_of, list_at, no_hands}
-use Rattle.ft_model.specs.Tables.{list_takes, taken, TableUse, StoredWorld, no_table, stored_newest, takes_in, table_at, outgrows_list, grown_table, passes_cap, would_pass, after_stored}
-use Rattle.ft_layout.specs.declared.slot.Stored.TheVariants.{Plain}
-use Rattle.ft_layout.specs.Words.{FitsStored}
-use Rattle.ft_layout.specs.Changes.{ChangesItem, SaysStored}
-use Rattle.ft_layout.specs.Containers.{class_mask, IsBlock, IsListWords}
+use Rattle.ft_model.specs.Tables.{list_takes, TableUse, StoredWorld, no_table, stored_newest, takes_in, table_at, grown_table, passes_cap, after_stored}
+use Rattle.ft_layout.specs.Containers.{class_mask, IsListWords}
 use Rattle.ft_layout.proofs.Powers.{slots_range}
 use Rattle.ft_trace.specs.declared.Shape.{Shape}
 use Rattle.ft_trace.specs.declared.Snap.{Snap}
 use Rattle.ft_trace.specs.declared.View.{View}
 use Rattle.ft_trace.specs.Addresses.{class_of, slots, size}
 use Rattle.ft_trace.specs.Worlds.{Kept, kept, kind_in}
-use Rattle.ft_trace.specs.Words.{root_in, Stands, item_at, item_of}
-use Rattle.ft_trace.specs.Items.{ItemSound, ItemCareful, ItemClear, value_words, words_at, said_at}
+use Rattle.ft_trace.specs.Words.{Stands, item_at, item_of}
+use Rattle.ft_trace.specs.Items.{ItemSound, ItemClear, value_words, words_at, said_at}
 use Rattle.ft_trace.specs.Kinds.{rows, version_at, ClearAs, SoundAs}
 use Rattle.ft_trace.specs.Openings.{Shut}
 use Rattle.ft_trace.specs.Holds.{in_hand, held, known, AgreesWith}
 use Rattle.ft_trace.specs.Traces.{Possible}
-use Rattle.ft_trace.specs.Grants.{MayWrite}
-use Rattle.ft_trace.specs.Writes.{to_table, with_root, MayBegin, MayReplace, to_block, MayPut, MayPuts, Write, at_commit, at_end, after_write_of, MayCommit, MayWriteSo}
+use Rattle.ft_trace.specs.Writes.{to_table, with_root, MayBegin, MayReplace, to_block, MayPuts, Write, at_commit, at_end, after_write_of, MayCommit, MayWriteSo}
 use Rattle.ft_trace.specs.ListGrowWrites.{list_grow_write, HasListGrown, ListsMayGrow}
-use Rattle.ft_trace.proofs.Held.{held_stands}
 use Rattle.ft_trace.proofs.ByKind.{items_fit}
 use Rattle.ft_trace.proofs.Pieces.{table_long}
 use Rattle.ft_trace.proofs.Untouched.{as_many}
-use Rattle.ft_trace.proofs.Known.{kind_known, after_header, class_known, declared_at, in_bank, table_is_long, tables_as_many}
+use Rattle.ft_trace.proofs.Known.{kind_known, after_header, declared_at, tables_as_many}
 use Rattle.ft_trace.proofs.ItemPuts.{VersionsChangeNothing, item_close, items_says}
 use Rattle.ft_trace.proofs.ListAppends.{get_else}
 use Rattle.ft_trace.proofs.Writing.{write_possible}

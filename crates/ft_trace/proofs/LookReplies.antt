@@ -1,7 +1,6 @@
 -- What a log shows of a key or an item that was looked up without the lock is the reply of the plain containers.
 use Rattle.std.proofs.Common.{map, ⊎_elim, ◌≡◌, ◌≢◌, ◌⊎◌, inl, inr, ℕ, zero, suc, pos, ◌<◌, ◌≤◌, Bool, true, false, cond, List, [], ◌∷◌, length, Option, Some, None, refl, sym, ap, ◌∙◌, subst, arith}
-use Rattle.std.specs.Prelude.{All, find, is_some, nat_lt, option_map, slice_get, slice_index, slice_index_or, if◌then◌else◌, ◌||◌}
-use Rattle.std.specs.List.{list_any}
+use Rattle.std.specs.Prelude.{All, find, is_some, nat_lt, option_map, slice_get, slice_index, slice_index_or, if◌then◌else◌}
 use Rattle.std.specs.Option.{option_map_or, unwrap_or}
 use Rattle.std.proofs.lemmas.Bool.{lt-ltb, le-ltb}
 use Rattle.std.proofs.lemmas.List.Elements.{All-head, All-tail}
@@ -27,10 +26,8 @@ use Rattle.ft_model.specs.Lists.{index_in}
 use Rattle.ft_model.specs.Worlds.{kind_of, no_hands, dict_of, set_of, list_of, dict_at, set_at, list_at, length_of}
 use Rattle.ft_model.specs.Answers.{shows}
 use Rattle.ft_model.specs.Tables.{StoredWorld, stored_newest}
-use Rattle.ft_model.proofs.KeyLemmas.{same_key-true, same_key-refl}
 use Rattle.ft_layout.specs.declared.slot.Stored.TheVariants.{Empty, Plain}
-use Rattle.ft_layout.specs.Words.{FitsKey, IsStored, key_kind, key_payload}
-use Rattle.ft_layout.proofs.WordLaws as words
+use Rattle.ft_layout.specs.Words.{FitsKey, IsStored}
 use Rattle.ft_trace.specs.declared.Act.{Act}
 use Rattle.ft_trace.specs.declared.Act.TheVariants.{Commit}
 use Rattle.ft_trace.specs.declared.Shape.{Shape}
@@ -45,7 +42,6 @@ use Rattle.ft_trace.specs.LookReplies.{key_reply, item_reply, DictReplies, store
 use Rattle.ft_trace.proofs.FitCalls.{contents_fit}
 use Rattle.ft_trace.proofs.ItemPuts.{none_at}
 use Rattle.ft_trace.proofs.Known.{at_any, mapped, kinds_stay}
-use Rattle.ft_trace.proofs.Tellings.{key_is, key_words}
 use Rattle.ft_trace.proofs.Untouched.{as_many}
 use Rattle.ft_trace.proofs.SameKeys.{same_keys, same_find, found_has, any_found}
 use Rattle.ft_trace.proofs.Rule.{hits_are_right, misses_are_right, bare_roots_are_right, items_are_right, lists_fit_their_tables}

@@ -1,8 +1,6 @@
 -- Where a root is 0 while its container is being written, the writer gave up its table, or there was none.
-use Rattle.std.proofs.Common.{◌≡◌, ◌≢◌, ◌⊎◌, inl, inr, ⊎_elim, ℕ, zero, suc, ◌+◌, ◌<◌, ◌%◌, Bool, true, false, cond, eqb, eq-eqb, List, [], ◌∷◌, ◌++◌, refl, sym, ap, ◌∙◌, subst, arith}
+use Rattle.std.proofs.Common.{◌≡◌, ◌≢◌, ◌⊎◌, inl, inr, ⊎_elim, ℕ, ◌<◌, Bool, true, false, eqb, eq-eqb, List, [], ◌∷◌, refl, sym, ap, ◌∙◌, subst, arith}
 use mathlib.Core.Option.{some}
-use mathlib.Core.Logic.{dite}
-use native.Mathlib.Decide.{ℕ_discrete}
 use lib.ListN.{get_elem?}
 use Rattle.ft_trace.specs.declared.Act.{Act}
 use Rattle.ft_trace.specs.declared.Act.TheVariants.{StartWrite, StopWrite, PutRoot, PutBlock, ReadBlock, ReadRoot, Commit}
@@ -10,18 +8,16 @@ use Rattle.ft_trace.specs.declared.Shape.{Shape}
 use Rattle.ft_trace.specs.declared.View.{View}
 use Rattle.ft_trace.specs.Acts.{is_writing, is_writing_next, has_emptied, has_emptied_next, noted, starter, maker, made, note, sender, both, spent}
 use Rattle.ft_trace.specs.Addresses.{block, containers_in}
-use Rattle.ft_trace.specs.Reading.{IsNothing}
 use Rattle.ft_trace.specs.Roots.{OfOneWrite, BeganBare, ZeroRootsHaveCauses, RetiredTablesAreApart}
-use Rattle.ft_trace.specs.Worlds.{kept}
-use Rattle.ft_trace.specs.Traces.{Event, did, forked, sent, joined, run, word, history, May, Valid}
-use Rattle.ft_trace.proofs.Cases.{hit, miss, here, off, same_or}
+use Rattle.ft_trace.specs.Traces.{Event, did, forked, sent, joined, run, history, May, Valid}
+use Rattle.ft_trace.proofs.Cases.{hit, miss, off, same_or}
 use Rattle.ft_trace.proofs.Holding.{holder_even}
 use Rattle.ft_trace.proofs.Locks.{one_holder}
 use Rattle.ft_trace.proofs.Moments.{was}
 use Rattle.ft_trace.proofs.Places.{root, placed}
 use Rattle.ft_trace.proofs.Rule.{zero_roots_have_nothing}
 use Rattle.ft_trace.proofs.Sizes.{set_views, one_more, one_view}
-use Rattle.ft_trace.proofs.Versions.{versioned, writer_has}
+use Rattle.ft_trace.proofs.Versions.{writer_has}
 use Rattle.ft_trace.proofs.Words.{stays, moves, loaded}
 
 -- an action that begins or ends no write of o, and puts no root of it

@@ -1,6 +1,6 @@
 -- That a key may be taken out of a set by a pass that has its lock, as a whole write.
-use Rattle.std.proofs.Common.{◌≡◌, ℕ, suc, ◌+◌, ◌-◌, ◌*◌, ◌%◌, ◌<◌, ◌≤◌, Bool, true, false, List, [], ◌∷◌, length, Option, Some, refl, sym, ap, ◌∙◌, subst, inr, arith, get_or-set_same, get_or-set_other}
-use Rattle.std.specs.Prelude.{◌&&◌, ◌==◌, find, slice_index_or, All, slice_index, slice_set, if◌then◌else◌}
+use Rattle.std.proofs.Common.{◌≡◌, ℕ, suc, ◌+◌, ◌-◌, ◌*◌, ◌%◌, ◌<◌, ◌≤◌, true, false, List, [], ◌∷◌, length, Option, Some, refl, sym, ap, ◌∙◌, subst, inr, arith, get_or-set_same, get_or-set_other}
+use Rattle.std.specs.Prelude.{◌&&◌, ◌==◌, find, slice_index_or, All, slice_index, slice_set}
 use Rattle.ft_model.specs.declared.call.Call.{Call}
 use Rattle.ft_model.specs.declared.call.Call.TheVariants as call
 use Rattle.ft_model.specs.declared.call.SetCall.TheVariants as set
@@ -37,7 +37,7 @@ use Rattle.ft_trace.specs.EntryWrites.{entry_closed}
 use Rattle.ft_trace.specs.DeleteWrites.{delete_puts}
 use Rattle.ft_trace.specs.SetWrites.{set_discard_write, ElementsMayBeDiscarded}
 use Rattle.ft_trace.proofs.FitCalls.{set_fits_words}
-use Rattle.ft_trace.proofs.Known.{declared_at, in_bank, table_is_long, after_header}
+use Rattle.ft_trace.proofs.Known.{declared_at, in_bank, after_header}
 use Rattle.ft_trace.proofs.EntryPuts.{dead_open, dead_kind, dead_same, dead_late, dead_shut, dead_is}
 use Rattle.ft_trace.proofs.SameKeys.{same_keys, none_left}
 use Rattle.ft_trace.proofs.ListWrites.{may_begin}

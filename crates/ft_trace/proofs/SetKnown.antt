@@ -1,58 +1,40 @@
 -- What a pass with the lock of a set knows of it, and what its words say under its keys.
-use Rattle.std.proofs.Common.{◌≡◌, ◌≢◌, ℕ, suc, ◌+◌, ◌-◌, ◌*◌, ◌%◌, ◌<◌, ◌≤◌, Bool, true, false, List, [], ◌∷◌, length, find, Option, Some, None, refl, sym, ap, ◌∙◌, subst, inr, arith, get_or-set_same}
-use Rattle.std.specs.Prelude.{◌&&◌, ◌||◌, All, IsTrue, filter, slice_index_or, slice_set, slice_get, option_map, if◌then◌else◌}
-use Rattle.std.proofs.lemmas.Bool.{le-ltb}
+use Rattle.std.proofs.Common.{◌≡◌, ◌≢◌, ℕ, suc, ◌+◌, ◌*◌, ◌%◌, ◌<◌, ◌≤◌, Bool, true, List, [], ◌∷◌, length, find, Option, Some, sym, ap, ◌∙◌, subst, arith}
+use Rattle.std.specs.Prelude.{◌&&◌, All, filter, slice_index_or, option_map}
 use Rattle.std.proofs.lemmas.List.{length-map}
 use Rattle.ft_model.specs.declared.call.Call.{Call}
-use Rattle.ft_model.specs.declared.call.Call.TheVariants as call
-use Rattle.ft_model.specs.declared.call.SetCall.TheVariants as set
 use Rattle.ft_model.specs.declared.content.Content.{Content}
 use Rattle.ft_model.specs.declared.content.Content.TheVariants as content
-use Rattle.ft_model.specs.declared.content.Element.{Element}
 use Rattle.ft_model.specs.declared.data.Key.{Key}
-use Rattle.ft_model.specs.declared.data.Value.{Value}
-use Rattle.ft_model.specs.declared.reply.Reply.TheVariants as reply
 use Rattle.ft_model.specs.declared.script.Kind.{Kind}
 use Rattle.ft_model.specs.declared.script.Kind.TheVariants as kind
-use Rattle.ft_model.specs.Answers.{Answer, answer, answer_set, puts, after_write}
-use Rattle.ft_model.specs.Classes.{IsClass, set_entries, set_class, most_elements}
+use Rattle.ft_model.specs.Classes.{IsClass, set_entries, most_elements}
 use Rattle.ft_model.specs.Contents.{SetContent, empty_set}
-use Rattle.ft_model.specs.Worlds.{kind_of, set_of, set_at, no_hands}
-use Rattle.ft_model.specs.Tables.{TableUse, StoredWorld, no_table, stored_newest, takes_in, table_at, outgrows_set, grown_table, passes_cap, would_pass, after_stored}
+use Rattle.ft_model.specs.Worlds.{kind_of, set_of, set_at}
+use Rattle.ft_model.specs.Tables.{StoredWorld, stored_newest, table_at}
 use Rattle.ft_model.proofs.KnownKeys.{length-filter-le}
 use Rattle.ft_hash.specs.Probes.{set_walk}
 use Rattle.ft_hash.proofs.Walks.{set_walk-within}
-use Rattle.ft_layout.specs.declared.slot.Stored.TheVariants.{Plain}
-use Rattle.ft_layout.specs.Words.{FitsKey, FitsStored, stored_kind, stored_payload}
-use Rattle.ft_layout.specs.Tables.{UsedEntry, is_live, set_room, IsTable, IsSetTable}
-use Rattle.ft_layout.specs.Tables as layout
-use Rattle.ft_layout.specs.Changes.{with_stored}
+use Rattle.ft_layout.specs.Words.{FitsKey}
+use Rattle.ft_layout.specs.Tables.{UsedEntry, is_live, set_room}
 use Rattle.ft_layout.specs.Containers.{class_mask, used_element, AreSetEntries, IsSetWords, StandsAs}
-use Rattle.ft_layout.proofs.ContentLaws.{stands_for_set}
 use Rattle.ft_layout.proofs.FieldLaws.{sizes_of_class}
 use Rattle.ft_layout.proofs.Powers.{slots_range}
-use Rattle.ft_layout.proofs.WordLaws.{same_key}
-use Rattle.ft_trace.specs.declared.Shape.{Shape}
-use Rattle.ft_trace.specs.declared.Snap.{Snap}
 use Rattle.ft_trace.specs.declared.View.{View}
-use Rattle.ft_trace.specs.Addresses.{containers_in, class_of, slots, places, size}
+use Rattle.ft_trace.specs.Addresses.{containers_in, class_of, slots, places}
 use Rattle.ft_trace.specs.Acts.{has_lock}
-use Rattle.ft_trace.specs.Worlds.{Kept, kept, kind_in}
-use Rattle.ft_trace.specs.Words.{root_in, Stands, index_of, entry_at, entry_of, walk_of}
+use Rattle.ft_trace.specs.Worlds.{Kept, kind_in}
+use Rattle.ft_trace.specs.Words.{root_in, index_of, entry_at, entry_of, walk_of}
 use Rattle.ft_trace.specs.Carefuls.{said_of, IsLive, Reached, Clear}
-use Rattle.ft_trace.specs.Kinds.{under, rows, version_at, ClearAs}
+use Rattle.ft_trace.specs.Kinds.{under, rows, version_at}
 use Rattle.ft_trace.specs.Openings.{Shut}
 use Rattle.ft_trace.specs.Holds.{held, known, AgreesWith}
-use Rattle.ft_trace.specs.Traces.{Possible}
 use Rattle.ft_trace.specs.Grants.{MayWrite}
-use Rattle.ft_trace.specs.Writes.{to_table, MayPut, MayPuts, Write, at_commit, at_end, after_write_of, MayCommit, MayWriteSo}
 use Rattle.ft_trace.proofs.Held.{held_stands}
 use Rattle.ft_trace.proofs.Clearing.{held_shut}
 use Rattle.ft_trace.proofs.Untouched.{as_many}
-use Rattle.ft_trace.proofs.Known.{kind_known, class_known, declared_at, in_bank, table_is_long, after_header, at_any, tables_as_many}
-use Rattle.ft_trace.proofs.Tellings.{live_tells, live_is_right, right_is_live, key_words, key_reached, key_named}
-use Rattle.ft_trace.proofs.ListWrites.{may_begin}
-use Rattle.ft_trace.proofs.Writing.{write_possible}
+use Rattle.ft_trace.proofs.Known.{kind_known, class_known, table_is_long, at_any, tables_as_many}
+use Rattle.ft_trace.proofs.Tellings.{live_is_right, right_is_live, key_reached, key_named}
 
 abbrev pub FirstEntriesAreElements : Type 0
 FirstEntriesAreElements = (used : List UsedEntry) (elements : SetContent) (test : UsedEntry → Bool) → AreSetEntries used elements → find (λ entry. is_live entry && test entry) used ≡ option_map used_element (find (λ element. test (used_element element)) elements.elements)

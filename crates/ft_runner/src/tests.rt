@@ -4,6 +4,8 @@
 use crate::{Fault, NoGate, Report, run_program, run_still, run_tool};
 use ft_io::{MemSink, MemSource};
 use ft_model::Rule;
+use ft_script::{parse, print_entry, print_world};
+use ft_turns::run_turns;
 use std::alloc::{AllocError, Global};
 use std::process::{Abort, ExitCode};
 use std::sync::Wait;
@@ -327,6 +329,23 @@ fn what_is_no_command_or_no_script_is_refused(rt: HostRuntime) -> Result<(), Fai
     Ok(())
 }
 
+// The lines of entries and contents that are printed one by one are those that the tool writes.
+#[test]
+fn lines_are_printed_one_by_one(rt: HostRuntime) -> Result<(), Fail> {
+    let alloc = rt.alloc();
+    let Ok(script) = parse(alloc, SCRIPT.as_bytes()) else {
+        return Err("no script".into());
+    };
+    let run = run_turns(alloc, &script)?;
+    let mut text = Vec::new(alloc);
+    for entry in &run.entries {
+        text.extend_from_slice(&print_entry(alloc, &script, entry)?)?;
+    }
+    text.extend_from_slice(&print_world(alloc, &script, &run.world)?)?;
+    assert_eq!(rt; text.as_slice(), TEXT.as_bytes());
+    Ok(())
+}
+
 /// A script, a transcript of it, and what is found.
 #[derive(Clone, Copy)]
 struct Checked<'a> {
@@ -577,6 +596,31 @@ fn a_stream_that_fails_is_reported(rt: HostRuntime) -> Result<(), Fail> {
     check(&rt, &full)
 }
 
+/// What a call that starts no thread has come to.
+#[derive(Drop)]
+struct Called {
+    status: u8,
+    entries: usize,
+    put: Vec<u8>,
+    reported: Vec<u8>,
+}
+
+/// Calls the tool with this command and input.
+fn call_still(alloc: Global, command: &str, input: Vec<u8>) -> Result<Called, Fail> {
+    let words = words_of(alloc, command)?;
+    let mut source = MemSource::new(input, 1_000_000, Vec::new(alloc));
+    let mut sink = MemSink::new(alloc, 200_000, 200_000, Vec::new(alloc))?;
+    let mut errors = MemSink::new(alloc, 100, 100, Vec::new(alloc))?;
+    let report: Option<Report> = run_still(alloc, &words, &mut source, &mut sink, &mut errors);
+    let report = report.ok_or("no report")?;
+    Ok(Called {
+        status: report.status,
+        entries: report.history.len(),
+        put: sink.bytes().to_vec(alloc)?,
+        reported: errors.bytes().to_vec(alloc)?,
+    })
+}
+
 #[test]
 fn more_than_is_taken_is_too_long(rt: HostRuntime) -> Result<(), Fail> {
     let alloc = rt.alloc();
@@ -588,17 +632,18 @@ fn more_than_is_taken_is_too_long(rt: HostRuntime) -> Result<(), Fail> {
         ("check", 4_194_303, "\n---\n", 0, "legal\n", ""),
         ("check", 4_194_304, "\n---\n", 6, "", "ftpy: too long\n"),
     ] {
-        let words = words_of(alloc, command)?;
         let mut input = vec![in alloc; b'#'; count]?;
         input.extend_from_slice(after.as_bytes())?;
-        let mut source = MemSource::new(input, 1_000_000, Vec::new(alloc));
-        let mut sink = MemSink::new(alloc, 100, 100, Vec::new(alloc))?;
-        let mut errors = MemSink::new(alloc, 100, 100, Vec::new(alloc))?;
-        let report: Option<Report> = run_still(alloc, &words, &mut source, &mut sink, &mut errors);
-        let report = report.ok_or("no report")?;
-        assert_eq!(rt; report.status, status);
-        assert_eq!(rt; sink.bytes(), put.as_bytes());
-        assert_eq!(rt; errors.bytes(), reported.as_bytes());
+        let called = call_still(alloc, command, input)?;
+        assert_eq!(rt; called.status, status);
+        assert_eq!(rt; called.put.as_slice(), put.as_bytes());
+        assert_eq!(rt; called.reported.as_slice(), reported.as_bytes());
+    }
+    // A script and a transcript of as many bytes as they may have, and of one more.
+    for (count, status) in [(67_108_864, 8), (67_108_865, 6)] {
+        let mut input = vec![in alloc; b'\n'; count]?;
+        input[..3].copy_from_slice(b"---");
+        assert_eq!(rt; call_still(alloc, "check", input)?.status, status);
     }
     Ok(())
 }
@@ -661,44 +706,17 @@ fn count_of(bytes: &[u8], wanted: u8) -> usize {
 fn a_long_script_is_run_and_checked(rt: HostRuntime) -> Result<(), Fail> {
     let alloc = rt.alloc();
     let text = long_script(alloc)?;
-    let input = text.as_bytes().to_vec(alloc)?;
-    let mut source = MemSource::new(input, 65_536, Vec::new(alloc));
-    let mut sink = MemSink::new(alloc, 200_000, 65_536, Vec::new(alloc))?;
-    let mut errors = MemSink::new(alloc, 100, 100, Vec::new(alloc))?;
-    let words = words_of(alloc, "turns")?;
-    let report = run_still(alloc, &words, &mut source, &mut sink, &mut errors);
-    let report = report.ok_or("no report")?;
-    assert_eq!(rt; report.status, 0);
-    assert_eq!(rt; report.history.len(), 2001);
+    let run = call_still(alloc, "turns", text.as_bytes().to_vec(alloc)?)?;
+    assert_eq!(rt; run.status, 0);
+    assert_eq!(rt; run.entries, 2001);
     // The pairs of the reply to `items`, and those of the content.
-    assert_eq!(rt; count_of(sink.bytes(), b':'), 4000);
-    assert_eq!(rt; count_of(sink.bytes(), b'\n'), 2002);
+    assert_eq!(rt; count_of(&run.put, b':'), 4000);
+    assert_eq!(rt; count_of(&run.put, b'\n'), 2002);
 
     let mut input = text.as_bytes().to_vec(alloc)?;
     input.extend_from_slice(b"---\n")?;
-    input.extend_from_slice(sink.bytes())?;
-    let mut source = MemSource::new(input, 65_536, Vec::new(alloc));
-    let mut found = MemSink::new(alloc, 100, 100, Vec::new(alloc))?;
-    let words = words_of(alloc, "check")?;
-    let report = run_still(alloc, &words, &mut source, &mut found, &mut errors);
-    assert_eq!(rt; report.ok_or("no report")?.status, 0);
-    assert_eq!(rt; found.bytes(), b"legal\n".as_slice());
-    Ok(())
-}
-
-// A script and a transcript of as many bytes as they may have, and of one more.
-#[test]
-fn a_transcript_has_its_limit(rt: HostRuntime) -> Result<(), Fail> {
-    let alloc = rt.alloc();
-    for (count, status) in [(67_108_864, 8), (67_108_865, 6)] {
-        let mut input = vec![in alloc; b'\n'; count]?;
-        input[..3].copy_from_slice(b"---");
-        let mut source = MemSource::new(input, 1_000_000, Vec::new(alloc));
-        let mut sink = MemSink::new(alloc, 100, 100, Vec::new(alloc))?;
-        let mut errors = MemSink::new(alloc, 100, 100, Vec::new(alloc))?;
-        let words = words_of(alloc, "check")?;
-        let report = run_still(alloc, &words, &mut source, &mut sink, &mut errors);
-        assert_eq!(rt; report.ok_or("no report")?.status, status);
-    }
+    input.extend_from_slice(&run.put)?;
+    let checked = call_still(alloc, "check", input)?;
+    assert_eq!(rt; checked.put.as_slice(), b"legal\n".as_slice());
     Ok(())
 }

@@ -1,3 +1,4 @@
 pub mod Takings
 pub mod Ready
 pub mod Locking
+pub mod Answers

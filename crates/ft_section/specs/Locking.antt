@@ -1,9 +1,11 @@
 -- What taking locks and letting them go leaves of what a pass knows.
-use Rattle.std.specs.Prelude.{◌≡◌, ◌<◌, ◌+◌, ◌≢◌, ◌++◌, ℕ, true, List, [], ◌∷◌, suc}
+use Rattle.std.specs.Prelude.{◌≡◌, ◌<◌, ◌≤◌, ◌+◌, ◌==◌, ◌≢◌, ◌++◌, ℕ, true, false, List, ◌∷◌, map, Option, Some, None, if◌then◌else◌}
+use Rattle.ft_bank.specs.declared.bank.Bank.{Bank}
 use Rattle.ft_bank.specs.declared.pass.Pass.{Pass}
 use Rattle.ft_bank.specs.declared.sections.OpenSection.{OpenSection}
-use Rattle.ft_bank.specs.Passes.{view}
-use Rattle.ft_bank.specs.Sections.{stack_of, noted_in}
+use Rattle.ft_bank.specs.Passes.{shape_of, view, IsPassOf}
+use Rattle.ft_bank.specs.declared.sections.Taking.{Taking}
+use Rattle.ft_bank.specs.Sections.{Stack, stack_of, noted_in, suspended}
 use Rattle.ft_section.specs.Ready.{lock_count, AreBegun}
 use Rattle.ft_trace.specs.declared.Act.{Act}
 use Rattle.ft_trace.specs.declared.Act.TheVariants.{Lock}
@@ -13,16 +15,22 @@ use Rattle.ft_trace.specs.Addresses.{containers_in}
 use Rattle.ft_trace.specs.Acts.{has_lock, is_writing, has_committed, has_emptied, stage, announces, used, debt, owes, flight}
 use Rattle.ft_trace.specs.Holds.{held, known}
 use Rattle.ft_trace.specs.Sections.{begun}
+use Rattle.ft_trace.specs.Words.{Stands}
 
 -- The pass has taken locks or let locks go, and done nothing else. Of each container whose lock it had and has it knows
 -- the same. (profile)
 pub record OnlyLocked (v w : View) : Type 0 where
+  pub newer : List Act
+  pub grew : w.log ≡ newer ++ v.log
   pub number : w.number ≡ v.number
   pub next : w.next ≡ v.next
   pub parts : w.parts ≡ v.parts
   pub left : w.left ≡ v.left
   pub shape : w.shape ≡ v.shape
   pub entries : w.entries ≡ v.entries
+  pub tokens : w.tokens ≡ v.tokens
+  pub learnt : w.learnt ≡ v.learnt
+  pub floor : w.has_floor ≡ v.has_floor
   pub writes : (p : ℕ) → is_writing p w.log ≡ is_writing p v.log
   pub committed : (p : ℕ) → has_committed p w.log ≡ has_committed p v.log
   pub emptied : (p : ℕ) → has_emptied p w.log ≡ has_emptied p v.log
@@ -44,5 +52,63 @@ pub record FoundOwner (o q : ℕ) (v w : View) : Type 0 where
   pub newer : List Act
   pub snap : Snap
   pub older : List Act
-  pub is : w.log ≡ newer ++ Lock o (suc q) snap ∷ (older ++ v.log)
-  pub other : suc q ≢ v.number
+  pub is : w.log ≡ newer ++ Lock o (q + 1) snap ∷ (older ++ v.log)
+  pub other : q + 1 ≢ v.number
+
+-- the pass has taken the locks that the number is 1 of, which it didn't have, and knows what their words stand for
+pub record Took (amount : ℕ → ℕ) (v w : View) : Type 0 where
+  pub locked : OnlyLocked v w
+  pub keeps : KeepsLocks v w
+  pub count : (o : ℕ) → lock_count o w ≡ lock_count o v + amount o
+  pub low : (o : ℕ) → amount o ≢ 0 → o < containers_in v.shape
+  pub stands : (o : ℕ) → amount o ≢ 0 → Stands w.shape.texts (held o w) (known o w)
+  pub begun : begun w.log ≡ begun v.log
+
+-- the pass has let go of the locks that the number is 1 of
+pub record LetGo (amount : ℕ → ℕ) (v w : View) : Type 0 where
+  pub locked : OnlyLocked v w
+  pub count : (o : ℕ) → lock_count o w + amount o ≡ lock_count o v
+  pub begun : (sections : List OpenSection) → AreBegun sections (begun v.log)
+      → ((o : ℕ) → amount o ≢ 0 → noted_in o sections ≡ 0) → AreBegun sections (begun w.log)
+
+-- A pass of the bank may let go of the locks that the number is 1 of: it has them, their versions are even, and no open
+-- section notes them as taken.
+pub record MayLetGo (amount : ℕ → ℕ) (b : Bank) (p : Pass) : Type 0 where
+  pub pass : IsPassOf b p
+  pub even : (o : ℕ) → is_writing o (view p).log ≡ false
+  pub low : (o : ℕ) → amount o ≢ 0 → o < containers_in (shape_of b)
+  pub count : (o : ℕ) → amount o ≤ lock_count o (view p)
+  pub struck : (o : ℕ) → amount o ≢ 0 → noted_in o (stack_of p).sections ≡ 0
+
+-- 1 for the container alone
+abbrev pub at_one : ℕ → ℕ → ℕ
+at_one o p = if o == p then 1 else 0
+
+-- the call in flight has taken these locks itself
+abbrev pub with_own : Stack → Taking → Stack
+with_own s own = record s { own = own }
+
+-- the stack is the same, and the pass is of the same bank
+abbrev pub KeepsStack : Pass → Pass → Type 0
+KeepsStack p q = (q.seat.table_id ≡ p.seat.table_id) × (stack_of q ≡ stack_of p)
+
+-- the pass that a call waited for first, where it has now found this one
+abbrev pub first_mark : Option ℕ → ℕ → ℕ
+first_mark None q = q
+first_mark (Some first) q = first
+
+-- how many marks more that makes
+abbrev pub marks_more : Option ℕ → ℕ
+marks_more None = 1
+marks_more (Some first) = 0
+
+-- A call that has found another pass with a lock that it needs: all sections have let their locks go, the first pass that
+-- it found is its mark, and with that each section counts one marked call more. (C API, critical sections; the count:
+-- profile)
+abbrev pub waiting : Stack → ℕ → Stack
+waiting s q =
+    record {
+      sections = map (suspended (marks_more s.mark)) s.sections;
+      own = s.own;
+      mark = Some (first_mark s.mark q);
+    }

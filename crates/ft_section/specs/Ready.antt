@@ -1,14 +1,12 @@
 -- What a pass keeps between calls and in the midst of them.
-use Rattle.std.specs.Prelude.{◌≡◌, ◌≤◌, ◌<◌, ◌+◌, ◌==◌, ◌||◌, ◌⊎◌, ℕ, Bool, true, false, List, [], ◌∷◌, ◌++◌, All, Option, None, Some, if◌then◌else◌}
+use Rattle.std.specs.Prelude.{◌≡◌, ◌≤◌, ◌<◌, ◌+◌, ◌==◌, ◌||◌, ◌⊎◌, ℕ, true, false, List, [], ◌∷◌, ◌++◌, All, None, Some, if◌then◌else◌}
 use Rattle.ft_bank.specs.declared.bank.Bank.{Bank}
 use Rattle.ft_bank.specs.declared.pass.Pass.{Pass}
 use Rattle.ft_bank.specs.declared.sections.OpenSection.{OpenSection}
-use Rattle.ft_bank.specs.declared.sections.Taking.{Taking}
-use Rattle.ft_bank.specs.Passes.{shape_of, view, IsPassOf}
+use Rattle.ft_bank.specs.Passes.{view, IsPassOf}
 use Rattle.ft_bank.specs.Sections.{Stack, stack_of, taken_in, noted_in, nothing_taken}
 use Rattle.ft_section.specs.declared.answers.Objects.{Objects}
 use Rattle.ft_section.specs.Takings.{IsTaking, IsOwnFor, HasBoth, lower_of, upper_of}
-use Rattle.ft_trace.specs.declared.Shape.{Shape}
 use Rattle.ft_trace.specs.declared.View.{View}
 use Rattle.ft_trace.specs.Addresses.{containers_in}
 use Rattle.ft_trace.specs.Acts.{has_lock, is_writing, stage, used, owes, flight}
@@ -57,16 +55,19 @@ AreMarked v sections =
     (outer : List OpenSection) (top : OpenSection) → sections ≡ outer ++ top ∷ []
     → All IsMarked outer × (IsMarked top ⊎ HasBoth v top.locks)
 
--- What holds of a pass in the midst of a call and between calls: each lock that it has is noted once, by an open section
--- or by the call in flight, and no other lock is noted. (profile)
-pub record IsInCall (b : Bank) (p : Pass) : Type 0 where
-  pub pass : IsPassOf b p
-  pub still : IsStill (view p)
-  pub locks : (o : ℕ) → noted_in o (stack_of p).sections + taken_in o (stack_of p).own ≡ lock_count o (view p)
-  pub low : (o : ℕ) → has_lock o (view p).log ≡ true → o < containers_in (shape_of b)
-  pub sections : All (λ s. IsTaking (shape_of b) s.locks) (stack_of p).sections
-  pub begun : AreBegun (stack_of p).sections (begun (view p).log)
-  pub marked : (q : ℕ) → (stack_of p).mark ≡ Some q → AreMarked (view p) (stack_of p).sections
+-- What holds in the midst of a call and between calls: each lock that the pass has is noted once, by an open section or
+-- by the call in flight, and no other lock is noted. (profile)
+pub record InCall (v : View) (s : Stack) : Type 0 where
+  pub still : IsStill v
+  pub locks : (o : ℕ) → noted_in o s.sections + taken_in o s.own ≡ lock_count o v
+  pub low : (o : ℕ) → has_lock o v.log ≡ true → o < containers_in v.shape
+  pub sections : All (λ section. IsTaking v.shape section.locks) s.sections
+  pub begun : AreBegun s.sections (begun v.log)
+  pub marked : (q : ℕ) → s.mark ≡ Some q → AreMarked v s.sections
+
+-- the same of a pass of the bank
+abbrev pub IsInCall : Bank → Pass → Type 0
+IsInCall b p = IsPassOf b p × InCall (view p) (stack_of p)
 
 -- the pass has the locks of its innermost section
 abbrev pub HasTop : Pass → Type 0

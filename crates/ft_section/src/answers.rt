@@ -1,5 +1,6 @@
 //! What calls on containers and sections answer, for all crates of containers: an answer with its stamp,
 //! or why the same call comes next.
+ghost use Rattle.std.specs.Prelude.{◌≡◌};
 
 use ft_model::Reply;
 
@@ -16,6 +17,21 @@ pub enum Objects {
     One(Object),
     /// Two containers, in any order.
     Two(Object, Object),
+}
+
+impl Objects {
+    ghost use Rattle.ft_section.specs.Takings.{lower_of, upper_of};
+
+    /// The container with the lower number, and the other one; where there is one alone, it twice.
+    pub(crate) fn in_order(self) -> (Object, Object)
+        ensures { (result.0 ≡ lower_of self) × (result.1 ≡ upper_of self) }
+    {
+        match self {
+            Objects::One(o) => (o, o),
+            Objects::Two(a, b) if b < a => (b, a),
+            Objects::Two(a, b) => (a, b),
+        }
+    }
 }
 
 /// Where an entry stands among all writes.

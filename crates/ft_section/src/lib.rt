@@ -8,6 +8,10 @@
 
 mod answers;
 mod beginning;
+mod calls;
+mod letting;
+mod locks;
 
 pub use crate::answers::{Began, Ended, Got, Look, Object, Objects, Owner, Resumed, Stamp, Step};
 pub use crate::beginning::depth;
+pub use crate::calls::{let_go, take_for};

@@ -1,0 +1,39 @@
+use Rattle.std.proofs.Common.{◌≡◌, inl, inr, ⊎_elim, ap, sym, ◌∙◌}
+use Rattle.ft_bank.specs.Passes.{view}
+use Rattle.ft_bank.specs.declared.sections.Taking.{Taking}
+use Rattle.ft_bank.specs.Sections.{Stack, stack_of}
+use Rattle.ft_section.specs.Locking.{with_own, waiting, first_mark}
+use Rattle.ft_section.proofs.Goings.{found_then}
+use Rattle.ft_section.proofs.Releases.{only_then}
+use Rattle.ft_section.proofs.calls.take_for.Goals as goal
+
+pub returns-in-Err-clause-locked : goal.returns-in-Err-clause-locked
+returns-in-Err-clause-locked c =
+    only_then (view c.args.pass.now) (view c.take_both.new.pass) (view c.wait.new.pass) c.take_both.ensures.locked c.wait.ensures.locked (λ p had has. c.take_both.ensures.keeps p had)
+
+pub returns-in-Err-clause-found : goal.returns-in-Err-clause-found
+returns-in-Err-clause-found c =
+    let f = c.in-Err.ensures.found in
+    let order = c.in_order-lower.ensures in (
+      ⊎_elim (λ (e : c.in-Err.o ≡ c.in_order-lower.result.0). inl (e ∙ order.0)) (λ (e : c.in-Err.o ≡ c.in_order-lower.result.1). inr (e ∙ order.1)) f.0,
+      found_then (view c.args.pass.now) (view c.take_both.new.pass) (view c.wait.new.pass) c.in-Err.o c.in-Err.owner f.1 c.wait.ensures.locked,
+    )
+
+pub returns-in-Err-clause-waiting : goal.returns-in-Err-clause-waiting
+returns-in-Err-clause-waiting c =
+    let order = c.in_order-lower.ensures in
+    let stack = c.wait.ensures.stack in
+    let own = ap (λ (s : Stack). s.own) stack in
+    let named = c.take_both.ensures.containers in
+    let lower = ap (λ (t : Taking). t.lower) own ∙ (named.0 ∙ order.0) in
+    let upper = ap (λ (t : Taking). t.upper) own ∙ (named.1 ∙ order.1) in
+    let took = ap (λ (t : Taking). t.took_upper) own ∙ c.in-Err.ensures.none in (
+      record {
+        inside = c.wait.ensures.inside;
+        owner = first_mark (stack_of c.take_both.new.pass).mark c.in-Err.owner;
+        mark = ap (λ (s : Stack). s.mark) stack;
+        suspended = c.wait.ensures.suspended;
+        own = inr (lower, upper, took);
+      },
+      stack ∙ ap (λ (s : Stack). waiting s c.in-Err.owner) (c.take_both.ensures.stack ∙ ap (λ (t : Taking). with_own (stack_of c.args.pass.now) t) (sym own)),
+    )

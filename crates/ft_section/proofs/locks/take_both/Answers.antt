@@ -1,0 +1,34 @@
+use Rattle.std.proofs.Common.{◌≡◌, true, inr, ap, ◌∙◌, subst, sym}
+use Rattle.std.proofs.lemmas.Result.{IfErr-weaker}
+use Rattle.ft_bank.specs.Passes.{view}
+use Rattle.ft_bank.specs.Sections.{Stack, stack_of}
+use Rattle.ft_bank.specs.declared.sections.Taking.{Taking}
+use Rattle.ft_section.specs.Locking.{OnlyLocked, with_own}
+use Rattle.ft_section.proofs.InCalls.{own_pass, named}
+use Rattle.ft_section.proofs.Gains.{later_found}
+use Rattle.ft_section.proofs.Releases.{only_then}
+use Rattle.ft_trace.specs.declared.View.{View}
+use Rattle.ft_trace.specs.Acts.{has_lock}
+use Rattle.ft_section.proofs.locks.take_both.Goals as goal
+
+pub take_lower-requires-clause-inside : goal.take_lower-requires-clause-inside
+take_lower-requires-clause-inside c =
+    own_pass c.args.bank.now c.args.pass.now c.put_own.new.self c.args.lower c.args.upper c.requires.inside c.requires.own c.put_own.ensures.view (c.put_own.ensures.stack ∙ ap (λ (own : Taking). with_own (stack_of c.args.pass.now) (named c.args.lower c.args.upper own)) c.own-own.ensures)
+
+pub returns-clause-locked : goal.returns-clause-locked
+returns-clause-locked c =
+    let u = view c.args.pass.now in
+    let v = view c.take_lower.new.pass in
+    let w = view c.take_upper.new.pass in
+    let first = subst (λ (z : View). OnlyLocked z v) c.put_own.ensures.view.1 c.take_lower.ensures.locked in
+    only_then u v w first c.take_upper.ensures.locked (λ p had has. c.take_lower.ensures.keeps p (subst (λ (z : View). has_lock p z.log ≡ true) (sym c.put_own.ensures.view.1) had))
+
+pub returns-clause-found : goal.returns-clause-found
+returns-clause-found c =
+    let u = view c.args.pass.now in
+    let v = view c.take_lower.new.pass in
+    let w = view c.take_upper.new.pass in
+    let first = subst (λ (z : View). OnlyLocked z v) c.put_own.ensures.view.1 c.take_lower.ensures.locked in
+    let stack = c.take_lower.ensures.stack.1 ∙ ap (λ (s : Stack). with_own s (record s.own { took_lower = c.take_lower.ensures.stack.0 })) c.put_own.ensures.stack in
+    let upper = ap (λ (s : Stack). s.own.upper) stack in
+    IfErr-weaker c.take_upper.result _ _ (λ e f. (inr (f.0 ∙ upper), later_found u v w e.0 e.1 first f.1)) c.take_upper.ensures.found

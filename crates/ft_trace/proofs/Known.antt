@@ -50,11 +50,13 @@ kinds_stay k (forked id v ∷ es) valid = kinds_stay k es valid.0
 kinds_stay k (sent id v given ∷ es) valid = kinds_stay k es valid.0
 kinds_stay k (joined id v other w ∷ es) valid = kinds_stay k es valid.0
 
+pub kind_then : (k : Shape) (es : List Event) → Valid k es → (o : ℕ) → kind_of (kept k.kinds (history es) o).content ≡ kind_in k.kinds o
+kind_then k es valid o =
+    let world = (stored_newest k.kinds (history es)).world in
+    sym (mapped kind_of world o (content.List [])) ∙ ap (λ (l : List Kind). slice_index_or l o kind.List) (kinds_stay k es valid)
+
 pub kind_known : (v : View) (o : ℕ) → has_lock o v.log ≡ true → Possible v → kind_of (known o v).content ≡ kind_in v.shape.kinds o
-kind_known v o mine p =
-    let world = (stored_newest v.shape.kinds (history p.0)).world in
-    ap (λ (z : Kept). kind_of z.content) (content_known v o mine p.0 p.1 p.2)
-    ∙ (sym (mapped kind_of world o (content.List [])) ∙ ap (λ (l : List Kind). slice_index_or l o kind.List) (kinds_stay v.shape p.0 p.2.0))
+kind_known v o mine p = ap (λ (z : Kept). kind_of z.content) (content_known v o mine p.0 p.1 p.2) ∙ kind_then v.shape p.0 p.2.0 o
 
 -- the class of the table that a root names
 named_class : (root : ℕ) (class : Option ℕ) (t : ℕ) → IsRoot root class → root ≡ suc t → class ≡ Some (class_of t)

@@ -41,7 +41,7 @@ use Rattle.ft_trace.specs.Traces.{Event, did, forked, joined, sent, history, wri
 use Rattle.ft_trace.specs.LookReplies.{key_reply, item_reply, DictReplies, stored_at, DictHitsAreReplied, SetHitsAreReplied, MissesAreReplied, ItemsAreReplied, PastItemsAreReplied}
 use Rattle.ft_trace.proofs.FitCalls.{contents_fit}
 use Rattle.ft_trace.proofs.ItemPuts.{none_at}
-use Rattle.ft_trace.proofs.Known.{at_any, mapped, kinds_stay}
+use Rattle.ft_trace.proofs.Known.{at_any, kind_then}
 use Rattle.ft_trace.proofs.Untouched.{as_many}
 use Rattle.ft_trace.proofs.SameKeys.{same_keys, same_find, found_has, any_found}
 use Rattle.ft_trace.proofs.Rule.{hits_are_right, misses_are_right, bare_roots_are_right, items_are_right, lists_fit_their_tables}
@@ -195,7 +195,7 @@ module _ (k : Shape) (es : List Event) (valid : Valid k es) (o n : ℕ) (low : o
   fit = subst (All FitsContent) (ap (λ (z : StoredWorld). z.world) stored_is) (contents_fit k past.older past.valid) o (content.List []) many
 
   kind_is : kind_of at ≡ kind_in k.kinds o
-  kind_is = sym (mapped kind_of then_.world o (content.List [])) ∙ ap (λ (l : List Kind). slice_index_or l o kind.List) (ap (λ (z : StoredWorld). map kind_of z.world) (sym stored_is) ∙ kinds_stay k past.older past.valid)
+  kind_is = ap (λ (z : StoredWorld). kind_of (kept_at z o).content) (sym stored_is) ∙ kind_then k past.older past.valid o
 
   dict_there : kind_in k.kinds o ≡ kind.Dict → at ≡ content.Dict (dict_at then_.world o)
   dict_there is = dict_is at (kind_is ∙ is) ∙ ap (λ (z : Content). content.Dict (dict_of z)) (at_any then_.world o (content.List []) (content.Dict empty_dict) many)

@@ -11,9 +11,11 @@ use Rattle.ft_model.specs.declared.call.Call.{Call}
 use Rattle.ft_model.specs.declared.reply.Reply.{Reply}
 use Rattle.ft_model.specs.Tables.{StoredWorld, stored_newest}
 use Rattle.ft_trace.specs.Addresses.{containers_in}
-use Rattle.ft_trace.specs.Worlds.{kept_at, kept, first_writes, reply_in}
+use Rattle.ft_trace.specs.Worlds.{Kept, kept_at, kept, kind_in, first_writes, reply_in}
 use Rattle.ft_trace.specs.Words.{table_of, inner, Picture, root_of, root_in, picture, Stands}
 use Rattle.ft_trace.specs.Reading.{Between, Among, Agrees, IsNothing, Looked, LookedAtBoth}
+use Rattle.ft_model.specs.Worlds.{kind_of}
+use Rattle.ft_trace.proofs.Known.{kind_then}
 use Rattle.ft_trace.proofs.Nothing.{no_table_stands}
 use Rattle.ft_trace.specs.Finding.{Bare}
 use Rattle.ft_trace.specs.Traces.{Event, run, history, Valid}
@@ -73,6 +75,10 @@ module _ (k : Shape) (es : List Event) (valid : Valid k es) (o : ℕ) (low : o <
       let h = stamp_then k w.older es w.valid valid (under_trans w.older now es (under_now (ReadCounter s) m) (record { newer = top.newer; is = top.split })) s w.tells in
       (h.0, ap (λ (cs : List Call). kept k.kinds cs o) h.1 ∙ sym (still_now (ReadCounter s) m).content)
 
+  -- its kind
+  pub kind_at : (s : ℕ) → Among (ReadCounter s) mid → kind_of (kept k.kinds (first_writes s (history es)) o).content ≡ kind_in k.kinds o
+  kind_at s m = ap (λ (z : Kept). kind_of z.content) (at_stamp s m).1 ∙ kind_then k now top.valid o
+
   -- the words of the container between them
   abbrev pub shown : Picture
   shown = picture k o (run k now).words
@@ -101,10 +107,10 @@ module _ (k : Shape) (es : List Event) (valid : Valid k es) (o : ℕ) (low : o <
   }
 
   -- the optimistic read: what follows from the answers, on whatever words and whatever else is stored, holds of what was stored at the load of the counter
-  pub looked : (P : StoredWorld → Type 0) → ((x : Picture) (t : StoredWorld) → Stands k.texts x (kept_at t o) → Agrees k o mid x → P t) → (s : ℕ) → Among (ReadCounter s) mid → (s ≤ count k es) × P (stored_newest k.kinds (first_writes s (history es)))
+  pub looked : (P : StoredWorld → Type 0) → ((x : Picture) (t : StoredWorld) → kind_of (kept_at t o).content ≡ kind_in k.kinds o → Stands k.texts x (kept_at t o) → Agrees k o mid x → P t) → (s : ℕ) → Among (ReadCounter s) mid → (s ≤ count k es) × P (stored_newest k.kinds (first_writes s (history es)))
   looked P gives s st =
       let a = at_stamp s st in
-      (a.0, gives shown (stored_newest k.kinds (first_writes s (history es))) (subst (Stands k.texts shown) (sym a.1) (stands k now top.valid o low even_now)) agrees)
+      (a.0, gives shown (stored_newest k.kinds (first_writes s (history es))) (kind_at s st) (subst (Stands k.texts shown) (sym a.1) (stands k now top.valid o low even_now)) agrees)
 
 -- a call may be answered that was looked up so
 pub looked_at : (k : Shape) (es : List Event) (valid : Valid k es) (call : Call) (o : ℕ) → o < containers_in k → (j : ℕ) (u : View) → get_elem? (run k es).views j ≡ some u → (r : Reply) (n : ℕ) → Looked k call o r n u.log → (n ≤ count k es) × (reply_in (stored_newest k.kinds (first_writes n (history es))) call ≡ r)
@@ -121,6 +127,8 @@ looked_at_both k es valid call o p low low_too j u at r n h =
     let t = stands k (now k es valid p low_too j u at h.other h.between.1) (top k es valid p low_too j u at h.other h.between.1).valid p low_too (even_now k es valid p low_too j u at h.other h.between.1) in (
       a.0,
       h.answers (shown k es valid o low j u at h.one h.between.0) (shown k es valid p low_too j u at h.other h.between.1) stored
+          (kind_at k es valid o low j u at h.one h.between.0 n h.stamp.0)
+          (kind_at k es valid p low_too j u at h.other h.between.1 n h.stamp.1)
           (subst (Stands k.texts (shown k es valid o low j u at h.one h.between.0)) (sym a.1) s)
           (subst (Stands k.texts (shown k es valid p low_too j u at h.other h.between.1)) (sym b.1) t)
           (agrees k es valid o low j u at h.one h.between.0)
@@ -131,5 +139,5 @@ looked_at_both k es valid call o p low low_too j u at r n h =
 pub bare_at : (k : Shape) (es : List Event) (valid : Valid k es) (o n : ℕ) → o < containers_in k → (j : ℕ) (u : View) → get_elem? (run k es).views j ≡ some u → Bare u.log o n → (n ≤ count k es) × IsNothing (kept k.kinds (first_writes n (history es)) o)
 bare_at k es valid o n low j u at h =
     looked k es valid o low j u at h.mid h.between (λ t. IsNothing (kept_at t o))
-    (λ x t s a. no_table_stands k.texts x (kept_at t o) (sym (a.root 0 h.root)) s)
+    (λ x t is s a. no_table_stands k.texts x (kept_at t o) (sym (a.root 0 h.root)) s)
     n h.stamp

@@ -1,5 +1,5 @@
 -- The steps of delayed reuse: that they may be made, and what they leave.
-use Rattle.std.proofs.Common.{◌≡◌, ℕ, ◌+◌, ◌*◌, ◌^◌, ◌<◌, ◌≤◌, true, List, [], ◌∷◌, ◌++◌, refl, sym, ◌∙◌, subst, ⊎_elim, arith}
+use Rattle.std.proofs.Common.{◌≡◌, ℕ, ◌+◌, ◌*◌, ◌^◌, ◌<◌, ◌≤◌, true, List, [], ◌∷◌, ◌++◌, refl, sym, ap, ◌∙◌, subst, ⊎_elim, arith, append-nil}
 use mathlib.Core.Logic.{dite}
 use Rattle.std.proofs.Math.Decide.{dec_lt}
 use Rattle.std.proofs.Math.Logic.{∥∥₁_elim}
@@ -52,6 +52,17 @@ rises_one k (joined id v other w) es valid = omega arith
 rises : (k : Shape) (newer older : List Event) → Valid k (newer ++ older) → word k older write_number ≤ word k (newer ++ older) write_number
 rises k [] older valid = omega arith
 rises k (e ∷ newer) older valid = let a = rises k newer older valid.0 in let b = rises_one k e (newer ++ older) valid in omega (arith, a, b)
+
+-- the write number is 1 at the start
+pub number_some : (v : View) (n : ℕ) → Acted v (WriteNumber n) → 0 < n
+number_some v n d =
+    let k = v.shape in
+    let all : d.0 ++ [] ≡ d.0 = append-nil d.0 in
+    let up = rises k d.0 [] (subst (Valid k) (sym all) d.2.0) in
+    let end : word k (d.0 ++ []) write_number ≡ word k d.0 write_number = ap (λ (z : List Event). word k z write_number) all in
+    let first : word k [] write_number ≡ 1 = refl in
+    let found = d.2.1.2 in
+    omega (arith, up, end, first, found)
 
 may_low : (v : View) (x : ℕ) → MayAnnounce x v.log → Sure v (λ es. x ≤ word v.shape es write_number)
 may_low v x may es id knows =

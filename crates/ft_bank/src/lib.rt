@@ -26,6 +26,8 @@ mod shape;
 pub mod shown;
 mod steps;
 mod table;
+#[cfg(test)]
+mod table_tests;
 mod takings;
 #[cfg(test)]
 mod tests;

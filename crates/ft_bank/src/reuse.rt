@@ -37,10 +37,18 @@ impl Bank {
     ghost use Rattle.ft_bank.specs.Passes.{shape_of, view, IsPassOf, Did};
     ghost use Rattle.ft_bank.specs.Series.{DidAll};
 
-    /// Loads the write number.
+    /// How many passes the bank has.
+    pub fn passes(&self) -> u32
+        ensures { result ≡ (shape_of self.now).passes }
+    {
+        self.shape.passes
+    }
+
+    /// Loads the write number, which is 1 at the start.
     pub fn write_number(&self, pass: &mut Pass) -> u64
         requires pass { IsPassOf self.now pass.old }
         ensures did { Did (WriteNumber result) pass.old pass.new }
+        ensures some { 0 < result }
         ensures keeps { KeepsBut Each (view pass.old) (view pass.new) }
     {
         self.load_as::<Brand>(pass, WRITE_NUMBER, 0, 0, 0)

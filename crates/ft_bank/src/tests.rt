@@ -8,7 +8,7 @@ use ft_model::Kind;
 use std::alloc::Global;
 use std::test::Fail;
 
-fn small(alloc: Global) -> Result<Shape, Fail>
+pub(crate) fn small(alloc: Global) -> Result<Shape, Fail>
     ensures { IfOk result (λ s. (length s.kinds.items ≡ 2) × (s.passes ≡ 2) × (s.calls ≡ 10)) }
 {
     Ok(Shape {
@@ -22,7 +22,7 @@ fn small(alloc: Global) -> Result<Shape, Fail>
 }
 
 /// The two passes of a bank.
-fn two(bank: &Bank, passes: Vec<Pass>) -> Result<(Pass, Pass), Fail>
+pub(crate) fn two(bank: &Bank, passes: Vec<Pass>) -> Result<(Pass, Pass), Fail>
     requires { AreOpening bank.now 0 passes.items }
     ensures { IfOk result (λ p. IsOpening bank.now 0 p.0 × IsOpening bank.now 1 p.1) }
 {

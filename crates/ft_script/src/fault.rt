@@ -222,30 +222,3 @@ impl From<Fault> for LineError {
         LineError::Fault(fault)
     }
 }
-
-#[cfg(test)]
-mod tests {
-    use super::*;
-
-    #[test]
-    fn want_of_memory_is_reported_apart(rt: HostRuntime) {
-        assert!(rt; ScriptFault::NO_MEMORY.is_memory());
-        assert!(rt; !Fault::Name.at(1).is_memory());
-    }
-
-    #[test]
-    fn texts_of_kinds(rt: HostRuntime) {
-        assert_eq!(rt; Fault::Encoding.at(1).text(), "not UTF-8");
-        assert_eq!(rt;
-            Fault::Limit(Which::StringBytes).at(2).text(),
-            "limit string bytes"
-        );
-        assert_eq!(rt; ScriptFault::NO_MEMORY.text(), "want of memory");
-        let unknown = ScriptFault {
-            line: 1,
-            kind: 15,
-            which: None,
-        };
-        assert_eq!(rt; unknown.text(), "");
-    }
-}

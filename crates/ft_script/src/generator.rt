@@ -9,9 +9,6 @@ ghost use Rattle.ft_script.specs.Texts.{line, call_words};
 use crate::shown::push_integer;
 use std::alloc::{AllocError, Global};
 
-#[cfg(test)]
-mod tests;
-
 /// How many threads a script has that is made.
 const THREADS: u32 = 4;
 

@@ -11,9 +11,6 @@ use crate::lines::next_line;
 use ft_model::Script;
 use std::alloc::Global;
 
-#[cfg(test)]
-mod tests;
-
 /// Reads a script.
 pub fn parse(alloc: Global, bytes: &[u8]) -> Result<Script, ScriptFault>
     // The bytes are the text of the script,

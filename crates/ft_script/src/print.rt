@@ -133,6 +133,3 @@ pub fn push_world_line(
     out.push(b'\n')?;
     Ok(())
 }
-
-#[cfg(test)]
-mod tests;

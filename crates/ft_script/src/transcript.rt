@@ -301,6 +301,3 @@ fn push_content_line(
     out.push(b'\n')?;
     Ok(())
 }
-
-#[cfg(test)]
-mod tests;

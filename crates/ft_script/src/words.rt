@@ -110,30 +110,3 @@ fn unescaped(byte: u8) -> u8
         _ => byte,
     }
 }
-
-#[cfg(test)]
-mod tests {
-    use super::*;
-
-    #[test]
-    fn integers(rt: HostRuntime) {
-        assert_eq!(rt; integer_of(b"0"), Some(0));
-        assert_eq!(rt; integer_of(b"7"), Some(7));
-        assert_eq!(rt; integer_of(b"-7"), Some(-7));
-        assert_eq!(rt; integer_of(b"9223372036854775807"), Some(i64::MAX));
-        assert_eq!(rt; integer_of(b"-9223372036854775808"), Some(i64::MIN));
-        for word in [
-            "",
-            "-",
-            "-0",
-            "00",
-            "07",
-            "+7",
-            "1a",
-            "9223372036854775808",
-            "-9223372036854775809",
-        ] {
-            assert_eq!(rt; integer_of(word.as_bytes()), None);
-        }
-    }
-}

@@ -1,6 +1,9 @@
-use super::*;
-use crate::parser::parse;
-use ft_model::{Call, DictCall, Key, Raise, Sym, Value};
+//! Transcripts that are read, and the first line of others that is none.
+
+use ft_model::{Call, DictCall, Key, Raise, Reply, Sym, Value};
+use ft_script::{TranscriptFault, parse, read_transcript};
+use std::alloc::Global;
+use std::process::Abort;
 use std::test::Fail;
 
 /// Two threads with a cursor each, and three strings.
@@ -19,9 +22,17 @@ fn bad_line(alloc: Global, text: &str) -> u32 {
     }
 }
 
+/// The first text whose first bad line is another, where there is one.
+fn first_other<'a>(alloc: Global, line: u32, texts: &[&'a str]) -> Option<&'a str> {
+    texts
+        .iter()
+        .find(|text| bad_line(alloc, **text) != line)
+        .map(|text| *text)
+}
+
 #[test]
 fn lines_that_are_read(rt: HostRuntime) {
-    for text in [
+    let texts = [
         "",
         "A.1 w0 set d 1 None = ok\n",
         "B2.4294967295 r18446744073709551615 get d \"a b\" = -9223372036854775808\n",
@@ -59,14 +70,13 @@ fn lines_that_are_read(rt: HostRuntime) {
         "d = [1, None]\nd = set()\n",
         "l = {\"a b\": None}\ns = {1, 2}\n",
         "A.1 w0 clear d = ok\nA.1 w0 clear d = ok\nd = {}\n",
-    ] {
-        assert_eq!(rt; bad_line(rt.alloc(), text), 0);
-    }
+    ];
+    assert_eq!(rt; first_other(rt.alloc(), 0, &texts), None);
 }
 
 #[test]
 fn lines_that_are_not(rt: HostRuntime) {
-    for text in [
+    let texts = [
         "\n",
         "A\n",
         "A.1 w0 clear d = ok",
@@ -135,9 +145,8 @@ fn lines_that_are_not(rt: HostRuntime) {
         "d = {}",
         "d = {} \n",
         "d = { }\n",
-    ] {
-        assert_eq!(rt; bad_line(rt.alloc(), text), 1);
-    }
+    ];
+    assert_eq!(rt; first_other(rt.alloc(), 1, &texts), None);
 }
 
 #[test]
@@ -157,24 +166,20 @@ fn later_lines(rt: HostRuntime) {
 
 // A transcript that is cut within a line has that line first.
 #[test]
-fn every_cut(rt: HostRuntime) {
+fn every_cut(rt: HostRuntime) -> Result<(), Fail> {
     let text = "A.1 w0 set d \"a b\" 1 = ok waited B2\nd = {\"a b\": 1}\n";
+    let script = parse(rt.alloc(), SCRIPT.as_bytes())?;
     for end in 0..text.len() {
         let cut = &text.as_bytes()[..end];
-        let feeds = cut.iter().filter(|b| **b == b'\n').count();
-        let Ok(script) = parse(rt.alloc(), SCRIPT.as_bytes()) else {
-            return;
-        };
         let read = read_transcript(rt.alloc(), &script, cut);
         if end == 0 || end == 36 {
             assert!(rt; read.is_ok());
         } else {
-            assert!(rt;
-                read.is_err_and(|fault| fault
-                    == TranscriptFault::Line(if feeds == 0 { 1 } else { 2 }))
-            );
+            let line = if end < 36 { 1 } else { 2 };
+            assert!(rt; read.is_err_and(|fault| fault == TranscriptFault::Line(line)));
         }
     }
+    Ok(())
 }
 
 #[test]

@@ -1,6 +1,8 @@
-use super::*;
-use crate::parse;
-use std::test::*;
+//! Scripts that the generator makes. The texts are those of a program of some lines in Python.
+
+use ft_script::{make_script, parse};
+use std::alloc::Global;
+use std::process::Abort;
 
 /// Whether the script of a number of calls has this text.
 fn makes(alloc: Global, calls: u32, text: &str) -> bool {

@@ -52,9 +52,14 @@ container_of draft name = or_fault fault.Name (container_place draft.containers 
 
 abbrev pub same_kind : Kind → Kind → Bool
 same_kind kind.Dict kind.Dict = true
+same_kind kind.Dict kind.List = false
+same_kind kind.Dict kind.Set = false
+same_kind kind.List kind.Dict = false
 same_kind kind.List kind.List = true
+same_kind kind.List kind.Set = false
+same_kind kind.Set kind.Dict = false
+same_kind kind.Set kind.List = false
 same_kind kind.Set kind.Set = true
-same_kind one other = false
 
 -- the kind of the container at a place
 abbrev pub kind_at : Draft → ℕ → Option Kind

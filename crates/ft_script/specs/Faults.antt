@@ -29,8 +29,19 @@ kind_of (fault.Limit limit) = 12
 kind_of fault.OrderName = 13
 
 abbrev pub which_of : Fault → Option Which
+which_of fault.Encoding = None
+which_of fault.UnknownWord = None
+which_of fault.WordCount = None
+which_of fault.Number = None
+which_of fault.String = None
+which_of fault.Name = None
+which_of fault.NameTwice = None
+which_of fault.WrongKind = None
+which_of fault.EndWithoutBegin = None
+which_of fault.BeginWithoutEnd = None
+which_of fault.TooDeep = None
 which_of (fault.Limit limit) = Some limit
-which_of other = None
+which_of fault.OrderName = None
 
 -- a fault at a line
 abbrev pub fault_at : ℕ → Fault → ScriptFault

@@ -186,8 +186,19 @@ counted_call draft word words = do
 
 -- of a call that is one too many only a wrong count of words is reported before that
 abbrev pub limit_fault : Fault → Fault
+limit_fault fault.Encoding = fault.Limit which.Calls
+limit_fault fault.UnknownWord = fault.Limit which.Calls
 limit_fault fault.WordCount = fault.WordCount
-limit_fault other = fault.Limit which.Calls
+limit_fault fault.Number = fault.Limit which.Calls
+limit_fault fault.String = fault.Limit which.Calls
+limit_fault fault.Name = fault.Limit which.Calls
+limit_fault fault.NameTwice = fault.Limit which.Calls
+limit_fault fault.WrongKind = fault.Limit which.Calls
+limit_fault fault.EndWithoutBegin = fault.Limit which.Calls
+limit_fault fault.BeginWithoutEnd = fault.Limit which.Calls
+limit_fault fault.TooDeep = fault.Limit which.Calls
+limit_fault (fault.Limit limit) = fault.Limit which.Calls
+limit_fault fault.OrderName = fault.Limit which.Calls
 
 abbrev pub past_limit : Result (Call × Draft) Fault → Result Draft Fault
 past_limit (Ok read) = Err (fault.Limit which.Calls)

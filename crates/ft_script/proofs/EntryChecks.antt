@@ -9,11 +9,11 @@ use Rattle.ft_model.specs.Scripts.{IsScript, IsCallOf}
 use Rattle.ft_script.specs.declared.fault.Fault.{Fault}
 use Rattle.ft_script.specs.declared.fault.LineError.{LineError}
 use Rattle.ft_script.specs.declared.fault.LineError.TheVariants as error
-use Rattle.ft_script.specs.Candidates.{entry_of, content_of}
+use Rattle.ft_script.specs.Internal.Candidates.{entry_of, content_of}
 use Rattle.ft_script.specs.Drafts.{Fails}
-use Rattle.ft_script.specs.Readers.{NoEntry, NoContent, IfFault, IsLine, AddsNothing, but_feed, refused}
+use Rattle.ft_script.specs.Internal.Readers.{NoEntry, NoContent, IfFault, IsLine, AddsNothing, but_feed, refused}
 use Rattle.ft_script.specs.Texts.{entry_line}
-use Rattle.ft_script.specs.Tokens.{tokens_of, before_word}
+use Rattle.ft_script.specs.Internal.Tokens.{tokens_of, before_word}
 use Rattle.ft_script.specs.Transcripts.{content_line, IsReadable, IsWhole, IsWideCall, IsContentLine}
 use Rattle.ft_script.proofs.EntryTexts.{entry_adds_nothing}
 use Rattle.ft_script.proofs.LineCases.{readable_by, entry_fits, no_entry_by_fault, no_entry_by_other, content_fits, content_by, no_content_by_fault, no_content_by_other}

@@ -20,12 +20,12 @@ use Rattle.ft_model.specs.Names.{is_container_name, is_thread_name}
 use Rattle.ft_model.specs.Parts.{IsReplyOf}
 use Rattle.ft_model.specs.Scripts.{IsScript, IsThread}
 use Rattle.ft_script.specs.declared.fault.Fault.TheVariants as fault
-use Rattle.ft_script.specs.Candidates.{thread_call, thread_of, numbered_of, stamp_of, waited_of, reply_of, entry_of, content_of}
+use Rattle.ft_script.specs.Internal.Candidates.{thread_call, thread_of, numbered_of, stamp_of, waited_of, reply_of, entry_of, content_of}
 use Rattle.ft_script.specs.Drafts.{or_fault, draft_at, text_place, thread_place}
 use Rattle.ft_script.specs.Reading.{call_in}
-use Rattle.ft_script.specs.Readers.{AddsNothing}
+use Rattle.ft_script.specs.Internal.Readers.{AddsNothing}
 use Rattle.ft_script.specs.Texts.{container_name, thread_name, call_words, reply_text, place_word, stamp_word, mark_words, entry_words, entry_line}
-use Rattle.ft_script.specs.Tokens.{tokens_of, before_word, after_word}
+use Rattle.ft_script.specs.Internal.Tokens.{tokens_of, before_word, after_word}
 use Rattle.ft_script.specs.Transcripts.{counts, content_line, IsReadable, IsWhole, IsReadableReply, IsWideReply}
 use Rattle.ft_script.proofs.CallTexts.{Declares, IsCallWord, words_are, call_back, container_name_at, container_place_at}
 use Rattle.ft_script.proofs.PartTexts.{BeginsLow, BeginsHigh, container_word, thread_word, dotless, decimal_parts, u64_decimal, u32_decimal, bytes_same, bytes_differ, position_at, text_place_at}

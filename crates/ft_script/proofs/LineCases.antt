@@ -12,10 +12,10 @@ use Rattle.ft_model.specs.declared.script.ScriptParts.{ScriptParts}
 use Rattle.ft_model.specs.Histories.{cursors_of}
 use Rattle.ft_model.specs.Scripts.{IsScript, IsCallOf}
 use Rattle.ft_script.specs.declared.fault.Fault.{Fault}
-use Rattle.ft_script.specs.Candidates.{entry_of, content_of, numbered_of}
-use Rattle.ft_script.specs.Readers.{NoEntry, NoContent, AddsEntry, AddsContent, IsLine, is_feedless, but_feed}
+use Rattle.ft_script.specs.Internal.Candidates.{entry_of, content_of, numbered_of}
+use Rattle.ft_script.specs.Internal.Readers.{NoEntry, NoContent, AddsEntry, AddsContent, IsLine, is_feedless, but_feed}
 use Rattle.ft_script.specs.Texts.{container_name, reply_text, entry_words, entry_line}
-use Rattle.ft_script.specs.Tokens.{tokens_of}
+use Rattle.ft_script.specs.Internal.Tokens.{tokens_of}
 use Rattle.ft_script.specs.Transcripts.{fed, content_line, IsReadable, IsWhole, IsWideCall, IsContentLine, IsTranscript, IsFirstBad}
 use Rattle.ft_script.proofs.EntryTexts.{words_cut, entry_read, content_cut, content_back}
 use Rattle.ft_script.proofs.SoundReading.{EntryFits, ContentFits, Numbered, numbered_sound, entry_sound, content_sound}

@@ -4,7 +4,7 @@ use Rattle.std.specs.List.{list_all, prefix_len, position, position_or_len}
 use Rattle.std.proofs.lemmas.Bool.{cases_lt, lt-ltb, le-ltb, eqb-true, and_from}
 use Rattle.std.proofs.lemmas.List.{take_all, take_more, length-drop, take-append-drop}
 use Rattle.std.proofs.lemmas.List.Sums.{passes_at_first}
-use Rattle.ft_script.specs.Readers.{IsLine, is_feedless}
+use Rattle.ft_script.specs.Internal.Readers.{IsLine, is_feedless}
 
 abbrev is_feed : ℕ → Bool
 is_feed b = eqb b 10

@@ -10,7 +10,7 @@ use Rattle.std.proofs.lemmas.Result.{OkIff-at_ok, OkIff-at_err}
 use Rattle.std.proofs.lemmas.Str.{IsUtf8-from_ascii}
 use Rattle.std.proofs.lemmas.Str.Parse.{parse_digits}
 use Rattle.ft_model.specs.Names.{is_digit}
-use Rattle.ft_script.specs.Candidates.{is_decimal, natural_in}
+use Rattle.ft_script.specs.Internal.Candidates.{is_decimal, natural_in}
 use Rattle.ft_script.proofs.WordLemmas.{AreDigits, own}
 
 pub natural_by : (token : List ℕ) (form low : Bool) → is_decimal token ≡ form → ltb (digits_value 10 token) (2 ^ 64) ≡ low → natural_in token ≡ cond (form && low) (Some (digits_value 10 token)) None

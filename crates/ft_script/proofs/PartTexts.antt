@@ -20,7 +20,7 @@ use Rattle.ft_model.specs.Keys.{as_value}
 use Rattle.ft_script.specs.declared.fault.Fault.{Fault}
 use Rattle.ft_script.specs.declared.fault.Fault.TheVariants as fault
 use Rattle.ft_script.specs.Arguments.{index_of}
-use Rattle.ft_script.specs.Candidates.{is_decimal, natural_in, u64_of, u32_of, known_key, known_value, known_pair}
+use Rattle.ft_script.specs.Internal.Candidates.{is_decimal, natural_in, u64_of, u32_of, known_key, known_value, known_pair}
 use Rattle.ft_script.specs.Drafts.{◌>>=◌, or_fault, text_place}
 use Rattle.ft_script.specs.Texts.{quoted, key_text, value_text}
 use Rattle.ft_script.specs.Transcripts.{IsWideKey, IsWideValue}

@@ -10,7 +10,7 @@ use Rattle.ft_script.specs.declared.fault.Fault.TheVariants as fault
 use Rattle.ft_script.specs.declared.fault.LineError.{LineError}
 use Rattle.ft_script.specs.declared.fault.LineError.TheVariants as error
 use Rattle.ft_script.specs.Drafts.{◌>>=◌, Fails}
-use Rattle.ft_script.specs.Candidates.{each_of, known_pair, pairs_of}
+use Rattle.ft_script.specs.Internal.Candidates.{each_of, known_pair, pairs_of}
 use Rattle.ft_script.proofs.TokenLists.{shown}
 
 -- what is read of the tokens after some that are read already

@@ -22,10 +22,10 @@ use Rattle.ft_model.specs.Classes.{least_class, greatest_class}
 use Rattle.ft_script.specs.declared.fault.Fault.{Fault}
 use Rattle.ft_script.specs.declared.reply_words.ReplyWord.{ReplyWord}
 use Rattle.ft_script.specs.declared.reply_words.ReplyWord.TheVariants as word
-use Rattle.ft_script.specs.Candidates.{known_key, known_value, known_pair, each_of, pairs_of, reply_word_text, reply_word_of, suspended_of, runtime_error_of, class_error_of, memory_error_of, has_pairs, braced_of, but_last, worded_reply, counted_reply, shown_reply, first_reply, reply_of}
+use Rattle.ft_script.specs.Internal.Candidates.{known_key, known_value, known_pair, each_of, pairs_of, reply_word_text, reply_word_of, suspended_of, runtime_error_of, class_error_of, memory_error_of, has_pairs, braced_of, but_last, worded_reply, counted_reply, shown_reply, first_reply, reply_of}
 use Rattle.ft_script.specs.Drafts.{◌>>=◌}
 use Rattle.ft_script.specs.Texts.{key_text, value_text, pair_text, listed, raise_text, reply_text}
-use Rattle.ft_script.specs.Tokens.{tokens_of}
+use Rattle.ft_script.specs.Internal.Tokens.{tokens_of}
 use Rattle.ft_script.specs.Transcripts.{IsWideKey, IsWideValue, IsWideReply, IsReadableReply}
 use Rattle.ft_script.specs.Words.{is_wide}
 use Rattle.ft_script.proofs.PartTexts.{BeginsNumber, BeginsShown, number_shown, decimal_word, u32_decimal, key_back, value_back, pair_back, key_is_cut, value_is_cut, key_begins, value_begins}

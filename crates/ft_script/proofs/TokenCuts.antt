@@ -4,7 +4,7 @@ use Rattle.std.proofs.lemmas.List.{append-nil}
 use Rattle.ft_script.specs.declared.lines.Place.{Place}
 use Rattle.ft_script.specs.declared.lines.Place.TheVariants as place
 use Rattle.ft_script.specs.Lines.{with_first}
-use Rattle.ft_script.specs.Tokens.{place_after, token_ends, token_start, fronted, parted, tokens_from}
+use Rattle.ft_script.specs.Internal.Tokens.{place_after, token_ends, token_start, fronted, parted, tokens_from}
 use Rattle.ft_script.proofs.WordCuts.{onto, at_place, onto_byte, onto_more, ended, part, part_more, part_first, at_index, nothing_left, last_part, last_word, cut_after}
 
 -- the tokens of a line, of which some are cut already, and a part of one

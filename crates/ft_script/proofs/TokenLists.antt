@@ -6,7 +6,7 @@ use Rattle.std.proofs.Math.ListN.{drop_of_length-le}
 use Rattle.std.proofs.Math.Seq.{take-append_seam, drop-append-add, take-length}
 use Rattle.std.proofs.lemmas.Bool.{cases_lt, lt-ltb, le-ltb, and_parts}
 use Rattle.std.proofs.lemmas.List.{length-map, length-drop, take_all, take-map, drop-map}
-use Rattle.ft_script.specs.Tokens.{before_word, after_word}
+use Rattle.ft_script.specs.Internal.Tokens.{before_word, after_word}
 
 abbrev pub shown : List (Bor (List ℕ)) → List (List ℕ)
 shown tokens = map (λ (token : Bor (List ℕ)). token.now) tokens

@@ -7,7 +7,7 @@ use Rattle.ft_model.specs.declared.entry.Entry.{Entry}
 use Rattle.ft_model.specs.declared.script.ScriptParts.{ScriptParts}
 use Rattle.ft_model.specs.Scripts.{IsScript}
 use Rattle.ft_script.specs.declared.fault.Fault.{Fault}
-use Rattle.ft_script.specs.Readers.{is_feedless}
+use Rattle.ft_script.specs.Internal.Readers.{is_feedless}
 use Rattle.ft_script.specs.Texts.{container_name, thread_name, call_words, mark_words, place_word, stamp_word, reply_text, entry_words, entry_line}
 use Rattle.ft_script.specs.Transcripts.{fed, IsReadable, IsContentLine, IsTranscript, IsFirstBad}
 use Rattle.ft_script.proofs.EntryTexts.{words_cut, entry_read, thread_begins, container_begins}

@@ -9,7 +9,7 @@ use Rattle.ft_script.specs.declared.fault.LineError.{LineError}
 use Rattle.ft_script.specs.declared.fault.LineError.TheVariants as error
 use Rattle.ft_script.specs.declared.transcript.TranscriptFault.{TranscriptFault}
 use Rattle.ft_script.specs.declared.transcript.TranscriptFault.TheVariants.{Line, Memory}
-use Rattle.ft_script.specs.Readers.{NoEntry, NoContent, IfFault, IsLine, is_feedless, reported_line}
+use Rattle.ft_script.specs.Internal.Readers.{NoEntry, NoContent, IfFault, IsLine, is_feedless, reported_line}
 use Rattle.ft_script.specs.Transcripts.{IsTranscript, IsFirstBad}
 use Rattle.ft_script.proofs.LineCases.{Adds, nothing_read, line_added, line_counted, bad_line, bad_end}
 

@@ -1,3 +1,4 @@
+pub mod Internal
 pub mod Forms
 pub mod Texts
 pub mod Faults
@@ -9,7 +10,4 @@ pub mod Arguments
 pub mod Reading
 pub mod Scripts
 pub mod Transcripts
-pub mod Tokens
-pub mod Candidates
-pub mod Readers
 pub mod Generator

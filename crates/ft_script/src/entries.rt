@@ -1,11 +1,11 @@
 //! Reads the lines of entries and contents.
 ghost use Rattle.ft_script.specs.declared.fault.Fault.TheVariants as fault;
-ghost use Rattle.ft_script.specs.Candidates.{content_of, entry_of, numbered_of, only_call, stamp_of, thread_call, thread_of, waited_of};
+ghost use Rattle.ft_script.specs.Internal.Candidates.{content_of, entry_of, numbered_of, only_call, stamp_of, thread_call, thread_of, waited_of};
 ghost use Rattle.ft_model.specs.Scripts.{IsScript};
 ghost use Rattle.ft_script.specs.Drafts.{Gives, container_place, draft_at, or_fault};
 ghost use Rattle.ft_script.specs.Reading.{call_of};
-ghost use Rattle.ft_script.specs.Readers.{AddsNothing, IsReaderOf, IsUnchanged};
-ghost use Rattle.ft_script.specs.Tokens.{before_word};
+ghost use Rattle.ft_script.specs.Internal.Readers.{AddsNothing, IsReaderOf, IsUnchanged};
+ghost use Rattle.ft_script.specs.Internal.Tokens.{before_word};
 ghost use Rattle.ft_script.specs.Transcripts.{counts, counts_dict, counts_list, counts_set};
 ghost use Rattle.std.specs.List.{after_first, before_first};
 ghost use Rattle.std.specs.Prelude.{◌≡◌, ◌≢◌, ◌==◌, ◌<◌, ◌≤◌, All, AllPairs, IfOk, OnOk, codes, drop, length, map};

@@ -1,5 +1,5 @@
 //! The words that replies begin with.
-ghost use Rattle.ft_script.specs.Candidates.{reply_word_of, reply_word_text};
+ghost use Rattle.ft_script.specs.Internal.Candidates.{reply_word_of, reply_word_text};
 ghost use Rattle.std.specs.Prelude.{◌≡◌};
 
 /// The first token of a reply that isn't a value or a pair.

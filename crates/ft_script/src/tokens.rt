@@ -1,5 +1,5 @@
 //! The tokens of the lines of transcripts.
-ghost use Rattle.ft_script.specs.Tokens.{before_word, after_word, is_gap, is_mark, place_at, place_after, token_ends, token_start, tokens_of};
+ghost use Rattle.ft_script.specs.Internal.Tokens.{before_word, after_word, is_gap, is_mark, place_at, place_after, token_ends, token_start, tokens_of};
 ghost use Rattle.ft_script.specs.declared.lines.Place.TheVariants as at;
 ghost use Rattle.std.specs.Prelude.{◌≡◌, IfOk, map};
 

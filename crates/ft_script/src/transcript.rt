@@ -2,9 +2,9 @@
 ghost use Rattle.ft_model.specs.Histories.{cursors_of};
 ghost use Rattle.ft_model.specs.Parts.{IsEntryOf, IsReplyOf};
 ghost use Rattle.ft_model.specs.Scripts.{IsCallOf, IsScript};
-ghost use Rattle.ft_script.specs.Readers.{AddsContent, AddsEntry, IfFault, IsLine, IsReaderOf, NoContent, NoEntry, but_feed, is_feedless, refused, reported_line};
+ghost use Rattle.ft_script.specs.Internal.Readers.{AddsContent, AddsEntry, IfFault, IsLine, IsReaderOf, NoContent, NoEntry, but_feed, is_feedless, refused, reported_line};
 ghost use Rattle.ft_script.specs.Texts.{entry_line};
-ghost use Rattle.ft_script.specs.Tokens.{tokens_of};
+ghost use Rattle.ft_script.specs.Internal.Tokens.{tokens_of};
 ghost use Rattle.ft_script.specs.Transcripts.{IsContentLine, IsFirstBad, IsReadable, IsTranscript, IsWhole, IsWideCall, content_line};
 ghost use Rattle.ft_script.specs.declared.fault.LineError.TheVariants as error;
 ghost use Rattle.ft_script.specs.declared.transcript.TranscriptFault.TheVariants.{Line, Memory};

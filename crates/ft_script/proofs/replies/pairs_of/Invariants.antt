@@ -1,5 +1,5 @@
 use Rattle.std.proofs.Common.{◌≡◌, length}
-use Rattle.ft_script.specs.Candidates.{pairs_of}
+use Rattle.ft_script.specs.Internal.Candidates.{pairs_of}
 use Rattle.ft_script.proofs.ReplyLoops.{after}
 use Rattle.ft_script.proofs.TokenLists.{shown}
 use Rattle.ft_script.proofs.replies.pairs_of.Given as goal

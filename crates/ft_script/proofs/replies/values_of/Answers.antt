@@ -1,6 +1,6 @@
 use Rattle.std.proofs.Common.{◌∙◌, ap, sym}
 use Rattle.std.proofs.lemmas.Result.{err_from_is_err_and}
-use Rattle.ft_script.specs.Candidates.{known_value}
+use Rattle.ft_script.specs.Internal.Candidates.{known_value}
 use Rattle.ft_script.proofs.ReplyLoops.{good, each_begins, each_on, each_end, each_done}
 use Rattle.ft_script.proofs.TokenLists.{shown}
 use Rattle.ft_script.proofs.replies.values_of.Goals as goal

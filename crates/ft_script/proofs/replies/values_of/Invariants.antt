@@ -1,5 +1,5 @@
 use Rattle.std.proofs.Common.{◌≡◌, drop}
-use Rattle.ft_script.specs.Candidates.{each_of, known_value}
+use Rattle.ft_script.specs.Internal.Candidates.{each_of, known_value}
 use Rattle.ft_script.proofs.ReplyLoops.{after}
 use Rattle.ft_script.proofs.TokenLists.{shown}
 use Rattle.ft_script.proofs.replies.values_of.Given as goal

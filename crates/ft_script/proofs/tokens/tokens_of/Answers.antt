@@ -1,5 +1,5 @@
 use Rattle.std.proofs.Common.{ℕ, List, Bor, map, ◌∙◌}
-use Rattle.ft_script.specs.Tokens.{tokens_of}
+use Rattle.ft_script.specs.Internal.Tokens.{tokens_of}
 use Rattle.ft_script.proofs.TokenCuts.{cut_on, cut_done, start_within}
 use Rattle.ft_script.proofs.tokens.tokens_of.Goals as goal
 

@@ -1,5 +1,5 @@
 use Rattle.std.proofs.Common.{◌≡◌, ◌≤◌, ℕ, List, map, drop, Bor}
-use Rattle.ft_script.specs.Tokens.{tokens_of, tokens_from}
+use Rattle.ft_script.specs.Internal.Tokens.{tokens_of, tokens_from}
 use Rattle.ft_script.proofs.WordCuts.{part}
 use Rattle.ft_script.proofs.TokenCuts.{resumed}
 use Rattle.ft_script.proofs.tokens.tokens_of.Given as goal

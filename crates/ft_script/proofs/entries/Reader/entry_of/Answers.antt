@@ -1,7 +1,7 @@
 use Rattle.std.proofs.Common.{◌∙◌, sym, ap, subst}
 use Rattle.std.specs.Prelude.{codes}
-use Rattle.ft_script.specs.Readers.{AddsNothing}
-use Rattle.ft_script.specs.Tokens.{before_word}
+use Rattle.ft_script.specs.Internal.Readers.{AddsNothing}
+use Rattle.ft_script.specs.Internal.Tokens.{before_word}
 use Rattle.ft_script.proofs.LineCases.{numbered_low}
 use Rattle.ft_script.proofs.TokenLists.{after_two}
 use Rattle.ft_script.proofs.entries.Reader.entry_of.Goals as goal

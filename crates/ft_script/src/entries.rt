@@ -106,7 +106,7 @@ fn counts_set(call: &SetCall) -> bool
 }
 
 /// The thread of that name.
-#[tactic(auto, unfolding(crate::specs::Candidates::thread_of))]
+#[tactic(auto, unfolding(crate::specs::Internal::Candidates::thread_of))]
 fn thread_of(script: &ScriptParts, name: &[u8]) -> Result<u32, Fault>
     requires { IsScript script.now }
     ensures { result ≡ thread_of script.now name.now }
@@ -115,7 +115,7 @@ fn thread_of(script: &ScriptParts, name: &[u8]) -> Result<u32, Fault>
 }
 
 /// The thread and the index that a dot parts.
-#[tactic(auto, unfolding(crate::specs::Candidates::numbered_of))]
+#[tactic(auto, unfolding(crate::specs::Internal::Candidates::numbered_of))]
 fn numbered_of(script: &ScriptParts, token: &[u8]) -> Result<(u32, u32), Fault>
     requires { IsScript script.now }
     ensures { result ≡ numbered_of script.now token.now }
@@ -138,7 +138,7 @@ fn split_at_dot(token: &[u8]) -> (&[u8], &[u8])
 }
 
 /// Whether a `w` stands there, and the number after it.
-#[tactic(auto, unfolding(crate::specs::Candidates::stamp_of))]
+#[tactic(auto, unfolding(crate::specs::Internal::Candidates::stamp_of))]
 fn stamp_of(token: &[u8]) -> Result<(bool, u64), Fault>
     ensures { result ≡ stamp_of token.now }
 {
@@ -149,7 +149,7 @@ fn stamp_of(token: &[u8]) -> Result<(bool, u64), Fault>
 }
 
 /// The thread that the first token names, if there is one.
-#[tactic(auto, unfolding(crate::specs::Candidates::waited_of))]
+#[tactic(auto, unfolding(crate::specs::Internal::Candidates::waited_of))]
 fn waited_of(script: &ScriptParts, tokens: &[&[u8]]) -> Result<Option<u32>, Fault>
     requires { IsScript script.now }
     ensures { result ≡ waited_of script.now (map (λ token. token.now) tokens.now) }
@@ -238,7 +238,7 @@ impl Reader {
     }
 
     /// The call of a thread that some words may be. An `Err` may leave other cursors or strings.
-    #[tactic(auto, unfolding(crate::specs::Candidates::thread_call, crate::specs::Reading::call_in))]
+    #[tactic(auto, unfolding(crate::specs::Internal::Candidates::thread_call, crate::specs::Reading::call_in))]
     fn thread_call(
         &mut self,
         alloc: Global,
@@ -280,7 +280,7 @@ impl Reader {
     }
 
     /// The entry whose line some tokens may be. An `Err` may leave other cursors or strings.
-    #[tactic(auto, unfolding(crate::specs::Candidates::entry_of))]
+    #[tactic(auto, unfolding(crate::specs::Internal::Candidates::entry_of))]
     pub(crate) fn entry_of(
         &mut self,
         alloc: Global,
@@ -317,7 +317,7 @@ impl Reader {
 }
 
 /// The container and the content whose line some tokens may be.
-#[tactic(auto, unfolding(crate::specs::Candidates::content_of))]
+#[tactic(auto, unfolding(crate::specs::Internal::Candidates::content_of))]
 pub(crate) fn content_of(
     alloc: Global,
     script: &ScriptParts,

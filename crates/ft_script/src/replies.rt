@@ -32,7 +32,7 @@ fn natural_in(token: &[u8]) -> Option<u64>
 }
 
 /// The number below 2^64 that digits are.
-#[tactic(auto, unfolding(crate::specs::Candidates::u64_of))]
+#[tactic(auto, unfolding(crate::specs::Internal::Candidates::u64_of))]
 pub(crate) fn u64_of(token: &[u8]) -> Result<u64, Fault>
     ensures { result ≡ u64_of token.now }
 {
@@ -40,7 +40,7 @@ pub(crate) fn u64_of(token: &[u8]) -> Result<u64, Fault>
 }
 
 /// The number below 2^32 that digits are.
-#[tactic(auto, unfolding(crate::specs::Candidates::u32_of))]
+#[tactic(auto, unfolding(crate::specs::Internal::Candidates::u32_of))]
 pub(crate) fn u32_of(token: &[u8]) -> Result<u32, Fault>
     ensures { result ≡ u32_of token.now }
 {
@@ -49,7 +49,7 @@ pub(crate) fn u32_of(token: &[u8]) -> Result<u32, Fault>
 }
 
 /// The key that a token is, of a string that has a number.
-#[tactic(auto, unfolding(crate::specs::Candidates::known_key))]
+#[tactic(auto, unfolding(crate::specs::Internal::Candidates::known_key))]
 fn known_key(alloc: Global, strings: &Strings, token: &[u8]) -> Result<Key, LineError>
     ensures { Gives (λ key. key) result (known_key strings.now token.now) }
 {
@@ -63,7 +63,7 @@ fn known_key(alloc: Global, strings: &Strings, token: &[u8]) -> Result<Key, Line
 }
 
 /// The value that a token is.
-#[tactic(auto, unfolding(crate::specs::Candidates::known_value))]
+#[tactic(auto, unfolding(crate::specs::Internal::Candidates::known_value))]
 fn known_value(alloc: Global, strings: &Strings, token: &[u8]) -> Result<Value, LineError>
     ensures { Gives (λ value. value) result (known_value strings.now token.now) }
 {
@@ -74,7 +74,7 @@ fn known_value(alloc: Global, strings: &Strings, token: &[u8]) -> Result<Value, 
 }
 
 /// The pair that two tokens are.
-#[tactic(auto, unfolding(crate::specs::Candidates::known_pair))]
+#[tactic(auto, unfolding(crate::specs::Internal::Candidates::known_pair))]
 fn known_pair(
     alloc: Global,
     strings: &Strings,
@@ -134,7 +134,7 @@ fn pairs_of(
     Ok(Sequence::from_vec(pairs))
 }
 
-#[tactic(auto, unfolding(crate::specs::Candidates::suspended_of))]
+#[tactic(auto, unfolding(crate::specs::Internal::Candidates::suspended_of))]
 fn suspended_of(tokens: &[&[u8]]) -> Result<Reply, Fault>
     ensures { result ≡ suspended_of (map (λ token. token.now) tokens.now) }
 {
@@ -144,7 +144,7 @@ fn suspended_of(tokens: &[&[u8]]) -> Result<Reply, Fault>
     }
 }
 
-#[tactic(auto, unfolding(crate::specs::Candidates::runtime_error_of))]
+#[tactic(auto, unfolding(crate::specs::Internal::Candidates::runtime_error_of))]
 fn runtime_error_of(tokens: &[&[u8]]) -> Result<Raise, Fault>
     ensures { result ≡ runtime_error_of (map (λ token. token.now) tokens.now) }
 {
@@ -156,7 +156,7 @@ fn runtime_error_of(tokens: &[&[u8]]) -> Result<Raise, Fault>
     }
 }
 
-#[tactic(auto, unfolding(crate::specs::Candidates::memory_error_of))]
+#[tactic(auto, unfolding(crate::specs::Internal::Candidates::memory_error_of))]
 fn memory_error_of(tokens: &[&[u8]]) -> Result<Raise, Fault>
     ensures { result ≡ memory_error_of (map (λ token. token.now) tokens.now) }
 {
@@ -168,7 +168,7 @@ fn memory_error_of(tokens: &[&[u8]]) -> Result<Raise, Fault>
     }
 }
 
-#[tactic(auto, unfolding(crate::specs::Candidates::class_error_of))]
+#[tactic(auto, unfolding(crate::specs::Internal::Candidates::class_error_of))]
 fn class_error_of(token: &[u8]) -> Result<Raise, Fault>
     ensures { result ≡ class_error_of token.now }
 {
@@ -190,7 +190,7 @@ fn has_pairs(tokens: &[&[u8]]) -> bool
 }
 
 /// What stands between the braces of a dict or a set.
-#[tactic(auto, unfolding(crate::specs::Candidates::braced_of))]
+#[tactic(auto, unfolding(crate::specs::Internal::Candidates::braced_of))]
 fn braced_of(alloc: Global, strings: &Strings, tokens: &[&[u8]]) -> Result<Reply, LineError>
     ensures { Gives (λ reply. reply) result (braced_of strings.now (map (λ token. token.now) tokens.now)) }
 {
@@ -209,7 +209,7 @@ fn but_last<'a, 'b>(tokens: &'a [&'b [u8]]) -> &'a [&'b [u8]]
 }
 
 /// The reply whose first token is this word.
-#[tactic(auto, unfolding(crate::specs::Candidates::worded_reply))]
+#[tactic(auto, unfolding(crate::specs::Internal::Candidates::worded_reply))]
 fn worded_reply(
     alloc: Global,
     strings: &Strings,
@@ -248,7 +248,7 @@ fn counted_reply(counted: bool, value: Value) -> Reply
 }
 
 /// A value or a pair.
-#[tactic(auto, unfolding(crate::specs::Candidates::shown_reply))]
+#[tactic(auto, unfolding(crate::specs::Internal::Candidates::shown_reply))]
 fn shown_reply(
     alloc: Global,
     strings: &Strings,
@@ -268,7 +268,7 @@ fn shown_reply(
 }
 
 /// The reply that some tokens may be, to a call that counts or doesn't.
-#[tactic(auto, unfolding(crate::specs::Candidates::reply_of, crate::specs::Candidates::first_reply))]
+#[tactic(auto, unfolding(crate::specs::Internal::Candidates::reply_of, crate::specs::Internal::Candidates::first_reply))]
 pub(crate) fn reply_of(
     alloc: Global,
     strings: &Strings,

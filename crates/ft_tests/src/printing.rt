@@ -41,6 +41,6 @@ fn prints_worlds(rt: HostRuntime) -> Result<(), Fail> {
     let script = parse(rt.alloc(), SCRIPT.as_bytes())?;
     let world = World::start(rt.alloc(), script.parts().containers.as_slice())?;
     let text = print_world(rt.alloc(), &script, &world)?;
-    assert_eq!(rt; text.as_slice(), b"d = {}\nl = []\ns = set()\n".as_slice());
+    assert!(rt; text.as_slice() == b"d = {}\nl = []\ns = set()\n".as_slice());
     Ok(())
 }

@@ -1,6 +1,6 @@
 //! Transcripts that are read, and the first line of others that is none.
 
-use ft_model::{Call, DictCall, Key, Raise, Reply, Sym, Value};
+use ft_model::{Call, DictCall, Entry, Key, Raise, Reply, Sym, Value};
 use ft_script::{TranscriptFault, parse, read_transcript};
 use std::alloc::Global;
 use std::process::Abort;
@@ -187,21 +187,27 @@ fn what_lines_say(rt: HostRuntime) -> Result<(), Fail> {
     let script = parse(rt.alloc(), SCRIPT.as_bytes())?;
     let text = "B2.7 r9 getd d \"a b\" -5 = MemoryError 7 waited A\nA.2 w9 len d = 3\nl = [1]\n";
     let transcript = read_transcript(rt.alloc(), &script, text.as_bytes())?;
-    assert_eq!(rt; transcript.entries.len(), 2);
-    let entry = &transcript.entries[0];
-    assert_eq!(rt;
-        (entry.thread, entry.index, entry.stamp, entry.wrote),
-        (1, 7, 9, false)
-    );
+    let [first, second] = transcript.entries.as_slice() else {
+        return Err("two entries".into());
+    };
     let call = DictCall::GetOr {
         key: Key::Text(Sym(0)),
         default: Value::Int(-5),
     };
-    assert_eq!(rt; entry.call, Call::Dict { container: 0, call });
-    assert_eq!(rt; entry.reply, Reply::Raised(Raise::Memory(7)));
-    assert_eq!(rt; entry.waited, Some(0));
-    assert_eq!(rt; transcript.entries[1].reply, Reply::Count(3));
-    assert_eq!(rt; transcript.world.len(), 1);
-    assert_eq!(rt; transcript.world[0].as_slice(), b"l = [1]".as_slice());
+    let said = Entry {
+        thread: 1,
+        index: 7,
+        stamp: 9,
+        wrote: false,
+        call: Call::Dict { container: 0, call },
+        reply: Reply::Raised(Raise::Memory(7)),
+        waited: Some(0),
+    };
+    assert!(rt; *first == said);
+    assert!(rt; second.reply == Reply::Count(3));
+    let [line] = transcript.world.as_slice() else {
+        return Err("one content".into());
+    };
+    assert!(rt; line.as_slice() == b"l = [1]".as_slice());
     Ok(())
 }

@@ -1,0 +1,4 @@
+pub mod Numbers
+pub mod Sweeps
+pub mod Lawful
+pub mod Collections

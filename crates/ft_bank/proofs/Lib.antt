@@ -11,3 +11,4 @@ pub mod Freeing
 mod Seen
 pub mod Retiring
 pub mod Reusing
+pub mod Floors

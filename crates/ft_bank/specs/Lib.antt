@@ -18,3 +18,4 @@ pub mod Takings
 pub mod Shown
 pub mod Slips
 pub mod Notes
+pub mod Floors

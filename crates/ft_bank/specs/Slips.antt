@@ -1,11 +1,12 @@
 -- What a note is among the views of a trace.
-use Rattle.std.specs.Prelude.{ℕ, [], false}
+use Rattle.std.specs.Prelude.{ℕ, List, [], false}
 use Rattle.ft_trace.specs.declared.View.{View}
 use Rattle.ft_trace.specs.Acts.{no_shape}
 
--- what a note knows that says this: it has no lock, no table, no writes, no entries and no tokens
-abbrev pub slip : ℕ → View
-slip n =
+-- what a note knows that brings so many tokens, says so many writes, and has these words: it has no lock, no table, no
+-- writes and no entries
+abbrev pub slip_with : ℕ → ℕ → List ℕ → View
+slip_with tokens n words =
     record {
       number = 0;
       next = 0;
@@ -14,8 +15,12 @@ slip n =
       shape = no_shape;
       log = [];
       entries = [];
-      tokens = 0;
+      tokens = tokens;
       learnt = n;
       has_floor = false;
-      floor = [];
+      floor = words;
     }
+
+-- what a note knows that says this, and brings no tokens
+abbrev pub slip : ℕ → View
+slip n = slip_with 0 n []

@@ -9,6 +9,7 @@
 
 mod bank;
 mod closed;
+mod floor;
 mod keys;
 mod locks;
 mod meetings;
@@ -31,6 +32,7 @@ mod table_tests;
 mod takings;
 #[cfg(test)]
 mod tests;
+mod tokens;
 mod writes;
 
 pub use crate::bank::Bank;
@@ -41,3 +43,4 @@ pub use crate::sections::{OpenSection, Sections, Taking};
 pub use crate::shape::{MakeFault, Shape};
 pub use crate::table::Table;
 pub use crate::takings::Took;
+pub use crate::tokens::{Resting, Tokens};

@@ -108,3 +108,23 @@ impl Split<View> for Notes {
 
     ghost right = { note 0 };
 }
+
+/// How a pass gives all its tokens away.
+pub struct Gives;
+
+impl Split<View> for Gives {
+    ghost use Rattle.ft_trace.specs.Acts.{sender, note};
+
+    ghost left = { λ v. sender v.tokens v };
+
+    ghost right = { λ v. note v.tokens v };
+}
+
+/// The step takes the floor.
+pub struct Floor;
+
+impl Keeping for Floor {
+    ghost use Rattle.ft_trace.specs.declared.Act.TheVariants.{TakeFloor};
+
+    ghost act = { λ n s. TakeFloor n s };
+}

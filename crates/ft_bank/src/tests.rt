@@ -101,3 +101,34 @@ fn a_note_is_learnt(rt: HostRuntime) -> Result<(), Fail> {
     assert_eq!(rt; second.left(), 10);
     Ok(())
 }
+
+#[test]
+fn one_caller_hands_the_floor_on(rt: HostRuntime) -> Result<(), Fail> {
+    let alloc = rt.alloc();
+    let shape = small(alloc)?;
+    if !shape.fits() {
+        return Err(Fail::from("a small shape fits"));
+    }
+    let Ok((bank, passes)) = Bank::new(alloc, shape) else {
+        return Err(Fail::from("there is memory"));
+    };
+    let (mut first, second) = two(&bank, passes)?;
+    let (waiting, tokens) = bank.rest(second);
+    bank.gather(&mut first, tokens);
+    bank.take_floor(&mut first);
+    let Ok(()) = bank.try_lock(&mut first, 1) else {
+        return Err(Fail::from("the lock is free"));
+    };
+    let (stopped, tokens) = bank.rest(first);
+    let mut second = bank.wake(waiting, tokens);
+    let Err(other) = bank.try_lock(&mut second, 1) else {
+        return Err(Fail::from("the first pass has the lock"));
+    };
+    assert_eq!(rt; other, 0);
+    let (waiting, tokens) = bank.rest(second);
+    let mut first = bank.wake(stopped, tokens);
+    bank.unlock(&mut first, 1);
+    bank.join_resting(&mut first, waiting);
+    assert_eq!(rt; first.left(), 20);
+    Ok(())
+}

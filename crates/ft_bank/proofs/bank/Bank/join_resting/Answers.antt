@@ -1,0 +1,37 @@
+use Rattle.std.proofs.Common.{◌+◌, ◌*◌, ◌^◌, ◌<◌, refl, sym, ap, ◌∙◌, subst, arith}
+use Rattle.ft_trace.specs.declared.Shape.{Shape}
+use Rattle.ft_trace.specs.declared.View.{View}
+use Rattle.ft_trace.specs.declared.Act.TheVariants.{ReadCounter}
+use Rattle.ft_trace.specs.Acts.{both}
+use Rattle.ft_trace.specs.Traces.{Possible}
+use Rattle.ft_bank.specs.Passes.{view}
+use Rattle.ft_bank.specs.Floors.{rests}
+use Rattle.ft_bank.proofs.Allowed.{acted_possible}
+use Rattle.ft_bank.proofs.Knowing.{left_low}
+use Rattle.ft_bank.proofs.Retiring.{retired_by, retired_same}
+use Rattle.ft_bank.proofs.Seen.{load_settles}
+use Rattle.ft_bank.proofs.bank.Bank.join_resting.Goals as goal
+
+pub overflow_add-pass : goal.overflow_add-pass
+overflow_add-pass c =
+    let v = view c.args.pass.now in
+    let d = c.settle_as.ensures.view in
+    let few : v.shape.passes * v.shape.calls < 2 ^ 62 = subst (λ (z : Shape). z.passes * z.calls < 2 ^ 62) (sym c.requires.pass.1) c.args.self.now.few in
+    omega (arith, left_low (both v (rests c.args.other)) (ReadCounter d.0) d.2, few, c.args.pass.now.leaves, c.args.other.leaves)
+
+pub invariant_of-pass : goal.invariant_of-pass
+invariant_of-pass c =
+    let p = c.args.pass.now in
+    let v = view p in
+    let w = rests c.args.other in
+    let d = c.settle_as.ensures.view in
+    let e = d.1 in record {
+      bare = c.settle_as.ensures.bare ∙ p.bare;
+      numbered = ap (λ (v : View). v.number) e ∙ p.numbered;
+      following = p.following ∙ sym (ap (λ (v : View). v.next) e);
+      leaves = (λ j. p.leaves j + c.args.other.leaves j) ∙ sym (ap (λ (v : View). v.left) e);
+      awake = (let token = p.awake in omega (arith, token, ap (λ (v : View). v.tokens) e));
+      settled = load_settles (both v w) d.0 _ e d.2;
+      retiring = retired_by _ (both v w) _ (ReadCounter d.0) e (λ t b. refl) (retired_same _ v (both v w) refl (λ t. refl) p.retiring);
+      possible = ∣ subst Possible (sym e) (acted_possible (both v w) (ReadCounter d.0) d.2) ∣₁;
+    }

@@ -1,0 +1,45 @@
+use Rattle.std.proofs.Common.{◌≡◌, ◌≢◌, ℕ, ◌+◌, ◌-◌, ◌*◌, ◌^◌, ◌<◌, ◌≤◌, List, [], ◌++◌, refl, sym, ap, ◌∙◌, subst, arith, le_refl, append-nil}
+use Rattle.std.proofs.Math.Logic.{∥∥₁_map}
+use Rattle.ft_trace.specs.declared.Shape.{Shape}
+use Rattle.ft_trace.specs.declared.View.{View}
+use Rattle.ft_trace.specs.declared.Snap.{Snap}
+use Rattle.ft_trace.specs.declared.Act.TheVariants.{ReadCounter, TakeFloor}
+use Rattle.ft_trace.specs.Addresses.{counter}
+use Rattle.ft_trace.specs.Acts.{noted, both, sender, note, has_goal}
+use Rattle.ft_trace.specs.Traces.{Possible, IsFree, IsAwake, ReadyAs}
+use Rattle.ft_trace.proofs.Addresses.{at_low}
+use Rattle.ft_bank.specs.Passes.{view, shape_of}
+use Rattle.ft_bank.specs.Floors.{rests, carried}
+use Rattle.ft_bank.specs.Shapes.{plan}
+use Rattle.ft_bank.specs.Slips.{slip_with}
+use Rattle.ft_bank.proofs.Allowed.{acted_possible, alive, sends, glues, kept, same_settled, still_settled, token_kept}
+use Rattle.ft_bank.proofs.Knowing.{left_low}
+use Rattle.ft_bank.proofs.Retiring.{retired_by, retired_same}
+use Rattle.ft_bank.proofs.Seen.{load_settles}
+use Rattle.ft_bank.proofs.Floors.{sender_possible, no_words, tokens_free, floor_settles, floor_brought}
+use Rattle.ft_bank.proofs.bank.Bank.rest.Goals as goal
+
+pub split_seat-tokens-requires : goal.split_seat-tokens-requires
+split_seat-tokens-requires c =
+    let p = c.args.pass in
+    (c.requires.pass.0, omega (arith, c.args.self.now.wide, at_low (plan c.args.self.now.shape) counter tt), sends (plan c.args.self.now.table.shared.key) _ p.seat.me.0 p.seat.me.0.tokens (alive _ p.seat.me.0 p.numbered p.awake).0 (le_refl p.seat.me.0.tokens))
+
+pub invariant_of-resting : goal.invariant_of-resting
+invariant_of-resting c =
+    let p = c.args.pass in
+    let v = p.seat.me.0 in
+    let e = c.split_seat-tokens.ensures.2 in
+    let same = ap (λ m. m.0) e in record {
+      bare = ap (λ m. m.1) e ∙ p.bare;
+      numbered = ap (λ (v : View). v.number) same ∙ p.numbered;
+      following = p.following ∙ sym (ap (λ (v : View). v.next) same);
+      leaves = p.leaves ∙ sym (ap (λ (v : View). v.left) same);
+      settled = same_settled _ (sender v.tokens v) same p.settled;
+      still = ap (λ (v : View). v.tokens) same ∙ nothing_left v.tokens;
+      wordless = ap (λ (v : View). v.floor) same ∙ no_words v p.awake;
+      retiring = retired_same _ _ _ (ap (λ (v : View). v.shape) same) (λ t. ap (λ (v : View). has_goal t v.log) same) p.retiring;
+      possible = ∥∥₁_map p.possible (λ x. subst Possible (sym same) (sender_possible v v.tokens (alive _ v p.numbered p.awake).0 (le_refl v.tokens) x));
+    }
+  where
+    nothing_left : (n : ℕ) → n - n ≡ 0
+    nothing_left n = omega arith

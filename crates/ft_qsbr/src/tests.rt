@@ -1,0 +1,93 @@
+//! Announcements, collections and takings of two passes, worked by hand. Write number and announced numbers
+//! begin with 1 and 0.
+ghost use Rattle.std.specs.Prelude.{◌≡◌, IfOk, length};
+ghost use Rattle.ft_bank.specs.Openings.{IsOpening, AreOpening};
+
+use crate::{collect, enter, leave, quiesce, take};
+use ft_bank::{Bank, Pass, Shape, Took};
+use ft_model::Kind;
+use std::alloc::Global;
+use std::test::Fail;
+
+fn small(alloc: Global) -> Result<Shape, Fail>
+    ensures { IfOk result (λ s. s.passes ≡ 2) }
+{
+    Ok(Shape {
+        kinds: vec![in alloc; Kind::List]?,
+        texts: Vec::new(alloc),
+        tables: vec![in alloc; 1u32; 14]?,
+        heap: 64,
+        passes: 2,
+        calls: 10,
+    })
+}
+
+/// The two passes of a bank.
+fn two(bank: &Bank, passes: Vec<Pass>) -> Result<(Pass, Pass), Fail>
+    requires { AreOpening bank.now 0 passes.items }
+    ensures { IfOk result (λ p. IsOpening bank.now 0 p.0 × IsOpening bank.now 1 p.1) }
+{
+    let _ = bank;
+    let mut each = passes.into_iter();
+    let Some(first) = each.next() else {
+        return Err(Fail::from("there is pass 0"));
+    };
+    let Some(second) = each.next() else {
+        return Err(Fail::from("there is pass 1"));
+    };
+    Ok((first, second))
+}
+
+#[test]
+fn the_last_table_of_a_class_goes_round(rt: HostRuntime) -> Result<(), Fail> {
+    let alloc = rt.alloc();
+    let shape = small(alloc)?;
+    if !shape.fits() {
+        return Err(Fail::from("a small shape fits"));
+    }
+    let Ok((bank, passes)) = Bank::new(alloc, shape) else {
+        return Err(Fail::from("there is memory"));
+    };
+    let (mut first, mut second) = two(&bank, passes)?;
+    enter(&bank, &mut first);
+    enter(&bank, &mut second);
+    let Took::Taken(table) = take(&bank, &mut first, 3) else {
+        return Err(Fail::from("a table is free"));
+    };
+    assert_eq!(rt; table.number, 0);
+    let Took::AllTaken = take(&bank, &mut second, 3) else {
+        return Err(Fail::from("no table is free"));
+    };
+    bank.give_table(&mut first, table);
+    let Took::Taken(again) = take(&bank, &mut second, 3) else {
+        return Err(Fail::from("the table is free again"));
+    };
+    assert_eq!(rt; again.number, 0);
+    Ok(())
+}
+
+#[test]
+fn passes_announce_the_write_number(rt: HostRuntime) -> Result<(), Fail> {
+    let alloc = rt.alloc();
+    let shape = small(alloc)?;
+    if !shape.fits() {
+        return Err(Fail::from("a small shape fits"));
+    }
+    let Ok((bank, passes)) = Bank::new(alloc, shape) else {
+        return Err(Fail::from("there is memory"));
+    };
+    if bank.passes() != 2 {
+        return Err(Fail::from("there are two passes"));
+    }
+    let (mut first, mut second) = two(&bank, passes)?;
+    assert_eq!(rt; bank.write_number(&mut first), 1);
+    enter(&bank, &mut second);
+    assert_eq!(rt; bank.announced(&mut first, 0), 0);
+    assert_eq!(rt; bank.announced(&mut first, 1), 1);
+    assert_eq!(rt; collect(&bank, &mut first), 0);
+    quiesce(&bank, &mut second);
+    assert_eq!(rt; bank.announced(&mut first, 1), 1);
+    leave(&bank, &mut second);
+    assert_eq!(rt; bank.announced(&mut first, 1), 0);
+    Ok(())
+}

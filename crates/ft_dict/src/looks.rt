@@ -78,11 +78,8 @@ fn find_value(bank: &Bank, pass: &mut Pass, d: Object, key: Key) -> AtKey
     match look_up(bank, pass, d, Way::Dict, key) {
         Looked::Here(kind, payload, number) => match value_of(kind, payload) {
             Some(value) => AtKey::Found(Some(value), number),
-            None => {
-                // No pass can be so: its loads show a value.
-                let _number = pass.number();
-                unreachable!()
-            }
+            // No pass can be so: its loads show a value.
+            None => unreachable!(),
         },
         Looked::Absent(number) => AtKey::Found(None, number),
         Looked::Contended(first, second) => AtKey::Contended(first, second),

@@ -11,7 +11,7 @@ use Rattle.ft_model.specs.declared.script.Kind.TheVariants as kind
 use Rattle.ft_layout.specs.declared.slot.Stored.TheVariants.{Plain}
 use Rattle.ft_layout.specs.Words.{FitsKey, IsStored}
 use Rattle.ft_trace.specs.declared.Act.{Act}
-use Rattle.ft_trace.specs.declared.Act.TheVariants.{ReadRoot, ReadTable, ReadCounter, Version, Answer}
+use Rattle.ft_trace.specs.declared.Act.TheVariants.{ReadBlock, ReadRoot, ReadTable, ReadCounter, Version, Answer}
 use Rattle.ft_trace.specs.declared.Shape.{Shape}
 use Rattle.ft_trace.specs.declared.View.{View}
 use Rattle.ft_trace.specs.Acts.{noted}
@@ -32,6 +32,7 @@ use Rattle.ft_search.specs.Looks.{AreLooks, ShowsHere, ShowsAbsent, Stops, IsCon
 looks_own : (l : List Act) → AreLooks l → AreOfOneCall l
 looks_own [] q = tt
 looks_own (Version o f ∷ l) q = looks_own l q
+looks_own (ReadBlock o i f ∷ l) q = looks_own l q
 looks_own (ReadRoot o f ∷ l) q = looks_own l q
 looks_own (ReadTable t i f ∷ l) q = looks_own l q
 looks_own (ReadCounter f ∷ l) q = looks_own l q
@@ -40,6 +41,7 @@ looks_own (act ∷ l) q = absurd q
 looks_newer : (newer rest : List Act) → AreLooks (newer ++ rest) → AreLooks newer
 looks_newer [] rest q = tt
 looks_newer (Version o f ∷ l) rest q = looks_newer l rest q
+looks_newer (ReadBlock o i f ∷ l) rest q = looks_newer l rest q
 looks_newer (ReadRoot o f ∷ l) rest q = looks_newer l rest q
 looks_newer (ReadTable t i f ∷ l) rest q = looks_newer l rest q
 looks_newer (ReadCounter f ∷ l) rest q = looks_newer l rest q

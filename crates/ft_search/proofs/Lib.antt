@@ -6,3 +6,4 @@ mod Closing
 mod Seeking
 mod Rounding
 pub mod Asking
+pub mod Holding

@@ -70,3 +70,7 @@ pub walk_is : (way : Way) (texts : List ℕ) (class : ℕ) (key : Key) → walk_
 unfolding walk_of
 walk_is way.Dict texts class key = refl
 walk_is way.Set texts class key = refl
+
+pub slots_of_class : (c : ℕ) → slots c ≡ class_mask c + 1
+unfolding slots
+slots_of_class c = let p = pow_some c in omega (arith, p)

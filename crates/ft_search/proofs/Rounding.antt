@@ -3,7 +3,7 @@ use Rattle.std.proofs.Common.{◌≡◌, ◌≢◌, ◌⊎◌, ℕ, zero, suc, �
 use Rattle.ft_model.specs.declared.data.Key.{Key}
 use Rattle.ft_layout.specs.Words.{key_kind, gone_kind, key_payload}
 use Rattle.ft_trace.specs.declared.Act.{Act}
-use Rattle.ft_trace.specs.declared.Act.TheVariants.{ReadRoot, ReadTable, ReadCounter, Version}
+use Rattle.ft_trace.specs.declared.Act.TheVariants.{ReadBlock, ReadRoot, ReadTable, ReadCounter, Version}
 use Rattle.ft_trace.specs.declared.Shape.{Shape}
 use Rattle.ft_trace.specs.declared.View.{View}
 use Rattle.ft_trace.specs.Acts.{noted, reads, announces}
@@ -35,6 +35,7 @@ looks_inner (act ∷ l) q = absurd q
 pub looks_append : (b a : List Act) → AreLooks b → AreLooks a → AreLooks (b ++ a)
 looks_append [] a x y = y
 looks_append (Version o f ∷ b) a x y = looks_append b a x y
+looks_append (ReadBlock o i f ∷ b) a x y = looks_append b a x y
 looks_append (ReadRoot o f ∷ b) a x y = looks_append b a x y
 looks_append (ReadTable t i f ∷ b) a x y = looks_append b a x y
 looks_append (ReadCounter f ∷ b) a x y = looks_append b a x y
@@ -44,6 +45,7 @@ looks_append (act ∷ b) a x y = absurd x
 pub looks_load : (l : List Act) (v : View) → AreLooks l → OnlyLoaded v (noted_all l v)
 looks_load [] v q = record { work = same_work v; words = refl }
 looks_load (Version o f ∷ l) v q = loaded_then v (noted_all l v) (noted (Version o f) (noted_all l v)) (looks_load l v q) (loaded_by (Version o f) (noted_all l v) (noted (Version o f) (noted_all l v)) tt refl)
+looks_load (ReadBlock o i f ∷ l) v q = loaded_then v (noted_all l v) (noted (ReadBlock o i f) (noted_all l v)) (looks_load l v q) (loaded_by (ReadBlock o i f) (noted_all l v) (noted (ReadBlock o i f) (noted_all l v)) tt refl)
 looks_load (ReadRoot o f ∷ l) v q = loaded_then v (noted_all l v) (noted (ReadRoot o f) (noted_all l v)) (looks_load l v q) (loaded_by (ReadRoot o f) (noted_all l v) (noted (ReadRoot o f) (noted_all l v)) tt refl)
 looks_load (ReadTable t i f ∷ l) v q = loaded_then v (noted_all l v) (noted (ReadTable t i f) (noted_all l v)) (looks_load l v q) (loaded_by (ReadTable t i f) (noted_all l v) (noted (ReadTable t i f) (noted_all l v)) tt refl)
 looks_load (ReadCounter f ∷ l) v q = loaded_then v (noted_all l v) (noted (ReadCounter f) (noted_all l v)) (looks_load l v q) (loaded_by (ReadCounter f) (noted_all l v) (noted (ReadCounter f) (noted_all l v)) tt refl)
@@ -52,6 +54,7 @@ looks_load (act ∷ l) v q = absurd q
 pub looks_announce : (l rest : List Act) → AreLooks l → announces (l ++ rest) ≡ announces rest
 looks_announce [] rest q = refl
 looks_announce (Version o f ∷ l) rest q = looks_announce l rest q
+looks_announce (ReadBlock o i f ∷ l) rest q = looks_announce l rest q
 looks_announce (ReadRoot o f ∷ l) rest q = looks_announce l rest q
 looks_announce (ReadTable t i f ∷ l) rest q = looks_announce l rest q
 looks_announce (ReadCounter f ∷ l) rest q = looks_announce l rest q

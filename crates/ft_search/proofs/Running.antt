@@ -9,13 +9,14 @@ use Rattle.ft_trace.specs.Finding.{Online, Inner, Window}
 use Rattle.ft_trace.proofs.Cases.{hit}
 use Rattle.ft_keys.specs.declared.words.Access.{Access}
 use Rattle.ft_keys.specs.declared.words.Access.TheVariants.{Index, Entry, PutIndex, PutEntry, OldEntry}
-use Rattle.ft_keys.specs.Accesses.{Runs, AreLoads}
+use Rattle.ft_keys.specs.Accesses.{Runs, IsLoad, AreLoads, Fits, Tells, after, put_by}
 use Rattle.ft_bank.specs.declared.pass.Pass.{Pass}
 use Rattle.ft_bank.specs.Passes.{shape_of, view}
 use Rattle.ft_bank.specs.Series.{noted_all, DidAll}
 use Rattle.ft_bank.specs.Tables.{name_of}
 use Rattle.ft_search.specs.declared.words.TableWords.{TableWords}
-use Rattle.ft_search.specs.Words.{act_of, SamePlace, Made}
+use Rattle.ft_search.specs.Words.{act_of, SamePlace, KnowsWords, known_words, Made}
+use Rattle.ft_search.specs.Looks.{AreLooks}
 
 -- ---- steps in a row
 
@@ -106,3 +107,33 @@ window_of o t part rest p q did last inner = record {
 -- what is the same over two steps
 pub same_mask : (s t : TableWords) (mask : ℕ) → SamePlace s t → s.mask ≡ mask → t.mask ≡ mask
 same_mask s t mask a is = a.mask ∙ is
+
+-- what calls on words that nobody else writes were answered, and that loads leave the words
+pub ran_known : (s : TableWords) (calls : List Access) (t : TableWords) → Runs Made s calls t → KnowsWords s → AreLoads calls → KnowsWords t × (known_words t ≡ known_words s) × Fits s.mask calls (known_words s) × (after s.mask calls (known_words s) ≡ known_words s)
+ran_known s [] t r knows loads = subst (λ (z : TableWords). KnowsWords z × (known_words z ≡ known_words s) × Fits s.mask [] (known_words s) × (known_words s ≡ known_words s)) r (knows, refl, tt, refl)
+ran_known s (a ∷ calls) t r knows loads =
+    let m = r.0 in
+    let old = ran_known s calls m r.1 knows loads.1 in
+    let place = (ran s calls m r.1).0 in
+    let g = r.2 in
+    let left = g.left old.0 in
+    let tells : Tells s.mask a (after s.mask calls (known_words s)) = subst (λ (z : ℕ × List ℕ). Tells z.0 a z.1) (λ d. (place.mask d, (old.1 ∙ sym old.3) d)) (g.tells old.0) in
+    let stays = load_stays s.mask a (known_words m) loads.0 in
+    let same : known_words t ≡ known_words s = left.1 ∙ (ap (λ (z : ℕ). put_by z a (known_words m)) place.mask ∙ (stays ∙ old.1)) in
+    (left.0, same, (old.2, tells), load_stays s.mask a (after s.mask calls (known_words s)) loads.0 ∙ old.3)
+  where
+    load_stays : (mask : ℕ) (a : Access) (words : List ℕ) → IsLoad a → put_by mask a words ≡ words
+    load_stays mask (Index slot value) words q = refl
+    load_stays mask (Entry place word value) words q = refl
+    load_stays mask (OldEntry place word value) words q = refl
+    load_stays mask (PutIndex slot value) words q = absurd q
+    load_stays mask (PutEntry place word value) words q = absurd q
+
+-- loads are looks
+pub looks_calls : (o t : ℕ) (calls : List Access) → AreLoads calls → AreLooks (map (act_of o t) calls)
+looks_calls o t [] q = tt
+looks_calls o t (Index slot x ∷ calls) q = looks_calls o t calls q.1
+looks_calls o t (Entry place word x ∷ calls) q = looks_calls o t calls q.1
+looks_calls o t (PutIndex slot x ∷ calls) q = absurd q.0
+looks_calls o t (PutEntry place word x ∷ calls) q = absurd q.0
+looks_calls o t (OldEntry place word x ∷ calls) q = looks_calls o t calls q.1

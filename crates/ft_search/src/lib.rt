@@ -3,6 +3,7 @@
 #![tactic(auto)]
 
 mod bare;
+mod held;
 mod look;
 mod looks;
 mod reading;
@@ -10,6 +11,7 @@ mod rounds;
 mod tables;
 mod words;
 
+pub use crate::held::read_key;
 pub use crate::look::look_up;
 pub use crate::looks::{Looked, answer_look};
 pub use crate::tables::{mask_of, table_named};

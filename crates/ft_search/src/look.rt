@@ -86,7 +86,7 @@ fn look_round(
 }
 
 /// A key has what words tell of it.
-fn key_fits(key: Key)
+pub(crate) fn key_fits(key: Key)
     ensures { FitsKey key }
 {
     match key {

@@ -49,7 +49,7 @@ unreachable-requires c =
     let e = c.look_up.ensures in
     let m = c.in-Here.ensures.looked in
     let own = did_log m.0 c.args.pass.now c.look_up.new.pass m.2 in
-    ∥∥₁_elim c.number-number.ensures.possible (λ a b. absurd a)
+    ∥∥₁_elim c.look_up.new.pass.possible (λ a b. absurd a)
     (λ possible.
     let r = value_here v w (shape_of c.args.bank.now) c.args.d c.args.key c.in-Here.number m.0 e.keeps m.1 own m.3.1 e.pass.1
     c.requires.container c.requires.left e.key c.in-Here.kind c.in-Here.payload m.3.0 possible c.requires.dict in

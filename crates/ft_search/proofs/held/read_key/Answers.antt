@@ -1,0 +1,84 @@
+use Rattle.std.proofs.Common.{◌≡◌, ◌≢◌, ℕ, suc, List, [], ◌∷◌, ◌++◌, Option, Some, None, refl, sym, ap, ◌∙◌, subst}
+use Rattle.std.specs.Prelude.{slice_index}
+use Rattle.ft_model.specs.declared.content.Content.{Content}
+use Rattle.ft_model.specs.declared.content.Content.TheVariants as content
+use Rattle.ft_model.specs.declared.script.Kind.TheVariants as kind
+use Rattle.ft_layout.specs.Containers.{StandsAs, IsDictWords, IsSetWords, class_mask}
+use Rattle.ft_layout.specs.Tables.{hash_of}
+use Rattle.ft_keys.specs.declared.walk.Way.{Way}
+use Rattle.ft_keys.specs.declared.walk.Way.TheVariants as way
+use Rattle.ft_keys.specs.Searches.{Searched}
+use Rattle.ft_keys.specs.Ways.{walk_slots}
+use Rattle.ft_keys.specs.declared.search.Found.{Found}
+use Rattle.ft_keys.specs.declared.search.Found.TheVariants.{Was}
+use Rattle.ft_trace.specs.declared.Act.{Act}
+use Rattle.ft_trace.specs.declared.Act.TheVariants.{ReadBlock}
+use Rattle.ft_trace.specs.declared.View.{View}
+use Rattle.ft_trace.specs.Acts.{has_lock, noted}
+use Rattle.ft_trace.specs.Holds.{held, known}
+use Rattle.ft_trace.specs.Words.{Stands, root_in}
+use Rattle.ft_trace.specs.Worlds.{kind_in}
+use Rattle.ft_trace.proofs.Known.{class_known}
+use Rattle.ft_bank.specs.Passes.{shape_of, view}
+use Rattle.ft_bank.specs.Tables.{name_of, IsTableIn}
+use Rattle.ft_bank.specs.Whole.{OnlyLoaded}
+use Rattle.ft_bank.proofs.Tables.{class_is}
+use Rattle.ft_search.specs.Held.{ReadsEntry, IsHeldAt}
+use Rattle.ft_search.specs.Rounds.{kind_by}
+use Rattle.ft_search.proofs.Running.{did_trans}
+use Rattle.ft_search.proofs.Rounding.{looks_append, looks_load}
+use Rattle.ft_search.proofs.Holding.{of_way, bare_held, key_held}
+use Rattle.ft_trace.specs.declared.Shape.{Shape}
+use Rattle.ft_search.proofs.held.read_key.Goals as goal
+
+pub read_in-requires-clause-table : goal.read_in-requires-clause-table
+read_in-requires-clause-table c = c.in-Some.ensures.in_bank (shape_of c.args.bank.now) (λ t e. c.read_block-root.ensures.table t refl e)
+
+pub returns-in-Some-clause-keeps : goal.returns-in-Some-clause-keeps
+returns-in-Some-clause-keeps c =
+    let v = view c.args.pass.now in
+    let r = c.read_in.ensures.looks in
+    let one : List Act = ReadBlock c.args.o 0 c.read_block-root.result ∷ [] in
+    let did = did_trans r.0 one c.args.pass.now c.read_block-root.new.pass c.read_in.new.pass c.read_block-root.ensures.did r.2 in
+    subst (OnlyLoaded v) (sym did.1) (looks_load (r.0 ++ one) v (looks_append r.0 one r.1 tt))
+
+pub returns-in-Some-clause-looks : goal.returns-in-Some-clause-looks
+returns-in-Some-clause-looks c =
+    let r = c.read_in.ensures.looks in
+    let one : List Act = ReadBlock c.args.o 0 c.read_block-root.result ∷ [] in
+    (r.0 ++ one, looks_append r.0 one r.1 tt, did_trans r.0 one c.args.pass.now c.read_block-root.new.pass c.read_in.new.pass c.read_block-root.ensures.did r.2)
+
+pub returns-in-None-clause-looks : goal.returns-in-None-clause-looks
+returns-in-None-clause-looks c = (ReadBlock c.args.o 0 c.read_block-root.result ∷ [], tt, c.read_block-root.ensures.did)
+
+pub returns-in-None-clause-keeps : goal.returns-in-None-clause-keeps
+returns-in-None-clause-keeps c =
+    let v = view c.args.pass.now in
+    subst (OnlyLoaded v) (sym c.read_block-root.ensures.did.1) (looks_load (ReadBlock c.args.o 0 c.read_block-root.result ∷ []) v tt)
+
+pub returns-in-None-clause-held : goal.returns-in-None-clause-held
+returns-in-None-clause-held c =
+    let v = view c.args.pass.now in
+    let o = c.args.o in
+    let none = c.in-None.ensures.none (shape_of c.args.bank.now) (λ t e. c.read_block-root.ensures.table t refl e) in
+    let kind_is = ap (λ (k : Shape). kind_in k.kinds o) c.requires.pass.1 ∙ c.requires.way in
+    bare_held c.used_entries_follow_a_dict.ensures.missing c.used_entries_follow_a_set.ensures.missing (shape_of c.args.bank.now).texts (held o v) (known o v) c.requires.stands c.args.key
+    c.args.way (of_way c.args.way v o c.args.pass.now.possible c.requires.locked kind_is) (sym (c.read_block-root.ensures.held c.requires.locked) ∙ none)
+
+pub returns-in-Some-clause-held : goal.returns-in-Some-clause-held
+returns-in-Some-clause-held c =
+    let v = view c.args.pass.now in
+    let w = view c.read_block-root.new.pass in
+    let o = c.args.o in
+    let k = shape_of c.args.bank.now in
+    let key = c.args.key in
+    let table = c.in-Some.table in
+    let in_bank = c.in-Some.ensures.in_bank k (λ t e. c.read_block-root.ensures.table t refl e) in
+    let kind_is = ap (λ (z : Shape). kind_in z.kinds o) c.requires.pass.1 ∙ c.requires.way in
+    let names : root_in (held o v) ≡ suc (name_of table) = sym (c.read_block-root.ensures.held c.requires.locked) ∙ c.in-Some.ensures.named in
+    let same : held o w ≡ held o v = ap (held o) c.read_block-root.ensures.did.1 in
+    let s = subst (λ x. (left : List ℕ) × (found : Found) × Searched (class_mask table.class) (0 ∷ 0 ∷ x.table) key (walk_slots c.args.way (hash_of k.texts key) (class_mask table.class)) left found
+    × ((slot place : ℕ) → found ≢ Was slot place) × ReadsEntry (class_mask table.class) (0 ∷ 0 ∷ x.table) found c.read_in.result) same c.read_in.ensures.searched in
+    key_held c.used_entries_follow_a_dict.ensures.missing c.used_entries_follow_a_set.ensures.missing k.texts (held o v) (known o v) c.requires.stands key
+    c.used_entries_follow_a_dict.ensures.first c.used_entries_follow_a_set.ensures.first k table in_bank names c.read_in.ensures.low s.0 s.1 c.read_in.result s.3 s.4
+    c.args.way (of_way c.args.way v o c.args.pass.now.possible c.requires.locked kind_is) s.2

@@ -1,0 +1,33 @@
+use Rattle.std.proofs.Common.{ℕ, sym, subst, map}
+use Rattle.ft_keys.specs.Accesses.{Fits}
+use Rattle.ft_keys.specs.Searches.{Searched}
+use Rattle.ft_bank.specs.Tables.{name_of}
+use Rattle.ft_search.specs.Words.{act_of, known_words}
+use Rattle.ft_search.proofs.Running.{ran, ran_known, looks_calls}
+use Rattle.ft_search.proofs.words.TableWords.seek_held.Goals as goal
+
+pub returns-clause-same : goal.returns-clause-same
+returns-clause-same g c = let s = c.find_live.ensures.shows in (ran c.args.self.now s.calls c.find_live.new.words s.runs).0
+
+pub returns-clause-knows : goal.returns-clause-knows
+returns-clause-knows g c =
+    let s = c.find_live.ensures.shows in
+    let r = ran_known c.args.self.now s.calls c.find_live.new.words s.runs c.requires.knows s.loads in
+    (r.0, r.1)
+
+pub returns-clause-looks : goal.returns-clause-looks
+returns-clause-looks g c =
+    let z = c.args.self.now in
+    let s = c.find_live.ensures.shows in
+    let acts = map (act_of z.o (name_of z.table)) s.calls in
+    (acts, looks_calls z.o (name_of z.table) s.calls s.loads, (ran z s.calls c.find_live.new.words s.runs).1)
+
+pub returns-clause-searched : goal.returns-clause-searched
+returns-clause-searched g c =
+    let z = c.args.self.now in
+    let s = c.find_live.ensures.shows in
+    let r = ran_known z s.calls c.find_live.new.words s.runs c.requires.knows s.loads in
+    let first = c.args.walk.now.left in
+    let left = c.find_live.new.walk.left in
+    subst (λ (m : ℕ). Searched m (known_words z) c.args.key first left c.find_live.result) (sym c.requires.mask)
+    (s.shown (known_words z) (subst (λ (m : ℕ). Fits m s.calls (known_words z)) c.requires.mask r.2))

@@ -1,0 +1,158 @@
+//! Look-ups of a key by a pass that has the container's lock, so that nobody else writes the words: what
+//! is found is what the pass knows of the content.
+ghost use Rattle.std.specs.Prelude.{◌≡◌, ◌≢◌, ℕ, ◌^◌, ◌<◌, List, ◌∷◌, true};
+ghost use Rattle.ft_layout.specs.Containers.{class_mask};
+ghost use Rattle.ft_layout.specs.Tables.{hash_of};
+ghost use Rattle.ft_layout.specs.Words.{FitsKey};
+ghost use Rattle.ft_keys.specs.Searches.{IsWithin, Searched};
+ghost use Rattle.ft_keys.specs.Ways.{walk_slots};
+ghost use Rattle.ft_keys.specs.declared.search.Found.{Found};
+ghost use Rattle.ft_keys.specs.declared.search.Found.TheVariants.{Was};
+ghost use Rattle.ft_trace.specs.declared.Act.{Act};
+ghost use Rattle.ft_trace.specs.Acts.{has_lock};
+ghost use Rattle.ft_trace.specs.Addresses.{containers_in};
+ghost use Rattle.ft_trace.specs.Holds.{held, known};
+ghost use Rattle.ft_trace.specs.Words.{Stands};
+ghost use Rattle.ft_trace.specs.Worlds.{kind_in};
+ghost use Rattle.ft_bank.specs.Keys.{IsKeyIn};
+ghost use Rattle.ft_bank.specs.Passes.{shape_of, view, IsPassOf};
+ghost use Rattle.ft_bank.specs.Series.{DidAll};
+ghost use Rattle.ft_bank.specs.Tables.{name_of, IsTableIn};
+ghost use Rattle.ft_bank.specs.Whole.{OnlyLoaded};
+ghost use Rattle.ft_search.specs.Held.{KnowsTable, ReadsEntry, IsHeldAt};
+ghost use Rattle.ft_search.specs.Looks.{AreLooks};
+ghost use Rattle.ft_search.specs.Rounds.{kind_by};
+ghost use Rattle.ft_search.specs.Words.{CanLoad, SamePlace, KnowsWords, known_words};
+
+use crate::look::key_fits;
+use crate::tables::{mask_of, table_named};
+use crate::words::TableWords;
+use ft_bank::{Bank, Pass, Table};
+use ft_keys::{Found, Steps, Walk, Way, Words, find_live};
+use ft_layout::entry_word::{VALUE, VALUE_KIND};
+use ft_layout::{block_word, used_entries_follow_a_dict, used_entries_follow_a_set};
+use ft_model::Key;
+use std::marker::Brand;
+use std::sync::ledger::{Blank, Ledger};
+
+/// Which word of a block the root is, as a bank counts them.
+const ROOT: u64 = block_word::ROOT - 2;
+
+impl<'a> TableWords<'a> {
+    /// Searches for a key in words that nobody else writes.
+    fn seek_held<L: Ledger>(&mut self, walk: &mut Walk, key: Key, blank: Blank) -> Found
+        requires can { CanLoad self.old }
+        requires knows { KnowsWords self.old }
+        requires mask { self.old.mask ≡ walk.old.mask }
+        requires name { blank.name ≡ L.name }
+        requires parts { (blank.parts ≡ L.parts) × (L.parts ≡ 1) }
+        ensures can { CanLoad self.new }
+        ensures same { SamePlace self.old self.new }
+        ensures knows { KnowsWords self.new × (known_words self.new ≡ known_words self.old) }
+        ensures within { IsWithin self.old.mask result }
+        ensures live { (slot place : ℕ) → result ≢ Was slot place }
+        ensures looks { (part : List Act) × AreLooks part × DidAll part self.old.pass.now self.new.pass.now }
+        ensures searched { Searched self.old.mask (known_words self.old) key walk.old.left walk.new.left result }
+    {
+        let mut steps: Steps<L> = Steps::new(blank);
+        find_live(self, walk, key, &mut steps)
+    }
+
+    /// The words of the value of the entry at which a search ended, if it ended at one.
+    fn read_found(&mut self, found: Found) -> Option<(u64, u64)>
+        requires can { CanLoad self.old }
+        requires knows { KnowsWords self.old }
+        requires within { IsWithin self.old.mask found }
+        ensures can { CanLoad self.new }
+        ensures same { SamePlace self.old self.new }
+        ensures looks { (part : List Act) × AreLooks part × DidAll part self.old.pass.now self.new.pass.now }
+        ensures reads { ReadsEntry self.old.mask (known_words self.old) found result }
+    {
+        match found {
+            Found::At(_, place) => {
+                let kind = self.entry(place, VALUE_KIND);
+                let payload = self.entry(place, VALUE);
+                Some((kind, payload))
+            }
+            Found::Was(_, _) => None,
+            Found::Free(_) => None,
+            Found::Spent => None,
+        }
+    }
+
+    /// Looks for a key by its hash, and reads the value that is there.
+    fn read_held(&mut self, way: Way, key: Key, hash: u64) -> Option<(u64, u64)>
+        requires can { CanLoad self.old }
+        requires knows { KnowsWords self.old }
+        ensures can { CanLoad self.new }
+        ensures same { SamePlace self.old self.new }
+        ensures looks { (part : List Act) × AreLooks part × DidAll part self.old.pass.now self.new.pass.now }
+        ensures searched { (left : List ℕ) × (found : Found)
+            × Searched self.old.mask (known_words self.old) key (walk_slots way hash self.old.mask) left found
+            × ((slot place : ℕ) → found ≢ Was slot place) × ReadsEntry self.old.mask (known_words self.old) found result }
+    {
+        let mut walk = Walk::new(way, hash, self.mask);
+        let found = self.seek_held::<Brand>(&mut walk, key, Blank::new(1));
+        self.read_found(found)
+    }
+}
+
+/// Looks for a key in the table of a container whose lock the pass has.
+fn read_in(
+    bank: &Bank,
+    pass: &mut Pass,
+    o: u32,
+    way: Way,
+    key: Key,
+    table: Table,
+) -> Option<(u64, u64)>
+    requires pass { IsPassOf bank.now pass.old }
+    requires container { o < containers_in (shape_of bank.now) }
+    requires key { IsKeyIn (shape_of bank.now) key }
+    requires table { IsTableIn (shape_of bank.now) table }
+    requires knows { KnowsTable o (name_of table) (view pass.old) }
+    ensures pass { IsPassOf bank.now pass.new }
+    ensures looks { (part : List Act) × AreLooks part × DidAll part pass.old pass.new }
+    ensures low { hash_of (shape_of bank.now).texts key < 2 ^ 64 }
+    ensures searched { (left : List ℕ) × (found : Found)
+        × Searched (class_mask table.class) (0 ∷ 0 ∷ (held o (view pass.old)).table) key
+        (walk_slots way (hash_of (shape_of bank.now).texts key) (class_mask table.class)) left found
+        × ((slot place : ℕ) → found ≢ Was slot place)
+        × ReadsEntry (class_mask table.class) (0 ∷ 0 ∷ (held o (view pass.old)).table) found result }
+{
+    let hash = bank.hash_of(key);
+    let mask = mask_of(table.class);
+    let mut words = TableWords {
+        bank,
+        pass,
+        o,
+        table,
+        mask,
+    };
+    words.read_held(way, key, hash)
+}
+
+/// Reads the value at a key of a dict or a set whose lock the pass has: its kind and its payload, or
+/// `None` where the key isn't there.
+pub fn read_key(bank: &Bank, pass: &mut Pass, o: u32, way: Way, key: Key) -> Option<(u64, u64)>
+    requires pass { IsPassOf bank.now pass.old }
+    requires container { o < containers_in (shape_of bank.now) }
+    requires way { kind_in (shape_of bank.now).kinds o ≡ kind_by way }
+    requires key { IsKeyIn (shape_of bank.now) key }
+    requires locked { has_lock o (view pass.old).log ≡ true }
+    requires stands { Stands (shape_of bank.now).texts (held o (view pass.old)) (known o (view pass.old)) }
+    ensures pass { IsPassOf bank.now pass.new }
+    ensures key { FitsKey key }
+    ensures keeps { OnlyLoaded (view pass.old) (view pass.new) }
+    ensures looks { (part : List Act) × AreLooks part × DidAll part pass.old pass.new }
+    ensures held { IsHeldAt (known o (view pass.old)).content key result }
+{
+    key_fits(key);
+    used_entries_follow_a_dict();
+    used_entries_follow_a_set();
+    let root = bank.read_block(pass, o, ROOT);
+    match table_named(root) {
+        Some(table) => read_in(bank, pass, o, way, key, table),
+        None => None,
+    }
+}

@@ -1,9 +1,13 @@
-//! Dicts of a bank (Python manual, Mapping Types): calls that look up a key without the lock.
+//! Dicts of a bank (Python manual, Mapping Types): calls that look up a key, without the lock and with it.
 //!
 //! Between any two steps of any passes it keeps true, for whoever runs calls, that each call adds one
 //! entry to the pass at most, and that this entry has the reply of the plain dict at its stamp.
 #![tactic(auto)]
 
+mod locked;
 mod looks;
+#[cfg(test)]
+mod tests;
 
+pub use crate::locked::{get_locked, getd_locked, has_locked};
 pub use crate::looks::{look_get, look_getd, look_has};

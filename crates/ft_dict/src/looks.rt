@@ -44,7 +44,7 @@ fn plain_of(stored: Stored) -> Option<Value>
 }
 
 /// The value that a kind and a payload stand for, which lie in an entry as they do in an item.
-fn value_of(kind: u64, payload: u64) -> Option<Value>
+pub(crate) fn value_of(kind: u64, payload: u64) -> Option<Value>
     ensures { (value : Value) → IsStored kind payload (Plain value) ↔ (result ≡ Some value) }
 {
     match item_of(&[0, kind, payload, 0]) {
@@ -54,7 +54,7 @@ fn value_of(kind: u64, payload: u64) -> Option<Value>
 }
 
 /// What `d[k]` replies: the value, or a KeyError.
-fn reply_of(found: Option<Value>) -> Reply
+pub(crate) fn reply_of(found: Option<Value>) -> Reply
     ensures { result ≡ key_reply found }
 {
     match found {

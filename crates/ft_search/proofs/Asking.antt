@@ -1,5 +1,5 @@
 -- From what a look-up shows to what a call may answer, for dicts and sets.
-use Rattle.std.proofs.Common.{◌≡◌, ℕ, ◌<◌, List, [], ◌∷◌, ◌++◌, Some, None, sym, ap, ◌∙◌, subst, true, false, append_assoc}
+use Rattle.std.proofs.Common.{◌≡◌, ℕ, ◌<◌, List, [], ◌∷◌, ◌++◌, Some, None, sym, ap, ◌∙◌, subst, true, false, append_assoc, refl, inr}
 use Rattle.ft_model.specs.declared.call.Call.{Call}
 use Rattle.ft_model.specs.declared.call.Call.TheVariants as call
 use Rattle.ft_model.specs.declared.call.SetCall.TheVariants as set
@@ -16,16 +16,20 @@ use Rattle.ft_trace.specs.declared.Shape.{Shape}
 use Rattle.ft_trace.specs.declared.View.{View}
 use Rattle.ft_trace.specs.Acts.{noted}
 use Rattle.ft_trace.specs.Addresses.{containers_in, class_of}
-use Rattle.ft_trace.specs.Causes.{AreOfOneCall}
+use Rattle.ft_trace.specs.Causes.{AreOfOneCall, HasCause}
+use Rattle.ft_model.specs.Answers.{is_write}
+use Rattle.ft_model.specs.Tables.{StoredWorld}
 use Rattle.ft_trace.specs.Kinds.{rows}
 use Rattle.ft_trace.specs.Reading.{Among}
 use Rattle.ft_trace.specs.Traces.{Possible}
-use Rattle.ft_trace.specs.Worlds.{kind_in}
+use Rattle.ft_trace.specs.Worlds.{kind_in, reply_in}
 use Rattle.ft_bank.specs.Answered.{Answered}
 use Rattle.ft_bank.specs.Reads.{IsShown}
 use Rattle.ft_bank.specs.Shown.{MayAsk, KeyIsShown}
 use Rattle.ft_bank.specs.Whole.{OnlyLoaded}
-use Rattle.ft_bank.proofs.Showing.{dict_hits_are_shown, values_are_read, set_hits_are_shown, misses_are_shown}
+use Rattle.ft_bank.specs.Writes.{MayHave}
+use Rattle.ft_bank.proofs.Whole.{loaded_by, loaded_then}
+use Rattle.ft_bank.proofs.Showing.{dict_hits_are_shown, values_are_read, set_hits_are_shown, misses_are_shown, replies_under_locks_are_shown}
 use Rattle.ft_search.specs.Looks.{AreLooks, ShowsHere, ShowsAbsent, Stops, IsContended}
 
 -- loads make no entry
@@ -93,3 +97,23 @@ answered_after v w z called said n part loaded own counted is = record { before 
 
 pub contended_after : (v w : View) (o : ℕ) (key : Key) (a b : ℕ) (part : List Act) → OnlyLoaded v w → AreLooks part → w.log ≡ part ++ v.log → Stops o key a b part → IsContended o key a b v w
 contended_after v w o key a b part loaded looks own stops = record { loaded = loaded; part = part; looks = looks; own = own; stops = stops }
+
+-- ---- under the lock, with the stamp that is loaded then
+
+-- a reply that is right, with its cause, in each stored world that the bank may have
+pub held_shown : (v u : View) (n : ℕ) → OnlyLoaded v u → 0 < v.left → (called : Call) (said : Reply) → is_write called said ≡ false → ((stored : StoredWorld) → MayHave (noted (ReadCounter n) u) stored → said ≡ reply_in stored called)
+    → ((stored : StoredWorld) → HasCause stored (ReadCounter n ∷ u.log) called said n) → IsShown (noted (ReadCounter n) u) called said n
+held_shown v u n loaded left called said reads right cause =
+    replies_under_locks_are_shown (noted (ReadCounter n) u) called said n (record { left = subst (λ (z : ℕ). 0 < z) (sym loaded.work.left) left; newer = []; rest = u.log; is = refl; own = tt; locks = tt }) reads
+    (λ stored may. (inr (right stored may), cause stored))
+
+-- the entry that follows
+pub answered_locked : (v u z : View) (called : Call) (said : Reply) (n : ℕ) (part : List Act) → OnlyLoaded v u → u.log ≡ part ++ v.log → z ≡ noted (Answer called said n) (noted (ReadCounter n) u) → Answered called said n v z
+answered_locked v u z called said n part loaded own is = record {
+  before = noted (ReadCounter n) u;
+  loaded = loaded_then v u (noted (ReadCounter n) u) loaded (loaded_by (ReadCounter n) u (noted (ReadCounter n) u) tt refl);
+  part = ReadCounter n ∷ part;
+  own = ap (λ (l : List Act). ReadCounter n ∷ l) own;
+  counted = record { newer = []; rest = part; is = refl };
+  answered = is;
+}

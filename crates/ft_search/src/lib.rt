@@ -13,6 +13,6 @@ mod words;
 
 pub use crate::held::read_key;
 pub use crate::look::look_up;
-pub use crate::looks::{Looked, answer_look};
+pub use crate::looks::{Looked, answer_held, answer_look};
 pub use crate::tables::{mask_of, table_named};
 pub use crate::words::TableWords;

@@ -1,9 +1,11 @@
-//! Sets of a bank (Python manual, Set Types): the call that looks up an element without the lock.
+//! Sets of a bank (Python manual, Set Types): the call that looks up an element, without the lock and with it.
 //!
 //! Between any two steps of any passes it keeps true, for whoever runs calls, that each call adds one
 //! entry to the pass at most, and that this entry has the reply of the plain set at its stamp.
 #![tactic(auto)]
 
+mod locked;
 mod looks;
 
+pub use crate::locked::has_locked;
 pub use crate::looks::look_has;

@@ -8,6 +8,7 @@ mod locked;
 mod looks;
 #[cfg(test)]
 mod tests;
+mod tries;
 
-pub use crate::locked::{get_locked, getd_locked, has_locked};
 pub use crate::looks::{look_get, look_getd, look_has};
+pub use crate::tries::{try_get, try_getd, try_has};

@@ -40,18 +40,20 @@ fn value_locked(bank: &Bank, pass: &mut Pass, d: Object, key: Key) -> Option<Val
     ensures value { HasValue (known d (view pass.old)).content key result }
 {
     match read_key(bank, pass, d, Way::Dict, key) {
-        Some((kind, payload)) => match value_of(kind, payload) {
-            Some(value) => Some(value),
-            // No dict has words that stand for no value.
-            None => unreachable!(),
-        },
+        Some((kind, payload)) => {
+            let Some(value) = value_of(kind, payload) else {
+                // No dict has words that stand for no value.
+                unreachable!()
+            };
+            Some(value)
+        }
         None => None,
     }
 }
 
 /// `d[k]`, a KeyError where the key isn't there, by a pass with the dict's lock (Python manual, Mapping
 /// Types). The counter is loaded while it has the lock.
-pub fn get_locked(bank: &Bank, pass: &mut Pass, d: Object, key: Key) -> (Reply, Stamp)
+pub(crate) fn get_locked(bank: &Bank, pass: &mut Pass, d: Object, key: Key) -> (Reply, Stamp)
     requires pass { IsPassOf bank.now pass.old }
     requires container { d < containers_in (shape_of bank.now) }
     requires dict { kind_in (shape_of bank.now).kinds d ≡ kind.Dict }
@@ -74,7 +76,13 @@ pub fn get_locked(bank: &Bank, pass: &mut Pass, d: Object, key: Key) -> (Reply, 
 
 /// `d.get(k, v)`: the value at the key, or the default, by a pass with the dict's lock (Python manual,
 /// Mapping Types). The counter is loaded while it has the lock.
-pub fn getd_locked(bank: &Bank, pass: &mut Pass, d: Object, key: Key, default: Value) -> (Reply, Stamp)
+pub(crate) fn getd_locked(
+    bank: &Bank,
+    pass: &mut Pass,
+    d: Object,
+    key: Key,
+    default: Value,
+) -> (Reply, Stamp)
     requires pass { IsPassOf bank.now pass.old }
     requires container { d < containers_in (shape_of bank.now) }
     requires dict { kind_in (shape_of bank.now).kinds d ≡ kind.Dict }
@@ -97,7 +105,7 @@ pub fn getd_locked(bank: &Bank, pass: &mut Pass, d: Object, key: Key, default: V
 
 /// `k in d`, by a pass with the dict's lock (Python manual, Mapping Types). The counter is loaded while it
 /// has the lock.
-pub fn has_locked(bank: &Bank, pass: &mut Pass, d: Object, key: Key) -> (Reply, Stamp)
+pub(crate) fn has_locked(bank: &Bank, pass: &mut Pass, d: Object, key: Key) -> (Reply, Stamp)
     requires pass { IsPassOf bank.now pass.old }
     requires container { d < containers_in (shape_of bank.now) }
     requires dict { kind_in (shape_of bank.now).kinds d ≡ kind.Dict }

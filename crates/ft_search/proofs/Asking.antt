@@ -18,6 +18,7 @@ use Rattle.ft_trace.specs.Acts.{noted}
 use Rattle.ft_trace.specs.Addresses.{containers_in, class_of}
 use Rattle.ft_trace.specs.Causes.{AreOfOneCall, HasCause}
 use Rattle.ft_model.specs.Answers.{is_write}
+use Rattle.ft_model.specs.Histories.{IsReplied}
 use Rattle.ft_model.specs.Tables.{StoredWorld}
 use Rattle.ft_trace.specs.Kinds.{rows}
 use Rattle.ft_trace.specs.Reading.{Among}
@@ -101,11 +102,11 @@ contended_after v w o key a b part loaded looks own stops = record { loaded = lo
 -- ---- under the lock, with the stamp that is loaded then
 
 -- a reply that is right, with its cause, in each stored world that the bank may have
-pub held_shown : (v u : View) (n : ℕ) → OnlyLoaded v u → 0 < v.left → (called : Call) (said : Reply) → is_write called said ≡ false → ((stored : StoredWorld) → MayHave (noted (ReadCounter n) u) stored → said ≡ reply_in stored called)
+pub held_shown : (v u : View) (n : ℕ) → OnlyLoaded v u → 0 < v.left → (called : Call) (said : Reply) → is_write called said ≡ false → ((stored : StoredWorld) → MayHave (noted (ReadCounter n) u) stored → IsReplied called said (reply_in stored called))
     → ((stored : StoredWorld) → HasCause stored (ReadCounter n ∷ u.log) called said n) → IsShown (noted (ReadCounter n) u) called said n
 held_shown v u n loaded left called said reads right cause =
     replies_under_locks_are_shown (noted (ReadCounter n) u) called said n (record { left = subst (λ (z : ℕ). 0 < z) (sym loaded.work.left) left; newer = []; rest = u.log; is = refl; own = tt; locks = tt }) reads
-    (λ stored may. (inr (right stored may), cause stored))
+    (λ stored may. (right stored may, cause stored))
 
 -- the entry that follows
 pub answered_locked : (v u z : View) (called : Call) (said : Reply) (n : ℕ) (part : List Act) → OnlyLoaded v u → u.log ≡ part ++ v.log → z ≡ noted (Answer called said n) (noted (ReadCounter n) u) → Answered called said n v z

@@ -7,3 +7,4 @@ mod Seeking
 mod Rounding
 pub mod Asking
 pub mod Holding
+pub mod Trying

@@ -2,3 +2,4 @@ pub mod Words
 pub mod Looks
 pub mod Rounds
 pub mod Held
+pub mod Tries

@@ -1,5 +1,5 @@
 -- From what a pass with the lock of a set reads of an element to what it may answer.
-use Rattle.std.proofs.Common.{◌≡◌, ◌≢◌, ℕ, ◌<◌, true, false, List, [], ◌∷◌, length, Option, Some, None, refl, sym, ap, ◌∙◌, subst}
+use Rattle.std.proofs.Common.{◌≡◌, ◌≢◌, ℕ, ◌<◌, true, false, List, [], ◌∷◌, length, Option, Some, None, refl, inr, sym, ap, ◌∙◌, subst}
 use Rattle.std.specs.Prelude.{slice_index_or, is_some}
 use Rattle.ft_model.specs.Contents.{SetContent, has_element, empty_set}
 use Rattle.ft_model.specs.Tables.{StoredWorld}
@@ -55,4 +55,4 @@ module _ (v u : View) (s : ℕ) (key : Key) (read : Option (ℕ × ℕ)) (loaded
     has_is = ap (λ (z : SetContent). has_element z.elements key) set_is ∙ has_by read held
 
   pub has_shown : IsShown w (call.Set s (set.Has key)) (reply.Truth (is_some read)) n
-  has_shown = held_shown v u n loaded left (call.Set s (set.Has key)) (reply.Truth (is_some read)) refl (λ stored may. ap reply.Truth (sym (has_is stored may))) (λ stored. refl)
+  has_shown = held_shown v u n loaded left (call.Set s (set.Has key)) (reply.Truth (is_some read)) refl (λ stored may. inr (ap reply.Truth (sym (has_is stored may)))) (λ stored. refl)

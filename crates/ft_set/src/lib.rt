@@ -6,6 +6,7 @@
 
 mod locked;
 mod looks;
+mod tries;
 
-pub use crate::locked::has_locked;
 pub use crate::looks::look_has;
+pub use crate::tries::try_has;

@@ -21,7 +21,7 @@ use ft_section::{Object, Stamp};
 
 /// `k in s`, by a pass with the set's lock (Python manual, Set Types). The counter is loaded while it has
 /// the lock.
-pub fn has_locked(bank: &Bank, pass: &mut Pass, s: Object, key: Key) -> (Reply, Stamp)
+pub(crate) fn has_locked(bank: &Bank, pass: &mut Pass, s: Object, key: Key) -> (Reply, Stamp)
     requires pass { IsPassOf bank.now pass.old }
     requires container { s < containers_in (shape_of bank.now) }
     requires set { kind_in (shape_of bank.now).kinds s ≡ kind.Set }

@@ -1,8 +1,6 @@
 use Rattle.std.proofs.Common.{◌≡◌, ◌<◌, ℕ, Some, None, sym, ap, ◌∙◌, subst}
 use Rattle.std.proofs.Math.Logic.{∥∥₁_elim}
-use Rattle.std.proofs.lemmas.Option.{none-some}
 use Rattle.ft_model.specs.declared.content.Content.{Content}
-use Rattle.ft_model.specs.declared.script.Kind.TheVariants as kind
 use Rattle.ft_trace.specs.declared.Shape.{Shape}
 use Rattle.ft_trace.specs.Addresses.{containers_in}
 use Rattle.ft_trace.specs.Worlds.{kind_in}
@@ -13,13 +11,35 @@ use Rattle.ft_search.proofs.Running.{did_log}
 use Rattle.ft_dict.proofs.Reading.{value_known}
 use Rattle.ft_dict.proofs.locked.value_locked.Goals as goal
 
-pub returns-in-Some-clause-value : goal.returns-in-Some-clause-value
-returns-in-Some-clause-value c =
+pub unreachable-requires : goal.unreachable-requires
+unreachable-requires c =
     let v = view c.args.pass.now in
     let d = c.args.d in
     let is = dict_known v d c.args.pass.now.possible c.requires.locked (ap (λ (k : Shape). kind_in k.kinds d) c.requires.pass.1 ∙ c.requires.dict) in
     let h = subst (λ (z : Content). IsHeldAt z c.args.key (Some (c.in-Some.kind, c.in-Some.payload))) is.1 c.in-Some.ensures.held in
-    (is.0, is.1, (c.in-Some.kind, c.in-Some.payload, h.0, h.1, (c.value_of.ensures c.in-Some-2.value).1 c.in-Some-2.is))
+    let low = subst (λ (k : Shape). d < containers_in k) (sym c.requires.pass.1) c.requires.container in
+    ∥∥₁_elim c.args.pass.now.possible (λ a b. absurd a)
+    (λ possible.
+    let r = value_known v d c.args.key is.0 c.in-Some.kind c.in-Some.payload h.0 possible low c.requires.locked is.1 c.read_key.ensures.key h.1 in
+    c.in_default.not-Some r.0 ((c.value_of.ensures r.0).0 r.1))
+
+pub returns-in-Some-value_of-clause-loads : goal.returns-in-Some-value_of-clause-loads
+returns-in-Some-value_of-clause-loads c =
+    let l = c.read_key.ensures.looks in
+    (l.0, did_log l.0 c.args.pass.now c.read_key.new.pass l.2)
+
+pub returns-in-None-clause-loads : goal.returns-in-None-clause-loads
+returns-in-None-clause-loads c =
+    let l = c.read_key.ensures.looks in
+    (l.0, did_log l.0 c.args.pass.now c.read_key.new.pass l.2)
+
+pub returns-in-Some-value_of-clause-value : goal.returns-in-Some-value_of-clause-value
+returns-in-Some-value_of-clause-value c =
+    let v = view c.args.pass.now in
+    let d = c.args.d in
+    let is = dict_known v d c.args.pass.now.possible c.requires.locked (ap (λ (k : Shape). kind_in k.kinds d) c.requires.pass.1 ∙ c.requires.dict) in
+    let h = subst (λ (z : Content). IsHeldAt z c.args.key (Some (c.in-Some.kind, c.in-Some.payload))) is.1 c.in-Some.ensures.held in
+    (is.0, is.1, (c.in-Some.kind, c.in-Some.payload, h.0, h.1, (c.value_of.ensures c.in-Some-value_of.value).1 c.in-Some-value_of.is))
 
 pub returns-in-None-clause-value : goal.returns-in-None-clause-value
 returns-in-None-clause-value c =

@@ -1,0 +1,53 @@
+use Rattle.std.proofs.Common.{◌≡◌, ◌<◌, ℕ, List, refl, inr, sym, ap, ◌∙◌, subst}
+use Rattle.ft_model.specs.declared.call.Call.TheVariants as call
+use Rattle.ft_model.specs.declared.call.DictCall.TheVariants as dict
+use Rattle.ft_trace.specs.declared.Shape.{Shape}
+use Rattle.ft_trace.specs.Addresses.{containers_in}
+use Rattle.ft_bank.specs.Passes.{shape_of, view}
+use Rattle.ft_section.specs.declared.answers.Objects.TheVariants.{One}
+use Rattle.ft_search.proofs.Trying.{making_read, making_stands}
+use Rattle.ft_dict.proofs.tries.try_getd.Goals as goal
+
+pub getd_locked-reply-requires-clause-pass : goal.getd_locked-reply-requires-clause-pass
+getd_locked-reply-requires-clause-pass c = c.in-Have.ensures.making.inside.0
+
+pub getd_locked-reply-requires-clause-locked : goal.getd_locked-reply-requires-clause-locked
+getd_locked-reply-requires-clause-locked c = c.in-Have.ensures.has.0.0
+
+pub getd_locked-reply-requires-clause-stands : goal.getd_locked-reply-requires-clause-stands
+getd_locked-reply-requires-clause-stands c =
+    let m = c.in-Have.ensures.making in
+    let same = m.inside.0.1 in
+    making_stands c.args.bank.now c.take_for.new.pass (shape_of c.args.bank.now).texts c.args.d m (ap (λ (k : Shape). k.texts) same)
+    (subst (λ (k : Shape). c.args.d < containers_in k) (sym same) c.requires.container) c.in-Have.ensures.has.0.0
+
+pub getd_locked-reply-requires-clause-left : goal.getd_locked-reply-requires-clause-left
+getd_locked-reply-requires-clause-left c = subst (λ (n : ℕ). 0 < n) (sym c.in-Have.ensures.locked.left) c.requires.left
+
+pub let_go-requires : goal.let_go-requires
+let_go-requires c =
+    let r = c.getd_locked-reply.result in
+    let e = c.getd_locked-reply.ensures in
+    making_read c.args.bank.now c.take_for.new.pass c.getd_locked-reply.new.pass (call.Dict c.args.d (dict.GetOr c.args.key c.args.default)) r.0 r.1.number (λ n l sections. refl) c.in-Have.ensures.making e.pass
+    e.sections e.answered
+
+pub returns-in-Have-clause-may : goal.returns-in-Have-clause-may
+returns-in-Have-clause-may c = c.let_go.ensures.may (One c.args.d)
+
+pub returns-in-Have-clause-read : goal.returns-in-Have-clause-read
+returns-in-Have-clause-read c = (
+  record {
+    before = view c.take_for.new.pass;
+    after = view c.getd_locked-reply.new.pass;
+    took = c.in-Have.ensures.locked;
+    answered = c.getd_locked-reply.ensures.answered;
+    gone = c.let_go.ensures.locked;
+  },
+  c.getd_locked-reply.ensures.wrote,
+)
+
+pub returns-in-NotYet-clause-may : goal.returns-in-NotYet-clause-may
+returns-in-NotYet-clause-may c = inr c.in-NotYet.ensures.waiting.0
+
+pub returns-in-NotYet-clause-read : goal.returns-in-NotYet-clause-read
+returns-in-NotYet-clause-read c = (c.in-NotYet.ensures.locked, c.in-NotYet.ensures.found.0, c.in-NotYet.ensures.found.1)

@@ -40,9 +40,9 @@ abbrev pub given : List Act → ℕ
 given [] = 0
 given (a ∷ l) = given_next a (given l)
 
--- A collection loads the number of each pass once, this pass's own too. Then it gives back just those of the tables that
--- the pass kept retired whose goal all these numbers are past; the others it keeps, with their goals. It leaves all else
--- as it was.
+-- A collection loads the number of each pass once, this pass's own too. Then it gives back just those of the tables
+-- that the pass kept retired whose goal all these numbers are past; the others it keeps, with their goals. It leaves
+-- all else as it was.
 pub record Collected (v w : View) (freed : ℕ) : Type 0 where
   pub numbers : List ℕ
   pub each : length numbers ≡ v.shape.passes

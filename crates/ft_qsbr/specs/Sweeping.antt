@@ -19,8 +19,8 @@ HasSeen least v =
     (t p : ℕ) → IsTable v.shape t → has_goal t v.log ≡ true → IsPast least (goal t v.log) → 0 < p → p ≤ v.shape.passes
     → clear t p v.log ≡ true
 
--- Of the tables whose bits lie in this range, those whose goal this least number is past were given back, and the others
--- are kept; all else is as it was.
+-- Of the tables whose bits lie in this range, those whose goal this least number is past were given back, and the
+-- others are kept; all else is as it was.
 pub record Swept (least : Option ℕ) (from to : ℕ) (v w : View) : Type 0 where
   pub freed : (t : ℕ) → IsTable v.shape t → from ≤ bit_index t → bit_index t < to → has_goal t v.log ≡ true
       → IsPast least (goal t v.log) → (stage t w.log ≡ 0) × (has_goal t w.log ≡ false)

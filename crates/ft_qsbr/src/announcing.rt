@@ -30,7 +30,9 @@ pub fn quiesce(bank: &Bank, pass: &mut Pass)
     requires pass { IsPassOf bank.now pass.old }
     requires idle { flight (view pass.old).log ≡ 0 }
     ensures pass { IsPassOf bank.now pass.new }
-    ensures did { (n : ℕ) × (freed : ℕ) × Collected (noted (Announce (view pass.old).number n) (noted (WriteNumber n) (view pass.old))) (view pass.new) freed }
+    ensures did { (n : ℕ) × (freed : ℕ)
+        × Collected (noted (Announce (view pass.old).number n) (noted (WriteNumber n) (view pass.old)))
+        (view pass.new) freed }
     ensures online { 0 < announces (view pass.new).log }
     ensures sections { stack_of pass.new ≡ stack_of pass.old }
 {
@@ -43,7 +45,8 @@ pub fn leave(bank: &Bank, pass: &mut Pass)
     requires pass { IsPassOf bank.now pass.old }
     requires idle { flight (view pass.old).log ≡ 0 }
     ensures pass { IsPassOf bank.now pass.new }
-    ensures did { (freed : ℕ) × Collected (noted (Announce (view pass.old).number 0) (view pass.old)) (view pass.new) freed }
+    ensures did { (freed : ℕ)
+        × Collected (noted (Announce (view pass.old).number 0) (view pass.old)) (view pass.new) freed }
     ensures offline { announces (view pass.new).log ≡ 0 }
     ensures sections { stack_of pass.new ≡ stack_of pass.old }
 {

@@ -32,8 +32,8 @@ pub fn collect(bank: &Bank, pass: &mut Pass) -> u64
 fn least_announced(bank: &Bank, pass: &mut Pass) -> Option<u64>
     requires pass { IsPassOf bank.now pass.old }
     ensures pass { IsPassOf bank.now pass.new }
-    ensures did { (numbers : List ℕ) × (length numbers ≡ (shape_of bank.now).passes) × DidAll (loads_of numbers) pass.old pass.new
-        × IsLeast result numbers }
+    ensures did { (numbers : List ℕ) × (length numbers ≡ (shape_of bank.now).passes)
+        × DidAll (loads_of numbers) pass.old pass.new × IsLeast result numbers }
     ensures keeps { KeepsBut Each (view pass.old) (view pass.new) }
 {
     let mut least = None;

@@ -18,7 +18,8 @@ pub fn retire(bank: &Bank, pass: &mut Pass, table: Table)
     requires out { stage (name_of table) (view pass.old).log ≡ 3 }
     requires debt { 0 < debt (view pass.old).log }
     ensures pass { IsPassOf bank.now pass.new }
-    ensures did { (n : ℕ) × DidAll (PutHeader (name_of table) (n + 1) ∷ Retire (name_of table) n ∷ []) pass.old pass.new
+    ensures did { (n : ℕ)
+        × DidAll (PutHeader (name_of table) (n + 1) ∷ Retire (name_of table) n ∷ []) pass.old pass.new
         × (goal (name_of table) (view pass.new).log ≡ n + 1) }
     ensures retired { (stage (name_of table) (view pass.new).log ≡ 4) × (has_goal (name_of table) (view pass.new).log ≡ true) }
     ensures debt { debt (view pass.new).log + 1 ≡ debt (view pass.old).log }

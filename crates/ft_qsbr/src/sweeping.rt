@@ -25,7 +25,8 @@ fn give_past(bank: &Bank, pass: &mut Pass, table: Table, least: Option<u64>) -> 
     ensures pass { IsPassOf bank.now pass.new }
     ensures few { result ≤ 1 }
     ensures gave { Gave result pass.old pass.new }
-    ensures swept { Swept least (bit_index (name_of table)) (bit_index (name_of table) + 1) (view pass.old) (view pass.new) }
+    ensures swept { Swept least (bit_index (name_of table)) (bit_index (name_of table) + 1)
+        (view pass.old) (view pass.new) }
 {
     let goal = bank.goal(pass, table);
     if !is_past(least, goal) {

@@ -26,10 +26,12 @@ pub fn take(bank: &Bank, pass: &mut Pass, class: u32) -> Took
     ensures did { (mid : View) × (freed : ℕ) × (acts : List Act) × Collected (view pass.old) mid freed
         × (view pass.new ≡ noted_all acts mid) × IsTaking class result acts
         × HasTook (shape_of bank.now) class result mid (view pass.new) }
-    ensures empty { result ≡ AllTaken → (rest : List Act) × ((view pass.new).log ≡ ReadCount class 0 ∷ rest) × (owes rest ≡ 0) }
+    ensures empty { result ≡ AllTaken →
+        (rest : List Act) × ((view pass.new).log ≡ ReadCount class 0 ∷ rest) × (owes rest ≡ 0) }
     ensures idle { flight (view pass.new).log ≡ 0 }
     ensures sections { stack_of pass.new ≡ stack_of pass.old }
-    ensures keeps { KeepsBut (λ t. (has_goal t (view pass.old).log ≡ false) × StaysIn result t) (view pass.old) (view pass.new) }
+    ensures keeps { KeepsBut (λ t. (has_goal t (view pass.old).log ≡ false) × StaysIn result t)
+        (view pass.old) (view pass.new) }
 {
     collect(bank, pass);
     bank.take_table(pass, class)

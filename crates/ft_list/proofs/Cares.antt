@@ -1,7 +1,6 @@
 -- That a word of an item may be put, by a pass that writes its list.
-use Rattle.std.proofs.Common.{◌≡◌, ◌≢◌, ℕ, zero, suc, ◌+◌, ◌*◌, ◌%◌, ◌<◌, ◌≤◌, ◌^◌, Bool, true, false, List, [], ◌∷◌, length, refl, sym, ap, ◌∙◌, subst, arith}
+use Rattle.std.proofs.Common.{◌≡◌, ℕ, zero, suc, ◌+◌, ◌*◌, ◌%◌, ◌<◌, ◌≤◌, ◌^◌, true, false, List, [], ◌∷◌, length, refl, sym, ap, ◌∙◌, subst, arith}
 use Rattle.std.specs.Prelude.{slice_index, slice_set}
-use Rattle.ft_model.specs.declared.content.Content.{Content}
 use Rattle.ft_model.specs.declared.script.Kind.{Kind}
 use Rattle.ft_model.specs.declared.script.Kind.TheVariants as kind
 use Rattle.ft_model.specs.Classes.{IsClass}
@@ -13,7 +12,7 @@ use Rattle.ft_trace.specs.declared.View.{View}
 use Rattle.ft_trace.specs.Addresses.{containers_in, class_of, slots, size}
 use Rattle.ft_trace.specs.Acts.{has_committed, noted}
 use Rattle.ft_trace.specs.Worlds.{kind_in}
-use Rattle.ft_trace.specs.Words.{Picture, root_in, item_at, item_of}
+use Rattle.ft_trace.specs.Words.{root_in, item_at, item_of}
 use Rattle.ft_trace.specs.Items.{said_at, words_at, ItemCareful}
 use Rattle.ft_trace.specs.Kinds.{rows, version_at, CarefulAs}
 use Rattle.ft_trace.specs.Openings.{Timely}

@@ -1,8 +1,7 @@
 -- That a call on a list may be committed, once the list's words say what the call leaves.
-use Rattle.std.proofs.Common.{◌≡◌, ◌≢◌, ℕ, zero, suc, ◌+◌, ◌<◌, ◌≤◌, Bool, true, false, true≢false, List, [], ◌∷◌, length, Option, Some, None, refl, sym, ap, ◌∙◌, subst, inr, arith, get_or-set_same}
-use Rattle.std.specs.Prelude.{◌&&◌, ◌||◌, not, nat_lt, IfSome, slice_index, slice_index_or, slice_set, if◌then◌else◌}
-use Rattle.std.specs.Option.{unwrap_or, option_map_or}
-use Rattle.std.proofs.lemmas.Bool.{le-ltb}
+use Rattle.std.proofs.Common.{◌≡◌, ℕ, suc, ◌<◌, ◌≤◌, Bool, true, false, true≢false, List, [], length, Option, Some, None, sym, ap, ◌∙◌, subst, inr, arith, get_or-set_same}
+use Rattle.std.specs.Prelude.{◌&&◌, not, IfSome, slice_index_or, if◌then◌else◌}
+use Rattle.std.specs.Option.{unwrap_or}
 use Rattle.ft_model.specs.declared.call.Call.{Call}
 use Rattle.ft_model.specs.declared.call.Call.TheVariants as call
 use Rattle.ft_model.specs.declared.call.ListCall.{ListCall}
@@ -14,19 +13,17 @@ use Rattle.ft_model.specs.declared.data.Value.{Value}
 use Rattle.ft_model.specs.declared.reply.Reply.{Reply}
 use Rattle.ft_model.specs.declared.script.Kind.{Kind}
 use Rattle.ft_model.specs.declared.script.Kind.TheVariants as kind
-use Rattle.ft_model.specs.Answers.{Answer, answer, answer_list, puts, after_write, is_write, is_raised}
-use Rattle.ft_model.specs.Calls.{is_changing_list, other_list, cursor_of_list, list_change}
-use Rattle.ft_model.specs.Classes.{list_items, list_class}
-use Rattle.ft_model.specs.Tables.{TableUse, StoredWorld, no_table, takes_in, table_at, change_leaves, change_takes, outgrows_list, list_takes, grown_table, would_pass, after_stored}
-use Rattle.ft_model.specs.Worlds.{kind_of, list_of, list_at, no_hands, IsOfKind, IsDeclared}
-use Rattle.ft_layout.specs.Containers.{class_mask, IsBlock}
+use Rattle.ft_model.specs.Answers.{Answer, answer, answer_list, puts, after_write}
+use Rattle.ft_model.specs.Calls.{list_change}
+use Rattle.ft_model.specs.Tables.{StoredWorld, no_table, takes_in, table_at, change_leaves, grown_table, after_stored}
+use Rattle.ft_model.specs.Worlds.{list_of, list_at, no_hands, IsDeclared}
+use Rattle.ft_layout.specs.Containers.{IsBlock}
 use Rattle.ft_layout.proofs.Powers.{slots_range}
 use Rattle.ft_trace.specs.declared.Shape.{Shape}
 use Rattle.ft_trace.specs.declared.View.{View}
 use Rattle.ft_trace.specs.Addresses.{containers_in, class_of, slots}
 use Rattle.ft_trace.specs.Acts.{has_lock, is_writing, has_emptied, owes}
-use Rattle.ft_trace.specs.FitCalls.{FitsListCall}
-use Rattle.ft_trace.specs.Worlds.{Kept, kept_at, kind_in, changes, may_empty}
+use Rattle.ft_trace.specs.Worlds.{Kept, kept_at, kind_in, changes}
 use Rattle.ft_trace.specs.Words.{root_in}
 use Rattle.ft_trace.specs.Items.{ItemClear}
 use Rattle.ft_trace.specs.Kinds.{ClearAs}
@@ -34,7 +31,7 @@ use Rattle.ft_trace.specs.Holds.{held, known}
 use Rattle.ft_trace.proofs.Known.{declared_at}
 use Rattle.ft_bank.specs.declared.table.Table.{Table}
 use Rattle.ft_bank.specs.Tables.{name_of}
-use Rattle.ft_bank.specs.Writes.{MayHave, MayCommit}
+use Rattle.ft_bank.specs.Writes.{MayHave}
 use Rattle.ft_list.specs.Items.{WritesList, IsChanging, MayFinish}
 use Rattle.ft_list.specs.Calls.{Changes}
 use Rattle.ft_list.proofs.Cares.{table_class}

@@ -1,18 +1,17 @@
 -- What a list and its words are once its write is committed and its versions are even.
-use Rattle.std.proofs.Common.{◌≡◌, ℕ, suc, ◌+◌, ◌<◌, ◌≤◌, List, [], ◌∷◌, length, Option, Some, refl, sym, ap, ◌∙◌, subst, arith, ◌≢◌, length-set, get_or-set_same, get_or-set_other}
+use Rattle.std.proofs.Common.{◌≡◌, ℕ, suc, ◌<◌, List, length, Option, Some, refl, sym, ap, ◌∙◌, subst, arith, ◌≢◌, length-set, get_or-set_same, get_or-set_other}
 use Rattle.std.specs.Prelude.{slice_index, slice_set}
 use Rattle.ft_model.specs.declared.call.Call.{Call}
-use Rattle.ft_model.specs.declared.content.Content.{Content}
 use Rattle.ft_model.specs.declared.content.Content.TheVariants as content
 use Rattle.ft_model.specs.declared.data.Value.{Value}
 use Rattle.ft_model.specs.declared.reply.Reply.{Reply}
 use Rattle.ft_model.specs.declared.script.Kind.{Kind}
 use Rattle.ft_model.specs.declared.script.Kind.TheVariants as kind
 use Rattle.ft_model.specs.Worlds.{list_of}
-use Rattle.ft_layout.specs.Containers.{IsRoot, IsBlock, IsListWords}
+use Rattle.ft_layout.specs.Containers.{IsRoot, IsBlock}
 use Rattle.ft_trace.specs.declared.Shape.{Shape}
 use Rattle.ft_trace.specs.declared.View.{View}
-use Rattle.ft_trace.specs.Addresses.{class_of, slots}
+use Rattle.ft_trace.specs.Addresses.{class_of}
 use Rattle.ft_trace.specs.Worlds.{Kept, kind_in}
 use Rattle.ft_trace.specs.Words.{Picture, root_in, Stands}
 use Rattle.ft_trace.specs.Kinds.{rows, version_at}

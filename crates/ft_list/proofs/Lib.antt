@@ -6,3 +6,8 @@ pub mod Commits
 pub mod Putting
 pub mod Lists
 pub mod Whole
+pub mod Looking
+pub mod CallFacts
+pub mod Asking
+pub mod Raising
+pub mod Loaded

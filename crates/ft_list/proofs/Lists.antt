@@ -1,5 +1,5 @@
 -- What a pass with the lock of a list knows of it.
-use Rattle.std.proofs.Common.{◌≡◌, ℕ, suc, ◌+◌, ◌%◌, ◌<◌, ◌≤◌, true, false, List, [], ◌∷◌, length, Option, Some, refl, sym, ap, ◌∙◌, subst, arith}
+use Rattle.std.proofs.Common.{◌≡◌, ℕ, suc, ◌%◌, ◌<◌, true, false, List, ◌∷◌, length, Option, Some, None, ◌≢◌, refl, sym, ap, ◌∙◌, subst, arith}
 use Rattle.std.specs.Prelude.{slice_index}
 use Rattle.std.proofs.Math.Nat.{ℕ_set}
 use Rattle.std.proofs.Math.Logic.{∥∥₁_elim}
@@ -8,9 +8,8 @@ use Rattle.ft_model.specs.declared.content.Content.TheVariants as content
 use Rattle.ft_model.specs.declared.data.Value.{Value}
 use Rattle.ft_model.specs.declared.script.Kind.{Kind}
 use Rattle.ft_model.specs.declared.script.Kind.TheVariants as kind
-use Rattle.ft_model.specs.Tables.{TableUse}
-use Rattle.ft_model.specs.Worlds.{kind_of, list_of}
-use Rattle.ft_layout.specs.Containers.{IsBlock, IsListWords, StandsAs}
+use Rattle.ft_model.specs.Worlds.{kind_of, length_of, list_of}
+use Rattle.ft_layout.specs.Containers.{IsListWords, StandsAs}
 use Rattle.ft_trace.specs.declared.Shape.{Shape}
 use Rattle.ft_trace.specs.declared.View.{View}
 use Rattle.ft_trace.specs.Addresses.{containers_in, class_of, slots}
@@ -23,7 +22,11 @@ use Rattle.ft_trace.specs.Holds.{held, known}
 use Rattle.ft_trace.specs.Traces.{Possible}
 use Rattle.ft_trace.proofs.Clearing.{held_shut}
 use Rattle.ft_trace.proofs.Known.{kind_known, class_known}
+use Rattle.ft_layout.proofs.KindLaws.{head_of}
+use Rattle.ft_bank.specs.Whole.{OnlyLoaded}
+use Rattle.ft_bank.proofs.Whole.{loaded_held, work_knows}
 use Rattle.ft_list.specs.Items.{items_of}
+use Rattle.ft_list.specs.Calls.{MayWriteList}
 
 -- 1 for a list
 list_code : Kind → ℕ
@@ -57,3 +60,39 @@ pub list_shut : (v : View) (o t : ℕ) → ∥ Possible v ∥₁ → o < contain
 list_shut v o t possible low mine even is names p row =
     ∥∥₁_elim {P = item_of (held o v).table p 0 % 2 ≡ 0} possible (ℕ_set _ _)
     (λ (x : Possible v). subst (λ (z : Kind). Shut (version_at z (class_of t)) (rows z (class_of t)) (held o v).table) is (held_shut v o t low x mine even names) p row)
+
+-- how many items the block counts
+pub list_counts : (texts : List ℕ) (v : View) (o : ℕ) → (known o v).content ≡ content.List (items_of o v) → Stands texts (held o v) (known o v) → slice_index (held o v).block 1 ≡ length (items_of o v)
+list_counts texts v o is stands = (head_of texts (held o v).block (0 ∷ 0 ∷ (held o v).table) (known o v).table (known o v).content stands).count_is ∙ ap length_of is
+
+-- a list that isn't empty has a table
+no_root : (block words : List ℕ) (class : Option ℕ) (values : List Value) → IsListWords block words class values → slice_index block 0 ≡ 0 → length values ≡ 0
+no_root block words None values says none = ap length says.table
+no_root block words (Some class) values says none = absurd (let r = says.head.root.1.2 in omega (arith, none, r))
+
+pub list_rooted : (texts : List ℕ) (v : View) (o : ℕ) → (known o v).content ≡ content.List (items_of o v) → Stands texts (held o v) (known o v) → length (items_of o v) ≢ 0 → root_in (held o v) ≢ 0
+list_rooted texts v o is stands some none =
+    let says : IsListWords (held o v).block (0 ∷ 0 ∷ (held o v).table) (known o v).table.class (items_of o v) × ((known o v).table.fill ≡ 0) = subst (λ (z : Content). StandsAs texts (held o v).block (0 ∷ 0 ∷ (held o v).table) (known o v).table z) is stands in
+    some (no_root (held o v).block (0 ∷ 0 ∷ (held o v).table) (known o v).table.class (items_of o v) says.0 none)
+
+-- loads leave it
+pub may_loaded : (k : Shape) (o : ℕ) (v w : View) → OnlyLoaded v w → MayWriteList k o v → MayWriteList k o w
+may_loaded k o v w only may =
+    let h = loaded_held v w o only in
+    let n = work_knows v w o only.work in
+    record {
+      container = may.container;
+      kind = may.kind;
+      locked = only.work.pass.locks o ∙ may.locked;
+      even = only.work.pass.writes o ∙ may.even;
+      stands = subst (λ (z : Picture × Kept). Stands k.texts z.0 z.1) (λ d. (sym h d, sym n d)) may.stands;
+      owes = only.work.owes ∙ may.owes;
+      left = subst (λ (z : ℕ). 0 < z) (sym only.work.left) may.left;
+    }
+
+pub items_loaded : (o : ℕ) (v w : View) → OnlyLoaded v w → items_of o w ≡ items_of o v
+items_loaded o v w only = ap (λ (z : Kept). list_of z.content) (work_knows v w o only.work)
+
+-- a pass of a bank that may write a list knows that it is one
+pub content_of : (k : Shape) (o : ℕ) (v : View) → v.shape ≡ k → ∥ Possible v ∥₁ → MayWriteList k o v → (known o v).content ≡ content.List (items_of o v)
+content_of k o v same possible may = list_content v o possible may.locked (ap (λ (z : Shape). kind_in z.kinds o) same ∙ may.kind)

@@ -1,12 +1,11 @@
 -- The words of a list's table once an item was put, and what they say.
-use Rattle.std.proofs.Common.{◌≡◌, ◌≢◌, ◌⊎◌, ℕ, zero, suc, ◌+◌, ◌-◌, ◌*◌, ◌%◌, ◌<◌, ◌≤◌, List, [], ◌∷◌, length, Option, Some, None, refl, sym, ap, ◌∙◌, subst, inl, inr, arith, length-set, get_or-set_same, get_or-set_other}
+use Rattle.std.proofs.Common.{◌≡◌, ◌≢◌, ◌⊎◌, ℕ, zero, suc, ◌%◌, ◌<◌, ◌≤◌, List, [], ◌∷◌, length, Option, Some, None, refl, sym, ap, ◌∙◌, subst, inl, inr, arith, length-set, get_or-set_same, get_or-set_other}
 use Rattle.std.specs.Prelude.{slice_index, slice_index_or, slice_set, slice_get}
 use Rattle.std.specs.Option.{option_map_or}
 use Rattle.std.proofs.lemmas.Bool.{cases_lt, cases_eq}
 use Rattle.ft_model.specs.declared.data.Value.{Value}
 use Rattle.ft_model.specs.declared.data.Value.TheVariants as value
 use Rattle.ft_layout.specs.declared.slot.Stored.{Stored}
-use Rattle.ft_layout.specs.declared.slot.Stored.TheVariants.{Plain}
 use Rattle.ft_layout.specs.Words.{FitsStored, stored_kind, stored_payload}
 use Rattle.ft_layout.specs.Tables.{IsListTable}
 use Rattle.ft_layout.specs.Tables as layout

@@ -1,12 +1,16 @@
 -- What calls do to a list, and what a pass is to have that makes one.
-use Rattle.std.specs.Prelude.{◌≡◌, ℕ, suc, ◌<◌, true, false, List, IfSome, None}
+use Rattle.std.specs.Prelude.{◌≡◌, ◌⊎◌, ℕ, suc, ◌<◌, true, false, List, IfSome, None}
+use Rattle.ft_model.specs.declared.call.Call.{Call}
 use Rattle.ft_model.specs.declared.call.Call.TheVariants as call
 use Rattle.ft_model.specs.declared.call.ListCall.{ListCall}
+use Rattle.ft_model.specs.declared.content.Content.{Content}
 use Rattle.ft_model.specs.declared.content.Content.TheVariants as content
 use Rattle.ft_model.specs.declared.data.Value.{Value}
+use Rattle.ft_model.specs.declared.reply.Raise.TheVariants as raise
 use Rattle.ft_model.specs.declared.reply.Reply.{Reply}
+use Rattle.ft_model.specs.declared.reply.Reply.TheVariants as reply
 use Rattle.ft_model.specs.declared.script.Kind.TheVariants as kind
-use Rattle.ft_model.specs.Answers.{answer_list, puts, is_raised}
+use Rattle.ft_model.specs.Answers.{answer_list, puts, shows, is_raised}
 use Rattle.ft_model.specs.Calls.{is_changing_list, other_list, cursor_of_list}
 use Rattle.ft_model.specs.Tables.{StoredWorld, table_at, would_pass, after_stored}
 use Rattle.ft_model.specs.Worlds.{no_hands, IsOfKind}
@@ -20,7 +24,10 @@ use Rattle.ft_trace.specs.Words.{root_in, Stands}
 use Rattle.ft_trace.specs.Holds.{held, known}
 use Rattle.ft_bank.specs.declared.table.Table.{Table}
 use Rattle.ft_bank.specs.Tables.{name_of, IsTableIn}
+use Rattle.ft_bank.specs.Answered.{Answered}
+use Rattle.ft_bank.specs.Whole.{Wrote}
 use Rattle.ft_bank.specs.Writes.{MayHave}
+use Rattle.ft_section.specs.declared.answers.Stamp.{Stamp}
 
 -- The pass may write the list o: it has its lock, and its words stand for what the pass knows of it; no version is odd there,
 -- the pass has lowered no count of a class that it hasn't raised again, and it has a call left. (profile)
@@ -52,3 +59,17 @@ pub record Changes (o : ℕ) (lc : ListCall) (said : Reply) (values news : List 
   pub caps : (stored : StoredWorld) → MayHave v stored → would_pass stored.world (call.List o lc) ≡ false
   pub table : (stored : StoredWorld) → MayHave v stored
       → table_at (after_stored stored (call.List o lc)).tables o ≡ table_at stored.tables o
+
+-- The plain containers raise this to the call, where the list has these values, and leave all as it is. (Python manual,
+-- Built-in Exceptions)
+pub record Raises (o : ℕ) (lc : ListCall) (said : Reply) (values : List Value) : Type 0 where
+  pub raises : (said ≡ reply.Raised raise.NoIndex) ⊎ (said ≡ reply.Raised raise.NoValue)
+  pub caps : (world : List Content) → would_pass world (call.List o lc) ≡ false
+  pub answered : (world : List Content) → answer_list world no_hands o values lc ≡ shows world no_hands said
+
+-- A call under the lock was made, with this reply and this stamp: as one whole write, or as an entry that isn't a write,
+-- at a load of the counter. (profile)
+abbrev pub Made : Call → Reply → Stamp → View → View → Type 0
+Made called said stamp v w =
+    ((stamp.wrote ≡ true) × Wrote called said stamp.number v w)
+    ⊎ ((stamp.wrote ≡ false) × Answered called said stamp.number v w)

@@ -6,5 +6,11 @@
 //! counter, which is the write, and makes the versions even again.
 #![tactic(auto)]
 
+mod gets;
 mod items;
+mod locked;
+mod looks;
 mod writes;
+
+pub use crate::gets::look_item;
+pub use crate::locked::{del_locked, set_locked};

@@ -34,7 +34,7 @@ use Rattle.ft_bank.proofs.Showing.{dict_hits_are_shown, values_are_read, set_hit
 use Rattle.ft_search.specs.Looks.{AreLooks, ShowsHere, ShowsAbsent, Stops, IsContended}
 
 -- loads make no entry
-looks_own : (l : List Act) → AreLooks l → AreOfOneCall l
+pub looks_own : (l : List Act) → AreLooks l → AreOfOneCall l
 looks_own [] q = tt
 looks_own (Version o f ∷ l) q = looks_own l q
 looks_own (ReadBlock o i f ∷ l) q = looks_own l q
@@ -43,7 +43,7 @@ looks_own (ReadTable t i f ∷ l) q = looks_own l q
 looks_own (ReadCounter f ∷ l) q = looks_own l q
 looks_own (act ∷ l) q = absurd q
 
-looks_newer : (newer rest : List Act) → AreLooks (newer ++ rest) → AreLooks newer
+pub looks_newer : (newer rest : List Act) → AreLooks (newer ++ rest) → AreLooks newer
 looks_newer [] rest q = tt
 looks_newer (Version o f ∷ l) rest q = looks_newer l rest q
 looks_newer (ReadBlock o i f ∷ l) rest q = looks_newer l rest q

@@ -4,7 +4,7 @@ pub mod Running
 mod Walking
 mod Closing
 mod Seeking
-mod Rounding
+pub mod Rounding
 pub mod Asking
 pub mod Holding
 pub mod Trying

@@ -1,15 +1,14 @@
-use Rattle.std.proofs.Common.{◌≡◌, ℕ, suc, ◌+◌, ◌*◌, ◌<◌, ◌≤◌, List, length, refl, sym, ap, ◌∙◌, subst, arith}
-use Rattle.ft_model.specs.declared.data.Value.{Value}
+use Rattle.std.proofs.Common.{◌≡◌, ℕ, suc, ◌+◌, ◌<◌, length, refl, sym, ap, ◌∙◌, subst, arith}
 use Rattle.ft_model.specs.Worlds.{list_of}
 use Rattle.ft_trace.specs.Addresses.{class_of, slots}
 use Rattle.ft_trace.specs.Worlds.{Kept}
 use Rattle.ft_trace.specs.Words.{Picture, item_at}
-use Rattle.ft_trace.specs.Items.{said_at, words_at}
+use Rattle.ft_trace.specs.Items.{words_at}
 use Rattle.ft_trace.specs.Holds.{held}
 use Rattle.ft_bank.specs.Passes.{shape_of, view}
 use Rattle.ft_bank.specs.Tables.{name_of}
 use Rattle.ft_bank.proofs.Whole.{work_knows, put_then}
-use Rattle.ft_list.specs.Items.{IsChanging, items_of, with_word}
+use Rattle.ft_list.specs.Items.{IsChanging, items_of}
 use Rattle.ft_list.proofs.Cares.{long_enough}
 use Rattle.ft_list.proofs.Words.{says, changing_closed}
 use Rattle.ft_list.proofs.items.close_items.Goals as goal

@@ -1,24 +1,18 @@
-use Rattle.std.proofs.Common.{◌≡◌, ℕ, ◌<◌, ◌≤◌, length, List, [], ◌∷◌, Option, Some, refl, sym, ap, ◌∙◌, subst}
+use Rattle.std.proofs.Common.{◌≡◌, ℕ, List, sym, ap, ◌∙◌, subst}
 use Rattle.std.specs.Prelude.{slice_index}
 use Rattle.ft_model.specs.declared.data.Value.{Value}
-use Rattle.ft_model.specs.declared.script.Kind.{Kind}
-use Rattle.ft_model.specs.declared.script.Kind.TheVariants as kind
 use Rattle.ft_model.specs.Worlds.{list_of}
-use Rattle.ft_layout.specs.Containers.{IsBlock, IsListWords}
-use Rattle.ft_trace.specs.declared.Shape.{Shape}
 use Rattle.ft_trace.specs.declared.View.{View}
-use Rattle.ft_trace.specs.Addresses.{class_of, slots}
+use Rattle.ft_trace.specs.Addresses.{class_of}
 use Rattle.ft_trace.specs.declared.Act.TheVariants.{StopWrite}
 use Rattle.ft_trace.specs.Acts.{noted}
-use Rattle.ft_trace.specs.Worlds.{Kept, kept_at, kind_in, changes}
-use Rattle.ft_trace.specs.Words.{Picture, root_in, Stands}
-use Rattle.ft_trace.specs.Kinds.{rows, version_at}
-use Rattle.ft_trace.specs.Openings.{Shut}
+use Rattle.ft_trace.specs.Worlds.{Kept, changes}
+use Rattle.ft_trace.specs.Words.{root_in, Stands}
 use Rattle.ft_trace.specs.Holds.{held, known}
 use Rattle.ft_bank.specs.Passes.{shape_of, view}
 use Rattle.ft_bank.specs.Tables.{name_of}
-use Rattle.ft_bank.specs.Whole.{OnlyPut, EndsWrite}
-use Rattle.ft_bank.proofs.Whole.{work_knows, write_ends}
+use Rattle.ft_bank.specs.Whole.{OnlyPut}
+use Rattle.ft_bank.proofs.Whole.{write_ends}
 use Rattle.ft_list.specs.Items.{IsChanging, items_of}
 use Rattle.ft_list.proofs.Finishing.{kept_after, stands_at_end, list_is_shut}
 use Rattle.ft_list.proofs.Words.{changing_only}

@@ -1,9 +1,8 @@
-use Rattle.std.proofs.Common.{◌≡◌, ℕ, ◌+◌, ◌*◌, ◌%◌, ◌<◌, ◌≤◌, length, sym, ap, ◌∙◌, subst, arith}
-use Rattle.ft_trace.specs.declared.View.{View}
-use Rattle.ft_trace.specs.Words.{Picture, item_at, item_of}
+use Rattle.std.proofs.Common.{◌≡◌, ℕ, ◌%◌, sym, ap, ◌∙◌, subst}
+use Rattle.ft_trace.specs.Words.{Picture, item_of}
 use Rattle.ft_trace.specs.Holds.{held}
 use Rattle.ft_bank.specs.Passes.{shape_of, view}
-use Rattle.ft_list.specs.Items.{WritesList, PutsItem, with_word}
+use Rattle.ft_list.specs.Items.{PutsItem, with_word}
 use Rattle.ft_list.proofs.Cares.{long_enough}
 use Rattle.ft_list.proofs.Words.{version_one, version_two, item_put}
 use Rattle.ft_list.proofs.items.put_item.Goals as goal

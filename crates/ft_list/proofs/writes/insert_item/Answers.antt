@@ -1,22 +1,21 @@
-use Rattle.std.proofs.Common.{◌≡◌, ℕ, ◌+◌, ◌-◌, ◌<◌, ◌≤◌, List, length, Option, Some, refl, sym, ap, ◌∙◌, subst, arith}
+use Rattle.std.proofs.Common.{◌≡◌, ℕ, ◌+◌, List, length, Some, sym, ap, ◌∙◌, subst, arith}
 use Rattle.std.specs.Prelude.{slice_set}
-use Rattle.std.specs.List.{insert, remove}
+use Rattle.std.specs.List.{insert}
 use Rattle.std.proofs.lemmas.List.Edits.{length-insert}
-use Rattle.ft_model.specs.declared.data.Value.{Value}
 use Rattle.ft_layout.specs.Containers.{IsBlock}
 use Rattle.ft_trace.specs.declared.Act.TheVariants.{PutBlock}
 use Rattle.ft_trace.specs.declared.View.{View}
-use Rattle.ft_trace.specs.Addresses.{class_of, slots}
+use Rattle.ft_trace.specs.Addresses.{class_of}
 use Rattle.ft_trace.specs.Words.{Picture}
 use Rattle.ft_trace.specs.Holds.{held}
 use Rattle.ft_bank.specs.Passes.{shape_of, view}
 use Rattle.ft_bank.specs.Tables.{name_of}
 use Rattle.ft_bank.specs.Whole.{OnlyPut}
 use Rattle.ft_bank.proofs.Whole.{put_by, put_then}
-use Rattle.ft_list.specs.Items.{WritesList, IsMoving, items_of, stored_at}
+use Rattle.ft_list.specs.Items.{IsMoving, items_of}
 use Rattle.ft_list.proofs.Cares.{table_class, writes_on}
 use Rattle.ft_list.proofs.Finishing.{with_count, root_stays}
-use Rattle.ft_list.proofs.Putting.{stored_none, moving_ends, long_remove}
+use Rattle.ft_list.proofs.Putting.{stored_none, moving_ends}
 use Rattle.ft_list.proofs.Whole.{finishing, list_wrote}
 use Rattle.ft_list.proofs.writes.insert_item.Goals as goal
 

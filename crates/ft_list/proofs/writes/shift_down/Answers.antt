@@ -1,17 +1,13 @@
-use Rattle.std.proofs.Common.{◌≡◌, ℕ, ◌+◌, ◌<◌, ◌≤◌, false, List, length, refl, sym, ap, ◌∙◌, subst, arith}
+use Rattle.std.proofs.Common.{◌≡◌, ℕ, ◌+◌, refl, sym, ap, ◌∙◌, subst, arith}
 use Rattle.std.specs.List.{remove}
-use Rattle.ft_model.specs.declared.data.Value.{Value}
-use Rattle.ft_layout.specs.declared.slot.Stored.{Stored}
-use Rattle.ft_layout.specs.declared.slot.Stored.TheVariants.{Plain}
-use Rattle.ft_layout.specs.Words.{FitsStored, IsStored}
-use Rattle.ft_trace.specs.Addresses.{class_of, slots}
-use Rattle.ft_trace.specs.Words.{Picture, item_of}
+use Rattle.ft_trace.specs.Addresses.{class_of}
+use Rattle.ft_trace.specs.Words.{Picture}
 use Rattle.ft_trace.specs.Holds.{held}
 use Rattle.ft_bank.specs.Passes.{shape_of, view}
 use Rattle.ft_bank.specs.Tables.{name_of}
 use Rattle.ft_bank.proofs.Whole.{put_same, put_then, loaded_put}
-use Rattle.ft_list.specs.Items.{IsPutting, IsMoving, stored_at}
-use Rattle.ft_list.proofs.Cares.{table_class, few_slots}
+use Rattle.ft_list.specs.Items.{IsMoving, stored_at}
+use Rattle.ft_list.proofs.Cares.{table_class}
 use Rattle.ft_list.proofs.Putting.{stored_none, moving_starts, moving_further, moving_next, remove_low, remove_past}
 use Rattle.ft_list.proofs.writes.shift_down.Goals as goal
 

@@ -1,4 +1,4 @@
-use Rattle.std.proofs.Common.{◌≡◌, ℕ, ◌+◌, ◌≤◌, false, List, length}
+use Rattle.std.proofs.Common.{◌≡◌, ◌≤◌, false, List, length}
 use Rattle.std.specs.List.{remove}
 use Rattle.ft_model.specs.declared.data.Value.{Value}
 use Rattle.ft_trace.specs.Acts.{has_committed}

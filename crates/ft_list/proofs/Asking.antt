@@ -1,0 +1,62 @@
+-- From what a look-up of an item shows to what a call may answer.
+use Rattle.std.proofs.Common.{◌≡◌, ℕ, ◌<◌, List, ◌∷◌, ◌++◌, Option, Some, None, sym, ap, ◌∙◌, subst, append_assoc}
+use Rattle.std.specs.Prelude.{pos, ◌⊎◌}
+use Rattle.ft_model.specs.declared.call.Call.TheVariants as call
+use Rattle.ft_model.specs.declared.call.ListCall.TheVariants as list
+use Rattle.ft_model.specs.declared.data.Value.{Value}
+use Rattle.ft_model.specs.declared.script.Kind.TheVariants as kind
+use Rattle.ft_layout.specs.declared.slot.Stored.TheVariants.{Empty, Plain}
+use Rattle.ft_layout.specs.Words.{IsStored}
+use Rattle.ft_trace.specs.declared.Act.{Act}
+use Rattle.ft_trace.specs.declared.Act.TheVariants.{ReadCounter}
+use Rattle.ft_trace.specs.declared.Shape.{Shape}
+use Rattle.ft_trace.specs.declared.View.{View}
+use Rattle.ft_trace.specs.Addresses.{containers_in}
+use Rattle.ft_trace.specs.LookReplies.{item_reply}
+use Rattle.ft_trace.specs.Reading.{Among}
+use Rattle.ft_trace.specs.Traces.{Possible}
+use Rattle.ft_trace.specs.Worlds.{kind_in}
+use Rattle.ft_bank.specs.Reads.{IsShown}
+use Rattle.ft_bank.specs.Shown.{MayAsk}
+use Rattle.ft_bank.specs.Whole.{OnlyLoaded}
+use Rattle.ft_bank.proofs.Showing.{items_are_shown, items_are_read, past_items_are_shown}
+use Rattle.ft_search.specs.Looks.{AreLooks}
+use Rattle.ft_search.proofs.Asking.{looks_own, looks_newer}
+use Rattle.ft_list.specs.Looks.{ShowsItem, ShowsPast, Stops, IsContended}
+
+module _ (v w : View) (k : Shape) (o index n : ℕ) (part : List Act) (loaded : OnlyLoaded v w) (looks : AreLooks part) (own : w.log ≡ part ++ v.log) (counted : Among (ReadCounter n) part) (same : w.shape ≡ k) (low : o < containers_in k) (left : 0 < v.left) (is : kind_in k.kinds o ≡ kind.List) where
+  may_ask : MayAsk w o n
+  may_ask = record {
+    low = subst (λ (z : Shape). o < containers_in z) (sym same) low;
+    left = subst (λ (z : ℕ). 0 < z) (sym loaded.work.left) left;
+    loaded = record {
+      newer = counted.newer;
+      rest = counted.rest ++ v.log;
+      is = own ∙ (ap (λ (z : List Act). z ++ v.log) counted.is ∙ append_assoc counted.newer (ReadCounter n ∷ counted.rest) v.log);
+      own = looks_own counted.newer (looks_newer counted.newer (ReadCounter n ∷ counted.rest) (subst AreLooks counted.is looks));
+    };
+  }
+
+  here : kind_in w.shape.kinds o ≡ kind.List
+  here = ap (λ (z : Shape). kind_in z.kinds o) same ∙ is
+
+  pub past_shown : ShowsPast o index n w.log → IsShown w (call.List o (list.Get (pos index))) (item_reply None) n
+  past_shown shows = past_items_are_shown w o index n may_ask here shows
+
+  module _ (kind payload : ℕ) (shows : ShowsItem o index kind payload n w.log) where
+    pub item_here : (value : Value) → IsStored kind payload (Plain value) → IsShown w (call.List o (list.Get (pos index))) (item_reply (Some value)) n
+    item_here value stored = (items_are_shown w o shows.t index n may_ask here shows.low shows.hit kind payload shows.read).0 value stored
+
+    pub item_none : IsStored kind payload Empty → IsShown w (call.List o (list.Get (pos index))) (item_reply None) n
+    item_none stored = (items_are_shown w o shows.t index n may_ask here shows.low shows.hit kind payload shows.read).1 stored
+
+    pub found_shown : (result : Option (Option Value)) → ((value : Value) → result ≡ Some (Some value) → IsStored kind payload (Plain value)) → (result ≡ Some None → IsStored kind payload Empty) → (found : Option Value) → result ≡ Some found → IsShown w (call.List o (list.Get (pos index))) (item_reply found) n
+    found_shown result plain none (Some value) is = item_here value (plain value is)
+    found_shown result plain none None is = item_none (none is)
+
+    -- the words that were read are those of a value, or of nothing
+    pub item_either : Possible w → ((value : Value) × IsStored kind payload (Plain value)) ⊎ IsStored kind payload Empty
+    item_either possible = items_are_read w o shows.t index n possible may_ask.low here shows.low shows.hit kind payload shows.read
+
+pub contended_after : (v w : View) (o index a b : ℕ) (part : List Act) → OnlyLoaded v w → AreLooks part → w.log ≡ part ++ v.log → Stops o index a b part → IsContended o index a b v w
+contended_after v w o index a b part loaded looks own stops = record { loaded = loaded; part = part; looks = looks; own = own; stops = stops }

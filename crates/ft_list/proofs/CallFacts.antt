@@ -1,0 +1,130 @@
+-- What each call on a list changes, in the words of the plain containers.
+use Rattle.std.proofs.Common.{◌≡◌, ℕ, ◌+◌, ◌<◌, ◌≤◌, ℤ, Bool, true, false, List, [], length, Option, Some, None, refl, sym, ap, ◌∙◌, subst, arith, get_or-set_same}
+use Rattle.std.specs.Prelude.{map, ◌&&◌, ◌||◌, nat_lt, IfSome, slice_index_or, slice_set, negsuc, if◌then◌else◌}
+use Rattle.std.specs.List.{remove, list_any}
+use Rattle.std.specs.Option.{unwrap_or, option_map_or}
+use Rattle.std.proofs.lemmas.Bool.{le-ltb}
+use Rattle.ft_model.specs.declared.call.Call.TheVariants as call
+use Rattle.ft_model.specs.declared.call.ListCall.{ListCall}
+use Rattle.ft_model.specs.declared.call.ListCall.TheVariants as list
+use Rattle.ft_model.specs.declared.call.TableChange.{TableChange}
+use Rattle.ft_model.specs.declared.call.TableChange.TheVariants as change
+use Rattle.ft_model.specs.declared.content.Content.{Content}
+use Rattle.ft_model.specs.declared.content.Content.TheVariants as content
+use Rattle.ft_model.specs.declared.data.Value.{Value}
+use Rattle.ft_model.specs.declared.data.Value.TheVariants as value
+use Rattle.ft_model.specs.declared.reply.Reply.{Reply}
+use Rattle.ft_model.specs.declared.reply.Reply.TheVariants as reply
+use Rattle.ft_model.specs.declared.reply.Raise.TheVariants as raise
+use Rattle.ft_model.specs.declared.script.Kind.TheVariants as kind
+use Rattle.ft_model.specs.Answers.{answer_list, puts, shows, after_write, is_raised}
+use Rattle.ft_model.specs.Calls.{is_changing_list, other_list, cursor_of_list, list_change, adds, one_or_two}
+use Rattle.ft_model.specs.Classes.{IsClass, list_items, list_class, most_items}
+use Rattle.ft_model.specs.Lists.{index_in, index_of}
+use Rattle.ft_model.specs.Tables.{StoredWorld, no_table, takes_in, table_at, change_leaves, change_takes, list_takes, grown_table, passes_cap, would_pass, after_stored}
+use Rattle.ft_model.specs.Worlds.{list_of, list_at, named_in, no_hands, IsOfKind}
+use Rattle.ft_layout.proofs.Powers.{slots_range}
+use Rattle.ft_trace.specs.declared.View.{View}
+use Rattle.ft_trace.specs.Addresses.{containers_in, slots}
+use Rattle.ft_trace.specs.Acts.{has_lock}
+use Rattle.ft_trace.specs.FitCalls.{FitsListCall}
+use Rattle.ft_trace.specs.Worlds.{Kept}
+use Rattle.ft_trace.specs.Holds.{known}
+use Rattle.ft_bank.specs.Writes.{MayHave}
+use Rattle.ft_list.specs.Calls.{Changes}
+use Rattle.ft_list.proofs.Commits.{content_after, in_tables, table_stays}
+
+-- a call that stores no more than before
+pub changes_stay : (o : ℕ) (lc : ListCall) (said : Reply) (values news : List Value) (v : View) → o < containers_in v.shape → has_lock o v.log ≡ true → (known o v).content ≡ content.List values → is_changing_list lc ≡ true → is_raised said ≡ false → cursor_of_list lc ≡ None → other_list lc ≡ None → list_change lc ≡ change.Stays → FitsListCall lc
+    → ((world : List Content) → answer_list world no_hands o values lc ≡ puts world no_hands o (content.List news) said) → Changes o lc said values news v
+changes_stay o lc said values news v low mine is_list changing raises cursor other stays fits answered = record {
+  changing = changing;
+  raises = raises;
+  cursor = cursor;
+  fits = fits;
+  answered = λ stored has. answered stored.world;
+  other = λ stored has. subst (λ (z : Option ℕ). IfSome z (λ p. IsOfKind stored.world kind.List p)) (sym other) tt;
+  caps = λ stored has. ap (λ (z : TableChange). adds z && list_any passes_cap (named_in (after_write stored.world (call.List o lc)) (call.List o lc))) stays;
+  table = λ stored has. table_stays o lc said values news v low mine is_list stored has stays;
+}
+
+-- l[i] = v
+pub set_changes : (o : ℕ) (index : ℤ) (value : Value) (values : List Value) (place : ℕ) (v : View) → o < containers_in v.shape → has_lock o v.log ≡ true → (known o v).content ≡ content.List values → FitsListCall (list.Set index value) → index_in (length values) index ≡ Some place → Changes o (list.Set index value) reply.Done values (slice_set values place value) v
+set_changes o index value values place v low mine is_list fits means =
+    changes_stay o (list.Set index value) reply.Done values (slice_set values place value) v low mine is_list refl refl refl refl refl fits
+    (λ world. ap (λ (z : Option ℕ). option_map_or (λ (i : ℕ). puts world no_hands o (content.List (slice_set values i value)) reply.Done) z (shows world no_hands (reply.Raised raise.NoIndex))) means)
+
+-- del l[i]
+pub del_changes : (o : ℕ) (index : ℤ) (values : List Value) (place : ℕ) (v : View) → o < containers_in v.shape → has_lock o v.log ≡ true → (known o v).content ≡ content.List values → index_in (length values) index ≡ Some place → Changes o (list.Del index) reply.Done values (remove values place) v
+del_changes o index values place v low mine is_list means =
+    changes_stay o (list.Del index) reply.Done values (remove values place) v low mine is_list refl refl refl refl refl tt
+    (λ world. ap (λ (z : Option ℕ). option_map_or (λ (i : ℕ). puts world no_hands o (content.List (remove values i)) reply.Done) z (shows world no_hands (reply.Raised raise.NoIndex))) means)
+
+-- l.pop(i)
+pub pop_changes : (o : ℕ) (index : Option ℤ) (values : List Value) (place : ℕ) (v : View) → o < containers_in v.shape → has_lock o v.log ≡ true → (known o v).content ≡ content.List values → index_in (length values) (unwrap_or index (negsuc 0)) ≡ Some place → Changes o (list.Pop index) (reply.Value (slice_index_or values place value.Nothing)) values (remove values place) v
+pop_changes o index values place v low mine is_list means =
+    changes_stay o (list.Pop index) (reply.Value (slice_index_or values place value.Nothing)) values (remove values place) v low mine is_list refl refl refl refl refl tt
+    (λ world. ap (λ (z : Option ℕ). option_map_or (λ (i : ℕ). puts world no_hands o (content.List (remove values i)) (reply.Value (slice_index_or values i value.Nothing))) z (shows world no_hands (reply.Raised raise.NoIndex))) means)
+
+-- l.remove(v)
+pub remove_changes : (o : ℕ) (value : Value) (values : List Value) (place : ℕ) (v : View) → o < containers_in v.shape → has_lock o v.log ≡ true → (known o v).content ≡ content.List values → FitsListCall (list.Remove value) → index_of values value ≡ Some place → Changes o (list.Remove value) reply.Done values (remove values place) v
+remove_changes o value values place v low mine is_list fits means =
+    changes_stay o (list.Remove value) reply.Done values (remove values place) v low mine is_list refl refl refl refl refl fits
+    (λ world. ap (λ (z : Option ℕ). option_map_or (λ (i : ℕ). puts world no_hands o (content.List (remove values i)) reply.Done) z (shows world no_hands (reply.Raised raise.NoValue))) means)
+
+-- a call that adds items for which the table has room
+module _ (o : ℕ) (lc : ListCall) (values news : List Value) (v : View) (low : o < containers_in v.shape) (mine : has_lock o v.log ≡ true) (is_list : (known o v).content ≡ content.List values) (class : ℕ) (is_class : IsClass class) (kept_table : (known o v).table ≡ record { class = Some class; fill = 0 }) (room : length news ≤ slots class) (other : other_list lc ≡ None) (grows : list_change lc ≡ change.Grows)
+    (answered : (world : List Content) → answer_list world no_hands o values lc ≡ puts world no_hands o (content.List news) reply.Done) where
+  few : length news ≤ most_items
+  unfolding slots
+  few = let r = (slots_range class is_class).1 in omega (arith, r, room)
+
+  and_false : (b : Bool) → (b && false) ≡ false
+  and_false true = refl
+  and_false false = refl
+
+  module _ (stored : StoredWorld) (has : MayHave v stored) where
+    abbrev left : List Content
+    left = after_write stored.world (call.List o lc)
+
+    content_is : slice_index_or left o (content.List []) ≡ content.List news
+    content_is = content_after o lc reply.Done values news v low mine is_list stored has (answered stored.world)
+
+    table_is : table_at stored.tables o ≡ record { class = Some class; fill = 0 }
+    table_is = ap (λ (z : Kept). z.table) (has.agrees o low mine) ∙ kept_table
+
+    not_outgrown : list_takes (table_at stored.tables o) (length (list_at left o)) ≡ None
+    unfolding slots
+    not_outgrown =
+        let count_is : length (list_at left o) ≡ length news = ap (λ (z : Content). length (list_of z)) content_is in
+        (λ d. list_takes (table_is d) (count_is d))
+        ∙ ap (λ (b : Bool). if b then Some (list_class (length news)) else None) (ap (λ (z : Bool). nat_lt 0 (length news) && z) (le-ltb (list_items class) (length news) room) ∙ and_false (nat_lt 0 (length news)))
+
+    takes_none : takes_in stored (call.List o lc) ≡ None
+    takes_none = ap (λ (z : TableChange). change_takes z (list_takes (table_at stored.tables o) (length (list_at left o))) None) grows ∙ not_outgrown
+
+    table_after : table_at (after_stored stored (call.List o lc)).tables o ≡ table_at stored.tables o
+    table_after =
+        let T = table_at stored.tables o in
+        let fill_is : T.fill + 0 ≡ T.fill = omega arith in
+        ap (λ (z : TableChange). table_at (change_leaves stored.tables o z (grown_table T (takes_in stored (call.List o lc)) 0 0) no_table) o) grows
+        ∙ (get_or-set_same stored.tables o (grown_table T (takes_in stored (call.List o lc)) 0 0) no_table (in_tables o lc reply.Done values news v low mine is_list stored has)
+        ∙ (ap (λ (z : Option ℕ). grown_table T z 0 0) takes_none
+        ∙ (λ d. record { class = T.class; fill = fill_is d })))
+
+    caps_is : would_pass stored.world (call.List o lc) ≡ false
+    caps_is =
+        (λ d. adds (grows d) && list_any passes_cap (map (λ place. slice_index_or left place (content.List [])) (one_or_two o (other d))))
+        ∙ (ap (λ (z : Content). passes_cap z || false) content_is ∙ ap (λ (z : Bool). z || false) (le-ltb most_items (length news) few))
+
+  pub changes_grow : is_changing_list lc ≡ true → cursor_of_list lc ≡ None → FitsListCall lc → Changes o lc reply.Done values news v
+  changes_grow changing cursor fits = record {
+    changing = changing;
+    raises = refl;
+    cursor = cursor;
+    fits = fits;
+    answered = λ stored has. answered stored.world;
+    other = λ stored has. subst (λ (z : Option ℕ). IfSome z (λ p. IsOfKind stored.world kind.List p)) (sym other) tt;
+    caps = caps_is;
+    table = table_after;
+  }

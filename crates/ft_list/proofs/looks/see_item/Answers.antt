@@ -1,0 +1,8 @@
+use Rattle.ft_bank.specs.Tables.{name_of}
+use Rattle.ft_list.proofs.Looking.{seen_did}
+use Rattle.ft_list.proofs.looks.see_item.Goals as goal
+
+pub returns-clause-did : goal.returns-clause-did
+returns-clause-did c =
+    seen_did (name_of c.args.table) c.args.index _ c.args.pass.now c.load_word-opened.new.pass c.load_word-kind.new.pass c.load_word-payload.new.pass c.stamp-number.new.pass c.load_word-closed.new.pass
+    c.load_word-opened.ensures.did c.load_word-kind.ensures.did c.load_word-payload.ensures.did c.stamp-number.ensures c.load_word-closed.ensures.did

@@ -1,0 +1,203 @@
+//! Looks at a list without its lock.
+//!
+//! An item is looked up by its own version alone: what was read of it counts where its version was even
+//! and the same before and after, and where the root still names the table then, since no table comes
+//! back that the pass has found. Only where the root is read 0 does the version of the list decide.
+ghost use Rattle.std.specs.Prelude.{◌≡◌, ℕ, suc, ◌<◌, ◌≤◌, List, [], ◌∷◌};
+ghost use Rattle.ft_model.specs.declared.script.Kind.TheVariants as kind;
+ghost use Rattle.ft_trace.specs.declared.Act.{Act};
+ghost use Rattle.ft_trace.specs.declared.Act.TheVariants.{ReadRoot, ReadTable};
+ghost use Rattle.ft_trace.specs.Acts.{announces};
+ghost use Rattle.ft_trace.specs.Addresses.{containers_in, class_of, slots, IsTable};
+ghost use Rattle.ft_trace.specs.Worlds.{kind_in};
+ghost use Rattle.ft_trace.specs.Words.{item_at};
+ghost use Rattle.ft_bank.specs.Passes.{shape_of, view, IsPassOf};
+ghost use Rattle.ft_bank.specs.Sections.{stack_of};
+ghost use Rattle.ft_bank.specs.Series.{DidAll};
+ghost use Rattle.ft_bank.specs.Tables.{name_of, IsTableIn};
+ghost use Rattle.ft_bank.specs.Whole.{OnlyLoaded};
+ghost use Rattle.ft_search.specs.Looks.{AreLooks};
+ghost use Rattle.ft_list.specs.Looks.{seen_acts, EndsTable, EndsRound, ShowsFound};
+
+use crate::items::word_at;
+use ft_bank::{Bank, Pass, Table};
+use ft_layout::{item_word, list_items};
+use ft_search::table_named;
+
+/// What a look-up of one item without the lock came to.
+#[derive(Clone, Copy)]
+pub(crate) enum Found {
+    /// The kind and the payload of the item, and the stamp.
+    Item(u64, u64, u64),
+    /// The list's table has no such item, at this stamp.
+    Past(u64),
+    /// Two loads of one version, the first odd or the two different.
+    Contended(u64, u64),
+}
+
+/// What a round of a look-up came to.
+#[derive(Clone, Copy)]
+pub(crate) enum Round {
+    /// The look-up ends so.
+    Ended(Found),
+    /// The root has changed to this.
+    Moved(u64),
+}
+
+/// What was loaded of an item, in the order of the loads.
+#[derive(Clone, Copy)]
+pub(crate) struct Seen {
+    /// The version at first.
+    pub(crate) opened: u64,
+    /// The kind of the value.
+    pub(crate) kind: u64,
+    /// The payload of the value.
+    pub(crate) payload: u64,
+    /// The counter.
+    pub(crate) number: u64,
+    /// The version at last.
+    pub(crate) closed: u64,
+}
+
+/// Loads a word of an item.
+fn load_word(bank: &Bank, pass: &mut Pass, table: Table, index: u64, word: u64) -> u64
+    requires pass { IsPassOf bank.now pass.old }
+    requires table { IsTableIn (shape_of bank.now) table }
+    requires index { index < slots (class_of (name_of table)) }
+    requires word { word < 4 }
+    ensures pass { IsPassOf bank.now pass.new }
+    ensures did { DidAll (ReadTable (name_of table) (item_at index word) result ∷ []) pass.old pass.new }
+{
+    bank.read_table(pass, table, word_at(index, word))
+}
+
+/// Loads an item and the counter between two loads of the item's version.
+fn see_item(bank: &Bank, pass: &mut Pass, table: Table, index: u64) -> Seen
+    requires pass { IsPassOf bank.now pass.old }
+    requires table { IsTableIn (shape_of bank.now) table }
+    requires index { index < slots (class_of (name_of table)) }
+    ensures pass { IsPassOf bank.now pass.new }
+    ensures did { DidAll (seen_acts (name_of table) index result) pass.old pass.new }
+{
+    let opened = load_word(bank, pass, table, index, item_word::VERSION);
+    let kind = load_word(bank, pass, table, index, item_word::VALUE_KIND);
+    let payload = load_word(bank, pass, table, index, item_word::VALUE);
+    let number = bank.stamp(pass);
+    let closed = load_word(bank, pass, table, index, item_word::VERSION);
+    Seen {
+        opened,
+        kind,
+        payload,
+        number,
+        closed,
+    }
+}
+
+/// A round over the table that the root named: the item, and then the root again.
+fn look_at(bank: &Bank, pass: &mut Pass, o: u32, index: u64, root: u64, table: Table) -> Round
+    requires pass { IsPassOf bank.now pass.old }
+    requires container { o < containers_in (shape_of bank.now) }
+    requires online { 0 < announces (view pass.old).log }
+    requires table { IsTableIn (shape_of bank.now) table }
+    requires root { root ≡ suc (name_of table) }
+    requires index { index < slots (class_of (name_of table)) }
+    requires last { (rest : List Act) × ((view pass.old).log ≡ ReadRoot o root ∷ rest) }
+    ensures pass { IsPassOf bank.now pass.new }
+    ensures ended { EndsTable (shape_of bank.now) o index (name_of table) pass.old pass.new result }
+{
+    let seen = see_item(bank, pass, table, index);
+    let again = bank.read_root(pass, o);
+    if again != root {
+        return Round::Moved(again);
+    }
+    if seen.closed != seen.opened || seen.opened % 2 != 0 {
+        return Round::Ended(Found::Contended(seen.opened, seen.closed));
+    }
+    Round::Ended(Found::Item(seen.kind, seen.payload, seen.number))
+}
+
+/// A round over a table that has no such item: the counter, and then the root again.
+fn look_past(bank: &Bank, pass: &mut Pass, o: u32, index: u64, root: u64, table: Table) -> Round
+    requires pass { IsPassOf bank.now pass.old }
+    requires container { o < containers_in (shape_of bank.now) }
+    requires online { 0 < announces (view pass.old).log }
+    requires table { IsTableIn (shape_of bank.now) table }
+    requires root { root ≡ suc (name_of table) }
+    requires index { slots (class_of (name_of table)) ≤ index }
+    requires last { (rest : List Act) × ((view pass.old).log ≡ ReadRoot o root ∷ rest) }
+    ensures pass { IsPassOf bank.now pass.new }
+    ensures ended { EndsTable (shape_of bank.now) o index (name_of table) pass.old pass.new result }
+{
+    let _ = (index, table);
+    let number = bank.stamp(pass);
+    let again = bank.read_root(pass, o);
+    if again != root {
+        return Round::Moved(again);
+    }
+    Round::Ended(Found::Past(number))
+}
+
+/// A round where the root was read 0: the list's version, the root again, the counter, and the version
+/// again.
+fn look_bare(bank: &Bank, pass: &mut Pass, o: u32) -> Round
+    requires pass { IsPassOf bank.now pass.old }
+    requires container { o < containers_in (shape_of bank.now) }
+    requires online { 0 < announces (view pass.old).log }
+    requires last { (rest : List Act) × ((view pass.old).log ≡ ReadRoot o 0 ∷ rest) }
+    ensures pass { IsPassOf bank.now pass.new }
+    ensures ended { (index : ℕ) → EndsRound (shape_of bank.now) o index 0 pass.old pass.new result }
+{
+    let opened = bank.seq(pass, o);
+    let root = bank.read_root(pass, o);
+    if root != 0 {
+        return Round::Moved(root);
+    }
+    let number = bank.stamp(pass);
+    let closed = bank.seq(pass, o);
+    if closed != opened || opened % 2 != 0 {
+        return Round::Ended(Found::Contended(opened, closed));
+    }
+    Round::Ended(Found::Past(number))
+}
+
+/// A round at whatever the root was.
+fn look_round(bank: &Bank, pass: &mut Pass, o: u32, index: u64, root: u64) -> Round
+    requires pass { IsPassOf bank.now pass.old }
+    requires container { o < containers_in (shape_of bank.now) }
+    requires online { 0 < announces (view pass.old).log }
+    requires table { (t : ℕ) → root ≡ suc t → IsTable (shape_of bank.now) t }
+    requires last { (rest : List Act) × ((view pass.old).log ≡ ReadRoot o root ∷ rest) }
+    ensures pass { IsPassOf bank.now pass.new }
+    ensures ended { EndsRound (shape_of bank.now) o index root pass.old pass.new result }
+{
+    match table_named(root) {
+        Some(table) => {
+            if index < list_items(table.class) {
+                look_at(bank, pass, o, index, root, table)
+            } else {
+                look_past(bank, pass, o, index, root, table)
+            }
+        }
+        None => look_bare(bank, pass, o),
+    }
+}
+
+/// Looks up an item without the lock; the pass is online. A root changes at most twice for each table, so
+/// the rounds end.
+pub(crate) fn find_item(bank: &Bank, pass: &mut Pass, o: u32, index: u64) -> Found
+    requires pass { IsPassOf bank.now pass.old }
+    requires container { o < containers_in (shape_of bank.now) }
+    requires online { 0 < announces (view pass.old).log }
+    ensures pass { IsPassOf bank.now pass.new }
+    ensures keeps { OnlyLoaded (view pass.old) (view pass.new) }
+    ensures looked { (part : List Act) × AreLooks part × DidAll part pass.old pass.new
+        × ShowsFound (shape_of bank.now) o index part (view pass.new).log result }
+{
+    let mut root = bank.read_root(pass, o);
+    'rounds: loop {
+        match look_round(bank, pass, o, index, root) {
+            Round::Ended(found) => return found,
+            Round::Moved(next) => root = next,
+        }
+    }
+}

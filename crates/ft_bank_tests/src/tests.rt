@@ -1,0 +1,80 @@
+//! Two threads with a pass each share one bank.
+ghost use Rattle.std.specs.Prelude.{◌≡◌, ◌<◌, IfOk, length};
+ghost use Rattle.ft_trace.specs.Addresses.{containers_in};
+ghost use Rattle.ft_bank.specs.Openings.{IsOpening, AreOpening};
+ghost use Rattle.ft_bank.specs.Passes.{shape_of, view, IsPassOf};
+ghost use Rattle.ft_bank.specs.Sections.{stack_of, no_sections};
+ghost use Rattle.ft_bank_tests.specs.Rounds.{IsIdle, IsOnwards};
+
+use crate::go_round_with;
+use ft_bank::{Bank, Pass, Shape};
+use ft_model::Kind;
+use std::alloc::Global;
+use std::test::Fail;
+use std::thread;
+
+fn small(alloc: Global) -> Result<Shape, Fail>
+    ensures { IfOk result (λ s. (length s.kinds.items ≡ 1) × (s.passes ≡ 2) × (s.calls ≡ 10)) }
+{
+    Ok(Shape {
+        kinds: vec![in alloc; Kind::List]?,
+        texts: Vec::new(alloc),
+        tables: vec![in alloc; 1u32; 14]?,
+        heap: 64,
+        passes: 2,
+        calls: 10,
+    })
+}
+
+/// The two passes of a bank.
+fn two(bank: &Bank, passes: Vec<Pass>) -> Result<(Pass, Pass), Fail>
+    requires { AreOpening bank.now 0 passes.items }
+    ensures { IfOk result (λ p. IsOpening bank.now 0 p.0 × IsOpening bank.now 1 p.1) }
+{
+    let _ = bank;
+    let mut each = passes.into_iter();
+    let Some(first) = each.next() else {
+        return Err(Fail::from("there is pass 0"));
+    };
+    let Some(second) = each.next() else {
+        return Err(Fail::from("there is pass 1"));
+    };
+    Ok((first, second))
+}
+
+#[test]
+fn two_threads_share_a_bank(rt: HostRuntime) -> Result<(), Fail> {
+    let alloc = rt.alloc();
+    let shape = small(alloc)?;
+    if !shape.fits() {
+        return Err(Fail::from("a small shape fits"));
+    }
+    let Ok((made, passes)) = Bank::new(alloc, shape) else {
+        return Err(Fail::from("there is memory"));
+    };
+    let bank = &made;
+    let (first, second) = two(bank, passes)?;
+    let ((mut first, ours), (second, theirs)) = thread::join(
+        &rt,
+        move || -> (Pass, u32)
+            requires { IsPassOf bank.now first × (0 < containers_in (shape_of bank.now)) × IsIdle (view first)
+                × (stack_of first ≡ no_sections) }
+            ensures { IsPassOf bank.entry.now result.0 × IsIdle (view result.0)
+                × (stack_of result.0 ≡ no_sections) × IsOnwards (view first) (view result.0) }
+        { go_round_with(bank, first, 2_000) },
+        move || -> (Pass, u32)
+            requires { IsPassOf bank.now second × (0 < containers_in (shape_of bank.now)) × IsIdle (view second)
+                × (stack_of second ≡ no_sections) }
+            ensures { IsPassOf bank.entry.now result.0 × IsIdle (view result.0)
+                × (stack_of result.0 ≡ no_sections) × IsOnwards (view second) (view result.0) }
+        { go_round_with(bank, second, 2_000) },
+    );
+    assert!(rt; ours > 0 || theirs > 0);
+    bank.join(&mut first, second);
+    let Ok(()) = bank.try_lock(&mut first, 0) else {
+        return Err(Fail::from("no thread keeps the lock"));
+    };
+    bank.unlock(&mut first, 0);
+    assert_eq!(rt; first.left(), 20);
+    Ok(())
+}

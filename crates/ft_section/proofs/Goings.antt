@@ -6,7 +6,7 @@ use Rattle.ft_bank.specs.declared.pass.Pass.{Pass}
 use Rattle.ft_bank.specs.Passes.{view, KeepsAll}
 use Rattle.ft_bank.specs.Sections.{Stack, stack_of, taken_in, noted_in, nothing_taken}
 use Rattle.ft_section.specs.declared.answers.Objects.{Objects}
-use Rattle.ft_section.specs.Ready.{InCall, IsInCall, IsMarked, AreMarked, AreSuspended, AreBegun, IsReady, MayTry, NotesTop, lock_count}
+use Rattle.ft_section.specs.Ready.{IsStill, IsWaiting, InCall, IsInCall, IsMarked, AreMarked, AreSuspended, AreBegun, IsReady, MayTry, NotesTop, lock_count}
 use Rattle.ft_section.specs.Locking.{OnlyLocked, LetGo, MayLetGo, FoundOwner, with_own}
 use Rattle.ft_section.specs.Takings.{IsTaking}
 use Rattle.ft_section.proofs.InCalls.{one_if, has_counted, counted_has, still_stands}
@@ -27,25 +27,30 @@ one_least false = omega arith
 pub count_least : (o : ℕ) (v : View) → lock_count o v ≤ 1
 count_least o v = one_least (has_lock o v.log)
 
--- s was kept before, t is kept after
-pub went : (v w : View) (s t : Stack) (amount : ℕ → ℕ) → InCall v s → LetGo amount v w → ((o : ℕ) → noted_in o t.sections + taken_in o t.own + amount o ≡ noted_in o s.sections + taken_in o s.own) → All (λ x. IsTaking v.shape x.locks) t.sections → AreBegun t.sections (begun v.log) → ((o : ℕ) → amount o ≢ 0 → noted_in o t.sections ≡ 0) → ((q : ℕ) → t.mark ≡ Some q → AreMarked w t.sections) → InCall w t
-went v w s t amount i go left takings begun' struck marked =
+-- where this was noted before, t is kept after
+pub went_from : (v w : View) (t : Stack) (amount before : ℕ → ℕ) → IsStill v → ((o : ℕ) → before o ≡ lock_count o v) → ((o : ℕ) → has_lock o v.log ≡ true → o < containers_in v.shape) → LetGo amount v w → ((o : ℕ) → noted_in o t.sections + taken_in o t.own + amount o ≡ before o) → All (λ x. IsTaking v.shape x.locks) t.sections → AreBegun t.sections (begun v.log) → ((o : ℕ) → amount o ≢ 0 → noted_in o t.sections ≡ 0) → ((q : ℕ) → t.mark ≡ Some q → AreMarked w t.sections) → InCall w t
+went_from v w t amount before still locks low go left takings begun' struck marked =
     let had : (o : ℕ) → has_lock o w.log ≡ true → has_lock o v.log ≡ true = λ o has. has_counted o v (λ zero_v. let c = go.count o in let h = counted_has o w has in omega (arith, c, h, zero_v)) in
     record {
       still = record {
-        even = λ o. go.locked.writes o ∙ i.still.even o;
-        hands = λ n. subst (λ (x : ℕ). (x ≡ 0) ⊎ (x ≡ 4)) (sym (go.locked.hands n)) (i.still.hands n);
-        used = go.locked.used ∙ i.still.used;
-        owes = go.locked.owes ∙ i.still.owes;
-        flight = go.locked.flight ∙ i.still.flight;
-        stands = λ o low has. let h = had o has in still_stands v w go.locked o (i.low o h) h has (i.still.stands o (i.low o h) h);
+        even = λ o. go.locked.writes o ∙ still.even o;
+        hands = λ n. subst (λ (x : ℕ). (x ≡ 0) ⊎ (x ≡ 4)) (sym (go.locked.hands n)) (still.hands n);
+        used = go.locked.used ∙ still.used;
+        owes = go.locked.owes ∙ still.owes;
+        flight = go.locked.flight ∙ still.flight;
+        stands = λ o _ has. let h = had o has in still_stands v w go.locked o (low o h) h has (still.stands o (low o h) h);
       };
-      locks = λ o. let a = i.locks o in let c = go.count o in let l = left o in omega (arith, a, c, l);
-      low = λ o has. subst (λ (k : Shape). o < containers_in k) (sym go.locked.shape) (i.low o (had o has));
+      locks = λ o. let a = locks o in let c = go.count o in let l = left o in omega (arith, a, c, l);
+      low = λ o has. subst (λ (k : Shape). o < containers_in k) (sym go.locked.shape) (low o (had o has));
       sections = subst (λ (k : Shape). All (λ x. IsTaking k x.locks) t.sections) (sym go.locked.shape) takings;
       begun = go.begun t.sections begun' struck;
       marked = marked;
     }
+
+-- s was kept before, t is kept after
+pub went : (v w : View) (s t : Stack) (amount : ℕ → ℕ) → InCall v s → LetGo amount v w → ((o : ℕ) → noted_in o t.sections + taken_in o t.own + amount o ≡ noted_in o s.sections + taken_in o s.own) → All (λ x. IsTaking v.shape x.locks) t.sections → AreBegun t.sections (begun v.log) → ((o : ℕ) → amount o ≢ 0 → noted_in o t.sections ≡ 0) → ((q : ℕ) → t.mark ≡ Some q → AreMarked w t.sections) → InCall w t
+went v w s t amount i go left takings begun' struck marked =
+    went_from v w t amount (λ o. noted_in o s.sections + taken_in o s.own) i.still i.locks i.low go left takings begun' struck marked
 
 -- what a call took itself is noted by no section
 pub own_unnoted : (v : View) (s : Stack) → InCall v s → (o : ℕ) → taken_in o s.own ≢ 0 → noted_in o s.sections ≡ 0
@@ -108,3 +113,6 @@ found_then u v w o q f l =
       is = l.grew ∙ (ap (λ (x : List Act). l.newer ++ x) f.is ∙ sym (append_assoc l.newer f.newer (Lock o (q + 1) f.snap ∷ (f.older ++ u.log))));
       other = f.other;
     }
+
+pub may_inside : (b : Bank) (p : Pass) (objects : Objects) → MayTry b p objects → IsInCall b p
+may_inside b p objects may = ⊎_elim (λ (r : IsReady b p). r.inside) (λ (w : IsWaiting b p objects). w.inside) may

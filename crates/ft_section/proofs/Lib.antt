@@ -6,3 +6,6 @@ pub mod Sweeping
 pub mod Waits
 pub mod Goings
 pub mod Making
+pub mod Resumes
+pub mod Ends
+pub mod Entering

@@ -2,3 +2,4 @@ pub mod Takings
 pub mod Ready
 pub mod Locking
 pub mod Answers
+pub mod Sectioning

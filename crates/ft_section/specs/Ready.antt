@@ -112,3 +112,11 @@ pub record IsMaking (b : Bank) (p : Pass) : Type 0 where
   pub inside : IsInCall b p
   pub free : (stack_of p).mark ≡ None → NotesTop (stack_of p).sections
   pub waited : (q : ℕ) → (stack_of p).mark ≡ Some q → AreSuspended (stack_of p).sections
+
+-- A pass whose call has made its answer: before the next call it takes up its innermost section again, of whose locks the
+-- call has at most the lower one. (C API, critical sections)
+pub record MayResume (b : Bank) (p : Pass) : Type 0 where
+  pub inside : IsInCall b p
+  pub own : (outer : List OpenSection) (top : OpenSection) → (stack_of p).sections ≡ outer ++ top ∷ []
+      → IsOwnFor top.locks.lower top.locks.upper (stack_of p).own
+  pub none : (stack_of p).sections ≡ [] → (stack_of p).own ≡ nothing_taken

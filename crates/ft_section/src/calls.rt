@@ -6,7 +6,8 @@ ghost use Rattle.ft_bank.specs.Sections.{stack_of, nothing_taken, taken_in};
 ghost use Rattle.ft_section.specs.declared.answers.Objects.{Objects};
 ghost use Rattle.ft_section.specs.Answers.{IfHave, IfNotYet};
 ghost use Rattle.ft_section.specs.Locking.{OnlyLocked, KeepsLocks, FoundOwner, with_own, waiting, first_mark, marks_more};
-ghost use Rattle.ft_section.specs.Ready.{IsInCall, IsMarked, AreSuspended, IsMaking, IsWaiting, MayTry, lock_count};
+ghost use Rattle.ft_section.specs.Ready.{IsInCall, IsMarked, AreSuspended, IsMaking, IsWaiting, MayTry, MayResume, lock_count};
+ghost use Rattle.ft_section.specs.Sectioning.{AreNoted};
 ghost use Rattle.ft_section.specs.Takings.{lower_of, upper_of, IsOf, AreIn, IsOwnFor, HasLocks};
 ghost use Rattle.ft_trace.specs.Addresses.{containers_in};
 ghost use Rattle.ft_trace.specs.Acts.{has_lock};
@@ -65,6 +66,7 @@ pub fn take_for(bank: &Bank, pass: &mut Pass, objects: Objects) -> Got
     ensures making { IfHave result (IsMaking bank.now pass.new) }
     ensures has { IfHave result (HasLocks (view pass.new) objects × KeepsLocks (view pass.old) (view pass.new)) }
     ensures took { IfHave result (stack_of pass.new ≡ with_own (stack_of pass.old) (stack_of pass.new).own) }
+    ensures noted { IfHave result (AreNoted objects (stack_of pass.new).own) }
     ensures found { IfNotYet result (λ o q. IsOf o objects × FoundOwner o q (view pass.old) (view pass.new)) }
     ensures waiting { IfNotYet result (λ o q. IsWaiting bank.now pass.new objects
         × (stack_of pass.new ≡ waiting (with_own (stack_of pass.old) (stack_of pass.new).own) q)) }
@@ -87,6 +89,7 @@ pub fn let_go(bank: &Bank, pass: &mut Pass)
     ensures count { (o : ℕ) → lock_count o (view pass.new) + taken_in o (stack_of pass.old).own ≡ lock_count o (view pass.old) }
     ensures stack { stack_of pass.new ≡ with_own (stack_of pass.old) nothing_taken }
     ensures may { (objects : Objects) → MayTry bank.now pass.new objects }
+    ensures resume { MayResume bank.now pass.new }
 {
     let own = pass.own();
     pass.put_own(Taking::NONE);

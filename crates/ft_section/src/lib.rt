@@ -9,9 +9,14 @@
 mod answers;
 mod beginning;
 mod calls;
+mod ending;
+mod entries;
 mod letting;
 mod locks;
+mod resuming;
 
 pub use crate::answers::{Began, Ended, Got, Look, Object, Objects, Owner, Resumed, Stamp, Step};
-pub use crate::beginning::depth;
+pub use crate::beginning::{depth, try_begin};
 pub use crate::calls::{let_go, take_for};
+pub use crate::ending::end;
+pub use crate::resuming::resume;

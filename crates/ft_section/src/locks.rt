@@ -51,6 +51,7 @@ fn take_one(bank: &Bank, pass: &mut Pass, o: Object) -> Result<bool, Owner>
     ensures has { OnOk result (has_lock o (view pass.new).log ≡ true) }
     ensures none { OnErr result (Took (λ p. 0) (view pass.old) (view pass.new)) }
     ensures found { IfErr result (λ q. FoundOwner o q (view pass.old) (view pass.new)) }
+    ensures lacked { OnErr result (has_lock o (view pass.old).log ≡ false) }
 {
     if has(pass, o) {
         return Ok(false);
@@ -105,6 +106,7 @@ fn take_lower(bank: &Bank, pass: &mut Pass) -> Result<(), (Object, Owner)>
     ensures stack { (took : Bool) × (stack_of pass.new ≡ with_own (stack_of pass.old) (record (stack_of pass.old).own { took_lower = took })) }
     ensures has { OnOk result (has_lock (stack_of pass.old).own.lower (view pass.new).log ≡ true) }
     ensures none { OnErr result (stack_of pass.new ≡ stack_of pass.old) }
+    ensures lacked { OnErr result (has_lock (stack_of pass.old).own.lower (view pass.old).log ≡ false) }
     ensures found { IfErr result (λ e. (e.0 ≡ (stack_of pass.old).own.lower) × FoundOwner e.0 e.1 (view pass.old) (view pass.new)) }
 {
     let own = pass.own();
@@ -128,6 +130,7 @@ fn take_upper(bank: &Bank, pass: &mut Pass) -> Result<(), (Object, Owner)>
     ensures has { OnOk result (has_lock (stack_of pass.old).own.upper (view pass.new).log ≡ true) }
     ensures once { has_lock (stack_of pass.old).own.upper (view pass.old).log ≡ true → stack_of pass.new ≡ stack_of pass.old }
     ensures none { OnErr result (stack_of pass.new ≡ stack_of pass.old) }
+    ensures lacked { OnErr result (has_lock (stack_of pass.old).own.upper (view pass.old).log ≡ false) }
     ensures found { IfErr result (λ e. (e.0 ≡ (stack_of pass.old).own.upper) × FoundOwner e.0 e.1 (view pass.old) (view pass.new)) }
 {
     let own = pass.own();
@@ -160,6 +163,7 @@ pub(crate) fn take_both(
     ensures has { OnOk result ((has_lock lower (view pass.new).log ≡ true) × (has_lock upper (view pass.new).log ≡ true)) }
     ensures once { lower ≡ upper → (stack_of pass.new).own.took_upper ≡ false }
     ensures none { OnErr result ((stack_of pass.new).own.took_upper ≡ false) }
+    ensures lacked { OnErr result ((has_lock lower (view pass.old).log ≡ false) ⊎ (has_lock upper (view pass.old).log ≡ false)) }
     ensures found { IfErr result (λ e. ((e.0 ≡ lower) ⊎ (e.0 ≡ upper)) × FoundOwner e.0 e.1 (view pass.old) (view pass.new)) }
 {
     let own = pass.own();

@@ -1,10 +1,11 @@
-use Rattle.std.proofs.Common.{◌≡◌, sym, ap, ◌∙◌, subst}
+use Rattle.std.proofs.Common.{inl, ◌≡◌, sym, ap, ◌∙◌, subst}
 use Rattle.ft_bank.specs.declared.sections.Taking.{Taking}
 use Rattle.ft_bank.specs.Passes.{view, IsPassOf}
 use Rattle.ft_bank.specs.Sections.{Stack, stack_of, taken_in, nothing_taken}
 use Rattle.ft_section.specs.Locking.{LetGo, with_own}
 use Rattle.ft_section.specs.Ready.{InCall, AreSuspended, NotesTop}
-use Rattle.ft_section.proofs.Goings.{own_went, may_try}
+use Rattle.ft_section.specs.declared.answers.Objects.TheVariants.{One}
+use Rattle.ft_section.proofs.Goings.{own_went, may_try, may_inside}
 use Rattle.ft_trace.specs.declared.View.{View}
 use Rattle.ft_section.proofs.calls.let_go.Goals as goal
 
@@ -25,3 +26,8 @@ returns-clause-may c objects =
     may_try b r objects (pass, subst (InCall (view r)) (sym stack) inside) (ap (λ (x : Stack). x.own) stack)
     (λ none. subst NotesTop (sym sections) (m.free (sym mark ∙ none)))
     (λ q e. subst AreSuspended (sym sections) (m.waited q (sym mark ∙ e)))
+
+pub returns-clause-resume : goal.returns-clause-resume
+returns-clause-resume c =
+    let none = ap (λ (x : Stack). x.own) (c.let_taking_go.ensures.stack.1 ∙ c.put_own.ensures.stack) in
+    record { inside = may_inside c.args.bank.now c.let_taking_go.new.pass (One 0) (returns-clause-may c (One 0)); own = λ outer top split. inl none; none = λ nil. none }

@@ -1,0 +1,108 @@
+use Rattle.std.proofs.Common.{◌≡◌, ◌<◌, ◌≤◌, ◌+◌, ℕ, List, [], ◌∷◌, false, length, inr, ⊎_elim, refl, sym, ap, ◌∙◌, subst, arith, length-append}
+use Rattle.std.specs.Prelude.{All, None}
+use Rattle.std.proofs.lemmas.Bool.{true≢false}
+use Rattle.std.proofs.lemmas.List.Elements.{All-push}
+use Rattle.ft_bank.specs.declared.sections.OpenSection.{OpenSection}
+use Rattle.ft_bank.specs.declared.sections.Taking.{Taking}
+use Rattle.ft_bank.specs.Passes.{view}
+use Rattle.ft_bank.specs.Sections.{Stack, stack_of, taken_in, nothing_taken}
+use Rattle.ft_section.specs.Locking.{OnlyLocked, marks_more}
+use Rattle.ft_section.specs.Ready.{IsMarked}
+use Rattle.ft_section.specs.Takings.{HasBoth}
+use Rattle.ft_section.proofs.Goings.{found_then}
+use Rattle.ft_section.proofs.Releases.{only_then, only_same}
+use Rattle.ft_section.proofs.Resumes.{top_taking, top_apart, resumed, wait_split, wait_some}
+use Rattle.ft_trace.specs.declared.Shape.{Shape}
+use Rattle.ft_trace.specs.Acts.{has_lock}
+use Rattle.ft_trace.specs.Addresses.{containers_in}
+use Rattle.ft_section.proofs.resuming.resume.Goals as goal
+
+pub returns-in_default-clause-locked : goal.returns-in_default-clause-locked
+returns-in_default-clause-locked c =
+    subst (OnlyLocked (view c.args.pass.now)) (sym c.put_mark.ensures.view.1) (only_same (view c.args.pass.now))
+
+pub take_both-requires-clause-containers : goal.take_both-requires-clause-containers
+take_both-requires-clause-containers c =
+    let p = c.args.pass.now in
+    let split = sym (c.copied-sections.ensures ∙ c.sections.ensures) ∙ c.pop.ensures.some c.in-Some.top c.in-Some.is in
+    let t = top_taking (view p) (stack_of p) c.pop.new.self c.in-Some.top c.requires.inside.1 split in
+    let upper = subst (λ (k : Shape). c.in-Some.top.locks.upper < containers_in k) c.requires.inside.0.1 t.low in
+    let order = t.order in
+    (omega (arith, order, upper), upper)
+
+pub take_both-requires-clause-own : goal.take_both-requires-clause-own
+take_both-requires-clause-own c =
+    c.requires.own c.pop.new.self c.in-Some.top (sym (c.copied-sections.ensures ∙ c.sections.ensures) ∙ c.pop.ensures.some c.in-Some.top c.in-Some.is)
+
+pub joined-requires-clause-apart : goal.joined-requires-clause-apart
+joined-requires-clause-apart c o =
+    let q = c.take_both.new.pass in
+    let split = ap (λ (s : Stack). s.sections) c.take_both.ensures.stack ∙ (sym (c.copied-sections.ensures ∙ c.sections.ensures) ∙ c.pop.ensures.some c.in-Some.top c.in-Some.is) in
+    subst (λ (t : Taking). taken_in o c.in-Some.top.locks + taken_in o t ≤ 1) (sym c.own.ensures)
+    (top_apart (view q) (stack_of q) c.pop.new.self c.in-Some.top c.take_both.ensures.inside.1 split o)
+
+pub push-requires : goal.push-requires
+push-requires c =
+    let e = ap length (c.pop.ensures.some c.in-Some.top c.in-Some.is) ∙ length-append c.pop.new.self (c.in-Some.top ∷ []) in
+    let d = c.depth-depth.ensures in
+    omega (arith, e, d.depth, d.few)
+
+pub wait-requires-clause-marked : goal.wait-requires-clause-marked
+wait-requires-clause-marked c a e =
+    let p = c.args.pass.now in
+    let v = view p in
+    let top = c.in-Some.top in
+    let split = sym (c.copied-sections.ensures ∙ c.sections.ensures) ∙ c.pop.ensures.some c.in-Some.top c.in-Some.is in
+    let mark = ap (λ (s : Stack). s.mark) c.take_both.ensures.stack in
+    let sections = ap (λ (s : Stack). s.sections) c.take_both.ensures.stack in
+    let m = c.requires.inside.1.marked a (sym mark ∙ e) c.pop.new.self top split in
+    let lacked : HasBoth v top.locks → ⊥ = λ both. ⊎_elim (λ (x : has_lock top.locks.lower v.log ≡ false). true≢false (sym both.0 ∙ x)) (λ (x : has_lock top.locks.upper v.log ≡ false). true≢false (sym both.1 ∙ x)) c.in-Err.ensures.lacked in
+    let here : IsMarked top = ⊎_elim (λ (x : IsMarked top). x) (λ (x : HasBoth v top.locks). absurd (lacked x)) m.1 in
+    subst (All IsMarked) (sym (sections ∙ split)) (All-push IsMarked c.pop.new.self top m.0 here)
+
+pub returns-in-Ok-clause-ready : goal.returns-in-Ok-clause-ready
+returns-in-Ok-clause-ready c =
+    let q = c.take_both.new.pass in
+    let r = c.put_mark-in-Ok.new.self in
+    let top = c.in-Some.top in
+    let again : OpenSection = record { locks = c.joined.result; marks = top.marks } in
+    let split0 = sym (c.copied-sections.ensures ∙ c.sections.ensures) ∙ c.pop.ensures.some c.in-Some.top c.in-Some.is in
+    let split = ap (λ (s : Stack). s.sections) c.take_both.ensures.stack ∙ split0 in
+    let t = top_taking (view c.args.pass.now) (stack_of c.args.pass.now) c.pop.new.self top c.requires.inside.1 split0 in
+    let lower = ap (λ (x : Taking). x.lower) c.joined.ensures.rest in
+    let upper = ap (λ (x : Taking). x.upper) c.joined.ensures.rest in
+    let taken : (o : ℕ) → taken_in o c.joined.result ≡ taken_in o top.locks + taken_in o (stack_of q).own = λ o. c.joined.ensures.taken o ∙ ap (λ (x : Taking). taken_in o top.locks + taken_in o x) c.own.ensures in
+    let once : c.joined.result.lower ≡ c.joined.result.upper → c.joined.result.took_upper ≡ false = λ e. let same = sym lower ∙ (e ∙ upper) in c.joined.ensures.once (t.once same) (ap (λ (x : Taking). x.took_upper) c.own.ensures ∙ c.take_both.ensures.once same) in
+    let stack = c.put_mark-in-Ok.ensures.stack
+    ∙ (ap (λ (s : Stack). record s { mark = None }) (c.put_own.ensures.stack ∙ ap (λ (s : Stack). record s { own = nothing_taken }) c.put_sections.ensures.stack)
+    ∙ ap (λ (xs : List OpenSection). record { sections = xs; own = nothing_taken; mark = None }) c.push.ensures) in
+    resumed c.args.bank.now q r c.pop.new.self top again c.take_both.ensures.inside split taken lower upper refl once c.in-Ok.ensures.has
+    (c.put_mark-in-Ok.ensures.view.0 ∙ (c.put_own.ensures.view.0 ∙ c.put_sections.ensures.view.0)) (c.put_mark-in-Ok.ensures.view.1 ∙ (c.put_own.ensures.view.1 ∙ c.put_sections.ensures.view.1)) stack
+
+pub returns-in-Err-clause-locked : goal.returns-in-Err-clause-locked
+returns-in-Err-clause-locked c =
+    only_then (view c.args.pass.now) (view c.take_both.new.pass) (view c.wait.new.pass) c.take_both.ensures.locked c.wait.ensures.locked (λ p had has. c.take_both.ensures.keeps p had)
+
+pub returns-in-Err-clause-found : goal.returns-in-Err-clause-found
+returns-in-Err-clause-found c =
+    found_then (view c.args.pass.now) (view c.take_both.new.pass) (view c.wait.new.pass) c.in-Err.o c.in-Err.owner c.in-Err.ensures.found.1 c.wait.ensures.locked
+
+pub returns-in-Err-clause-may : goal.returns-in-Err-clause-may
+returns-in-Err-clause-may c =
+    let q = c.take_both.new.pass in
+    let top = c.in-Some.top in
+    let m = marks_more (stack_of q).mark in
+    let split = ap (λ (s : Stack). s.sections) c.take_both.ensures.stack ∙ (sym (c.copied-sections.ensures ∙ c.sections.ensures) ∙ c.pop.ensures.some c.in-Some.top c.in-Some.is) in
+    let sections = ap (λ (s : Stack). s.sections) c.wait.ensures.stack in
+    let own = ap (λ (s : Stack). s.own) c.wait.ensures.stack in
+    record {
+      inside = c.wait.ensures.inside;
+      own = λ outer' top' cut.
+          let same = wait_split m (stack_of q).sections c.pop.new.self outer' top top' split (sym sections ∙ cut) in
+          inr (
+            ap (λ (t : Taking). t.lower) own ∙ (c.take_both.ensures.containers.0 ∙ ap (λ (s : OpenSection). s.locks.lower) same),
+            ap (λ (t : Taking). t.upper) own ∙ (c.take_both.ensures.containers.1 ∙ ap (λ (s : OpenSection). s.locks.upper) same),
+            ap (λ (t : Taking). t.took_upper) own ∙ c.in-Err.ensures.none,
+          );
+      none = λ nil. absurd (wait_some m (stack_of q).sections c.pop.new.self top split (sym sections ∙ nil));
+    }

@@ -1,5 +1,5 @@
-//! The bank: the table of its words with its shape. It is made with its first pass; passes make others,
-//! and take others in.
+//! The bank: the table of its words with its shape. It is made with all its passes, and passes take others
+//! in.
 ghost use Rattle.std.specs.Prelude.{◌≡◌, ◌<◌, ◌^◌, ◌*◌, [], length, IfOk, ℕ};
 ghost use Rattle.ft_trace.specs.declared.Act.TheVariants.{ReadCounter};
 ghost use Rattle.ft_trace.specs.Addresses.{extent};

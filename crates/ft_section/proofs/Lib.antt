@@ -9,3 +9,4 @@ pub mod Making
 pub mod Resumes
 pub mod Ends
 pub mod Entering
+pub mod Fresh

@@ -1,12 +1,13 @@
 //! How many sections a pass has open, and the begin of another one (C API, critical sections).
-ghost use Rattle.std.specs.Prelude.{◌≡◌, ◌≤◌, ◌<◌, ◌++◌, ◌∷◌, [], length, false};
+ghost use Rattle.std.specs.Prelude.{◌≡◌, ◌≤◌, ◌<◌, ◌++◌, ◌∷◌, [], ℕ, length, false};
 ghost use Rattle.ft_bank.specs.declared.sections.Taking.{Taking};
+ghost use Rattle.ft_bank.specs.Openings.{IsOpening};
 ghost use Rattle.ft_bank.specs.Passes.{shape_of, view};
 ghost use Rattle.ft_bank.specs.Sections.{stack_of, nothing_taken};
 ghost use Rattle.ft_model.specs.declared.reply.Reply.TheVariants as reply;
 ghost use Rattle.ft_section.specs.Answers.{IfEntered, IfBeginWaits};
 ghost use Rattle.ft_section.specs.Locking.{OnlyLocked, KeepsLocks, FoundOwner, with_own, waiting};
-ghost use Rattle.ft_section.specs.Ready.{IsMaking, IsWaiting, MayTry, MayResume};
+ghost use Rattle.ft_section.specs.Ready.{IsReady, IsMaking, IsWaiting, MayTry, MayResume};
 ghost use Rattle.ft_section.specs.Sectioning.{IsSaid, AreNoted, begin_of, answered_view};
 ghost use Rattle.ft_section.specs.Takings.{IsOf, AreIn, HasLocks};
 ghost use Rattle.ft_trace.specs.declared.View.{View};
@@ -24,6 +25,12 @@ pub fn depth(pass: &Pass) -> u32
 {
     pass.sections().depth()
 }
+
+/// A pass of a new bank is ready for its first call.
+pub fn new_passes_are_ready(bank: &Bank, pass: &Pass)
+    requires { (i : ℕ) × IsOpening bank.now i pass.now }
+    ensures { IsReady bank.now pass.now }
+{}
 
 /// The call that begins a section on these containers.
 fn begin_call(objects: Objects) -> Call

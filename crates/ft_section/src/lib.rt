@@ -16,7 +16,7 @@ mod locks;
 mod resuming;
 
 pub use crate::answers::{Began, Ended, Got, Look, Object, Objects, Owner, Resumed, Stamp, Step};
-pub use crate::beginning::{depth, try_begin};
+pub use crate::beginning::{depth, new_passes_are_ready, try_begin};
 pub use crate::calls::{let_go, take_for};
 pub use crate::ending::end;
 pub use crate::resuming::resume;

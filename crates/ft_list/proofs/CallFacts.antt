@@ -1,9 +1,10 @@
 -- What each call on a list changes, in the words of the plain containers.
 use Rattle.std.proofs.Common.{◌≡◌, ℕ, ◌+◌, ◌<◌, ◌≤◌, ℤ, Bool, true, false, List, [], length, Option, Some, None, refl, sym, ap, ◌∙◌, subst, arith, get_or-set_same}
 use Rattle.std.specs.Prelude.{map, ◌&&◌, ◌||◌, nat_lt, IfSome, slice_index_or, slice_set, negsuc, if◌then◌else◌}
-use Rattle.std.specs.List.{remove, list_any}
+use Rattle.std.specs.List.{insert, remove, list_any}
 use Rattle.std.specs.Option.{unwrap_or, option_map_or}
 use Rattle.std.proofs.lemmas.Bool.{le-ltb}
+use Rattle.std.proofs.lemmas.List.Edits.{insert_end, length-insert}
 use Rattle.ft_model.specs.declared.call.Call.TheVariants as call
 use Rattle.ft_model.specs.declared.call.ListCall.{ListCall}
 use Rattle.ft_model.specs.declared.call.ListCall.TheVariants as list
@@ -128,3 +129,10 @@ module _ (o : ℕ) (lc : ListCall) (values news : List Value) (v : View) (low : 
     caps = caps_is;
     table = table_after;
   }
+
+-- l.append(v), where the table has room
+pub append_changes : (o : ℕ) (value : Value) (values : List Value) (v : View) → o < containers_in v.shape → has_lock o v.log ≡ true → (known o v).content ≡ content.List values → (class : ℕ) → IsClass class → (known o v).table ≡ record { class = Some class; fill = 0 } → length values < slots class → FitsListCall (list.Append value) → Changes o (list.Append value) reply.Done values (insert values (length values) value) v
+append_changes o value values v low mine is_list class is_class kept_table room fits =
+    let long = length-insert values (length values) value (omega arith) in
+    changes_grow o (list.Append value) values (insert values (length values) value) v low mine is_list class is_class kept_table (omega (arith, long, room)) refl refl
+    (λ world. ap (λ (vs : List Value). puts world no_hands o (content.List vs) reply.Done) (sym (insert_end values value))) refl refl fits

@@ -23,10 +23,11 @@ use Rattle.ft_trace.specs.Traces.{Possible}
 use Rattle.ft_trace.proofs.Clearing.{held_shut}
 use Rattle.ft_trace.proofs.Known.{kind_known, class_known}
 use Rattle.ft_layout.proofs.KindLaws.{head_of}
+use Rattle.ft_bank.specs.declared.table.Table.{Table}
 use Rattle.ft_bank.specs.Whole.{OnlyLoaded}
 use Rattle.ft_bank.proofs.Whole.{loaded_held, work_knows}
 use Rattle.ft_list.specs.Items.{items_of}
-use Rattle.ft_list.specs.Calls.{MayWriteList}
+use Rattle.ft_list.specs.Calls.{MayWriteList, HasTable}
 
 -- 1 for a list
 list_code : Kind → ℕ
@@ -96,3 +97,6 @@ items_loaded o v w only = ap (λ (z : Kept). list_of z.content) (work_knows v w 
 -- a pass of a bank that may write a list knows that it is one
 pub content_of : (k : Shape) (o : ℕ) (v : View) → v.shape ≡ k → ∥ Possible v ∥₁ → MayWriteList k o v → (known o v).content ≡ content.List (items_of o v)
 content_of k o v same possible may = list_content v o possible may.locked (ap (λ (z : Shape). kind_in z.kinds o) same ∙ may.kind)
+
+pub table_loaded : (k : Shape) (o : ℕ) (table : Table) (v w : View) → OnlyLoaded v w → HasTable k o table v → HasTable k o table w
+table_loaded k o table v w only has = record { table_in = has.table_in; root = ap root_in (loaded_held v w o only) ∙ has.root }

@@ -1,8 +1,9 @@
 -- What calls do to a list, and what a pass is to have that makes one.
-use Rattle.std.specs.Prelude.{◌≡◌, ◌⊎◌, ℕ, suc, ◌<◌, true, false, List, IfSome, None}
+use Rattle.std.specs.Prelude.{◌≡◌, ◌⊎◌, ℕ, suc, ◌<◌, ◌≤◌, true, false, List, length, IfSome, None}
 use Rattle.ft_model.specs.declared.call.Call.{Call}
 use Rattle.ft_model.specs.declared.call.Call.TheVariants as call
 use Rattle.ft_model.specs.declared.call.ListCall.{ListCall}
+use Rattle.ft_model.specs.declared.call.ListCall.TheVariants as list
 use Rattle.ft_model.specs.declared.content.Content.{Content}
 use Rattle.ft_model.specs.declared.content.Content.TheVariants as content
 use Rattle.ft_model.specs.declared.data.Value.{Value}
@@ -25,9 +26,12 @@ use Rattle.ft_trace.specs.Holds.{held, known}
 use Rattle.ft_bank.specs.declared.table.Table.{Table}
 use Rattle.ft_bank.specs.Tables.{name_of, IsTableIn}
 use Rattle.ft_bank.specs.Answered.{Answered}
-use Rattle.ft_bank.specs.Whole.{Wrote}
+use Rattle.ft_bank.specs.Whole.{OnlyLoaded, Wrote}
 use Rattle.ft_bank.specs.Writes.{MayHave}
 use Rattle.ft_section.specs.declared.answers.Stamp.{Stamp}
+use Rattle.ft_list.specs.declared.locked.Appended.{Appended}
+use Rattle.ft_list.specs.declared.locked.Appended.TheVariants as appended
+use Rattle.ft_list.specs.Items.{items_of}
 
 -- The pass may write the list o: it has its lock, and its words stand for what the pass knows of it; no version is odd there,
 -- the pass has lowered no count of a class that it hasn't raised again, and it has a call left. (profile)
@@ -73,3 +77,10 @@ abbrev pub Made : Call → Reply → Stamp → View → View → Type 0
 Made called said stamp v w =
     ((stamp.wrote ≡ true) × Wrote called said stamp.number v w)
     ⊎ ((stamp.wrote ≡ false) × Answered called said stamp.number v w)
+
+-- An append under the lock was made, as one whole write; or the list has as many items as its table has room for, and the
+-- pass only loaded words. (profile)
+abbrev pub IsAppended : ℕ → ℕ → Value → View → View → Appended → Type 0
+IsAppended o room value v w (appended.Made stamp) =
+    (stamp.wrote ≡ true) × Wrote (call.List o (list.Append value)) reply.Done stamp.number v w
+IsAppended o room value v w appended.Full = OnlyLoaded v w × (room ≤ length (items_of o v))

@@ -13,4 +13,4 @@ mod looks;
 mod writes;
 
 pub use crate::gets::look_item;
-pub use crate::locked::{del_locked, set_locked};
+pub use crate::locked::{Appended, append_locked, del_locked, set_locked};

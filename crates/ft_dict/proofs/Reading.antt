@@ -1,17 +1,16 @@
 -- From what a pass with the lock of a dict reads at a key to what it may answer.
-use Rattle.std.proofs.Common.{◌≡◌, ◌≢◌, ℕ, ◌<◌, Bool, true, false, cond, List, [], ◌∷◌, ◌++◌, length, find, All, Option, Some, None, refl, sym, ap, ◌∙◌, subst, inr, arith}
+use Rattle.std.proofs.Common.{◌≡◌, ◌≢◌, ℕ, ◌<◌, true, false, cond, List, [], ◌∷◌, length, find, Option, Some, None, refl, sym, ap, ◌∙◌, subst, inr}
 use Rattle.std.specs.Prelude.{slice_index, slice_index_or, option_map, is_some, ◌||◌}
 use Rattle.std.specs.List.{list_any}
 use Rattle.std.specs.Option.{unwrap_or}
 use Rattle.ft_model.specs.Answers.{is_write}
 use Rattle.ft_model.specs.Contents.{DictContent, dict_get, has_key, is_at, empty_dict}
 use Rattle.ft_model.specs.Histories.{IsReplied}
-use Rattle.ft_model.specs.Tables.{StoredWorld, stored_newest, would_pass}
+use Rattle.ft_model.specs.Tables.{StoredWorld, stored_newest}
 use Rattle.ft_model.specs.Worlds.{dict_of, dict_at}
 use Rattle.ft_model.specs.declared.call.Call.{Call}
 use Rattle.ft_model.specs.declared.call.Call.TheVariants as call
 use Rattle.ft_model.specs.declared.call.DictCall.TheVariants as dict
-use Rattle.ft_model.specs.declared.content.Content.{Content}
 use Rattle.ft_model.specs.declared.content.Content.TheVariants as content
 use Rattle.ft_model.specs.declared.content.DictPair.{DictPair}
 use Rattle.ft_model.specs.declared.data.Key.{Key}
@@ -21,24 +20,22 @@ use Rattle.ft_model.specs.declared.reply.Reply.TheVariants as reply
 use Rattle.ft_layout.specs.declared.slot.Stored.TheVariants.{Plain}
 use Rattle.ft_layout.specs.Words.{FitsKey, IsStored}
 use Rattle.ft_layout.proofs.WordLaws.{stored_is_one}
-use Rattle.ft_trace.specs.declared.Act.{Act}
-use Rattle.ft_trace.specs.declared.Act.TheVariants.{Answer, ReadCounter}
+use Rattle.ft_trace.specs.declared.Act.TheVariants.{ReadCounter}
 use Rattle.ft_trace.specs.declared.View.{View}
 use Rattle.ft_trace.specs.Acts.{has_lock, noted}
 use Rattle.ft_trace.specs.Addresses.{containers_in}
 use Rattle.ft_trace.specs.Causes.{HasCause}
-use Rattle.ft_trace.specs.FitCalls.{FitsContent, FitsValue}
-use Rattle.ft_trace.specs.Holds.{held, known}
+use Rattle.ft_trace.specs.FitCalls.{FitsContent}
+use Rattle.ft_trace.specs.Holds.{known}
 use Rattle.ft_trace.specs.Kinds.{under}
 use Rattle.ft_trace.specs.LookReplies.{key_reply, DictReplies}
 use Rattle.ft_trace.specs.Traces.{Possible, history}
-use Rattle.ft_trace.specs.Worlds.{Kept, kept_at, reply_in}
+use Rattle.ft_trace.specs.Worlds.{Kept, reply_in}
 use Rattle.ft_trace.proofs.FitCalls.{contents_fit}
 use Rattle.ft_trace.proofs.Held.{content_known}
 use Rattle.ft_trace.proofs.Known.{at_any}
 use Rattle.ft_trace.proofs.LookReplies.{replies, value_there}
 use Rattle.ft_trace.proofs.Untouched.{as_many}
-use Rattle.ft_bank.specs.Answered.{Answered}
 use Rattle.ft_bank.specs.Reads.{IsShown}
 use Rattle.ft_bank.specs.Whole.{OnlyLoaded}
 use Rattle.ft_bank.specs.Writes.{MayHave}

@@ -1,5 +1,5 @@
 -- What a search finds in words that stand for a content.
-use Rattle.std.proofs.Common.{◌≡◌, ◌≢◌, ℕ, suc, ◌+◌, ◌*◌, ◌^◌, ◌<◌, ◌≤◌, true, false, List, [], ◌∷◌, ◌++◌, length, filter, map, Option, Some, None, All, refl, sym, ap, ◌∙◌, subst, arith}
+use Rattle.std.proofs.Common.{◌≡◌, ◌≢◌, ℕ, suc, ◌+◌, ◌*◌, ◌^◌, ◌<◌, true, false, List, [], ◌∷◌, filter, Option, Some, None, All, refl, sym, ap, ◌∙◌, subst, arith}
 use Rattle.std.specs.Prelude.{slice_index}
 use Rattle.std.proofs.lemmas.List.Elements.{All-nil}
 use Rattle.std.proofs.Math.Logic.{∥∥₁_elim}
@@ -14,7 +14,6 @@ use Rattle.ft_model.specs.declared.script.Kind.{Kind}
 use Rattle.ft_model.specs.declared.script.Kind.TheVariants as kind
 use Rattle.ft_layout.specs.Containers.{class_mask, AreDictEntries, AreSetEntries, IsDictWords, IsSetWords, StandsAs}
 use Rattle.ft_layout.specs.Tables.{UsedEntry, hash_of, entry_word, is_live}
-use Rattle.ft_layout.specs.Words.{FitsKey}
 use Rattle.ft_keys.specs.Searches.{Searched}
 use Rattle.ft_keys.specs.Ways.{walk_slots}
 use Rattle.ft_keys.specs.declared.search.Found.{Found}
@@ -22,9 +21,9 @@ use Rattle.ft_keys.specs.declared.search.Found.TheVariants.{At, Was, Free, Spent
 use Rattle.ft_keys.specs.declared.walk.Way.{Way}
 use Rattle.ft_keys.specs.declared.walk.Way.TheVariants as way
 use Rattle.ft_trace.specs.Acts.{has_lock}
-use Rattle.ft_trace.specs.Addresses.{slots, places}
+use Rattle.ft_trace.specs.Addresses.{slots}
 use Rattle.ft_trace.specs.Carefuls.{IsLive, said_of}
-use Rattle.ft_trace.specs.Holds.{held, known}
+use Rattle.ft_trace.specs.Holds.{known}
 use Rattle.ft_trace.specs.Kinds.{under}
 use Rattle.ft_trace.specs.Traces.{Possible}
 use Rattle.ft_trace.specs.Words.{Picture, entry_of, root_in, Stands}

@@ -1,12 +1,11 @@
 -- From what a pass with the lock of a set reads of an element to what it may answer.
-use Rattle.std.proofs.Common.{◌≡◌, ◌≢◌, ℕ, ◌<◌, true, false, List, [], ◌∷◌, length, Option, Some, None, refl, inr, sym, ap, ◌∙◌, subst}
+use Rattle.std.proofs.Common.{◌≡◌, ◌≢◌, ℕ, ◌<◌, true, List, [], ◌∷◌, length, Option, Some, None, refl, inr, sym, ap, ◌∙◌, subst}
 use Rattle.std.specs.Prelude.{slice_index_or, is_some}
 use Rattle.ft_model.specs.Contents.{SetContent, has_element, empty_set}
 use Rattle.ft_model.specs.Tables.{StoredWorld}
 use Rattle.ft_model.specs.Worlds.{set_of, set_at}
 use Rattle.ft_model.specs.declared.call.Call.TheVariants as call
 use Rattle.ft_model.specs.declared.call.SetCall.TheVariants as set
-use Rattle.ft_model.specs.declared.content.Content.{Content}
 use Rattle.ft_model.specs.declared.content.Content.TheVariants as content
 use Rattle.ft_model.specs.declared.data.Key.{Key}
 use Rattle.ft_model.specs.declared.reply.Reply.TheVariants as reply

@@ -1,9 +1,8 @@
-use Rattle.std.proofs.Common.{◌≡◌, ◌<◌, ℕ, sym, ap, ◌∙◌, subst}
+use Rattle.std.proofs.Common.{◌<◌, sym, subst}
 use Rattle.ft_model.specs.declared.call.Call.TheVariants as call
 use Rattle.ft_model.specs.declared.call.DictCall.TheVariants as dict
 use Rattle.ft_model.specs.declared.reply.Reply.TheVariants as reply
-use Rattle.ft_trace.specs.declared.Act.{Act}
-use Rattle.ft_trace.specs.declared.Act.TheVariants.{Answer, ReadCounter}
+use Rattle.ft_trace.specs.declared.Act.TheVariants.{ReadCounter}
 use Rattle.ft_trace.specs.declared.Shape.{Shape}
 use Rattle.ft_trace.specs.Acts.{noted}
 use Rattle.ft_trace.specs.Addresses.{containers_in}

@@ -1,4 +1,4 @@
-use Rattle.std.proofs.Common.{◌≡◌, ◌<◌, ℕ, Some, None, sym, ap, ◌∙◌, subst}
+use Rattle.std.proofs.Common.{◌<◌, Some, None, sym, ap, ◌∙◌, subst}
 use Rattle.std.proofs.Math.Logic.{∥∥₁_elim}
 use Rattle.ft_model.specs.declared.content.Content.{Content}
 use Rattle.ft_trace.specs.declared.Shape.{Shape}

@@ -1,4 +1,4 @@
-use Rattle.std.proofs.Common.{◌≡◌, ◌<◌, ℕ, List, refl, inr, sym, ap, ◌∙◌, subst}
+use Rattle.std.proofs.Common.{◌<◌, ℕ, refl, inr, sym, ap, subst}
 use Rattle.ft_model.specs.declared.call.Call.TheVariants as call
 use Rattle.ft_model.specs.declared.call.DictCall.TheVariants as dict
 use Rattle.ft_trace.specs.declared.Shape.{Shape}

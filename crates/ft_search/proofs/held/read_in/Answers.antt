@@ -1,4 +1,4 @@
-use Rattle.std.proofs.Common.{◌≡◌, ◌≢◌, ℕ, ◌^◌, ◌<◌, List, ◌∷◌, sym, subst}
+use Rattle.std.proofs.Common.{◌≢◌, ℕ, ◌^◌, ◌<◌, List, ◌∷◌, subst}
 use Rattle.ft_keys.specs.Searches.{Searched}
 use Rattle.ft_keys.specs.Ways.{walk_slots}
 use Rattle.ft_keys.specs.declared.search.Found.{Found}

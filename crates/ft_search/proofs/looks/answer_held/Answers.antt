@@ -1,4 +1,4 @@
-use Rattle.std.proofs.Common.{◌≡◌, sym, subst}
+use Rattle.std.proofs.Common.{sym, subst}
 use Rattle.ft_bank.specs.Reads.{IsShown}
 use Rattle.ft_trace.specs.declared.View.{View}
 use Rattle.ft_search.proofs.looks.answer_held.Goals as goal

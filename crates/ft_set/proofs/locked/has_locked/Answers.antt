@@ -1,4 +1,4 @@
-use Rattle.std.proofs.Common.{◌≡◌, ◌<◌, ℕ, true, false, Option, Some, None, sym, ap, ◌∙◌, subst}
+use Rattle.std.proofs.Common.{◌<◌, true, false, Some, None, sym, ap, ◌∙◌, subst}
 use Rattle.ft_model.specs.declared.call.Call.TheVariants as call
 use Rattle.ft_model.specs.declared.call.SetCall.TheVariants as set
 use Rattle.ft_model.specs.declared.content.Content.{Content}

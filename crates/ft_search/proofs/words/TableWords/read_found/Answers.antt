@@ -1,4 +1,4 @@
-use Rattle.std.proofs.Common.{List, [], ◌∷◌}
+use Rattle.std.proofs.Common.{[], ◌∷◌}
 use Rattle.ft_trace.specs.declared.Act.{Act}
 use Rattle.ft_bank.specs.Series.{DidAll}
 use Rattle.ft_bank.specs.Tables.{name_of}

@@ -1,6 +1,5 @@
-use Rattle.std.proofs.Common.{◌≡◌, ◌≢◌, ℕ, List, ◌++◌, sym, ap, ◌∙◌, subst}
+use Rattle.std.proofs.Common.{ℕ, List, ◌++◌, ap, subst}
 use Rattle.ft_keys.specs.Searches.{Searched}
-use Rattle.ft_keys.specs.Ways.{walk_slots}
 use Rattle.ft_search.specs.Held.{ReadsEntry}
 use Rattle.ft_search.specs.Words.{known_words}
 use Rattle.ft_search.proofs.Running.{did_trans}

@@ -1,5 +1,5 @@
 //! The innermost section is taken up again before the next call (C API, critical sections).
-ghost use Rattle.std.specs.Prelude.{◌≡◌, ◌≤◌, ◌+◌, ◌++◌, ◌∷◌, ◌⊎◌, ℕ, List, true, false};
+ghost use Rattle.std.specs.Prelude.{◌≡◌, ◌≤◌, ◌+◌, ◌++◌, ◌∷◌, ◌⊎◌, [], ℕ, List, true, false};
 ghost use Rattle.ft_bank.specs.declared.sections.OpenSection.{OpenSection};
 ghost use Rattle.ft_bank.specs.Passes.{view};
 ghost use Rattle.ft_bank.specs.Sections.{stack_of, taken_in, nothing_taken};
@@ -36,6 +36,8 @@ pub fn resume(bank: &Bank, pass: &mut Pass) -> Resumed
     ensures locked { OnlyLocked (view pass.old) (view pass.new) }
     ensures ready { IfBack result (λ mark. IsReady bank.now pass.new) }
     ensures mark { IfBack result (λ mark. mark ≡ (stack_of pass.old).mark) }
+    ensures needed { IfStillWaits result (λ o q. (outer : List OpenSection) (top : OpenSection) →
+        (stack_of pass.old).sections ≡ outer ++ top ∷ [] → (o ≡ top.locks.lower) ⊎ (o ≡ top.locks.upper)) }
     ensures found { IfStillWaits result (λ o q. FoundOwner o q (view pass.old) (view pass.new)) }
     ensures may { IfStillWaits result (λ o q. MayResume bank.now pass.new) }
     ensures waiting { IfStillWaits result (λ o q. stack_of pass.new ≡ waiting (with_own (stack_of pass.old) (stack_of pass.new).own) q) }

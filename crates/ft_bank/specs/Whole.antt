@@ -107,7 +107,8 @@ pub record Wrote (called : Call) (said : Reply) (number : ℕ) (v w : View) : Ty
   pub left : v.left ≡ suc w.left
   pub entries : w.entries ≡ write_entry called said number ∷ v.entries
   pub hands : (t : ℕ) → stage t w.log
-      ≡ hand_after (changes called) (root_in (held (changes called) v)) (root_in (held (changes called) w)) t (stage t v.log)
+      ≡ hand_after (changes called) (root_in (held (changes called) v)) (root_in (held (changes called) w)) t
+      (stage t v.log)
   pub debt : debt w.log
       ≡ debt_after (changes called) (root_in (held (changes called) v)) (root_in (held (changes called) w)) (debt v.log)
   pub used : used w.log ≡ false

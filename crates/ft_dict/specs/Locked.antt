@@ -13,5 +13,6 @@ use Rattle.ft_trace.specs.Kinds.{under}
 abbrev pub HasValue : Content → Key → Option Value → Type 0
 HasValue c key (Some value) =
     (pairs : DictContent) × (c ≡ content.Dict pairs)
-    × ((kind payload serial : ℕ) × (under (content.Dict pairs) key ≡ kind ∷ payload ∷ serial ∷ []) × IsStored kind payload (Plain value))
+    × ((kind payload serial : ℕ) × (under (content.Dict pairs) key ≡ kind ∷ payload ∷ serial ∷ [])
+    × IsStored kind payload (Plain value))
 HasValue c key None = (pairs : DictContent) × (c ≡ content.Dict pairs) × (has_key pairs.pairs key ≡ false)

@@ -59,7 +59,8 @@ pub record Changes (o : ℕ) (lc : ListCall) (said : Reply) (values news : List 
   pub fits : FitsListCall lc
   pub answered : (stored : StoredWorld) → MayHave v stored
       → answer_list stored.world no_hands o values lc ≡ puts stored.world no_hands o (content.List news) said
-  pub other : (stored : StoredWorld) → MayHave v stored → IfSome (other_list lc) (λ p. IsOfKind stored.world kind.List p)
+  pub other : (stored : StoredWorld) → MayHave v stored
+      → IfSome (other_list lc) (λ p. IsOfKind stored.world kind.List p)
   pub caps : (stored : StoredWorld) → MayHave v stored → would_pass stored.world (call.List o lc) ≡ false
   pub table : (stored : StoredWorld) → MayHave v stored
       → table_at (after_stored stored (call.List o lc)).tables o ≡ table_at stored.tables o

@@ -29,7 +29,9 @@ ReadsEntry mask words found None = Unit {0}
 -- no keys.
 abbrev pub IsHeldAt : Content → Key → Option (ℕ × ℕ) → Type 0
 IsHeldAt (content.List values) key read = ⊥
-IsHeldAt (content.Dict dict) key (Some read) = (serial : ℕ) × (under (content.Dict dict) key ≡ read.0 ∷ read.1 ∷ serial ∷ [])
+IsHeldAt (content.Dict dict) key (Some read) =
+    (serial : ℕ) × (under (content.Dict dict) key ≡ read.0 ∷ read.1 ∷ serial ∷ [])
 IsHeldAt (content.Dict dict) key None = has_key dict.pairs key ≡ false
-IsHeldAt (content.Set set) key (Some read) = (serial : ℕ) × (under (content.Set set) key ≡ read.0 ∷ read.1 ∷ serial ∷ [])
+IsHeldAt (content.Set set) key (Some read) =
+    (serial : ℕ) × (under (content.Set set) key ≡ read.0 ∷ read.1 ∷ serial ∷ [])
 IsHeldAt (content.Set set) key None = has_element set.elements key ≡ false

@@ -42,7 +42,8 @@ abbrev pub AreBegun : List OpenSection → List Begun → Type 0
 AreBegun sections [] = sections ≡ []
 AreBegun sections (b ∷ bs) =
     (sections ≡ [])
-    ⊎ ((outer : List OpenSection) × (s : OpenSection) × (sections ≡ outer ++ s ∷ []) × IsBegun sections s b × AreBegun outer bs)
+    ⊎ ((outer : List OpenSection) × (s : OpenSection) × (sections ≡ outer ++ s ∷ []) × IsBegun sections s b
+    × AreBegun outer bs)
 
 -- at least one call in it had to wait
 abbrev pub IsMarked : OpenSection → Type 0

@@ -58,5 +58,6 @@ pub record LookedAtBoth (k : Shape) (call : Call) (o p : ℕ) (r : Reply) (numbe
   pub between : Between log o one × Between log p other
   pub stamp : Among (ReadCounter number) one × Among (ReadCounter number) other
   pub answers : (x y : Picture) (t : StoredWorld) → kind_of (kept_at t o).content ≡ kind_in k.kinds o
-      → kind_of (kept_at t p).content ≡ kind_in k.kinds p → Stands k.texts x (kept_at t o) → Stands k.texts y (kept_at t p)
+      → kind_of (kept_at t p).content ≡ kind_in k.kinds p → Stands k.texts x (kept_at t o)
+      → Stands k.texts y (kept_at t p)
       → Agrees k o one x → Agrees k p other y → reply_in t call ≡ r

@@ -8,9 +8,11 @@
 
 mod gets;
 mod items;
+mod lens;
 mod locked;
 mod looks;
 mod writes;
 
 pub use crate::gets::look_item;
+pub use crate::lens::{look_len, try_len};
 pub use crate::locked::{Appended, append_locked, del_locked, set_locked};

@@ -11,6 +11,7 @@ mod items;
 mod lens;
 mod locked;
 mod looks;
+mod reads;
 mod writes;
 
 pub use crate::gets::look_item;

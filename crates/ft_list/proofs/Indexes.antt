@@ -1,6 +1,14 @@
 -- Reads of a list's words, one after the other, and what they show of its items.
-use Rattle.std.proofs.Common.{◌≡◌, ◌⊎◌, ℕ, ℤ, suc, ◌<◌, ◌≤◌, true, List, [], ◌∷◌, ◌++◌, length, Option, Some, None, refl, sym, ap, ◌∙◌, subst, inl, inr, ⊎_elim, arith, append_assoc}
+use Rattle.std.proofs.Common.{◌≡◌, ◌≢◌, ◌⊎◌, ℕ, ℤ, suc, ◌%◌, ◌<◌, ◌≤◌, true, List, [], ◌∷◌, ◌++◌, length, Option, Some, None, refl, sym, ap, ◌∙◌, subst, inl, inr, ⊎_elim, arith, append_assoc}
 use Rattle.std.specs.Prelude.{slice_index, slice_index_or, option_map}
+use Rattle.std.specs.Option.{option_map_or}
+use Rattle.ft_model.specs.declared.call.Call.TheVariants as call
+use Rattle.ft_model.specs.declared.call.ListCall.TheVariants as list
+use Rattle.ft_model.specs.declared.reply.Raise.TheVariants as raise
+use Rattle.ft_model.specs.declared.reply.Reply.{Reply}
+use Rattle.ft_model.specs.declared.reply.Reply.TheVariants as reply
+use Rattle.ft_model.specs.Answers.{shows}
+use Rattle.ft_model.specs.Histories.{IsReplied}
 use Rattle.ft_model.specs.declared.content.Content.{Content}
 use Rattle.ft_model.specs.declared.content.Content.TheVariants as content
 use Rattle.ft_model.specs.declared.data.Value.{Value}
@@ -8,32 +16,42 @@ use Rattle.ft_model.specs.declared.data.Value.TheVariants as value
 use Rattle.ft_model.specs.declared.script.Kind.TheVariants as kind
 use Rattle.ft_model.specs.Classes.{IsClass}
 use Rattle.ft_model.specs.Lists.{index_in}
-use Rattle.ft_model.specs.Tables.{TableUse}
-use Rattle.ft_model.specs.Worlds.{kind_of, list_of, length_of}
+use Rattle.ft_model.specs.Tables.{StoredWorld, TableUse}
+use Rattle.ft_model.specs.Worlds.{no_hands, kind_of, list_of, length_of}
 use Rattle.ft_layout.specs.declared.slot.Stored.TheVariants.{Plain}
 use Rattle.ft_layout.specs.Containers.{IsListWords, InListTable, StandsAs}
 use Rattle.ft_layout.specs.Words.{IsStored}
 use Rattle.ft_trace.specs.declared.Act.{Act}
-use Rattle.ft_trace.specs.declared.Act.TheVariants.{ReadBlock, ReadRoot, ReadTable, ReadCounter}
+use Rattle.ft_trace.specs.declared.Act.TheVariants.{Version, ReadBlock, ReadRoot, ReadTable, ReadCounter}
 use Rattle.ft_trace.specs.declared.Shape.{Shape}
 use Rattle.ft_trace.specs.declared.View.{View}
-use Rattle.ft_trace.specs.Acts.{has_lock}
-use Rattle.ft_trace.specs.Addresses.{class_of, slots, size, IsTable}
-use Rattle.ft_trace.specs.Holds.{held}
-use Rattle.ft_trace.specs.Reading.{Among, Agrees}
+use Rattle.ft_trace.specs.Acts.{has_lock, noted}
+use Rattle.ft_trace.specs.Addresses.{containers_in, class_of, slots, size, IsTable}
+use Rattle.ft_trace.specs.Holds.{held, known}
+use Rattle.ft_trace.specs.LookReplies.{item_reply}
+use Rattle.ft_trace.specs.Reading.{Among, Agrees, Looked}
 use Rattle.ft_trace.specs.Words.{Picture, root_in, item_of, Stands}
-use Rattle.ft_trace.specs.Worlds.{Kept}
+use Rattle.ft_trace.specs.Traces.{Possible}
+use Rattle.ft_trace.specs.Worlds.{Kept, kept_at, kind_in, reply_in}
 use Rattle.ft_trace.proofs.Known.{class_known}
 use Rattle.ft_trace.proofs.Nothing.{no_table_stands}
 use Rattle.ft_bank.specs.declared.pass.Pass.{Pass}
 use Rattle.ft_bank.specs.Passes.{view}
+use Rattle.ft_bank.specs.Reads.{IsShown}
 use Rattle.ft_bank.specs.Series.{DidAll}
+use Rattle.ft_bank.specs.Shown.{MayAsk}
 use Rattle.ft_bank.specs.Whole.{OnlyLoaded}
-use Rattle.ft_bank.proofs.Whole.{loaded_held}
+use Rattle.ft_bank.specs.Writes.{MayHave}
+use Rattle.ft_bank.proofs.Showing.{looks_are_shown}
+use Rattle.ft_bank.proofs.Whole.{loaded_held, work_knows}
+use Rattle.ft_search.specs.Lengths.{StopsAtVersion}
 use Rattle.ft_search.specs.Looks.{AreLooks}
+use Rattle.ft_search.proofs.Asking.{held_shown}
+use Rattle.ft_search.proofs.Lengths.{IsPlain, between_own}
 use Rattle.ft_search.proofs.Running.{did_trans}
 use Rattle.ft_search.proofs.Rounding.{looks_append, looks_load, among_in}
-use Rattle.ft_list.specs.Indexes.{Reads, item_named, IsItemAt, IsItemNamed}
+use Rattle.ft_list.specs.Indexes.{Reads, item_named, IsItemNamed, ShowsNamed}
+use Rattle.ft_list.proofs.Lists.{list_content}
 use Rattle.ft_list.proofs.Putting.{at_words, list_few}
 
 -- ---- actions among others
@@ -192,3 +210,76 @@ pub named_by : (k : Shape) (x : Picture) (index : ℤ) (count : ℕ) (found : Op
 named_by k x index count found counts right kept is stands =
     let many = items_counted k x count counts kept is stands in
     right kept is stands many ∙ ap (λ (n : ℕ). option_map (λ (place : ℕ). slice_index_or (list_of kept.content) place value.Nothing) (index_in n index)) many
+
+-- ---- what `l[i]` replies
+
+get_replied : (stored : StoredWorld) (o : ℕ) (index : ℤ) (found : Option Value) → found ≡ item_named (list_of (kept_at stored o).content) index → reply_in stored (call.List o (list.Get index)) ≡ item_reply found
+get_replied stored o index found is = by (index_in (length items) index) ∙ ap item_reply (sym is)
+  where
+    items : List Value
+    items = list_of (kept_at stored o).content
+
+    by : (z : Option ℕ) → (option_map_or (λ at. shows stored.world no_hands (reply.Value (slice_index_or items at value.Nothing))) z (shows stored.world no_hands (reply.Raised raise.NoIndex))).reply ≡ item_reply (option_map (λ place. slice_index_or items place value.Nothing) z)
+    by None = refl
+    by (Some at) = refl
+
+get_plain : (o : ℕ) (index : ℤ) (found : Option Value) → IsPlain (call.List o (list.Get index)) (item_reply found)
+get_plain o index None = record { reads = refl; adds = refl; memory = refl; replied = λ plain is. inr is; cause = λ stored log n. refl }
+get_plain o index (Some value) = record { reads = refl; adds = refl; memory = refl; replied = λ plain is. inr is; cause = λ stored log n. refl }
+
+-- ---- between two loads of the version
+
+abbrev pub between_acts : ℕ → ℕ → ℕ → List Act → ℕ → List Act
+between_acts o closed n part opened = Version o closed ∷ (ReadCounter n ∷ (part ++ Version o opened ∷ []))
+
+pub between_did : (o closed n : ℕ) (part : List Act) (opened : ℕ) (p q1 q2 q3 q4 : Pass) → DidAll (Version o opened ∷ []) p q1 → DidAll part q1 q2 → DidAll (ReadCounter n ∷ []) q2 q3 → DidAll (Version o closed ∷ []) q3 q4 → DidAll (between_acts o closed n part opened) p q4
+between_did o closed n part opened p q1 q2 q3 q4 a b c d =
+    did_trans (Version o closed ∷ []) (ReadCounter n ∷ (part ++ Version o opened ∷ [])) p q3 q4
+    (did_trans (ReadCounter n ∷ []) (part ++ Version o opened ∷ []) p q2 q3 (did_trans part (Version o opened ∷ []) p q1 q2 a b) c) d
+
+pub between_looks : (o closed n : ℕ) (part : List Act) (opened : ℕ) → AreLooks part → AreLooks (between_acts o closed n part opened)
+between_looks o closed n part opened looks = looks_append part (Version o opened ∷ []) looks tt
+
+pub between_stops : (o closed n : ℕ) (part : List Act) (opened : ℕ) → (opened % 2 ≢ 0) ⊎ (closed ≢ opened) → StopsAtVersion o opened closed (between_acts o closed n part opened)
+between_stops o closed n part opened why = record { newer = []; mid = ReadCounter n ∷ part; rest = []; is = refl; moved = why }
+
+pub between_shows : (k : Shape) (o closed n : ℕ) (part : List Act) (opened : ℕ) (index : ℤ) (found : Option Value) → closed ≡ opened → opened % 2 ≡ 0 → ((x : Picture) → Agrees k o part x → IsItemNamed k index found x) → ShowsNamed k o index found n (between_acts o closed n part opened)
+between_shows k o closed n part opened index found same even shows = record {
+  mid = ReadCounter n ∷ part;
+  between = record { version = opened; even = even; newer = []; rest = []; is = λ d. Version o (same d) ∷ ((ReadCounter n ∷ part) ++ Version o opened ∷ []) };
+  counted = record { newer = []; rest = part; is = refl };
+  shows = λ x g. shows x (agrees_older k o x (ReadCounter n ∷ []) part g);
+}
+
+pub named_counted : (k : Shape) (o : ℕ) (index : ℤ) (found : Option Value) (n : ℕ) (part : List Act) → ShowsNamed k o index found n part → Among (ReadCounter n) part
+named_counted k o index found n part s =
+    let b = s.between in
+    let v = Version o b.version in
+    subst (λ (z : List Act). Among (ReadCounter n) z) (sym b.is) (among_older (ReadCounter n) b.newer (v ∷ (s.mid ++ v ∷ b.rest)) (among_in (ReadCounter n) (v ∷ []) s.mid (v ∷ b.rest) s.counted))
+
+pub get_shown : (v w : View) (o : ℕ) (index : ℤ) (found : Option Value) (n : ℕ) (part : List Act) → MayAsk w o n → w.log ≡ part ++ v.log → kind_in w.shape.kinds o ≡ kind.List → ShowsNamed w.shape o index found n part → IsShown w (call.List o (list.Get index)) (item_reply found) n
+get_shown v w o index found n part ask own is s =
+    let called = call.List o (list.Get index) in
+    let plain = get_plain o index found in
+    let looked : Looked w.shape called o (item_reply found) n w.log = record {
+      mid = s.mid;
+      between = between_own o s.mid part v.log w.log own s.between;
+      stamp = s.counted;
+      answers = λ x stored is_kind stands agrees. get_replied stored o index found (s.shows x agrees (kept_at stored o) (is_kind ∙ is) stands);
+    } in
+    looks_are_shown w called o (item_reply found) n ask plain.reads plain.adds plain.memory (plain.replied (item_reply found) refl) looked
+
+-- ---- under the lock
+
+pub get_held : (v u : View) (o : ℕ) (index : ℤ) (found : Option Value) (n : ℕ) → OnlyLoaded v u → 0 < v.left → o < containers_in v.shape → has_lock o v.log ≡ true → found ≡ item_named (list_of (known o v).content) index → IsShown (noted (ReadCounter n) u) (call.List o (list.Get index)) (item_reply found) n
+get_held v u o index found n loaded left low mine is =
+    let called = call.List o (list.Get index) in
+    let plain = get_plain o index found in
+    let right : (stored : StoredWorld) → MayHave (noted (ReadCounter n) u) stored → IsReplied called (item_reply found) (reply_in stored called) = λ stored may.
+    let kept : kept_at stored o ≡ known o v = may.agrees o (subst (λ (k : Shape). o < containers_in k) (sym loaded.work.pass.shape) low) (loaded.work.pass.locks o ∙ mine) ∙ work_knows v u o loaded.work in
+    plain.replied (reply_in stored called) (sym (get_replied stored o index found (is ∙ ap (λ (z : Kept). item_named (list_of z.content) index) (sym kept)))) in
+    held_shown v u n loaded left called (item_reply found) plain.reads right (λ stored. plain.cause stored (ReadCounter n ∷ u.log) n)
+
+-- what such a pass reads
+pub reads_held : (k : Shape) (o : ℕ) (index : ℤ) (found : Option Value) (p q : Pass) → Reads k o (IsItemNamed k index found) p q → kind_in (view p).shape.kinds o ≡ kind.List → ∥ Possible (view p) ∥₁ → has_lock o (view p).log ≡ true → Stands k.texts (held o (view p)) (known o (view p)) → found ≡ item_named (list_of (known o (view p)).content) index
+reads_held k o index found p q r is possible mine stands = r.3 (held o (view p)) (r.4 mine) (known o (view p)) (ap kind_of (list_content (view p) o possible mine is)) stands

@@ -7,6 +7,7 @@
 #![tactic(auto)]
 
 mod gets;
+mod indexing;
 mod items;
 mod lens;
 mod locked;
@@ -15,5 +16,6 @@ mod reads;
 mod writes;
 
 pub use crate::gets::look_item;
+pub use crate::indexing::{look_get, try_get};
 pub use crate::lens::{look_len, try_len};
 pub use crate::locked::{Appended, append_locked, del_locked, set_locked};

@@ -51,11 +51,11 @@ returns-in-Some-clause-reads c =
     let one = item_at a.place 1 in
     let two = item_at a.place 2 in
     let first : Reads k a.l (λ x. root_in x ≡ suc t → kind ≡ slice_index x.table one) p q = reads_table k a.l t one kind p q (named k a.table c.requires.table) (inside k a.table c.requires.table a.place 1 c.requires.place (omega arith))
-        (subst (λ (z : ℕ). DidAll (ReadTable t z kind ∷ []) p q) c.word_at.ensures c.read_table-kind.ensures.did)
-        (λ mine names. c.read_table-kind.ensures.held a.l c.requires.container mine names ∙ ap (slice_index (held a.l (view p)).table) c.word_at.ensures) in
+    (subst (λ (z : ℕ). DidAll (ReadTable t z kind ∷ []) p q) c.word_at.ensures c.read_table-kind.ensures.did)
+    (λ mine names. c.read_table-kind.ensures.held a.l c.requires.container mine names ∙ ap (slice_index (held a.l (view p)).table) c.word_at.ensures) in
     let second : Reads k a.l (λ x. root_in x ≡ suc t → payload ≡ slice_index x.table two) q r = reads_table k a.l t two payload q r (named k a.table c.requires.table) (inside k a.table c.requires.table a.place 2 c.requires.place (omega arith))
-        (subst (λ (z : ℕ). DidAll (ReadTable t z payload ∷ []) q r) c.word_at-2.ensures c.read_table-payload.ensures.did)
-        (λ mine names. c.read_table-payload.ensures.held a.l c.requires.container mine names ∙ ap (slice_index (held a.l (view q)).table) c.word_at-2.ensures) in
+    (subst (λ (z : ℕ). DidAll (ReadTable t z payload ∷ []) q r) c.word_at-2.ensures c.read_table-payload.ensures.did)
+    (λ mine names. c.read_table-payload.ensures.held a.l c.requires.container mine names ∙ ap (slice_index (held a.l (view q)).table) c.word_at-2.ensures) in
     reads_map k a.l (λ x. (root_in x ≡ suc t → kind ≡ slice_index x.table one) × (root_in x ≡ suc t → payload ≡ slice_index x.table two)) (IsValueIn t a.place c.in-Some.found) p r
     (λ x both names value stored.
     let read : IsStored kind payload (Plain value) = subst (λ (z : ℕ × ℕ). IsStored z.0 z.1 (Plain value)) (λ d. (sym (both.0 names) d, sym (both.1 names) d)) stored in
@@ -77,11 +77,11 @@ returns-in-None-clause-reads c =
     let one = item_at a.place 1 in
     let two = item_at a.place 2 in
     let first : Reads k a.l (λ x. root_in x ≡ suc t → kind ≡ slice_index x.table one) p q = reads_table k a.l t one kind p q (named k a.table c.requires.table) (inside k a.table c.requires.table a.place 1 c.requires.place (omega arith))
-        (subst (λ (z : ℕ). DidAll (ReadTable t z kind ∷ []) p q) c.word_at.ensures c.read_table-kind.ensures.did)
-        (λ mine names. c.read_table-kind.ensures.held a.l c.requires.container mine names ∙ ap (slice_index (held a.l (view p)).table) c.word_at.ensures) in
+    (subst (λ (z : ℕ). DidAll (ReadTable t z kind ∷ []) p q) c.word_at.ensures c.read_table-kind.ensures.did)
+    (λ mine names. c.read_table-kind.ensures.held a.l c.requires.container mine names ∙ ap (slice_index (held a.l (view p)).table) c.word_at.ensures) in
     let second : Reads k a.l (λ x. root_in x ≡ suc t → payload ≡ slice_index x.table two) q r = reads_table k a.l t two payload q r (named k a.table c.requires.table) (inside k a.table c.requires.table a.place 2 c.requires.place (omega arith))
-        (subst (λ (z : ℕ). DidAll (ReadTable t z payload ∷ []) q r) c.word_at-2.ensures c.read_table-payload.ensures.did)
-        (λ mine names. c.read_table-payload.ensures.held a.l c.requires.container mine names ∙ ap (slice_index (held a.l (view q)).table) c.word_at-2.ensures) in
+    (subst (λ (z : ℕ). DidAll (ReadTable t z payload ∷ []) q r) c.word_at-2.ensures c.read_table-payload.ensures.did)
+    (λ mine names. c.read_table-payload.ensures.held a.l c.requires.container mine names ∙ ap (slice_index (held a.l (view q)).table) c.word_at-2.ensures) in
     reads_map k a.l (λ x. (root_in x ≡ suc t → kind ≡ slice_index x.table one) × (root_in x ≡ suc t → payload ≡ slice_index x.table two)) (IsValueIn t a.place None) p r
     (λ x both names value stored.
     let read : IsStored kind payload (Plain value) = subst (λ (z : ℕ × ℕ). IsStored z.0 z.1 (Plain value)) (λ d. (sym (both.0 names) d, sym (both.1 names) d)) stored in

@@ -1,14 +1,17 @@
-//! Dicts of a bank (Python manual, Mapping Types): calls that look up a key, without the lock and with it.
+//! Dicts of a bank (Python manual, Mapping Types): calls that look up a key, and `len`,
+//! without the lock and with it.
 //!
 //! Between any two steps of any passes it keeps true, for whoever runs calls, that each call adds one
 //! entry to the pass at most, and that this entry has the reply of the plain dict at its stamp.
 #![tactic(auto)]
 
+mod lens;
 mod locked;
 mod looks;
 #[cfg(test)]
 mod tests;
 mod tries;
 
+pub use crate::lens::{look_len, try_len};
 pub use crate::looks::{look_get, look_getd, look_has};
 pub use crate::tries::{try_get, try_getd, try_has};

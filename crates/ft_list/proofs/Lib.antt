@@ -11,3 +11,4 @@ pub mod CallFacts
 pub mod Asking
 pub mod Raising
 pub mod Loaded
+pub mod Indexes

@@ -27,7 +27,7 @@ by None = refl
 by (Some value) = refl
 
 -- the words of an item, with the header and without
-at_words : (ws : List ℕ) (p : ℕ) (s : Stored) → IsItem (layout.item_word (0 ∷ 0 ∷ ws) p) s → IsStored (item_of ws p 1) (item_of ws p 2) s
+pub at_words : (ws : List ℕ) (p : ℕ) (s : Stored) → IsItem (layout.item_word (0 ∷ 0 ∷ ws) p) s → IsStored (item_of ws p 1) (item_of ws p 2) s
 at_words ws p s is = record { fits = is.fits; kind_is = sym (header_word ws p 1) ∙ is.kind_is; payload_is = sym (header_word ws p 2) ∙ is.payload_is }
 
 from_words : (ws : List ℕ) (p : ℕ) (s : Stored) → IsStored (item_of ws p 1) (item_of ws p 2) s → IsItem (layout.item_word (0 ∷ 0 ∷ ws) p) s

@@ -30,7 +30,7 @@ pub(crate) enum AtIndex {
 }
 
 /// What `l[i]` replies: the value, or an IndexError.
-fn reply_of(found: Option<Value>) -> Reply
+pub(crate) fn reply_of(found: Option<Value>) -> Reply
     ensures { result ≡ item_reply found }
 {
     match found {
@@ -63,7 +63,7 @@ fn found_in(stored: Stored) -> Option<Option<Value>>
 }
 
 /// What a kind and a payload say of an item: a value, or nothing; `None` where they are those of neither.
-fn found_of(kind: u64, payload: u64) -> Option<Option<Value>>
+pub(crate) fn found_of(kind: u64, payload: u64) -> Option<Option<Value>>
     ensures value { (value : Value) → IsStored kind payload (Plain value) ↔ (result ≡ Some (Some value)) }
     ensures none { IsStored kind payload Empty ↔ (result ≡ Some None) }
 {

@@ -7,10 +7,15 @@
 #![tactic(auto)]
 
 mod gets;
+mod indexing;
 mod items;
+mod lens;
 mod locked;
 mod looks;
+mod reads;
 mod writes;
 
 pub use crate::gets::look_item;
+pub use crate::indexing::{look_get, try_get};
+pub use crate::lens::{look_len, try_len};
 pub use crate::locked::{Appended, append_locked, del_locked, set_locked};

@@ -25,11 +25,11 @@ use ft_search::table_named;
 use ft_section::{Object, Stamp};
 
 /// Which word of a block the length of a list is, as a bank counts them.
-const LENGTH: u64 = block_word::USED - block_word::ROOT;
+pub(crate) const LENGTH: u64 = block_word::USED - block_word::ROOT;
 
 /// The place that an index names among that many items: a negative one counts from the end, and one that
 /// is then outside names none (Python manual, Sequence Types).
-fn place_in(count: u64, index: i64) -> Option<u64>
+pub(crate) fn place_in(count: u64, index: i64) -> Option<u64>
     ensures answer { result ≡ index_in count index }
     ensures within { IfSome result (λ place. place < count) }
 {

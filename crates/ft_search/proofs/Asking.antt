@@ -52,45 +52,49 @@ looks_newer (ReadTable t i f ∷ l) rest q = looks_newer l rest q
 looks_newer (ReadCounter f ∷ l) rest q = looks_newer l rest q
 looks_newer (act ∷ l) rest q = absurd q
 
+-- a pass that has loaded the counter and words of the bank may ask of a container
+pub may_ask : (v w : View) (k : Shape) (o n : ℕ) (part : List Act) → OnlyLoaded v w → AreLooks part → w.log ≡ part ++ v.log → Among (ReadCounter n) part → w.shape ≡ k → o < containers_in k → 0 < v.left → MayAsk w o n
+may_ask v w k o n part loaded looks own counted same low left = record {
+  low = subst (λ (z : Shape). o < containers_in z) (sym same) low;
+  left = subst (λ (z : ℕ). 0 < z) (sym loaded.work.left) left;
+  loaded = record {
+    newer = counted.newer;
+    rest = counted.rest ++ v.log;
+    is = own ∙ (ap (λ (z : List Act). z ++ v.log) counted.is ∙ append_assoc counted.newer (ReadCounter n ∷ counted.rest) v.log);
+    own = looks_own counted.newer (looks_newer counted.newer (ReadCounter n ∷ counted.rest) (subst AreLooks counted.is looks));
+  };
+}
+
 module _ (v w : View) (k : Shape) (o : ℕ) (key : Key) (n : ℕ) (part : List Act) (loaded : OnlyLoaded v w) (looks : AreLooks part) (own : w.log ≡ part ++ v.log) (counted : Among (ReadCounter n) part) (same : w.shape ≡ k) (low : o < containers_in k) (left : 0 < v.left) (fits : FitsKey key) where
-  may_ask : MayAsk w o n
-  may_ask = record {
-    low = subst (λ (z : Shape). o < containers_in z) (sym same) low;
-    left = subst (λ (z : ℕ). 0 < z) (sym loaded.work.left) left;
-    loaded = record {
-      newer = counted.newer;
-      rest = counted.rest ++ v.log;
-      is = own ∙ (ap (λ (z : List Act). z ++ v.log) counted.is ∙ append_assoc counted.newer (ReadCounter n ∷ counted.rest) v.log);
-      own = looks_own counted.newer (looks_newer counted.newer (ReadCounter n ∷ counted.rest) (subst AreLooks counted.is looks));
-    };
-  }
+  ask : MayAsk w o n
+  ask = may_ask v w k o n part loaded looks own counted same low left
 
   pub key_absent : kind_in k.kinds o ≡ kind.Dict → ShowsAbsent k o key n w.log → KeyIsShown w o key None n
   key_absent is shows =
       let here : (kind_in w.shape.kinds o ≡ kind.Dict) × ShowsAbsent w.shape o key n w.log = subst (λ (z : Shape). (kind_in z.kinds o ≡ kind.Dict) × ShowsAbsent z o key n w.log) (sym same) (is, shows) in
-      (misses_are_shown w o key n may_ask fits here.1).0 here.0
+      (misses_are_shown w o key n ask fits here.1).0 here.0
 
   pub element_absent : kind_in k.kinds o ≡ kind.Set → ShowsAbsent k o key n w.log → IsShown w (call.Set o (set.Has key)) (reply.Truth false) n
   element_absent is shows =
       let here : (kind_in w.shape.kinds o ≡ kind.Set) × ShowsAbsent w.shape o key n w.log = subst (λ (z : Shape). (kind_in z.kinds o ≡ kind.Set) × ShowsAbsent z o key n w.log) (sym same) (is, shows) in
-      (misses_are_shown w o key n may_ask fits here.1).1 here.0
+      (misses_are_shown w o key n ask fits here.1).1 here.0
 
   module _ (value_kind payload : ℕ) (shows : ShowsHere k o key value_kind payload n w.log) where
     pub key_here : kind_in k.kinds o ≡ kind.Dict → (value : Value) → IsStored value_kind payload (Plain value) → KeyIsShown w o key (Some value) n
     key_here is value stored =
         let here : kind_in w.shape.kinds o ≡ kind.Dict = ap (λ (z : Shape). kind_in z.kinds o) same ∙ is in
-        (dict_hits_are_shown w o shows.t shows.place key n may_ask here fits (subst (λ z. shows.place < rows z (class_of shows.t)) is shows.low) shows.hit).1 value_kind payload shows.read value stored
+        (dict_hits_are_shown w o shows.t shows.place key n ask here fits (subst (λ z. shows.place < rows z (class_of shows.t)) is shows.low) shows.hit).1 value_kind payload shows.read value stored
 
     -- the words that were read are those of a value
     pub value_here : Possible w → kind_in k.kinds o ≡ kind.Dict → (value : Value) × IsStored value_kind payload (Plain value)
     value_here possible is =
         let here : kind_in w.shape.kinds o ≡ kind.Dict = ap (λ (z : Shape). kind_in z.kinds o) same ∙ is in
-        values_are_read w o shows.t shows.place key n possible may_ask.low here fits (subst (λ z. shows.place < rows z (class_of shows.t)) is shows.low) shows.hit value_kind payload shows.read
+        values_are_read w o shows.t shows.place key n possible ask.low here fits (subst (λ z. shows.place < rows z (class_of shows.t)) is shows.low) shows.hit value_kind payload shows.read
 
     pub element_here : kind_in k.kinds o ≡ kind.Set → IsShown w (call.Set o (set.Has key)) (reply.Truth true) n
     element_here is =
         let here : kind_in w.shape.kinds o ≡ kind.Set = ap (λ (z : Shape). kind_in z.kinds o) same ∙ is in
-        set_hits_are_shown w o shows.t shows.place key n may_ask here fits (subst (λ z. shows.place < rows z (class_of shows.t)) is shows.low) shows.hit
+        set_hits_are_shown w o shows.t shows.place key n ask here fits (subst (λ z. shows.place < rows z (class_of shows.t)) is shows.low) shows.hit
 
 -- an entry that follows such loads
 pub answered_after : (v w z : View) (called : Call) (said : Reply) (n : ℕ) (part : List Act) → OnlyLoaded v w → w.log ≡ part ++ v.log → Among (ReadCounter n) part → z ≡ noted (Answer called said n) w → Answered called said n v z

@@ -8,3 +8,4 @@ pub mod Rounding
 pub mod Asking
 pub mod Holding
 pub mod Trying
+pub mod Lengths

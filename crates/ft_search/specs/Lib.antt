@@ -3,3 +3,4 @@ pub mod Looks
 pub mod Rounds
 pub mod Held
 pub mod Tries
+pub mod Lengths

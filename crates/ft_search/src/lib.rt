@@ -1,9 +1,10 @@
 //! Where words of the bank meet searches: the words of a container's table for whoever looks for a key,
-//! without the lock or with it, and the rounds of a look-up without the lock.
+//! without the lock or with it, the rounds of a look-up without the lock, and how many there are in a container.
 #![tactic(auto)]
 
 mod bare;
 mod held;
+mod lens;
 mod look;
 mod looks;
 mod reading;
@@ -12,6 +13,7 @@ mod tables;
 mod words;
 
 pub use crate::held::read_key;
+pub use crate::lens::{look_len, try_len};
 pub use crate::look::look_up;
 pub use crate::looks::{Looked, answer_held, answer_look};
 pub use crate::tables::{mask_of, table_named};

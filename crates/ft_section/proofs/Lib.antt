@@ -7,6 +7,7 @@ pub mod Waits
 pub mod Goings
 pub mod Making
 pub mod Resumes
+pub mod Droppings
 pub mod Ends
 pub mod Entering
 pub mod Fresh

@@ -7,9 +7,11 @@ use Rattle.std.proofs.lemmas.List.Elements.{All-pop, All-push}
 use Rattle.ft_bank.specs.declared.bank.Bank.{Bank}
 use Rattle.ft_bank.specs.declared.pass.Pass.{Pass}
 use Rattle.ft_bank.specs.declared.sections.OpenSection.{OpenSection}
+use Rattle.ft_bank.specs.declared.sections.Taking.{Taking}
 use Rattle.ft_bank.specs.Passes.{view}
 use Rattle.ft_bank.specs.Sections.{Stack, stack_of, taken_in, noted_in, nothing_taken, suspended}
 use Rattle.ft_section.specs.Ready.{InCall, IsInCall, AreBegun, IsBegun, IsReady, lock_count}
+use Rattle.ft_section.specs.Locking.{TakenUp, noting}
 use Rattle.ft_section.specs.Takings.{IsTaking, HasBoth}
 use Rattle.ft_section.proofs.InCalls.{one_if}
 use Rattle.ft_section.proofs.Notes.{noted-append}
@@ -112,3 +114,31 @@ wait_split m xs outer outer' top top' split cut =
 pub wait_some : (m : ℕ) (xs outer : List OpenSection) (top : OpenSection) → xs ≡ outer ++ top ∷ [] → map (suspended m) xs ≡ [] → ⊥
 wait_some m xs outer top split none =
     push_some (map (suspended m) outer) (suspended m top) (sym (map-append (suspended m) outer (top ∷ [])) ∙ (sym (ap (map (suspended m)) split) ∙ none))
+
+-- the innermost section is taken up again
+pub taken_up : (s t : Stack) (outer : List OpenSection) (top : OpenSection) (locks : Taking) → s.sections ≡ outer ++ top ∷ [] → locks ≡ record top.locks { took_lower = locks.took_lower; took_upper = locks.took_upper } → t ≡ record { sections = outer ++ record { locks = locks; marks = top.marks } ∷ []; own = nothing_taken; mark = None } → TakenUp s t
+taken_up s t outer top locks split rest put =
+    record {
+      none = λ nil. absurd (push_some outer top (sym split ∙ nil));
+      top = λ o x cut.
+          let same = same_from_push outer o top x (sym split ∙ cut) in
+          let here = ap (λ (x : Stack). x.sections) put ∙ ap (λ (l : Taking). outer ++ record { locks = l; marks = top.marks } ∷ []) rest in (
+            locks.took_lower,
+            locks.took_upper,
+            here
+                ∙ (ap (λ (xs : List OpenSection). xs ++ noting locks.took_lower locks.took_upper top ∷ []) same.0
+                ∙ ap (λ (y : OpenSection). o ++ noting locks.took_lower locks.took_upper y ∷ []) same.1),
+          );
+      own = ap (λ (x : Stack). x.own) put;
+      mark = ap (λ (x : Stack). x.mark) put;
+    }
+
+-- no section is open
+pub none_up : (s t : Stack) → s.sections ≡ [] → s.own ≡ nothing_taken → t ≡ record s { mark = None } → TakenUp s t
+none_up s t none own put =
+    record {
+      none = λ _. ap (λ (x : Stack). x.sections) put ∙ none;
+      top = λ outer top split. absurd (push_some outer top (sym split ∙ none));
+      own = ap (λ (x : Stack). x.own) put ∙ own;
+      mark = ap (λ (x : Stack). x.mark) put;
+    }

@@ -1,11 +1,11 @@
 -- What taking locks and letting them go leaves of what a pass knows.
-use Rattle.std.specs.Prelude.{◌≡◌, ◌<◌, ◌≤◌, ◌+◌, ◌==◌, ◌≢◌, ◌++◌, ℕ, true, false, List, ◌∷◌, map, Option, Some, None, if◌then◌else◌}
+use Rattle.std.specs.Prelude.{◌≡◌, ◌<◌, ◌≤◌, ◌+◌, ◌==◌, ◌≢◌, ◌++◌, ℕ, Bool, true, false, List, [], ◌∷◌, map, Option, Some, None, if◌then◌else◌}
 use Rattle.ft_bank.specs.declared.bank.Bank.{Bank}
 use Rattle.ft_bank.specs.declared.pass.Pass.{Pass}
 use Rattle.ft_bank.specs.declared.sections.OpenSection.{OpenSection}
 use Rattle.ft_bank.specs.Passes.{shape_of, view, IsPassOf}
 use Rattle.ft_bank.specs.declared.sections.Taking.{Taking}
-use Rattle.ft_bank.specs.Sections.{Stack, stack_of, noted_in, suspended}
+use Rattle.ft_bank.specs.Sections.{Stack, stack_of, noted_in, suspended, nothing_taken}
 use Rattle.ft_section.specs.Ready.{lock_count, AreBegun}
 use Rattle.ft_trace.specs.declared.Act.{Act}
 use Rattle.ft_trace.specs.declared.Act.TheVariants.{Lock}
@@ -112,3 +112,17 @@ waiting s q =
       own = s.own;
       mark = Some (first_mark s.mark q);
     }
+
+-- the section notes these of its locks as taken
+abbrev pub noting : Bool → Bool → OpenSection → OpenSection
+noting lower upper s = record s { locks = record s.locks { took_lower = lower; took_upper = upper } }
+
+-- The call in flight has finished, and the innermost section is taken up again: the same sections are open, with the
+-- same containers and counts of marks, and the innermost one alone may note other locks of its own as taken. (C API,
+-- critical sections)
+pub record TakenUp (s t : Stack) : Type 0 where
+  pub none : s.sections ≡ [] → t.sections ≡ []
+  pub top : (outer : List OpenSection) (top : OpenSection) → s.sections ≡ outer ++ top ∷ []
+      → (lower : Bool) × (upper : Bool) × (t.sections ≡ outer ++ noting lower upper top ∷ [])
+  pub own : t.own ≡ nothing_taken
+  pub mark : t.mark ≡ None

@@ -1,5 +1,5 @@
 //! Letting locks go, so that what a pass knows of the locks that it keeps, and which sections were kept, stays.
-ghost use Rattle.std.specs.Prelude.{if◌then◌else◌};
+ghost use Rattle.std.specs.Prelude.{◌+◌, if◌then◌else◌};
 ghost use Rattle.ft_bank.specs.Passes.{view};
 ghost use Rattle.ft_bank.specs.Sections.{taken_in, noted_in};
 ghost use Rattle.ft_section.specs.Locking.{MayLetGo, LetGo, KeepsStack, at_one};
@@ -46,4 +46,14 @@ pub(crate) fn let_all_go(bank: &Bank, pass: &mut Pass, sections: &[OpenSection])
     for section in sections {
         let_taking_go(bank, pass, section.locks);
     }
+}
+
+/// Lets go of the locks that sections took, and of those that were taken so.
+pub(crate) fn let_each_go(bank: &Bank, pass: &mut Pass, sections: &[OpenSection], taking: Taking)
+    requires { MayLetGo (λ o. noted_in o sections.now + taken_in o taking) bank.now pass.old }
+    ensures stack { KeepsStack pass.old pass.new }
+    ensures go { LetGo (λ o. noted_in o sections.now + taken_in o taking) (view pass.old) (view pass.new) }
+{
+    let_all_go(bank, pass, sections);
+    let_taking_go(bank, pass, taking);
 }

@@ -9,6 +9,7 @@
 mod answers;
 mod beginning;
 mod calls;
+mod dropping;
 mod ending;
 mod entries;
 mod letting;
@@ -18,5 +19,6 @@ mod resuming;
 pub use crate::answers::{Began, Ended, Got, Look, Object, Objects, Owner, Resumed, Stamp, Step};
 pub use crate::beginning::{depth, new_passes_are_ready, try_begin};
 pub use crate::calls::{let_go, take_for};
+pub use crate::dropping::drop_all;
 pub use crate::ending::end;
 pub use crate::resuming::resume;

@@ -4,7 +4,7 @@ ghost use Rattle.ft_bank.specs.declared.sections.OpenSection.{OpenSection};
 ghost use Rattle.ft_bank.specs.Passes.{view};
 ghost use Rattle.ft_bank.specs.Sections.{stack_of, taken_in, nothing_taken};
 ghost use Rattle.ft_section.specs.Answers.{IfBack, IfStillWaits};
-ghost use Rattle.ft_section.specs.Locking.{OnlyLocked, FoundOwner, with_own, waiting};
+ghost use Rattle.ft_section.specs.Locking.{OnlyLocked, FoundOwner, TakenUp, with_own, waiting};
 ghost use Rattle.ft_section.specs.Ready.{IsReady, MayResume};
 
 use crate::answers::Resumed;
@@ -36,6 +36,7 @@ pub fn resume(bank: &Bank, pass: &mut Pass) -> Resumed
     ensures locked { OnlyLocked (view pass.old) (view pass.new) }
     ensures ready { IfBack result (λ mark. IsReady bank.now pass.new) }
     ensures mark { IfBack result (λ mark. mark ≡ (stack_of pass.old).mark) }
+    ensures stack { IfBack result (λ mark. TakenUp (stack_of pass.old) (stack_of pass.new)) }
     ensures needed { IfStillWaits result (λ o q. (outer : List OpenSection) (top : OpenSection) →
         (stack_of pass.old).sections ≡ outer ++ top ∷ [] → (o ≡ top.locks.lower) ⊎ (o ≡ top.locks.upper)) }
     ensures found { IfStillWaits result (λ o q. FoundOwner o q (view pass.old) (view pass.new)) }
@@ -55,7 +56,7 @@ pub fn resume(bank: &Bank, pass: &mut Pass) -> Resumed
         Ok(()) => {
             sections.push(OpenSection {
                 locks: joined(top.locks, pass.own()),
-                ..top
+                marks: top.marks,
             });
             pass.put_sections(sections);
             pass.put_own(Taking::NONE);

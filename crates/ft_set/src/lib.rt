@@ -1,12 +1,15 @@
-//! Sets of a bank (Python manual, Set Types): the call that looks up an element, without the lock and with it.
+//! Sets of a bank (Python manual, Set Types): the call that looks up an element, and `len`,
+//! without the lock and with it.
 //!
 //! Between any two steps of any passes it keeps true, for whoever runs calls, that each call adds one
 //! entry to the pass at most, and that this entry has the reply of the plain set at its stamp.
 #![tactic(auto)]
 
+mod lens;
 mod locked;
 mod looks;
 mod tries;
 
+pub use crate::lens::{look_len, try_len};
 pub use crate::looks::look_has;
 pub use crate::tries::try_has;

@@ -12,7 +12,7 @@ use Rattle.ft_section.specs.Ready.{IsMarked}
 use Rattle.ft_section.specs.Takings.{HasBoth}
 use Rattle.ft_section.proofs.Goings.{found_then}
 use Rattle.ft_section.proofs.Releases.{only_then, only_same}
-use Rattle.ft_section.proofs.Resumes.{top_taking, top_apart, resumed, wait_split, wait_some}
+use Rattle.ft_section.proofs.Resumes.{top_taking, top_apart, resumed, taken_up, none_up, wait_split, wait_some}
 use Rattle.ft_trace.specs.declared.Shape.{Shape}
 use Rattle.ft_trace.specs.Acts.{has_lock}
 use Rattle.ft_trace.specs.Addresses.{containers_in}
@@ -21,6 +21,11 @@ use Rattle.ft_section.proofs.resuming.resume.Goals as goal
 pub returns-in_default-clause-locked : goal.returns-in_default-clause-locked
 returns-in_default-clause-locked c =
     subst (OnlyLocked (view c.args.pass.now)) (sym c.put_mark.ensures.view.1) (only_same (view c.args.pass.now))
+
+pub returns-in_default-clause-stack : goal.returns-in_default-clause-stack
+returns-in_default-clause-stack c =
+    let none = sym (c.copied-sections.ensures ∙ c.sections.ensures) ∙ (c.pop.ensures.none c.in_default.is).0 in
+    none_up (stack_of c.args.pass.now) (stack_of c.put_mark.new.self) none (c.requires.none none) c.put_mark.ensures.stack
 
 pub take_both-requires-clause-containers : goal.take_both-requires-clause-containers
 take_both-requires-clause-containers c =
@@ -79,6 +84,16 @@ returns-in-Ok-clause-ready c =
     ∙ ap (λ (xs : List OpenSection). record { sections = xs; own = nothing_taken; mark = None }) c.push.ensures) in
     resumed c.args.bank.now q r c.pop.new.self top again c.take_both.ensures.inside split taken lower upper refl once c.in-Ok.ensures.has
     (c.put_mark-in-Ok.ensures.view.0 ∙ (c.put_own.ensures.view.0 ∙ c.put_sections.ensures.view.0)) (c.put_mark-in-Ok.ensures.view.1 ∙ (c.put_own.ensures.view.1 ∙ c.put_sections.ensures.view.1)) stack
+
+pub returns-in-Ok-clause-stack : goal.returns-in-Ok-clause-stack
+returns-in-Ok-clause-stack c =
+    let top = c.in-Some.top in
+    let locks = c.joined.result in
+    let split = sym (c.copied-sections.ensures ∙ c.sections.ensures) ∙ c.pop.ensures.some c.in-Some.top c.in-Some.is in
+    let stack = c.put_mark-in-Ok.ensures.stack
+    ∙ (ap (λ (s : Stack). record s { mark = None }) (c.put_own.ensures.stack ∙ ap (λ (s : Stack). record s { own = nothing_taken }) c.put_sections.ensures.stack)
+    ∙ ap (λ (xs : List OpenSection). record { sections = xs; own = nothing_taken; mark = None }) c.push.ensures) in
+    taken_up (stack_of c.args.pass.now) (stack_of c.put_mark-in-Ok.new.self) c.pop.new.self top locks split c.joined.ensures.rest stack
 
 pub returns-in-Err-clause-locked : goal.returns-in-Err-clause-locked
 returns-in-Err-clause-locked c =

@@ -1,0 +1,59 @@
+use Rattle.std.proofs.Common.{◌≡◌, ◌<◌, ℕ, ℤ, refl, inr, sym, ap, subst}
+use mir.Syntax.{w64}
+use mir.Val.{to_z, of_z}
+use Rattle.std.proofs.Math.Facts.{to_z-of_z}
+use Rattle.ft_model.specs.declared.call.Call.TheVariants as call
+use Rattle.ft_model.specs.declared.call.ListCall.TheVariants as list
+use Rattle.ft_trace.specs.declared.Shape.{Shape}
+use Rattle.ft_trace.specs.Addresses.{containers_in}
+use Rattle.ft_bank.specs.Answered.{Answered}
+use Rattle.ft_bank.specs.Passes.{shape_of, view}
+use Rattle.ft_section.specs.declared.answers.Objects.TheVariants.{One}
+use Rattle.ft_search.proofs.Trying.{making_read, making_stands}
+use Rattle.ft_list.proofs.indexing.try_get.Goals as goal
+
+pub get_locked-reply-requires-clause-pass : goal.get_locked-reply-requires-clause-pass
+get_locked-reply-requires-clause-pass c = c.in-Have.ensures.making.inside.0
+
+pub get_locked-reply-requires-clause-locked : goal.get_locked-reply-requires-clause-locked
+get_locked-reply-requires-clause-locked c = c.in-Have.ensures.has.0.0
+
+pub get_locked-reply-requires-clause-stands : goal.get_locked-reply-requires-clause-stands
+get_locked-reply-requires-clause-stands c =
+    let m = c.in-Have.ensures.making in
+    let same = m.inside.0.1 in
+    making_stands c.args.bank.now c.take_for.new.pass (shape_of c.args.bank.now).texts c.args.l m (ap (λ (k : Shape). k.texts) same)
+    (subst (λ (k : Shape). c.args.l < containers_in k) (sym same) c.requires.container) c.in-Have.ensures.has.0.0
+
+pub get_locked-reply-requires-clause-left : goal.get_locked-reply-requires-clause-left
+get_locked-reply-requires-clause-left c = subst (λ (n : ℕ). 0 < n) (sym c.in-Have.ensures.locked.left) c.requires.left
+
+pub let_go-requires : goal.let_go-requires
+let_go-requires c =
+    let r = c.get_locked-reply.result in
+    let e = c.get_locked-reply.ensures in
+    making_read c.args.bank.now c.take_for.new.pass c.get_locked-reply.new.pass (call.List c.args.l (list.Get (to_z w64 (of_z w64 c.args.index)))) r.0 r.1.number (λ n l sections. refl) c.in-Have.ensures.making e.pass
+    e.sections e.answered
+
+pub returns-in-Have-clause-may : goal.returns-in-Have-clause-may
+returns-in-Have-clause-may c = c.let_go.ensures.may (One c.args.l)
+
+pub returns-in-Have-clause-read : goal.returns-in-Have-clause-read
+returns-in-Have-clause-read c =
+    let r = c.get_locked-reply.result in
+    let index : to_z w64 (of_z w64 c.args.index) ≡ c.args.index = to_z-of_z {w = w64} {z = c.args.index} c.ranges.index in (
+      record {
+        before = view c.take_for.new.pass;
+        after = view c.get_locked-reply.new.pass;
+        took = c.in-Have.ensures.locked;
+        answered = subst (λ (i : ℤ). Answered (call.List c.args.l (list.Get i)) r.0 r.1.number (view c.take_for.new.pass) (view c.get_locked-reply.new.pass)) index c.get_locked-reply.ensures.answered;
+        gone = c.let_go.ensures.locked;
+      },
+      c.get_locked-reply.ensures.wrote,
+    )
+
+pub returns-in-NotYet-clause-may : goal.returns-in-NotYet-clause-may
+returns-in-NotYet-clause-may c = inr c.in-NotYet.ensures.waiting.0
+
+pub returns-in-NotYet-clause-read : goal.returns-in-NotYet-clause-read
+returns-in-NotYet-clause-read c = (c.in-NotYet.ensures.locked, c.in-NotYet.ensures.found.0, c.in-NotYet.ensures.found.1)

@@ -1,0 +1,78 @@
+-- Items of a list by their indexes, negative ones from the end too, and what loads of its words show of them.
+use Rattle.std.specs.Prelude.{◌≡◌, ℕ, ℤ, pos, negsuc, true, suc, ◌<◌, List, length, option_map, Option, Some, slice_index_or}
+use Rattle.ft_layout.specs.declared.slot.Stored.TheVariants.{Plain}
+use Rattle.ft_layout.specs.Words.{IsStored}
+use Rattle.ft_model.specs.declared.call.Call.TheVariants as call
+use Rattle.ft_model.specs.declared.call.ListCall.TheVariants as list
+use Rattle.ft_model.specs.declared.data.Value.{Value}
+use Rattle.ft_model.specs.declared.data.Value.TheVariants as value
+use Rattle.ft_model.specs.declared.script.Kind.TheVariants as kind
+use Rattle.ft_model.specs.Lists.{index_in}
+use Rattle.ft_model.specs.Worlds.{kind_of, list_of}
+use Rattle.ft_trace.specs.declared.Act.{Act}
+use Rattle.ft_trace.specs.declared.Act.TheVariants.{ReadCounter}
+use Rattle.ft_trace.specs.declared.Shape.{Shape}
+use Rattle.ft_trace.specs.declared.View.{View}
+use Rattle.ft_trace.specs.Acts.{has_lock}
+use Rattle.ft_trace.specs.Holds.{held}
+use Rattle.ft_trace.specs.Reading.{Agrees, Among, Between}
+use Rattle.ft_trace.specs.Words.{Picture, root_in, item_of, Stands}
+use Rattle.ft_trace.specs.Worlds.{Kept}
+use Rattle.ft_bank.specs.declared.pass.Pass.{Pass}
+use Rattle.ft_bank.specs.Passes.{view}
+use Rattle.ft_bank.specs.Series.{DidAll}
+use Rattle.ft_section.specs.declared.answers.Look.{Look}
+use Rattle.ft_search.specs.Looks.{AreLooks}
+use Rattle.ft_search.specs.Lengths.{StopsAtVersion, IsGlanceOf}
+use Rattle.ft_list.specs.declared.gets.AtIndex.{AtIndex}
+use Rattle.ft_list.specs.declared.gets.AtIndex.TheVariants.{Found, Contended}
+use Rattle.ft_list.specs.Looks.{IsGetOf}
+
+-- the item that an index names among these, or none (Python manual, Sequence Types, note 3)
+abbrev pub item_named : List Value → ℤ → Option Value
+item_named values index =
+    option_map (λ place. slice_index_or values place value.Nothing) (index_in (length values) index)
+
+-- The pass only loaded words, and this is so of all words of the container o that answer so. With the lock these are the
+-- words that the pass knows. (profile)
+abbrev pub Reads : Shape → ℕ → (Picture → Type 0) → Pass → Pass → Type 0
+Reads k o shows p q =
+    (part : List Act) × AreLooks part × DidAll part p q × ((x : Picture) → Agrees k o part x → shows x)
+    × (has_lock o (view p).log ≡ true → Agrees k o part (held o (view p)))
+
+-- where the root names the table t, and the item at the place is a value, it is this
+abbrev pub IsValueIn : ℕ → ℕ → Option Value → Picture → Type 0
+IsValueIn t place found x =
+    root_in x ≡ suc t → (value : Value) → IsStored (item_of x.table place 1) (item_of x.table place 2) (Plain value)
+    → found ≡ Some value
+
+-- where these words stand for a list that has an item at the place, it is this
+abbrev pub IsItemAt : Shape → ℕ → Option Value → Picture → Type 0
+IsItemAt k place found x =
+    (kept : Kept) → kind_of kept.content ≡ kind.List → Stands k.texts x kept → place < length (list_of kept.content)
+    → found ≡ Some (slice_index_or (list_of kept.content) place value.Nothing)
+
+-- where these words stand for a list, the index names this item of it, or none
+abbrev pub IsItemNamed : Shape → ℤ → Option Value → Picture → Type 0
+IsItemNamed k index found x =
+    (kept : Kept) → kind_of kept.content ≡ kind.List → Stands k.texts x kept
+    → found ≡ item_named (list_of kept.content) index
+
+-- Between two loads of the version of the list that gave the same even number, the counter was loaded, and words that show
+-- which item the index names.
+pub record ShowsNamed (k : Shape) (o : ℕ) (index : ℤ) (found : Option Value) (n : ℕ) (part : List Act) : Type 0 where
+  pub mid : List Act
+  pub between : Between part o mid
+  pub counted : Among (ReadCounter n) mid
+  pub shows : (x : Picture) → Agrees k o mid x → IsItemNamed k index found x
+
+-- what these loads show of the list
+abbrev pub ShowsBetween : Shape → ℕ → ℤ → List Act → AtIndex → Type 0
+ShowsBetween k o index part (Found found n) = ShowsNamed k o index found n part
+ShowsBetween k o index part (Contended a b) = StopsAtVersion o a b part
+
+-- What `l[i]` answers without the lock: for an index that isn't negative it is stopped by the version of that very item
+-- alone, or of the list where its root was read 0; for a negative one by the version of the list.
+abbrev pub IsLookGetOf : ℕ → ℤ → View → View → Look → Type 0
+IsLookGetOf o (pos index) v w result = IsGetOf o index v w result
+IsLookGetOf o (negsuc below) v w result = IsGlanceOf o (call.List o (list.Get (negsuc below))) v w result

@@ -1,0 +1,137 @@
+//! `l[i]` at any index: without the lock, and under it.
+ghost use Rattle.std.specs.Prelude.{◌≡◌, ◌<◌, List, true, false};
+ghost use Rattle.ft_model.specs.declared.call.Call.TheVariants as call;
+ghost use Rattle.ft_model.specs.declared.call.ListCall.TheVariants as list;
+ghost use Rattle.ft_model.specs.declared.script.Kind.TheVariants as kind;
+ghost use Rattle.ft_trace.specs.declared.Act.{Act};
+ghost use Rattle.ft_trace.specs.Acts.{announces, has_lock};
+ghost use Rattle.ft_trace.specs.Addresses.{containers_in};
+ghost use Rattle.ft_trace.specs.Holds.{held, known};
+ghost use Rattle.ft_trace.specs.Words.{Stands};
+ghost use Rattle.ft_trace.specs.Worlds.{kind_in};
+ghost use Rattle.ft_bank.specs.Answered.{Answered};
+ghost use Rattle.ft_bank.specs.Passes.{shape_of, view, IsPassOf};
+ghost use Rattle.ft_bank.specs.Sections.{stack_of};
+ghost use Rattle.ft_bank.specs.Series.{DidAll};
+ghost use Rattle.ft_section.specs.declared.answers.Objects.TheVariants.{One};
+ghost use Rattle.ft_section.specs.Ready.{MayTry};
+ghost use Rattle.ft_search.specs.Lengths.{IsGlanceOf};
+ghost use Rattle.ft_search.specs.Looks.{AreLooks};
+ghost use Rattle.ft_search.specs.Tries.{IsReadOf};
+ghost use Rattle.ft_list.specs.Indexes.{ShowsBetween, IsLookGetOf};
+
+use crate::gets::{AtIndex, look_item, reply_of};
+use crate::reads::read_named;
+use ft_bank::{Bank, Pass};
+use ft_model::{Call, ListCall, Reply};
+use ft_search::{answer_held, answer_look};
+use ft_section::{Got, Look, Object, Objects, Stamp, Step, let_go, take_for};
+
+/// Reads the item that an index names, and the counter, between two loads of the version of the list.
+fn read_between(bank: &Bank, pass: &mut Pass, l: Object, index: i64) -> AtIndex
+    requires pass { IsPassOf bank.now pass.old }
+    requires container { l < containers_in (shape_of bank.now) }
+    ensures pass { IsPassOf bank.now pass.new }
+    ensures looked { (part : List Act) × AreLooks part × DidAll part pass.old pass.new
+        × ShowsBetween (shape_of bank.now) l index part result }
+{
+    let opened = bank.seq(pass, l);
+    let found = read_named(bank, pass, l, index);
+    let number = bank.stamp(pass);
+    let closed = bank.seq(pass, l);
+    if closed != opened || opened % 2 != 0 {
+        return AtIndex::Contended(opened, closed);
+    }
+    AtIndex::Found(found, number)
+}
+
+/// `l[i]` without the lock, by the version of the list.
+fn look_between(bank: &Bank, pass: &mut Pass, l: Object, index: i64) -> Look
+    requires pass { IsPassOf bank.now pass.old }
+    requires container { l < containers_in (shape_of bank.now) }
+    requires list { kind_in (shape_of bank.now).kinds l ≡ kind.List }
+    requires left { 0 < (view pass.old).left }
+    ensures pass { IsPassOf bank.now pass.new }
+    ensures sections { stack_of pass.new ≡ stack_of pass.old }
+    ensures looked { IsGlanceOf l (call.List l (list.Get index)) (view pass.old) (view pass.new) result }
+{
+    match read_between(bank, pass, l, index) {
+        AtIndex::Found(found, number) => {
+            let call = Call::List {
+                container: l,
+                call: ListCall::Get { index },
+            };
+            answer_look(bank, pass, &call, reply_of(found), number)
+        }
+        AtIndex::Contended(first, second) => Look::Contended(first, second),
+    }
+}
+
+/// `l[i]` without the lock, an IndexError where there is no such item (Python manual, Sequence Types); the
+/// pass is online.
+///
+/// # Errors
+///
+/// `Contended` where two loads of one version gave an odd number or two different ones: for an index that
+/// isn't negative the version of that very item, or of the list where its root was read 0; for a negative
+/// index the version of the list. It never answers `NoMemory`.
+pub fn look_get(bank: &Bank, pass: &mut Pass, l: Object, index: i64) -> Look
+    requires pass { IsPassOf bank.now pass.old }
+    requires container { l < containers_in (shape_of bank.now) }
+    requires list { kind_in (shape_of bank.now).kinds l ≡ kind.List }
+    requires online { 0 < announces (view pass.old).log }
+    requires left { 0 < (view pass.old).left }
+    ensures pass { IsPassOf bank.now pass.new }
+    ensures sections { stack_of pass.new ≡ stack_of pass.old }
+    ensures looked { IsLookGetOf l index (view pass.old) (view pass.new) result }
+{
+    match u64::try_from(index) {
+        Ok(place) => look_item(bank, pass, l, place),
+        Err(_) => look_between(bank, pass, l, index),
+    }
+}
+
+/// `l[i]`, by a pass that has the list's lock. The counter is loaded while it has the lock.
+fn get_locked(bank: &Bank, pass: &mut Pass, l: Object, index: i64) -> (Reply, Stamp)
+    requires pass { IsPassOf bank.now pass.old }
+    requires container { l < containers_in (shape_of bank.now) }
+    requires list { kind_in (shape_of bank.now).kinds l ≡ kind.List }
+    requires locked { has_lock l (view pass.old).log ≡ true }
+    requires stands { Stands (shape_of bank.now).texts (held l (view pass.old)) (known l (view pass.old)) }
+    requires left { 0 < (view pass.old).left }
+    ensures pass { IsPassOf bank.now pass.new }
+    ensures sections { stack_of pass.new ≡ stack_of pass.old }
+    ensures wrote { result.1.wrote ≡ false }
+    ensures answered { Answered (call.List l (list.Get index)) result.0 result.1.number (view pass.old) (view pass.new) }
+{
+    let found = read_named(bank, pass, l, index);
+    let call = Call::List {
+        container: l,
+        call: ListCall::Get { index },
+    };
+    answer_held(bank, pass, &call, reply_of(found))
+}
+
+/// `l[i]` under the lock, an IndexError where there is no such item (Python manual, Sequence Types).
+///
+/// # Errors
+///
+/// `NotYet` where a step of the call found another pass with the lock of the list; the same call comes next.
+/// It never answers `Moved` or `NoMemory`.
+pub fn try_get(bank: &Bank, pass: &mut Pass, l: Object, index: i64) -> Step
+    requires may { MayTry bank.now pass.old (One l) }
+    requires container { l < containers_in (shape_of bank.now) }
+    requires list { kind_in (shape_of bank.now).kinds l ≡ kind.List }
+    requires left { 0 < (view pass.old).left }
+    ensures may { MayTry bank.now pass.new (One l) }
+    ensures read { IsReadOf l (call.List l (list.Get index)) (view pass.old) (view pass.new) result }
+{
+    match take_for(bank, pass, Objects::One(l)) {
+        Got::Have => {
+            let (reply, stamp) = get_locked(bank, pass, l, index);
+            let_go(bank, pass);
+            Step::Done(reply, stamp)
+        }
+        Got::NotYet(container, owner) => Step::NotYet(container, owner),
+    }
+}

@@ -1,0 +1,69 @@
+//! Reads of an item that an index names: by a pass without the list's lock, whose loads show it where no
+//! write came between them, and by one with the lock.
+ghost use Rattle.std.specs.Prelude.{◌≡◌, ◌<◌};
+ghost use Rattle.ft_trace.specs.Addresses.{containers_in, class_of, slots};
+ghost use Rattle.ft_bank.specs.Passes.{shape_of, view, IsPassOf};
+ghost use Rattle.ft_bank.specs.Tables.{name_of, IsTableIn};
+ghost use Rattle.ft_list.specs.Indexes.{Reads, IsValueIn, IsItemAt, IsItemNamed};
+
+use crate::gets::found_of;
+use crate::items::word_at;
+use crate::locked::{LENGTH, place_in};
+use ft_bank::{Bank, Pass, Table};
+use ft_layout::{item_word, list_items};
+use ft_model::Value;
+use ft_search::table_named;
+use ft_section::Object;
+
+/// Reads the value of an item in a table.
+fn read_value(bank: &Bank, pass: &mut Pass, l: Object, table: Table, place: u64) -> Option<Value>
+    requires pass { IsPassOf bank.now pass.old }
+    requires container { l < containers_in (shape_of bank.now) }
+    requires table { IsTableIn (shape_of bank.now) table }
+    requires place { place < slots (class_of (name_of table)) }
+    ensures pass { IsPassOf bank.now pass.new }
+    ensures reads { Reads (shape_of bank.now) l (IsValueIn (name_of table) place result) pass.old pass.new }
+{
+    let _ = l;
+    let kind = bank.read_table(pass, table, word_at(place, item_word::VALUE_KIND));
+    let payload = bank.read_table(pass, table, word_at(place, item_word::VALUE));
+    match found_of(kind, payload) {
+        Some(found) => found,
+        None => None,
+    }
+}
+
+/// Reads the item at a place of a list. `None` where the table that the root names has no such place, or the
+/// root names none.
+fn read_item(bank: &Bank, pass: &mut Pass, l: Object, place: u64) -> Option<Value>
+    requires pass { IsPassOf bank.now pass.old }
+    requires container { l < containers_in (shape_of bank.now) }
+    ensures pass { IsPassOf bank.now pass.new }
+    ensures reads { Reads (shape_of bank.now) l (IsItemAt (shape_of bank.now) place result) pass.old pass.new }
+{
+    let root = bank.read_block(pass, l, 0);
+    match table_named(root) {
+        Some(table) => {
+            if place < list_items(table.class) {
+                read_value(bank, pass, l, table, place)
+            } else {
+                None
+            }
+        }
+        None => None,
+    }
+}
+
+/// Reads the item that an index names, or none.
+pub(crate) fn read_named(bank: &Bank, pass: &mut Pass, l: Object, index: i64) -> Option<Value>
+    requires pass { IsPassOf bank.now pass.old }
+    requires container { l < containers_in (shape_of bank.now) }
+    ensures pass { IsPassOf bank.now pass.new }
+    ensures reads { Reads (shape_of bank.now) l (IsItemNamed (shape_of bank.now) index result) pass.old pass.new }
+{
+    let count = bank.read_block(pass, l, LENGTH);
+    match place_in(count, index) {
+        Some(place) => read_item(bank, pass, l, place),
+        None => None,
+    }
+}

@@ -1,0 +1,54 @@
+use Rattle.std.proofs.Common.{◌≡◌, refl, sym, ap, ◌∙◌, subst}
+use Rattle.ft_model.specs.declared.reply.Reply.TheVariants as reply
+use Rattle.ft_trace.specs.declared.Shape.{Shape}
+use Rattle.ft_trace.specs.Worlds.{kind_in}
+use Rattle.ft_bank.specs.Passes.{shape_of, view}
+use Rattle.ft_bank.specs.Whole.{OnlyLoaded}
+use Rattle.ft_search.specs.Lengths.{len_of, IsGlanceOf}
+use Rattle.ft_search.proofs.Asking.{may_ask, answered_after}
+use Rattle.ft_search.proofs.Lengths.{count_counted, len_shown}
+use Rattle.ft_search.proofs.Rounding.{looks_load}
+use Rattle.ft_search.proofs.Running.{did_log}
+use Rattle.ft_search.proofs.lens.look_len.Goals as goal
+
+pub answer_look-requires-clause-shown : goal.answer_look-requires-clause-shown
+answer_look-requires-clause-shown c =
+    let o = c.args.o in
+    let n = c.in-Seen.number in
+    let count = c.in-Seen.count in
+    let v = view c.args.pass.now in
+    let w = view c.look_count.new.pass in
+    let m = c.in-Seen.ensures.looked in
+    let same = c.look_count.ensures.pass.1 in
+    let loaded : OnlyLoaded v w = subst (OnlyLoaded v) (sym m.2.1) (looks_load m.0 v m.1) in
+    let own = did_log m.0 c.args.pass.now c.look_count.new.pass m.2 in
+    let is : c.args.call.now ≡ len_of (kind_in w.shape.kinds o) o = c.requires.call ∙ ap (λ (k : Shape). len_of (kind_in k.kinds o) o) (sym same) in
+    len_shown v w c.args.call.now o count n m.0
+    (may_ask v w (shape_of c.args.bank.now) o n m.0 loaded m.1 own (count_counted o count n m.0 m.3) same c.requires.container c.requires.left)
+    own is m.3
+
+pub returns-in-Seen-clause-looked : goal.returns-in-Seen-clause-looked
+returns-in-Seen-clause-looked c =
+    let o = c.args.o in
+    let n = c.in-Seen.number in
+    let count = c.in-Seen.count in
+    let v = view c.args.pass.now in
+    let w = view c.look_count.new.pass in
+    let z = view c.answer_look.new.pass in
+    let m = c.in-Seen.ensures.looked in
+    let loaded : OnlyLoaded v w = subst (OnlyLoaded v) (sym m.2.1) (looks_load m.0 v m.1) in
+    let own = did_log m.0 c.args.pass.now c.look_count.new.pass m.2 in
+    subst (λ r. IsGlanceOf o c.args.call.now v z r) (sym c.answer_look.ensures.done)
+    (answered_after v w z c.args.call.now (reply.Count count) n m.0 loaded own (count_counted o count n m.0 m.3) c.answer_look.ensures.did.1, refl)
+
+pub returns-in-Contended-clause-looked : goal.returns-in-Contended-clause-looked
+returns-in-Contended-clause-looked c =
+    let v = view c.args.pass.now in
+    let m = c.in-Contended.ensures.looked in
+    record {
+      loaded = subst (OnlyLoaded v) (sym m.2.1) (looks_load m.0 v m.1);
+      part = m.0;
+      looks = m.1;
+      own = did_log m.0 c.args.pass.now c.look_count.new.pass m.2;
+      stops = m.3;
+    }

@@ -1,0 +1,61 @@
+//! How many elements a set has: read without the lock, between two loads of the set's version, and under the
+//! lock.
+ghost use Rattle.std.specs.Prelude.{◌≡◌, ◌<◌};
+ghost use Rattle.ft_model.specs.declared.call.Call.TheVariants as call;
+ghost use Rattle.ft_model.specs.declared.call.SetCall.TheVariants as set;
+ghost use Rattle.ft_model.specs.declared.script.Kind.TheVariants as kind;
+ghost use Rattle.ft_trace.specs.Addresses.{containers_in};
+ghost use Rattle.ft_trace.specs.Worlds.{kind_in};
+ghost use Rattle.ft_bank.specs.Passes.{shape_of, view, IsPassOf};
+ghost use Rattle.ft_bank.specs.Sections.{stack_of};
+ghost use Rattle.ft_section.specs.declared.answers.Objects.TheVariants.{One};
+ghost use Rattle.ft_section.specs.Ready.{MayTry};
+ghost use Rattle.ft_search.specs.Lengths.{IsGlanceOf};
+ghost use Rattle.ft_search.specs.Tries.{IsReadOf};
+
+use ft_bank::{Bank, Pass};
+use ft_model::{Call, SetCall};
+use ft_section::{Look, Object, Step};
+
+/// `len(s)` without the lock (Python manual, Set Types).
+///
+/// # Errors
+///
+/// `Contended` where two loads of the version of the set gave an odd number or two different ones. It never
+/// answers `NoMemory`.
+pub fn look_len(bank: &Bank, pass: &mut Pass, s: Object) -> Look
+    requires pass { IsPassOf bank.now pass.old }
+    requires container { s < containers_in (shape_of bank.now) }
+    requires set { kind_in (shape_of bank.now).kinds s ≡ kind.Set }
+    requires left { 0 < (view pass.old).left }
+    ensures pass { IsPassOf bank.now pass.new }
+    ensures sections { stack_of pass.new ≡ stack_of pass.old }
+    ensures looked { IsGlanceOf s (call.Set s set.Len) (view pass.old) (view pass.new) result }
+{
+    let call = Call::Set {
+        container: s,
+        call: SetCall::Len,
+    };
+    ft_search::look_len(bank, pass, s, &call)
+}
+
+/// `len(s)` under the lock (Python manual, Set Types).
+///
+/// # Errors
+///
+/// `NotYet` where a step of the call found another pass with the lock of the set; the same call comes next. It
+/// never answers `Moved` or `NoMemory`.
+pub fn try_len(bank: &Bank, pass: &mut Pass, s: Object) -> Step
+    requires may { MayTry bank.now pass.old (One s) }
+    requires container { s < containers_in (shape_of bank.now) }
+    requires set { kind_in (shape_of bank.now).kinds s ≡ kind.Set }
+    requires left { 0 < (view pass.old).left }
+    ensures may { MayTry bank.now pass.new (One s) }
+    ensures read { IsReadOf s (call.Set s set.Len) (view pass.old) (view pass.new) result }
+{
+    let call = Call::Set {
+        container: s,
+        call: SetCall::Len,
+    };
+    ft_search::try_len(bank, pass, s, &call)
+}

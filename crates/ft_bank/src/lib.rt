@@ -27,11 +27,7 @@ mod shape;
 pub mod shown;
 mod steps;
 mod table;
-#[cfg(test)]
-mod table_tests;
 mod takings;
-#[cfg(test)]
-mod tests;
 mod tokens;
 mod writes;
 

@@ -43,8 +43,6 @@ mod slot;
 mod start;
 mod stored;
 mod take;
-#[cfg(test)]
-mod tests;
 mod word;
 
 pub use entry::{entry_of, entry_words};

@@ -25,8 +25,6 @@ mod set;
 mod set_calls;
 mod stored;
 mod table;
-#[cfg(test)]
-mod tests;
 mod world;
 
 pub use accepts::{has_room, is_declared};

@@ -11,8 +11,6 @@ mod program;
 mod reading;
 mod report;
 mod separator;
-#[cfg(test)]
-mod tests;
 mod tool;
 mod writing;
 

@@ -3,7 +3,7 @@
 ghost use Rattle.std.specs.Prelude.{◌≡◌, IfOk, length};
 ghost use Rattle.ft_bank.specs.Openings.{IsOpening, AreOpening};
 
-use crate::{Bank, Pass, Shape};
+use ft_bank::{Bank, Pass, Shape};
 use ft_model::Kind;
 use std::alloc::Global;
 use std::test::Fail;

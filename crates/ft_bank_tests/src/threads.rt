@@ -1,12 +1,12 @@
 //! Two threads with a pass each share one bank.
 ghost use Rattle.std.specs.Prelude.{◌≡◌, ◌<◌, IfOk, length};
 ghost use Rattle.ft_trace.specs.Addresses.{containers_in};
-ghost use Rattle.ft_bank.specs.Openings.{IsOpening, AreOpening};
 ghost use Rattle.ft_bank.specs.Passes.{shape_of, view, IsPassOf};
 ghost use Rattle.ft_bank.specs.Sections.{stack_of, no_sections};
 ghost use Rattle.ft_bank_tests.specs.Rounds.{IsIdle, IsOnwards};
 
 use crate::go_round_with;
+use crate::steps::two;
 use ft_bank::{Bank, Pass, Shape};
 use ft_model::Kind;
 use std::alloc::Global;
@@ -24,22 +24,6 @@ fn small(alloc: Global) -> Result<Shape, Fail>
         passes: 2,
         calls: 10,
     })
-}
-
-/// The two passes of a bank.
-fn two(bank: &Bank, passes: Vec<Pass>) -> Result<(Pass, Pass), Fail>
-    requires { AreOpening bank.now 0 passes.items }
-    ensures { IfOk result (λ p. IsOpening bank.now 0 p.0 × IsOpening bank.now 1 p.1) }
-{
-    let _ = bank;
-    let mut each = passes.into_iter();
-    let Some(first) = each.next() else {
-        return Err(Fail::from("there is pass 0"));
-    };
-    let Some(second) = each.next() else {
-        return Err(Fail::from("there is pass 1"));
-    };
-    Ok((first, second))
 }
 
 #[test]

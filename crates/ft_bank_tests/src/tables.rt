@@ -1,6 +1,6 @@
 //! Takings and givings of tables, worked by hand: which table comes, and that the last one goes round.
-use crate::tests::{small, two};
-use crate::{Bank, Took};
+use crate::steps::{small, two};
+use ft_bank::{Bank, Took};
 use std::test::Fail;
 
 #[test]

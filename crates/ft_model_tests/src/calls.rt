@@ -2,7 +2,7 @@ mod printing;
 mod reading;
 mod tables;
 
-use crate::{
+use ft_model::{
     Declaration, Hands, KeptTable, Kind, Sequence, World, apply, dict_class, has_room, is_declared,
     list_class, set_class, table_of_copy, taken_by_dict, taken_by_list, taken_by_set,
 };

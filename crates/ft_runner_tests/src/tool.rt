@@ -1,7 +1,7 @@
 //! The tool over streams in memory. The expected texts are worked out by hand, but for those of the
 //! last ten runs: they are what a second model of the turns gives, written apart from this one.
 
-use crate::{Fault, NoGate, Report, run_program, run_still, run_tool};
+use ft_runner::{Fault, NoGate, Report, run_program, run_still, run_tool};
 use ft_io::{MemSink, MemSource};
 use ft_model::Rule;
 use ft_script::{parse, print_entry, print_world};

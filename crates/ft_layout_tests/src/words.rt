@@ -1,7 +1,7 @@
 //! The numbers of the format, worked by hand, for whoever changes it: sizes, starts, roots, locks, kinds
 //! and payloads.
 
-use crate::{
+use ft_layout::{
     Pair, Ref, Slot, Stored, Take, announced_word, bank_size, bank_words_are_of_one_part,
     block_start, box_start, changed_words_are_of_a_list, changed_words_are_of_a_table,
     dict_words_are_of_one_dict, entry_at, entry_of, entry_words, free_count_word, free_word,

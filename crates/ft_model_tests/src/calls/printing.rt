@@ -1,5 +1,5 @@
 // Prints replies and contents as Python prints them.
-use crate::{Content, DictPair, Element, Key, Raise, Reply, Value};
+use ft_model::{Content, DictPair, Element, Key, Raise, Reply, Value};
 use std::alloc::{AllocError, Global};
 
 pub fn print_reply(alloc: Global, reply: &Reply) -> Result<String, AllocError> {

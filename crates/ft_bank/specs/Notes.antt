@@ -21,6 +21,6 @@ says n = n.seat.me.0.learnt
 abbrev pub IsNoteOf : Bank → Note → Type 0
 IsNoteOf b n = n.seat.table_id ≡ b.table.shared.table_id
 
--- what the pass knows once it has learnt that there are so many writes
+-- what the pass knows once it has learnt that there are this many writes
 abbrev pub knowing : ℕ → View → View
 knowing n v = record v { learnt = max v.learnt n }

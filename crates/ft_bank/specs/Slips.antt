@@ -3,7 +3,7 @@ use Rattle.std.specs.Prelude.{ℕ, List, [], false}
 use Rattle.ft_trace.specs.declared.View.{View}
 use Rattle.ft_trace.specs.Acts.{no_shape}
 
--- what a note knows that brings so many tokens, says so many writes, and has these words: it has no lock, no table, no
+-- what a note knows that brings this many tokens, tells of n writes, and has these words: it has no lock, no table, no
 -- writes and no entries
 abbrev pub slip_with : ℕ → ℕ → List ℕ → View
 slip_with tokens n words =

@@ -27,7 +27,7 @@ fn try_round(bank: &Bank, pass: &mut Pass) -> bool
     true
 }
 
-/// Does that so often, and counts how often the lock was free.
+/// Does that in each round, and counts how often the lock was free.
 pub fn go_round(bank: &Bank, pass: &mut Pass, rounds: u32) -> u32
     requires pass { IsPassOf bank.now pass.old }
     requires container { 0 < containers_in (shape_of bank.now) }

@@ -31,8 +31,8 @@ owes_loads [] v = refl
 owes_loads (n ∷ ns) v = owes_loads ns v
 
 -- a number that is past the goal shows that its pass is clear of the table
-told : (n g : ℕ) (b : Bool) → (n ≡ 0) ⊎ (g ≤ n) → cond (eqb n 0) true (cond (nat_lt n g) b true) ≡ true
-told n g b past =
+past_goal : (n g : ℕ) (b : Bool) → (n ≡ 0) ⊎ (g ≤ n) → cond (eqb n 0) true (cond (nat_lt n g) b true) ≡ true
+past_goal n g b past =
     dite (ℕ_discrete n 0) (λ (e : n ≡ 0). here n 0 true (cond (nat_lt n g) b true) e)
     (λ ne.
     let below : nat_lt n g ≡ false = ⊎_elim (λ (e : n ≡ 0). absurd (ne e)) (λ (up : g ≤ n). le-ltb n g up) past in
@@ -46,7 +46,7 @@ clear_loads (n ∷ ns) v t p past some_one low =
     let g = goal t l in
     let b = clear t p l in
     dite (ℕ_discrete (length ns + 1) p)
-    (λ (e : length ns + 1 ≡ p). here (length ns + 1) p (cond (eqb n 0) true (cond (nat_lt n g) b true)) b e ∙ told n g b (subst (λ (z : ℕ). (n ≡ 0) ⊎ (z ≤ n)) (sym (goal_loads ns v t)) past.0))
+    (λ (e : length ns + 1 ≡ p). here (length ns + 1) p (cond (eqb n 0) true (cond (nat_lt n g) b true)) b e ∙ past_goal n g b (subst (λ (z : ℕ). (n ≡ 0) ⊎ (z ≤ n)) (sym (goal_loads ns v t)) past.0))
     (λ ne. miss (length ns + 1) p (cond (eqb n 0) true (cond (nat_lt n g) b true)) b ne ∙ clear_loads ns v t p past.1 some_one (omega (arith, low, ne)))
 
 -- one more number

@@ -174,7 +174,7 @@ module _ (k : Shape) (o t : ℕ) (key : Key) where
               mid = [];
               rest = part;
               is = ap (λ (z : ℕ). ReadTable t z 0 ∷ (ReadCounter n ∷ part)) (sym here);
-              visits = λ j less. subst (λ (z : List ℕ). Passed part t m (slice_index z j) key) (sym split) (each_slot (λ z. Passed part t m z key) w.passed (slot ∷ rest) w.behind j less);
+              visits = λ j less. subst (λ (z : List ℕ). Passed part t m (slice_index z j) key) (sym split) (each_slot (λ z. Passed part t m z key) w.passed (slot ∷ rest) w.rightly j less);
             } in
             inl (t, inl miss)),
         record { newer = ReadTable t slot 0 ∷ []; rest = part; is = refl },
@@ -197,7 +197,7 @@ module _ (k : Shape) (o t : ℕ) (key : Key) where
               mid = [];
               rest = part;
               is = refl;
-              visits = λ j less. subst (λ (z : List ℕ). Passed part t m (slice_index z j) key) (sym split) (each_slot (λ z. Passed part t m z key) w.passed [] w.behind j (omega (arith, less, long)));
+              visits = λ j less. subst (λ (z : List ℕ). Passed part t m (slice_index z j) key) (sym split) (each_slot (λ z. Passed part t m z key) w.passed [] w.rightly j (omega (arith, less, long)));
             } in
             inl (t, inr full)),
         record { newer = []; rest = part; is = refl },

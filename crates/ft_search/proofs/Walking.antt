@@ -111,13 +111,13 @@ module _ (k : Shape) (o t : ℕ) (key : Key) where
   m = rows (kind_in k.kinds o) (class_of t)
 
   pub walked_none : (left : List ℕ) → left ≡ walk_of (kind_in k.kinds o) k.texts (class_of t) key → Walked k o t key [] left
-  walked_none left is = record { passed = []; split = sym is; behind = All-nil (λ slot. Passed [] t m slot key) }
+  walked_none left is = record { passed = []; split = sym is; rightly = All-nil (λ slot. Passed [] t m slot key) }
 
   pub walked_more : (left : List ℕ) (new part : List Act) → Walked k o t key part left → Walked k o t key (new ++ part) left
   walked_more left new part w = record {
     passed = w.passed;
     split = w.split;
-    behind = All-weaker (λ slot. Passed part t m slot key) (λ slot. Passed (new ++ part) t m slot key) (λ slot p. passed_more t m slot key new part p) w.passed w.behind;
+    rightly = All-weaker (λ slot. Passed part t m slot key) (λ slot. Passed (new ++ part) t m slot key) (λ slot p. passed_more t m slot key new part p) w.passed w.rightly;
   }
 
   -- a search went on
@@ -128,18 +128,18 @@ module _ (k : Shape) (o t : ℕ) (key : Key) where
       let here : Walked k o t key (map f h.earlier ++ part) (unpassed found left) = record {
         passed = w.passed ++ h.passed;
         split = w.split ∙ (ap (λ (z : List ℕ). w.passed ++ z) h.split ∙ sym (append_assoc w.passed h.passed (unpassed found left)));
-        behind = All-append (λ slot. Passed (map f h.earlier ++ part) t m slot key) w.passed h.passed
-            (All-weaker (λ slot. Passed part t m slot key) (λ slot. Passed (map f h.earlier ++ part) t m slot key) (λ slot p. passed_more t m slot key (map f h.earlier) part p) w.passed w.behind)
+        rightly = All-append (λ slot. Passed (map f h.earlier ++ part) t m slot key) w.passed h.passed
+            (All-weaker (λ slot. Passed part t m slot key) (λ slot. Passed (map f h.earlier ++ part) t m slot key) (λ slot p. passed_more t m slot key (map f h.earlier) part p) w.passed w.rightly)
             (slots_passed o t m mask key h.passed h.earlier part few h.tries);
       } in
       subst (λ (z : List Act). Walked k o t key z (unpassed found left)) (sym whole) (walked_more (unpassed found left) (map f h.last) (map f h.earlier ++ part) here)
 
   -- and one more slot was passed
-  pub walked_behind : (slot : ℕ) (left : List ℕ) (part : List Act) → Walked k o t key part (slot ∷ left) → Passed part t m slot key → Walked k o t key part left
-  walked_behind slot left part w p = record {
+  pub walked_past : (slot : ℕ) (left : List ℕ) (part : List Act) → Walked k o t key part (slot ∷ left) → Passed part t m slot key → Walked k o t key part left
+  walked_past slot left part w p = record {
     passed = w.passed ++ slot ∷ [];
     split = w.split ∙ sym (append_assoc w.passed (slot ∷ []) left);
-    behind = All-push (λ slot. Passed part t m slot key) w.passed slot w.behind p;
+    rightly = All-push (λ slot. Passed part t m slot key) w.passed slot w.rightly p;
   }
 
 -- ---- the slots by their numbers

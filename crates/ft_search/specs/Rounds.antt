@@ -45,7 +45,7 @@ seen_acts t place seen =
 pub record Walked (k : Shape) (o t : ℕ) (key : Key) (part : List Act) (left : List ℕ) : Type 0 where
   pub passed : List ℕ
   pub split : walk_of (kind_in k.kinds o) k.texts (class_of t) key ≡ passed ++ left
-  pub behind : All (λ slot. Passed part t (rows (kind_in k.kinds o) (class_of t)) slot key) passed
+  pub rightly : All (λ slot. Passed part t (rows (kind_in k.kinds o) (class_of t)) slot key) passed
 
 -- what these loads of the table t show of the key, once the root is read again and still names the table
 abbrev pub ClosesAt : Shape → ℕ → ℕ → Key → List Act → Looked → Type 0

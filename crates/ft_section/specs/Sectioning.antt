@@ -31,7 +31,7 @@ abbrev pub reply_of : Ended → Reply
 reply_of (ended.Kept s) = reply.Kept
 reply_of (ended.Suspended k s) = reply.Suspended k
 
--- what an `end` answers where so many calls in its section had to wait (C API, critical sections; the count: profile)
+-- what an `end` answers where this many calls in its section had to wait (C API, critical sections; the count: profile)
 abbrev pub ended_by : ℕ → Stamp → Ended
 ended_by marks s = if marks == 0 then ended.Kept s else ended.Suspended marks s
 

@@ -16,7 +16,7 @@ use crate::letting::let_taking_go;
 use ft_bank::{Bank, Pass};
 use ft_model::{Call, Reply};
 
-/// What the entry of the `end` of a section says, in which so many calls had to wait.
+/// What the entry of the `end` of a section says, of whose calls this many had to wait.
 fn end_reply(marks: u32) -> Reply
     ensures said { IsSaid call.End result }
     ensures reply { (stamp : Stamp) → result ≡ reply_of (ended_by marks stamp) }

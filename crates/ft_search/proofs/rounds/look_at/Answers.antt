@@ -4,7 +4,7 @@ use Rattle.ft_bank.specs.Passes.{shape_of}
 use Rattle.ft_bank.specs.Tables.{name_of}
 use Rattle.ft_search.specs.Rounds.{met_acts, seen_acts}
 use Rattle.ft_search.proofs.Running.{did_none}
-use Rattle.ft_search.proofs.Walking.{walked_more, walked_behind}
+use Rattle.ft_search.proofs.Walking.{walked_more, walked_past}
 use Rattle.ft_search.proofs.Closing.{beyond_passed, moved_passed, stops_seen, closes_here}
 use Rattle.ft_search.proofs.rounds.look_at.Goals as goal
 
@@ -16,7 +16,7 @@ returns-then-place-entries-clause-turns c slot earlier left w =
     let key = c.args.key in
     let part = met_acts t slot c.args.place key (key_kind key) earlier in
     let high = c.if-place-entries.true in
-    ([], tt, did_none s.pass.now, walked_behind k s.o t key slot left part w (beyond_passed k s.o t key slot c.args.place earlier (key_kind key) (omega (arith, high, c.requires.entries))))
+    ([], tt, did_none s.pass.now, walked_past k s.o t key slot left part w (beyond_passed k s.o t key slot c.args.place earlier (key_kind key) (omega (arith, high, c.requires.entries))))
 
 pub returns-then-not-stood-clause-turns : goal.returns-then-not-stood-clause-turns
 returns-then-not-stood-clause-turns c slot earlier left w =
@@ -38,7 +38,7 @@ returns-then-seen-kind_of-clause-turns c slot earlier left w =
       new,
       tt,
       c.read_between-seen.ensures.did,
-      walked_behind k s.o t key slot left (new ++ part) (walked_more k s.o t key (slot ∷ left) new part w)
+      walked_past k s.o t key slot left (new ++ part) (walked_more k s.o t key (slot ∷ left) new part w)
           (moved_passed k s.o t key slot c.args.place earlier seen (key_kind key) stood.0 stood.1
           (λ same. c.if-seen-kind_of.true (same ∙ sym c.kind_of.ensures))),
     )

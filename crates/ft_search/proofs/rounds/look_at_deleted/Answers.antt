@@ -8,7 +8,7 @@ use Rattle.ft_bank.specs.Passes.{shape_of}
 use Rattle.ft_bank.specs.Tables.{name_of}
 use Rattle.ft_search.specs.Rounds.{met_acts}
 use Rattle.ft_search.proofs.Running.{did_none, did_trans, at_same}
-use Rattle.ft_search.proofs.Walking.{walked_more, walked_behind}
+use Rattle.ft_search.proofs.Walking.{walked_more, walked_past}
 use Rattle.ft_search.proofs.Closing.{beyond_passed, deleted_passed, stops_deleted}
 use Rattle.ft_bank.specs.Series.{DidAll}
 use Rattle.ft_search.proofs.rounds.look_at_deleted.Goals as goal
@@ -20,7 +20,7 @@ returns-then-place-entries-clause-turns c key slot earlier left w =
     let t = name_of s.table in
     let part = met_acts t slot c.args.place key (gone_kind key) earlier in
     let high = c.if-place-entries.true in
-    ([], tt, did_none s.pass.now, walked_behind k s.o t key slot left part w (beyond_passed k s.o t key slot c.args.place earlier (gone_kind key) (omega (arith, high, c.requires.entries))))
+    ([], tt, did_none s.pass.now, walked_past k s.o t key slot left part w (beyond_passed k s.o t key slot c.args.place earlier (gone_kind key) (omega (arith, high, c.requires.entries))))
 
 pub returns-then-opened-eq0-clause-turns : goal.returns-then-opened-eq0-clause-turns
 returns-then-opened-eq0-clause-turns c key slot earlier left w =
@@ -34,7 +34,7 @@ returns-then-opened-eq0-clause-turns c key slot earlier left w =
       new,
       tt,
       c.word-opened.ensures.did,
-      walked_behind k s.o t key slot left (load ∷ part) (walked_more k s.o t key (slot ∷ left) new part w)
+      walked_past k s.o t key slot left (load ∷ part) (walked_more k s.o t key (slot ∷ left) new part w)
           (deleted_passed k s.o t key slot c.args.place earlier opened (omega (arith, c.if-opened-eq0.true))),
     )
 

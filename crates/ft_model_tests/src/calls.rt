@@ -1,3 +1,5 @@
+//! Calls that are made one after the other on plain containers, and what each replies as Python prints it.
+
 mod printing;
 mod reading;
 mod tables;

@@ -1,8 +1,8 @@
-// Prints replies and contents as Python prints them.
+//! Prints replies and contents as Python prints them.
 use ft_model::{Content, DictPair, Element, Key, Raise, Reply, Value};
 use std::alloc::{AllocError, Global};
 
-pub fn print_reply(alloc: Global, reply: &Reply) -> Result<String, AllocError> {
+pub(super) fn print_reply(alloc: Global, reply: &Reply) -> Result<String, AllocError> {
     match reply {
         Reply::Done => String::from_str(alloc, "ok"),
         Reply::Value(value) => print_value(alloc, *value),
@@ -30,7 +30,7 @@ fn name_of(raise: Raise) -> &'static str {
     }
 }
 
-pub fn print_content(alloc: Global, content: &Content) -> Result<String, AllocError> {
+pub(super) fn print_content(alloc: Global, content: &Content) -> Result<String, AllocError> {
     match content {
         Content::Dict(dict) => {
             let pairs: Vec<(Key, Value)> = dict

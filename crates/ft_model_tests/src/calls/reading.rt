@@ -1,8 +1,8 @@
-// Reads the calls of the tables. The containers are the dicts d and e, the lists l and m and the sets
-// s and t, the cursors a, b and c, and the strings 'a' to 'z'.
+//! Reads the calls of the tables. The containers are the dicts d and e, the lists l and m and the sets
+//! s and t, the cursors a, b and c, and the strings 'a' to 'z'.
 use ft_model::{Call, DictCall, Key, ListCall, SetCall, Sym, Value};
 
-pub fn read_call(text: &str) -> Option<Call> {
+pub(super) fn read_call(text: &str) -> Option<Call> {
     let mut words = text.split(' ');
     let word = words.next()?;
     let name = words.next()?;

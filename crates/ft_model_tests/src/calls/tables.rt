@@ -1,5 +1,5 @@
-// Replies and contents as CPython 3 gives them. What the manual leaves open is by hand: the order of
-// a set and its cursors, and which calls change a container and take locks.
+//! Replies and contents as CPython 3 gives them. What the manual leaves open is by hand: the order of
+//! a set and its cursors, and which calls change a container and take locks.
 use super::Case;
 
 pub const DICTS: [Case; 37] = [

@@ -8,7 +8,7 @@ pub mod Openings
 pub mod Putting
 pub mod Whole
 pub mod Freeing
-mod Seen
+pub mod Seen
 pub mod Retiring
 pub mod Reusing
 pub mod Floors

@@ -91,6 +91,7 @@ commit_ready v c r few may es id knows small =
         may.empties,
         may.declared now has,
         may.words,
+        may.locks,
       ),
     )
 

@@ -1,12 +1,16 @@
 -- What a load of the counter shows of what a pass has learnt, and what a note leaves of it.
-use Rattle.std.proofs.Common.{◌≡◌, ℕ, ◌+◌, ◌-◌, ◌<◌, ◌≤◌, List, [], ◌∷◌, ◌++◌, refl, ap, arith, inl, le_trans, le_refl}
+use Rattle.std.proofs.Common.{◌≡◌, ℕ, ◌+◌, ◌-◌, ◌<◌, ◌≤◌, List, [], ◌∷◌, ◌++◌, refl, sym, ap, ◌∙◌, arith, inl, le_trans, le_refl, append_assoc}
 use Rattle.std.specs.Prelude.{max}
 use Rattle.std.proofs.Math.Bridge.{le_prop}
-use Rattle.std.proofs.Math.Nat.{le-max_left, le-max_right, max-zero}
+use Rattle.std.proofs.Math.Nat.{le-max_left, le-max_right, max-zero, max-le}
 use Rattle.std.proofs.Math.Logic.{∥∥₁_elim}
 use Rattle.ft_trace.specs.declared.View.{View}
 use Rattle.ft_trace.specs.declared.Act.{Act}
-use Rattle.ft_trace.specs.declared.Act.TheVariants.{ReadCounter}
+use Rattle.ft_trace.specs.declared.Act.TheVariants.{ReadCounter, Commit, Answer}
+use Rattle.ft_trace.specs.declared.Snap.{Snap}
+use Rattle.ft_trace.specs.Reading.{Among}
+use Rattle.ft_model.specs.declared.call.Call.{Call}
+use Rattle.ft_model.specs.declared.reply.Reply.{Reply}
 use Rattle.ft_trace.specs.Acts.{noted, both, sender, note, shown, seen_writes, floor_known}
 use Rattle.ft_trace.specs.Traces.{Possible, IsFree}
 use Rattle.ft_trace.proofs.Cases.{miss}
@@ -19,6 +23,10 @@ use Rattle.ft_bank.proofs.Allowed.{same_settled}
 -- a load of the counter gives what the pass has seen, at least
 pub load_sees : (v : View) (n : ℕ) → Acted v (ReadCounter n) → seen_writes v ≤ n
 load_sees v n d = (seen_is_low v.shape d.0 d.2.0).1 d.1 n v d.2
+
+-- and so does a commit
+pub commit_sees : (v : View) (c : Call) (r : Reply) (n : ℕ) (s : Snap) → Acted v (Commit c r n s) → seen_writes v ≤ n
+commit_sees v c r n s d = (seen_is_low v.shape d.0 d.2.0).2 d.1 n v c r s d.2
 
 -- so the log shows what it has learnt
 pub load_settles : (v : View) (n : ℕ) (w : View) → w ≡ noted (ReadCounter n) v → Acted v (ReadCounter n) → w.learnt ≤ shown w.log
@@ -62,6 +70,18 @@ seen_rises (a ∷ newer) rest = le_trans (seen_rises newer rest) (shown_up a (ne
 -- each load of the counter gave at least what the log showed before it
 pub stamp_seen : (v : View) → ∥ Possible v ∥₁ → (newer rest : List Act) (n : ℕ) → v.log ≡ newer ++ ReadCounter n ∷ rest → shown rest ≤ n
 stamp_seen v possible newer rest n is = ∥∥₁_elim possible le_prop (λ p. loads_see_all v.shape p.0 p.2.0 p.1 v p.2.1 newer rest n is)
+
+-- so does a load among the last actions, of what the pass had seen before them
+pub among_seen : (v w : View) (part : List Act) (n : ℕ) → w.log ≡ part ++ v.log → Among (ReadCounter n) part → v.learnt ≤ shown v.log → ∥ Possible w ∥₁ → seen_writes v ≤ n
+among_seen v w part n own among settled possible =
+    let is : w.log ≡ among.newer ++ ReadCounter n ∷ (among.rest ++ v.log) = own ∙ (ap (λ (l : List Act). l ++ v.log) among.is ∙ append_assoc among.newer (ReadCounter n ∷ among.rest) v.log) in
+    max-le (le_trans settled (le_trans (seen_rises among.rest v.log) (stamp_seen w possible among.newer (among.rest ++ v.log) n is))) (le_trans (seen_rises among.rest v.log) (stamp_seen w possible among.newer (among.rest ++ v.log) n is))
+
+-- an entry with such a stamp
+pub answered_seen : (v w z : View) (called : Call) (said : Reply) (part : List Act) (n : ℕ) → w.log ≡ part ++ v.log → Among (ReadCounter n) part → z ≡ noted (Answer called said n) w → v.learnt ≤ shown v.log → ∥ Possible z ∥₁ → seen_writes v ≤ n
+answered_seen v w z called said part n own among is settled possible =
+    among_seen v z (Answer called said n ∷ part) n (ap (λ (u : View). u.log) is ∙ ap (λ (l : List Act). Answer called said n ∷ l) own)
+    (record { newer = Answer called said n ∷ among.newer; rest = among.rest; is = ap (λ (l : List Act). Answer called said n ∷ l) among.is }) settled possible
 
 -- a note has no lock and no table
 pub slip_free : (n : ℕ) → IsFree (slip n)

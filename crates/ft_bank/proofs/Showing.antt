@@ -1,5 +1,5 @@
 -- What a pass's log shows is the reply of the plain containers, in every trace in which the pass knows this.
-use Rattle.std.proofs.Common.{◌≡◌, ◌⊎◌, ⊎_elim, inl, inr, ℕ, pos, ◌<◌, Bool, true, false, true≢false, List, [], ◌∷◌, ◌++◌, Option, Some, None, refl, sym, ap, ◌∙◌, subst}
+use Rattle.std.proofs.Common.{◌≡◌, ◌≢◌, ◌⊎◌, ⊎_elim, inl, inr, ℕ, pos, ◌<◌, Bool, true, false, true≢false, List, [], ◌∷◌, ◌++◌, Option, Some, None, refl, sym, ap, ◌∙◌, subst}
 use Rattle.std.specs.Prelude.{◌&&◌, is_some}
 use Rattle.std.specs.Option.{unwrap_or}
 use mathlib.Core.Option.{some}
@@ -51,27 +51,36 @@ use Rattle.ft_bank.proofs.Readying.{has_now}
 never_over : (stored : StoredWorld) (call : Call) → can_add call ≡ false → would_pass stored.world call ≡ false
 never_over stored call none = ap (λ (b : Bool). b && list_any passes_cap (named_in (after_write stored.world call) call)) none
 
-no_memory : (stored : StoredWorld) (log : List Act) (call : Call) (said : Reply) (n : ℕ) → is_memory said ≡ false → would_pass stored.world call ≡ false → HasCause stored log call said n
-no_memory stored log call (reply.Raised (raise.Memory class)) n plain short = absurd (true≢false plain)
-no_memory stored log call (reply.Raised raise.Over) n plain short = absurd (true≢false plain)
-no_memory stored log call (reply.Raised raise.Heap) n plain short = absurd (true≢false plain)
-no_memory stored log call said n plain short = short
+no_memory : (stored : StoredWorld) (log : List Act) (call : Call) (said : Reply) (n : ℕ) → is_memory said ≡ false → said ≢ reply.Kept → would_pass stored.world call ≡ false → HasCause stored log call said n
+no_memory stored log call (reply.Raised (raise.Memory class)) n plain other short = absurd (true≢false plain)
+no_memory stored log call (reply.Raised raise.Over) n plain other short = absurd (true≢false plain)
+no_memory stored log call (reply.Raised raise.Heap) n plain other short = absurd (true≢false plain)
+no_memory stored log call reply.Kept n plain other short = absurd (other refl)
+no_memory stored log call said n plain other short = short
 
 -- ---- plain replies
 
-plain_shown : (v : View) (o n : ℕ) → MayAsk v o n → (call : Call) (said : Reply) → is_write call said ≡ false → can_add call ≡ false → is_memory said ≡ false
+plain_shown : (v : View) (o n : ℕ) → MayAsk v o n → (call : Call) (said : Reply) → is_write call said ≡ false → can_add call ≡ false → is_memory said ≡ false → said ≢ reply.Kept
     → Sure v (λ es. IsReplied call said (reply_in (stored_newest v.shape.kinds (first_writes n (history es))) call)) → IsShown v call said n
-plain_shown v o n ask call said reads adds plain replied = record {
+plain_shown v o n ask call said reads adds plain other replied = record {
   read = reads;
   left = ask.left;
   loaded = ask.loaded;
   replied = replied;
-  cause = λ es id knows. no_memory (stored_newest v.shape.kinds (first_writes n (history es))) v.log call said n plain (never_over (stored_newest v.shape.kinds (first_writes n (history es))) call adds);
+  cause = λ es id knows. no_memory (stored_newest v.shape.kinds (first_writes n (history es))) v.log call said n plain other (never_over (stored_newest v.shape.kinds (first_writes n (history es))) call adds);
 }
 
 plain_key : (found : Option Value) → is_memory (key_reply found) ≡ false
 plain_key (Some value) = refl
 plain_key None = refl
+
+key_other : (found : Option Value) → key_reply found ≢ reply.Kept
+key_other (Some value) = λ e. absurd (cc)
+key_other None = λ e. absurd (cc)
+
+item_other : (found : Option Value) → item_reply found ≢ reply.Kept
+item_other (Some value) = λ e. absurd (cc)
+item_other None = λ e. absurd (cc)
 
 plain_item : (found : Option Value) → is_memory (item_reply found) ≡ false
 plain_item (Some value) = refl
@@ -87,16 +96,16 @@ item_writes o place None = refl
 
 key_shown : (v : View) (o n : ℕ) → MayAsk v o n → (key : Key) (found : Option Value) → Sure v (λ es. DictReplies (stored_at v.shape es n) o key found) → KeyIsShown v o key found n
 key_shown v o n ask key found replies = record {
-  get = plain_shown v o n ask (call.Dict o (dict.Get key)) (key_reply found) (key_writes o key found) refl (plain_key found) (λ es id knows. inr (sym (replies es id knows).get));
-  get_or = λ default. plain_shown v o n ask (call.Dict o (dict.GetOr key default)) (reply.Value (unwrap_or found default)) refl refl refl (λ es id knows. inr (sym ((replies es id knows).get_or default)));
-  has = plain_shown v o n ask (call.Dict o (dict.Has key)) (reply.Truth (is_some found)) refl refl refl (λ es id knows. inr (sym (replies es id knows).has));
+  get = plain_shown v o n ask (call.Dict o (dict.Get key)) (key_reply found) (key_writes o key found) refl (plain_key found) (key_other found) (λ es id knows. inr (sym (replies es id knows).get));
+  get_or = λ default. plain_shown v o n ask (call.Dict o (dict.GetOr key default)) (reply.Value (unwrap_or found default)) refl refl refl (λ e. absurd (cc)) (λ es id knows. inr (sym ((replies es id knows).get_or default)));
+  has = plain_shown v o n ask (call.Dict o (dict.Has key)) (reply.Truth (is_some found)) refl refl refl (λ e. absurd (cc)) (λ es id knows. inr (sym (replies es id knows).has));
 }
 
 set_shown : (v : View) (o n : ℕ) → MayAsk v o n → (key : Key) (is : Bool) → Sure v (λ es. reply_in (stored_at v.shape es n) (call.Set o (set.Has key)) ≡ reply.Truth is) → IsShown v (call.Set o (set.Has key)) (reply.Truth is) n
-set_shown v o n ask key is replies = plain_shown v o n ask (call.Set o (set.Has key)) (reply.Truth is) refl refl refl (λ es id knows. inr (sym (replies es id knows)))
+set_shown v o n ask key is replies = plain_shown v o n ask (call.Set o (set.Has key)) (reply.Truth is) refl refl refl (λ e. absurd (cc)) (λ es id knows. inr (sym (replies es id knows)))
 
 item_shown : (v : View) (o n : ℕ) → MayAsk v o n → (place : ℕ) (found : Option Value) → Sure v (λ es. reply_in (stored_at v.shape es n) (call.List o (list.Get (pos place))) ≡ item_reply found) → IsShown v (call.List o (list.Get (pos place))) (item_reply found) n
-item_shown v o n ask place found replies = plain_shown v o n ask (call.List o (list.Get (pos place))) (item_reply found) (item_writes o place found) refl (plain_item found) (λ es id knows. inr (sym (replies es id knows)))
+item_shown v o n ask place found replies = plain_shown v o n ask (call.List o (list.Get (pos place))) (item_reply found) (item_writes o place found) refl (plain_item found) (item_other found) (λ es id knows. inr (sym (replies es id knows)))
 
 -- the words are those of one value
 one_value : (kind payload : ℕ) (a b : Value) → IsStored kind payload (Plain a) → IsStored kind payload (Plain b) → a ≡ b
@@ -109,7 +118,7 @@ not_empty kind payload a f g = let same = stored_is_one kind payload (Plain a) E
 
 pub dict_hits_are_shown : DictHitsAreShown
 dict_hits_are_shown v o t place key n ask is fits small h = (
-  plain_shown v o n ask (call.Dict o (dict.Has key)) (reply.Truth true) refl refl refl
+  plain_shown v o n ask (call.Dict o (dict.Has key)) (reply.Truth true) refl refl refl (λ e. absurd (cc))
       (λ es id knows. inr (sym (dict_hits_are_replied v.shape es knows.0 o t place key n ask.low is fits small id v knows.1 h).0)),
   λ kind payload read value stored.
       key_shown v o n ask key (Some value)
@@ -165,13 +174,13 @@ past_items_are_shown v o index n ask is how = item_shown v o n ask index None (�
 -- ---- whole containers
 
 pub looks_are_shown : LooksAreShown
-looks_are_shown v call o said n ask reads adds plain asks looked =
-    plain_shown v o n ask call said reads adds plain
+looks_are_shown v call o said n ask reads adds plain other asks looked =
+    plain_shown v o n ask call said reads adds plain other
     (λ es id knows. subst (IsReplied call said) (sym (looked_at v.shape es knows.0 call o ask.low id v knows.1 said n looked).1) asks)
 
 pub looks_at_both_are_shown : LooksAtBothAreShown
-looks_at_both_are_shown v call o p said n ask low reads adds plain asks looked =
-    plain_shown v o n ask call said reads adds plain
+looks_at_both_are_shown v call o p said n ask low reads adds plain other asks looked =
+    plain_shown v o n ask call said reads adds plain other
     (λ es id knows. subst (IsReplied call said) (sym (looked_at_both v.shape es knows.0 call o p ask.low low id v knows.1 said n looked).1) asks)
 
 -- ---- under locks

@@ -1,6 +1,7 @@
 -- What loads, puts and whole writes leave of what a pass knows, for whoever makes them.
-use Rattle.std.proofs.Common.{◌≡◌, ◌≢◌, ℕ, ◌<◌, Bool, true, false, cond, List, ◌∷◌, refl, sym, ap, ◌∙◌, subst, arith}
-use Rattle.std.specs.Prelude.{◌==◌}
+use Rattle.std.proofs.Common.{◌≡◌, ◌≢◌, ℕ, ◌+◌, ◌<◌, ◌≤◌, le_refl, le_trans, Bool, true, false, cond, List, ◌∷◌, refl, sym, ap, ◌∙◌, subst, arith}
+use Rattle.std.specs.Prelude.{◌==◌, max}
+use Rattle.std.proofs.Math.Nat.{le-max_right}
 use mathlib.Core.Logic.{dite}
 use native.Mathlib.Decide.{ℕ_discrete}
 use Rattle.ft_model.specs.declared.call.Call.{Call}
@@ -11,12 +12,13 @@ use Rattle.ft_trace.specs.declared.Snap.{Snap}
 use Rattle.ft_trace.specs.declared.Shape.{Shape}
 use Rattle.ft_trace.specs.declared.View.{View}
 use Rattle.ft_trace.specs.Addresses.{containers_in}
-use Rattle.ft_trace.specs.Acts.{is_writing, stage, debt, mem, noted}
+use Rattle.ft_trace.specs.Acts.{is_writing, stage, debt, mem, noted, shown, seen_writes}
 use Rattle.ft_trace.specs.Worlds.{kept, changes}
 use Rattle.ft_trace.specs.Words.{picture, root_in, Stands}
 use Rattle.ft_trace.specs.Holds.{held, known}
 use Rattle.ft_bank.specs.Writes.{Committed, KeepsUnwritten}
 use Rattle.ft_trace.proofs.Cases.{hit, miss}
+use Rattle.ft_trace.proofs.Seeing.{seen_up}
 use Rattle.ft_trace.proofs.Untouched.{untouched_in}
 use Rattle.ft_bank.specs.Whole.{SamePass, SameWork, OnlyLoaded, OnlyPut, EndsWrite, Wrote, hand_after, debt_after, write_entry}
 
@@ -35,14 +37,14 @@ IsCalm (PutFresh t i x) = Unit {0}
 IsCalm act = ⊥
 
 pub calm : (a : Act) (v : View) → IsCalm a → SameWork v (noted a v)
-calm (Version o f) v ok = record { pass = record { number = refl; next = refl; parts = refl; shape = refl; locks = λ p. refl; writes = λ p. refl; announced = refl; flight = refl; begun = refl; tokens = refl; learnt = refl }; left = refl; entries = refl; committed = λ p. refl; emptied = λ p. refl; hands = λ t. refl; used = refl; debt = refl; owes = refl; past = refl }
-calm (ReadBlock o i f) v ok = record { pass = record { number = refl; next = refl; parts = refl; shape = refl; locks = λ p. refl; writes = λ p. refl; announced = refl; flight = refl; begun = refl; tokens = refl; learnt = refl }; left = refl; entries = refl; committed = λ p. refl; emptied = λ p. refl; hands = λ t. refl; used = refl; debt = refl; owes = refl; past = refl }
-calm (ReadTable t i f) v ok = record { pass = record { number = refl; next = refl; parts = refl; shape = refl; locks = λ p. refl; writes = λ p. refl; announced = refl; flight = refl; begun = refl; tokens = refl; learnt = refl }; left = refl; entries = refl; committed = λ p. refl; emptied = λ p. refl; hands = λ t. refl; used = refl; debt = refl; owes = refl; past = refl }
-calm (ReadCounter f) v ok = record { pass = record { number = refl; next = refl; parts = refl; shape = refl; locks = λ p. refl; writes = λ p. refl; announced = refl; flight = refl; begun = refl; tokens = refl; learnt = refl }; left = refl; entries = refl; committed = λ p. refl; emptied = λ p. refl; hands = λ t. refl; used = refl; debt = refl; owes = refl; past = refl }
-calm (ReadRoot o f) v ok = record { pass = record { number = refl; next = refl; parts = refl; shape = refl; locks = λ p. refl; writes = λ p. refl; announced = refl; flight = refl; begun = refl; tokens = refl; learnt = refl }; left = refl; entries = refl; committed = λ p. refl; emptied = λ p. refl; hands = λ t. refl; used = refl; debt = refl; owes = refl; past = refl }
-calm (PutBlock o i x) v ok = record { pass = record { number = refl; next = refl; parts = refl; shape = refl; locks = λ p. refl; writes = λ p. refl; announced = refl; flight = refl; begun = refl; tokens = refl; learnt = refl }; left = refl; entries = refl; committed = λ p. refl; emptied = λ p. refl; hands = λ t. refl; used = refl; debt = refl; owes = refl; past = refl }
-calm (PutTable o t i x) v ok = record { pass = record { number = refl; next = refl; parts = refl; shape = refl; locks = λ p. refl; writes = λ p. refl; announced = refl; flight = refl; begun = refl; tokens = refl; learnt = refl }; left = refl; entries = refl; committed = λ p. refl; emptied = λ p. refl; hands = λ t. refl; used = refl; debt = refl; owes = refl; past = refl }
-calm (PutFresh t i x) v ok = record { pass = record { number = refl; next = refl; parts = refl; shape = refl; locks = λ p. refl; writes = λ p. refl; announced = refl; flight = refl; begun = refl; tokens = refl; learnt = refl }; left = refl; entries = refl; committed = λ p. refl; emptied = λ p. refl; hands = λ t. refl; used = refl; debt = refl; owes = refl; past = refl }
+calm (Version o f) v ok = record { pass = record { number = refl; next = refl; parts = refl; shape = refl; locks = λ p. refl; writes = λ p. refl; announced = refl; flight = refl; begun = refl; tokens = refl; learnt = refl; seen = le_refl (seen_writes v) }; left = refl; entries = refl; committed = λ p. refl; emptied = λ p. refl; hands = λ t. refl; used = refl; debt = refl; owes = refl; past = refl }
+calm (ReadBlock o i f) v ok = record { pass = record { number = refl; next = refl; parts = refl; shape = refl; locks = λ p. refl; writes = λ p. refl; announced = refl; flight = refl; begun = refl; tokens = refl; learnt = refl; seen = le_refl (seen_writes v) }; left = refl; entries = refl; committed = λ p. refl; emptied = λ p. refl; hands = λ t. refl; used = refl; debt = refl; owes = refl; past = refl }
+calm (ReadTable t i f) v ok = record { pass = record { number = refl; next = refl; parts = refl; shape = refl; locks = λ p. refl; writes = λ p. refl; announced = refl; flight = refl; begun = refl; tokens = refl; learnt = refl; seen = le_refl (seen_writes v) }; left = refl; entries = refl; committed = λ p. refl; emptied = λ p. refl; hands = λ t. refl; used = refl; debt = refl; owes = refl; past = refl }
+calm (ReadCounter f) v ok = record { pass = record { number = refl; next = refl; parts = refl; shape = refl; locks = λ p. refl; writes = λ p. refl; announced = refl; flight = refl; begun = refl; tokens = refl; learnt = refl; seen = seen_up (ReadCounter f) v }; left = refl; entries = refl; committed = λ p. refl; emptied = λ p. refl; hands = λ t. refl; used = refl; debt = refl; owes = refl; past = refl }
+calm (ReadRoot o f) v ok = record { pass = record { number = refl; next = refl; parts = refl; shape = refl; locks = λ p. refl; writes = λ p. refl; announced = refl; flight = refl; begun = refl; tokens = refl; learnt = refl; seen = le_refl (seen_writes v) }; left = refl; entries = refl; committed = λ p. refl; emptied = λ p. refl; hands = λ t. refl; used = refl; debt = refl; owes = refl; past = refl }
+calm (PutBlock o i x) v ok = record { pass = record { number = refl; next = refl; parts = refl; shape = refl; locks = λ p. refl; writes = λ p. refl; announced = refl; flight = refl; begun = refl; tokens = refl; learnt = refl; seen = le_refl (seen_writes v) }; left = refl; entries = refl; committed = λ p. refl; emptied = λ p. refl; hands = λ t. refl; used = refl; debt = refl; owes = refl; past = refl }
+calm (PutTable o t i x) v ok = record { pass = record { number = refl; next = refl; parts = refl; shape = refl; locks = λ p. refl; writes = λ p. refl; announced = refl; flight = refl; begun = refl; tokens = refl; learnt = refl; seen = le_refl (seen_writes v) }; left = refl; entries = refl; committed = λ p. refl; emptied = λ p. refl; hands = λ t. refl; used = refl; debt = refl; owes = refl; past = refl }
+calm (PutFresh t i x) v ok = record { pass = record { number = refl; next = refl; parts = refl; shape = refl; locks = λ p. refl; writes = λ p. refl; announced = refl; flight = refl; begun = refl; tokens = refl; learnt = refl; seen = le_refl (seen_writes v) }; left = refl; entries = refl; committed = λ p. refl; emptied = λ p. refl; hands = λ t. refl; used = refl; debt = refl; owes = refl; past = refl }
 calm a v ok = absurd ok
 
 -- a load
@@ -66,7 +68,7 @@ pub loaded_by : (a : Act) (v w : View) → IsLoad a → w ≡ noted a v → Only
 loaded_by a v w ok is = subst (OnlyLoaded v) (sym is) (load_only a v ok)
 
 pub same_pass : (v : View) → SamePass v v
-same_pass v = record { number = refl; next = refl; parts = refl; shape = refl; locks = λ p. refl; writes = λ p. refl; announced = refl; flight = refl; begun = refl; tokens = refl; learnt = refl }
+same_pass v = record { number = refl; next = refl; parts = refl; shape = refl; locks = λ p. refl; writes = λ p. refl; announced = refl; flight = refl; begun = refl; tokens = refl; learnt = refl; seen = le_refl (seen_writes v) }
 
 pub same_work : (v : View) → SameWork v v
 same_work v = record { pass = same_pass v; left = refl; entries = refl; committed = λ p. refl; emptied = λ p. refl; hands = λ t. refl; used = refl; debt = refl; owes = refl; past = refl }
@@ -85,6 +87,7 @@ module _ (u v w : View) where
     begun = b.begun ∙ a.begun;
     tokens = b.tokens ∙ a.tokens;
     learnt = b.learnt ∙ a.learnt;
+    seen = le_trans a.seen b.seen;
   }
 
   pub work_then : SameWork u v → SameWork v w → SameWork u w
@@ -152,8 +155,8 @@ module _ (called : Call) (said : Reply) (number g : ℕ) (snap : Snap) (u c z w 
   others_stop : (p : ℕ) → p ≢ o → is_writing p done.log ≡ is_writing p z.log
   others_stop p ne = miss o p false (is_writing p z.log) (λ e. ne (sym e))
 
-  ends_at : OnlyPut o made z → Committed u made called → 0 < u.left → root_in (held o z) ≡ root_in (held o u) → Stands u.shape.texts (held o z) (known o z) → EndsWrite called said number u done
-  ends_at puts committed some root stands =
+  ends_at : seen_writes u ≤ number → OnlyPut o made z → Committed u made called → 0 < u.left → root_in (held o z) ≡ root_in (held o u) → Stands u.shape.texts (held o z) (known o z) → EndsWrite called said number u done
+  ends_at low puts committed some root stands =
       let w1 = puts.work in
       let p1 = w1.pass in
       record {
@@ -169,6 +172,8 @@ module _ (called : Call) (said : Reply) (number g : ℕ) (snap : Snap) (u c z w 
         begun = p1.begun;
         tokens = p1.tokens;
         learnt = p1.learnt;
+        seen = low;
+        shows = let shown_at = le_trans (le-max_right (shown u.log) (number + 1)) (le-max_right u.learnt (max (shown u.log) (number + 1))) in let up = le_trans shown_at p1.seen in omega (arith, up);
         left = let l = w1.left in omega (arith, l, some);
         entries = w1.entries;
         hands = w1.hands;
@@ -186,10 +191,10 @@ module _ (called : Call) (said : Reply) (number g : ℕ) (snap : Snap) (u c z w 
         stands = stands;
       }
 
-  pub write_ends : c ≡ made → Committed u c called → 0 < u.left → OnlyPut o c z → root_in (held o z) ≡ root_in (held o u) → Stands u.shape.texts (held o z) (known o z) → w ≡ done → EndsWrite called said number u w
-  write_ends is committed some puts root stands end =
+  pub write_ends : seen_writes u ≤ number → c ≡ made → Committed u c called → 0 < u.left → OnlyPut o c z → root_in (held o z) ≡ root_in (held o u) → Stands u.shape.texts (held o z) (known o z) → w ≡ done → EndsWrite called said number u w
+  write_ends low is committed some puts root stands end =
       subst (EndsWrite called said number u) (sym end)
-      (ends_at (subst (λ (y : View). OnlyPut o y z) is puts) (subst (λ (y : View). Committed u y called) is committed) some root stands)
+      (ends_at low (subst (λ (y : View). OnlyPut o y z) is puts) (subst (λ (y : View). Committed u y called) is committed) some root stands)
 
 -- from the start on
 module _ (called : Call) (said : Reply) (number f : ℕ) (v s u w : View) where
@@ -230,7 +235,10 @@ module _ (called : Call) (said : Reply) (number f : ℕ) (v s u w : View) where
           begun = ends.begun ∙ p1.begun;
           tokens = ends.tokens ∙ p1.tokens;
           learnt = ends.learnt ∙ p1.learnt;
+          seen = let low = le_trans p1.seen ends.seen in let more = ends.shows in omega (arith, low, more);
         };
+        seen = le_trans p1.seen ends.seen;
+        shows = ends.shows;
         left = sym w1.left ∙ ends.left;
         entries = ends.entries ∙ ap (λ es. write_entry called said number ∷ es) w1.entries;
         hands = λ t. ends.hands t ∙ (w1.hands t ∙ sym (ap (λ (r : ℕ). hand_after o' (root_in (held o' v)) r t (stage t v.log)) whole ∙ hit (root_in (held o' v)) (stage t v.log) _));

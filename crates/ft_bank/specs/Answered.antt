@@ -1,16 +1,16 @@
 -- What a call without locks leaves that gave a reply.
-use Rattle.std.specs.Prelude.{◌≡◌, ℕ, List, ◌++◌}
+use Rattle.std.specs.Prelude.{◌≡◌, ℕ, ◌≤◌, List, ◌++◌}
 use Rattle.ft_model.specs.declared.call.Call.{Call}
 use Rattle.ft_model.specs.declared.reply.Reply.{Reply}
 use Rattle.ft_trace.specs.declared.Act.{Act}
 use Rattle.ft_trace.specs.declared.Act.TheVariants.{Answer, ReadCounter}
 use Rattle.ft_trace.specs.declared.View.{View}
-use Rattle.ft_trace.specs.Acts.{noted}
+use Rattle.ft_trace.specs.Acts.{noted, seen_writes}
 use Rattle.ft_trace.specs.Reading.{Among}
 use Rattle.ft_bank.specs.Whole.{OnlyLoaded}
 
 -- The pass loaded words of the bank, and then gave this reply to the call, with a number that one of these loads of the
--- counter gave; it has done nothing else. (profile)
+-- counter gave; it has done nothing else. The number is at least all writes that the pass had seen. (profile)
 pub record Answered (called : Call) (said : Reply) (number : ℕ) (v w : View) : Type 0 where
   pub before : View
   pub loaded : OnlyLoaded v before
@@ -18,3 +18,4 @@ pub record Answered (called : Call) (said : Reply) (number : ℕ) (v w : View) :
   pub own : before.log ≡ part ++ v.log
   pub counted : Among (ReadCounter number) part
   pub answered : w ≡ noted (Answer called said number) before
+  pub seen : seen_writes v ≤ number

@@ -1,6 +1,6 @@
 -- What a pass's log has to show for the entry of a call that isn't a write: laws whose conclusion is the condition of
 -- `Bank::answer`.
-use Rattle.std.specs.Prelude.{◌≡◌, ◌⊎◌, ℕ, pos, ◌<◌, ◌≤◌, true, false, List, [], ◌∷◌, ◌++◌, Option, Some, None, is_some}
+use Rattle.std.specs.Prelude.{◌≡◌, ◌≢◌, ◌⊎◌, ℕ, pos, ◌<◌, ◌≤◌, true, false, List, [], ◌∷◌, ◌++◌, Option, Some, None, is_some}
 use Rattle.std.specs.Option.{unwrap_or}
 use Rattle.ft_model.specs.declared.call.Call.{Call}
 use Rattle.ft_model.specs.declared.call.Call.TheVariants as call
@@ -113,15 +113,16 @@ PastItemsAreShown =
 abbrev pub LooksAreShown : Type 0
 LooksAreShown =
     (v : View) (call : Call) (o : ℕ) (said : Reply) (n : ℕ) → MayAsk v o n → is_write call said ≡ false
-    → can_add call ≡ false → is_memory said ≡ false → IsReplied call said said → Looked v.shape call o said n v.log
+    → can_add call ≡ false → is_memory said ≡ false → said ≢ reply.Kept → IsReplied call said said
+    → Looked v.shape call o said n v.log
     → IsShown v call said n
 
 -- and one that was read of two containers
 abbrev pub LooksAtBothAreShown : Type 0
 LooksAtBothAreShown =
     (v : View) (call : Call) (o p : ℕ) (said : Reply) (n : ℕ) → MayAsk v o n → p < containers_in v.shape
-    → is_write call said ≡ false → can_add call ≡ false → is_memory said ≡ false → IsReplied call said said
-    → LookedAtBoth v.shape call o p said n v.log → IsShown v call said n
+    → is_write call said ≡ false → can_add call ≡ false → is_memory said ≡ false → said ≢ reply.Kept
+    → IsReplied call said said → LookedAtBoth v.shape call o p said n v.log → IsShown v call said n
 
 -- ---- under locks
 

@@ -1,5 +1,5 @@
 -- What loads, puts and whole writes leave of what a pass knows, for all kinds of containers.
-use Rattle.std.specs.Prelude.{◌≡◌, ◌≢◌, ℕ, suc, ◌<◌, ◌==◌, true, false, cond, ◌∷◌}
+use Rattle.std.specs.Prelude.{◌≡◌, ◌≢◌, ℕ, suc, ◌<◌, ◌≤◌, ◌==◌, true, false, cond, ◌∷◌}
 use Rattle.ft_model.specs.declared.call.Call.{Call}
 use Rattle.ft_model.specs.declared.reply.Reply.{Reply}
 use Rattle.ft_model.specs.Tables.{StoredWorld, after_stored}
@@ -7,7 +7,7 @@ use Rattle.ft_trace.specs.declared.Act.TheVariants.{PutRoot}
 use Rattle.ft_trace.specs.declared.Entry.{Entry}
 use Rattle.ft_trace.specs.declared.View.{View}
 use Rattle.ft_trace.specs.Addresses.{containers_in}
-use Rattle.ft_trace.specs.Acts.{has_lock, is_writing, has_committed, has_emptied, stage, stage_next, announces, used, debt, debt_next, flight, owes, mem, past}
+use Rattle.ft_trace.specs.Acts.{has_lock, is_writing, has_committed, has_emptied, stage, stage_next, announces, used, debt, debt_next, flight, owes, mem, past, seen_writes}
 use Rattle.ft_trace.specs.Sections.{begun}
 use Rattle.ft_trace.specs.Worlds.{kept_at, changes}
 use Rattle.ft_trace.specs.Words.{root_in, Stands}
@@ -15,7 +15,7 @@ use Rattle.ft_trace.specs.Holds.{held, known}
 use Rattle.ft_bank.specs.Writes.{MayHave}
 
 -- It is the same pass: it has the same locks, has made the same versions odd, announces the same, is in the midst of the
--- same taking or giving, and has begun the same sections. (profile)
+-- same taking or giving, has begun the same sections, and has seen no fewer writes. (profile)
 pub record SamePass (v w : View) : Type 0 where
   pub number : w.number ≡ v.number
   pub next : w.next ≡ v.next
@@ -28,6 +28,7 @@ pub record SamePass (v w : View) : Type 0 where
   pub begun : begun w.log ≡ begun v.log
   pub tokens : w.tokens ≡ v.tokens
   pub learnt : w.learnt ≡ v.learnt
+  pub seen : seen_writes v ≤ seen_writes w
 
 -- The same pass has made no entry and no call, and has the same tables in hand; and each write that it has begun is as
 -- far as it was. (profile)
@@ -69,7 +70,8 @@ abbrev pub debt_after : ℕ → ℕ → ℕ → ℕ → ℕ
 debt_after o old root n = cond (old == root) n (debt_next (PutRoot o root old) n)
 
 -- The pass, which has made the version of a container odd and put its words, has made the call as its write there, and the
--- version even again: the second half of a whole write. (profile)
+-- version even again: the second half of a whole write. The write's number is at least all writes that the pass had seen,
+-- and the pass has then seen the write. (profile)
 pub record EndsWrite (called : Call) (said : Reply) (number : ℕ) (v w : View) : Type 0 where
   pub same_number : w.number ≡ v.number
   pub next : w.next ≡ v.next
@@ -83,6 +85,8 @@ pub record EndsWrite (called : Call) (said : Reply) (number : ℕ) (v w : View) 
   pub begun : begun w.log ≡ begun v.log
   pub tokens : w.tokens ≡ v.tokens
   pub learnt : w.learnt ≡ v.learnt
+  pub seen : seen_writes v ≤ number
+  pub shows : number < seen_writes w
   pub left : v.left ≡ suc w.left
   pub entries : w.entries ≡ write_entry called said number ∷ v.entries
   pub hands : (t : ℕ) → stage t w.log ≡ stage t v.log
@@ -98,12 +102,14 @@ pub record EndsWrite (called : Call) (said : Reply) (number : ℕ) (v w : View) 
   pub content : known (changes called) w ≡ kept_at (after_stored found called) (changes called)
   pub stands : Stands v.shape.texts (held (changes called) w) (known (changes called) w)
 
--- The pass made this call as one whole write, with this reply, and the write has this number. It has one entry more, and
--- a call less left. It knows the same of each other container whose lock it has and that it doesn't write. Of the
+-- The pass made this call as one whole write, with this reply, and the write has this number: at least all writes that
+-- the pass had seen, and it has then seen the write. It has one entry more, and a call less left. It knows the same of each other container whose lock it has and that it doesn't write. Of the
 -- container that the call changes it knows what the call makes of what the bank had, and the words that it knows stand
 -- for that, with the class and the fill of its table. (profile)
 pub record Wrote (called : Call) (said : Reply) (number : ℕ) (v w : View) : Type 0 where
   pub pass : SamePass v w
+  pub seen : seen_writes v ≤ number
+  pub shows : number < seen_writes w
   pub left : v.left ≡ suc w.left
   pub entries : w.entries ≡ write_entry called said number ∷ v.entries
   pub hands : (t : ℕ) → stage t w.log

@@ -15,6 +15,7 @@ use Rattle.ft_trace.specs.Words.{Picture, root_in}
 use Rattle.ft_trace.specs.Kinds.{rows, version_at, SoundAs, CarefulAs, ClearAs}
 use Rattle.ft_trace.specs.Openings.{Shut, Timely}
 use Rattle.ft_trace.specs.FitCalls.{FitsCall, FitsContent}
+use Rattle.ft_trace.specs.Sections.{HasLocksOf}
 use Rattle.ft_trace.specs.Holds.{held, known, in_hand, AgreesWith}
 use Rattle.ft_bank.specs.declared.table.Table.{Table}
 use Rattle.ft_bank.specs.Tables.{name_of, root_for, words_for}
@@ -33,7 +34,7 @@ pub record MayHave (v : View) (stored : StoredWorld) : Type 0 where
 -- reply is that of the plain containers, which have what the call names, and none passes its greatest length. In the
 -- table that stays each entry or item with an even version says the same after the call, and each that is added is
 -- there. Where the pass has lowered a count and not raised it again, the call takes a table of that class; where it has
--- put 0 into the root, the call is one that may.
+-- put 0 into the root, the call is one that may. The pass has the lock of each container that the call names.
 pub record MayCommit (v : View) (call : Call) (reply : Reply) : Type 0 where
   pub write : is_write call reply ≡ true
   pub container : changes call < containers_in v.shape
@@ -49,6 +50,7 @@ pub record MayCommit (v : View) (call : Call) (reply : Reply) : Type 0 where
   pub takes : (stored : StoredWorld) (class : ℕ) → MayHave v stored → owes v.log ≡ suc class
       → takes_in stored call ≡ Some class
   pub empties : has_emptied (changes call) v.log ≡ true → may_empty call ≡ true
+  pub locks : HasLocksOf call v.log
 
 -- What a commit leaves of the stored world that it finds, which is one that the bank may have: that is what the pass
 -- knows of every container then.

@@ -2,7 +2,7 @@
 ghost use Rattle.std.specs.Prelude.{◌≡◌, ◌≤◌, ℕ, suc, ◌<◌, ◌+◌, true, false, slice_index};
 ghost use Rattle.ft_trace.specs.declared.Act.TheVariants.{Version, ReadBlock, ReadRoot, ReadTable, ReadCounter, Answer};
 ghost use Rattle.ft_trace.specs.Addresses.{containers_in, class_of, size, IsTable};
-ghost use Rattle.ft_trace.specs.Acts.{has_lock, announces, stage};
+ghost use Rattle.ft_trace.specs.Acts.{has_lock, announces, seen_writes, stage};
 ghost use Rattle.ft_trace.specs.Finding.{IsNew};
 ghost use Rattle.ft_trace.specs.Holds.{held, in_hand};
 ghost use Rattle.ft_trace.specs.Words.{root_in};
@@ -76,10 +76,11 @@ impl Bank {
         self.load_as::<Brand>(pass, start + word, 0, t.name(), word)
     }
 
-    /// Loads the counter: how many writes there were.
+    /// Loads the counter: how many writes there were, at least all that the pass had seen.
     pub fn stamp(&self, pass: &mut Pass) -> u64
         requires pass { IsPassOf self.now pass.old }
-        ensures { Did (ReadCounter result) pass.old pass.new }
+        ensures did { Did (ReadCounter result) pass.old pass.new }
+        ensures seen { seen_writes (view pass.old) ≤ result }
     {
         self.load_as::<Brand>(pass, COUNTER, 0, 0, 0)
     }

@@ -1,10 +1,10 @@
 //! The steps of a write: by a pass with the lock, from an odd version over its puts and the counter, which
 //! is the write, to an even version.
-ghost use Rattle.std.specs.Prelude.{◌≡◌, ◌≢◌, ◌⊎◌, ℕ, suc, ◌<◌, ◌+◌, true, false, Some, slice_set};
+ghost use Rattle.std.specs.Prelude.{◌≡◌, ◌≢◌, ◌⊎◌, ℕ, suc, ◌<◌, ◌≤◌, ◌+◌, true, false, Some, slice_set};
 ghost use Rattle.ft_trace.specs.declared.Act.TheVariants.{StartWrite, PutBlock, PutRoot, PutTable, PutFresh, Commit, StopWrite};
 ghost use Rattle.ft_trace.specs.declared.Snap.{Snap};
 ghost use Rattle.ft_trace.specs.Addresses.{containers_in, class_of, size};
-ghost use Rattle.ft_trace.specs.Acts.{has_lock, is_writing, has_committed, stage};
+ghost use Rattle.ft_trace.specs.Acts.{has_lock, is_writing, has_committed, seen_writes, stage};
 ghost use Rattle.ft_trace.specs.Words.{root_in, Stands};
 ghost use Rattle.ft_trace.specs.Holds.{held, known, in_hand};
 ghost use Rattle.ft_bank.specs.Writes.{Committed, MayCommit, MayPutRoot, IsCareful, IsShut, KeepsUnwritten, with_block, with_root, with_table};
@@ -96,12 +96,14 @@ impl Bank {
         self.store_as::<Brand>(pass, start + word, value, 0, t.name(), word);
     }
 
-    /// Raises the counter, which is the write, and answers its number.
+    /// Raises the counter, which is the write, and answers its number: at least all writes that the pass had
+    /// seen.
     pub fn commit(&self, pass: &mut Pass, call: &Call, reply: &Reply) -> u64
         requires pass { IsPassOf self.now pass.old }
         requires may { MayCommit (view pass.old) call.now reply.now }
         ensures did { (s : Snap) × Did (Commit call.now reply.now result s) pass.old pass.new }
         ensures committed { Committed (view pass.old) (view pass.new) call.now }
+        ensures seen { seen_writes (view pass.old) ≤ result }
     {
         self.commit_as::<Brand>(pass, call, reply)
     }

@@ -30,6 +30,7 @@ use Rattle.ft_trace.specs.Addresses.{containers_in, slots}
 use Rattle.ft_trace.specs.Acts.{has_lock}
 use Rattle.ft_trace.specs.FitCalls.{FitsListCall}
 use Rattle.ft_trace.specs.Worlds.{Kept}
+use Rattle.ft_trace.proofs.Naming.{named_locked}
 use Rattle.ft_trace.specs.Holds.{known}
 use Rattle.ft_bank.specs.Writes.{MayHave}
 use Rattle.ft_list.specs.Calls.{Changes}
@@ -43,6 +44,7 @@ changes_stay o lc said values news v low mine is_list changing raises cursor oth
   raises = raises;
   cursor = cursor;
   fits = fits;
+  locks = named_locked o (other_list lc) v.log mine (subst (λ (z : Option ℕ). IfSome z (λ q. has_lock q v.log ≡ true)) (sym other) tt);
   answered = λ stored has. answered stored.world;
   other = λ stored has. subst (λ (z : Option ℕ). IfSome z (λ p. IsOfKind stored.world kind.List p)) (sym other) tt;
   caps = λ stored has. ap (λ (z : TableChange). adds z && list_any passes_cap (named_in (after_write stored.world (call.List o lc)) (call.List o lc))) stays;
@@ -124,6 +126,7 @@ module _ (o : ℕ) (lc : ListCall) (values news : List Value) (v : View) (low : 
     raises = refl;
     cursor = cursor;
     fits = fits;
+    locks = named_locked o (other_list lc) v.log mine (subst (λ (z : Option ℕ). IfSome z (λ q. has_lock q v.log ≡ true)) (sym other) tt);
     answered = λ stored has. answered stored.world;
     other = λ stored has. subst (λ (z : Option ℕ). IfSome z (λ p. IsOfKind stored.world kind.List p)) (sym other) tt;
     caps = caps_is;

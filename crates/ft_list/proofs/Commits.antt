@@ -113,6 +113,7 @@ module _ (k : Shape) (o : ℕ) (table : Table) (first past : ℕ) (lc : ListCall
       odd = subst (λ (n : ℕ). is_writing n v.log ≡ true) (sym changed) list.odd;
       left = left;
       words = call_is.fits;
+      locks = call_is.locks;
       reply_is = λ stored has. inr (sym (ap (λ (z : Answer). z.reply) (answer_is o lc said values news v low' list.locked is_list stored has (call_is.answered stored has))));
       declared = declared;
       fits = call_is.caps;

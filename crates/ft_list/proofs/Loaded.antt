@@ -1,5 +1,5 @@
 -- What a pass did after loads, seen from before them.
-use Rattle.std.proofs.Common.{◌≡◌, ℕ, ◌<◌, List, ◌∷◌, ◌++◌, sym, ap, ◌∙◌, subst, inl, inr, ⊎_elim, append_assoc}
+use Rattle.std.proofs.Common.{◌≡◌, ℕ, ◌<◌, List, ◌∷◌, ◌++◌, sym, ap, ◌∙◌, le_trans, subst, inl, inr, ⊎_elim, append_assoc}
 use Rattle.ft_model.specs.declared.call.Call.{Call}
 use Rattle.ft_model.specs.declared.reply.Reply.{Reply}
 use Rattle.ft_trace.specs.declared.Act.{Act}
@@ -27,6 +27,8 @@ module _ (called : Call) (said : Reply) (n : ℕ) (v u w : View) (l : OnlyLoaded
       let s = l.work.pass.shape in
       record {
         pass = pass_then v u w l.work.pass x.pass;
+        seen = le_trans l.work.pass.seen x.seen;
+        shows = x.shows;
         left = sym l.work.left ∙ x.left;
         entries = x.entries ∙ ap (λ (es : List Entry). write_entry called said n ∷ es) l.work.entries;
         hands = λ t. x.hands t ∙ (λ d. hand_after o (root_in (h d)) (root_in (held o w)) t (l.work.hands t d));
@@ -60,6 +62,7 @@ module _ (called : Call) (said : Reply) (n : ℕ) (v u w : View) (l : OnlyLoaded
       is = ap (λ (z : List Act). z ++ part) x.counted.is ∙ append_assoc x.counted.newer (ReadCounter n ∷ x.counted.rest) part;
     };
     answered = x.answered;
+    seen = le_trans l.work.pass.seen x.seen;
   }
 
 pub loaded_made : (called : Call) (said : Reply) (stamp : Stamp) (v u w : View) (part : List Act) → OnlyLoaded v u → u.log ≡ part ++ v.log → Made called said stamp u w → Made called said stamp v w

@@ -21,13 +21,15 @@ use Rattle.ft_model.specs.Worlds.{no_hands}
 use Rattle.ft_trace.specs.declared.Act.{Act}
 use Rattle.ft_trace.specs.declared.Act.TheVariants.{ReadCounter, Answer}
 use Rattle.ft_trace.specs.declared.View.{View}
-use Rattle.ft_trace.specs.Acts.{has_lock, noted}
+use Rattle.ft_trace.specs.Acts.{has_lock, noted, shown}
+use Rattle.ft_trace.specs.Traces.{Possible}
 use Rattle.ft_trace.specs.Addresses.{containers_in}
 use Rattle.ft_trace.specs.Causes.{HasCause}
 use Rattle.ft_trace.specs.Holds.{known}
 use Rattle.ft_bank.specs.Answered.{Answered}
 use Rattle.ft_bank.specs.Reads.{IsShown}
 use Rattle.ft_bank.proofs.Showing.{replies_under_locks_are_shown}
+use Rattle.ft_bank.proofs.Seen.{answered_seen}
 use Rattle.ft_bank.proofs.Whole.{loaded_by}
 use Rattle.ft_list.specs.Calls.{Raises}
 use Rattle.ft_list.proofs.Commits.{list_is}
@@ -57,14 +59,15 @@ raise_shown v w o lc said values n r is left low mine is_list =
       caused stored (ReadCounter n ∷ v.log) o lc said n values r,
     )))
 
-pub raise_answered : (v w z : View) (called : Call) (said : Reply) (n : ℕ) → w ≡ noted (ReadCounter n) v → z ≡ noted (Answer called said n) w → Answered called said n v z
-raise_answered v w z called said n is done = record {
+pub raise_answered : (v w z : View) (called : Call) (said : Reply) (n : ℕ) → w ≡ noted (ReadCounter n) v → z ≡ noted (Answer called said n) w → v.learnt ≤ shown v.log → ∥ Possible z ∥₁ → Answered called said n v z
+raise_answered v w z called said n is done settled possible = record {
   before = w;
   loaded = loaded_by (ReadCounter n) v w tt is;
   part = ReadCounter n ∷ [];
   own = ap (λ (u : View). u.log) is;
   counted = record { newer = []; rest = []; is = refl };
   answered = done;
+  seen = answered_seen v w z called said (ReadCounter n ∷ []) n (ap (λ (u : View). u.log) is) (record { newer = []; rest = []; is = refl }) done settled possible;
 }
 
 -- l[i] = v, del l[i], l.pop(i) and l.remove(v), where there is no such item

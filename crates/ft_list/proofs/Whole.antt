@@ -51,6 +51,7 @@ module _ (k : Shape) (o : ℕ) (table : Table) (v s u : View) (f : ℕ) (may : M
     raises = call_is.raises;
     cursor = call_is.cursor;
     fits = call_is.fits;
+    locks = λ p e. puts.work.pass.locks p ∙ (ap (λ (z : View). has_lock p z.log) begun ∙ call_is.locks p e);
     answered = λ stored has. call_is.answered stored (has_before stored has);
     other = λ stored has. call_is.other stored (has_before stored has);
     caps = λ stored has. call_is.caps stored (has_before stored has);

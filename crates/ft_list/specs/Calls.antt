@@ -20,6 +20,7 @@ use Rattle.ft_trace.specs.declared.View.{View}
 use Rattle.ft_trace.specs.Addresses.{containers_in}
 use Rattle.ft_trace.specs.Acts.{has_lock, is_writing, owes}
 use Rattle.ft_trace.specs.FitCalls.{FitsListCall}
+use Rattle.ft_trace.specs.Sections.{HasLocksOf}
 use Rattle.ft_trace.specs.Worlds.{kind_in}
 use Rattle.ft_trace.specs.Words.{root_in, Stands}
 use Rattle.ft_trace.specs.Holds.{held, known}
@@ -50,13 +51,14 @@ pub record HasTable (k : Shape) (o : ℕ) (table : Table) (v : View) : Type 0 wh
   pub root : root_in (held o v) ≡ suc (name_of table)
 
 -- A call is a write of the list o that leaves its table: the plain containers reply so to it, where the list has these
--- values, and it has `news` then, whatever else the bank has that agrees with what the pass knows; no container passes its
--- greatest length. (Python manual, Mutable Sequence Types)
+-- values, and it has `news` then, whatever else the bank has that agrees with what the pass knows; the pass has the locks of
+-- the containers that it names, and no container passes its greatest length. (Python manual, Mutable Sequence Types)
 pub record Changes (o : ℕ) (lc : ListCall) (said : Reply) (values news : List Value) (v : View) : Type 0 where
   pub changing : is_changing_list lc ≡ true
   pub raises : is_raised said ≡ false
   pub cursor : cursor_of_list lc ≡ None
   pub fits : FitsListCall lc
+  pub locks : HasLocksOf (call.List o lc) v.log
   pub answered : (stored : StoredWorld) → MayHave v stored
       → answer_list stored.world no_hands o values lc ≡ puts stored.world no_hands o (content.List news) said
   pub other : (stored : StoredWorld) → MayHave v stored

@@ -14,7 +14,7 @@ use Rattle.ft_trace.specs.declared.Act.{Act}
 use Rattle.ft_trace.specs.declared.Act.TheVariants.{ReadBlock, ReadRoot, ReadTable, ReadCounter, Version, Answer}
 use Rattle.ft_trace.specs.declared.Shape.{Shape}
 use Rattle.ft_trace.specs.declared.View.{View}
-use Rattle.ft_trace.specs.Acts.{noted}
+use Rattle.ft_trace.specs.Acts.{noted, shown}
 use Rattle.ft_trace.specs.Addresses.{containers_in, class_of}
 use Rattle.ft_trace.specs.Causes.{AreOfOneCall, HasCause}
 use Rattle.ft_model.specs.Answers.{is_write}
@@ -29,6 +29,7 @@ use Rattle.ft_bank.specs.Reads.{IsShown}
 use Rattle.ft_bank.specs.Shown.{MayAsk, KeyIsShown}
 use Rattle.ft_bank.specs.Whole.{OnlyLoaded}
 use Rattle.ft_bank.specs.Writes.{MayHave}
+use Rattle.ft_bank.proofs.Seen.{answered_seen}
 use Rattle.ft_bank.proofs.Whole.{loaded_by, loaded_then}
 use Rattle.ft_bank.proofs.Showing.{dict_hits_are_shown, values_are_read, set_hits_are_shown, misses_are_shown, replies_under_locks_are_shown}
 use Rattle.ft_search.specs.Looks.{AreLooks, ShowsHere, ShowsAbsent, Stops, IsContended}
@@ -97,8 +98,8 @@ module _ (v w : View) (k : Shape) (o : ℕ) (key : Key) (n : ℕ) (part : List A
         set_hits_are_shown w o shows.t shows.place key n ask here fits (subst (λ z. shows.place < rows z (class_of shows.t)) is shows.low) shows.hit
 
 -- an entry that follows such loads
-pub answered_after : (v w z : View) (called : Call) (said : Reply) (n : ℕ) (part : List Act) → OnlyLoaded v w → w.log ≡ part ++ v.log → Among (ReadCounter n) part → z ≡ noted (Answer called said n) w → Answered called said n v z
-answered_after v w z called said n part loaded own counted is = record { before = w; loaded = loaded; part = part; own = own; counted = counted; answered = is }
+pub answered_after : (v w z : View) (called : Call) (said : Reply) (n : ℕ) (part : List Act) → OnlyLoaded v w → w.log ≡ part ++ v.log → Among (ReadCounter n) part → z ≡ noted (Answer called said n) w → v.learnt ≤ shown v.log → ∥ Possible z ∥₁ → Answered called said n v z
+answered_after v w z called said n part loaded own counted is settled possible = record { before = w; loaded = loaded; part = part; own = own; counted = counted; answered = is; seen = answered_seen v w z called said part n own counted is settled possible }
 
 pub contended_after : (v w : View) (o : ℕ) (key : Key) (a b : ℕ) (part : List Act) → OnlyLoaded v w → AreLooks part → w.log ≡ part ++ v.log → Stops o key a b part → IsContended o key a b v w
 contended_after v w o key a b part loaded looks own stops = record { loaded = loaded; part = part; looks = looks; own = own; stops = stops }
@@ -113,12 +114,13 @@ held_shown v u n loaded left called said reads right cause =
     (λ stored may. (right stored may, cause stored))
 
 -- the entry that follows
-pub answered_locked : (v u z : View) (called : Call) (said : Reply) (n : ℕ) (part : List Act) → OnlyLoaded v u → u.log ≡ part ++ v.log → z ≡ noted (Answer called said n) (noted (ReadCounter n) u) → Answered called said n v z
-answered_locked v u z called said n part loaded own is = record {
+pub answered_locked : (v u z : View) (called : Call) (said : Reply) (n : ℕ) (part : List Act) → OnlyLoaded v u → u.log ≡ part ++ v.log → z ≡ noted (Answer called said n) (noted (ReadCounter n) u) → v.learnt ≤ shown v.log → ∥ Possible z ∥₁ → Answered called said n v z
+answered_locked v u z called said n part loaded own is settled possible = record {
   before = noted (ReadCounter n) u;
   loaded = loaded_then v u (noted (ReadCounter n) u) loaded (loaded_by (ReadCounter n) u (noted (ReadCounter n) u) tt refl);
   part = ReadCounter n ∷ part;
   own = ap (λ (l : List Act). ReadCounter n ∷ l) own;
   counted = record { newer = []; rest = part; is = refl };
   answered = is;
+  seen = answered_seen v (noted (ReadCounter n) u) z called said (ReadCounter n ∷ part) n (ap (λ (l : List Act). ReadCounter n ∷ l) own) (record { newer = []; rest = part; is = refl }) is settled possible;
 }

@@ -1,5 +1,5 @@
 -- What holds in a call stays where locks are let go that nothing notes any more.
-use Rattle.std.proofs.Common.{◌≡◌, ◌≢◌, ◌<◌, ◌≤◌, ◌+◌, ◌⊎◌, ℕ, Bool, true, false, List, ◌∷◌, ◌++◌, inl, inr, ⊎_elim, refl, sym, ap, ◌∙◌, subst, arith, append_assoc}
+use Rattle.std.proofs.Common.{◌≡◌, ◌≢◌, ◌<◌, ◌≤◌, ◌+◌, ◌⊎◌, ℕ, Bool, true, false, List, ◌∷◌, ◌++◌, inl, inr, ⊎_elim, refl, sym, ap, ◌∙◌, subst, arith, append_assoc, le_trans}
 use Rattle.std.specs.Prelude.{All, Option, Some, None}
 use Rattle.ft_bank.specs.declared.bank.Bank.{Bank}
 use Rattle.ft_bank.specs.declared.pass.Pass.{Pass}
@@ -16,7 +16,10 @@ use Rattle.ft_trace.specs.declared.Act.TheVariants.{Lock}
 use Rattle.ft_trace.specs.declared.Shape.{Shape}
 use Rattle.ft_trace.specs.declared.View.{View}
 use Rattle.ft_trace.specs.Addresses.{containers_in}
-use Rattle.ft_trace.specs.Acts.{has_lock, is_writing}
+use Rattle.ft_trace.specs.Acts.{has_lock, is_writing, shown, seen_writes}
+use Rattle.ft_bank.proofs.Seen.{seen_rises}
+use Rattle.std.specs.Prelude.{max}
+use Rattle.std.proofs.Math.Nat.{le-max_left, le-max_right, max-le}
 use Rattle.ft_trace.specs.Sections.{begun}
 
 one_least : (b : Bool) → one_if b ≤ 1
@@ -116,3 +119,9 @@ found_then u v w o q f l =
 
 pub may_inside : (b : Bank) (p : Pass) (objects : Objects) → MayTry b p objects → IsInCall b p
 may_inside b p objects may = ⊎_elim (λ (r : IsReady b p). r.inside) (λ (w : IsWaiting b p objects). w.inside) may
+
+-- a pass has seen no fewer writes than before
+pub only_sees : (v w : View) → OnlyLocked v w → seen_writes v ≤ seen_writes w
+only_sees v w only =
+    max-le (subst (λ (n : ℕ). v.learnt ≤ max n (shown w.log)) (sym only.learnt) (le-max_left v.learnt (shown w.log)))
+    (subst (λ (l : List Act). shown v.log ≤ max w.learnt (shown l)) (sym only.grew) (le_trans (seen_rises only.newer v.log) (le-max_right w.learnt (shown (only.newer ++ v.log)))))

@@ -19,7 +19,7 @@ use Rattle.ft_trace.specs.declared.Act.TheVariants.{ReadCounter, Answer}
 use Rattle.ft_trace.specs.declared.View.{View}
 use Rattle.ft_trace.specs.Acts.{noted}
 use Rattle.ft_trace.specs.Causes.{HasCause}
-use Rattle.std.specs.Prelude.{List}
+use Rattle.std.specs.Prelude.{List, ◌∷◌}
 
 -- the call that begins a section on these containers
 abbrev pub begin_of : Objects → Call
@@ -39,11 +39,11 @@ ended_by marks s = if marks == 0 then ended.Kept s else ended.Suspended marks s
 abbrev pub answered_view : Call → Reply → ℕ → View → View
 answered_view called said n v = noted (Answer called said n) (noted (ReadCounter n) v)
 
--- the call isn't a write, and may be replied so whatever the containers have
-pub record IsSaid (called : Call) (said : Reply) : Type 0 where
+-- the call isn't a write, and a pass with this log may reply so whatever the containers have, at a load of the counter
+pub record IsSaid (called : Call) (said : Reply) (log : List Act) : Type 0 where
   pub read : is_write called said ≡ false
   pub replied : (plain : Reply) → IsReplied called said plain
-  pub cause : (stored : StoredWorld) (log : List Act) (n : ℕ) → HasCause stored log called said n
+  pub cause : (stored : StoredWorld) (n : ℕ) → HasCause stored (ReadCounter n ∷ log) called said n
 
 -- the locks of a call on these containers: the lower one first, and where there is one alone its lock noted once
 pub record AreNoted (objects : Objects) (own : Taking) : Type 0 where

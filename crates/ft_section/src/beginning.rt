@@ -1,5 +1,5 @@
 //! How many sections a pass has open, and the begin of another one (C API, critical sections).
-ghost use Rattle.std.specs.Prelude.{◌≡◌, ◌≤◌, ◌<◌, ◌++◌, ◌∷◌, [], ℕ, length, false};
+ghost use Rattle.std.specs.Prelude.{◌≡◌, ◌≤◌, ◌<◌, ◌++◌, ◌∷◌, [], ℕ, List, length, false};
 ghost use Rattle.ft_bank.specs.declared.sections.Taking.{Taking};
 ghost use Rattle.ft_bank.specs.Openings.{IsOpening};
 ghost use Rattle.ft_bank.specs.Passes.{shape_of, view};
@@ -10,7 +10,9 @@ ghost use Rattle.ft_section.specs.Locking.{OnlyLocked, KeepsLocks, FoundOwner, w
 ghost use Rattle.ft_section.specs.Ready.{IsReady, IsMaking, IsWaiting, MayTry, MayResume};
 ghost use Rattle.ft_section.specs.Sectioning.{IsSaid, AreNoted, begin_of, answered_view};
 ghost use Rattle.ft_section.specs.Takings.{IsOf, AreIn, HasLocks};
+ghost use Rattle.ft_trace.specs.declared.Act.{Act};
 ghost use Rattle.ft_trace.specs.declared.View.{View};
+ghost use Rattle.ft_trace.specs.Acts.{seen_writes};
 
 use crate::answers::{Began, Got, Objects, Stamp};
 use crate::calls::take_for;
@@ -35,7 +37,7 @@ pub fn new_passes_are_ready(bank: &Bank, pass: &Pass)
 /// The call that begins a section on these containers.
 fn begin_call(objects: Objects) -> Call
     ensures call { result ≡ begin_of objects }
-    ensures said { IsSaid result reply.Entered }
+    ensures said { (log : List Act) → IsSaid result reply.Entered log }
 {
     match objects {
         Objects::One(first) => Call::Begin {
@@ -59,6 +61,7 @@ fn enter(bank: &Bank, pass: &mut Pass, objects: Objects) -> Stamp
     requires depth { length (stack_of pass.old).sections < 16 }
     requires left { 0 < (view pass.old).left }
     ensures entry { view pass.new ≡ answered_view (begin_of objects) reply.Entered result.number (view pass.old) }
+    ensures seen { seen_writes (view pass.old) ≤ result.number }
     ensures read { result.wrote ≡ false }
     ensures section { stack_of pass.new ≡ record (stack_of pass.old) {
       sections = (stack_of pass.old).sections ++ record { locks = (stack_of pass.old).own; marks = 0 } ∷ [];
@@ -91,6 +94,7 @@ pub fn try_begin(bank: &Bank, pass: &mut Pass, objects: Objects) -> Began
     requires left { 0 < (view pass.old).left }
     ensures entry { IfEntered result (λ s. (v : View) × OnlyLocked (view pass.old) v × KeepsLocks (view pass.old) v
         × HasLocks v objects × (view pass.new ≡ answered_view (begin_of objects) reply.Entered s.number v)) }
+    ensures seen { IfEntered result (λ s. seen_writes (view pass.old) ≤ s.number) }
     ensures read { IfEntered result (λ s. s.wrote ≡ false) }
     ensures section { IfEntered result (λ s. (own : Taking) × AreNoted objects own × (stack_of pass.new ≡ record (stack_of pass.old) {
       sections = (stack_of pass.old).sections ++ record { locks = own; marks = 0 } ∷ [];

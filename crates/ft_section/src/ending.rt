@@ -1,5 +1,5 @@
 //! The end of a section, and whether it was kept (C API, critical sections).
-ghost use Rattle.std.specs.Prelude.{◌≡◌, ◌<◌, ◌++◌, ◌∷◌, [], ℕ, List, true, false, length};
+ghost use Rattle.std.specs.Prelude.{◌≡◌, ◌≤◌, ◌<◌, ◌++◌, ◌∷◌, [], ℕ, List, true, false, length};
 ghost use Rattle.ft_bank.specs.declared.sections.OpenSection.{OpenSection};
 ghost use Rattle.ft_bank.specs.Passes.{view};
 ghost use Rattle.ft_bank.specs.Sections.{stack_of};
@@ -8,7 +8,9 @@ ghost use Rattle.ft_section.specs.Answers.{stamp_of, marks_in};
 ghost use Rattle.ft_section.specs.Locking.{OnlyLocked};
 ghost use Rattle.ft_section.specs.Ready.{IsReady, MayResume};
 ghost use Rattle.ft_section.specs.Sectioning.{IsSaid, ended_by, reply_of, answered_view};
-ghost use Rattle.ft_trace.specs.Sections.{Begun, begun};
+ghost use Rattle.ft_trace.specs.declared.Act.{Act};
+ghost use Rattle.ft_trace.specs.Acts.{seen_writes};
+ghost use Rattle.ft_trace.specs.Sections.{Begun, begun, IsInnermostHeld};
 
 use crate::answers::{Ended, Stamp};
 use crate::entries::make_entry;
@@ -18,7 +20,7 @@ use ft_model::{Call, Reply};
 
 /// What the entry of the `end` of a section says, of whose calls this many had to wait.
 fn end_reply(marks: u32) -> Reply
-    ensures said { IsSaid call.End result }
+    ensures said { (log : List Act) → (marks ≡ 0 → IsInnermostHeld (begun log)) → IsSaid call.End result log }
     ensures reply { (stamp : Stamp) → result ≡ reply_of (ended_by marks stamp) }
 {
     if marks == 0 {
@@ -49,6 +51,7 @@ pub fn end(bank: &Bank, pass: &mut Pass) -> Ended
     requires depth { 0 < length (stack_of pass.old).sections }
     requires left { 0 < (view pass.old).left }
     ensures entry { OnlyLocked (answered_view call.End (reply_of result) (stamp_of result).number (view pass.old)) (view pass.new) }
+    ensures seen { seen_writes (view pass.old) ≤ (stamp_of result).number }
     ensures read { (stamp_of result).wrote ≡ false }
     ensures section { (outer : List OpenSection) (top : OpenSection) → (stack_of pass.old).sections ≡ outer ++ top ∷ [] →
         (result ≡ ended_by top.marks (stamp_of result)) × (stack_of pass.new ≡ record (stack_of pass.old) { sections = outer }) }

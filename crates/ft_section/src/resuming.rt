@@ -37,8 +37,8 @@ pub fn resume(bank: &Bank, pass: &mut Pass) -> Resumed
     ensures ready { IfBack result (λ mark. IsReady bank.now pass.new) }
     ensures mark { IfBack result (λ mark. mark ≡ (stack_of pass.old).mark) }
     ensures stack { IfBack result (λ mark. TakenUp (stack_of pass.old) (stack_of pass.new)) }
-    ensures needed { IfStillWaits result (λ o q. (outer : List OpenSection) (top : OpenSection) →
-        (stack_of pass.old).sections ≡ outer ++ top ∷ [] → (o ≡ top.locks.lower) ⊎ (o ≡ top.locks.upper)) }
+    ensures needed { IfStillWaits result (λ o q. (outer : List OpenSection) × (top : OpenSection) ×
+        ((stack_of pass.old).sections ≡ outer ++ top ∷ []) × ((o ≡ top.locks.lower) ⊎ (o ≡ top.locks.upper))) }
     ensures found { IfStillWaits result (λ o q. FoundOwner o q (view pass.old) (view pass.new)) }
     ensures may { IfStillWaits result (λ o q. MayResume bank.now pass.new) }
     ensures waiting { IfStillWaits result (λ o q. stack_of pass.new ≡ waiting (with_own (stack_of pass.old) (stack_of pass.new).own) q) }

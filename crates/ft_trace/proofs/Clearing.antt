@@ -36,6 +36,7 @@ use Rattle.ft_trace.proofs.Untouched.{as_many, there_is}
 use Rattle.std.specs.Prelude.{option_map, Some}
 use Rattle.ft_model.specs.Worlds.{kind_of, no_hands, IsDeclared}
 use Rattle.ft_trace.proofs.Nexts.{next_possible}
+use Rattle.ft_trace.proofs.Naming.{one_locked}
 use Rattle.ft_trace.proofs.Contents.{empty_stands}
 
 -- one more action with a snapshot
@@ -203,6 +204,7 @@ module _ (v : View) (o : ℕ) (values : List Value) (live : IsAwake v) (possible
         (λ _. refl),
         declared n es id knows,
         tt,
+        one_locked o (c3 n).log mine,
       ))
 
   step5 : (n m : ℕ) (s : Snap) → Possible (c4 n m s) → (f : ℕ) × Possible (c5 n m s f)

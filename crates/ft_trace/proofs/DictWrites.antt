@@ -54,6 +54,7 @@ use Rattle.ft_trace.proofs.Known.{kind_known, class_known, declared_at, in_bank,
 use Rattle.ft_trace.proofs.Tellings.{live_tells, live_is_right, right_is_live, key_words, key_reached, key_named}
 use Rattle.ft_trace.proofs.EntryPuts.{value_open, value_kind, value_payload, value_clear, value_late, value_shut, value_time}
 use Rattle.ft_trace.proofs.ListWrites.{may_begin}
+use Rattle.ft_trace.proofs.Naming.{one_locked}
 use Rattle.ft_trace.proofs.Writing.{write_possible}
 
 -- ---- laws of tables and of their dicts, as they are cited
@@ -405,6 +406,7 @@ module _ (versions : EntryVersionsChangeNothing) (follow : WordsFollowAValue) (l
     of = refl;
     wrote = refl;
     fits = (fits_key, fits);
+    locks = one_locked o v.log may.mine;
     root = tt;
     early = subst (λ (z : Kind × Content). MayPuts z.0 t z.1 false (held o v) (value_puts n ws place value)) (λ d. (kind_eq d, sym is_dict d)) early;
     commit = commits;

@@ -53,6 +53,7 @@ cause_earned k es valid id v at called (reply.Raised (raise.Memory class)) n cau
     (cause.0, cause.1, cause.2, z.may, empty_earned k es valid id v at class n z.may f)
 cause_earned k es valid id v at called (reply.Raised raise.Over) n cause = cause
 cause_earned k es valid id v at called (reply.Raised raise.Heap) n cause = absurd cause
+cause_earned k es valid id v at called reply.Kept n cause = cause.0
 cause_earned k es valid id v at called said n cause = cause
 
 earned_next : (k : Shape) (es : List Event) → Valid k es → (id : ℕ) (v : View) → get_elem? (run k es).views id ≡ some v → (b : Act) → Reports b (word k es (place b)) → May k (run k es) (history es) v b → AllEarned k (writes_of b (history es)) v.entries → AllEarned k (writes_of b (history es)) (entries_next b v.entries)

@@ -49,6 +49,7 @@ use Rattle.ft_trace.proofs.Known.{kind_known, declared_at, after_header}
 use Rattle.ft_trace.proofs.EntryPuts.{entry_close}
 use Rattle.ft_trace.proofs.Tellings.{key_words, live_tells, one_tells}
 use Rattle.ft_trace.proofs.DictWrites.{EntryVersionsChangeNothing, FirstEntriesArePairs, room_is, dict_right, dict_reached, dict_named, dict_short, dict_there, dict_in, dict_in_tables, dict_table_is, dict_found, dict_answered, dict_left_at, dict_left, dict_passes_not}
+use Rattle.ft_trace.proofs.Naming.{one_locked}
 use Rattle.ft_trace.proofs.Writing.{write_possible}
 
 -- ---- what is under a key of a dict with one more pair
@@ -285,6 +286,7 @@ module _ (versions : EntryVersionsChangeNothing) (first : FirstEntriesArePairs) 
     of = refl;
     wrote = refl;
     fits = set_fit pairs key value has.missing (dict_fits_words k.texts (at_commit v o write).block (0 ∷ 0 ∷ in_hand t v) (class_of t) (length pairs.pairs + 1) (dict_set pairs key value) has.words);
+    locks = one_locked o v.log begin.mine;
     root = replaces;
     early = early (kind_in k.kinds o) (known o v).content;
     commit = commits;

@@ -45,6 +45,7 @@ use Rattle.ft_trace.proofs.KeyPuts.{Stage, stage_first, stage_next, new_open, ne
 use Rattle.ft_trace.proofs.ListWrites.{may_begin}
 use Rattle.ft_trace.proofs.DictWrites.{EntryVersionsChangeNothing, FirstEntriesArePairs, dict_right, dict_short, dict_clear, dict_kind, dict_class_is, dict_says, dict_shut, dict_there, dict_in, dict_in_tables, dict_table_is, dict_found, dict_answered, dict_left_at, dict_left, dict_passes_not, room_is}
 use Rattle.ft_trace.proofs.Tellings.{word_is}
+use Rattle.ft_trace.proofs.Naming.{one_locked}
 use Rattle.ft_trace.proofs.Writing.{write_possible}
 
 pub and_false : (b : Bool) → (b && false) ≡ false
@@ -305,6 +306,7 @@ module _ (versions : EntryVersionsChangeNothing) (first : FirstEntriesArePairs) 
     of = refl;
     wrote = refl;
     fits = set_fit pairs key value missing (dict_fits_words k.texts block (0 ∷ 0 ∷ put) c (p + 1) news now);
+    locks = one_locked o v.log may.mine;
     root = tt;
     early = subst (λ (z : Kind × Content). MayPuts z.0 t z.1 false (held o v) write.early) (λ d. (kind_eq d, sym is_dict d)) early;
     commit = commits;

@@ -41,6 +41,7 @@ use Rattle.ft_trace.proofs.EntryPuts.{dead_open, dead_kind, dead_same, dead_late
 use Rattle.ft_trace.proofs.SameKeys.{same_keys, none_left}
 use Rattle.ft_trace.proofs.ListWrites.{may_begin}
 use Rattle.ft_trace.proofs.DictWrites.{EntryVersionsChangeNothing, FirstEntriesArePairs, dict_clear, dict_kind, dict_class_is, dict_says, dict_shut, dict_there, dict_in, dict_table_is, dict_found}
+use Rattle.ft_trace.proofs.Naming.{one_locked}
 use Rattle.ft_trace.proofs.Writing.{write_possible}
 use Rattle.std.specs.Option.{option_map_or}
 use Rattle.ft_model.specs.Worlds.{no_hands}
@@ -200,6 +201,7 @@ module _ (versions : EntryVersionsChangeNothing) (first : FirstEntriesArePairs) 
     of = refl;
     wrote = refl;
     fits = fits;
+    locks = one_locked o v.log may.mine;
     root = tt;
     early = subst (λ (z : Kind × Content). MayPuts z.0 t z.1 false (held o v) write.early) (λ d. (kind_eq d, sym is_dict d)) early;
     commit = commits;

@@ -40,6 +40,7 @@ use Rattle.ft_trace.proofs.Held.{held_stands}
 use Rattle.ft_trace.proofs.Known.{class_known, declared_at, in_bank, table_is_long, tables_as_many}
 use Rattle.ft_trace.proofs.ItemPuts.{VersionsChangeNothing, PutsChangeOneItem, item_early, item_clear, item_late, item_shut, open_table, item_said, item_closed_stands}
 use Rattle.ft_trace.proofs.ListWrites.{may_begin, is_kind, list_says, list_shut, list_there, list_in, list_is, table_there}
+use Rattle.ft_trace.proofs.Naming.{one_locked}
 use Rattle.ft_trace.proofs.Writing.{write_possible}
 
 -- words that stand for a list with one more item
@@ -232,6 +233,7 @@ module _ (versions : VersionsChangeNothing) (one : PutsChangeOneItem) (follow : 
     of = refl;
     wrote = refl;
     fits = fits;
+    locks = one_locked o v.log may.mine;
     root = tt;
     early = early;
     commit = commits;

@@ -38,6 +38,7 @@ use Rattle.ft_trace.proofs.Untouched.{as_many}
 use Rattle.ft_trace.proofs.Known.{kind_known, after_header, declared_at, tables_as_many}
 use Rattle.ft_trace.proofs.ItemPuts.{VersionsChangeNothing, item_close, items_says}
 use Rattle.ft_trace.proofs.ListAppends.{get_else}
+use Rattle.ft_trace.proofs.Naming.{one_locked}
 use Rattle.ft_trace.proofs.Writing.{write_possible}
 use mathlib.Core.Logic.{dite}
 use native.Mathlib.Decide.{ℕ_discrete}
@@ -222,6 +223,7 @@ module _ (versions : VersionsChangeNothing) (v : View) (o t : ℕ) (value : Valu
     of = refl;
     wrote = refl;
     fits = has.fits;
+    locks = one_locked o v.log begin.mine;
     root = replaces;
     early = early (kind_in k.kinds o) (known o v).content;
     commit = commits;

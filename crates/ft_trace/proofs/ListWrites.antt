@@ -41,6 +41,7 @@ use Rattle.ft_trace.proofs.Clearing.{held_shut}
 use Rattle.ft_trace.proofs.Untouched.{as_many}
 use Rattle.ft_trace.proofs.Known.{kind_known, class_known, declared_at, in_bank, table_is_long}
 use Rattle.ft_trace.proofs.ItemPuts.{VersionsChangeNothing, PutsChangeOneItem, item_early, item_clear, item_late, item_shut, open_table, item_said, item_closed_stands}
+use Rattle.ft_trace.proofs.Naming.{one_locked}
 use Rattle.ft_trace.proofs.Writing.{write_possible}
 
 -- words that stand for a list with another item at a place
@@ -196,6 +197,7 @@ module _ (versions : VersionsChangeNothing) (one : PutsChangeOneItem) (follow : 
     of = refl;
     wrote = refl;
     fits = fits;
+    locks = one_locked o v.log may.mine;
     root = tt;
     early = subst (λ (z : Kind × Content). MayPuts z.0 t z.1 false (held o v) (item_puts ws place value)) (λ d. (kind_eq d, sym is_list d)) (item_early t class_is b ws values news place value names long in_table shut same here short);
     commit = commits;

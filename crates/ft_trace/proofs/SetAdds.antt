@@ -44,6 +44,7 @@ use Rattle.ft_trace.proofs.DictWrites.{EntryVersionsChangeNothing}
 use Rattle.ft_trace.proofs.KeysAdded.{and_false}
 use Rattle.ft_trace.proofs.SetKnown.{FirstEntriesAreElements, room_is, set_right, set_short, set_is_long, set_clear, set_kind, set_class_is, set_says, set_shut, set_there, set_in, set_in_tables, set_table_is, set_found}
 use Rattle.ft_trace.proofs.Tellings.{word_is}
+use Rattle.ft_trace.proofs.Naming.{one_locked}
 use Rattle.ft_trace.proofs.Writing.{write_possible}
 use Rattle.std.specs.Prelude.{◌||◌, ◌^◌, slice_index_or}
 use Rattle.ft_model.specs.declared.reply.Reply.TheVariants as reply
@@ -297,6 +298,7 @@ module _ (versions : EntryVersionsChangeNothing) (first : FirstEntriesAreElement
     of = refl;
     wrote = refl;
     fits = fits;
+    locks = one_locked o v.log may.mine;
     root = tt;
     early = subst (λ (z : Kind × Content). MayPuts z.0 t z.1 false (held o v) write.early) (λ d. (kind_eq d, sym is_set d)) early;
     commit = commits;

@@ -43,6 +43,7 @@ use Rattle.ft_trace.proofs.SameKeys.{same_keys, none_left}
 use Rattle.ft_trace.proofs.ListWrites.{may_begin}
 use Rattle.ft_trace.proofs.DictWrites.{EntryVersionsChangeNothing}
 use Rattle.ft_trace.proofs.SetKnown.{FirstEntriesAreElements, set_is_long, set_clear, set_kind, set_class_is, set_says, set_shut, set_there, set_in, set_table_is, set_found}
+use Rattle.ft_trace.proofs.Naming.{one_locked}
 use Rattle.ft_trace.proofs.Writing.{write_possible}
 use Rattle.std.specs.Option.{option_map_or}
 use Rattle.ft_model.specs.Worlds.{no_hands}
@@ -199,6 +200,7 @@ module _ (versions : EntryVersionsChangeNothing) (first : FirstEntriesAreElement
     of = refl;
     wrote = refl;
     fits = fits;
+    locks = one_locked o v.log may.mine;
     root = tt;
     early = subst (λ (z : Kind × Content). MayPuts z.0 t z.1 false (held o v) write.early) (λ d. (kind_eq d, sym is_set d)) early;
     commit = commits;

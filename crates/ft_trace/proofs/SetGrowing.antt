@@ -49,6 +49,7 @@ use Rattle.ft_trace.proofs.Tellings.{key_words, live_tells, one_tells}
 use Rattle.ft_trace.proofs.DictWrites.{EntryVersionsChangeNothing}
 use Rattle.ft_trace.proofs.Growing.{find_more, find_still}
 use Rattle.ft_trace.proofs.SetKnown.{FirstEntriesAreElements, room_is, set_right, set_reached, set_named, set_short, set_there, set_in, set_in_tables, set_table_is, set_found}
+use Rattle.ft_trace.proofs.Naming.{one_locked}
 use Rattle.ft_trace.proofs.Writing.{write_possible}
 use Rattle.std.proofs.lemmas.Bool.{le-ltb}
 use Rattle.ft_model.specs.declared.reply.Reply.TheVariants as reply
@@ -288,6 +289,7 @@ module _ (versions : EntryVersionsChangeNothing) (first : FirstEntriesAreElement
     of = refl;
     wrote = refl;
     fits = has.fits;
+    locks = one_locked o v.log begin.mine;
     root = replaces;
     early = early (kind_in k.kinds o) (known o v).content;
     commit = commits;

@@ -277,6 +277,7 @@ module _ (v : View) (o t : ℕ) (write : Write) (begin : MayBegin v o) (may : Ma
         subst (λ (z : ℕ). has_emptied z log ≡ true → may_empty write.call ≡ true) (sym may.of) r.6,
         c.declared,
         may.fits,
+        (λ p e. r.2 p ∙ may.locks p e),
       )
 
   -- the rest, from the commit on

@@ -8,6 +8,7 @@ use Rattle.ft_model.specs.Tables.{StoredWorld, CanLackMemory, takes_in, would_pa
 use Rattle.ft_trace.specs.declared.Act.{Act}
 use Rattle.ft_trace.specs.declared.Act.TheVariants.{Commit, Answer, ReadCounter, ReadCount}
 use Rattle.ft_trace.specs.Acts.{owes}
+use Rattle.ft_trace.specs.Sections.{begun, IsInnermostHeld}
 
 -- none of these makes an entry
 abbrev pub AreOfOneCall : List Act → Type 0
@@ -34,7 +35,8 @@ pub record FoundEmpty (class n : ℕ) (log : List Act) : Type 0 where
   pub none : owes rest ≡ 0
 
 -- A MemoryError of a class stands on a call that would take a table of it, where its count was found 0; one of a
--- content past the largest table exactly where the call would leave that; no value is in a heap yet.
+-- content past the largest table exactly where the call would leave that; no value is in a heap yet. An `end` says kept
+-- where the pass has had the locks of the section since its `begin`.
 abbrev pub HasCause : StoredWorld → List Act → Call → Reply → ℕ → Type 0
 HasCause stored log call (reply.Raised (raise.Memory class)) n =
     CanLackMemory stored.world call
@@ -44,6 +46,7 @@ HasCause stored log call (reply.Raised (raise.Memory class)) n =
 HasCause stored log call (reply.Raised raise.Over) n =
     CanLackMemory stored.world call × (would_pass stored.world call ≡ true)
 HasCause stored log call (reply.Raised raise.Heap) n = ⊥
+HasCause stored log call reply.Kept n = (would_pass stored.world call ≡ false) × IsInnermostHeld (begun log)
 HasCause stored log call said n = would_pass stored.world call ≡ false
 
 -- what the stamp of the next entry is at least: one more than the number of the last entry that is a write, or the

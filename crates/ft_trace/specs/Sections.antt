@@ -1,8 +1,9 @@
 -- The sections that a pass has begun and not ended, by what it did, and whether it has had their locks all the while.
-use Rattle.std.specs.Prelude.{ℕ, ◌==◌, ◌&&◌, Bool, true, false, cond, List, [], ◌∷◌, map, drop}
+use Rattle.std.specs.Prelude.{◌≡◌, ℕ, ◌==◌, ◌&&◌, Bool, true, false, cond, List, [], ◌∷◌, map, drop}
 use Rattle.ft_model.specs.declared.call.Call.{Call}
 use Rattle.ft_model.specs.declared.call.Call.TheVariants as call
 use Rattle.ft_model.specs.Calls.{containers_of}
+use Rattle.ft_model.specs.Histories.{names}
 use Rattle.ft_trace.specs.declared.Act.{Act}
 use Rattle.ft_trace.specs.declared.Act.TheVariants.{Unlock, ReadCounter, Answer}
 use Rattle.ft_trace.specs.Acts.{has_lock}
@@ -62,3 +63,11 @@ begun_next act l sections = sections
 abbrev pub begun : List Act → List Begun
 begun [] = []
 begun (a ∷ l) = begun_next a l (begun l)
+
+-- the pass has had the locks of the innermost section that it has begun and not ended, since its `begin`
+abbrev pub IsInnermostHeld : List Begun → Type 0
+IsInnermostHeld sections = (innermost : Begun) (outer : List Begun) → sections ≡ innermost ∷ outer → innermost.held ≡ true
+
+-- the pass has the lock of each container that the call names (PEP 703, Container Thread-Safety)
+abbrev pub HasLocksOf : Call → List Act → Type 0
+HasLocksOf called log = (o : ℕ) → names o called ≡ true → has_lock o log ≡ true

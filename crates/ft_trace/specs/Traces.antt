@@ -24,6 +24,7 @@ use Rattle.ft_trace.specs.Kinds.{rows, version_at, SoundAs, CarefulAs, ClearAs}
 use Rattle.ft_trace.specs.Openings.{Shut, Timely, Low}
 use Rattle.ft_trace.specs.FitCalls.{FitsCall}
 use Rattle.ft_trace.specs.Causes.{Loaded, HasCause}
+use Rattle.ft_trace.specs.Sections.{HasLocksOf}
 
 pub record Moment : Type 0 where
   pub words : List ℕ
@@ -146,7 +147,8 @@ May k m cs v (PutHeader t x) = IsTable k t × (stage t v.log ≡ 4) × (x ≡ go
 -- of the plain containers at the counter, the pass has a call left and the counter has room. Each entry with an even
 -- version says the same of the content after the call, and each key that is added has its entry. Where the pass has
 -- lowered a count and not raised it again, the call takes a table of that class. No content passes its greatest length.
--- Where the pass has put 0 into the root, the call is one that may. Words can tell the keys and values of the call.
+-- Where the pass has put 0 into the root, the call is one that may. Words can tell the keys and values of the call. The
+-- pass has the lock of each container that the call names.
 May k m cs v (Commit c r f s) =
     (is_write c r ≡ true)
     × (is_writing (changes c) v.log ≡ true)
@@ -163,6 +165,7 @@ May k m cs v (Commit c r f s) =
     × (has_emptied (changes c) v.log ≡ true → may_empty c ≡ true)
     × IsDeclared (stored_newest k.kinds cs).world no_hands c
     × FitsCall c
+    × HasLocksOf c v.log
 -- It has made the version odd and has committed since. The words stand for the content at the counter, with its class
 -- and fill, and no version of an entry or item of the container is odd.
 May k m cs v (StopWrite o f) =
@@ -181,7 +184,7 @@ May k m cs v (ReadTable t i f) = IsTable k t × (i < size (class_of t))
 May k m cs v (ReadHeader t f) = IsTable k t
 May k m cs v (ReadCounter f) = Unit {0}
 -- The call is no write, and a load of the counter since the last entry gave its stamp. The reply is that of the plain
--- containers after as many writes, or that of a section, or a MemoryError that has its cause. The pass has a call left.
+-- containers after as many writes, or that of a section, or a MemoryError; the last two have their causes. The pass has a call left.
 May k m cs v (Answer c r n) =
     (is_write c r ≡ false)
     × (n ≤ word_in k m counter)

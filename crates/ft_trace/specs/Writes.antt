@@ -19,6 +19,7 @@ use Rattle.ft_trace.specs.Worlds.{kept, kind_in, changes, may_empty, reply_in}
 use Rattle.ft_trace.specs.Words.{inner, Picture, root_in, Stands}
 use Rattle.ft_trace.specs.Kinds.{rows, version_at, SoundAs, CarefulAs, ClearAs}
 use Rattle.ft_trace.specs.FitCalls.{FitsCall}
+use Rattle.ft_trace.specs.Sections.{HasLocksOf}
 use Rattle.ft_trace.specs.Openings.{Shut, Timely}
 use Rattle.ft_trace.specs.Holds.{held, known, in_hand, AgreesWith}
 use Rattle.ft_trace.specs.Traces.{Possible, IsAwake}
@@ -165,12 +166,14 @@ pub record MayCommit (v : View) (o t : ℕ) (write : Write) (calls : List Call) 
       (at_commit v o write) write.late
   pub stands : Stands v.shape.texts (at_end v o write) (kept v.shape.kinds (write.call ∷ calls) o)
 
--- The write is one of o, and words can tell its keys and values: what it puts before its commit may be put, it may be committed after whatever writes agree
--- with what the pass knows, and no version of an entry or item is odd at its end.
+-- The write is one of o, the pass has the lock of each container that it names, and words can tell its keys and values:
+-- what it puts before its commit may be put, it may be committed after whatever writes agree with what the pass knows,
+-- and no version of an entry or item is odd at its end.
 pub record MayWriteSo (v : View) (o t : ℕ) (write : Write) : Type 0 where
   pub of : changes write.call ≡ o
   pub wrote : is_write write.call write.reply ≡ true
   pub fits : FitsCall write.call
+  pub locks : HasLocksOf write.call v.log
   pub root : MayReplace v o write.call write.root
   pub early : MayPuts (kind_in v.shape.kinds o) t (known o v).content false (with_root v o write.root) write.early
   pub commit : (calls : List Call) → AgreesWith v (stored_newest v.shape.kinds calls) → MayCommit v o t write calls

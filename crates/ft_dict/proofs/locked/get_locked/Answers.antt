@@ -31,4 +31,4 @@ returns-clause-answered c =
     let n = c.answer_held.result.1.number in
     let called = call.Dict c.args.d (dict.Get c.args.key) in
     subst (λ said. Answered called said n v z) (sym c.answer_held.ensures.said.0)
-    (answered_locked v u z called (c.reply_of.result) n e.loads.0 e.keeps e.loads.1 c.answer_held.ensures.did.1)
+    (answered_locked v u z called (c.reply_of.result) n e.loads.0 e.keeps e.loads.1 c.answer_held.ensures.did.1 c.args.pass.now.settled c.answer_held.new.pass.possible)

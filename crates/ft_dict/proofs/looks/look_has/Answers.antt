@@ -21,4 +21,4 @@ returns-in-Found-clause-looked c =
     let called = call.Dict c.args.d (dict.Has c.args.key) in
     let f = c.in-Found.ensures.found in
     subst (λ r. IsLookOf c.args.d c.args.key called v z r) (sym c.answer_look.ensures.done)
-    (answered_after v w z called (reply.Truth c.is_some.result) c.in-Found.number f.2.0 f.0 f.2.1 f.2.2 c.answer_look.ensures.did.1, refl)
+    (answered_after v w z called (reply.Truth c.is_some.result) c.in-Found.number f.2.0 f.0 f.2.1 f.2.2 c.answer_look.ensures.did.1 c.args.pass.now.settled c.answer_look.new.pass.possible, refl)

@@ -51,4 +51,4 @@ returns-clause-answered c =
     let z = to_z w64 (of_z w64 a.index) in
     let index : z ≡ a.index = to_z-of_z {w = w64} {z = a.index} c.ranges.index in
     subst (λ (y : ℤ × Reply). Answered (call.List o (list.Get y.0)) y.1 n v x) (λ d. (index d, sym c.answer_held.ensures.said.0 d))
-    (answered_locked v (view q) x (call.List o (list.Get z)) c.reply_of.result n r.0 (reads_loaded k o (IsItemNamed k z found) p q r) (did_log r.0 p q r.2) c.answer_held.ensures.did.1)
+    (answered_locked v (view q) x (call.List o (list.Get z)) c.reply_of.result n r.0 (reads_loaded k o (IsItemNamed k z found) p q r) (did_log r.0 p q r.2) c.answer_held.ensures.did.1 p.settled c.answer_held.new.pass.possible)

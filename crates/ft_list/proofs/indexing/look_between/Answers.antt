@@ -52,7 +52,7 @@ returns-in-Found-clause-looked c =
     let index : z ≡ a.index = to_z-of_z {w = w64} {z = a.index} c.ranges.index in
     let loaded : OnlyLoaded v w = subst (OnlyLoaded v) (sym m.2.1) (looks_load m.0 v m.1) in
     let own = did_log m.0 a.pass.now c.read_between.new.pass m.2 in
-    let answered : Answered (call.List o (list.Get z)) c.reply_of.result n v x = answered_after v w x (call.List o (list.Get z)) c.reply_of.result n m.0 loaded own (named_counted (shape_of a.bank.now) o z c.in-Found.found n m.0 m.3) c.answer_look.ensures.did.1 in
+    let answered : Answered (call.List o (list.Get z)) c.reply_of.result n v x = answered_after v w x (call.List o (list.Get z)) c.reply_of.result n m.0 loaded own (named_counted (shape_of a.bank.now) o z c.in-Found.found n m.0 m.3) c.answer_look.ensures.did.1 a.pass.now.settled c.answer_look.new.pass.possible in
     subst (λ r. IsGlanceOf o (call.List o (list.Get a.index)) v x r) (sym c.answer_look.ensures.done)
     (subst (λ (i : ℤ). Answered (call.List o (list.Get i)) c.reply_of.result n v x) index answered, refl)
 

@@ -17,7 +17,7 @@ returns-then-closed-opened-clause-looked c =
     let why : (c.seq-opened.result % 2 ≢ 0) ⊎ (c.seq-closed.result ≢ c.seq-opened.result) = elim c.then-closed-opened.branch [ then-closed-opened-via-then-closed-opened w ↦ inr w.if-closed-opened.true | then-closed-opened-via-else-closed-opened+then-opened-ne0 w ↦ inl w.if-opened-ne0.true ] in (
       between_acts o c.seq-closed.result c.stamp-number.result r.0 c.seq-opened.result,
       between_looks o c.seq-closed.result c.stamp-number.result r.0 c.seq-opened.result r.1,
-      between_did o c.seq-closed.result c.stamp-number.result r.0 c.seq-opened.result c.args.pass.now c.seq-opened.new.pass c.read_named-found.new.pass c.stamp-number.new.pass c.seq-closed.new.pass c.seq-opened.ensures r.2 c.stamp-number.ensures c.seq-closed.ensures,
+      between_did o c.seq-closed.result c.stamp-number.result r.0 c.seq-opened.result c.args.pass.now c.seq-opened.new.pass c.read_named-found.new.pass c.stamp-number.new.pass c.seq-closed.new.pass c.seq-opened.ensures r.2 c.stamp-number.ensures.did c.seq-closed.ensures,
       between_stops o c.seq-closed.result c.stamp-number.result r.0 c.seq-opened.result why,
     )
 
@@ -33,6 +33,6 @@ returns-clause-looked c =
     let shows = subst (λ (i : ℤ). (x : Picture) → Agrees k o r.0 x → IsItemNamed k i found x) index r.3 in (
       between_acts o c.seq-closed.result c.stamp-number.result r.0 c.seq-opened.result,
       between_looks o c.seq-closed.result c.stamp-number.result r.0 c.seq-opened.result r.1,
-      between_did o c.seq-closed.result c.stamp-number.result r.0 c.seq-opened.result c.args.pass.now c.seq-opened.new.pass c.read_named-found.new.pass c.stamp-number.new.pass c.seq-closed.new.pass c.seq-opened.ensures r.2 c.stamp-number.ensures c.seq-closed.ensures,
+      between_did o c.seq-closed.result c.stamp-number.result r.0 c.seq-opened.result c.args.pass.now c.seq-opened.new.pass c.read_named-found.new.pass c.stamp-number.new.pass c.seq-closed.new.pass c.seq-opened.ensures r.2 c.stamp-number.ensures.did c.seq-closed.ensures,
       between_shows k o c.seq-closed.result c.stamp-number.result r.0 c.seq-opened.result c.args.index found same even shows,
     )

@@ -60,6 +60,7 @@ returns-clause-ends c =
     let root : root_in (held a.o z) ≡ root_in (held a.o u) = ap (λ (b : List ℕ). slice_index b 0) (e.block ∙ ap (λ (v : View). (held a.o v).block) d.1.1) in
     let stands : Stands u.shape.texts (held a.o z) (known a.o z) = stands_at_end u.shape.texts a.o a.table called a.said.now a.first a.past u w z m c.commit-number.ensures.committed (ap (λ (v : View). held a.o v) d.1.1) e.only.work e.block e.closed in
     write_ends called a.said.now c.commit-number.result c.stop_write.result d.0 u w z (view c.stop_write.new.pass)
+    c.commit-number.ensures.seen
     d.1.1
     c.commit-number.ensures.committed
     m.may.left

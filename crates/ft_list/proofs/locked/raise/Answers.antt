@@ -17,9 +17,9 @@ answer-requires-clause-shown c =
     let x = c.requires.call in
     let low : a.l < containers_in v.shape = subst (λ (z : Shape). a.l < containers_in z) (sym c.requires.pass.1) c.requires.may.container in
     subst (λ (z : Call). IsShown (view c.stamp-number.new.pass) z a.said.now c.stamp-number.result) (sym x.1)
-    (raise_shown v (view c.stamp-number.new.pass) a.l x.0 a.said.now (items_of a.l v) c.stamp-number.result x.2 c.stamp-number.ensures.1 c.requires.may.left low c.requires.may.locked (content_of k a.l v c.requires.pass.1 a.pass.now.possible c.requires.may))
+    (raise_shown v (view c.stamp-number.new.pass) a.l x.0 a.said.now (items_of a.l v) c.stamp-number.result x.2 c.stamp-number.ensures.did.1 c.requires.may.left low c.requires.may.locked (content_of k a.l v c.requires.pass.1 a.pass.now.possible c.requires.may))
 
 pub returns-clause-made : goal.returns-clause-made
 returns-clause-made c =
     let a = c.args in
-    inr (refl, raise_answered (view a.pass.now) (view c.stamp-number.new.pass) (view c.answer.new.pass) a.called.now a.said.now c.stamp-number.result c.stamp-number.ensures.1 c.answer.ensures.1)
+    inr (refl, raise_answered (view a.pass.now) (view c.stamp-number.new.pass) (view c.answer.new.pass) a.called.now a.said.now c.stamp-number.result c.stamp-number.ensures.did.1 c.answer.ensures.1 a.pass.now.settled c.answer.new.pass.possible)

@@ -23,7 +23,7 @@ returns-then-closed-opened-clause-ended c index =
     let old : List Act = ReadRoot o 0 ∷ [] in (
       bare_acts o c.seq-closed.result c.stamp-number.result c.read_root-root.result c.seq-opened.result,
       tt,
-      bare_did o c.seq-closed.result c.stamp-number.result c.read_root-root.result c.seq-opened.result c.args.pass.now c.seq-opened.new.pass c.read_root-root.new.pass c.stamp-number.new.pass c.seq-closed.new.pass c.seq-opened.ensures c.read_root-root.ensures.did c.stamp-number.ensures c.seq-closed.ensures,
+      bare_did o c.seq-closed.result c.stamp-number.result c.read_root-root.result c.seq-opened.result c.args.pass.now c.seq-opened.new.pass c.read_root-root.new.pass c.stamp-number.new.pass c.seq-closed.new.pass c.seq-opened.ensures c.read_root-root.ensures.did c.stamp-number.ensures.did c.seq-closed.ensures,
       inr (bare_stops o c.seq-closed.result c.stamp-number.result c.read_root-root.result c.seq-opened.result old none why),
     )
 
@@ -34,5 +34,5 @@ returns-clause-ended c index =
     let same : c.seq-closed.result ≡ c.seq-opened.result = omega (arith, c.if-closed-opened.false) in
     let even : c.seq-opened.result % 2 ≡ 0 = omega (arith, c.if-opened-ne0.false) in
     bare_past (shape_of c.args.bank.now) o c.seq-closed.result c.stamp-number.result c.read_root-root.result c.seq-opened.result index c.args.pass.now c.seq-closed.new.pass
-    (bare_did o c.seq-closed.result c.stamp-number.result c.read_root-root.result c.seq-opened.result c.args.pass.now c.seq-opened.new.pass c.read_root-root.new.pass c.stamp-number.new.pass c.seq-closed.new.pass c.seq-opened.ensures c.read_root-root.ensures.did c.stamp-number.ensures c.seq-closed.ensures)
+    (bare_did o c.seq-closed.result c.stamp-number.result c.read_root-root.result c.seq-opened.result c.args.pass.now c.seq-opened.new.pass c.read_root-root.new.pass c.stamp-number.new.pass c.seq-closed.new.pass c.seq-opened.ensures c.read_root-root.ensures.did c.stamp-number.ensures.did c.seq-closed.ensures)
     none same even

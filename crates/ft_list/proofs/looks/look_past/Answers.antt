@@ -18,9 +18,9 @@ returns-then-again-root-clause-ended c =
     let last = c.requires.last.1 ∙ ap (λ (z : ℕ). ReadRoot a.o z ∷ c.requires.last.0) c.requires.root in (
       part,
       tt,
-      did_trans (ReadRoot a.o r.result ∷ []) part a.pass.now c.stamp-number.new.pass r.new.pass c.stamp-number.ensures r.ensures.did,
+      did_trans (ReadRoot a.o r.result ∷ []) part a.pass.now c.stamp-number.new.pass r.new.pass c.stamp-number.ensures.did r.ensures.did,
       ne,
-      fresh_root (shape_of a.bank.now) a.o (suc t) r.result a.pass.now c.stamp-number.new.pass part c.requires.last.0 tt c.stamp-number.ensures last ne r.ensures.table r.ensures.changed,
+      fresh_root (shape_of a.bank.now) a.o (suc t) r.result a.pass.now c.stamp-number.new.pass part c.requires.last.0 tt c.stamp-number.ensures.did last ne r.ensures.table r.ensures.changed,
     )
 
 pub returns-clause-ended : goal.returns-clause-ended
@@ -33,6 +33,6 @@ returns-clause-ended c =
     let same : r.result ≡ suc t = omega (arith, c.if-again-root.false, c.requires.root) in (
       part,
       tt,
-      subst (λ (z : ℕ). DidAll (ReadRoot a.o z ∷ part) a.pass.now r.new.pass) same (did_trans (ReadRoot a.o r.result ∷ []) part a.pass.now c.stamp-number.new.pass r.new.pass c.stamp-number.ensures r.ensures.did),
+      subst (λ (z : ℕ). DidAll (ReadRoot a.o z ∷ part) a.pass.now r.new.pass) same (did_trans (ReadRoot a.o r.result ∷ []) part a.pass.now c.stamp-number.new.pass r.new.pass c.stamp-number.ensures.did r.ensures.did),
       past_closes a.o t a.index n c.requires.index,
     )

@@ -39,4 +39,4 @@ returns-clause-answered c =
     let did = c.read_block-count.ensures.did in
     let loaded = loaded_by (ReadBlock o 1 count) v u tt did.1 in
     subst (λ said. Answered c.args.call.now said n v z) (sym c.answer_held.ensures.said.0)
-    (answered_locked v u z c.args.call.now (reply.Count count) n (ReadBlock o 1 count ∷ []) loaded (ap (λ (x : View). x.log) did.1) c.answer_held.ensures.did.1)
+    (answered_locked v u z c.args.call.now (reply.Count count) n (ReadBlock o 1 count ∷ []) loaded (ap (λ (x : View). x.log) did.1) c.answer_held.ensures.did.1 c.args.pass.now.settled c.answer_held.new.pass.possible)

@@ -9,7 +9,7 @@ returns-then-closed-opened-clause-looked c =
     let why : (c.seq-opened.result % 2 ≢ 0) ⊎ (c.seq-closed.result ≢ c.seq-opened.result) = elim c.then-closed-opened.branch [ then-closed-opened-via-then-closed-opened w ↦ inr w.if-closed-opened.true | then-closed-opened-via-else-closed-opened+then-opened-ne0 w ↦ inl w.if-opened-ne0.true ] in (
       count_acts o c.seq-closed.result c.stamp-number.result c.read_block-count.result c.seq-opened.result,
       tt,
-      count_did o c.seq-closed.result c.stamp-number.result c.read_block-count.result c.seq-opened.result c.args.pass.now c.seq-opened.new.pass c.read_block-count.new.pass c.stamp-number.new.pass c.seq-closed.new.pass c.seq-opened.ensures c.read_block-count.ensures.did c.stamp-number.ensures c.seq-closed.ensures,
+      count_did o c.seq-closed.result c.stamp-number.result c.read_block-count.result c.seq-opened.result c.args.pass.now c.seq-opened.new.pass c.read_block-count.new.pass c.stamp-number.new.pass c.seq-closed.new.pass c.seq-opened.ensures c.read_block-count.ensures.did c.stamp-number.ensures.did c.seq-closed.ensures,
       count_stops o c.seq-closed.result c.stamp-number.result c.read_block-count.result c.seq-opened.result why,
     )
 
@@ -20,6 +20,6 @@ returns-clause-looked c =
     let even : c.seq-opened.result % 2 ≡ 0 = omega (arith, c.if-opened-ne0.false) in (
       count_acts o c.seq-closed.result c.stamp-number.result c.read_block-count.result c.seq-opened.result,
       tt,
-      count_did o c.seq-closed.result c.stamp-number.result c.read_block-count.result c.seq-opened.result c.args.pass.now c.seq-opened.new.pass c.read_block-count.new.pass c.stamp-number.new.pass c.seq-closed.new.pass c.seq-opened.ensures c.read_block-count.ensures.did c.stamp-number.ensures c.seq-closed.ensures,
+      count_did o c.seq-closed.result c.stamp-number.result c.read_block-count.result c.seq-opened.result c.args.pass.now c.seq-opened.new.pass c.read_block-count.new.pass c.stamp-number.new.pass c.seq-closed.new.pass c.seq-opened.ensures c.read_block-count.ensures.did c.stamp-number.ensures.did c.seq-closed.ensures,
       count_shows o c.seq-closed.result c.stamp-number.result c.read_block-count.result c.seq-opened.result same even,
     )

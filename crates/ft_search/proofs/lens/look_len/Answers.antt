@@ -39,7 +39,7 @@ returns-in-Seen-clause-looked c =
     let loaded : OnlyLoaded v w = subst (OnlyLoaded v) (sym m.2.1) (looks_load m.0 v m.1) in
     let own = did_log m.0 c.args.pass.now c.look_count.new.pass m.2 in
     subst (λ r. IsGlanceOf o c.args.call.now v z r) (sym c.answer_look.ensures.done)
-    (answered_after v w z c.args.call.now (reply.Count count) n m.0 loaded own (count_counted o count n m.0 m.3) c.answer_look.ensures.did.1, refl)
+    (answered_after v w z c.args.call.now (reply.Count count) n m.0 loaded own (count_counted o count n m.0 m.3) c.answer_look.ensures.did.1 c.args.pass.now.settled c.answer_look.new.pass.possible, refl)
 
 pub returns-in-Contended-clause-looked : goal.returns-in-Contended-clause-looked
 returns-in-Contended-clause-looked c =

@@ -12,6 +12,13 @@ use Rattle.ft_trace.specs.declared.View.{View}
 use Rattle.ft_trace.specs.Sections.{Begun}
 use Rattle.ft_section.proofs.ending.end.Goals as goal
 
+pub make_entry-number-requires-clause-said : goal.make_entry-number-requires-clause-said
+make_entry-number-requires-clause-said c =
+    let split = sym (c.copied-sections.ensures ∙ c.sections.ensures) ∙ c.pop.ensures.some c.in-Some.section c.in-Some.is in
+    c.end_reply.ensures.said (view c.args.pass.now).log (λ none b bs is.
+    kept_held (stack_of c.args.pass.now).sections c.pop.new.self c.in-Some.section b bs split
+    (subst (λ (x : List Begun). AreBegun (stack_of c.args.pass.now).sections x) is c.requires.ready.inside.1.begun) none)
+
 pub let_taking_go-requires : goal.let_taking_go-requires
 let_taking_go-requires c =
     let split = sym (c.copied-sections.ensures ∙ c.sections.ensures) ∙ c.pop.ensures.some c.in-Some.section c.in-Some.is in

@@ -8,10 +8,10 @@ pub answer-requires-clause-shown : goal.answer-requires-clause-shown
 answer-requires-clause-shown c =
     let v = view c.args.pass.now in
     let n = c.stamp-number.result in
-    subst (λ (w : View). IsShown w c.args.call.now c.args.reply.now n) (sym c.stamp-number.ensures.1) (record {
+    subst (λ (w : View). IsShown w c.args.call.now c.args.reply.now n) (sym c.stamp-number.ensures.did.1) (record {
       read = c.requires.said.read;
       left = c.requires.left;
       loaded = record { newer = []; rest = v.log; is = refl; own = tt };
       replied = λ es id k. c.requires.said.replied _;
-      cause = λ es id k. c.requires.said.cause _ _ n;
+      cause = λ es id k. c.requires.said.cause _ n;
     })

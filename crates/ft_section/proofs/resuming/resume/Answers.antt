@@ -100,11 +100,8 @@ returns-in-Err-clause-locked c =
     only_then (view c.args.pass.now) (view c.take_both.new.pass) (view c.wait.new.pass) c.take_both.ensures.locked c.wait.ensures.locked (λ p had has. c.take_both.ensures.keeps p had)
 
 pub returns-in-Err-clause-needed : goal.returns-in-Err-clause-needed
-returns-in-Err-clause-needed c outer top cut =
-    let split = sym (c.copied-sections.ensures ∙ c.sections.ensures) ∙ c.pop.ensures.some c.in-Some.top c.in-Some.is in
-    let same = same_from_push c.pop.new.self outer c.in-Some.top top (sym split ∙ cut) in
-    ⊎_elim (λ (e : c.in-Err.o ≡ c.in-Some.top.locks.lower). inl (e ∙ ap (λ (s : OpenSection). s.locks.lower) same.1))
-    (λ (e : c.in-Err.o ≡ c.in-Some.top.locks.upper). inr (e ∙ ap (λ (s : OpenSection). s.locks.upper) same.1)) c.in-Err.ensures.found.0
+returns-in-Err-clause-needed c =
+    (c.pop.new.self, c.in-Some.top, sym (c.copied-sections.ensures ∙ c.sections.ensures) ∙ c.pop.ensures.some c.in-Some.top c.in-Some.is, c.in-Err.ensures.found.0)
 
 pub returns-in-Err-clause-found : goal.returns-in-Err-clause-found
 returns-in-Err-clause-found c =

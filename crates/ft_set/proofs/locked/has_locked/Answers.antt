@@ -46,7 +46,7 @@ returns-in-Some-clause-answered c =
     let n = c.answer_held.result.1.number in
     let called = call.Set c.args.s (set.Has c.args.key) in
     subst (λ said. Answered called said n v z) (sym c.answer_held.ensures.said.0)
-    (answered_locked v u z called (reply.Truth true) n e.looks.0 e.keeps (did_log e.looks.0 c.args.pass.now c.read_key.new.pass e.looks.2) c.answer_held.ensures.did.1)
+    (answered_locked v u z called (reply.Truth true) n e.looks.0 e.keeps (did_log e.looks.0 c.args.pass.now c.read_key.new.pass e.looks.2) c.answer_held.ensures.did.1 c.args.pass.now.settled c.answer_held.new.pass.possible)
 
 pub returns-in-None-clause-answered : goal.returns-in-None-clause-answered
 returns-in-None-clause-answered c =
@@ -57,4 +57,4 @@ returns-in-None-clause-answered c =
     let n = c.answer_held-in-None.result.1.number in
     let called = call.Set c.args.s (set.Has c.args.key) in
     subst (λ said. Answered called said n v z) (sym c.answer_held-in-None.ensures.said.0)
-    (answered_locked v u z called (reply.Truth false) n e.looks.0 e.keeps (did_log e.looks.0 c.args.pass.now c.read_key.new.pass e.looks.2) c.answer_held-in-None.ensures.did.1)
+    (answered_locked v u z called (reply.Truth false) n e.looks.0 e.keeps (did_log e.looks.0 c.args.pass.now c.read_key.new.pass e.looks.2) c.answer_held-in-None.ensures.did.1 c.args.pass.now.settled c.answer_held-in-None.new.pass.possible)

@@ -32,7 +32,8 @@ returns-in-Here-clause-looked c =
     let m = c.in-Here.ensures.looked in
     subst (λ r. IsLookOf c.args.s c.args.key called v z r) (sym c.answer_look.ensures.done) (
       answered_after v w z called (reply.Truth true) c.in-Here.number m.0 c.look_up.ensures.keeps
-          (did_log m.0 c.args.pass.now c.look_up.new.pass m.2) m.3.1 c.answer_look.ensures.did.1,
+          (did_log m.0 c.args.pass.now c.look_up.new.pass m.2) m.3.1 c.answer_look.ensures.did.1
+          c.args.pass.now.settled c.answer_look.new.pass.possible,
       refl,
     )
 
@@ -45,7 +46,8 @@ returns-in-Absent-clause-looked c =
     let m = c.in-Absent.ensures.looked in
     subst (λ r. IsLookOf c.args.s c.args.key called v z r) (sym c.answer_look-in-Absent.ensures.done) (
       answered_after v w z called (reply.Truth false) c.in-Absent.number m.0 c.look_up.ensures.keeps
-          (did_log m.0 c.args.pass.now c.look_up.new.pass m.2) m.3.1 c.answer_look-in-Absent.ensures.did.1,
+          (did_log m.0 c.args.pass.now c.look_up.new.pass m.2) m.3.1 c.answer_look-in-Absent.ensures.did.1
+          c.args.pass.now.settled c.answer_look-in-Absent.new.pass.possible,
       refl,
     )
 

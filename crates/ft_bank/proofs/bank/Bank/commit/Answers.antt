@@ -4,6 +4,7 @@ use Rattle.ft_trace.specs.declared.View.{View}
 use Rattle.ft_bank.specs.Passes.{view}
 use Rattle.ft_bank.specs.Writes.{Committed}
 use Rattle.ft_bank.proofs.Readying.{commit_ready, commit_leaves}
+use Rattle.ft_bank.proofs.Seen.{commit_sees}
 use Rattle.ft_bank.proofs.bank.Bank.commit.Goals as goal
 
 pub commit_as-requires-clause-ready : goal.commit_as-requires-clause-ready
@@ -17,3 +18,8 @@ returns-clause-committed c =
     let v = view c.args.pass.now in
     let d = c.commit_as.ensures.did in
     subst (λ (w : View). Committed v w c.args.call.now) (sym d.1.1) (commit_leaves v c.args.call.now c.args.reply.now c.commit_as.result d.0 d.2)
+
+pub returns-clause-seen : goal.returns-clause-seen
+returns-clause-seen c =
+    let d = c.commit_as.ensures.did in
+    commit_sees (view c.args.pass.now) c.args.call.now c.args.reply.now c.commit_as.result d.0 d.2

@@ -16,7 +16,7 @@ use Rattle.ft_model.specs.declared.reply.Reply.TheVariants as reply
 use Rattle.ft_model.specs.declared.reply.Raise.TheVariants as raise
 use Rattle.ft_model.specs.declared.script.Kind.TheVariants as kind
 use Rattle.ft_model.specs.Answers.{after_write, is_memory, is_write}
-use Rattle.ft_model.specs.Calls.{is_changing, can_add}
+use Rattle.ft_model.specs.Calls.{is_changing, can_add, moved_cursor}
 use Rattle.ft_model.specs.Histories.{IsReplied}
 use Rattle.std.specs.List.{list_any}
 use Rattle.ft_model.specs.Worlds.{named_in}
@@ -25,7 +25,7 @@ use Rattle.ft_layout.specs.declared.slot.Stored.TheVariants.{Empty, Plain}
 use Rattle.ft_layout.specs.Words.{IsStored}
 use Rattle.ft_layout.proofs.WordLaws.{stored_is_one}
 use Rattle.ft_trace.specs.declared.Act.{Act}
-use Rattle.ft_trace.specs.declared.Act.TheVariants.{ReadCounter, Lock, Unlock, TakeTable, Commit, Answer}
+use Rattle.ft_trace.specs.declared.Act.TheVariants.{ReadCounter, Lock, Unlock, TakeTable, Commit, Answer, AnswerCursor}
 use Rattle.ft_trace.specs.declared.Shape.{Shape}
 use Rattle.ft_trace.specs.declared.View.{View}
 use Rattle.ft_trace.specs.Acts.{has_lock, past}
@@ -35,13 +35,14 @@ use Rattle.ft_trace.specs.Addresses.{containers_in}
 use Rattle.ft_trace.specs.Traces.{Event, Valid, Knows, run, history, Sure}
 use Rattle.ft_trace.specs.LookReplies.{key_reply, item_reply, stored_at, DictReplies}
 use Rattle.ft_trace.proofs.LookReplies.{dict_hits_are_replied, set_hits_are_replied, misses_are_replied, items_are_replied, past_items_are_replied}
+use Rattle.ft_trace.proofs.Cursors.{adds_no_cursor}
 use Rattle.ft_trace.proofs.Moments.{was}
 use Rattle.ft_trace.proofs.Optimistic.{looked_at, looked_at_both}
 use Rattle.ft_trace.proofs.Replying.{never_writes, memory_replied}
 use Rattle.ft_trace.proofs.Sizes.{sized}
 use Rattle.ft_trace.proofs.Spots.{stamp_then}
 use Rattle.ft_bank.specs.Reads.{IsShown}
-use Rattle.ft_bank.specs.Shown.{MayAsk, KeyIsShown, DictHitsAreShown, ValuesAreRead, SetHitsAreShown, MissesAreShown, ItemsAreShown, ItemsAreRead, PastItemsAreShown, LooksAreShown, LooksAtBothAreShown, KeepLocks, LoadedUnderLocks, RepliesUnderLocksAreShown, MemoryErrorsAreShown, OversAreShown}
+use Rattle.ft_bank.specs.Shown.{MayAsk, KeyIsShown, DictHitsAreShown, ValuesAreRead, SetHitsAreShown, MissesAreShown, ItemsAreShown, ItemsAreRead, PastItemsAreShown, LooksAreShown, LooksAtBothAreShown, KeepLocks, LoadedUnderLocks, RepliesUnderLocksAreShown, CursorsUnderLocksAreShown, MemoryErrorsAreShown, OversAreShown}
 use Rattle.ft_bank.specs.Writes.{MayHave}
 use Rattle.ft_bank.proofs.Readying.{has_now}
 
@@ -60,14 +61,15 @@ no_memory stored log call said n plain other short = short
 
 -- ---- plain replies
 
-plain_shown : (v : View) (o n : ℕ) → MayAsk v o n → (call : Call) (said : Reply) → is_write call said ≡ false → can_add call ≡ false → is_memory said ≡ false → said ≢ reply.Kept
+plain_shown : (v : View) (o n : ℕ) → MayAsk v o n → (call : Call) (said : Reply) → is_write call said ≡ false → moved_cursor call ≡ None → can_add call ≡ false → is_memory said ≡ false → said ≢ reply.Kept
     → Sure v (λ es. IsReplied call said (reply_in (stored_newest v.shape.kinds (first_writes n (history es))) call)) → IsShown v call said n
-plain_shown v o n ask call said reads adds plain other replied = record {
+plain_shown v o n ask call said reads none adds plain other replied = record {
   read = reads;
   left = ask.left;
   loaded = ask.loaded;
   replied = replied;
   cause = λ es id knows. no_memory (stored_newest v.shape.kinds (first_writes n (history es))) v.log call said n plain other (never_over (stored_newest v.shape.kinds (first_writes n (history es))) call adds);
+  no_cursor = λ es id knows. none;
 }
 
 plain_key : (found : Option Value) → is_memory (key_reply found) ≡ false
@@ -96,16 +98,16 @@ item_writes o place None = refl
 
 key_shown : (v : View) (o n : ℕ) → MayAsk v o n → (key : Key) (found : Option Value) → Sure v (λ es. DictReplies (stored_at v.shape es n) o key found) → KeyIsShown v o key found n
 key_shown v o n ask key found replies = record {
-  get = plain_shown v o n ask (call.Dict o (dict.Get key)) (key_reply found) (key_writes o key found) refl (plain_key found) (key_other found) (λ es id knows. inr (sym (replies es id knows).get));
-  get_or = λ default. plain_shown v o n ask (call.Dict o (dict.GetOr key default)) (reply.Value (unwrap_or found default)) refl refl refl (λ e. absurd (cc)) (λ es id knows. inr (sym ((replies es id knows).get_or default)));
-  has = plain_shown v o n ask (call.Dict o (dict.Has key)) (reply.Truth (is_some found)) refl refl refl (λ e. absurd (cc)) (λ es id knows. inr (sym (replies es id knows).has));
+  get = plain_shown v o n ask (call.Dict o (dict.Get key)) (key_reply found) (key_writes o key found) refl refl (plain_key found) (key_other found) (λ es id knows. inr (sym (replies es id knows).get));
+  get_or = λ default. plain_shown v o n ask (call.Dict o (dict.GetOr key default)) (reply.Value (unwrap_or found default)) refl refl refl refl (λ e. absurd (cc)) (λ es id knows. inr (sym ((replies es id knows).get_or default)));
+  has = plain_shown v o n ask (call.Dict o (dict.Has key)) (reply.Truth (is_some found)) refl refl refl refl (λ e. absurd (cc)) (λ es id knows. inr (sym (replies es id knows).has));
 }
 
 set_shown : (v : View) (o n : ℕ) → MayAsk v o n → (key : Key) (is : Bool) → Sure v (λ es. reply_in (stored_at v.shape es n) (call.Set o (set.Has key)) ≡ reply.Truth is) → IsShown v (call.Set o (set.Has key)) (reply.Truth is) n
-set_shown v o n ask key is replies = plain_shown v o n ask (call.Set o (set.Has key)) (reply.Truth is) refl refl refl (λ e. absurd (cc)) (λ es id knows. inr (sym (replies es id knows)))
+set_shown v o n ask key is replies = plain_shown v o n ask (call.Set o (set.Has key)) (reply.Truth is) refl refl refl refl (λ e. absurd (cc)) (λ es id knows. inr (sym (replies es id knows)))
 
 item_shown : (v : View) (o n : ℕ) → MayAsk v o n → (place : ℕ) (found : Option Value) → Sure v (λ es. reply_in (stored_at v.shape es n) (call.List o (list.Get (pos place))) ≡ item_reply found) → IsShown v (call.List o (list.Get (pos place))) (item_reply found) n
-item_shown v o n ask place found replies = plain_shown v o n ask (call.List o (list.Get (pos place))) (item_reply found) (item_writes o place found) refl (plain_item found) (item_other found) (λ es id knows. inr (sym (replies es id knows)))
+item_shown v o n ask place found replies = plain_shown v o n ask (call.List o (list.Get (pos place))) (item_reply found) (item_writes o place found) refl refl (plain_item found) (item_other found) (λ es id knows. inr (sym (replies es id knows)))
 
 -- the words are those of one value
 one_value : (kind payload : ℕ) (a b : Value) → IsStored kind payload (Plain a) → IsStored kind payload (Plain b) → a ≡ b
@@ -118,7 +120,7 @@ not_empty kind payload a f g = let same = stored_is_one kind payload (Plain a) E
 
 pub dict_hits_are_shown : DictHitsAreShown
 dict_hits_are_shown v o t place key n ask is fits small h = (
-  plain_shown v o n ask (call.Dict o (dict.Has key)) (reply.Truth true) refl refl refl (λ e. absurd (cc))
+  plain_shown v o n ask (call.Dict o (dict.Has key)) (reply.Truth true) refl refl refl refl (λ e. absurd (cc))
       (λ es id knows. inr (sym (dict_hits_are_replied v.shape es knows.0 o t place key n ask.low is fits small id v knows.1 h).0)),
   λ kind payload read value stored.
       key_shown v o n ask key (Some value)
@@ -174,13 +176,13 @@ past_items_are_shown v o index n ask is how = item_shown v o n ask index None (�
 -- ---- whole containers
 
 pub looks_are_shown : LooksAreShown
-looks_are_shown v call o said n ask reads adds plain other asks looked =
-    plain_shown v o n ask call said reads adds plain other
+looks_are_shown v call o said n ask reads none adds plain other asks looked =
+    plain_shown v o n ask call said reads none adds plain other
     (λ es id knows. subst (IsReplied call said) (sym (looked_at v.shape es knows.0 call o ask.low id v knows.1 said n looked).1) asks)
 
 pub looks_at_both_are_shown : LooksAtBothAreShown
-looks_at_both_are_shown v call o p said n ask low reads adds plain other asks looked =
-    plain_shown v o n ask call said reads adds plain other
+looks_at_both_are_shown v call o p said n ask low reads none adds plain other asks looked =
+    plain_shown v o n ask call said reads none adds plain other
     (λ es id knows. subst (IsReplied call said) (sym (looked_at_both v.shape es knows.0 call o p ask.low low id v knows.1 said n looked).1) asks)
 
 -- ---- under locks
@@ -196,6 +198,7 @@ keep_locks (a ∷ newer) rest own keep = by a own keep (keep_locks newer rest)
     by (TakeTable t f s) own keep more = absurd keep
     by (Commit c r f s) own keep more = absurd own
     by (Answer c r n) own keep more = absurd own
+    by (AnswerCursor c r n m had left) own keep more = absurd own
     by act own keep more = more own keep
 
 by_shape : (u : View) (k : Shape) (id : ℕ) → u.shape ≡ k → (es : List Event) → (Knows u es id → MayHave u (stored_newest u.shape.kinds (history es))) → Valid k es × (get_elem? (run k es).views id ≡ some u) → MayHave u (stored_newest k.kinds (history es))
@@ -221,8 +224,18 @@ loaded_then v n l es id knows =
       words = had.words;
     })
 
-pub replies_under_locks_are_shown : RepliesUnderLocksAreShown
-replies_under_locks_are_shown v call said n l reads right =
+pub cursors_under_locks_are_shown : CursorsUnderLocksAreShown
+cursors_under_locks_are_shown v call reply n number cursor l moved right = record {
+  moved = moved;
+  left = l.left;
+  loaded = record { newer = l.newer; rest = l.rest; is = l.is; own = l.own };
+  moves = λ es id knows. right (stored_newest v.shape.kinds (first_writes n (history es))) (loaded_then v n l es id knows);
+}
+
+-- a reply to a call that asks no cursor wherever the pass knows this
+replies_shown : (v : View) (call : Call) (said : Reply) (n : ℕ) → LoadedUnderLocks v n → is_write call said ≡ false → Sure v (λ es. moved_cursor call ≡ None)
+    → ((stored : StoredWorld) → MayHave v stored → IsReplied call said (reply_in stored call) × HasCause stored v.log call said n) → IsShown v call said n
+replies_shown v call said n l reads none right =
     let r : Sure v (λ es. IsReplied call said (reply_in (stored_newest v.shape.kinds (first_writes n (history es))) call) × HasCause (stored_newest v.shape.kinds (first_writes n (history es))) v.log call said n) = λ es id knows. right (stored_newest v.shape.kinds (first_writes n (history es))) (loaded_then v n l es id knows) in
     record {
       read = reads;
@@ -230,18 +243,24 @@ replies_under_locks_are_shown v call said n l reads right =
       loaded = record { newer = l.newer; rest = l.rest; is = l.is; own = l.own };
       replied = λ es id knows. (r es id knows).0;
       cause = λ es id knows. (r es id knows).1;
+      no_cursor = none;
     }
+
+pub replies_under_locks_are_shown : RepliesUnderLocksAreShown
+replies_under_locks_are_shown v call said n l reads none right = replies_shown v call said n l reads (λ es id knows. none) right
 
 pub memory_errors_are_shown : MemoryErrorsAreShown
 memory_errors_are_shown v call class n l empty right =
-    replies_under_locks_are_shown v call (reply.Raised (raise.Memory class)) n l (never_writes (is_changing call))
+    replies_shown v call (reply.Raised (raise.Memory class)) n l (never_writes (is_changing call))
+    (λ es id knows. adds_no_cursor call (right (stored_newest v.shape.kinds (first_writes n (history es))) (loaded_then v n l es id knows)).0.adds)
     (λ stored has.
     let r = right stored has in
     (memory_replied (reply.Raised (raise.Memory class)) refl call r.0.adds (reply_in stored call), (r.0, r.1, r.2, empty)))
 
 pub overs_are_shown : OversAreShown
 overs_are_shown v call n l right =
-    replies_under_locks_are_shown v call (reply.Raised raise.Over) n l (never_writes (is_changing call))
+    replies_shown v call (reply.Raised raise.Over) n l (never_writes (is_changing call))
+    (λ es id knows. adds_no_cursor call (right (stored_newest v.shape.kinds (first_writes n (history es))) (loaded_then v n l es id knows)).0.adds)
     (λ stored has.
     let r = right stored has in
     (memory_replied (reply.Raised raise.Over) refl call r.0.adds (reply_in stored call), r))

@@ -1,9 +1,11 @@
 -- What clauses say of a pass.
-use Rattle.std.specs.Prelude.{◌≡◌}
+use Rattle.std.specs.Prelude.{◌≡◌, ℕ, Option}
+use Rattle.ft_model.specs.declared.cursor.Cursor.{Cursor}
 use Rattle.ft_trace.specs.declared.Shape.{Shape}
 use Rattle.ft_trace.specs.declared.View.{View}
 use Rattle.ft_trace.specs.declared.Act.{Act}
 use Rattle.ft_trace.specs.Acts.{noted}
+use Rattle.ft_trace.specs.Hands.{cursor_in}
 use Rattle.ft_bank.specs.Shapes.{plan}
 use Rattle.ft_bank.specs.declared.bank.Bank.{Bank}
 use Rattle.ft_bank.specs.declared.pass.Pass.{Pass}
@@ -29,6 +31,10 @@ Did a p q =
 -- the pass is of the same bank, and knows the same
 abbrev pub KeepsAll : Pass → Pass → Type 0
 KeepsAll p q = (q.seat.table_id ≡ p.seat.table_id) × (q.seat.me.0 ≡ p.seat.me.0)
+
+-- the cursor that the pass has under a number by its own calls (Python manual, Iterator Types: a cursor is its thread's)
+abbrev pub cursor_of : Pass → ℕ → Option Cursor
+cursor_of p number = cursor_in number (view p).log
 
 -- the pass has done nothing
 abbrev pub DidNothing : Pass → Pass → Type 0

@@ -7,6 +7,7 @@ use Rattle.ft_model.specs.declared.call.Call.TheVariants as call
 use Rattle.ft_model.specs.declared.call.DictCall.TheVariants as dict
 use Rattle.ft_model.specs.declared.call.ListCall.TheVariants as list
 use Rattle.ft_model.specs.declared.call.SetCall.TheVariants as set
+use Rattle.ft_model.specs.declared.cursor.Cursor.{Cursor}
 use Rattle.ft_model.specs.declared.data.Key.{Key}
 use Rattle.ft_model.specs.declared.data.Value.{Value}
 use Rattle.ft_model.specs.declared.reply.Reply.{Reply}
@@ -14,7 +15,7 @@ use Rattle.ft_model.specs.declared.reply.Reply.TheVariants as reply
 use Rattle.ft_model.specs.declared.reply.Raise.TheVariants as raise
 use Rattle.ft_model.specs.declared.script.Kind.TheVariants as kind
 use Rattle.ft_model.specs.Answers.{is_memory, is_write}
-use Rattle.ft_model.specs.Calls.{can_add}
+use Rattle.ft_model.specs.Calls.{can_add, moved_cursor}
 use Rattle.ft_model.specs.Histories.{IsReplied}
 use Rattle.ft_model.specs.Tables.{StoredWorld, CanLackMemory, takes_in, would_pass}
 use Rattle.ft_layout.specs.declared.slot.Stored.TheVariants.{Empty, Plain}
@@ -24,13 +25,14 @@ use Rattle.ft_trace.specs.declared.Act.TheVariants.{ReadCounter, Lock, Unlock, T
 use Rattle.ft_trace.specs.declared.View.{View}
 use Rattle.ft_trace.specs.Addresses.{containers_in, class_of, slots}
 use Rattle.ft_trace.specs.Causes.{AreOfOneCall, Loaded, FoundEmpty, HasCause}
+use Rattle.ft_trace.specs.Hands.{cursor_in, MovesCursor}
 use Rattle.ft_trace.specs.Finding.{Hit, Bare, ItemHit, ItemPast}
 use Rattle.ft_trace.specs.Kinds.{rows}
 use Rattle.ft_trace.specs.LookReplies.{IsValueRead, IsItemRead, IsAbsent, key_reply, item_reply}
 use Rattle.ft_trace.specs.Reading.{Looked, LookedAtBoth}
 use Rattle.ft_trace.specs.Traces.{Possible}
 use Rattle.ft_trace.specs.Worlds.{kind_in, reply_in}
-use Rattle.ft_bank.specs.Reads.{IsShown}
+use Rattle.ft_bank.specs.Reads.{IsShown, IsCursorShown}
 use Rattle.ft_bank.specs.Writes.{MayHave}
 
 -- a pass may ask of the container o: it has a call left, and a load of the counter since its last entry gave the stamp
@@ -113,15 +115,16 @@ PastItemsAreShown =
 abbrev pub LooksAreShown : Type 0
 LooksAreShown =
     (v : View) (call : Call) (o : ℕ) (said : Reply) (n : ℕ) → MayAsk v o n → is_write call said ≡ false
-    → can_add call ≡ false → is_memory said ≡ false → said ≢ reply.Kept → IsReplied call said said
-    → Looked v.shape call o said n v.log
+    → moved_cursor call ≡ None → can_add call ≡ false → is_memory said ≡ false → said ≢ reply.Kept
+    → IsReplied call said said → Looked v.shape call o said n v.log
     → IsShown v call said n
 
 -- and one that was read of two containers
 abbrev pub LooksAtBothAreShown : Type 0
 LooksAtBothAreShown =
     (v : View) (call : Call) (o p : ℕ) (said : Reply) (n : ℕ) → MayAsk v o n → p < containers_in v.shape
-    → is_write call said ≡ false → can_add call ≡ false → is_memory said ≡ false → said ≢ reply.Kept
+    → is_write call said ≡ false → moved_cursor call ≡ None → can_add call ≡ false → is_memory said ≡ false
+    → said ≢ reply.Kept
     → IsReplied call said said → LookedAtBoth v.shape call o p said n v.log → IsShown v call said n
 
 -- ---- under locks
@@ -147,9 +150,20 @@ pub record LoadedUnderLocks (v : View) (n : ℕ) : Type 0 where
 abbrev pub RepliesUnderLocksAreShown : Type 0
 RepliesUnderLocksAreShown =
     (v : View) (call : Call) (said : Reply) (n : ℕ) → LoadedUnderLocks v n → is_write call said ≡ false
+    → moved_cursor call ≡ None
     → ((stored : StoredWorld) → MayHave v stored
     → IsReplied call said (reply_in stored call) × HasCause stored v.log call said n)
     → IsShown v call said n
+
+-- an `iter` or a `next` of the cursor that the pass has under this number, answered so by whatever the bank has that agrees
+-- with what the pass knows
+abbrev pub CursorsUnderLocksAreShown : Type 0
+CursorsUnderLocksAreShown =
+    (v : View) (call : Call) (said : Reply) (n number : ℕ) (cursor : Cursor) → LoadedUnderLocks v n
+    → moved_cursor call ≡ Some number
+    → ((stored : StoredWorld) → MayHave v stored
+    → MovesCursor stored.world call number (cursor_in number v.log) said cursor)
+    → IsCursorShown v call said n number cursor
 
 -- a MemoryError of a class whose count was found 0, to a call that would take a table of it
 abbrev pub MemoryErrorsAreShown : Type 0

@@ -8,6 +8,7 @@ use Rattle.ft_trace.specs.declared.Entry.{Entry}
 use Rattle.ft_trace.specs.declared.View.{View}
 use Rattle.ft_trace.specs.Addresses.{containers_in}
 use Rattle.ft_trace.specs.Acts.{has_lock, is_writing, has_committed, has_emptied, stage, stage_next, announces, used, debt, debt_next, flight, owes, mem, past, seen_writes}
+use Rattle.ft_trace.specs.Hands.{cursor_in}
 use Rattle.ft_trace.specs.Sections.{begun}
 use Rattle.ft_trace.specs.Worlds.{kept_at, changes}
 use Rattle.ft_trace.specs.Words.{root_in, Stands}
@@ -15,7 +16,7 @@ use Rattle.ft_trace.specs.Holds.{held, known}
 use Rattle.ft_bank.specs.Writes.{MayHave}
 
 -- It is the same pass: it has the same locks, has made the same versions odd, announces the same, is in the midst of the
--- same taking or giving, has begun the same sections, and has seen no fewer writes. (profile)
+-- same taking or giving, has begun the same sections, has the same cursors, and has seen no fewer writes. (profile)
 pub record SamePass (v w : View) : Type 0 where
   pub number : w.number ≡ v.number
   pub next : w.next ≡ v.next
@@ -26,6 +27,7 @@ pub record SamePass (v w : View) : Type 0 where
   pub announced : announces w.log ≡ announces v.log
   pub flight : flight w.log ≡ flight v.log
   pub begun : begun w.log ≡ begun v.log
+  pub cursors : (n : ℕ) → cursor_in n w.log ≡ cursor_in n v.log
   pub tokens : w.tokens ≡ v.tokens
   pub learnt : w.learnt ≡ v.learnt
   pub seen : seen_writes v ≤ seen_writes w
@@ -83,6 +85,7 @@ pub record EndsWrite (called : Call) (said : Reply) (number : ℕ) (v w : View) 
   pub announced : announces w.log ≡ announces v.log
   pub flight : flight w.log ≡ flight v.log
   pub begun : begun w.log ≡ begun v.log
+  pub cursors : (n : ℕ) → cursor_in n w.log ≡ cursor_in n v.log
   pub tokens : w.tokens ≡ v.tokens
   pub learnt : w.learnt ≡ v.learnt
   pub seen : seen_writes v ≤ number

@@ -1,23 +1,23 @@
 //! Loads of the bank's words, and the entries of calls that only read.
 ghost use Rattle.std.specs.Prelude.{◌≡◌, ◌≤◌, ℕ, suc, ◌<◌, ◌+◌, true, false, slice_index};
-ghost use Rattle.ft_trace.specs.declared.Act.TheVariants.{Version, ReadBlock, ReadRoot, ReadTable, ReadCounter, Answer};
+ghost use Rattle.ft_trace.specs.declared.Act.TheVariants.{Version, ReadBlock, ReadRoot, ReadTable, ReadCounter, Answer, AnswerCursor};
 ghost use Rattle.ft_trace.specs.Addresses.{containers_in, class_of, size, IsTable};
 ghost use Rattle.ft_trace.specs.Acts.{has_lock, announces, seen_writes, stage};
 ghost use Rattle.ft_trace.specs.Finding.{IsNew};
 ghost use Rattle.ft_trace.specs.Holds.{held, in_hand};
 ghost use Rattle.ft_trace.specs.Words.{root_in};
-ghost use Rattle.ft_bank.specs.Reads.{IsShown};
+ghost use Rattle.ft_bank.specs.Reads.{IsShown, IsCursorShown};
 ghost use Rattle.ft_bank.specs.Tables.{name_of, IsTableIn};
 
 use crate::bank::Bank;
 use crate::pass::Pass;
 use crate::table::Table;
 use ft_layout::COUNTER;
-use ft_model::{Call, Reply};
+use ft_model::{Call, Cursor, Reply};
 use std::marker::Brand;
 
 impl Bank {
-    ghost use Rattle.ft_bank.specs.Passes.{shape_of, view, IsPassOf, Did};
+    ghost use Rattle.ft_bank.specs.Passes.{shape_of, view, cursor_of, IsPassOf, Did};
 
     /// Loads the version of a container.
     pub fn seq(&self, pass: &mut Pass, o: u32) -> u64
@@ -93,5 +93,24 @@ impl Bank {
         ensures { Did (Answer call.now reply.now number) pass.old pass.new }
     {
         self.answer_as::<Brand>(pass, call, reply, number);
+    }
+
+    /// Adds the entry of an `iter` or a `next` (Python manual, Iterator Types): its reply, as its stamp a
+    /// number that a load of the counter gave since the pass's last entry, and the cursor that it leaves
+    /// under its number, which is the pass's from then on.
+    pub fn answer_cursor(
+        &self,
+        pass: &mut Pass,
+        call: &Call,
+        reply: &Reply,
+        stamp: u64,
+        number: u32,
+        cursor: &Cursor,
+    )
+        requires pass { IsPassOf self.now pass.old }
+        requires shown { IsCursorShown (view pass.old) call.now reply.now stamp number cursor.now }
+        ensures { Did (AnswerCursor call.now reply.now stamp number (cursor_of pass.old number) cursor.now) pass.old pass.new }
+    {
+        self.answer_cursor_as::<Brand>(pass, call, reply, stamp, number, cursor);
     }
 }

@@ -1,7 +1,7 @@
 //! What the log of a pass has to show for the entry of a call that isn't a write, for whoever looks without
 //! a lock, or answers under one: each law's conclusion is the condition of `Bank::answer`, so that no layer
 //! above meets a trace.
-ghost use Rattle.ft_bank.specs.Shown.{DictHitsAreShown, ValuesAreRead, SetHitsAreShown, MissesAreShown, ItemsAreShown, ItemsAreRead, PastItemsAreShown, LooksAreShown, LooksAtBothAreShown, RepliesUnderLocksAreShown, MemoryErrorsAreShown, OversAreShown};
+ghost use Rattle.ft_bank.specs.Shown.{DictHitsAreShown, ValuesAreRead, SetHitsAreShown, MissesAreShown, ItemsAreShown, ItemsAreRead, PastItemsAreShown, LooksAreShown, LooksAtBothAreShown, RepliesUnderLocksAreShown, CursorsUnderLocksAreShown, MemoryErrorsAreShown, OversAreShown};
 
 /// A key that was found in a dict without the lock, with the value whose words were read: the condition of
 /// `Bank::answer` for the calls that look it up.
@@ -53,6 +53,12 @@ pub fn looks_at_both_are_shown()
 /// A reply of a pass that had its locks since it loaded the counter: the condition of `Bank::answer`.
 pub fn replies_under_locks_are_shown()
     ensures { RepliesUnderLocksAreShown }
+{}
+
+/// An `iter` or a `next` of a pass that had its locks since it loaded the counter: the condition of
+/// `Bank::answer_cursor`.
+pub fn cursors_under_locks_are_shown()
+    ensures { CursorsUnderLocksAreShown }
 {}
 
 /// A MemoryError of a class whose count was found 0: the condition of `Bank::answer`.

@@ -17,7 +17,7 @@ use crate::retired::{clear_bit, set_bit};
 use crate::rule::{Does, Finds, Keeping, Keeps, Saying, Shares};
 use crate::table::Table;
 use atomic_table::Seat;
-use ft_model::{Call, Reply};
+use ft_model::{Call, Cursor, Reply};
 use ft_trace::View;
 
 impl Bank {
@@ -238,6 +238,34 @@ impl Bank {
         let _ = call;
         let _ = reply;
         let _ = number;
+        self.table.shared.load::<Does<A>>(&mut pass.seat, 0);
+        pass.left -= 1;
+    }
+
+    /// Loads the counter, and makes the entry of an `iter` or a `next`: of the cursor under this number, which
+    /// becomes this one.
+    pub(crate) fn answer_cursor_as<A: Saying>(
+        &self,
+        pass: &mut Pass,
+        call: &Call,
+        reply: &Reply,
+        stamp: u64,
+        number: u32,
+        cursor: &Cursor,
+    )
+        requires pass { IsPassOf self.now pass.old }
+        requires act { Acts (view pass.old) 0 (λ n. n) A.act }
+        requires ready { Ready (view pass.old) 0 A.act }
+        requires room { 0 < (view pass.old).left }
+        requires left { (n : ℕ) → left_next (A.act n) (view pass.old).left + 1 ≡ (view pass.old).left }
+        requires retired { LeavesRetired (λ n _. A.act n) }
+        ensures { (n : ℕ) × Did (A.act n) pass.old pass.new }
+    {
+        let _ = call;
+        let _ = reply;
+        let _ = stamp;
+        let _ = number;
+        let _ = cursor;
         self.table.shared.load::<Does<A>>(&mut pass.seat, 0);
         pass.left -= 1;
     }

@@ -5,6 +5,7 @@ use Rattle.std.specs.List.{list_any}
 use Rattle.std.specs.Option.{unwrap_or}
 use Rattle.ft_model.specs.Answers.{is_write}
 use Rattle.ft_model.specs.Contents.{DictContent, dict_get, has_key, is_at, empty_dict}
+use Rattle.ft_model.specs.Calls.{moved_cursor}
 use Rattle.ft_model.specs.Histories.{IsReplied}
 use Rattle.ft_model.specs.Tables.{StoredWorld, stored_newest}
 use Rattle.ft_model.specs.Worlds.{dict_of, dict_at}
@@ -109,18 +110,18 @@ module _ (v u : View) (d : ℕ) (key : Key) (found : Option Value) (loaded : Onl
       dict_replies w d key found (subst (λ k. d < containers_in k) (sym loaded.work.pass.shape) low) (loaded.work.pass.locks d ∙ mine) fits stored may
       (subst (λ (z : Kept). HasValue z.content key found) (sym (work_knows v u d loaded.work)) has)
 
-  plain : (call : Call) (said : Reply) → is_write call said ≡ false → ((stored : StoredWorld) → MayHave w stored → IsReplied call said (reply_in stored call)) → ((stored : StoredWorld) → HasCause stored w.log call said n) → IsShown w call said n
-  plain call said reads right cause = held_shown v u n loaded left call said reads right cause
+  plain : (call : Call) (said : Reply) → is_write call said ≡ false → moved_cursor call ≡ None → ((stored : StoredWorld) → MayHave w stored → IsReplied call said (reply_in stored call)) → ((stored : StoredWorld) → HasCause stored w.log call said n) → IsShown w call said n
+  plain call said reads none right cause = held_shown v u n loaded left call said reads none right cause
 
   pub get_shown : IsShown w (call.Dict d (dict.Get key)) (key_reply found) n
   get_shown = by found refl
     where
       by : (z : Option Value) → found ≡ z → IsShown w (call.Dict d (dict.Get key)) (key_reply found) n
-      by (Some value) e = subst (λ (z : Option Value). IsShown w (call.Dict d (dict.Get key)) (key_reply z) n) (sym e) (plain (call.Dict d (dict.Get key)) (reply.Value value) refl (λ stored may. inr (sym ((replied stored may).get ∙ ap key_reply e))) (λ stored. refl))
-      by None e = subst (λ (z : Option Value). IsShown w (call.Dict d (dict.Get key)) (key_reply z) n) (sym e) (plain (call.Dict d (dict.Get key)) (key_reply None) refl (λ stored may. inr (sym ((replied stored may).get ∙ ap key_reply e))) (λ stored. refl))
+      by (Some value) e = subst (λ (z : Option Value). IsShown w (call.Dict d (dict.Get key)) (key_reply z) n) (sym e) (plain (call.Dict d (dict.Get key)) (reply.Value value) refl refl (λ stored may. inr (sym ((replied stored may).get ∙ ap key_reply e))) (λ stored. refl))
+      by None e = subst (λ (z : Option Value). IsShown w (call.Dict d (dict.Get key)) (key_reply z) n) (sym e) (plain (call.Dict d (dict.Get key)) (key_reply None) refl refl (λ stored may. inr (sym ((replied stored may).get ∙ ap key_reply e))) (λ stored. refl))
 
   pub get_or_shown : (default : Value) → IsShown w (call.Dict d (dict.GetOr key default)) (reply.Value (unwrap_or found default)) n
-  get_or_shown default = plain (call.Dict d (dict.GetOr key default)) (reply.Value (unwrap_or found default)) refl (λ stored may. inr (sym ((replied stored may).get_or default))) (λ stored. refl)
+  get_or_shown default = plain (call.Dict d (dict.GetOr key default)) (reply.Value (unwrap_or found default)) refl refl (λ stored may. inr (sym ((replied stored may).get_or default))) (λ stored. refl)
 
   pub has_shown : IsShown w (call.Dict d (dict.Has key)) (reply.Truth (is_some found)) n
-  has_shown = plain (call.Dict d (dict.Has key)) (reply.Truth (is_some found)) refl (λ stored may. inr (sym (replied stored may).has)) (λ stored. refl)
+  has_shown = plain (call.Dict d (dict.Has key)) (reply.Truth (is_some found)) refl refl (λ stored may. inr (sym (replied stored may).has)) (λ stored. refl)

@@ -224,8 +224,8 @@ get_replied stored o index found is = by (index_in (length items) index) ∙ ap 
     by (Some at) = refl
 
 get_plain : (o : ℕ) (index : ℤ) (found : Option Value) → IsPlain (call.List o (list.Get index)) (item_reply found)
-get_plain o index None = record { reads = refl; adds = refl; memory = refl; replied = λ plain is. inr is; cause = λ stored log n. refl }
-get_plain o index (Some value) = record { reads = refl; adds = refl; memory = refl; replied = λ plain is. inr is; cause = λ stored log n. refl }
+get_plain o index None = record { reads = refl; cursor = refl; adds = refl; memory = refl; replied = λ plain is. inr is; cause = λ stored log n. refl }
+get_plain o index (Some value) = record { reads = refl; cursor = refl; adds = refl; memory = refl; replied = λ plain is. inr is; cause = λ stored log n. refl }
 
 -- ---- between two loads of the version
 
@@ -271,7 +271,7 @@ get_shown v w o index found n part ask own is s =
       stamp = s.counted;
       answers = λ x stored is_kind stands agrees. get_replied stored o index found (s.shows x agrees (kept_at stored o) (is_kind ∙ is) stands);
     } in
-    looks_are_shown w called o (item_reply found) n ask plain.reads plain.adds plain.memory (item_other found) (plain.replied (item_reply found) refl) looked
+    looks_are_shown w called o (item_reply found) n ask plain.reads plain.cursor plain.adds plain.memory (item_other found) (plain.replied (item_reply found) refl) looked
 
 -- ---- under the lock
 
@@ -282,7 +282,7 @@ get_held v u o index found n loaded left low mine is =
     let right : (stored : StoredWorld) → MayHave (noted (ReadCounter n) u) stored → IsReplied called (item_reply found) (reply_in stored called) = λ stored may.
     let kept : kept_at stored o ≡ known o v = may.agrees o (subst (λ (k : Shape). o < containers_in k) (sym loaded.work.pass.shape) low) (loaded.work.pass.locks o ∙ mine) ∙ work_knows v u o loaded.work in
     plain.replied (reply_in stored called) (sym (get_replied stored o index found (is ∙ ap (λ (z : Kept). item_named (list_of z.content) index) (sym kept)))) in
-    held_shown v u n loaded left called (item_reply found) plain.reads right (λ stored. plain.cause stored (ReadCounter n ∷ u.log) n)
+    held_shown v u n loaded left called (item_reply found) plain.reads plain.cursor right (λ stored. plain.cause stored (ReadCounter n ∷ u.log) n)
 
 -- what such a pass reads
 pub reads_held : (k : Shape) (o : ℕ) (index : ℤ) (found : Option Value) (p q : Pass) → Reads k o (IsItemNamed k index found) p q → kind_in (view p).shape.kinds o ≡ kind.List → ∥ Possible (view p) ∥₁ → has_lock o (view p).log ≡ true → Stands k.texts (held o (view p)) (known o (view p)) → found ≡ item_named (list_of (known o (view p)).content) index

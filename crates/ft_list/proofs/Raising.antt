@@ -1,5 +1,5 @@
 -- That a call under the lock may raise what the plain list raises, and what a call is answered then.
-use Rattle.std.proofs.Common.{◌≤◌, ◌≡◌, ◌⊎◌, ℕ, ◌<◌, ℤ, Bool, true, false, List, [], ◌∷◌, length, Option, None, refl, sym, ap, ◌∙◌, subst, inl, inr, ⊎_elim}
+use Rattle.std.proofs.Common.{◌≤◌, ◌≡◌, ◌⊎◌, ℕ, ◌<◌, ℤ, Bool, true, false, true≢false, List, [], ◌∷◌, length, Option, None, refl, sym, ap, ◌∙◌, subst, inl, inr, ⊎_elim}
 use Rattle.std.specs.Prelude.{◌&&◌, not, slice_set, slice_index_or, negsuc}
 use Rattle.std.specs.Option.{option_map_or, unwrap_or}
 use Rattle.std.specs.List.{remove}
@@ -14,7 +14,7 @@ use Rattle.ft_model.specs.declared.reply.Raise.TheVariants as raise
 use Rattle.ft_model.specs.declared.reply.Reply.{Reply}
 use Rattle.ft_model.specs.declared.reply.Reply.TheVariants as reply
 use Rattle.ft_model.specs.Answers.{Answer as Given, answer_list, puts, shows, is_raised}
-use Rattle.ft_model.specs.Calls.{is_changing_list}
+use Rattle.ft_model.specs.Calls.{is_changing_list, cursor_of_list}
 use Rattle.ft_model.specs.Lists.{index_in}
 use Rattle.ft_model.specs.Tables.{StoredWorld}
 use Rattle.ft_model.specs.Worlds.{no_hands}
@@ -47,6 +47,13 @@ caused stored log o lc said n values r = ⊎_elim
     (λ (e : said ≡ reply.Raised raise.NoIndex). subst (λ (z : Reply). HasCause stored log (call.List o lc) z n) (sym e) (r.caps stored.world))
     (λ (e : said ≡ reply.Raised raise.NoValue). subst (λ (z : Reply). HasCause stored log (call.List o lc) z n) (sym e) (r.caps stored.world)) r.raises
 
+-- an `iter` raises nothing
+asks_none : (lc : ListCall) (o : ℕ) (said : Reply) (values : List Value) → Raises o lc said values → cursor_of_list lc ≡ None
+asks_none (list.Iter m) o said values r =
+    let done : reply.Done ≡ said = ap (λ (z : Given). z.reply) (r.answered []) in
+    absurd (true≢false (sym (raised said r.raises) ∙ ap is_raised (sym done)))
+asks_none lc o said values r = refl
+
 -- after a load of the counter the exception may be the reply
 pub raise_shown : (v w : View) (o : ℕ) (lc : ListCall) (said : Reply) (values : List Value) (n : ℕ) → Raises o lc said values → w ≡ noted (ReadCounter n) v → 0 < v.left → o < containers_in v.shape → has_lock o v.log ≡ true → (known o v).content ≡ content.List values → IsShown w (call.List o lc) said n
 raise_shown v w o lc said values n r is left low mine is_list =
@@ -54,6 +61,7 @@ raise_shown v w o lc said values n r is left low mine is_list =
     (replies_under_locks_are_shown (noted (ReadCounter n) v) (call.List o lc) said n
     (record { left = left; newer = []; rest = v.log; is = refl; own = tt; locks = tt })
     (ap (λ (b : Bool). is_changing_list lc && not b) (raised said r.raises) ∙ and_false (is_changing_list lc))
+    (asks_none lc o said values r)
     (λ stored has. (
       inr (sym (ap (λ (l : List Value). (answer_list stored.world no_hands o l lc).reply) (list_is o lc said values values (noted (ReadCounter n) v) low mine is_list stored has) ∙ ap (λ (z : Given). z.reply) (r.answered stored.world))),
       caused stored (ReadCounter n ∷ v.log) o lc said n values r,

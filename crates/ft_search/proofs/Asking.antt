@@ -18,6 +18,7 @@ use Rattle.ft_trace.specs.Acts.{noted, shown}
 use Rattle.ft_trace.specs.Addresses.{containers_in, class_of}
 use Rattle.ft_trace.specs.Causes.{AreOfOneCall, HasCause}
 use Rattle.ft_model.specs.Answers.{is_write}
+use Rattle.ft_model.specs.Calls.{moved_cursor}
 use Rattle.ft_model.specs.Histories.{IsReplied}
 use Rattle.ft_model.specs.Tables.{StoredWorld}
 use Rattle.ft_trace.specs.Kinds.{rows}
@@ -107,10 +108,10 @@ contended_after v w o key a b part loaded looks own stops = record { loaded = lo
 -- ---- under the lock, with the stamp that is loaded then
 
 -- a reply that is right, with its cause, in each stored world that the bank may have
-pub held_shown : (v u : View) (n : ℕ) → OnlyLoaded v u → 0 < v.left → (called : Call) (said : Reply) → is_write called said ≡ false → ((stored : StoredWorld) → MayHave (noted (ReadCounter n) u) stored → IsReplied called said (reply_in stored called))
+pub held_shown : (v u : View) (n : ℕ) → OnlyLoaded v u → 0 < v.left → (called : Call) (said : Reply) → is_write called said ≡ false → moved_cursor called ≡ None → ((stored : StoredWorld) → MayHave (noted (ReadCounter n) u) stored → IsReplied called said (reply_in stored called))
     → ((stored : StoredWorld) → HasCause stored (ReadCounter n ∷ u.log) called said n) → IsShown (noted (ReadCounter n) u) called said n
-held_shown v u n loaded left called said reads right cause =
-    replies_under_locks_are_shown (noted (ReadCounter n) u) called said n (record { left = subst (λ (z : ℕ). 0 < z) (sym loaded.work.left) left; newer = []; rest = u.log; is = refl; own = tt; locks = tt }) reads
+held_shown v u n loaded left called said reads none right cause =
+    replies_under_locks_are_shown (noted (ReadCounter n) u) called said n (record { left = subst (λ (z : ℕ). 0 < z) (sym loaded.work.left) left; newer = []; rest = u.log; is = refl; own = tt; locks = tt }) reads none
     (λ stored may. (right stored may, cause stored))
 
 -- the entry that follows

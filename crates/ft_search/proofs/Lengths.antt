@@ -1,5 +1,5 @@
 -- How many pairs, items or elements a container has, as its words say it.
-use Rattle.std.proofs.Common.{◌≡◌, ◌≢◌, ◌⊎◌, ℕ, zero, suc, ◌%◌, ◌<◌, true, false, List, [], ◌∷◌, ◌++◌, length, refl, sym, ap, ◌∙◌, subst, inr, arith, append_assoc}
+use Rattle.std.proofs.Common.{◌≡◌, ◌≢◌, ◌⊎◌, ℕ, zero, suc, ◌%◌, ◌<◌, true, false, List, [], ◌∷◌, ◌++◌, length, None, refl, sym, ap, ◌∙◌, subst, inr, arith, append_assoc}
 use Rattle.std.specs.Prelude.{slice_index, slice_index_or}
 use Rattle.ft_model.specs.Answers.{answer}
 use Rattle.ft_model.specs.Contents.{DictContent, SetContent, empty_dict, empty_set}
@@ -13,7 +13,7 @@ use Rattle.ft_model.specs.declared.reply.Reply.TheVariants as reply
 use Rattle.ft_model.specs.declared.script.Kind.{Kind}
 use Rattle.ft_model.specs.declared.script.Kind.TheVariants as kind
 use Rattle.ft_model.specs.Answers.{is_write, is_memory}
-use Rattle.ft_model.specs.Calls.{can_add}
+use Rattle.ft_model.specs.Calls.{can_add, moved_cursor}
 use Rattle.ft_model.specs.Histories.{IsReplied}
 use Rattle.ft_layout.specs.Containers.{StandsAs}
 use Rattle.ft_trace.specs.declared.Act.{Act}
@@ -76,15 +76,16 @@ count_is texts x kept stands = by kept.content kept.table stands
 -- it asks no more than that
 pub record IsPlain (called : Call) (said : Reply) : Type 0 where
   pub reads : is_write called said ≡ false
+  pub cursor : moved_cursor called ≡ None
   pub adds : can_add called ≡ false
   pub memory : is_memory said ≡ false
   pub replied : (plain : Reply) → said ≡ plain → IsReplied called said plain
   pub cause : (stored : StoredWorld) (log : List Act) (n : ℕ) → HasCause stored log called said n
 
 pub len_plain : (kind : Kind) (o count : ℕ) → IsPlain (len_of kind o) (reply.Count count)
-len_plain kind.Dict o count = record { reads = refl; adds = refl; memory = refl; replied = λ plain is. inr is; cause = λ stored log n. refl }
-len_plain kind.List o count = record { reads = refl; adds = refl; memory = refl; replied = λ plain is. inr is; cause = λ stored log n. refl }
-len_plain kind.Set o count = record { reads = refl; adds = refl; memory = refl; replied = λ plain is. inr is; cause = λ stored log n. refl }
+len_plain kind.Dict o count = record { reads = refl; cursor = refl; adds = refl; memory = refl; replied = λ plain is. inr is; cause = λ stored log n. refl }
+len_plain kind.List o count = record { reads = refl; cursor = refl; adds = refl; memory = refl; replied = λ plain is. inr is; cause = λ stored log n. refl }
+len_plain kind.Set o count = record { reads = refl; cursor = refl; adds = refl; memory = refl; replied = λ plain is. inr is; cause = λ stored log n. refl }
 
 pub len_sections : (kind : Kind) (o : ℕ) → LeavesSections (len_of kind o)
 len_sections kind.Dict o = λ n l sections. refl
@@ -151,7 +152,7 @@ len_shown v w called o count n part ask own is s =
       stamp = s.counted;
       answers = λ x stored is_kind stands agrees. len_replied kind stored o is_kind ∙ ap reply.Count (sym (agrees.block 1 count (omega arith) s.read ∙ count_is k.texts x (kept_at stored o) stands));
     } in
-    subst (λ (z : Call). IsShown w z (reply.Count count) n) (sym is) (looks_are_shown w (len_of kind o) o (reply.Count count) n ask plain.reads plain.adds plain.memory (λ e. absurd (cc)) (plain.replied (reply.Count count) refl) looked)
+    subst (λ (z : Call). IsShown w z (reply.Count count) n) (sym is) (looks_are_shown w (len_of kind o) o (reply.Count count) n ask plain.reads plain.cursor plain.adds plain.memory (λ e. absurd (cc)) (plain.replied (reply.Count count) refl) looked)
 
 -- ---- under the lock
 
@@ -169,4 +170,4 @@ len_held v u called o count n loaded left low mine is counts =
     let kept : kept_at stored o ≡ known o v = may.agrees o (subst (λ (k : Shape). o < containers_in k) (sym loaded.work.pass.shape) low) (loaded.work.pass.locks o ∙ mine) ∙ work_knows v u o loaded.work in
     plain.replied (reply_in stored (len_of kind o)) (ap reply.Count (counts ∙ ap (λ (z : Kept). length_of z.content) (sym kept)) ∙ sym (len_replied kind stored o kinds)) in
     subst (λ (z : Call). IsShown w z (reply.Count count) n) (sym is)
-    (held_shown v u n loaded left (len_of kind o) (reply.Count count) plain.reads right (λ stored. plain.cause stored (ReadCounter n ∷ u.log) n))
+    (held_shown v u n loaded left (len_of kind o) (reply.Count count) plain.reads plain.cursor right (λ stored. plain.cause stored (ReadCounter n ∷ u.log) n))

@@ -26,7 +26,7 @@ use Rattle.ft_section.proofs.Making.{making_stays}
 abbrev pub LeavesSections : Call → Type 0
 LeavesSections called = (n : ℕ) (l : List Act) (sections : List Begun) → begun_by called n l sections ≡ sections
 
-still_loaded : (v u : View) → OnlyLoaded v u → IsStill v → IsStill u
+pub still_loaded : (v u : View) → OnlyLoaded v u → IsStill v → IsStill u
 still_loaded v u o s =
     record {
       even = λ p. o.work.pass.writes p ∙ s.even p;

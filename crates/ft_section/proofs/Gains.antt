@@ -25,6 +25,7 @@ only_tried v o f s free keeps =
       left = refl;
       shape = refl;
       entries = refl;
+      cursors = λ n. refl;
       tokens = refl;
       learnt = refl;
       floor = refl;

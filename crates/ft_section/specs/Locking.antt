@@ -13,6 +13,7 @@ use Rattle.ft_trace.specs.declared.Snap.{Snap}
 use Rattle.ft_trace.specs.declared.View.{View}
 use Rattle.ft_trace.specs.Addresses.{containers_in}
 use Rattle.ft_trace.specs.Acts.{has_lock, is_writing, has_committed, has_emptied, stage, announces, used, debt, owes, flight}
+use Rattle.ft_trace.specs.Hands.{cursor_in}
 use Rattle.ft_trace.specs.Holds.{held, known}
 use Rattle.ft_trace.specs.Sections.{begun}
 use Rattle.ft_trace.specs.Words.{Stands}
@@ -28,6 +29,7 @@ pub record OnlyLocked (v w : View) : Type 0 where
   pub left : w.left ≡ v.left
   pub shape : w.shape ≡ v.shape
   pub entries : w.entries ≡ v.entries
+  pub cursors : (n : ℕ) → cursor_in n w.log ≡ cursor_in n v.log
   pub tokens : w.tokens ≡ v.tokens
   pub learnt : w.learnt ≡ v.learnt
   pub floor : w.has_floor ≡ v.has_floor

@@ -6,6 +6,7 @@ use Rattle.ft_model.specs.declared.call.Call.TheVariants as call
 use Rattle.ft_model.specs.declared.reply.Reply.{Reply}
 use Rattle.ft_model.specs.declared.reply.Reply.TheVariants as reply
 use Rattle.ft_model.specs.Answers.{is_write}
+use Rattle.ft_model.specs.Calls.{moved_cursor}
 use Rattle.ft_model.specs.Histories.{IsReplied}
 use Rattle.ft_model.specs.Tables.{StoredWorld}
 use Rattle.ft_section.specs.declared.answers.Ended.{Ended}
@@ -39,11 +40,12 @@ ended_by marks s = if marks == 0 then ended.Kept s else ended.Suspended marks s
 abbrev pub answered_view : Call → Reply → ℕ → View → View
 answered_view called said n v = noted (Answer called said n) (noted (ReadCounter n) v)
 
--- the call isn't a write, and a pass with this log may reply so whatever the containers have, at a load of the counter
+-- the call isn't a write and asks no cursor, and a pass with this log may reply so whatever the containers have, at a load of the counter
 pub record IsSaid (called : Call) (said : Reply) (log : List Act) : Type 0 where
   pub read : is_write called said ≡ false
   pub replied : (plain : Reply) → IsReplied called said plain
   pub cause : (stored : StoredWorld) (n : ℕ) → HasCause stored (ReadCounter n ∷ log) called said n
+  pub no_cursor : moved_cursor called ≡ None
 
 -- the locks of a call on these containers: the lower one first, and where there is one alone its lock noted once
 pub record AreNoted (objects : Objects) (own : Taking) : Type 0 where

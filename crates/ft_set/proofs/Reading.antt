@@ -54,4 +54,4 @@ module _ (v u : View) (s : ℕ) (key : Key) (read : Option (ℕ × ℕ)) (loaded
     has_is = ap (λ (z : SetContent). has_element z.elements key) set_is ∙ has_by read held
 
   pub has_shown : IsShown w (call.Set s (set.Has key)) (reply.Truth (is_some read)) n
-  has_shown = held_shown v u n loaded left (call.Set s (set.Has key)) (reply.Truth (is_some read)) refl (λ stored may. inr (ap reply.Truth (sym (has_is stored may)))) (λ stored. refl)
+  has_shown = held_shown v u n loaded left (call.Set s (set.Has key)) (reply.Truth (is_some read)) refl refl (λ stored may. inr (ap reply.Truth (sym (has_is stored may)))) (λ stored. refl)

@@ -7,7 +7,7 @@ use lib.ListN.{get_elem?}
 use Rattle.ft_trace.specs.declared.Shape.{Shape}
 use Rattle.ft_trace.specs.declared.View.{View}
 use Rattle.ft_trace.specs.declared.Act.{Act}
-use Rattle.ft_trace.specs.declared.Act.TheVariants.{Answer, PutRoot, Commit, Retire, WriteNumber}
+use Rattle.ft_trace.specs.declared.Act.TheVariants.{Answer, AnswerCursor, PutRoot, Commit, Retire, WriteNumber}
 use Rattle.ft_trace.specs.Addresses.{write_number}
 use Rattle.ft_trace.specs.Acts.{used, debt, starter, noted, maker, made, both, spent, sender, note}
 use Rattle.ft_trace.specs.Entries.{total}
@@ -68,6 +68,7 @@ spends k es id v some_one (Commit c r f s) may =
     let low = once_low (used v.log) in
     omega (arith, g, room, low, some_one)
 spends k es id v some_one (Answer c r n) may = let g = stays k es id v (Answer c r n) may write_number tt (λ e. absurd (cc)) in omega (arith, g)
+spends k es id v some_one (AnswerCursor c r n m had left) may = let g = stays k es id v (AnswerCursor c r n m had left) may write_number tt (λ e. absurd (cc)) in omega (arith, g)
 spends k es id v some_one (Retire t f) may =
     let g : word k (did id v (Retire t f) ∷ es) write_number ≡ word k es write_number + 1 = moves k es id v (Retire t f) may ∙ one_up (word k es write_number) may.2 in
     let owed = may.3 in

@@ -7,18 +7,21 @@ use lib.ListN.{get_elem?}
 use Rattle.ft_trace.specs.declared.Shape.{Shape}
 use Rattle.ft_trace.specs.declared.View.{View}
 use Rattle.ft_trace.specs.declared.Act.{Act}
-use Rattle.ft_trace.specs.declared.Act.TheVariants.{Commit, Answer}
+use Rattle.ft_trace.specs.declared.Act.TheVariants.{Commit, Answer, AnswerCursor}
 use Rattle.ft_model.specs.declared.call.Call.{Call}
 use Rattle.ft_trace.specs.declared.Entry.{Entry}
 use Rattle.ft_trace.specs.Acts.{place, Reports, starter, noted, entries_next, maker, made, both, spent, sender, note}
 use Rattle.ft_model.specs.declared.script.Kind.{Kind}
 use Rattle.ft_model.specs.Histories.{IsReplied}
 use Rattle.ft_model.specs.Tables.{stored_newest}
+use Rattle.ft_model.specs.Answers.{answer}
+use Rattle.ft_model.specs.Worlds.{no_hands}
 use Rattle.ft_trace.specs.Worlds.{first_writes, reply_in}
 use Rattle.ft_trace.specs.Traces.{Event, did, forked, joined, sent, run, word, writes_of, history, May, Valid}
 use Rattle.ft_trace.specs.Entries.{total, entries_of, IsNumber, Right, AllRight, is_number, Numbered}
 use Rattle.ft_trace.proofs.Sizes.{set_views, one_more, one_view}
 use Rattle.ft_trace.proofs.Stamps.{all_writes, writes_stay, grows_by}
+use Rattle.ft_trace.proofs.Cursors.{hands_with, moved_reads, moved_replied, moved_reply}
 use Rattle.ft_trace.proofs.Contents.{count, counted}
 use Rattle.ft_trace.proofs.Totals.{weight, parts_total, entries_total, total_two, total_alone}
 
@@ -31,7 +34,8 @@ right_stays kinds b cs e r = record {
   wrote = r.wrote;
   write = λ w. number_stays b cs e.stamp e.call (r.write w);
   low = le_trans r.low (grows_by b cs);
-  reply = subst (λ (l : List Call). IsReplied e.call e.reply (reply_in (stored_newest kinds l) e.call)) (sym (writes_stay e.stamp b cs r.low)) r.reply;
+  hands = r.hands;
+  reply = subst (λ (l : List Call). IsReplied e.call e.reply (answer (stored_newest kinds l).world r.hands e.call).reply) (sym (writes_stay e.stamp b cs r.low)) r.reply;
 }
 
 all_stay : (kinds : List Kind) (b : Act) (cs : List Call) (es : List Entry) → AllRight kinds cs es → AllRight kinds (writes_of b cs) es
@@ -46,8 +50,9 @@ right_next : (k : Shape) (es : List Event) → count k es ≡ length (history es
 right_next k es count v (Commit c r f s) found may fs all =
     let is : f ≡ length (history es) = found ∙ count in
     let all_of : first_writes f (c ∷ history es) ≡ history es = writes_stay f (Commit c r f s) (history es) (omega (arith, is)) ∙ (ap (λ (z : ℕ). first_writes z (history es)) is ∙ all_writes (history es)) in
-    (record { wrote = sym may.0; write = λ _. inl (is, refl); low = omega (arith, is); reply = subst (λ (l : List Call). IsReplied c r (reply_in (stored_newest k.kinds l) c)) (sym all_of) may.4 }, all)
-right_next k es count v (Answer c x n) found may fs all = (record { wrote = sym may.0; write = λ no. absurd (true≢false (sym no)); low = (let low = may.1 in omega arith); reply = may.2 }, all)
+    (record { wrote = sym may.0; write = λ _. inl (is, refl); low = omega (arith, is); hands = no_hands; reply = subst (λ (l : List Call). IsReplied c r (reply_in (stored_newest k.kinds l) c)) (sym all_of) may.4 }, all)
+right_next k es count v (Answer c x n) found may fs all = (record { wrote = sym may.0; write = λ no. absurd (true≢false (sym no)); low = (let low = may.1 in omega arith); hands = no_hands; reply = may.2 }, all)
+right_next k es count v (AnswerCursor c x n m had left) found may fs all = (record { wrote = sym (moved_reads c m may.0 x); write = λ no. absurd (true≢false (sym no)); low = (let low = may.1 in omega arith); hands = hands_with m had; reply = moved_replied c m may.0 x _ (moved_reply _ c m had x left may.2) }, all)
 right_next k es count v act found may fs all = all
 
 -- each entry of each pass is right
@@ -83,6 +88,7 @@ once_by k es count (Commit c r f s) found n old =
     let all : pick (eqb f n) + total (is_number n) (entries_of es) ≡ pick (ltb n (suc (length (history es)))) = omega (arith, next, here, old) in
     all
 once_by k es count (Answer c x m) found n old = omega arith
+once_by k es count (AnswerCursor c x m z had left) found n old = omega arith
 once_by k es count act found n old = old
 
 -- each number below the counter is that of one entry

@@ -11,7 +11,7 @@ use Rattle.ft_model.specs.Answers.{is_memory, is_write}
 use Rattle.ft_model.specs.Calls.{is_changing}
 use Rattle.ft_model.specs.Tables.{stored_newest, would_pass}
 use Rattle.ft_trace.specs.declared.Act.{Act}
-use Rattle.ft_trace.specs.declared.Act.TheVariants.{Commit, Answer, ReadCounter, ReadCount}
+use Rattle.ft_trace.specs.declared.Act.TheVariants.{Commit, Answer, AnswerCursor, ReadCounter, ReadCount}
 use Rattle.ft_trace.specs.declared.Entry.{Entry}
 use Rattle.ft_trace.specs.declared.Shape.{Shape}
 use Rattle.ft_trace.specs.declared.View.{View}
@@ -22,6 +22,7 @@ use Rattle.ft_trace.specs.Entries.{AllRight}
 use Rattle.ft_trace.specs.Worlds.{first_writes}
 use Rattle.ft_trace.specs.Traces.{Event, did, forked, sent, joined, run, word, writes_of, history, May, Valid}
 use Rattle.ft_trace.proofs.Closing.{all_right}
+use Rattle.ft_trace.proofs.Cursors.{moved_plain, moved_short}
 use Rattle.ft_trace.proofs.Contents.{counted}
 use Rattle.ft_trace.proofs.Moments.{was}
 use Rattle.ft_trace.proofs.Sizes.{set_views, one_more, one_view}
@@ -62,6 +63,9 @@ earned_next k es valid id v at (Commit c r f s) found may all =
     let all_of : first_writes f (c ∷ history es) ≡ history es = writes_stay f (Commit c r f s) (history es) (omega (arith, is)) ∙ (ap (λ (z : ℕ). first_writes z (history es)) is ∙ all_writes (history es)) in
     (subst (λ (l : List Call). IsEarnedSo k l c r) (sym all_of) (plain_earned k (history es) c r (no_memory c r may.0) may.9), all)
 earned_next k es valid id v at (Answer c r n) found may all = (cause_earned k es valid id v at c r n may.4, all)
+earned_next k es valid id v at (AnswerCursor c r n m had left) found may all =
+    let cs = first_writes n (history es) in
+    (plain_earned k cs c r (moved_plain (stored_newest k.kinds cs).world c m may.0 had r left may.2) (moved_short (stored_newest k.kinds cs).world c m may.0), all)
 earned_next k es valid id v at act found may all = all
 
 earned_stays : (k : Shape) (b : Act) (cs : List Call) (fs : List Entry) → AllRight k.kinds cs fs → AllEarned k cs fs → AllEarned k (writes_of b cs) fs

@@ -16,7 +16,6 @@ use Rattle.ft_model.specs.declared.script.Kind.{Kind}
 use Rattle.ft_model.specs.Answers.{answer, world_by}
 use Rattle.ft_model.specs.Histories.{IsReplied}
 use Rattle.ft_model.specs.Tables.{StoredWorld, stored_by, stored_newest, takes_by, takes_newest, CanLackMemory, IsEarnedReply, IsFittingReply, takes_in, would_pass}
-use Rattle.ft_model.specs.Worlds.{no_hands}
 use Rattle.ft_model.proofs.StoredLaws.{newest_stored, newest_takes, stored_world}
 use Rattle.ft_trace.specs.declared.Entry.{Entry}
 use Rattle.ft_trace.specs.declared.Shape.{Shape}
@@ -33,7 +32,7 @@ take_all [] (suc n) low = refl
 take_all (x ∷ xs) zero low = absurd (omega (arith, low))
 take_all (x ∷ xs) (suc n) low = ap (λ l. x ∷ l) (take_all xs n (omega (arith, low)))
 
-take_front : {A : Type 0} (l m : List A) (n : ℕ) → n ≤ length l → take n (l ++ m) ≡ take n l
+pub take_front : {A : Type 0} (l m : List A) (n : ℕ) → n ≤ length l → take n (l ++ m) ≡ take n l
 take_front [] m zero low = refl
 take_front [] m (suc n) low = absurd (omega (arith, low))
 take_front (x ∷ xs) m zero low = refl
@@ -53,18 +52,18 @@ first_in_order n (c ∷ cs) =
     ap (λ (b : Bool). reverse (cond b (c ∷ cs) (first_writes n cs))) (le-ltb (length cs) n (omega (arith, few)))
     ∙ (first_in_order n cs ∙ (sym (take_front (reverse cs) (c ∷ []) n (omega (arith, few, l))) ∙ ap (take n) (sym (reverse-cons c cs)))))
 
-stored_in_order : (kinds : List Kind) (n : ℕ) (cs : List Call) → stored_newest kinds (first_writes n cs) ≡ stored_by kinds (take n (reverse cs))
+pub stored_in_order : (kinds : List Kind) (n : ℕ) (cs : List Call) → stored_newest kinds (first_writes n cs) ≡ stored_by kinds (take n (reverse cs))
 stored_in_order kinds n cs = newest_stored kinds (first_writes n cs) ∙ ap (stored_by kinds) (first_in_order n cs)
 
 takes_in_order : (kinds : List Kind) (class n : ℕ) (cs : List Call) → takes_newest kinds class (first_writes n cs) ≡ takes_by kinds class (take n (reverse cs))
 takes_in_order kinds class n cs = newest_takes kinds class (first_writes n cs) ∙ ap (takes_by kinds class) (first_in_order n cs)
 
-get_front : {A : Type 0} (l m : List A) (n : ℕ) → n < length l → slice_get (l ++ m) n ≡ slice_get l n
+pub get_front : {A : Type 0} (l m : List A) (n : ℕ) → n < length l → slice_get (l ++ m) n ≡ slice_get l n
 get_front [] m n low = absurd (omega (arith, low))
 get_front (x ∷ xs) m zero low = refl
 get_front (x ∷ xs) m (suc n) low = get_front xs m n (omega (arith, low))
 
-get_last : {A : Type 0} (l : List A) (x : A) (n : ℕ) → n ≡ length l → slice_get (l ++ x ∷ []) n ≡ Some x
+pub get_last : {A : Type 0} (l : List A) (x : A) (n : ℕ) → n ≡ length l → slice_get (l ++ x ∷ []) n ≡ Some x
 get_last [] x zero e = refl
 get_last [] x (suc n) e = absurd (omega (arith, e))
 get_last (y ∷ ys) x zero e = absurd (omega (arith, e))
@@ -107,7 +106,8 @@ stands k cs e right earned =
       within = omega (arith, low, l);
       wrote = right.wrote;
       number = λ w. number_in_order cs e.stamp e.call (right.write w);
-      reply = subst (λ z. IsReplied e.call e.reply (answer z no_hands e.call).reply) world right.reply;
+      hands = right.hands;
+      reply = subst (λ z. IsReplied e.call e.reply (answer z right.hands e.call).reply) world right.reply;
       earned = λ mine. (earned_so k (first_writes e.stamp cs) calls stored (λ class. takes_in_order k.kinds class e.stamp cs) mine e.call e.reply earned).0;
       fitting = (earned_so k (first_writes e.stamp cs) calls stored (λ class. takes_in_order k.kinds class e.stamp cs) [] e.call e.reply earned).1;
     }

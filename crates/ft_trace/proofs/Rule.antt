@@ -26,7 +26,7 @@ use Rattle.std.proofs.Common.{Option}
 use Rattle.ft_model.specs.declared.content.DictPair.{DictPair}
 use Rattle.ft_model.specs.declared.content.Element.{Element}
 use Rattle.ft_trace.specs.Kinds.{is_key, pair_words, element_words}
-use Rattle.ft_trace.proofs.Stamped.{commit_rises, answer_rises, loads_rise, empty_earned}
+use Rattle.ft_trace.proofs.Stamped.{commit_rises, answer_rises, moved_rises, loads_rise, empty_earned}
 use Rattle.ft_trace.proofs.Closing.{all_right, once, closes}
 use Rattle.ft_trace.proofs.Announcing.{fits, heard}
 use Rattle.ft_trace.proofs.Pieces.{block_at}
@@ -73,7 +73,7 @@ pub entries_are_right : EntriesAreRight
 entries_are_right = all_right
 
 pub stamps_rise : StampsRise
-stamps_rise k es valid j u at newer rest = (commit_rises k es valid j u at newer rest, answer_rises k es valid j u at newer rest, λ mid m n is. loads_rise k es valid j u at newer mid rest m n is)
+stamps_rise k es valid j u at newer rest = (commit_rises k es valid j u at newer rest, answer_rises k es valid j u at newer rest, moved_rises k es valid j u at newer rest, λ mid m n is. loads_rise k es valid j u at newer mid rest m n is)
 
 pub memory_errors_are_earned : MemoryErrorsAreEarned
 memory_errors_are_earned = empty_earned

@@ -1,16 +1,18 @@
 -- Stamps of a pass never fall, and rise after a write; and what loads of the counter gave never falls.
 use Rattle.std.proofs.Common.{◌≡◌, ℕ, ◌+◌, ◌-◌, ◌≤◌, List, [], ◌∷◌, ◌++◌, length, refl, sym, ap, ◌∙◌, subst, arith, le_trans}
+use Rattle.std.specs.Prelude.{Option}
 use mathlib.Core.Option.{some}
 use lib.ListN.{get_elem?}
 use Rattle.ft_model.specs.declared.call.Call.{Call}
 use Rattle.ft_model.specs.declared.reply.Reply.{Reply}
+use Rattle.ft_model.specs.declared.cursor.Cursor.{Cursor}
 use Rattle.ft_model.specs.Classes.{IsClass}
 use Rattle.ft_model.specs.Tables.{takes_newest}
 use Rattle.ft_trace.specs.declared.Shape.{Shape}
 use Rattle.ft_trace.specs.declared.Snap.{Snap}
 use Rattle.ft_trace.specs.declared.View.{View}
 use Rattle.ft_trace.specs.declared.Act.{Act}
-use Rattle.ft_trace.specs.declared.Act.TheVariants.{Commit, Answer, ReadCounter, ReadCount}
+use Rattle.ft_trace.specs.declared.Act.TheVariants.{Commit, Answer, AnswerCursor, ReadCounter, ReadCount}
 use Rattle.ft_trace.specs.Addresses.{tables_in}
 use Rattle.ft_trace.specs.Acts.{noted, starter, maker, made, both, spent, sender, note}
 use Rattle.ft_trace.specs.Worlds.{first_writes}
@@ -37,6 +39,7 @@ least_by k es id v (Commit c r f s) ok low =
     let found : f ≡ count k es = ok.1.2 in
     omega (arith, up, found)
 least_by k es id v (Answer c r n) ok low = le_trans ok.1.3.1 (one_rises k (did id v (Answer c r n)) es ok)
+least_by k es id v (AnswerCursor c r n m had left) ok low = le_trans ok.1.3.1 (one_rises k (did id v (AnswerCursor c r n m had left)) es ok)
 least_by k es id v act ok low = le_trans low (one_rises k (did id v act) es ok)
 
 pub least_low : (k : Shape) (es : List Event) → Valid k es → (j : ℕ) (u : View) → get_elem? (run k es).views j ≡ some u → least_stamp u.log ≤ count k es
@@ -66,6 +69,7 @@ least_over (a ∷ newer) rest own = by a own (λ o. least_over newer rest o)
     by : (a : Act) → AreOfOneCall (a ∷ newer) → (AreOfOneCall newer → least_stamp (newer ++ rest) ≡ least_stamp rest) → least_stamp (a ∷ (newer ++ rest)) ≡ least_stamp rest
     by (Commit c r f s) own more = absurd own
     by (Answer c r n) own more = absurd own
+    by (AnswerCursor c r n m had left) own more = absurd own
     by act own more = more own
 
 -- a number that a load of this call gave
@@ -89,6 +93,13 @@ commit_rises k es valid j u at newer rest c r f s is =
 pub answer_rises : (k : Shape) (es : List Event) → Valid k es → (j : ℕ) (u : View) → get_elem? (run k es).views j ≡ some u → (newer rest : List Act) (c : Call) (r : Reply) (n : ℕ) → u.log ≡ newer ++ Answer c r n ∷ rest → least_stamp rest ≤ n
 answer_rises k es valid j u at newer rest c r n is =
     let w = was k es valid j u at newer (Answer c r n) rest is in
+    let up = loaded_up k w.older w.valid j w.view w.at n w.may.3 in
+    let same : least_stamp w.view.log ≡ least_stamp rest = ap least_stamp w.log in
+    omega (arith, up, same)
+
+pub moved_rises : (k : Shape) (es : List Event) → Valid k es → (j : ℕ) (u : View) → get_elem? (run k es).views j ≡ some u → (newer rest : List Act) (c : Call) (r : Reply) (n number : ℕ) (had : Option Cursor) (left : Cursor) → u.log ≡ newer ++ AnswerCursor c r n number had left ∷ rest → least_stamp rest ≤ n
+moved_rises k es valid j u at newer rest c r n number had left is =
+    let w = was k es valid j u at newer (AnswerCursor c r n number had left) rest is in
     let up = loaded_up k w.older w.valid j w.view w.at n w.may.3 in
     let same : least_stamp w.view.log ≡ least_stamp rest = ap least_stamp w.log in
     omega (arith, up, same)

@@ -5,7 +5,7 @@ use lib.ListN.{get_elem?}
 use Rattle.ft_trace.specs.declared.Shape.{Shape}
 use Rattle.ft_trace.specs.declared.View.{View}
 use Rattle.ft_trace.specs.declared.Act.{Act}
-use Rattle.ft_trace.specs.declared.Act.TheVariants.{Commit, Answer}
+use Rattle.ft_trace.specs.declared.Act.TheVariants.{Commit, Answer, AnswerCursor}
 use Rattle.ft_model.specs.declared.call.Call.{Call}
 use Rattle.ft_trace.specs.declared.Entry.{Entry}
 use Rattle.ft_trace.specs.Acts.{noted, entries_next, left_next, maker, made, both, spent, sender, note}
@@ -71,6 +71,7 @@ parts_total k (joined id v other w ∷ es) valid = total_joined (λ (u : View). 
 left_by : (k : Shape) (m : Moment) (cs : List Call) (v : View) (b : Act) → May k m cs v b → left_next b v.left + length (writes_of b cs) ≤ v.left + length cs
 left_by k m cs v (Commit c r f s) may = let room = may.3 in omega arith
 left_by k m cs v (Answer c r n) may = omega arith
+left_by k m cs v (AnswerCursor c r n m' had left) may = omega arith
 left_by k m cs v act may = le_refl (v.left + length cs)
 
 -- the writes made and the calls that are left
@@ -98,6 +99,7 @@ left_total k (joined id v other w ∷ es) valid =
 weight_by : (h : Entry → ℕ) (b : Act) (es fs : List Entry) → total h (entries_next b es) + total h fs ≡ total h (entries_next b fs) + total h es
 weight_by h (Commit c r f s) es fs = omega arith
 weight_by h (Answer c x n) es fs = omega arith
+weight_by h (AnswerCursor c x n m had left) es fs = omega arith
 weight_by h act es fs = omega arith
 
 -- the views have the entries of the trace, and no others

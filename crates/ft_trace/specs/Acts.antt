@@ -2,7 +2,7 @@
 use Rattle.std.specs.Prelude.{◌≡◌, ℕ, suc, max, ◌+◌, ◌-◌, ◌*◌, ◌^◌, ◌%◌, ◌==◌, nat_lt, Bool, true, false, cond, List, [], ◌∷◌, ◌++◌, slice_index, slice_set}
 use prog.Atomic.{either}
 use Rattle.ft_trace.specs.declared.Act.{Act}
-use Rattle.ft_trace.specs.declared.Act.TheVariants.{Lock, Unlock, StartWrite, PutBlock, PutRoot, PutTable, PutFresh, PutHeader, ReadHeader, Commit, StopWrite, Version, ReadBlock, ReadRoot, ReadTable, ReadCounter, Answer, LowerCount, RaiseCount, ReadCount, ReadFree, TakeTable, GiveTable, Retire, Announce, ReadAnnounced, WriteNumber, TakeFloor}
+use Rattle.ft_trace.specs.declared.Act.TheVariants.{Lock, Unlock, StartWrite, PutBlock, PutRoot, PutTable, PutFresh, PutHeader, ReadHeader, Commit, StopWrite, Version, ReadBlock, ReadRoot, ReadTable, ReadCounter, Answer, AnswerCursor, LowerCount, RaiseCount, ReadCount, ReadFree, TakeTable, GiveTable, Retire, Announce, ReadAnnounced, WriteNumber, TakeFloor}
 use Rattle.ft_trace.specs.declared.Entry.{Entry}
 use Rattle.ft_trace.specs.declared.Shape.{Shape}
 use Rattle.ft_model.specs.declared.call.Call.{Call}
@@ -29,6 +29,7 @@ place (ReadRoot o f) = block o 0
 place (ReadTable t i f) = cell t i
 place (ReadCounter f) = counter
 place (Answer c r n) = counter
+place (AnswerCursor c r n number had left) = counter
 place (LowerCount c old f) = count_of_class c
 place (RaiseCount c f) = count_of_class c
 place (ReadCount c f) = count_of_class c
@@ -231,12 +232,14 @@ owes (a ∷ l) = owes_next a (owes l)
 abbrev pub entries_next : Act → List Entry → List Entry
 entries_next (Commit c r f s) es = record { call = c; reply = r; stamp = f; wrote = true } ∷ es
 entries_next (Answer c x s) es = record { call = c; reply = x; stamp = s; wrote = false } ∷ es
+entries_next (AnswerCursor c x s number had left) es = record { call = c; reply = x; stamp = s; wrote = false } ∷ es
 entries_next act es = es
 
 -- the calls that are left
 abbrev pub left_next : Act → ℕ → ℕ
 left_next (Commit c r f s) n = n - 1
 left_next (Answer c r x) n = n - 1
+left_next (AnswerCursor c r x number had left) n = n - 1
 left_next act n = n
 
 -- how many writes a log shows: the greatest of what loads of the counter gave, and each own write's number and one

@@ -6,7 +6,7 @@ use Rattle.ft_model.specs.declared.reply.Reply.TheVariants as reply
 use Rattle.ft_model.specs.declared.reply.Raise.TheVariants as raise
 use Rattle.ft_model.specs.Tables.{StoredWorld, CanLackMemory, takes_in, would_pass}
 use Rattle.ft_trace.specs.declared.Act.{Act}
-use Rattle.ft_trace.specs.declared.Act.TheVariants.{Commit, Answer, ReadCounter, ReadCount}
+use Rattle.ft_trace.specs.declared.Act.TheVariants.{Commit, Answer, AnswerCursor, ReadCounter, ReadCount}
 use Rattle.ft_trace.specs.Acts.{owes}
 use Rattle.ft_trace.specs.Sections.{begun, IsInnermostHeld}
 
@@ -15,6 +15,7 @@ abbrev pub AreOfOneCall : List Act → Type 0
 AreOfOneCall [] = Unit {0}
 AreOfOneCall (Commit c r f s ∷ l) = ⊥
 AreOfOneCall (Answer c r n ∷ l) = ⊥
+AreOfOneCall (AnswerCursor c r n number had left ∷ l) = ⊥
 AreOfOneCall (act ∷ l) = AreOfOneCall l
 
 -- a load of the counter since the last entry gave n
@@ -55,4 +56,5 @@ abbrev pub least_stamp : List Act → ℕ
 least_stamp [] = 0
 least_stamp (Commit c r f s ∷ l) = f + 1
 least_stamp (Answer c r n ∷ l) = n
+least_stamp (AnswerCursor c r n number had left ∷ l) = n
 least_stamp (act ∷ l) = least_stamp l

@@ -1,13 +1,14 @@
 -- What is said of the entries of all passes.
-use Rattle.std.specs.Prelude.{◌≡◌, ◌⊎◌, ℕ, ◌+◌, ◌≤◌, ◌==◌, ◌&&◌, true, cond, nat_lt, List, [], ◌∷◌, length}
+use Rattle.std.specs.Prelude.{◌≡◌, ◌⊎◌, ℕ, ◌+◌, ◌≤◌, ◌==◌, ◌&&◌, true, cond, nat_lt, List, [], ◌∷◌, length, Option}
 use Rattle.ft_model.specs.declared.call.Call.{Call}
 use Rattle.ft_model.specs.declared.script.Kind.{Kind}
-use Rattle.ft_model.specs.Answers.{is_write}
+use Rattle.ft_model.specs.declared.cursor.Cursor.{Cursor}
+use Rattle.ft_model.specs.Answers.{answer, is_write}
 use Rattle.ft_model.specs.Histories.{IsReplied}
 use Rattle.ft_model.specs.Tables.{stored_newest}
 use Rattle.ft_trace.specs.declared.Entry.{Entry}
 use Rattle.ft_trace.specs.Acts.{entries_next}
-use Rattle.ft_trace.specs.Worlds.{first_writes, reply_in}
+use Rattle.ft_trace.specs.Worlds.{first_writes}
 use Rattle.ft_trace.specs.Traces.{Event, did, forked, joined, sent}
 
 -- a number of each, added up
@@ -29,12 +30,14 @@ IsNumber [] n c = ⊥
 IsNumber (d ∷ cs) n c = ((n ≡ length cs) × (c ≡ d)) ⊎ IsNumber cs n c
 
 -- The entry is that of the write with its number, or is no write. It has the plain containers' reply after as many
--- writes as its stamp says, or that of a section, or a MemoryError.
+-- writes as its stamp says, to a thread with some cursors, or that of a section, or a MemoryError.
 pub record Right (kinds : List Kind) (cs : List Call) (e : Entry) : Type 0 where
   pub wrote : e.wrote ≡ is_write e.call e.reply
   pub write : e.wrote ≡ true → IsNumber cs e.stamp e.call
   pub low : e.stamp ≤ length cs
-  pub reply : IsReplied e.call e.reply (reply_in (stored_newest kinds (first_writes e.stamp cs)) e.call)
+  pub hands : List (Option Cursor)
+  pub reply : IsReplied e.call e.reply
+      (answer (stored_newest kinds (first_writes e.stamp cs)).world hands e.call).reply
 
 abbrev pub AllRight : List Kind → List Call → List Entry → Type 0
 AllRight kinds cs [] = Unit {0}

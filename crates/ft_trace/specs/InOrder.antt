@@ -1,24 +1,25 @@
 -- Entries beside the writes in their order, the oldest first, in the words of the plain containers.
-use Rattle.std.specs.Prelude.{◌≡◌, ℕ, ◌<◌, ◌≤◌, true, All, List, length, reverse, take, Some, slice_get}
+use Rattle.std.specs.Prelude.{◌≡◌, ℕ, ◌<◌, ◌≤◌, true, All, List, length, reverse, take, Option, Some, slice_get}
 use Rattle.ft_model.specs.declared.call.Call.{Call}
+use Rattle.ft_model.specs.declared.cursor.Cursor.{Cursor}
 use Rattle.ft_model.specs.declared.entry.Entry.{Entry as NamedEntry}
 use Rattle.ft_model.specs.Answers.{answer, is_write, world_by}
 use Rattle.ft_model.specs.Histories.{IsReplied}
 use Rattle.ft_model.specs.Tables.{stored_by, IsEarnedReply, IsFittingReply}
-use Rattle.ft_model.specs.Worlds.{no_hands}
 use Rattle.ft_trace.specs.declared.Entry.{Entry}
 use Rattle.ft_trace.specs.declared.Shape.{Shape}
 use Rattle.ft_trace.specs.Earnings.{AllEarned}
 use Rattle.ft_trace.specs.Entries.{Numbered, is_number, total}
 
 -- The entry beside these writes: its stamp is at most their number, and that of a write is its place among them. Its
--- reply is that of the plain containers after as many writes as the stamp says, or that of a section, or a MemoryError; a
--- MemoryError has its cause there, and fits the call.
+-- reply is that of the plain containers after as many writes as the stamp says, to a thread with some cursors, or that of
+-- a section, or a MemoryError; a MemoryError has its cause there, and fits the call.
 pub record StandsInOrder (k : Shape) (calls : List Call) (e : Entry) : Type 0 where
   pub within : e.stamp ≤ length calls
   pub wrote : e.wrote ≡ is_write e.call e.reply
   pub number : e.wrote ≡ true → slice_get calls e.stamp ≡ Some e.call
-  pub reply : IsReplied e.call e.reply (answer (world_by k.kinds (take e.stamp calls)) no_hands e.call).reply
+  pub hands : List (Option Cursor)
+  pub reply : IsReplied e.call e.reply (answer (world_by k.kinds (take e.stamp calls)) hands e.call).reply
   pub earned : (mine : List NamedEntry)
       → IsEarnedReply k.kinds k.tables k.passes (take e.stamp calls) mine e.call e.reply
   pub fitting : IsFittingReply (stored_by k.kinds (take e.stamp calls)) e.call e.reply

@@ -1,9 +1,10 @@
 -- The parts of the bank's rule: what holds of each valid trace, and so between any two steps of any passes.
-use Rattle.std.specs.Prelude.{◌≡◌, ◌≢◌, ◌⊎◌, ℕ, suc, ◌+◌, ◌-◌, ◌*◌, ◌%◌, ◌<◌, ◌≤◌, true, cond, nat_lt, List, [], ◌∷◌, ◌++◌, length, slice_index, false}
+use Rattle.std.specs.Prelude.{◌≡◌, ◌≢◌, ◌⊎◌, ℕ, suc, ◌+◌, ◌-◌, ◌*◌, ◌%◌, ◌<◌, ◌≤◌, true, cond, nat_lt, List, [], ◌∷◌, ◌++◌, length, slice_index, false, Option}
 use mathlib.Core.Option.{some}
 use lib.ListN.{get_elem?}
 use Rattle.ft_model.specs.declared.call.Call.{Call}
 use Rattle.ft_model.specs.declared.reply.Reply.{Reply}
+use Rattle.ft_model.specs.declared.cursor.Cursor.{Cursor}
 use Rattle.ft_model.specs.declared.data.Key.{Key}
 use Rattle.std.specs.Prelude.{All}
 use Rattle.ft_model.specs.declared.content.DictPair.{DictPair}
@@ -19,7 +20,7 @@ use Rattle.ft_layout.specs.Words.{FitsKey}
 use Rattle.ft_trace.specs.declared.Act.{Act}
 use Rattle.ft_trace.specs.declared.Snap.{Snap}
 use Rattle.ft_trace.specs.Causes.{FoundEmpty, least_stamp}
-use Rattle.ft_trace.specs.declared.Act.TheVariants.{Commit, Answer, ReadCounter, ReadRoot, ReadTable, ReadCount}
+use Rattle.ft_trace.specs.declared.Act.TheVariants.{Commit, Answer, AnswerCursor, ReadCounter, ReadRoot, ReadTable, ReadCount}
 use Rattle.ft_trace.specs.declared.Shape.{Shape}
 use Rattle.ft_trace.specs.declared.View.{View}
 use Rattle.ft_trace.specs.Bits.{bit}
@@ -95,6 +96,8 @@ StampsRise =
     (k : Shape) (es : List Event) → Valid k es → (j : ℕ) (u : View) → HasView k es j u → (newer rest : List Act)
     → ((c : Call) (r : Reply) (f : ℕ) (s : Snap) → u.log ≡ newer ++ Commit c r f s ∷ rest → least_stamp rest ≤ f)
     × ((c : Call) (r : Reply) (n : ℕ) → u.log ≡ newer ++ Answer c r n ∷ rest → least_stamp rest ≤ n)
+    × ((c : Call) (r : Reply) (n number : ℕ) (had : Option Cursor) (left : Cursor)
+    → u.log ≡ newer ++ AnswerCursor c r n number had left ∷ rest → least_stamp rest ≤ n)
     × ((mid : List Act) (m n : ℕ) → u.log ≡ newer ++ ReadCounter m ∷ (mid ++ ReadCounter n ∷ rest) → n ≤ m)
 
 -- where a pass may answer a MemoryError of a class, writes before its stamp took the tables of the class, but for one

@@ -1,18 +1,21 @@
 -- Replies that a pass may give to calls that aren't writes: conditions that callers can meet.
-use Rattle.std.specs.Prelude.{◌≡◌, ℕ, ◌<◌, false, List, ◌∷◌, ◌++◌, Some}
+use Rattle.std.specs.Prelude.{◌≡◌, ℕ, ◌<◌, false, List, ◌∷◌, ◌++◌, Some, None}
 use Rattle.ft_model.specs.declared.call.Call.{Call}
+use Rattle.ft_model.specs.declared.cursor.Cursor.{Cursor}
 use Rattle.ft_model.specs.declared.reply.Reply.{Reply}
 use Rattle.ft_model.specs.declared.reply.Reply.TheVariants as reply
 use Rattle.ft_model.specs.declared.reply.Raise.TheVariants as raise
 use Rattle.ft_model.specs.Answers.{is_write}
+use Rattle.ft_model.specs.Calls.{moved_cursor}
 use Rattle.ft_model.specs.Histories.{IsReplied}
 use Rattle.ft_model.specs.Tables.{CanLackMemory, stored_newest, takes_in, would_pass}
 use Rattle.ft_trace.specs.declared.Act.{Act}
-use Rattle.ft_trace.specs.declared.Act.TheVariants.{Answer, ReadCounter, ReadCount}
+use Rattle.ft_trace.specs.declared.Act.TheVariants.{Answer, AnswerCursor, ReadCounter, ReadCount}
 use Rattle.ft_trace.specs.declared.View.{View}
 use Rattle.ft_trace.specs.Acts.{owes, noted}
 use Rattle.ft_trace.specs.Worlds.{reply_in}
 use Rattle.ft_trace.specs.Causes.{AreOfOneCall, HasCause}
+use Rattle.ft_trace.specs.Hands.{cursor_in, MovesCursor}
 use Rattle.ft_trace.specs.Holds.{AgreesWith}
 use Rattle.ft_trace.specs.Traces.{Possible, IsAwake}
 
@@ -20,15 +23,32 @@ use Rattle.ft_trace.specs.Traces.{Possible, IsAwake}
 abbrev pub after_answer : View → Call → Reply → ℕ → View
 after_answer v call said number = noted (Answer call said number) (noted (ReadCounter number) v)
 
--- A pass with a call left may load the counter and give a reply with that stamp, where it is the plain containers' in each history that
+-- A pass with a call left may load the counter and give a reply with that stamp to a call that asks no cursor, where it is the plain containers' in each history that
 -- agrees with what the pass knows of the containers whose locks it has, and has its cause there.
 abbrev pub RepliesMayBeGiven : Type 0
 RepliesMayBeGiven =
     (v : View) (call : Call) (said : Reply) → IsAwake v → Possible v → 0 < v.left → is_write call said ≡ false
+    → moved_cursor call ≡ None
     → ((calls : List Call) (number : ℕ) → AgreesWith v (stored_newest v.shape.kinds calls)
     → IsReplied call said (reply_in (stored_newest v.shape.kinds calls) call)
     × HasCause (stored_newest v.shape.kinds calls) (ReadCounter number ∷ v.log) call said number)
     → (number : ℕ) × Possible (after_answer v call said number)
+
+-- what a pass knows that loaded the counter and answered an `iter` or a `next` of its cursor under a number, with that
+-- stamp
+abbrev pub after_cursor : View → Call → Reply → ℕ → ℕ → Cursor → View
+after_cursor v call said stamp number left =
+    noted (AnswerCursor call said stamp number (cursor_in number v.log) left) (noted (ReadCounter stamp) v)
+
+-- A pass with a call left may load the counter and answer an `iter` or a `next` with that stamp, where the plain containers
+-- answer so in each history that agrees with what the pass knows of the containers whose locks it has.
+abbrev pub CursorsMayBeMoved : Type 0
+CursorsMayBeMoved =
+    (v : View) (call : Call) (said : Reply) (number : ℕ) (left : Cursor) → IsAwake v → Possible v → 0 < v.left
+    → moved_cursor call ≡ Some number
+    → ((calls : List Call) → AgreesWith v (stored_newest v.shape.kinds calls)
+    → MovesCursor (stored_newest v.shape.kinds calls).world call number (cursor_in number v.log) said left)
+    → (stamp : ℕ) × Possible (after_cursor v call said stamp number left)
 
 -- the reply that a call raises which found no memory of a class
 abbrev pub lacks : ℕ → Reply

@@ -2,11 +2,12 @@
 ghost use Rattle.ft_trace.specs.Grants.{ListsMayBeCleared, ClearedTablesMayBeGivenBack, TakingsEnd};
 ghost use Rattle.ft_trace.specs.Writes.{WritesMayBeMade};
 ghost use Rattle.ft_trace.specs.ItemWrites.{ItemsMayBePut, ItemsMayBeAppended};
-ghost use Rattle.ft_trace.specs.Replies.{RepliesMayBeGiven, MemoryErrorsMayBeAnswered};
+ghost use Rattle.ft_trace.specs.Replies.{RepliesMayBeGiven, CursorsMayBeMoved, MemoryErrorsMayBeAnswered};
 ghost use Rattle.ft_trace.specs.LookReplies.{DictHitsAreReplied, SetHitsAreReplied, MissesAreReplied, ItemsAreReplied, PastItemsAreReplied};
 ghost use Rattle.ft_trace.specs.EntryWrites.{ValuesMayBePut};
 ghost use Rattle.ft_trace.specs.Earnings.{EntriesAreEarned};
 ghost use Rattle.ft_trace.specs.InOrder.{NumberedEntriesAreInOrder};
+ghost use Rattle.ft_trace.specs.OwnCursors.{CursorsAreHands};
 ghost use Rattle.ft_trace.specs.Roots.{ZeroRootsHaveCauses, RetiredTablesAreApart};
 ghost use Rattle.ft_trace.specs.KeyWrites.{KeysMayBeAdded};
 ghost use Rattle.ft_trace.specs.DeleteWrites.{KeysMayBeDeleted};
@@ -55,6 +56,18 @@ pub fn stamps_rise()
 /// class, but for one for each other pass.
 pub fn memory_errors_are_earned()
     ensures { MemoryErrorsAreEarned }
+{}
+
+/// The cursors that a pass has by its log are the hands that its own entries leave (Python manual, Iterator
+/// Types: a cursor is its thread's), and each of these entries has the reply of the plain containers to a
+/// thread with the hands that the earlier ones leave.
+pub fn cursors_are_hands()
+    ensures { CursorsAreHands }
+{}
+
+/// An `iter` or a `next` may be answered with the stamp that a load of the counter gives.
+pub fn cursors_may_be_moved()
+    ensures { CursorsMayBeMoved }
 {}
 
 /// Each entry with a MemoryError has its cause in the writes before its stamp, and each other passes no

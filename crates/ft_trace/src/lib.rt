@@ -28,7 +28,7 @@
 //! the words of that law alone.
 #![tactic(auto)]
 
-use ft_model::{Call, Kind, Reply};
+use ft_model::{Call, Cursor, Kind, Reply};
 use std::collections::LinkedList;
 
 /// What stood in the bank at one moment: its words, and the writes before it, newest first.
@@ -77,6 +77,9 @@ pub enum Act {
     /// Gives the reply of a call that isn't a write, with its stamp; the load of the counter that
     /// comes with it tells nothing.
     Answer(Call, Reply, u64),
+    /// Gives the reply of an `iter` or a `next` in the same way: the call, its reply, its stamp, the
+    /// number of its cursor, the cursor that the pass had under it, and the one that the call leaves.
+    AnswerCursor(Call, Reply, u64, u64, Option<Cursor>, Cursor),
     /// Lowers the count of a class: the class, the count that it is lowered from, and what was found.
     LowerCount(u64, u64, u64),
     /// Raises the count of a class.

@@ -14,4 +14,5 @@ answer-requires-clause-shown c =
       loaded = record { newer = []; rest = v.log; is = refl; own = tt };
       replied = λ es id k. c.requires.said.replied _;
       cause = λ es id k. c.requires.said.cause _ n;
+      no_cursor = λ es id k. c.requires.said.no_cursor;
     })

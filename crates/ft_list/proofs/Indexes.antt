@@ -1,11 +1,10 @@
 -- Reads of a list's words, one after the other, and what they show of its items.
-use Rattle.std.proofs.Common.{◌≡◌, ◌≢◌, ◌⊎◌, ℕ, ℤ, suc, ◌%◌, ◌<◌, ◌≤◌, true, List, [], ◌∷◌, ◌++◌, length, Option, Some, None, refl, sym, ap, ◌∙◌, subst, inl, inr, ⊎_elim, arith, append_assoc}
+use Rattle.std.proofs.Common.{◌≡◌, ◌≢◌, ◌⊎◌, ℕ, ℤ, suc, ◌%◌, ◌<◌, ◌≤◌, true, List, [], ◌∷◌, ◌++◌, length, Option, Some, None, refl, sym, ap, ◌∙◌, subst, inl, inr, ⊎_elim, append_assoc}
 use Rattle.std.specs.Prelude.{slice_index, slice_index_or, option_map}
 use Rattle.std.specs.Option.{option_map_or}
 use Rattle.ft_model.specs.declared.call.Call.TheVariants as call
 use Rattle.ft_model.specs.declared.call.ListCall.TheVariants as list
 use Rattle.ft_model.specs.declared.reply.Raise.TheVariants as raise
-use Rattle.ft_model.specs.declared.reply.Reply.{Reply}
 use Rattle.ft_model.specs.declared.reply.Reply.TheVariants as reply
 use Rattle.ft_model.specs.Answers.{shows}
 use Rattle.ft_model.specs.Histories.{IsReplied}
@@ -108,15 +107,16 @@ module _ (k : Shape) (o : ℕ) (x : Picture) where
     table = λ t i f is low names m. p.table t i f is low names (among_older (ReadTable t i f) b c m);
   }
 
-  agrees_block : (i f : ℕ) → f ≡ slice_index x.block i → Agrees k o (ReadBlock o i f ∷ []) x
-  agrees_block i f is = record {
-    root = λ g m. let e = among_one (ReadRoot o g) (ReadBlock o i f) m in absurd (cc);
+  agrees_block : (b i f : ℕ) → (b ≡ o → f ≡ slice_index x.block i) → Agrees k o (ReadBlock b i f ∷ []) x
+  agrees_block b i f is = record {
+    root = λ g m. let e = among_one (ReadRoot o g) (ReadBlock b i f) m in absurd (cc);
     block = λ j g low m.
-        let e = among_one (ReadBlock o j g) (ReadBlock o i f) m in
+        let e = among_one (ReadBlock o j g) (ReadBlock b i f) m in
+        let at : b ≡ o = cc in
         let one : i ≡ j = cc in
         let two : f ≡ g = cc in
-        sym two ∙ (is ∙ ap (λ (z : ℕ). slice_index x.block z) one);
-    table = λ t j g is_table low names m. let e = among_one (ReadTable t j g) (ReadBlock o i f) m in absurd (cc);
+        sym two ∙ (is at ∙ ap (λ (z : ℕ). slice_index x.block z) one);
+    table = λ t j g is_table low names m. let e = among_one (ReadTable t j g) (ReadBlock b i f) m in absurd (cc);
   }
 
   agrees_table : (t i f : ℕ) → (root_in x ≡ suc t → f ≡ slice_index x.table i) → Agrees k o (ReadTable t i f ∷ []) x
@@ -146,9 +146,9 @@ reads_then k o P Q p q r a b =
       looks_append b.0 a.0 b.1 a.1,
       did_trans b.0 a.0 p q r a.2 b.2,
       (λ x g. (a.3 x (agrees_older k o x b.0 a.0 g), b.3 x (agrees_newer k o x b.0 a.0 g))),
-      (λ mine.
-          let same = loaded_held (view p) (view q) o loaded in
-          agrees_append k o (held o (view p)) b.0 a.0 (subst (λ (z : Picture). Agrees k o b.0 z) same (b.4 (loaded.work.pass.locks o ∙ mine))) (a.4 mine)),
+      (λ c low mine.
+          let same = loaded_held (view p) (view q) c loaded in
+          agrees_append k c (held c (view p)) b.0 a.0 (subst (λ (z : Picture). Agrees k c b.0 z) same (b.4 c low (loaded.work.pass.locks c ∙ mine))) (a.4 c low mine)),
     )
 
 pub reads_block : (k : Shape) (o i f : ℕ) (p q : Pass) → i < 6 → DidAll (ReadBlock o i f ∷ []) p q → (has_lock o (view p).log ≡ true → f ≡ slice_index (held o (view p)).block i) → Reads k o (λ x. f ≡ slice_index x.block i) p q
@@ -157,17 +157,19 @@ reads_block k o i f p q low did holds = (
   tt,
   did,
   (λ x g. g.block i f low (record { newer = []; rest = []; is = refl })),
-  (λ mine. agrees_block k o (held o (view p)) i f (holds mine)),
+  (λ c inside mine. agrees_block k c (held c (view p)) o i f (λ e.
+      let here : f ≡ slice_index (held o (view p)).block i = holds (ap (λ (z : ℕ). has_lock z (view p).log) e ∙ mine) in
+      here ∙ ap (λ (z : ℕ). slice_index (held z (view p)).block i) e)),
 )
 
-pub reads_table : (k : Shape) (o t i f : ℕ) (p q : Pass) → IsTable k t → i < size (class_of t) → DidAll (ReadTable t i f ∷ []) p q → (has_lock o (view p).log ≡ true → root_in (held o (view p)) ≡ suc t → f ≡ slice_index (held o (view p)).table i)
+pub reads_table : (k : Shape) (o t i f : ℕ) (p q : Pass) → IsTable k t → i < size (class_of t) → DidAll (ReadTable t i f ∷ []) p q → ((c : ℕ) → c < containers_in k → has_lock c (view p).log ≡ true → root_in (held c (view p)) ≡ suc t → f ≡ slice_index (held c (view p)).table i)
     → Reads k o (λ x. root_in x ≡ suc t → f ≡ slice_index x.table i) p q
 reads_table k o t i f p q is low did holds = (
   ReadTable t i f ∷ [],
   tt,
   did,
   (λ x g names. g.table t i f is low names (record { newer = []; rest = []; is = refl })),
-  (λ mine. agrees_table k o (held o (view p)) t i f (holds mine)),
+  (λ c inside mine. agrees_table k c (held c (view p)) t i f (holds c inside mine)),
 )
 
 -- ---- what words say of a list
@@ -285,5 +287,5 @@ get_held v u o index found n loaded left low mine is =
     held_shown v u n loaded left called (item_reply found) plain.reads plain.cursor right (λ stored. plain.cause stored (ReadCounter n ∷ u.log) n)
 
 -- what such a pass reads
-pub reads_held : (k : Shape) (o : ℕ) (index : ℤ) (found : Option Value) (p q : Pass) → Reads k o (IsItemNamed k index found) p q → kind_in (view p).shape.kinds o ≡ kind.List → ∥ Possible (view p) ∥₁ → has_lock o (view p).log ≡ true → Stands k.texts (held o (view p)) (known o (view p)) → found ≡ item_named (list_of (known o (view p)).content) index
-reads_held k o index found p q r is possible mine stands = r.3 (held o (view p)) (r.4 mine) (known o (view p)) (ap kind_of (list_content (view p) o possible mine is)) stands
+pub reads_held : (k : Shape) (o : ℕ) (index : ℤ) (found : Option Value) (p q : Pass) → Reads k o (IsItemNamed k index found) p q → o < containers_in k → kind_in (view p).shape.kinds o ≡ kind.List → ∥ Possible (view p) ∥₁ → has_lock o (view p).log ≡ true → Stands k.texts (held o (view p)) (known o (view p)) → found ≡ item_named (list_of (known o (view p)).content) index
+reads_held k o index found p q r low is possible mine stands = r.3 (held o (view p)) (r.4 o low mine) (known o (view p)) (ap kind_of (list_content (view p) o possible mine is)) stands

@@ -12,3 +12,7 @@ pub mod Asking
 pub mod Raising
 pub mod Loaded
 pub mod Indexes
+pub mod Values
+pub mod Trying
+pub mod Scanning
+pub mod Equal

@@ -202,7 +202,7 @@ long_remove [] i low = absurd (omega (arith, low))
 long_remove (x ∷ xs) zero low = omega arith
 long_remove (x ∷ xs) (suc i) low = let e = long_remove xs i (omega (arith, low)) in omega (arith, e)
 
-stored_by : (values news : List Value) (p q : ℕ) → slice_get news q ≡ slice_get values p → stored_at values p ≡ stored_at news q
+pub stored_by : (values news : List Value) (p q : ℕ) → slice_get news q ≡ slice_get values p → stored_at values p ≡ stored_at news q
 stored_by values news p q e = ap (λ (z : Option Value). option_map_or Plain z Empty) (sym e)
 
 pub insert_low : (values : List Value) (i : ℕ) (value : Value) (q : ℕ) → i ≤ length values → q < i → stored_at values q ≡ stored_at (insert values i value) q

@@ -15,7 +15,7 @@ use Rattle.ft_model.specs.declared.reply.Reply.{Reply}
 use Rattle.ft_model.specs.declared.reply.Reply.TheVariants as reply
 use Rattle.ft_model.specs.Answers.{Answer as Given, answer_list, puts, shows, is_raised}
 use Rattle.ft_model.specs.Calls.{is_changing_list, cursor_of_list}
-use Rattle.ft_model.specs.Lists.{index_in}
+use Rattle.ft_model.specs.Lists.{index_in, index_of}
 use Rattle.ft_model.specs.Tables.{StoredWorld}
 use Rattle.ft_model.specs.Worlds.{no_hands}
 use Rattle.ft_trace.specs.declared.Act.{Act}
@@ -34,11 +34,11 @@ use Rattle.ft_bank.proofs.Whole.{loaded_by}
 use Rattle.ft_list.specs.Calls.{Raises}
 use Rattle.ft_list.proofs.Commits.{list_is}
 
-and_false : (b : Bool) → (b && false) ≡ false
+pub and_false : (b : Bool) → (b && false) ≡ false
 and_false true = refl
 and_false false = refl
 
-raised : (said : Reply) → (said ≡ reply.Raised raise.NoIndex) ⊎ (said ≡ reply.Raised raise.NoValue) → is_raised said ≡ true
+pub raised : (said : Reply) → (said ≡ reply.Raised raise.NoIndex) ⊎ (said ≡ reply.Raised raise.NoValue) → is_raised said ≡ true
 raised said (inl e) = ap is_raised e
 raised said (inr e) = ap is_raised e
 
@@ -98,4 +98,11 @@ pop_raises o index values none = record {
   raises = inl refl;
   caps = λ world. refl;
   answered = λ world. ap (λ (z : Option ℕ). option_map_or (λ (i : ℕ). puts world no_hands o (content.List (remove values i)) (reply.Value (slice_index_or values i value.Nothing))) z (shows world no_hands (reply.Raised raise.NoIndex))) none;
+}
+
+pub remove_raises : (o : ℕ) (value : Value) (values : List Value) → index_of values value ≡ None → Raises o (list.Remove value) (reply.Raised raise.NoValue) values
+remove_raises o value values none = record {
+  raises = inr refl;
+  caps = λ world. refl;
+  answered = λ world. ap (λ (z : Option ℕ). option_map_or (λ (i : ℕ). puts world no_hands o (content.List (remove values i)) reply.Done) z (shows world no_hands (reply.Raised raise.NoValue))) none;
 }

@@ -77,3 +77,9 @@ module _ (k : Shape) (o : ℕ) (table : Table) (v s u : View) (f : ℕ) (may : M
       (subst (λ (n : ℕ). OnlyPut n s u) at puts)
       ends
       (subst (λ (n : ℕ). root_in (held n u) ≡ root_in (held n v)) at root)
+
+  -- the root stays
+  pub root_wrote : (lc : ListCall) (called : Call) (said : Reply) (number : ℕ) (w : View) → called ≡ call.List o lc → is_changing_list lc ≡ true → EndsWrite called said number u w → root_in (held o u) ≡ root_in (held o v) → root_in (held o w) ≡ root_in (held o v)
+  root_wrote lc called said number w is changing ends root =
+      let at : changes called ≡ o = ap changes is ∙ ap (λ (b : Bool). unwrap_or (if b then Some o else None) 0) changing in
+      subst (λ (n : ℕ). root_in (held n w) ≡ root_in (held n u)) at ends.root ∙ root

@@ -14,6 +14,7 @@ use Rattle.ft_trace.specs.declared.Act.TheVariants.{ReadCounter}
 use Rattle.ft_trace.specs.declared.Shape.{Shape}
 use Rattle.ft_trace.specs.declared.View.{View}
 use Rattle.ft_trace.specs.Acts.{has_lock}
+use Rattle.ft_trace.specs.Addresses.{containers_in}
 use Rattle.ft_trace.specs.Holds.{held}
 use Rattle.ft_trace.specs.Reading.{Agrees, Among, Between}
 use Rattle.ft_trace.specs.Words.{Picture, root_in, item_of, Stands}
@@ -33,12 +34,12 @@ abbrev pub item_named : List Value → ℤ → Option Value
 item_named values index =
     option_map (λ place. slice_index_or values place value.Nothing) (index_in (length values) index)
 
--- The pass only loaded words, and this is so of all words of the container o that answer so. With the lock these are the
--- words that the pass knows. (profile)
+-- The pass only loaded words, and this is so of all words of the container o that answer so. What the pass knows of each
+-- container whose lock it has answers so. (profile)
 abbrev pub Reads : Shape → ℕ → (Picture → Type 0) → Pass → Pass → Type 0
 Reads k o shows p q =
     (part : List Act) × AreLooks part × DidAll part p q × ((x : Picture) → Agrees k o part x → shows x)
-    × (has_lock o (view p).log ≡ true → Agrees k o part (held o (view p)))
+    × ((c : ℕ) → c < containers_in k → has_lock c (view p).log ≡ true → Agrees k c part (held c (view p)))
 
 -- where the root names the table t, and the item at the place is a value, it is this
 abbrev pub IsValueIn : ℕ → ℕ → Option Value → Picture → Type 0

@@ -13,9 +13,15 @@ mod lens;
 mod locked;
 mod looks;
 mod reads;
+mod removals;
+mod scans;
+mod searches;
+mod tries;
 mod writes;
 
 pub use crate::gets::look_item;
 pub use crate::indexing::{look_get, try_get};
 pub use crate::lens::{look_len, try_len};
 pub use crate::locked::{Appended, append_locked, del_locked, set_locked};
+pub use crate::removals::{pop_locked, remove_locked};
+pub use crate::tries::{try_count, try_del, try_has, try_index, try_pop, try_remove, try_set};

@@ -11,11 +11,13 @@ ghost use Rattle.ft_model.specs.declared.reply.Raise.TheVariants as raise;
 ghost use Rattle.ft_model.specs.Classes.{list_items};
 ghost use Rattle.ft_model.specs.Lists.{index_in};
 ghost use Rattle.ft_trace.specs.declared.Act.TheVariants.{ReadBlock};
+ghost use Rattle.ft_bank.specs.Answered.{Answered};
 ghost use Rattle.ft_bank.specs.Passes.{shape_of, view, IsPassOf};
 ghost use Rattle.ft_bank.specs.Sections.{stack_of};
 ghost use Rattle.ft_bank.specs.Whole.{OnlyLoaded};
 ghost use Rattle.ft_list.specs.Items.{items_of};
-ghost use Rattle.ft_list.specs.Calls.{MayWriteList, HasTable, Made, Raises, IsAppended};
+ghost use Rattle.ft_list.specs.Calls.{MayWriteList, HasTable, Raises, IsAppended};
+ghost use Rattle.ft_list.specs.Tries.{MadeAs};
 
 use crate::writes::{insert_item, remove_item, set_item};
 use ft_bank::{Bank, Pass, Table};
@@ -41,7 +43,7 @@ pub(crate) fn place_in(count: u64, index: i64) -> Option<u64>
 }
 
 /// How many items a list has.
-fn count_of(bank: &Bank, pass: &mut Pass, l: Object) -> u64
+pub(crate) fn count_of(bank: &Bank, pass: &mut Pass, l: Object) -> u64
     requires pass { IsPassOf bank.now pass.old }
     requires may { MayWriteList (shape_of bank.now) l (view pass.old) }
     ensures pass { IsPassOf bank.now pass.new }
@@ -56,7 +58,7 @@ fn count_of(bank: &Bank, pass: &mut Pass, l: Object) -> u64
 }
 
 /// The table of a list that isn't empty.
-fn table_of(bank: &Bank, pass: &mut Pass, l: Object) -> Table
+pub(crate) fn table_of(bank: &Bank, pass: &mut Pass, l: Object) -> Table
     requires pass { IsPassOf bank.now pass.old }
     requires may { MayWriteList (shape_of bank.now) l (view pass.old) }
     requires some { length (items_of l (view pass.old)) ≢ 0 }
@@ -75,13 +77,13 @@ fn table_of(bank: &Bank, pass: &mut Pass, l: Object) -> Table
 }
 
 /// Raises an exception in the place of a call: its entry, at a load of the counter.
-fn raise(bank: &Bank, pass: &mut Pass, l: Object, called: &Call, said: &Reply) -> Stamp
+pub(crate) fn raise(bank: &Bank, pass: &mut Pass, l: Object, called: &Call, said: &Reply) -> Stamp
     requires pass { IsPassOf bank.now pass.old }
     requires may { MayWriteList (shape_of bank.now) l (view pass.old) }
     requires call { (lc : ListCall) × (called.now ≡ call.List l lc) × Raises l lc said.now (items_of l (view pass.old)) }
     ensures pass { IsPassOf bank.now pass.new }
     ensures stack { stack_of pass.new ≡ stack_of pass.old }
-    ensures made { Made called.now said.now result (view pass.old) (view pass.new) }
+    ensures answered { Answered called.now said.now result.number (view pass.old) (view pass.new) }
     ensures wrote { result.wrote ≡ false }
 {
     let number = bank.stamp(pass);
@@ -104,7 +106,7 @@ pub fn set_locked(
     requires may { MayWriteList (shape_of bank.now) l (view pass.old) }
     ensures pass { IsPassOf bank.now pass.new }
     ensures stack { stack_of pass.new ≡ stack_of pass.old }
-    ensures made { Made (call.List l (list.Set index value)) result.0 result.1 (view pass.old) (view pass.new) }
+    ensures made { MadeAs (call.List l (list.Set index value)) result.0 result.1 (view pass.old) (view pass.new) }
     ensures done { (place : ℕ) → index_in (length (items_of l (view pass.old))) index ≡ Some place →
         (result.0 ≡ reply.Done) × (result.1.wrote ≡ true) }
     ensures raises { index_in (length (items_of l (view pass.old))) index ≡ None →
@@ -143,7 +145,7 @@ pub fn del_locked(bank: &Bank, pass: &mut Pass, l: Object, index: i64) -> (Reply
     requires may { MayWriteList (shape_of bank.now) l (view pass.old) }
     ensures pass { IsPassOf bank.now pass.new }
     ensures stack { stack_of pass.new ≡ stack_of pass.old }
-    ensures made { Made (call.List l (list.Del index)) result.0 result.1 (view pass.old) (view pass.new) }
+    ensures made { MadeAs (call.List l (list.Del index)) result.0 result.1 (view pass.old) (view pass.new) }
     ensures done { (place : ℕ) → index_in (length (items_of l (view pass.old))) index ≡ Some place →
         (result.0 ≡ reply.Done) × (result.1.wrote ≡ true) }
     ensures raises { index_in (length (items_of l (view pass.old))) index ≡ None →
@@ -176,7 +178,7 @@ pub fn del_locked(bank: &Bank, pass: &mut Pass, l: Object, index: i64) -> (Reply
 }
 
 /// A value's integer has 64 bits, and its string's number 32, so that words can tell it.
-fn value_fits(value: Value)
+pub(crate) fn value_fits(value: Value)
     ensures { FitsStored (Plain value) }
 {
     match value {

@@ -35,7 +35,7 @@ fn read_value(bank: &Bank, pass: &mut Pass, l: Object, table: Table, place: u64)
 
 /// Reads the item at a place of a list. `None` where the table that the root names has no such place, or the
 /// root names none.
-fn read_item(bank: &Bank, pass: &mut Pass, l: Object, place: u64) -> Option<Value>
+pub(crate) fn read_item(bank: &Bank, pass: &mut Pass, l: Object, place: u64) -> Option<Value>
     requires pass { IsPassOf bank.now pass.old }
     requires container { l < containers_in (shape_of bank.now) }
     ensures pass { IsPassOf bank.now pass.new }

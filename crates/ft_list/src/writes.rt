@@ -14,7 +14,7 @@ ghost use Rattle.ft_trace.specs.declared.Act.TheVariants.{StartWrite};
 ghost use Rattle.ft_trace.specs.Acts.{has_committed, has_emptied, owes};
 ghost use Rattle.ft_trace.specs.Addresses.{class_of, slots};
 ghost use Rattle.ft_trace.specs.Holds.{held, known};
-ghost use Rattle.ft_trace.specs.Words.{item_of};
+ghost use Rattle.ft_trace.specs.Words.{item_of, root_in};
 ghost use Rattle.ft_bank.specs.Passes.{shape_of, view, IsPassOf, Did};
 ghost use Rattle.ft_bank.specs.Sections.{stack_of};
 ghost use Rattle.ft_bank.specs.Tables.{name_of};
@@ -31,7 +31,7 @@ use ft_model::{Call, Reply, Value};
 const LENGTH: u64 = block_word::USED - block_word::ROOT;
 
 /// Makes the version of a list odd. Its items are as they were.
-fn begin(bank: &Bank, pass: &mut Pass, o: u32, table: Table)
+pub(crate) fn begin(bank: &Bank, pass: &mut Pass, o: u32, table: Table)
     requires pass { IsPassOf bank.now pass.old }
     requires may { MayWriteList (shape_of bank.now) o (view pass.old) }
     requires table { HasTable (shape_of bank.now) o table (view pass.old) }
@@ -72,6 +72,7 @@ pub(crate) fn set_item(
     ensures pass { IsPassOf bank.now pass.new }
     ensures stack { stack_of pass.new ≡ stack_of pass.old }
     ensures wrote { Wrote called.now said.now result (view pass.old) (view pass.new) }
+    ensures root { root_in (held o (view pass.new)) ≡ root_in (held o (view pass.old)) }
 {
     begin(bank, pass, o, table);
     put_item(bank, pass, o, table, place, Stored::Plain(value));
@@ -137,6 +138,7 @@ pub(crate) fn insert_item(
     ensures pass { IsPassOf bank.now pass.new }
     ensures stack { stack_of pass.new ≡ stack_of pass.old }
     ensures wrote { Wrote called.now said.now result (view pass.old) (view pass.new) }
+    ensures root { root_in (held o (view pass.new)) ≡ root_in (held o (view pass.old)) }
 {
     begin(bank, pass, o, table);
     shift_up(bank, pass, o, table, place, count, value);
@@ -220,6 +222,7 @@ pub(crate) fn remove_item(
     ensures pass { IsPassOf bank.now pass.new }
     ensures stack { stack_of pass.new ≡ stack_of pass.old }
     ensures wrote { Wrote called.now said.now result (view pass.old) (view pass.new) }
+    ensures root { root_in (held o (view pass.new)) ≡ root_in (held o (view pass.old)) }
 {
     begin(bank, pass, o, table);
     shift_down(bank, pass, o, table, place, count);

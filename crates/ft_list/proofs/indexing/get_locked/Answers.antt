@@ -1,4 +1,4 @@
-use Rattle.std.proofs.Common.{◌≡◌, ◌<◌, ℤ, refl, sym, ap, ◌∙◌, subst}
+use Rattle.std.proofs.Common.{◌≡◌, ◌<◌, ℤ, sym, ap, ◌∙◌, subst}
 use mir.Syntax.{w64}
 use mir.Val.{to_z, of_z}
 use Rattle.std.proofs.Math.Facts.{to_z-of_z}
@@ -32,7 +32,7 @@ answer_held-requires-clause-shown c n =
     let same = c.requires.pass.1 in
     let z = to_z w64 (of_z w64 a.index) in
     let low = subst (λ (x : Shape). o < containers_in x) (sym same) c.requires.container in
-    let held = reads_held k o z found p q r (ap (λ (x : Shape). kind_in x.kinds o) same ∙ c.requires.list) p.possible c.requires.locked c.requires.stands in
+    let held = reads_held k o z found p q r c.requires.container (ap (λ (x : Shape). kind_in x.kinds o) same ∙ c.requires.list) p.possible c.requires.locked c.requires.stands in
     let shown : IsShown (noted (ReadCounter n) (view q)) (call.List o (list.Get z)) (item_reply found) n = get_held (view p) (view q) o z found n (reads_loaded k o (IsItemNamed k z found) p q r) c.requires.left low c.requires.locked held in
     subst (λ (x : Reply). IsShown (noted (ReadCounter n) (view q)) (call.List o (list.Get z)) x n) (sym c.reply_of.ensures) shown
 

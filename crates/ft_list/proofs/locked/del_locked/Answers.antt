@@ -1,4 +1,5 @@
-use Rattle.std.proofs.Common.{◌≡◌, ◌<◌, ℕ, ℤ, true, [], ◌∷◌, length, Some, None, refl, sym, ap, ◌∙◌, subst, inl, arith}
+use Rattle.std.proofs.Common.{◌≡◌, ◌<◌, ℕ, ℤ, true, [], ◌∷◌, length, Some, None, refl, sym, ap, ◌∙◌, subst, arith}
+use Rattle.std.specs.List.{remove}
 use mir.Syntax.{w64}
 use mir.Val.{to_z, of_z}
 use Rattle.std.proofs.Math.Facts.{to_z-of_z}
@@ -12,11 +13,11 @@ use Rattle.ft_trace.specs.declared.Shape.{Shape}
 use Rattle.ft_trace.specs.Addresses.{containers_in}
 use Rattle.ft_bank.specs.Passes.{shape_of, view}
 use Rattle.ft_bank.proofs.Whole.{loaded_then}
-use Rattle.ft_list.specs.Calls.{Made}
+use Rattle.ft_list.specs.Tries.{MadeAs}
 use Rattle.ft_list.specs.Items.{items_of}
 use Rattle.ft_list.proofs.CallFacts.{del_changes}
 use Rattle.ft_list.proofs.Lists.{content_of}
-use Rattle.ft_list.proofs.Loaded.{loaded_made, loaded_wrote}
+use Rattle.ft_list.proofs.Trying.{wrote_as, raised_as}
 use Rattle.ft_list.proofs.Raising.{del_raises}
 use Rattle.ft_list.proofs.locked.del_locked.Goals as goal
 
@@ -52,17 +53,32 @@ raise-stamp-requires-clause-call c =
 pub returns-in-Some-clause-made : goal.returns-in-Some-clause-made
 returns-in-Some-clause-made c =
     let a = c.args in
+    let k = shape_of a.bank.now in
     let v = view a.pass.now in
     let u = view c.count_of-count.new.pass in
     let w = view c.table_of-table.new.pass in
-    subst (λ (i : ℤ). Made (call.List a.l (list.Del i)) reply.Done (record { number = c.remove_item-number.result; wrote = true }) v (view c.remove_item-number.new.pass)) (to_z-of_z {w = w64} {z = a.index} c.ranges.index)
-    (inl (refl, loaded_wrote (call.List a.l (list.Del (to_z w64 (of_z w64 a.index)))) reply.Done c.remove_item-number.result v w (view c.remove_item-number.new.pass) (loaded_then v u w c.count_of-count.ensures.only c.table_of-table.ensures.only) c.remove_item-number.ensures.wrote))
+    let x = view c.remove_item-number.new.pass in
+    let e = c.table_of-table.ensures in
+    let z = to_z w64 (of_z w64 a.index) in
+    let values = items_of a.l w in
+    let low : a.l < containers_in w.shape = subst (λ (y : Shape). a.l < containers_in y) (sym e.pass.1) e.may.container in
+    let long : c.count_of-count.result ≡ length values = c.count_of-count.ensures.count ∙ sym (ap length (e.items ∙ c.count_of-count.ensures.items)) in
+    let means : index_in (length values) z ≡ Some c.in-Some.place = ap (λ (n : ℕ). index_in n z) (sym long) ∙ (sym c.place_in.ensures.answer ∙ c.in-Some.is) in
+    subst (λ (i : ℤ). MadeAs (call.List a.l (list.Del i)) reply.Done (record { number = c.remove_item-number.result; wrote = true }) v x) (to_z-of_z {w = w64} {z = a.index} c.ranges.index)
+    (wrote_as k a.l (list.Del z) reply.Done v w x e.pass.1 c.table_of-table.new.pass.possible e.may (loaded_then v u w c.count_of-count.ensures.only e.only) c.remove_item-number.result (remove values c.in-Some.place)
+    (del_changes a.l z values c.in-Some.place w low e.may.locked (content_of k a.l w e.pass.1 c.table_of-table.new.pass.possible e.may) means) c.remove_item-number.ensures.wrote c.remove_item-number.ensures.root)
 
 pub returns-in-None-clause-made : goal.returns-in-None-clause-made
 returns-in-None-clause-made c =
     let a = c.args in
+    let k = shape_of a.bank.now in
     let v = view a.pass.now in
     let u = view c.count_of-count.new.pass in
-    let log = c.count_of-count.ensures.log in
-    subst (λ (i : ℤ). Made (call.List a.l (list.Del i)) (reply.Raised raise.NoIndex) c.raise-stamp.result v (view c.raise-stamp.new.pass)) (to_z-of_z {w = w64} {z = a.index} c.ranges.index)
-    (loaded_made (call.List a.l (list.Del (to_z w64 (of_z w64 a.index)))) (reply.Raised raise.NoIndex) c.raise-stamp.result v u (view c.raise-stamp.new.pass) (ReadBlock a.l 1 log.0 ∷ []) c.count_of-count.ensures.only log.1 c.raise-stamp.ensures.made)
+    let e = c.count_of-count.ensures in
+    let z = to_z w64 (of_z w64 a.index) in
+    let values = items_of a.l u in
+    let long : c.count_of-count.result ≡ length values = e.count ∙ sym (ap length e.items) in
+    let none : index_in (length values) z ≡ None = ap (λ (n : ℕ). index_in n z) (sym long) ∙ (sym c.place_in.ensures.answer ∙ c.in-None.is) in
+    subst (λ (i : ℤ). MadeAs (call.List a.l (list.Del i)) (reply.Raised raise.NoIndex) c.raise-stamp.result v (view c.raise-stamp.new.pass)) (to_z-of_z {w = w64} {z = a.index} c.ranges.index)
+    (raised_as k a.l (list.Del z) (reply.Raised raise.NoIndex) v u (view c.raise-stamp.new.pass) e.pass.1 c.count_of-count.new.pass.possible e.may e.only c.raise-stamp.result (ReadBlock a.l 1 e.log.0 ∷ []) e.log.1
+    (del_raises a.l z values none) c.raise-stamp.ensures.wrote c.raise-stamp.ensures.answered)

@@ -1,4 +1,4 @@
-use Rattle.std.proofs.Common.{◌<◌, sym, subst, inr, refl}
+use Rattle.std.proofs.Common.{◌<◌, sym, subst}
 use Rattle.ft_model.specs.declared.call.Call.{Call}
 use Rattle.ft_trace.specs.declared.Shape.{Shape}
 use Rattle.ft_trace.specs.Addresses.{containers_in}
@@ -19,7 +19,7 @@ answer-requires-clause-shown c =
     subst (λ (z : Call). IsShown (view c.stamp-number.new.pass) z a.said.now c.stamp-number.result) (sym x.1)
     (raise_shown v (view c.stamp-number.new.pass) a.l x.0 a.said.now (items_of a.l v) c.stamp-number.result x.2 c.stamp-number.ensures.did.1 c.requires.may.left low c.requires.may.locked (content_of k a.l v c.requires.pass.1 a.pass.now.possible c.requires.may))
 
-pub returns-clause-made : goal.returns-clause-made
-returns-clause-made c =
+pub returns-clause-answered : goal.returns-clause-answered
+returns-clause-answered c =
     let a = c.args in
-    inr (refl, raise_answered (view a.pass.now) (view c.stamp-number.new.pass) (view c.answer.new.pass) a.called.now a.said.now c.stamp-number.result c.stamp-number.ensures.did.1 c.answer.ensures.1 a.pass.now.settled c.answer.new.pass.possible)
+    raise_answered (view a.pass.now) (view c.stamp-number.new.pass) (view c.answer.new.pass) a.called.now a.said.now c.stamp-number.result c.stamp-number.ensures.did.1 c.answer.ensures.1 a.pass.now.settled c.answer.new.pass.possible

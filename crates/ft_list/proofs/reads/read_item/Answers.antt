@@ -1,11 +1,10 @@
-use Rattle.std.proofs.Common.{◌≡◌, ◌<◌, None, refl, sym, ◌∙◌, arith}
+use Rattle.std.proofs.Common.{◌≡◌, None, refl, sym, ◌∙◌, arith}
 use Rattle.std.specs.Prelude.{slice_index, slice_index_or}
 use Rattle.ft_model.specs.Worlds.{list_of}
 use Rattle.ft_model.specs.declared.data.Value.TheVariants as value
-use Rattle.ft_trace.specs.Words.{Picture}
 use Rattle.ft_bank.specs.Passes.{shape_of}
 use Rattle.ft_bank.specs.Tables.{name_of}
-use Rattle.ft_list.specs.Indexes.{Reads, IsValueIn, IsItemAt}
+use Rattle.ft_list.specs.Indexes.{IsValueIn, IsItemAt}
 use Rattle.ft_list.proofs.Cares.{table_class}
 use Rattle.ft_list.proofs.Indexes.{reads_map, reads_then, reads_block, item_says, no_items}
 use Rattle.ft_list.proofs.Looking.{slots_are}

@@ -1,14 +1,12 @@
-use Rattle.std.proofs.Common.{◌≡◌, ℕ, ◌<◌, true, [], ◌∷◌, Some, None, sym, ap, ◌∙◌, subst, arith}
+use Rattle.std.proofs.Common.{◌≡◌, ℕ, ◌<◌, [], ◌∷◌, Some, None, sym, ap, ◌∙◌, subst, arith}
 use Rattle.std.specs.Prelude.{suc, slice_index}
 use Rattle.std.proofs.lemmas.Option.{none-some}
-use Rattle.ft_model.specs.declared.data.Value.{Value}
 use Rattle.ft_layout.specs.declared.slot.Stored.TheVariants.{Plain}
 use Rattle.ft_layout.specs.Words.{IsStored}
 use Rattle.ft_trace.specs.declared.Act.TheVariants.{ReadTable}
-use Rattle.ft_trace.specs.Acts.{has_lock}
 use Rattle.ft_trace.specs.Addresses.{class_of, size}
 use Rattle.ft_trace.specs.Holds.{held}
-use Rattle.ft_trace.specs.Words.{Picture, root_in, item_at}
+use Rattle.ft_trace.specs.Words.{root_in, item_at}
 use Rattle.ft_bank.specs.Passes.{shape_of, view}
 use Rattle.ft_bank.specs.Series.{DidAll}
 use Rattle.ft_bank.specs.Tables.{name_of}
@@ -52,10 +50,10 @@ returns-in-Some-clause-reads c =
     let two = item_at a.place 2 in
     let first : Reads k a.l (λ x. root_in x ≡ suc t → kind ≡ slice_index x.table one) p q = reads_table k a.l t one kind p q (named k a.table c.requires.table) (inside k a.table c.requires.table a.place 1 c.requires.place (omega arith))
     (subst (λ (z : ℕ). DidAll (ReadTable t z kind ∷ []) p q) c.word_at.ensures c.read_table-kind.ensures.did)
-    (λ mine names. c.read_table-kind.ensures.held a.l c.requires.container mine names ∙ ap (slice_index (held a.l (view p)).table) c.word_at.ensures) in
+    (λ o low mine names. c.read_table-kind.ensures.held o low mine names ∙ ap (slice_index (held o (view p)).table) c.word_at.ensures) in
     let second : Reads k a.l (λ x. root_in x ≡ suc t → payload ≡ slice_index x.table two) q r = reads_table k a.l t two payload q r (named k a.table c.requires.table) (inside k a.table c.requires.table a.place 2 c.requires.place (omega arith))
     (subst (λ (z : ℕ). DidAll (ReadTable t z payload ∷ []) q r) c.word_at-2.ensures c.read_table-payload.ensures.did)
-    (λ mine names. c.read_table-payload.ensures.held a.l c.requires.container mine names ∙ ap (slice_index (held a.l (view q)).table) c.word_at-2.ensures) in
+    (λ o low mine names. c.read_table-payload.ensures.held o low mine names ∙ ap (slice_index (held o (view q)).table) c.word_at-2.ensures) in
     reads_map k a.l (λ x. (root_in x ≡ suc t → kind ≡ slice_index x.table one) × (root_in x ≡ suc t → payload ≡ slice_index x.table two)) (IsValueIn t a.place c.in-Some.found) p r
     (λ x both names value stored.
     let read : IsStored kind payload (Plain value) = subst (λ (z : ℕ × ℕ). IsStored z.0 z.1 (Plain value)) (λ d. (sym (both.0 names) d, sym (both.1 names) d)) stored in
@@ -78,10 +76,10 @@ returns-in-None-clause-reads c =
     let two = item_at a.place 2 in
     let first : Reads k a.l (λ x. root_in x ≡ suc t → kind ≡ slice_index x.table one) p q = reads_table k a.l t one kind p q (named k a.table c.requires.table) (inside k a.table c.requires.table a.place 1 c.requires.place (omega arith))
     (subst (λ (z : ℕ). DidAll (ReadTable t z kind ∷ []) p q) c.word_at.ensures c.read_table-kind.ensures.did)
-    (λ mine names. c.read_table-kind.ensures.held a.l c.requires.container mine names ∙ ap (slice_index (held a.l (view p)).table) c.word_at.ensures) in
+    (λ o low mine names. c.read_table-kind.ensures.held o low mine names ∙ ap (slice_index (held o (view p)).table) c.word_at.ensures) in
     let second : Reads k a.l (λ x. root_in x ≡ suc t → payload ≡ slice_index x.table two) q r = reads_table k a.l t two payload q r (named k a.table c.requires.table) (inside k a.table c.requires.table a.place 2 c.requires.place (omega arith))
     (subst (λ (z : ℕ). DidAll (ReadTable t z payload ∷ []) q r) c.word_at-2.ensures c.read_table-payload.ensures.did)
-    (λ mine names. c.read_table-payload.ensures.held a.l c.requires.container mine names ∙ ap (slice_index (held a.l (view q)).table) c.word_at-2.ensures) in
+    (λ o low mine names. c.read_table-payload.ensures.held o low mine names ∙ ap (slice_index (held o (view q)).table) c.word_at-2.ensures) in
     reads_map k a.l (λ x. (root_in x ≡ suc t → kind ≡ slice_index x.table one) × (root_in x ≡ suc t → payload ≡ slice_index x.table two)) (IsValueIn t a.place None) p r
     (λ x both names value stored.
     let read : IsStored kind payload (Plain value) = subst (λ (z : ℕ × ℕ). IsStored z.0 z.1 (Plain value)) (λ d. (sym (both.0 names) d, sym (both.1 names) d)) stored in

@@ -15,7 +15,7 @@ use Rattle.ft_list.specs.Items.{IsMoving, items_of}
 use Rattle.ft_list.proofs.Cares.{table_class, writes_on}
 use Rattle.ft_list.proofs.Finishing.{with_count, root_stays}
 use Rattle.ft_list.proofs.Putting.{stored_none, moving_ends, long_remove}
-use Rattle.ft_list.proofs.Whole.{finishing, list_wrote}
+use Rattle.ft_list.proofs.Whole.{finishing, list_wrote, root_wrote}
 use Rattle.ft_list.proofs.writes.remove_item.Goals as goal
 
 pub shift_down-requires-clause-before : goal.shift_down-requires-clause-before
@@ -67,4 +67,19 @@ returns-clause-wrote c =
     let last = put_by (PutBlock a.o 1 (a.count - 1)) y u a.o tt c.put_block.ensures.did.1 c.put_block.ensures.keeps in
     let call_is = c.requires.call in
     list_wrote k a.o a.table v s u d.0 c.requires.may d.1.1 (put_then s y u a.o e.only last) call_is.0 a.called.now a.said.now c.finish.result (view c.finish.new.pass) call_is.1 call_is.2.changing c.finish.ensures.ends
+    ((root_stays _ _ _ _ (omega arith) c.put_block.ensures.held) ∙ (e.list.root ∙ sym c.requires.table.root))
+
+pub returns-clause-root : goal.returns-clause-root
+returns-clause-root c =
+    let a = c.args in
+    let k = shape_of a.bank.now in
+    let v = view a.pass.now in
+    let s = view c.begin.new.pass in
+    let y = view c.shift_down.new.pass in
+    let u = view c.put_block.new.pass in
+    let d = c.begin.ensures.did in
+    let e = c.shift_down.ensures in
+    let last = put_by (PutBlock a.o 1 (a.count - 1)) y u a.o tt c.put_block.ensures.did.1 c.put_block.ensures.keeps in
+    let call_is = c.requires.call in
+    root_wrote k a.o a.table v s u d.0 c.requires.may d.1.1 (put_then s y u a.o e.only last) call_is.0 a.called.now a.said.now c.finish.result (view c.finish.new.pass) call_is.1 call_is.2.changing c.finish.ensures.ends
     ((root_stays _ _ _ _ (omega arith) c.put_block.ensures.held) ∙ (e.list.root ∙ sym c.requires.table.root))

@@ -9,7 +9,7 @@ use Rattle.ft_bank.specs.Tables.{name_of}
 use Rattle.ft_list.specs.Items.{items_of, stored_at, but_at}
 use Rattle.ft_list.proofs.Cares.{table_class}
 use Rattle.ft_list.proofs.Putting.{putting_put, putting_ends, stored_set}
-use Rattle.ft_list.proofs.Whole.{finishing, list_wrote}
+use Rattle.ft_list.proofs.Whole.{finishing, list_wrote, root_wrote}
 use Rattle.ft_list.proofs.writes.set_item.Goals as goal
 
 pub put_item-requires-clause-place : goal.put_item-requires-clause-place
@@ -51,3 +51,15 @@ returns-clause-wrote c =
     let e = c.put_item.ensures in
     let call_is = c.requires.call in
     list_wrote k a.o a.table v s u d.0 c.requires.may d.1.1 e.only call_is.0 a.called.now a.said.now c.finish.result (view c.finish.new.pass) call_is.1 call_is.2.changing c.finish.ensures.ends (e.list.root ∙ sym c.requires.table.root)
+
+pub returns-clause-root : goal.returns-clause-root
+returns-clause-root c =
+    let a = c.args in
+    let k = shape_of a.bank.now in
+    let v = view a.pass.now in
+    let s = view c.begin.new.pass in
+    let u = view c.put_item.new.pass in
+    let d = c.begin.ensures.did in
+    let e = c.put_item.ensures in
+    let call_is = c.requires.call in
+    root_wrote k a.o a.table v s u d.0 c.requires.may d.1.1 e.only call_is.0 a.called.now a.said.now c.finish.result (view c.finish.new.pass) call_is.1 call_is.2.changing c.finish.ensures.ends (e.list.root ∙ sym c.requires.table.root)

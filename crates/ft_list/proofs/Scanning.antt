@@ -1,0 +1,107 @@
+-- Loops over the items of a list, step by step, and what they show in the end.
+use Rattle.std.proofs.Common.{◌≡◌, ℕ, ◌<◌, Bool, true, List, ◌++◌, length, take, Option, Some, None, refl, sym, ap, ◌∙◌, inr}
+use Rattle.std.specs.Prelude.{slice_index, slice_index_or, is_some}
+use Rattle.std.specs.Option.{option_map_or}
+use Rattle.ft_model.specs.declared.call.Call.TheVariants as call
+use Rattle.ft_model.specs.declared.call.ListCall.TheVariants as list
+use Rattle.ft_model.specs.declared.content.Content.{Content}
+use Rattle.ft_model.specs.declared.content.Content.TheVariants as content
+use Rattle.ft_model.specs.declared.reply.Raise.TheVariants as raise
+use Rattle.ft_model.specs.declared.reply.Reply.TheVariants as reply
+use Rattle.ft_model.specs.Answers.{shows}
+use Rattle.ft_model.specs.declared.data.Value.{Value}
+use Rattle.ft_model.specs.declared.data.Value.TheVariants.{Nothing}
+use Rattle.ft_model.specs.Lists.{index_of, count_of}
+use Rattle.ft_model.specs.Worlds.{kind_of, list_of, no_hands}
+use Rattle.ft_trace.specs.declared.Shape.{Shape}
+use Rattle.ft_trace.specs.declared.View.{View}
+use Rattle.ft_trace.specs.Acts.{has_lock}
+use Rattle.ft_trace.specs.Addresses.{containers_in}
+use Rattle.ft_trace.specs.Holds.{held, known}
+use Rattle.ft_bank.specs.declared.pass.Pass.{Pass}
+use Rattle.ft_bank.specs.Passes.{view}
+use Rattle.ft_bank.specs.Whole.{OnlyLoaded}
+use Rattle.ft_search.proofs.Lengths.{IsPlain}
+use Rattle.ft_search.proofs.Running.{did_log}
+use Rattle.ft_list.specs.Calls.{MayWriteList}
+use Rattle.ft_list.specs.Items.{items_of}
+use Rattle.ft_list.specs.Indexes.{Reads, IsItemAt}
+use Rattle.ft_list.specs.Scans.{IsOfItems}
+use Rattle.ft_list.specs.Tries.{IsReplyTo}
+use Rattle.ft_list.proofs.Trying.{reply_of_list}
+use Rattle.ft_list.proofs.Indexes.{reads_map, reads_then, reads_loaded, items_counted}
+use Rattle.ft_list.proofs.Lists.{content_of, may_loaded}
+use Rattle.ft_list.proofs.Values.{NoneBefore, has_first}
+
+module _ (k : Shape) (o : ℕ) where
+  -- the block was read, which says how many items there are
+  pub counted : (count : ℕ) (p q : Pass) → Reads k o (λ x. count ≡ slice_index x.block 1) p q → Reads k o (IsOfItems k (λ items. count ≡ length items)) p q
+  counted count p q r = reads_map k o (λ x. count ≡ slice_index x.block 1) (IsOfItems k (λ items. count ≡ length items)) p q (λ x counts. items_counted k x count counts) r
+
+  -- one more item was read
+  pub one_more : (holds then : List Value → Type 0) (place : ℕ) (found : Option Value) (p q r : Pass) → Reads k o (IsOfItems k holds) p q → Reads k o (IsItemAt k place found) q r
+      → ((items : List Value) → holds items → (place < length items → found ≡ Some (slice_index_or items place Nothing)) → then items) → Reads k o (IsOfItems k then) p r
+  one_more holds then place found p q r a b f =
+      reads_map k o (λ x. IsOfItems k holds x × IsItemAt k place found x) (IsOfItems k then) p r
+      (λ x both kept is stands. f (list_of kept.content) (both.0 kept is stands) (both.1 kept is stands))
+      (reads_then k o (IsOfItems k holds) (IsItemAt k place found) p q r a b)
+
+  -- what holds of the items is something else
+  pub so_of_items : (holds then : List Value → Type 0) (p q : Pass) → Reads k o (IsOfItems k holds) p q → ((items : List Value) → holds items → then items) → Reads k o (IsOfItems k then) p q
+  so_of_items holds then p q a f = reads_map k o (IsOfItems k holds) (IsOfItems k then) p q (λ x h kept is stands. f (list_of kept.content) (h kept is stands)) a
+
+-- no item before this place is equal, of as many
+abbrev pub NoneYet : Value → ℕ → ℕ → List Value → Type 0
+NoneYet value count place items = (count ≡ length items) × NoneBefore items value place
+
+-- as many are equal before this place, of as many
+abbrev pub EqualYet : Value → ℕ → ℕ → ℕ → List Value → Type 0
+EqualYet value count place equal items = (count ≡ length items) × (equal ≡ count_of (take place items) value)
+
+-- ---- by a pass with the lock
+
+module _ (k : Shape) (o : ℕ) (holds : List Value → Type 0) (p q : Pass) (r : Reads k o (IsOfItems k holds) p q) (shape : (view p).shape ≡ k) (may : MayWriteList k o (view p)) where
+  -- it holds of the items that the pass knows
+  pub items_hold : holds (items_of o (view p))
+  items_hold = r.3 (held o (view p)) (r.4 o may.container may.locked) (known o (view p)) (ap kind_of (content_of k o (view p) shape p.possible may)) may.stands
+
+  pub scan_loaded : OnlyLoaded (view p) (view q)
+  scan_loaded = reads_loaded k o (IsOfItems k holds) p q r
+
+  pub scan_may : MayWriteList k o (view q)
+  scan_may = may_loaded k o (view p) (view q) scan_loaded may
+
+  pub scan_log : (view q).log ≡ r.0 ++ (view p).log
+  scan_log = did_log r.0 p q r.2
+
+-- the item at a place, by such a pass
+pub item_held : (k : Shape) (o place : ℕ) (found : Option Value) (p q : Pass) → Reads k o (IsItemAt k place found) p q → (view p).shape ≡ k → MayWriteList k o (view p) → place < length (items_of o (view p)) → found ≡ Some (slice_index_or (items_of o (view p)) place Nothing)
+item_held k o place found p q r shape may low = r.3 (held o (view p)) (r.4 o may.container may.locked) (known o (view p)) (ap kind_of (content_of k o (view p) shape p.possible may)) may.stands low
+
+-- ---- what calls reply that search
+
+module _ (o : ℕ) (values : List Value) (v : View) (low : o < containers_in v.shape) (mine : has_lock o v.log ≡ true) (is_list : (known o v).content ≡ content.List values) (value : Value) where
+  pub index_replied : (found : Option ℕ) → found ≡ index_of values value → IsReplyTo (call.List o (list.Index value)) (option_map_or reply.Count found (reply.Raised raise.NoValue)) v
+  index_replied found is =
+      reply_of_list o (list.Index value) (option_map_or reply.Count found (reply.Raised raise.NoValue)) values v low mine is_list
+      (λ stored has. by stored.world (index_of values value) ∙ ap (λ (z : Option ℕ). option_map_or reply.Count z (reply.Raised raise.NoValue)) (sym is))
+    where
+      by : (world : List Content) (z : Option ℕ) → (option_map_or (λ place. shows world no_hands (reply.Count place)) z (shows world no_hands (reply.Raised raise.NoValue))).reply ≡ option_map_or reply.Count z (reply.Raised raise.NoValue)
+      by world None = refl
+      by world (Some place) = refl
+
+  pub count_replied : (equal : ℕ) → equal ≡ count_of values value → IsReplyTo (call.List o (list.Count value)) (reply.Count equal) v
+  count_replied equal is = reply_of_list o (list.Count value) (reply.Count equal) values v low mine is_list (λ stored has. ap reply.Count (sym is))
+
+  pub has_replied : (found : Option ℕ) → found ≡ index_of values value → IsReplyTo (call.List o (list.Has value)) (reply.Truth (is_some found)) v
+  has_replied found is = reply_of_list o (list.Has value) (reply.Truth (is_some found)) values v low mine is_list (λ stored has. ap reply.Truth (has_first values value ∙ ap is_some (sym is)))
+
+pub index_plain : (o : ℕ) (value : Value) (found : Option ℕ) → IsPlain (call.List o (list.Index value)) (option_map_or reply.Count found (reply.Raised raise.NoValue))
+index_plain o value None = record { reads = refl; cursor = refl; adds = refl; memory = refl; replied = λ plain is. inr is; cause = λ stored log n. refl }
+index_plain o value (Some place) = record { reads = refl; cursor = refl; adds = refl; memory = refl; replied = λ plain is. inr is; cause = λ stored log n. refl }
+
+pub count_plain : (o : ℕ) (value : Value) (equal : ℕ) → IsPlain (call.List o (list.Count value)) (reply.Count equal)
+count_plain o value equal = record { reads = refl; cursor = refl; adds = refl; memory = refl; replied = λ plain is. inr is; cause = λ stored log n. refl }
+
+pub has_plain : (o : ℕ) (value : Value) (truth : Bool) → IsPlain (call.List o (list.Has value)) (reply.Truth truth)
+has_plain o value truth = record { reads = refl; cursor = refl; adds = refl; memory = refl; replied = λ plain is. inr is; cause = λ stored log n. refl }

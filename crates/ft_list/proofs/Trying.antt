@@ -1,0 +1,223 @@
+-- Calls under locks: what a pass in the midst of a call may do with a list, and that it is in the midst of its call still
+-- once it has.
+use Rattle.std.proofs.Common.{◌≡◌, ℕ, ◌<◌, ◌≤◌, Bool, true, false, List, ◌∷◌, ◌++◌, Some, None, refl, sym, ap, ◌∙◌, subst, inl, inr, ⊎_elim}
+use Rattle.std.specs.Prelude.{◌&&◌, not, if◌then◌else◌}
+use Rattle.std.specs.Option.{unwrap_or}
+use Rattle.std.proofs.lemmas.Bool.{cases_eq}
+use Rattle.ft_model.specs.declared.call.Call.{Call}
+use Rattle.ft_model.specs.declared.call.Call.TheVariants as call
+use Rattle.ft_model.specs.declared.call.ListCall.{ListCall}
+use Rattle.ft_model.specs.declared.content.Content.TheVariants as content
+use Rattle.ft_model.specs.declared.data.Value.{Value}
+use Rattle.ft_model.specs.declared.reply.Reply.{Reply}
+use Rattle.ft_model.specs.declared.script.Kind.TheVariants as kind
+use Rattle.ft_model.specs.Answers.{answer_list, is_write}
+use Rattle.ft_model.specs.Calls.{is_changing_list}
+use Rattle.ft_model.specs.Answers.{Answer as Given}
+use Rattle.ft_model.specs.Tables.{StoredWorld}
+use Rattle.ft_model.specs.Worlds.{no_hands}
+use Rattle.ft_trace.specs.declared.Act.{Act}
+use Rattle.ft_trace.specs.declared.Act.TheVariants.{Answer, PutRoot, ReadCounter}
+use Rattle.ft_trace.specs.declared.Shape.{Shape}
+use Rattle.ft_trace.specs.declared.View.{View}
+use Rattle.ft_trace.specs.Acts.{has_lock, stage, stage_next, debt, debt_next, noted, shown}
+use Rattle.ft_trace.specs.Addresses.{containers_in}
+use Rattle.ft_trace.specs.Holds.{held, known}
+use Rattle.ft_trace.specs.Traces.{Possible}
+use Rattle.ft_trace.specs.Words.{Picture, root_in, Stands}
+use Rattle.ft_trace.specs.Worlds.{Kept, kind_in, changes, reply_in}
+use Rattle.ft_trace.proofs.Cases.{here}
+use Rattle.ft_bank.specs.declared.bank.Bank.{Bank}
+use Rattle.ft_bank.specs.declared.pass.Pass.{Pass}
+use Rattle.ft_bank.specs.Answered.{Answered}
+use Rattle.ft_bank.specs.Passes.{shape_of, view, IsPassOf}
+use Rattle.ft_bank.specs.Reads.{IsShown}
+use Rattle.ft_bank.specs.Sections.{stack_of}
+use Rattle.ft_bank.specs.Whole.{OnlyLoaded, Wrote, hand_after, debt_after}
+use Rattle.ft_bank.specs.Writes.{MayHave}
+use Rattle.ft_bank.proofs.Whole.{loaded_by, loaded_then, work_knows}
+use Rattle.ft_section.specs.declared.answers.Stamp.{Stamp}
+use Rattle.ft_section.specs.Ready.{IsStill, IsMaking}
+use Rattle.ft_section.proofs.Making.{making_stays}
+use Rattle.ft_search.proofs.Asking.{held_shown, answered_locked}
+use Rattle.ft_search.proofs.Lengths.{IsPlain}
+use Rattle.ft_search.proofs.Trying.{LeavesSections, still_loaded, making_read, making_stands}
+use Rattle.ft_list.specs.Calls.{MayWriteList, Changes, Raises}
+use Rattle.ft_list.specs.Items.{items_of}
+use Rattle.ft_list.specs.Tries.{IsReplyTo, KeepsTables, MadeAs}
+use Rattle.ft_list.proofs.Commits.{list_is}
+use Rattle.ft_list.proofs.Lists.{content_of}
+use Rattle.ft_list.proofs.Loaded.{loaded_wrote, loaded_answered}
+use Rattle.ft_list.proofs.Raising.{raised, and_false}
+
+-- ---- before the call
+
+pub may_write : (b : Bank) (p : Pass) (o : ℕ) → IsMaking b p → o < containers_in (shape_of b) → kind_in (shape_of b).kinds o ≡ kind.List → has_lock o (view p).log ≡ true → 0 < (view p).left → MayWriteList (shape_of b) o (view p)
+may_write b p o m low is mine left =
+    let same = m.inside.0.1 in
+    record {
+      container = low;
+      kind = is;
+      locked = mine;
+      even = m.inside.1.still.even o;
+      stands = making_stands b p (shape_of b).texts o m (ap (λ (k : Shape). k.texts) same) (subst (λ (k : Shape). o < containers_in k) (sym same) low) mine;
+      owes = m.inside.1.still.owes;
+      left = left;
+    }
+
+-- ---- the reply
+
+-- loads leave what the bank may have
+pub has_loaded : (v u : View) (stored : StoredWorld) → OnlyLoaded v u → MayHave v stored → MayHave u stored
+has_loaded v u stored l has =
+    let s = l.work.pass.shape in
+    record {
+      agrees = λ p low mine. has.agrees p (subst (λ (k : Shape). p < containers_in k) s low) (sym (l.work.pass.locks p) ∙ mine) ∙ sym (work_knows v u p l.work);
+      containers = has.containers ∙ sym (ap containers_in s);
+      kinds = has.kinds ∙ sym (ap (λ (k : Shape). k.kinds) s);
+      order = has.order;
+      words = has.words;
+    }
+
+pub reply_loaded : (called : Call) (said : Reply) (v u : View) → OnlyLoaded v u → IsReplyTo called said u → IsReplyTo called said v
+reply_loaded called said v u l replied stored has = replied stored (has_loaded v u stored l has)
+
+module _ (o : ℕ) (lc : ListCall) (said : Reply) (values : List Value) (v : View) (low : o < containers_in v.shape) (mine : has_lock o v.log ≡ true) (is_list : (known o v).content ≡ content.List values) where
+  -- it is that of the plain list with the items that the pass knows
+  pub reply_of_list : ((stored : StoredWorld) → MayHave v stored → (answer_list stored.world no_hands o values lc).reply ≡ said) → IsReplyTo (call.List o lc) said v
+  reply_of_list replied stored has = ap (λ (l : List Value). (answer_list stored.world no_hands o l lc).reply) (list_is o lc said values values v low mine is_list stored has) ∙ replied stored has
+
+  pub reply_changes : (news : List Value) → Changes o lc said values news v → IsReplyTo (call.List o lc) said v
+  reply_changes news c = reply_of_list (λ stored has. ap (λ (z : Given). z.reply) (c.answered stored has))
+
+  pub reply_raises : Raises o lc said values → IsReplyTo (call.List o lc) said v
+  reply_raises r = reply_of_list (λ stored has. ap (λ (z : Given). z.reply) (r.answered stored.world))
+
+-- ---- tables in hand
+
+hand_stays : (o old root t stands : ℕ) → old ≡ root → hand_after o old root t stands ≡ stands
+hand_stays o old root t stands e = here old root stands (stage_next t (PutRoot o root old) stands) e
+
+debt_stays : (o old root n : ℕ) → old ≡ root → debt_after o old root n ≡ n
+debt_stays o old root n e = here old root n (debt_next (PutRoot o root old) n) e
+
+pub tables_wrote : (called : Call) (said : Reply) (n : ℕ) (v w : View) → Wrote called said n v w → root_in (held (changes called) w) ≡ root_in (held (changes called) v) → KeepsTables v w
+tables_wrote called said n v w x root =
+    let old = root_in (held (changes called) v) in
+    let new = root_in (held (changes called) w) in
+    record {
+      hands = λ t. x.hands t ∙ hand_stays (changes called) old new t (stage t v.log) (sym root);
+      debt = x.debt ∙ debt_stays (changes called) old new (debt v.log) (sym root);
+    }
+
+pub tables_answered : (called : Call) (said : Reply) (n : ℕ) (v w : View) → Answered called said n v w → KeepsTables v w
+tables_answered called said n v w x = record {
+  hands = λ t. ap (λ (z : View). stage t z.log) x.answered ∙ x.loaded.work.hands t;
+  debt = ap (λ (z : View). debt z.log) x.answered ∙ x.loaded.work.debt;
+}
+
+pub tables_loaded : (v u w : View) → OnlyLoaded v u → KeepsTables u w → KeepsTables v w
+tables_loaded v u w l x = record { hands = λ t. x.hands t ∙ l.work.hands t; debt = x.debt ∙ l.work.debt }
+
+-- ---- the call as one made
+
+-- as a write, after loads
+pub made_write : (called : Call) (said : Reply) (n : ℕ) (v u w : View) → OnlyLoaded v u → IsReplyTo called said u → is_write called said ≡ true → Wrote called said n u w → root_in (held (changes called) w) ≡ root_in (held (changes called) u) → MadeAs called said (record { number = n; wrote = true }) v w
+made_write called said n v u w l replied write x root = record {
+  made = inl (refl, loaded_wrote called said n v u w l x);
+  replied = reply_loaded called said v u l replied;
+  wrote = sym write;
+  tables = tables_loaded v u w l (tables_wrote called said n u w x root);
+}
+
+-- as a call that isn't one
+pub made_read : (called : Call) (said : Reply) (stamp : Stamp) (v w : View) → IsReplyTo called said v → is_write called said ≡ false → stamp.wrote ≡ false → Answered called said stamp.number v w → MadeAs called said stamp v w
+made_read called said stamp v w replied read wrote x = record {
+  made = inr (wrote, x);
+  replied = replied;
+  wrote = wrote ∙ sym read;
+  tables = tables_answered called said stamp.number v w x;
+}
+
+-- a list that a pass with its lock has, where the call is a write that leaves its table, or raises
+module _ (k : Shape) (o : ℕ) (lc : ListCall) (said : Reply) (v u w : View) (shape : u.shape ≡ k) (possible : ∥ Possible u ∥₁) (may : MayWriteList k o u) (loaded : OnlyLoaded v u) where
+  abbrev called : Call
+  called = call.List o lc
+
+  inside : o < containers_in u.shape
+  inside = subst (λ (z : Shape). o < containers_in z) (sym shape) may.container
+
+  is_list : (known o u).content ≡ content.List (items_of o u)
+  is_list = content_of k o u shape possible may
+
+  pub wrote_as : (n : ℕ) (news : List Value) → Changes o lc said (items_of o u) news u → Wrote called said n u w → root_in (held o w) ≡ root_in (held o u) → MadeAs called said (record { number = n; wrote = true }) v w
+  wrote_as n news c x root =
+      let at : o ≡ changes called = sym (ap (λ (b : Bool). unwrap_or (if b then Some o else None) 0) c.changing) in
+      made_write called said n v u w loaded (reply_changes o lc said (items_of o u) u inside may.locked is_list news c) (λ d. c.changing d && not (c.raises d)) x
+      (subst (λ (p : ℕ). root_in (held p w) ≡ root_in (held p u)) at root)
+
+  pub raised_as : (stamp : Stamp) (part : List Act) → u.log ≡ part ++ v.log → Raises o lc said (items_of o u) → stamp.wrote ≡ false → Answered called said stamp.number u w → MadeAs called said stamp v w
+  raised_as stamp part log r wrote x =
+      made_read called said stamp v w (reply_loaded called said v u loaded (reply_raises o lc said (items_of o u) u inside may.locked is_list r))
+      (ap (λ (b : Bool). is_changing_list lc && not b) (raised said r.raises) ∙ and_false (is_changing_list lc)) wrote
+      (loaded_answered called said stamp.number v u w loaded part log x)
+
+-- ---- after the call
+
+still_wrote : (called : Call) (said : Reply) (n : ℕ) (v w : View) → Wrote called said n v w → KeepsTables v w → IsStill v → IsStill w
+still_wrote called said n v w x tables s = record {
+  even = λ p. x.pass.writes p ∙ s.even p;
+  hands = λ t. ⊎_elim (λ (e : stage t v.log ≡ 0). inl (tables.hands t ∙ e)) (λ (e : stage t v.log ≡ 4). inr (tables.hands t ∙ e)) (s.hands t);
+  used = x.used;
+  owes = x.owes;
+  flight = x.pass.flight ∙ s.flight;
+  stands = λ p low has.
+      let inside = subst (λ (k : Shape). p < containers_in k) x.pass.shape low in
+      let mine = sym (x.pass.locks p) ∙ has in
+      subst (λ (k : Shape). Stands k.texts (held p w) (known p w)) (sym x.pass.shape) (elim (cases_eq p (changes called)) [
+        | inl e ↦ subst (λ (o : ℕ). Stands v.shape.texts (held o w) (known o w)) (sym e) x.stands
+        | inr ne ↦
+            let same = x.others p inside ne mine (s.even p) in
+            subst (λ (z : Picture × Kept). Stands v.shape.texts z.0 z.1) (sym (λ d. (same.0 d, same.1 d))) (s.stands p inside mine)
+      ]);
+}
+
+pub making_made : (b : Bank) (p q : Pass) (called : Call) (said : Reply) (stamp : Stamp) → LeavesSections called → IsMaking b p → IsPassOf b q → stack_of q ≡ stack_of p → MadeAs called said stamp (view p) (view q) → IsMaking b q
+making_made b p q called said stamp leaves m pass stack x =
+    ⊎_elim
+    (λ (w : (stamp.wrote ≡ true) × Wrote called said stamp.number (view p) (view q)).
+    making_stays b p q m pass stack w.1.pass.shape w.1.pass.locks w.1.pass.begun (still_wrote called said stamp.number (view p) (view q) w.1 x.tables m.inside.1.still))
+    (λ (a : (stamp.wrote ≡ false) × Answered called said stamp.number (view p) (view q)).
+    making_read b p q called said stamp.number leaves m pass stack a.1)
+    x.made
+
+-- loads in the midst of it
+pub making_loaded : (b : Bank) (p q : Pass) → IsMaking b p → IsPassOf b q → stack_of q ≡ stack_of p → OnlyLoaded (view p) (view q) → IsMaking b q
+making_loaded b p q m pass stack l = making_stays b p q m pass stack l.work.pass.shape l.work.pass.locks l.work.pass.begun (still_loaded (view p) (view q) l m.inside.1.still)
+
+-- ---- calls that read, with the stamp that is loaded under the lock
+
+-- what the bank may have after loads it might have before
+pub had_loaded : (v u : View) (stored : StoredWorld) → OnlyLoaded v u → MayHave u stored → MayHave v stored
+had_loaded v u stored l has =
+    let s = l.work.pass.shape in
+    record {
+      agrees = λ p low mine. has.agrees p (subst (λ (k : Shape). p < containers_in k) (sym s) low) (l.work.pass.locks p ∙ mine) ∙ work_knows v u p l.work;
+      containers = has.containers ∙ ap containers_in s;
+      kinds = has.kinds ∙ ap (λ (k : Shape). k.kinds) s;
+      order = has.order;
+      words = has.words;
+    }
+
+module _ (called : Call) (said : Reply) (plain : IsPlain called said) (v u : View) (loaded : OnlyLoaded v u) (replied : IsReplyTo called said v) where
+  pub read_shown : (n : ℕ) → 0 < v.left → IsShown (noted (ReadCounter n) u) called said n
+  read_shown n left =
+      let both = loaded_then v u (noted (ReadCounter n) u) loaded (loaded_by (ReadCounter n) u (noted (ReadCounter n) u) tt refl) in
+      held_shown v u n loaded left called said plain.reads plain.cursor
+      (λ stored has. plain.replied (reply_in stored called) (sym (replied stored (had_loaded v (noted (ReadCounter n) u) stored both has))))
+      (λ stored. plain.cause stored (ReadCounter n ∷ u.log) n)
+
+  pub read_made : (z : View) (given reply : Reply) (stamp : Stamp) (part : List Act) → u.log ≡ part ++ v.log → z ≡ noted (Answer called given stamp.number) (noted (ReadCounter stamp.number) u) → given ≡ said → reply ≡ given → stamp.wrote ≡ false → v.learnt ≤ shown v.log → ∥ Possible z ∥₁ → MadeAs called reply stamp v z
+  read_made z given reply stamp part own did is same wrote settled possible =
+      subst (λ (r : Reply). MadeAs called r stamp v z) (sym (same ∙ is))
+      (made_read called said stamp v z replied plain.reads wrote (answered_locked v u z called said stamp.number part loaded own (did ∙ ap (λ (r : Reply). noted (Answer called r stamp.number) (noted (ReadCounter stamp.number) u)) is) settled possible))

@@ -1,0 +1,12 @@
+use Rattle.ft_bank.specs.Passes.{shape_of, IsPassOf}
+use Rattle.ft_list.specs.Indexes.{Reads}
+use Rattle.ft_list.specs.Scans.{IsOfItems}
+use Rattle.ft_list.proofs.Scanning.{NoneYet}
+use Rattle.ft_list.proofs.scans.first_equal.Given as goal
+
+abbrev pub invariant-loop-place : goal.invariant-loop-place
+invariant-loop-place l =
+    record {
+      pass : IsPassOf l.bank l.pass;
+      reads : Reads (shape_of l.bank) l.l (IsOfItems (shape_of l.bank) (NoneYet l.value l.count l.place)) l.fn.pass l.pass;
+    }

@@ -1,0 +1,186 @@
+//! Calls on one list, each under its lock: the lock is taken, the call is made, and the lock is let go.
+ghost use Rattle.std.specs.Prelude.{◌≡◌, ◌<◌};
+ghost use Rattle.ft_model.specs.declared.call.Call.TheVariants as call;
+ghost use Rattle.ft_model.specs.declared.call.ListCall.TheVariants as list;
+ghost use Rattle.ft_model.specs.declared.script.Kind.TheVariants as kind;
+ghost use Rattle.ft_trace.specs.Addresses.{containers_in};
+ghost use Rattle.ft_trace.specs.Worlds.{kind_in};
+ghost use Rattle.ft_bank.specs.Passes.{shape_of, view};
+ghost use Rattle.ft_section.specs.declared.answers.Objects.TheVariants.{One};
+ghost use Rattle.ft_section.specs.Ready.{MayTry};
+ghost use Rattle.ft_list.specs.Tries.{IsMadeOf};
+
+use crate::locked::{del_locked, set_locked};
+use crate::removals::{pop_locked, remove_locked};
+use crate::searches::{count_locked, has_locked, index_locked};
+use ft_bank::{Bank, Pass};
+use ft_model::Value;
+use ft_section::{Got, Object, Objects, Step, let_go, take_for};
+
+/// `l[i] = v`, an IndexError where there is no such item (Python manual, Mutable Sequence Types).
+///
+/// # Errors
+///
+/// `NotYet` where a step of the call found another pass with the lock of the list; the same call comes next.
+/// It never answers `Moved` or `NoMemory`.
+pub fn try_set(bank: &Bank, pass: &mut Pass, l: Object, index: i64, value: Value) -> Step
+    requires may { MayTry bank.now pass.old (One l) }
+    requires container { l < containers_in (shape_of bank.now) }
+    requires list { kind_in (shape_of bank.now).kinds l ≡ kind.List }
+    requires left { 0 < (view pass.old).left }
+    ensures may { MayTry bank.now pass.new (One l) }
+    ensures made { IsMadeOf (One l) (call.List l (list.Set index value)) (view pass.old) (view pass.new) result }
+{
+    match take_for(bank, pass, Objects::One(l)) {
+        Got::Have => {
+            let (reply, stamp) = set_locked(bank, pass, l, index, value);
+            let_go(bank, pass);
+            Step::Done(reply, stamp)
+        }
+        Got::NotYet(container, owner) => Step::NotYet(container, owner),
+    }
+}
+
+/// `del l[i]`, an IndexError where there is no such item (Python manual, Mutable Sequence Types).
+///
+/// # Errors
+///
+/// `NotYet` where a step of the call found another pass with the lock of the list; the same call comes next.
+/// It never answers `Moved` or `NoMemory`.
+pub fn try_del(bank: &Bank, pass: &mut Pass, l: Object, index: i64) -> Step
+    requires may { MayTry bank.now pass.old (One l) }
+    requires container { l < containers_in (shape_of bank.now) }
+    requires list { kind_in (shape_of bank.now).kinds l ≡ kind.List }
+    requires left { 0 < (view pass.old).left }
+    ensures may { MayTry bank.now pass.new (One l) }
+    ensures made { IsMadeOf (One l) (call.List l (list.Del index)) (view pass.old) (view pass.new) result }
+{
+    match take_for(bank, pass, Objects::One(l)) {
+        Got::Have => {
+            let (reply, stamp) = del_locked(bank, pass, l, index);
+            let_go(bank, pass);
+            Step::Done(reply, stamp)
+        }
+        Got::NotYet(container, owner) => Step::NotYet(container, owner),
+    }
+}
+
+/// `l.pop()` or `l.pop(i)`, an IndexError where there is no such item (Python manual, Mutable Sequence Types).
+///
+/// # Errors
+///
+/// `NotYet` where a step of the call found another pass with the lock of the list; the same call comes next.
+/// It never answers `Moved` or `NoMemory`.
+pub fn try_pop(bank: &Bank, pass: &mut Pass, l: Object, index: Option<i64>) -> Step
+    requires may { MayTry bank.now pass.old (One l) }
+    requires container { l < containers_in (shape_of bank.now) }
+    requires list { kind_in (shape_of bank.now).kinds l ≡ kind.List }
+    requires left { 0 < (view pass.old).left }
+    ensures may { MayTry bank.now pass.new (One l) }
+    ensures made { IsMadeOf (One l) (call.List l (list.Pop index)) (view pass.old) (view pass.new) result }
+{
+    match take_for(bank, pass, Objects::One(l)) {
+        Got::Have => {
+            let (reply, stamp) = pop_locked(bank, pass, l, index);
+            let_go(bank, pass);
+            Step::Done(reply, stamp)
+        }
+        Got::NotYet(container, owner) => Step::NotYet(container, owner),
+    }
+}
+
+/// `l.remove(v)`, a ValueError where there is no such item (Python manual, Mutable Sequence Types).
+///
+/// # Errors
+///
+/// `NotYet` where a step of the call found another pass with the lock of the list; the same call comes next.
+/// It never answers `Moved` or `NoMemory`.
+pub fn try_remove(bank: &Bank, pass: &mut Pass, l: Object, value: Value) -> Step
+    requires may { MayTry bank.now pass.old (One l) }
+    requires container { l < containers_in (shape_of bank.now) }
+    requires list { kind_in (shape_of bank.now).kinds l ≡ kind.List }
+    requires left { 0 < (view pass.old).left }
+    ensures may { MayTry bank.now pass.new (One l) }
+    ensures made { IsMadeOf (One l) (call.List l (list.Remove value)) (view pass.old) (view pass.new) result }
+{
+    match take_for(bank, pass, Objects::One(l)) {
+        Got::Have => {
+            let (reply, stamp) = remove_locked(bank, pass, l, value);
+            let_go(bank, pass);
+            Step::Done(reply, stamp)
+        }
+        Got::NotYet(container, owner) => Step::NotYet(container, owner),
+    }
+}
+
+/// `l.index(v)`, a ValueError where there is no such item (Python manual, Sequence Types).
+///
+/// # Errors
+///
+/// `NotYet` where a step of the call found another pass with the lock of the list; the same call comes next.
+/// It never answers `Moved` or `NoMemory`.
+pub fn try_index(bank: &Bank, pass: &mut Pass, l: Object, value: Value) -> Step
+    requires may { MayTry bank.now pass.old (One l) }
+    requires container { l < containers_in (shape_of bank.now) }
+    requires list { kind_in (shape_of bank.now).kinds l ≡ kind.List }
+    requires left { 0 < (view pass.old).left }
+    ensures may { MayTry bank.now pass.new (One l) }
+    ensures made { IsMadeOf (One l) (call.List l (list.Index value)) (view pass.old) (view pass.new) result }
+{
+    match take_for(bank, pass, Objects::One(l)) {
+        Got::Have => {
+            let (reply, stamp) = index_locked(bank, pass, l, value);
+            let_go(bank, pass);
+            Step::Done(reply, stamp)
+        }
+        Got::NotYet(container, owner) => Step::NotYet(container, owner),
+    }
+}
+
+/// `l.count(v)` (Python manual, Sequence Types).
+///
+/// # Errors
+///
+/// `NotYet` where a step of the call found another pass with the lock of the list; the same call comes next.
+/// It never answers `Moved` or `NoMemory`.
+pub fn try_count(bank: &Bank, pass: &mut Pass, l: Object, value: Value) -> Step
+    requires may { MayTry bank.now pass.old (One l) }
+    requires container { l < containers_in (shape_of bank.now) }
+    requires list { kind_in (shape_of bank.now).kinds l ≡ kind.List }
+    requires left { 0 < (view pass.old).left }
+    ensures may { MayTry bank.now pass.new (One l) }
+    ensures made { IsMadeOf (One l) (call.List l (list.Count value)) (view pass.old) (view pass.new) result }
+{
+    match take_for(bank, pass, Objects::One(l)) {
+        Got::Have => {
+            let (reply, stamp) = count_locked(bank, pass, l, value);
+            let_go(bank, pass);
+            Step::Done(reply, stamp)
+        }
+        Got::NotYet(container, owner) => Step::NotYet(container, owner),
+    }
+}
+
+/// `v in l` under the lock (Python manual, Sequence Types).
+///
+/// # Errors
+///
+/// `NotYet` where a step of the call found another pass with the lock of the list; the same call comes next.
+/// It never answers `Moved` or `NoMemory`.
+pub fn try_has(bank: &Bank, pass: &mut Pass, l: Object, value: Value) -> Step
+    requires may { MayTry bank.now pass.old (One l) }
+    requires container { l < containers_in (shape_of bank.now) }
+    requires list { kind_in (shape_of bank.now).kinds l ≡ kind.List }
+    requires left { 0 < (view pass.old).left }
+    ensures may { MayTry bank.now pass.new (One l) }
+    ensures made { IsMadeOf (One l) (call.List l (list.Has value)) (view pass.old) (view pass.new) result }
+{
+    match take_for(bank, pass, Objects::One(l)) {
+        Got::Have => {
+            let (reply, stamp) = has_locked(bank, pass, l, value);
+            let_go(bank, pass);
+            Step::Done(reply, stamp)
+        }
+        Got::NotYet(container, owner) => Step::NotYet(container, owner),
+    }
+}

@@ -9,3 +9,8 @@ pub mod Asking
 pub mod Holding
 pub mod Trying
 pub mod Lengths
+pub mod Changing
+pub mod Deletions
+pub mod Puts
+pub mod Endings
+pub mod Laws

@@ -4,3 +4,4 @@ pub mod Rounds
 pub mod Held
 pub mod Tries
 pub mod Lengths
+pub mod Writing

@@ -3,6 +3,9 @@
 #![tactic(auto)]
 
 mod bare;
+mod deleting;
+mod entries;
+mod finishing;
 mod held;
 mod lens;
 mod look;
@@ -12,6 +15,8 @@ mod rounds;
 mod tables;
 mod words;
 
+pub use crate::deleting::delete_entry;
+pub use crate::finishing::write_nothing;
 pub use crate::held::read_key;
 pub use crate::lens::{look_len, try_len};
 pub use crate::look::look_up;

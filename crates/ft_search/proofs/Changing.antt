@@ -1,0 +1,93 @@
+-- A write that changes one entry of a dict or a set: what its words have to meet before the commit and after it.
+use Rattle.std.proofs.Common.{◌≡◌, ◌≢◌, ℕ, suc, ◌+◌, ◌%◌, ◌<◌, Bool, true, false, List, ◌∷◌, Option, refl, sym, ap, ◌∙◌, subst, arith, length-set, get_or-set_same, get_or-set_other}
+use Rattle.std.specs.Prelude.{slice_index, slice_set}
+use Rattle.std.proofs.Math.Logic.{∥∥₁_elim}
+use Rattle.std.proofs.Math.Nat.{ℕ_set}
+use Rattle.ft_model.specs.declared.content.Content.{Content}
+use Rattle.ft_model.specs.declared.script.Kind.{Kind}
+use Rattle.ft_model.specs.declared.script.Kind.TheVariants as kind
+use Rattle.ft_model.specs.Worlds.{kind_of}
+use Rattle.ft_layout.specs.Containers.{IsBlock, IsRoot}
+use Rattle.ft_trace.specs.declared.Shape.{Shape}
+use Rattle.ft_trace.specs.declared.View.{View}
+use Rattle.ft_trace.specs.Addresses.{containers_in, class_of, slots}
+use Rattle.ft_trace.specs.Acts.{has_lock, is_writing, has_committed}
+use Rattle.ft_trace.specs.Holds.{held, known}
+use Rattle.ft_trace.specs.Kinds.{rows, version_at, CarefulAs, ClearAs}
+use Rattle.ft_trace.specs.Openings.{Shut, Timely}
+use Rattle.ft_trace.specs.Traces.{Possible}
+use Rattle.ft_trace.specs.Words.{Picture, root_in, entry_at, entry_of, Stands}
+use Rattle.ft_trace.specs.Worlds.{Kept, kind_in}
+use Rattle.ft_trace.specs.Writes.{Put, to_table, with_puts, MayPut, MayPuts}
+use Rattle.ft_trace.proofs.Clearing.{held_shut}
+use Rattle.ft_trace.proofs.Known.{kind_known}
+use Rattle.ft_bank.specs.Writes.{IsCareful}
+use Rattle.ft_search.specs.Writing.{raised_at}
+
+-- The puts before the commit may be made; then it may be made, and the version of the entry be made even again, the only one
+-- that is odd. Then the words stand for what is left.
+pub record Changing (texts : List ℕ) (t : ℕ) (x : Picture) (before : Kept) (place : ℕ) (early : List Put) (left : Kept) : Type 0 where
+  pub puts : MayPuts (kind_of before.content) t before.content false x early
+  pub clear : ClearAs (kind_of before.content) texts (class_of t) (with_puts x early).table before.content left.content
+  pub odd : entry_of (slots (class_of t)) (with_puts x early).table place 0 % 2 ≡ 1
+  pub close : CarefulAs (kind_of before.content) (class_of t) (with_puts x early).table left.content (entry_at (slots (class_of t)) place 0) (entry_of (slots (class_of t)) (with_puts x early).table place 0 + 1)
+  pub stands : Stands texts (raised_at t place (with_puts x early)) left
+  pub shut : Shut (version_at (kind_of before.content) (class_of t)) (rows (kind_of before.content) (class_of t)) (raised_at t place (with_puts x early)).table
+
+-- ---- the kind of what a pass knows
+
+code : Kind → ℕ
+code kind.Dict = 0
+code kind.List = 1
+code kind.Set = 2
+
+same_code : (a b : Kind) → code a ≡ code b → a ≡ b
+unfolding code
+same_code kind.Dict kind.Dict e = refl
+same_code kind.Dict kind.List e = absurd (omega (arith, e))
+same_code kind.Dict kind.Set e = absurd (omega (arith, e))
+same_code kind.List kind.Dict e = absurd (omega (arith, e))
+same_code kind.List kind.List e = refl
+same_code kind.List kind.Set e = absurd (omega (arith, e))
+same_code kind.Set kind.Dict e = absurd (omega (arith, e))
+same_code kind.Set kind.List e = absurd (omega (arith, e))
+same_code kind.Set kind.Set e = refl
+
+pub kind_is : (k : Shape) (v : View) (o : ℕ) → v.shape ≡ k → ∥ Possible v ∥₁ → has_lock o v.log ≡ true → kind_of (known o v).content ≡ kind_in k.kinds o
+kind_is k v o shape possible mine =
+    same_code (kind_of (known o v).content) (kind_in k.kinds o)
+    (∥∥₁_elim {P = code (kind_of (known o v).content) ≡ code (kind_in k.kinds o)} possible (ℕ_set _ _)
+    (λ p. ap code (kind_known v o mine p ∙ ap (λ (z : Shape). kind_in z.kinds o) shape)))
+
+-- ---- puts
+
+-- a put that may be made on these words is one that readers aren't misled by
+pub put_at : (k : Shape) (o t i y : ℕ) (committed : Bool) (words : Picture) (c : Content) (w : View) → w.shape ≡ k → has_committed o w.log ≡ committed → held o w ≡ words → (known o w).content ≡ c → MayPut (kind_in k.kinds o) t c committed words (to_table i y) → IsCareful w o t i y
+put_at k o t i y committed words c w shape late is content may =
+    let care : CarefulAs (kind_in w.shape.kinds o) (class_of t) (held o w).table (known o w).content i y = subst (λ (z : Shape × Picture × Content). CarefulAs (kind_in z.0.kinds o) (class_of t) z.1.table z.2 i y) (sym (λ d. (shape d, is d, content d))) may.2 in
+    let timely : Timely (version_at (kind_in w.shape.kinds o) (class_of t)) (rows (kind_in w.shape.kinds o) (class_of t)) i y (has_committed o w.log) = subst (λ (z : Shape × Bool). Timely (version_at (kind_in z.0.kinds o) (class_of t)) (rows (kind_in z.0.kinds o) (class_of t)) i y z.1) (sym (λ d. (shape d, late d))) may.3 in
+    record { care = care; timely = timely }
+
+-- a block that counts another number of pairs or elements
+pub with_count : (b : List ℕ) (class : Option ℕ) (old new fill next : ℕ) → IsBlock b class old fill next → IsBlock (slice_set b 1 new) class new fill next
+with_count b class old new fill next h =
+    let size_is = h.size in
+    let other : (i : ℕ) → i ≢ 1 → slice_index (slice_set b 1 new) i ≡ slice_index b i = λ i ne. get_or-set_other b 1 i new 0 ne in
+    record {
+      size = length-set b 1 new ∙ h.size;
+      root = subst (λ (r : ℕ). IsRoot r class) (sym (other 0 (λ e. absurd (omega (arith, e))))) h.root;
+      count_is = get_or-set_same b 1 new 0 (omega (arith, size_is));
+      fill_is = other 2 (λ e. absurd (omega (arith, e))) ∙ h.fill_is;
+      next_is = other 3 (λ e. absurd (omega (arith, e))) ∙ h.next_is;
+      spare = (other 4 (λ e. absurd (omega (arith, e))) ∙ h.spare.0, other 5 (λ e. absurd (omega (arith, e))) ∙ h.spare.1);
+    }
+
+-- no version of an entry is odd before the write
+pub shut_known : (k : Shape) (v : View) (o t : ℕ) → v.shape ≡ k → ∥ Possible v ∥₁ → o < containers_in k → has_lock o v.log ≡ true → is_writing o v.log ≡ false → root_in (held o v) ≡ suc t → Shut (version_at (kind_of (known o v).content) (class_of t)) (rows (kind_of (known o v).content) (class_of t)) (held o v).table
+shut_known k v o t shape possible low mine even names p less =
+    let kind_eq : kind_of (known o v).content ≡ kind_in v.shape.kinds o = kind_is k v o shape possible mine ∙ sym (ap (λ (z : Shape). kind_in z.kinds o) shape) in
+    let here : o < containers_in v.shape = subst (λ (z : Shape). o < containers_in z) (sym shape) low in
+    let row : p < rows (kind_in v.shape.kinds o) (class_of t) = subst (λ (z : Kind). p < rows z (class_of t)) kind_eq less in
+    let even_now : slice_index (held o v).table (version_at (kind_in v.shape.kinds o) (class_of t) p) % 2 ≡ 0 =
+    ∥∥₁_elim {P = slice_index (held o v).table (version_at (kind_in v.shape.kinds o) (class_of t) p) % 2 ≡ 0} possible (ℕ_set _ _) (λ x. held_shut v o t here x mine even names p row) in
+    subst (λ (z : Kind). slice_index (held o v).table (version_at z (class_of t) p) % 2 ≡ 0) (sym kind_eq) even_now

@@ -1,0 +1,109 @@
+-- What a pass that writes the entries of a dict or a set keeps, and that a word of one may be put.
+use Rattle.std.proofs.Common.{◌≡◌, ℕ, suc, ◌+◌, ◌*◌, ◌/◌, ◌^◌, ◌<◌, ◌≤◌, true, Bool, List, refl, sym, ap, ◌∙◌, subst, arith}
+use Rattle.std.specs.Prelude.{slice_index}
+use Rattle.std.proofs.Math.Bridge.{le_prop}
+use Rattle.std.proofs.Math.Logic.{∥∥₁_elim}
+use Rattle.ft_model.specs.declared.script.Kind.{Kind}
+use Rattle.ft_model.specs.declared.script.Kind.TheVariants as kind
+use Rattle.ft_model.specs.Classes.{IsClass}
+use Rattle.ft_layout.proofs.Powers.{slots_range}
+use Rattle.ft_layout.specs.Containers.{class_mask}
+use Rattle.ft_trace.specs.declared.Shape.{Shape}
+use Rattle.ft_trace.specs.declared.Act.{Act}
+use Rattle.ft_trace.specs.declared.View.{View}
+use Rattle.ft_trace.specs.Addresses.{containers_in, class_of, slots, places, size}
+use Rattle.ft_trace.specs.Acts.{has_lock, has_committed, noted}
+use Rattle.ft_trace.specs.Worlds.{Kept, kind_in}
+use Rattle.ft_trace.specs.Words.{Picture, root_in, entry_at, entry_of}
+use Rattle.ft_trace.specs.Kinds.{rows, version_at, CarefulAs, IsKeyed}
+use Rattle.ft_trace.specs.Openings.{Timely}
+use Rattle.ft_trace.specs.Holds.{held, known}
+use Rattle.ft_trace.specs.Traces.{Possible}
+use Rattle.ft_trace.proofs.ByKind.{keyed_fit, keyed_low}
+use Rattle.ft_trace.proofs.Held.{table_known}
+use Rattle.ft_trace.proofs.Lows.{lows}
+use Rattle.ft_trace.proofs.Rooms.{counter_room}
+use Rattle.ft_bank.specs.declared.table.Table.{Table}
+use Rattle.ft_bank.specs.Tables.{name_of, IsTableIn}
+use Rattle.ft_bank.specs.Whole.{OnlyLoaded, OnlyPut}
+use Rattle.ft_bank.specs.Writes.{IsCareful}
+use Rattle.ft_bank.proofs.Tables.{named, class_is}
+use Rattle.ft_bank.proofs.Whole.{IsLoad, loaded_by, loaded_put, loaded_held, work_knows}
+use Rattle.ft_search.specs.Writing.{WritesEntries}
+
+pub table_class : (k : Shape) (t : Table) → IsTableIn k t → IsClass (class_of (name_of t))
+table_class k t is = (named k t is).0
+
+-- last slots and places are few
+pub few_slots : (k : Shape) (t : Table) → IsTableIn k t → slots (class_of (name_of t)) ≤ 65536
+unfolding slots
+few_slots k t is = (slots_range (class_of (name_of t)) (table_class k t is)).1
+
+pub few_mask : (k : Shape) (t : Table) → IsTableIn k t → class_mask t.class < 65536
+few_mask k t is =
+    let r = slots_range t.class is.0 in
+    let low = r.0 in
+    let high = r.1 in
+    omega (arith, low, high)
+
+pub few_places : (k : Shape) (t : Table) (kind : Kind) (place : ℕ) → IsTableIn k t → IsKeyed kind → place < rows kind (class_of (name_of t)) → place < 65536
+unfolding places slots
+few_places k t kind place is keyed low =
+    let f = keyed_fit kind keyed (class_of (name_of t)) in
+    let r = (slots_range (class_of (name_of t)) (table_class k t is)).1 in
+    omega (arith, f, low, r)
+
+-- the pass still writes the container
+pub writes_on : (k : Shape) (o : ℕ) (table : Table) (v w : View) → OnlyPut o v w → root_in (held o w) ≡ root_in (held o v) → WritesEntries k o table v → WritesEntries k o table w
+writes_on k o table v w only root writes = record {
+  container = writes.container;
+  keyed = writes.keyed;
+  table_in = writes.table_in;
+  locked = only.work.pass.locks o ∙ writes.locked;
+  odd = only.work.pass.writes o ∙ writes.odd;
+  root = root ∙ writes.root;
+}
+
+pub writes_loaded : (k : Shape) (o : ℕ) (table : Table) (a : Act) (v w : View) → IsLoad a → w ≡ noted a v → WritesEntries k o table v → WritesEntries k o table w
+writes_loaded k o table a v w load is writes =
+    let l = loaded_by a v w load is in
+    writes_on k o table v w (loaded_put v w o l) (ap root_in (loaded_held v w o l)) writes
+
+-- a version has room for one more write
+version_room : (v : View) (o t p : ℕ) → ∥ Possible v ∥₁ → o < containers_in v.shape → has_lock o v.log ≡ true → root_in (held o v) ≡ suc t → p < rows (kind_in v.shape.kinds o) (class_of t) → v.shape.passes * v.shape.calls < 2 ^ 62 → slice_index (held o v).table (version_at (kind_in v.shape.kinds o) (class_of t) p) < 2 ^ 63
+version_room v o t p possible low mine names row few =
+    ∥∥₁_elim {P = slice_index (held o v).table (version_at (kind_in v.shape.kinds o) (class_of t) p) < 2 ^ 63} possible le_prop
+    (λ (x : Possible v).
+    let k = v.shape in
+    let table = table_known v o low t mine names x.0 x.1 x.2 in
+    let high = (lows k x.0 x.2.0 o low t table.1).odd p row in
+    let count = counter_room k x.0 x.2.0 in
+    let same = ap (λ (l : List ℕ). slice_index l (version_at (kind_in k.kinds o) (class_of t) p)) table.0 in
+    let low : slice_index (held o v).table (version_at (kind_in k.kinds o) (class_of t) p) < 2 ^ 63 = omega (arith, high, count, same, few) in
+    low)
+
+keyed_version : (kind : Kind) → IsKeyed kind → (c p : ℕ) → version_at kind c p ≡ entry_at (slots c) p 0
+keyed_version kind.Dict keyed c p = refl
+keyed_version kind.Set keyed c p = refl
+keyed_version kind.List keyed c p = absurd keyed
+
+pub entry_room : (k : Shape) (o : ℕ) (table : Table) (v : View) → WritesEntries k o table v → v.shape ≡ k → ∥ Possible v ∥₁ → k.passes * k.calls < 2 ^ 62 → (place : ℕ) → place < rows (kind_in k.kinds o) (class_of (name_of table)) → entry_of (slots (class_of (name_of table))) (held o v).table place 0 < 2 ^ 63
+entry_room k o table v writes shape possible few place low =
+    let t = name_of table in
+    let here : o < containers_in v.shape = subst (λ (z : Shape). o < containers_in z) (sym shape) writes.container in
+    let row : place < rows (kind_in v.shape.kinds o) (class_of t) = subst (λ (z : Shape). place < rows (kind_in z.kinds o) (class_of t)) (sym shape) low in
+    let calls : v.shape.passes * v.shape.calls < 2 ^ 62 = subst (λ (z : Shape). z.passes * z.calls < 2 ^ 62) (sym shape) few in
+    let keyed : IsKeyed (kind_in v.shape.kinds o) = subst (λ (z : Shape). IsKeyed (kind_in z.kinds o)) (sym shape) writes.keyed in
+    subst (λ (z : ℕ). slice_index (held o v).table z < 2 ^ 63) (keyed_version (kind_in v.shape.kinds o) keyed (class_of t) place) (version_room v o t place possible here writes.locked writes.root row calls)
+
+-- what readers aren't misled by stays so after loads
+pub careful_loaded : (v w : View) (o t i x : ℕ) → OnlyLoaded v w → IsCareful v o t i x → IsCareful w o t i x
+careful_loaded v w o t i x only care =
+    let same = loaded_held v w o only in
+    let knows = work_knows v w o only.work in
+    let shape = only.work.pass.shape in
+    let late = only.work.committed o in
+    record {
+      care = subst (λ (z : Shape × Picture × Kept). CarefulAs (kind_in z.0.kinds o) (class_of t) z.1.table z.2.content i x) (sym (λ d. (shape d, same d, knows d))) care.care;
+      timely = subst (λ (z : Shape × Bool). Timely (version_at (kind_in z.0.kinds o) (class_of t)) (rows (kind_in z.0.kinds o) (class_of t)) i x z.1) (sym (λ d. (shape d, late d))) care.timely;
+    }

@@ -1,0 +1,39 @@
+use Rattle.std.proofs.Common.{◌≡◌, ℕ, ◌+◌, ◌<◌, sym, ap, ◌∙◌, subst, arith}
+use Rattle.ft_trace.specs.Addresses.{class_of, slots}
+use Rattle.ft_trace.specs.Holds.{held}
+use Rattle.ft_trace.specs.Words.{Picture, entry_at, entry_of}
+use Rattle.ft_bank.specs.Passes.{shape_of, view}
+use Rattle.ft_bank.specs.Tables.{name_of}
+use Rattle.ft_bank.specs.Writes.{IsCareful, with_table}
+use Rattle.ft_bank.proofs.Whole.{work_knows, loaded_put, put_then}
+use Rattle.ft_search.proofs.Puts.{entry_room, careful_loaded}
+use Rattle.ft_search.proofs.entries.raise_version.Goals as goal
+
+pub overflow_add-version : goal.overflow_add-version
+overflow_add-version c =
+    let a = c.args in
+    let r = entry_room (shape_of a.bank.now) a.o a.table (view a.pass.now) c.requires.writes c.requires.pass.1 a.pass.now.possible a.bank.now.few a.place c.requires.place in
+    let found = c.read_entry-version.ensures.found in
+    omega (arith, r, found)
+
+pub put_entry-requires-clause-care : goal.put_entry-requires-clause-care
+put_entry-requires-clause-care c =
+    let a = c.args in
+    let e = c.read_entry-version.ensures in
+    careful_loaded (view a.pass.now) (view c.read_entry-version.new.pass) a.o (name_of a.table) (entry_at (slots (class_of (name_of a.table))) a.place 0) (c.read_entry-version.result + 1) e.only
+    (subst (λ (n : ℕ). IsCareful (view a.pass.now) a.o (name_of a.table) (entry_at (slots (class_of (name_of a.table))) a.place 0) (n + 1)) (sym e.found) c.requires.care)
+
+pub returns-clause-only : goal.returns-clause-only
+returns-clause-only c =
+    let a = c.args in
+    let e = c.read_entry-version.ensures in
+    put_then (view a.pass.now) (view c.read_entry-version.new.pass) (view c.put_entry.new.pass) a.o (loaded_put (view a.pass.now) (view c.read_entry-version.new.pass) a.o e.only) c.put_entry.ensures.only
+
+pub returns-clause-words : goal.returns-clause-words
+returns-clause-words c =
+    let a = c.args in
+    let e = c.read_entry-version.ensures in
+    let at = entry_at (slots (class_of (name_of a.table))) a.place 0 in
+    c.put_entry.ensures.words
+    ∙ (ap (λ (z : Picture). with_table z at (c.read_entry-version.result + 1)) e.held
+    ∙ ap (λ (n : ℕ). with_table (held a.o (view a.pass.now)) at (n + 1)) e.found)

@@ -1,0 +1,37 @@
+use Rattle.std.proofs.Common.{◌≡◌, List, ℕ, sym, ap, ◌∙◌, subst}
+use Rattle.ft_trace.specs.declared.Shape.{Shape}
+use Rattle.ft_trace.specs.Holds.{held, known}
+use Rattle.ft_trace.specs.Words.{Stands}
+use Rattle.ft_bank.specs.Passes.{shape_of, view}
+use Rattle.ft_search.proofs.Endings.{close_care, stands_then, shut_then, ends_then}
+use Rattle.ft_search.proofs.finishing.finish_entry.Goals as goal
+
+pub raise_version-requires-clause-care : goal.raise_version-requires-clause-care
+raise_version-requires-clause-care c =
+    let a = c.args in
+    let d = c.commit-number.ensures.did in
+    close_care a.o a.table a.place a.called.now a.said.now (view a.pass.now) c.requires.may c.commit-number.result d.0 (view c.commit-number.new.pass) d.1.1 c.commit-number.ensures.committed
+
+pub stop_write-requires-clause-stands : goal.stop_write-requires-clause-stands
+stop_write-requires-clause-stands c =
+    let a = c.args in
+    let d = c.commit-number.ensures.did in
+    let e = c.raise_version.ensures in
+    let z = view c.raise_version.new.pass in
+    subst (λ (k : Shape). Stands k.texts (held a.o z) (known a.o z)) c.requires.pass.1
+    (stands_then a.o a.table a.place a.called.now a.said.now (view a.pass.now) c.requires.may c.commit-number.result d.0 (view c.commit-number.new.pass) z d.1.1 c.commit-number.ensures.committed e.only e.words)
+
+pub stop_write-requires-clause-shut : goal.stop_write-requires-clause-shut
+stop_write-requires-clause-shut c =
+    let a = c.args in
+    let d = c.commit-number.ensures.did in
+    let e = c.raise_version.ensures in
+    shut_then a.o a.table a.place a.called.now a.said.now (view a.pass.now) c.requires.may c.commit-number.result d.0 (view c.commit-number.new.pass) (view c.raise_version.new.pass) d.1.1 c.commit-number.ensures.committed e.only e.words e.writes.root
+
+pub returns-clause-ends : goal.returns-clause-ends
+returns-clause-ends c =
+    let a = c.args in
+    let d = c.commit-number.ensures.did in
+    let e = c.raise_version.ensures in
+    ends_then a.o a.table a.place a.called.now a.said.now (view a.pass.now) c.requires.may c.commit-number.result d.0 (view c.commit-number.new.pass) (view c.raise_version.new.pass) d.1.1 c.commit-number.ensures.committed e.only e.words
+    c.stop_write.result (view c.stop_write.new.pass) (e.writes.root ∙ sym c.requires.writes.root) c.stop_write.ensures.1

@@ -1,0 +1,36 @@
+use Rattle.std.proofs.Common.{◌≡◌, ℕ, sym, ap, ◌∙◌, subst}
+use Rattle.ft_trace.specs.declared.View.{View}
+use Rattle.ft_trace.specs.Holds.{held}
+use Rattle.ft_trace.specs.Words.{root_in}
+use Rattle.ft_bank.specs.Passes.{shape_of, view}
+use Rattle.ft_search.proofs.Endings.{nothing_commits, nothing_stands, nothing_shut, nothing_wrote}
+use Rattle.ft_search.proofs.finishing.write_nothing.Goals as goal
+
+pub commit-number-requires-clause-may : goal.commit-number-requires-clause-may
+commit-number-requires-clause-may c =
+    let a = c.args in
+    nothing_commits (shape_of a.bank.now) a.o (view a.pass.now) (view c.start_write.new.pass) c.start_write.result c.requires.may c.requires.pass.1 c.start_write.ensures.1 a.called.now a.said.now c.requires.leaves
+
+pub stop_write-requires-clause-stands : goal.stop_write-requires-clause-stands
+stop_write-requires-clause-stands c =
+    let a = c.args in
+    let d = c.commit-number.ensures.did in
+    nothing_stands (shape_of a.bank.now) a.o (view a.pass.now) (view c.start_write.new.pass) c.start_write.result c.requires.may c.requires.pass.1 c.start_write.ensures.1 a.called.now a.said.now c.requires.leaves c.commit-number.result d.0 (view c.commit-number.new.pass) d.1.1 c.commit-number.ensures.committed
+
+pub stop_write-requires-clause-shut : goal.stop_write-requires-clause-shut
+stop_write-requires-clause-shut c =
+    let a = c.args in
+    let d = c.commit-number.ensures.did in
+    nothing_shut (shape_of a.bank.now) a.o (view a.pass.now) (view c.start_write.new.pass) c.start_write.result c.requires.may c.requires.pass.1 c.start_write.ensures.1 a.called.now a.said.now c.requires.leaves c.commit-number.result d.0 (view c.commit-number.new.pass) d.1.1 c.commit-number.ensures.committed a.pass.now.possible
+
+pub returns-clause-wrote : goal.returns-clause-wrote
+returns-clause-wrote c =
+    let a = c.args in
+    let d = c.commit-number.ensures.did in
+    nothing_wrote (shape_of a.bank.now) a.o (view a.pass.now) (view c.start_write.new.pass) c.start_write.result c.requires.may c.requires.pass.1 c.start_write.ensures.1 a.called.now a.said.now c.requires.leaves c.commit-number.result d.0 (view c.commit-number.new.pass) d.1.1 c.commit-number.ensures.committed c.stop_write.result (view c.stop_write.new.pass) c.stop_write.ensures.1
+
+pub returns-clause-root : goal.returns-clause-root
+returns-clause-root c =
+    let a = c.args in
+    let root : View → ℕ = λ v. root_in (held a.o v) in
+    ap root c.stop_write.ensures.1 ∙ (ap root c.commit-number.ensures.did.1.1 ∙ ap root c.start_write.ensures.1)

@@ -1,0 +1,91 @@
+//! A key is taken out of a dict or a set whose lock the pass has, as one whole write: its entry stays where
+//! it is and is marked as deleted, so that searches for other keys go on over it.
+ghost use Rattle.std.specs.Prelude.{◌≡◌, ◌<◌, false, slice_index};
+ghost use Rattle.ft_trace.specs.Acts.{has_committed};
+ghost use Rattle.ft_trace.specs.Addresses.{class_of};
+ghost use Rattle.ft_trace.specs.Holds.{held, known};
+ghost use Rattle.ft_trace.specs.Kinds.{rows};
+ghost use Rattle.ft_trace.specs.Words.{root_in};
+ghost use Rattle.ft_trace.specs.Worlds.{kind_in};
+ghost use Rattle.ft_trace.specs.Writes.{MayPuts, with_puts};
+ghost use Rattle.ft_bank.specs.Passes.{shape_of, view, IsPassOf};
+ghost use Rattle.ft_bank.specs.Sections.{stack_of};
+ghost use Rattle.ft_bank.specs.Tables.{name_of};
+ghost use Rattle.ft_bank.specs.Whole.{OnlyPut, Wrote};
+ghost use Rattle.ft_search.specs.Writing.{HasTable, IsEntryOf, Leaves, MayWriteEntries, WritesEntries, deletion, without_key};
+
+use crate::entries::{put_entry, raise_version};
+use crate::finishing::finish_entry;
+use ft_bank::{Bank, Pass, Table};
+use ft_layout::{
+    block_word, entry_word, gone_kind_of, used_entries_follow_a_dict, used_entries_follow_a_set,
+    versions_change_nothing, words_follow_a_dict, words_follow_a_set,
+};
+use ft_model::{Call, Key, Reply};
+
+/// Which word of a block the number of pairs or elements is, as a bank counts them.
+const COUNT: u64 = block_word::USED - block_word::ROOT;
+
+/// Marks the entry at a place as deleted, before the commit.
+fn put_deleted(bank: &Bank, pass: &mut Pass, o: u32, table: Table, place: u64, key: Key)
+    requires pass { IsPassOf bank.now pass.old }
+    requires writes { WritesEntries (shape_of bank.now) o table (view pass.old) }
+    requires place { place < rows (kind_in (shape_of bank.now).kinds o) (class_of (name_of table)) }
+    requires early { has_committed o (view pass.old).log ≡ false }
+    requires some { 0 < slice_index (held o (view pass.old)).block 1 }
+    requires may { MayPuts (kind_in (shape_of bank.now).kinds o) (name_of table) (known o (view pass.old)).content false
+        (held o (view pass.old)) (deletion (name_of table) place key (held o (view pass.old))) }
+    ensures pass { IsPassOf bank.now pass.new }
+    ensures stack { stack_of pass.new ≡ stack_of pass.old }
+    ensures writes { WritesEntries (shape_of bank.now) o table (view pass.new) }
+    ensures only { OnlyPut o (view pass.old) (view pass.new) }
+    ensures words { held o (view pass.new) ≡ with_puts (held o (view pass.old))
+        (deletion (name_of table) place key (held o (view pass.old))) }
+{
+    let count = bank.read_block(pass, o, COUNT);
+    bank.put_block(pass, o, COUNT, count - 1);
+    raise_version(bank, pass, o, table, place);
+    put_entry(
+        bank,
+        pass,
+        o,
+        table,
+        place,
+        entry_word::KEY_KIND,
+        gone_kind_of(key),
+    );
+}
+
+/// Takes the key of the entry at a place out of a dict or a set, as the write of this call, which leaves
+/// the rest as it is. Its index word stays used. Answers the number of the write.
+pub fn delete_entry(
+    bank: &Bank,
+    pass: &mut Pass,
+    o: u32,
+    table: Table,
+    place: u64,
+    key: Key,
+    called: &Call,
+    said: &Reply,
+) -> u64
+    requires pass { IsPassOf bank.now pass.old }
+    requires may { MayWriteEntries (shape_of bank.now) o (view pass.old) }
+    requires table { HasTable (shape_of bank.now) o table (view pass.old) }
+    requires entry { IsEntryOf (shape_of bank.now) o table place key (view pass.old) }
+    requires leaves { Leaves o called.now said.now
+        (record { content = without_key (known o (view pass.old)).content key; table = (known o (view pass.old)).table })
+        (view pass.old) }
+    ensures pass { IsPassOf bank.now pass.new }
+    ensures stack { stack_of pass.new ≡ stack_of pass.old }
+    ensures wrote { Wrote called.now said.now result (view pass.old) (view pass.new) }
+    ensures root { root_in (held o (view pass.new)) ≡ root_in (held o (view pass.old)) }
+{
+    versions_change_nothing();
+    used_entries_follow_a_dict();
+    used_entries_follow_a_set();
+    words_follow_a_dict();
+    words_follow_a_set();
+    bank.start_write(pass, o);
+    put_deleted(bank, pass, o, table, place, key);
+    finish_entry(bank, pass, o, table, place, called, said)
+}

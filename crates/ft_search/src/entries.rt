@@ -1,0 +1,105 @@
+//! Single words of the entries of a dict or a set whose lock the pass has, for the calls that write them:
+//! each put is one that readers without the lock aren't misled by.
+ghost use Rattle.std.specs.Prelude.{◌≡◌, ℕ, suc, ◌+◌, ◌*◌, ◌<◌, true};
+ghost use Rattle.ft_trace.specs.Addresses.{class_of, slots};
+ghost use Rattle.ft_trace.specs.Holds.{held};
+ghost use Rattle.ft_trace.specs.Kinds.{rows};
+ghost use Rattle.ft_trace.specs.Words.{entry_at, entry_of};
+ghost use Rattle.ft_trace.specs.Worlds.{kind_in};
+ghost use Rattle.ft_bank.specs.Passes.{shape_of, view, IsPassOf};
+ghost use Rattle.ft_bank.specs.Sections.{stack_of};
+ghost use Rattle.ft_bank.specs.Tables.{name_of};
+ghost use Rattle.ft_bank.specs.Whole.{OnlyLoaded, OnlyPut};
+ghost use Rattle.ft_bank.specs.Writes.{IsCareful, with_table};
+ghost use Rattle.ft_search.specs.Writing.{WritesEntries, raised_at};
+
+use crate::tables::mask_of;
+use ft_bank::{Bank, Pass, Table};
+use ft_layout::entry_word;
+
+/// Which word of a table with this last slot a word of an entry is, counted from the header on.
+fn word_at(mask: u64, place: u64, word: u64) -> u64
+    requires mask { mask < 65536 }
+    requires place { place < 65536 }
+    requires word { word < 8 }
+    ensures { result ≡ 8 * place + word + mask + 1 }
+{
+    8 * place + word + mask + 1
+}
+
+/// Loads a word of an entry of a container that the pass writes.
+pub(crate) fn read_entry(
+    bank: &Bank,
+    pass: &mut Pass,
+    o: u32,
+    table: Table,
+    place: u64,
+    word: u64,
+) -> u64
+    requires pass { IsPassOf bank.now pass.old }
+    requires writes { WritesEntries (shape_of bank.now) o table (view pass.old) }
+    requires place { place < rows (kind_in (shape_of bank.now).kinds o) (class_of (name_of table)) }
+    requires word { word < 8 }
+    ensures pass { IsPassOf bank.now pass.new }
+    ensures stack { stack_of pass.new ≡ stack_of pass.old }
+    ensures writes { WritesEntries (shape_of bank.now) o table (view pass.new) }
+    ensures only { OnlyLoaded (view pass.old) (view pass.new) }
+    ensures held { held o (view pass.new) ≡ held o (view pass.old) }
+    ensures found { result ≡ entry_of (slots (class_of (name_of table))) (held o (view pass.old)).table place word }
+{
+    let _ = o;
+    let at = word_at(mask_of(table.class), place, word);
+    bank.read_table(pass, table, at)
+}
+
+/// Puts a word of an entry of a container that the pass writes.
+pub(crate) fn put_entry(
+    bank: &Bank,
+    pass: &mut Pass,
+    o: u32,
+    table: Table,
+    place: u64,
+    word: u64,
+    value: u64,
+)
+    requires pass { IsPassOf bank.now pass.old }
+    requires writes { WritesEntries (shape_of bank.now) o table (view pass.old) }
+    requires place { place < rows (kind_in (shape_of bank.now).kinds o) (class_of (name_of table)) }
+    requires word { word < 8 }
+    requires care { IsCareful (view pass.old) o (name_of table) (entry_at (slots (class_of (name_of table))) place word)
+        value }
+    ensures pass { IsPassOf bank.now pass.new }
+    ensures stack { stack_of pass.new ≡ stack_of pass.old }
+    ensures writes { WritesEntries (shape_of bank.now) o table (view pass.new) }
+    ensures only { OnlyPut o (view pass.old) (view pass.new) }
+    ensures words { held o (view pass.new)
+        ≡ with_table (held o (view pass.old)) (entry_at (slots (class_of (name_of table))) place word) value }
+{
+    let at = word_at(mask_of(table.class), place, word);
+    bank.put_table(pass, o, table, at, value);
+}
+
+/// Raises the version of an entry by one, which makes it odd before the commit and even after it.
+pub(crate) fn raise_version(bank: &Bank, pass: &mut Pass, o: u32, table: Table, place: u64)
+    requires pass { IsPassOf bank.now pass.old }
+    requires writes { WritesEntries (shape_of bank.now) o table (view pass.old) }
+    requires place { place < rows (kind_in (shape_of bank.now).kinds o) (class_of (name_of table)) }
+    requires care { IsCareful (view pass.old) o (name_of table) (entry_at (slots (class_of (name_of table))) place 0)
+        (entry_of (slots (class_of (name_of table))) (held o (view pass.old)).table place 0 + 1) }
+    ensures pass { IsPassOf bank.now pass.new }
+    ensures stack { stack_of pass.new ≡ stack_of pass.old }
+    ensures writes { WritesEntries (shape_of bank.now) o table (view pass.new) }
+    ensures only { OnlyPut o (view pass.old) (view pass.new) }
+    ensures words { held o (view pass.new) ≡ raised_at (name_of table) place (held o (view pass.old)) }
+{
+    let version = read_entry(bank, pass, o, table, place, entry_word::VERSION);
+    put_entry(
+        bank,
+        pass,
+        o,
+        table,
+        place,
+        entry_word::VERSION,
+        version + 1,
+    );
+}

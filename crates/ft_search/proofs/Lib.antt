@@ -14,3 +14,4 @@ pub mod Deletions
 pub mod Puts
 pub mod Endings
 pub mod Laws
+pub mod Spotting

@@ -5,3 +5,4 @@ pub mod Held
 pub mod Tries
 pub mod Lengths
 pub mod Writing
+pub mod Spots

@@ -6,7 +6,6 @@ ghost use Rattle.ft_layout.specs.Tables.{hash_of};
 ghost use Rattle.ft_layout.specs.Words.{FitsKey};
 ghost use Rattle.ft_keys.specs.Searches.{IsWithin, Searched};
 ghost use Rattle.ft_keys.specs.Ways.{walk_slots};
-ghost use Rattle.ft_keys.specs.declared.search.Found.{Found};
 ghost use Rattle.ft_keys.specs.declared.search.Found.TheVariants.{Was};
 ghost use Rattle.ft_trace.specs.declared.Act.{Act};
 ghost use Rattle.ft_trace.specs.Acts.{has_lock};
@@ -36,7 +35,7 @@ use std::marker::Brand;
 use std::sync::ledger::{Blank, Ledger};
 
 /// Which word of a block the root is, as a bank counts them.
-const ROOT: u64 = block_word::ROOT - 2;
+pub(crate) const ROOT: u64 = block_word::ROOT - 2;
 
 impl<'a> TableWords<'a> {
     /// Searches for a key in words that nobody else writes.
@@ -80,32 +79,36 @@ impl<'a> TableWords<'a> {
         }
     }
 
-    /// Looks for a key by its hash, and reads the value that is there.
-    fn read_held(&mut self, way: Way, key: Key, hash: u64) -> Option<(u64, u64)>
+    /// Looks for a key by its hash, and reads the value that is there. Answers where the search ended too.
+    fn read_held(&mut self, way: Way, key: Key, hash: u64) -> (Found, Option<(u64, u64)>)
         requires can { CanLoad self.old }
         requires knows { KnowsWords self.old }
         ensures can { CanLoad self.new }
         ensures same { SamePlace self.old self.new }
+        ensures within { IsWithin self.old.mask result.0 }
         ensures looks { (part : List Act) × AreLooks part × DidAll part self.old.pass.now self.new.pass.now }
-        ensures searched { (left : List ℕ) × (found : Found)
-            × Searched self.old.mask (known_words self.old) key (walk_slots way hash self.old.mask) left found
-            × ((slot place : ℕ) → found ≢ Was slot place) × ReadsEntry self.old.mask (known_words self.old) found result }
+        ensures searched { (left : List ℕ)
+            × Searched self.old.mask (known_words self.old) key (walk_slots way hash self.old.mask) left result.0
+            × ((slot place : ℕ) → result.0 ≢ Was slot place)
+            × ReadsEntry self.old.mask (known_words self.old) result.0 result.1 }
     {
         let mut walk = Walk::new(way, hash, self.mask);
         let found = self.seek_held::<Brand>(&mut walk, key, Blank::new(1));
-        self.read_found(found)
+        let read = self.read_found(found);
+        (found, read)
     }
 }
 
-/// Looks for a key in the table of a container whose lock the pass has.
-fn read_in(
+/// Looks for a key in the table of a container whose lock the pass has: where the search ended, and the
+/// words of the value that is there.
+pub(crate) fn read_in(
     bank: &Bank,
     pass: &mut Pass,
     o: u32,
     way: Way,
     key: Key,
     table: Table,
-) -> Option<(u64, u64)>
+) -> (Found, Option<(u64, u64)>)
     requires pass { IsPassOf bank.now pass.old }
     requires container { o < containers_in (shape_of bank.now) }
     requires key { IsKeyIn (shape_of bank.now) key }
@@ -114,11 +117,12 @@ fn read_in(
     ensures pass { IsPassOf bank.now pass.new }
     ensures looks { (part : List Act) × AreLooks part × DidAll part pass.old pass.new }
     ensures low { hash_of (shape_of bank.now).texts key < 2 ^ 64 }
-    ensures searched { (left : List ℕ) × (found : Found)
+    ensures within { IsWithin (class_mask table.class) result.0 }
+    ensures searched { (left : List ℕ)
         × Searched (class_mask table.class) (0 ∷ 0 ∷ (held o (view pass.old)).table) key
-        (walk_slots way (hash_of (shape_of bank.now).texts key) (class_mask table.class)) left found
-        × ((slot place : ℕ) → found ≢ Was slot place)
-        × ReadsEntry (class_mask table.class) (0 ∷ 0 ∷ (held o (view pass.old)).table) found result }
+        (walk_slots way (hash_of (shape_of bank.now).texts key) (class_mask table.class)) left result.0
+        × ((slot place : ℕ) → result.0 ≢ Was slot place)
+        × ReadsEntry (class_mask table.class) (0 ∷ 0 ∷ (held o (view pass.old)).table) result.0 result.1 }
 {
     let hash = bank.hash_of(key);
     let mask = mask_of(table.class);
@@ -152,7 +156,7 @@ pub fn read_key(bank: &Bank, pass: &mut Pass, o: u32, way: Way, key: Key) -> Opt
     used_entries_follow_a_set();
     let root = bank.read_block(pass, o, ROOT);
     match table_named(root) {
-        Some(table) => read_in(bank, pass, o, way, key, table),
+        Some(table) => read_in(bank, pass, o, way, key, table).1,
         None => None,
     }
 }

@@ -12,6 +12,7 @@ mod look;
 mod looks;
 mod reading;
 mod rounds;
+mod spots;
 mod tables;
 mod words;
 
@@ -21,5 +22,6 @@ pub use crate::held::read_key;
 pub use crate::lens::{look_len, try_len};
 pub use crate::look::look_up;
 pub use crate::looks::{Looked, answer_held, answer_look};
+pub use crate::spots::{Spot, seek_key};
 pub use crate::tables::{mask_of, table_named};
 pub use crate::words::TableWords;

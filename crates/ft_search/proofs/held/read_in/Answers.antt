@@ -1,7 +1,6 @@
 use Rattle.std.proofs.Common.{◌≢◌, ℕ, ◌^◌, ◌<◌, List, ◌∷◌, subst}
-use Rattle.ft_keys.specs.Searches.{Searched}
+use Rattle.ft_keys.specs.Searches.{IsWithin, Searched}
 use Rattle.ft_keys.specs.Ways.{walk_slots}
-use Rattle.ft_keys.specs.declared.search.Found.{Found}
 use Rattle.ft_keys.specs.declared.search.Found.TheVariants.{Was}
 use Rattle.ft_bank.specs.Passes.{view}
 use Rattle.ft_trace.specs.Holds.{held}
@@ -14,5 +13,9 @@ returns-clause-low c = subst (λ (z : ℕ). z < 2 ^ 64) c.hash_of-hash.ensures c
 pub returns-clause-searched : goal.returns-clause-searched
 returns-clause-searched c =
     let words : List ℕ = 0 ∷ 0 ∷ (held c.args.o (view c.args.pass.now)).table in
-    subst (λ (z : ℕ × ℕ). (left : List ℕ) × (found : Found) × Searched z.0 words c.args.key (walk_slots c.args.way z.1 z.0) left found × ((slot place : ℕ) → found ≢ Was slot place) × ReadsEntry z.0 words found c.read_held.result)
+    let found = c.read_held.result.0 in
+    subst (λ (z : ℕ × ℕ). (left : List ℕ) × Searched z.0 words c.args.key (walk_slots c.args.way z.1 z.0) left found × ((slot place : ℕ) → found ≢ Was slot place) × ReadsEntry z.0 words found c.read_held.result.1)
     (λ d. (c.mask_of-mask.ensures d, c.hash_of-hash.ensures d)) c.read_held.ensures.searched
+
+pub returns-clause-within : goal.returns-clause-within
+returns-clause-within c = subst (λ (z : ℕ). IsWithin z c.read_held.result.0) c.mask_of-mask.ensures c.read_held.ensures.within

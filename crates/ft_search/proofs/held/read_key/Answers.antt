@@ -3,7 +3,6 @@ use Rattle.ft_layout.specs.Containers.{class_mask}
 use Rattle.ft_layout.specs.Tables.{hash_of}
 use Rattle.ft_keys.specs.Searches.{Searched}
 use Rattle.ft_keys.specs.Ways.{walk_slots}
-use Rattle.ft_keys.specs.declared.search.Found.{Found}
 use Rattle.ft_keys.specs.declared.search.Found.TheVariants.{Was}
 use Rattle.ft_trace.specs.declared.Act.{Act}
 use Rattle.ft_trace.specs.declared.Act.TheVariants.{ReadBlock}
@@ -66,8 +65,9 @@ returns-in-Some-clause-held c =
     let kind_is = ap (λ (z : Shape). kind_in z.kinds o) c.requires.pass.1 ∙ c.requires.way in
     let names : root_in (held o v) ≡ suc (name_of table) = sym (c.read_block-root.ensures.held c.requires.locked) ∙ c.in-Some.ensures.named in
     let same : held o w ≡ held o v = ap (held o) c.read_block-root.ensures.did.1 in
-    let s = subst (λ x. (left : List ℕ) × (found : Found) × Searched (class_mask table.class) (0 ∷ 0 ∷ x.table) key (walk_slots c.args.way (hash_of k.texts key) (class_mask table.class)) left found
-    × ((slot place : ℕ) → found ≢ Was slot place) × ReadsEntry (class_mask table.class) (0 ∷ 0 ∷ x.table) found c.read_in.result) same c.read_in.ensures.searched in
+    let found = c.read_in.result.0 in
+    let s = subst (λ x. (left : List ℕ) × Searched (class_mask table.class) (0 ∷ 0 ∷ x.table) key (walk_slots c.args.way (hash_of k.texts key) (class_mask table.class)) left found
+    × ((slot place : ℕ) → found ≢ Was slot place) × ReadsEntry (class_mask table.class) (0 ∷ 0 ∷ x.table) found c.read_in.result.1) same c.read_in.ensures.searched in
     key_held c.used_entries_follow_a_dict.ensures.missing c.used_entries_follow_a_set.ensures.missing k.texts (held o v) (known o v) c.requires.stands key
-    c.used_entries_follow_a_dict.ensures.first c.used_entries_follow_a_set.ensures.first k table in_bank names c.read_in.ensures.low s.0 s.1 c.read_in.result s.3 s.4
-    c.args.way (of_way c.args.way v o c.args.pass.now.possible c.requires.locked kind_is) s.2
+    c.used_entries_follow_a_dict.ensures.first c.used_entries_follow_a_set.ensures.first k table in_bank names c.read_in.ensures.low s.0 found c.read_in.result.1 s.2 s.3
+    c.args.way (of_way c.args.way v o c.args.pass.now.possible c.requires.locked kind_is) s.1

@@ -16,9 +16,9 @@ pub returns-clause-looks : goal.returns-clause-looks
 returns-clause-looks c =
     let s0 = c.args.self.now in
     let s1 = c.seek_held-found.new.self in
-    let s2 = c.read_found.new.self in
+    let s2 = c.read_found-read.new.self in
     let a = c.seek_held-found.ensures.looks in
-    let b = c.read_found.ensures.looks in
+    let b = c.read_found-read.ensures.looks in
     (b.0 ++ a.0, looks_append b.0 a.0 b.1 a.1, did_trans b.0 a.0 s0.pass.now s1.pass.now s2.pass.now a.2 b.2)
 
 pub returns-clause-searched : goal.returns-clause-searched
@@ -28,8 +28,7 @@ returns-clause-searched c =
     let left = c.seek_held-found.new.walk.left in
     let first = ap (λ z. z.left) c.new-walk.ensures in (
       left,
-      found,
       subst (λ (l : List ℕ). Searched s0.mask (known_words s0) c.args.key l left found) first c.seek_held-found.ensures.searched,
       c.seek_held-found.ensures.live,
-      subst (λ (z : ℕ × List ℕ). ReadsEntry z.0 z.1 found c.read_found.result) (λ d. (c.seek_held-found.ensures.same.mask d, c.seek_held-found.ensures.knows.1 d)) c.read_found.ensures.reads,
+      subst (λ (z : ℕ × List ℕ). ReadsEntry z.0 z.1 found c.read_found-read.result) (λ d. (c.seek_held-found.ensures.same.mask d, c.seek_held-found.ensures.knows.1 d)) c.read_found-read.ensures.reads,
     )

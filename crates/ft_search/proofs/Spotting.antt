@@ -1,0 +1,166 @@
+-- Where a search under the lock found a key, and that loads leave what a pass knows of it.
+use Rattle.std.proofs.Common.{◌≡◌, ◌≢◌, ℕ, suc, ◌+◌, ◌*◌, ◌^◌, ◌<◌, true, false, List, ◌∷◌, Option, Some, None, refl, sym, ap, ◌∙◌, subst, arith}
+use Rattle.std.specs.Prelude.{slice_index}
+use Rattle.ft_model.specs.declared.content.Content.{Content}
+use Rattle.ft_model.specs.declared.data.Key.{Key}
+use Rattle.ft_model.specs.declared.script.Kind.{Kind}
+use Rattle.ft_layout.specs.Containers.{class_mask, IsDictWords, IsSetWords, StandsAs}
+use Rattle.ft_layout.specs.Tables.{hash_of, entry_word}
+use Rattle.ft_layout.specs.Words.{FitsKey}
+use Rattle.ft_keys.specs.Changes.{FirstFree}
+use Rattle.ft_keys.specs.Searches.{EndsAt, IsWithin, Searched}
+use Rattle.ft_keys.specs.Ways.{walk_slots}
+use Rattle.ft_keys.specs.declared.search.Found.{Found}
+use Rattle.ft_keys.specs.declared.search.Found.TheVariants.{At, Was, Free, Spent}
+use Rattle.ft_keys.specs.declared.walk.Way.{Way}
+use Rattle.ft_keys.specs.declared.walk.Way.TheVariants as way
+use Rattle.ft_trace.specs.declared.Shape.{Shape}
+use Rattle.ft_trace.specs.declared.View.{View}
+use Rattle.ft_trace.specs.Acts.{has_lock}
+use Rattle.ft_trace.specs.Addresses.{class_of, slots}
+use Rattle.ft_trace.specs.Carefuls.{IsLive}
+use Rattle.ft_trace.specs.Holds.{held, known}
+use Rattle.ft_trace.specs.Kinds.{rows}
+use Rattle.ft_trace.specs.Words.{Picture, root_in, entry_of, Stands}
+use Rattle.ft_trace.specs.Worlds.{Kept, kind_in}
+use Rattle.ft_trace.proofs.DictWrites as dict
+use Rattle.ft_trace.proofs.SetKnown as set
+use Rattle.ft_trace.proofs.Known.{class_known}
+use Rattle.ft_bank.specs.declared.table.Table.{Table}
+use Rattle.ft_bank.specs.Tables.{name_of, IsTableIn}
+use Rattle.ft_bank.specs.Whole.{OnlyLoaded}
+use Rattle.ft_bank.proofs.Tables.{class_is}
+use Rattle.ft_bank.proofs.Whole.{loaded_held, work_knows}
+use Rattle.ft_search.specs.declared.spots.Spot.{Spot}
+use Rattle.ft_search.specs.declared.spots.Spot.TheVariants as spot
+use Rattle.ft_search.specs.Held.{ReadsEntry, IsHeldAt}
+use Rattle.ft_search.specs.Rounds.{kind_by}
+use Rattle.ft_search.specs.Spots.{IsSpot, spot_in}
+use Rattle.ft_search.specs.Writing.{HasTable, IsEntryOf, MayWriteEntries}
+use Rattle.ft_search.proofs.Holding.{MissingKeys, MissingElements, IsOfWay, key_held}
+use Rattle.ft_search.proofs.Knowing.{entry_after_header}
+use Rattle.ft_search.proofs.Places.{slots_of_class}
+
+abbrev pub FirstFreeSlots : Type 0
+FirstFreeSlots = (mask : ℕ) (words : List ℕ) (key : Key) (first left : List ℕ) (slot : ℕ) → EndsAt mask words key first left (Free slot) → FirstFree words first (Some slot)
+
+module _ (missing_key : MissingKeys) (missing_element : MissingElements) (first_pair : dict.FirstEntriesArePairs) (first_element : set.FirstEntriesAreElements) (free : FirstFreeSlots) (k : Shape) (o : ℕ) (key : Key) (v : View) (by : Way) (table : Table) (in_bank : IsTableIn k table) (names : root_in (held o v) ≡ suc (name_of table)) (stands : Stands k.texts (held o v) (known o v))
+    (of : IsOfWay by (known o v).content) (kind_eq : kind_in k.kinds o ≡ kind_by by) (fits : FitsKey key) (low : hash_of k.texts key < 2 ^ 64) (left : List ℕ) where
+  abbrev c : ℕ
+  c = table.class
+
+  abbrev ws : List ℕ
+  ws = (held o v).table
+
+  abbrev words : List ℕ
+  words = 0 ∷ 0 ∷ ws
+
+  abbrev mask : ℕ
+  mask = class_mask c
+
+  same_class : class_of (name_of table) ≡ c
+  same_class = class_is table in_bank.2
+
+  class_some : (known o v).table.class ≡ Some c
+  class_some = class_known k.texts (held o v) (known o v) (name_of table) stands names ∙ ap Some same_class
+
+  word_is : (place w : ℕ) → entry_word mask words place w ≡ entry_of (slots c) ws place w
+  word_is place w = entry_after_header ws mask place w ∙ ap (slice_index ws) (let n = slots_of_class c in let e : 8 * place + w + mask + 1 ≡ 8 * place + w + slots c = omega (arith, n) in e)
+
+  -- the entry at which a search ended
+  entry_at_end : (w : Way) → IsOfWay w (known o v).content → (slot place : ℕ) → Searched mask words key (walk_slots w (hash_of k.texts key) mask) left (At slot place) → (place < rows (kind_by w) c) × IsLive (slots c) ws place key
+  entry_at_end way.Dict is slot place s =
+      let says : IsDictWords k.texts (held o v).block words (Some c) (known o v).table.fill is.0 = subst (λ (z : Option ℕ). IsDictWords k.texts (held o v).block words z (known o v).table.fill is.0) class_some (subst (λ (z : Content). StandsAs k.texts (held o v).block words (known o v).table z) is.1 stands) in
+      let finds = s.finds way.Dict k.texts says.used says.table low refl in
+      let has = s.ends.4 in
+      let room = dict.room_is first_pair k.texts (held o v).block c (known o v).table.fill in_bank.0 is.0 ws says in
+      let few = says.table.fill in
+      let inside = finds.0 in
+      (omega (arith, room, few, inside), (sym (word_is place 2) ∙ has.0, sym (word_is place 3) ∙ has.1))
+  entry_at_end way.Set is slot place s =
+      let says : IsSetWords k.texts (held o v).block words (Some c) (known o v).table.fill is.0 = subst (λ (z : Option ℕ). IsSetWords k.texts (held o v).block words z (known o v).table.fill is.0) class_some (subst (λ (z : Content). StandsAs k.texts (held o v).block words (known o v).table z) is.1 stands) in
+      let finds = s.finds way.Set k.texts says.used says.table low refl in
+      let has = s.ends.4 in
+      let room = set.room_is first_element k.texts (held o v).block c (known o v).table.fill in_bank.0 is.0 ws says in
+      let few = says.table.fill in
+      let inside = finds.0 in
+      (omega (arith, room, few, inside), (sym (word_is place 2) ∙ has.0, sym (word_is place 3) ∙ has.1))
+
+  has_it : HasTable k o table v
+  has_it = record { table_in = in_bank; root = names }
+
+  pub spot_is : (found : Found) (read : Option (ℕ × ℕ)) → IsWithin mask found → ((slot place : ℕ) → found ≢ Was slot place) → ReadsEntry mask words found read → Searched mask words key (walk_slots by (hash_of k.texts key) mask) left found → IsSpot k o by key v (spot_in table found read)
+  spot_is (At slot place) (Some read) within live reads s =
+      let e = entry_at_end by of slot place s in
+      let at : c ≡ class_of (name_of table) = sym same_class in (
+        has_it,
+        record {
+          low = subst (λ (z : Kind × ℕ). place < rows z.0 z.1) (sym (λ d. (kind_eq d, same_class d))) e.0;
+          live = subst (λ (z : ℕ). IsLive (slots z) ws place key) at e.1;
+          fits = fits;
+        },
+        key_held missing_key missing_element k.texts (held o v) (known o v) stands key first_pair first_element k table in_bank names low left (At slot place) (Some read) live reads by of s,
+        reads.0 ∙ (word_is place 4 ∙ ap (λ (z : ℕ). entry_of (slots z) ws place 4) at),
+        reads.1 ∙ (word_is place 5 ∙ ap (λ (z : ℕ). entry_of (slots z) ws place 5) at),
+      )
+  spot_is (At slot place) None within live reads s = absurd reads
+  spot_is (Was slot place) read within live reads s = absurd (live slot place refl)
+  spot_is (Free slot) (Some read) within live reads s = absurd reads
+  spot_is (Free slot) None within live reads s = (
+    has_it,
+    within,
+    free mask words key (walk_slots by (hash_of k.texts key) mask) left slot s.ends,
+    key_held missing_key missing_element k.texts (held o v) (known o v) stands key first_pair first_element k table in_bank names low left (Free slot) None live reads by of s,
+  )
+  spot_is Spent read within live reads s = absurd (ends_none by of s)
+    where
+      ends_none : (w : Way) → IsOfWay w (known o v).content → Searched mask words key (walk_slots w (hash_of k.texts key) mask) left Spent → ⊥
+      ends_none way.Dict is s =
+          let says : IsDictWords k.texts (held o v).block words (Some c) (known o v).table.fill is.0 = subst (λ (z : Option ℕ). IsDictWords k.texts (held o v).block words z (known o v).table.fill is.0) class_some (subst (λ (z : Content). StandsAs k.texts (held o v).block words (known o v).table z) is.1 stands) in
+          s.finds way.Dict k.texts says.used says.table low refl
+      ends_none way.Set is s =
+          let says : IsSetWords k.texts (held o v).block words (Some c) (known o v).table.fill is.0 = subst (λ (z : Option ℕ). IsSetWords k.texts (held o v).block words z (known o v).table.fill is.0) class_some (subst (λ (z : Content). StandsAs k.texts (held o v).block words (known o v).table z) is.1 stands) in
+          s.finds way.Set k.texts says.used says.table low refl
+
+-- ---- after loads
+
+module _ (k : Shape) (o : ℕ) (v w : View) (only : OnlyLoaded v w) where
+  same : (held o v ≡ held o w) × (known o v ≡ known o w)
+  same = (sym (loaded_held v w o only), sym (work_knows v w o only.work))
+
+  pub may_loaded : MayWriteEntries k o v → MayWriteEntries k o w
+  may_loaded may = record {
+    container = may.container;
+    keyed = may.keyed;
+    locked = only.work.pass.locks o ∙ may.locked;
+    even = only.work.pass.writes o ∙ may.even;
+    stands = subst (λ (z : Picture × Kept). Stands k.texts z.0 z.1) (λ d. (same.0 d, same.1 d)) may.stands;
+    owes = only.work.owes ∙ may.owes;
+    left = subst (λ (z : ℕ). 0 < z) (sym only.work.left) may.left;
+  }
+
+  pub table_loaded : (table : Table) → HasTable k o table v → HasTable k o table w
+  table_loaded table has = record { table_in = has.table_in; root = ap root_in (sym same.0) ∙ has.root }
+
+  entry_loaded : (table : Table) (place : ℕ) (key : Key) → IsEntryOf k o table place key v → IsEntryOf k o table place key w
+  entry_loaded table place key e = record {
+    low = e.low;
+    live = subst (λ (z : Picture). IsLive (slots (class_of (name_of table))) z.table place key) same.0 e.live;
+    fits = e.fits;
+  }
+
+  pub spot_loaded : (way : Way) (key : Key) (s : Spot) → IsSpot k o way key v s → IsSpot k o way key w s
+  spot_loaded way key (spot.At table place kind payload) s = (
+    table_loaded table s.0,
+    entry_loaded table place key s.1,
+    subst (λ (z : Kept). IsHeldAt z.content key (Some (kind, payload))) same.1 s.2,
+    subst (λ (z : Picture). kind ≡ entry_of (slots (class_of (name_of table))) z.table place 4) same.0 s.3,
+    subst (λ (z : Picture). payload ≡ entry_of (slots (class_of (name_of table))) z.table place 5) same.0 s.4,
+  )
+  spot_loaded way key (spot.Free table slot) s = (
+    table_loaded table s.0,
+    s.1,
+    subst (λ (z : Picture). FirstFree (0 ∷ 0 ∷ z.table) (walk_slots way (hash_of k.texts key) (class_mask table.class)) (Some slot)) same.0 s.2,
+    subst (λ (z : Kept). IsHeldAt z.content key None) same.1 s.3,
+  )
+  spot_loaded way key spot.Bare s = (ap root_in (sym same.0) ∙ s.0, subst (λ (z : Kept). IsHeldAt z.content key None) same.1 s.1)

@@ -22,7 +22,7 @@ use Rattle.ft_trace.specs.Kinds.{rows, version_at, CarefulAs, ClearAs, IsKeyed}
 use Rattle.ft_trace.specs.Openings.{Shut, Timely}
 use Rattle.ft_trace.specs.Traces.{Possible}
 use Rattle.ft_trace.specs.Words.{Picture, root_in, entry_at, entry_of, Stands}
-use Rattle.ft_trace.specs.Worlds.{Kept, kept_at, kind_in, changes}
+use Rattle.ft_trace.specs.Worlds.{Kept, kept_at, kind_in, changes, reply_in}
 use Rattle.ft_trace.specs.Writes.{Put, with_puts}
 use Rattle.ft_trace.proofs.Cases.{hit}
 use Rattle.ft_trace.proofs.Clearing.{held_shut}
@@ -32,6 +32,7 @@ use Rattle.ft_bank.specs.Writes.{Committed, IsCareful, IsShut, MayCommit, MayHav
 use Rattle.ft_bank.specs.Whole.{SameWork, OnlyPut, EndsWrite, Wrote}
 use Rattle.ft_bank.proofs.Whole.{work_knows, put_same, plain_write, write_ends}
 use Rattle.ft_search.specs.Writing.{HasTable, Leaves, MayFinish, MayWriteEntries, WritesEntries, raised_at}
+use Rattle.ft_search.proofs.Calling.{plain_replied}
 use Rattle.ft_search.proofs.Changing.{Changing}
 
 -- ---- from the start of a write to its commit
@@ -58,7 +59,7 @@ module _ (o : ℕ) (v s u : View) (f : ℕ) (begun : s ≡ noted (StartWrite o f
     write = l.write;
     changed = l.changed;
     words = l.words;
-    reply_is = λ stored has. l.reply_is stored (has_before stored has);
+    replied = λ stored has. l.replied stored (has_before stored has);
     declared = λ stored has. l.declared stored (has_before stored has);
     fits = λ stored has. l.fits stored (has_before stored has);
     left_is = λ stored has. l.left_is stored (has_before stored has);
@@ -83,7 +84,7 @@ module _ (o : ℕ) (v s u : View) (f : ℕ) (begun : s ≡ noted (StartWrite o f
         odd = subst (λ (n : ℕ). is_writing n u.log ≡ true) at odd;
         left = subst (λ (n : ℕ). 0 < n) (sym (puts.work.left ∙ ap (λ (z : View). z.left) begun)) some;
         words = l.words;
-        reply_is = late.reply_is;
+        reply_is = λ stored has. plain_replied called said (reply_in stored called) l.write (late.replied stored has);
         declared = late.declared;
         fits = late.fits;
         clear = subst (λ (n : ℕ). (stored : StoredWorld) (t : ℕ) → MayHave u stored → root_in (held n u) ≡ suc t → ClearAs (kind_in u.shape.kinds n) u.shape.texts (class_of t) (held n u).table (known n u).content (kept_at (after_stored stored called) n).content) at clears;

@@ -15,3 +15,4 @@ pub mod Puts
 pub mod Endings
 pub mod Laws
 pub mod Spotting
+pub mod Calling

@@ -6,3 +6,4 @@ pub mod Tries
 pub mod Lengths
 pub mod Writing
 pub mod Spots
+pub mod Calls

@@ -7,7 +7,6 @@ use Rattle.ft_model.specs.declared.data.Key.{Key}
 use Rattle.ft_model.specs.declared.reply.Reply.{Reply}
 use Rattle.ft_model.specs.Answers.{is_write}
 use Rattle.ft_model.specs.Contents.{dict_del, set_discard}
-use Rattle.ft_model.specs.Histories.{IsReplied}
 use Rattle.ft_model.specs.Tables.{StoredWorld, after_stored, would_pass}
 use Rattle.ft_model.specs.Worlds.{no_hands, IsDeclared}
 use Rattle.ft_layout.specs.Words.{FitsKey}
@@ -22,11 +21,12 @@ use Rattle.ft_trace.specs.Holds.{held, known}
 use Rattle.ft_trace.specs.Kinds.{rows, version_at, CarefulAs, IsKeyed}
 use Rattle.ft_trace.specs.Openings.{Shut}
 use Rattle.ft_trace.specs.Words.{Picture, root_in, entry_at, entry_of, Stands}
-use Rattle.ft_trace.specs.Worlds.{Kept, kept_at, kind_in, changes, reply_in}
+use Rattle.ft_trace.specs.Worlds.{Kept, kept_at, kind_in, changes}
 use Rattle.ft_trace.specs.Writes.{Put, to_block}
 use Rattle.ft_bank.specs.declared.table.Table.{Table}
 use Rattle.ft_bank.specs.Tables.{name_of, IsTableIn}
 use Rattle.ft_bank.specs.Writes.{MayHave, MayCommit, with_table}
+use Rattle.ft_search.specs.Calls.{IsReplyTo}
 
 -- The pass may write the container o, a dict or a set: it has its lock, and its words stand for what the pass knows of it;
 -- no version is odd there, the pass has lowered no count of a class that it hasn't raised again, and it has a call left.
@@ -61,7 +61,7 @@ pub record Leaves (o : ℕ) (called : Call) (said : Reply) (left : Kept) (v : Vi
   pub write : is_write called said ≡ true
   pub changed : changes called ≡ o
   pub words : FitsCall called
-  pub reply_is : (stored : StoredWorld) → MayHave v stored → IsReplied called said (reply_in stored called)
+  pub replied : IsReplyTo called said v
   pub declared : (stored : StoredWorld) → MayHave v stored → IsDeclared stored.world no_hands called
   pub fits : (stored : StoredWorld) → MayHave v stored → would_pass stored.world called ≡ false
   pub left_is : (stored : StoredWorld) → MayHave v stored → kept_at (after_stored stored called) o ≡ left

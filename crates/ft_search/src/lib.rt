@@ -2,6 +2,7 @@
 //! without the lock or with it, the rounds of a look-up without the lock, and how many there are in a container.
 #![tactic(auto)]
 
+mod answering;
 mod bare;
 mod deleting;
 mod entries;
@@ -16,6 +17,7 @@ mod spots;
 mod tables;
 mod words;
 
+pub use crate::answering::answer_made;
 pub use crate::deleting::delete_entry;
 pub use crate::finishing::write_nothing;
 pub use crate::held::read_key;

@@ -1,0 +1,179 @@
+-- What a call answers that was made under its locks, and that the pass is in the midst of its call still.
+use Rattle.std.proofs.Common.{◌≡◌, ◌≢◌, ◌⊎◌, ◌<◌, ℕ, Bool, true, false, true≢false, List, [], ◌∷◌, ◌++◌, refl, sym, ap, ◌∙◌, subst, inl, inr, ⊎_elim, append_assoc}
+use Rattle.std.specs.Prelude.{◌&&◌, not}
+use mathlib.Core.Logic.{dite}
+use native.Mathlib.Decide.{ℕ_discrete}
+use Rattle.ft_model.specs.declared.call.Call.{Call}
+use Rattle.ft_model.specs.declared.call.Call.TheVariants as call
+use Rattle.ft_model.specs.declared.reply.Reply.{Reply}
+use Rattle.ft_model.specs.Answers.{is_write}
+use Rattle.ft_model.specs.Histories.{IsReplied}
+use Rattle.ft_model.specs.Tables.{StoredWorld}
+use Rattle.ft_trace.specs.declared.Act.{Act}
+use Rattle.ft_trace.specs.declared.Act.TheVariants.{ReadCounter, Answer}
+use Rattle.ft_trace.specs.declared.Entry.{Entry}
+use Rattle.ft_trace.specs.declared.Shape.{Shape}
+use Rattle.ft_trace.specs.declared.View.{View}
+use Rattle.ft_trace.specs.Acts.{has_lock, stage, debt, noted}
+use Rattle.ft_trace.specs.Addresses.{containers_in}
+use Rattle.ft_trace.specs.Holds.{held, known}
+use Rattle.ft_trace.specs.Words.{Picture, root_in, Stands}
+use Rattle.ft_trace.specs.Worlds.{Kept, changes, reply_in}
+use Rattle.ft_trace.proofs.Cases.{hit}
+use Rattle.ft_bank.specs.declared.bank.Bank.{Bank}
+use Rattle.ft_bank.specs.declared.pass.Pass.{Pass}
+use Rattle.ft_bank.specs.Answered.{Answered}
+use Rattle.ft_bank.specs.Passes.{view, IsPassOf}
+use Rattle.ft_bank.specs.Sections.{stack_of}
+use Rattle.ft_bank.specs.Whole.{OnlyLoaded, Wrote, write_entry, hand_after, debt_after}
+use Rattle.ft_bank.specs.Writes.{MayHave}
+use Rattle.ft_bank.proofs.Whole.{loaded_held, loaded_then, work_knows, pass_then, same_work}
+use Rattle.ft_section.specs.declared.answers.Stamp.{Stamp}
+use Rattle.ft_section.specs.Ready.{IsStill, IsMaking}
+use Rattle.ft_section.proofs.Making.{making_stays}
+use Rattle.ft_search.specs.Calls.{IsReplyTo, IsShownBy, KeepsTables, MadeAs}
+use Rattle.ft_search.proofs.Trying.{LeavesSections, making_read}
+
+-- a write is a call on a container, which replies as the plain one does
+pub plain_replied : (called : Call) (said plain : Reply) → is_write called said ≡ true → plain ≡ said → IsReplied called said plain
+plain_replied (call.Dict o dc) said plain write is = inr (sym is)
+plain_replied (call.List o lc) said plain write is = inr (sym is)
+plain_replied (call.Set o sc) said plain write is = inr (sym is)
+plain_replied (call.Next cursor) said plain write is = inr (sym is)
+plain_replied (call.Begin one other) said plain write is = absurd (true≢false (sym write))
+plain_replied call.End said plain write is = absurd (true≢false (sym write))
+plain_replied call.Quiesce said plain write is = absurd (true≢false (sym write))
+
+-- ---- after loads
+
+module _ (v u : View) (l : OnlyLoaded v u) where
+  pub has_loaded : (stored : StoredWorld) → MayHave v stored → MayHave u stored
+  has_loaded stored has = record {
+    agrees = λ p low mine. has.agrees p (subst (λ (k : Shape). p < containers_in k) l.work.pass.shape low) (sym (l.work.pass.locks p) ∙ mine) ∙ sym (work_knows v u p l.work);
+    containers = has.containers ∙ sym (ap containers_in l.work.pass.shape);
+    order = has.order;
+    kinds = has.kinds ∙ sym (ap (λ (k : Shape). k.kinds) l.work.pass.shape);
+    words = has.words;
+  }
+
+  pub replied_loaded : (called : Call) (said : Reply) → IsReplyTo called said u → IsReplyTo called said v
+  replied_loaded called said replied stored has = replied stored (has_loaded stored has)
+
+  module _ (called : Call) (said : Reply) (n : ℕ) (w : View) where
+    abbrev o : ℕ
+    o = changes called
+
+    pub loaded_wrote : Wrote called said n u w → Wrote called said n v w
+    loaded_wrote x =
+        let h = loaded_held v u o l in
+        let s = l.work.pass.shape in
+        record {
+          pass = pass_then v u w l.work.pass x.pass;
+          left = sym l.work.left ∙ x.left;
+          entries = x.entries ∙ ap (λ (es : List Entry). write_entry called said n ∷ es) l.work.entries;
+          hands = λ t. x.hands t ∙ (λ d. hand_after o (root_in (h d)) (root_in (held o w)) t (l.work.hands t d));
+          debt = x.debt ∙ (λ d. debt_after o (root_in (h d)) (root_in (held o w)) (l.work.debt d));
+          used = x.used;
+          owes = x.owes;
+          others = λ p low ne mine quiet.
+              let e = x.others p (subst (λ (k : Shape). p < containers_in k) (sym s) low) ne (l.work.pass.locks p ∙ mine) (l.work.pass.writes p ∙ quiet) in
+              (e.0 ∙ loaded_held v u p l, e.1 ∙ work_knows v u p l.work);
+          found = x.found;
+          has = record {
+            agrees = λ p low mine. x.has.agrees p (subst (λ (k : Shape). p < containers_in k) (sym s) low) (l.work.pass.locks p ∙ mine) ∙ work_knows v u p l.work;
+            containers = x.has.containers ∙ ap containers_in s;
+            order = x.has.order;
+            kinds = x.has.kinds ∙ ap (λ (k : Shape). k.kinds) s;
+            words = x.has.words;
+          };
+          content = x.content;
+          stands = subst (λ (k : Shape). Stands k.texts (held o w) (known o w)) s x.stands;
+        }
+
+    pub loaded_answered : (part : List Act) → u.log ≡ part ++ v.log → Answered called said n u w → Answered called said n v w
+    loaded_answered part log x = record {
+      before = x.before;
+      loaded = loaded_then v u x.before l x.loaded;
+      part = x.part ++ part;
+      own = x.own ∙ (ap (λ (z : List Act). x.part ++ z) log ∙ sym (append_assoc x.part part v.log));
+      counted = record {
+        newer = x.counted.newer;
+        rest = x.counted.rest ++ part;
+        is = ap (λ (z : List Act). z ++ part) x.counted.is ∙ append_assoc x.counted.newer (ReadCounter n ∷ x.counted.rest) part;
+      };
+      answered = x.answered;
+    }
+
+  -- a call that was made after loads
+  pub made_loaded : (called : Call) (said : Reply) (stamp : Stamp) (w : View) (part : List Act) → u.log ≡ part ++ v.log → MadeAs called said stamp u w → MadeAs called said stamp v w
+  made_loaded called said stamp w part log m = record {
+    made = ⊎_elim (λ x. inl (x.0, loaded_wrote called said stamp.number w x.1)) (λ x. inr (x.0, loaded_answered called said stamp.number w part log x.1)) m.made;
+    replied = replied_loaded called said m.replied;
+    wrote = m.wrote;
+    tables = record { hands = λ t. m.tables.hands t ∙ l.work.hands t; debt = m.tables.debt ∙ l.work.debt };
+  }
+
+-- ---- how a call was made
+
+-- as a write that leaves the root
+pub wrote_as : (called : Call) (said : Reply) (n : ℕ) (v w : View) → is_write called said ≡ true → IsReplyTo called said v → Wrote called said n v w → root_in (held (changes called) w) ≡ root_in (held (changes called) v) → MadeAs called said (record { number = n; wrote = true }) v w
+wrote_as called said n v w write replied x root =
+    let o = changes called in
+    let old = root_in (held o v) in
+    record {
+      made = inl (refl, x);
+      replied = replied;
+      wrote = sym write;
+      tables = record {
+        hands = λ t. x.hands t ∙ (ap (λ (z : ℕ). hand_after o old z t (stage t v.log)) root ∙ hit old (stage t v.log) _);
+        debt = x.debt ∙ (ap (λ (z : ℕ). debt_after o old z (debt v.log)) root ∙ hit old (debt v.log) _);
+      };
+    }
+
+-- as an entry that isn't a write
+pub answered_as : (called : Call) (said : Reply) (n : ℕ) (v w : View) → is_write called said ≡ false → IsReplyTo called said v → w ≡ noted (Answer called said n) (noted (ReadCounter n) v) → Answered called said n v w → MadeAs called said (record { number = n; wrote = false }) v w
+answered_as called said n v w read replied is x = record {
+  made = inr (refl, x);
+  replied = replied;
+  wrote = sym read;
+  tables = record { hands = λ t. ap (λ (z : View). stage t z.log) is; debt = ap (λ (z : View). debt z.log) is };
+}
+
+-- ---- the pass is in the midst of its call
+
+wrote_still : (called : Call) (said : Reply) (n : ℕ) (v w : View) → IsStill v → Wrote called said n v w → KeepsTables v w → IsStill w
+wrote_still called said n v w s x keeps =
+    let o = changes called in
+    record {
+      even = λ p. x.pass.writes p ∙ s.even p;
+      hands = λ t. ⊎_elim (λ (e : stage t v.log ≡ 0). inl (keeps.hands t ∙ e)) (λ (e : stage t v.log ≡ 4). inr (keeps.hands t ∙ e)) (s.hands t);
+      used = x.used;
+      owes = x.owes;
+      flight = x.pass.flight ∙ s.flight;
+      stands = λ p low has.
+          let shape = x.pass.shape in
+          let low' : p < containers_in v.shape = subst (λ (k : Shape). p < containers_in k) shape low in
+          let mine : has_lock p v.log ≡ true = sym (x.pass.locks p) ∙ has in
+          let then_stands : Stands v.shape.texts (held p w) (known p w) =
+          dite (ℕ_discrete p o)
+          (λ (e : p ≡ o). subst (λ (q : ℕ). Stands v.shape.texts (held q w) (known q w)) (sym e) x.stands)
+          (λ ne.
+          let e = x.others p low' ne mine (s.even p) in
+          subst (λ (y : Picture × Kept). Stands v.shape.texts y.0 y.1) (λ d. (sym e.0 d, sym e.1 d)) (s.stands p low' mine)) in
+          subst (λ (k : Shape). Stands k.texts (held p w) (known p w)) (sym shape) then_stands;
+    }
+
+pub making_made : (b : Bank) (p q : Pass) (called : Call) (said : Reply) (stamp : Stamp) → LeavesSections called → IsMaking b p → IsPassOf b q → stack_of q ≡ stack_of p → MadeAs called said stamp (view p) (view q) → IsMaking b q
+making_made b p q called said stamp leaves m pass stack made =
+    ⊎_elim
+    (λ x. making_stays b p q m pass stack x.1.pass.shape x.1.pass.locks x.1.pass.begun (wrote_still called said stamp.number (view p) (view q) m.inside.1.still x.1 made.tables))
+    (λ x. making_read b p q called said stamp.number leaves m pass stack x.1)
+    made.made
+
+-- ---- entries that aren't writes
+
+pub loaded_same : (v : View) → OnlyLoaded v v
+loaded_same v = record { work = same_work v; words = refl }
+
+pub shown_replied : (called : Call) (said : Reply) (v : View) (n : ℕ) → IsShownBy called said v → (stored : StoredWorld) → MayHave (noted (ReadCounter n) v) stored → IsReplied called said (reply_in stored called)
+shown_replied called said v n x stored has = x.plain stored (x.replied stored (record { agrees = has.agrees; containers = has.containers; order = has.order; kinds = has.kinds; words = has.words }))

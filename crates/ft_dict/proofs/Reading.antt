@@ -45,7 +45,7 @@ use Rattle.ft_search.proofs.Asking.{held_shown}
 use Rattle.ft_dict.specs.Locked.{HasValue}
 
 -- a key that no pair has is found at none
-not_found : (pairs : List DictPair) (key : Key) → has_key pairs key ≡ false → dict_get pairs key ≡ None
+pub not_found : (pairs : List DictPair) (key : Key) → has_key pairs key ≡ false → dict_get pairs key ≡ None
 not_found pairs key none = ap (option_map (λ (pair : DictPair). pair.value)) (missing pairs none)
   where
     missing : (pairs : List DictPair) → list_any (is_at key) pairs ≡ false → find (is_at key) pairs ≡ None
@@ -56,7 +56,7 @@ not_found pairs key none = ap (option_map (λ (pair : DictPair). pair.value)) (m
           | false ↦ λ no. missing pairs no
         ] e
 
-some_words : (words : List ℕ) (a b c : ℕ) → words ≡ a ∷ b ∷ c ∷ [] → words ≢ []
+pub some_words : (words : List ℕ) (a b c : ℕ) → words ≡ a ∷ b ∷ c ∷ [] → words ≢ []
 some_words words a b c is none = let e = sym is ∙ none in absurd (cc)
 
 one_value : (kind payload : ℕ) (a b : Value) → IsStored kind payload (Plain a) → IsStored kind payload (Plain b) → a ≡ b
@@ -87,7 +87,7 @@ module _ (w : View) (d : ℕ) (key : Key) (found : Option Value) (low : d < cont
   dict_is : (pairs : DictContent) → (known d w).content ≡ content.Dict pairs → dict_at stored.world d ≡ pairs
   dict_is pairs is = ap dict_of (at_any stored.world d (content.Dict empty_dict) (content.List []) many ∙ there pairs is)
 
-  got : (z : Option Value) → HasValue (known d w).content key z → dict_get (dict_at stored.world d).pairs key ≡ z
+  pub got : (z : Option Value) → HasValue (known d w).content key z → dict_get (dict_at stored.world d).pairs key ≡ z
   got (Some value) h =
       let pairs = h.0 in
       let words = h.2.3 in

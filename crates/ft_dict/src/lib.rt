@@ -5,6 +5,7 @@
 //! entry to the pass at most, and that this entry has the reply of the plain dict at its stamp.
 #![tactic(auto)]
 
+mod deletes;
 mod lens;
 mod locked;
 mod looks;
@@ -12,6 +13,7 @@ mod looks;
 mod tests;
 mod tries;
 
+pub use crate::deletes::{del_locked, pop_locked, popd_locked};
 pub use crate::lens::{look_len, try_len};
 pub use crate::looks::{look_get, look_getd, look_has};
 pub use crate::tries::{try_get, try_getd, try_has};

@@ -32,6 +32,7 @@ use Rattle.ft_section.specs.declared.answers.Stamp.{Stamp}
 use Rattle.ft_section.specs.Ready.{IsStill, IsMaking}
 use Rattle.ft_section.proofs.Making.{making_stays}
 use Rattle.ft_search.specs.Calls.{IsReplyTo, IsShownBy, KeepsTables, MadeAs}
+use Rattle.ft_search.specs.Writing.{Leaves}
 use Rattle.ft_search.proofs.Trying.{LeavesSections, making_read}
 
 -- a write is a call on a container, which replies as the plain one does
@@ -177,3 +178,14 @@ loaded_same v = record { work = same_work v; words = refl }
 
 pub shown_replied : (called : Call) (said : Reply) (v : View) (n : ℕ) → IsShownBy called said v → (stored : StoredWorld) → MayHave (noted (ReadCounter n) v) stored → IsReplied called said (reply_in stored called)
 shown_replied called said v n x stored has = x.plain stored (x.replied stored (record { agrees = has.agrees; containers = has.containers; order = has.order; kinds = has.kinds; words = has.words }))
+
+-- ---- after loads, for whoever looked for a key first
+
+pub written_made : (o : ℕ) (left : Kept) (called : Call) (said : Reply) (n : ℕ) (stamp : Stamp) (v u w : View) (part : List Act) → OnlyLoaded v u → u.log ≡ part ++ v.log → Leaves o called said left u → Wrote called said n u w → root_in (held o w) ≡ root_in (held o u) → stamp ≡ record { number = n; wrote = true } → MadeAs called said stamp v w
+written_made o left called said n stamp v u w part loaded log leaves wrote root is =
+    made_loaded v u loaded called said stamp w part log
+    (subst (λ (z : Stamp). MadeAs called said z u w) (sym is)
+    (wrote_as called said n u w leaves.write leaves.replied wrote (subst (λ (p : ℕ). root_in (held p w) ≡ root_in (held p u)) (sym leaves.changed) root)))
+
+pub answer_loaded : (called : Call) (said given : Reply) (stamp : Stamp) (v u w : View) (part : List Act) → OnlyLoaded v u → u.log ≡ part ++ v.log → given ≡ said → MadeAs called said stamp u w → MadeAs called given stamp v w
+answer_loaded called said given stamp v u w part loaded log is made = subst (λ (z : Reply). MadeAs called z stamp v w) (sym is) (made_loaded v u loaded called said stamp w part log made)

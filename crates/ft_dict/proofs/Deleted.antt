@@ -1,0 +1,115 @@
+-- What calls that take a key out of a dict leave of it and reply.
+use Rattle.std.proofs.Common.{◌≡◌, ◌≢◌, ℕ, ◌<◌, Bool, true, false, List, [], ◌∷◌, find, Option, Some, None, refl, sym, ap, ◌∙◌, subst, inr}
+use Rattle.std.specs.Prelude.{option_map, is_some, if◌then◌else◌}
+use Rattle.std.specs.Option.{option_map_or}
+use Rattle.ft_model.specs.declared.call.Call.TheVariants as call
+use Rattle.ft_model.specs.declared.call.DictCall.TheVariants as dict
+use Rattle.ft_model.specs.declared.content.Content.{Content}
+use Rattle.ft_model.specs.declared.content.Content.TheVariants as content
+use Rattle.ft_model.specs.declared.content.DictPair.{DictPair}
+use Rattle.ft_model.specs.declared.data.Key.{Key}
+use Rattle.ft_model.specs.declared.data.Value.{Value}
+use Rattle.ft_model.specs.declared.reply.Reply.{Reply}
+use Rattle.ft_model.specs.declared.reply.Reply.TheVariants as reply
+use Rattle.ft_model.specs.declared.reply.Raise.TheVariants as raise
+use Rattle.ft_model.specs.Answers.{puts, shows}
+use Rattle.ft_model.specs.Contents.{DictContent, dict_get, dict_del, has_key, is_at}
+use Rattle.ft_model.specs.Tables.{StoredWorld}
+use Rattle.ft_model.specs.Worlds.{no_hands}
+use Rattle.ft_layout.specs.Words.{FitsKey}
+use Rattle.ft_model.specs.declared.script.Kind.TheVariants as kind
+use Rattle.ft_trace.specs.declared.Shape.{Shape}
+use Rattle.ft_trace.specs.declared.View.{View}
+use Rattle.ft_trace.specs.Traces.{Possible}
+use Rattle.ft_trace.specs.Acts.{has_lock}
+use Rattle.ft_trace.specs.Addresses.{containers_in}
+use Rattle.ft_trace.specs.FitCalls.{FitsValue}
+use Rattle.ft_trace.specs.Holds.{known}
+use Rattle.ft_trace.specs.Kinds.{under}
+use Rattle.ft_trace.specs.Worlds.{Kept, kind_in}
+use Rattle.ft_trace.proofs.LookReplies as looked
+use Rattle.ft_trace.proofs.SameKeys.{any_found}
+use Rattle.ft_bank.specs.Writes.{MayHave}
+use Rattle.ft_search.specs.Calls.{IsShownBy}
+use Rattle.ft_search.specs.Held.{IsHeldAt}
+use Rattle.ft_search.specs.Writing.{Leaves, MayWriteEntries, without_key}
+use Rattle.ft_search.proofs.Holding.{dict_known}
+use Rattle.ft_dict.specs.Locked.{HasValue}
+use Rattle.ft_dict.proofs.Leaving.{dict_is, each_fits, leaves_stay, replies, shows_puts}
+use Rattle.ft_dict.proofs.Reading.{got, not_found, some_words}
+
+-- a pass that may write a dict knows that it is one
+pub known_dict : (k : Shape) (v : View) (d : ℕ) → v.shape ≡ k → ∥ Possible v ∥₁ → MayWriteEntries k d v → kind_in k.kinds d ≡ kind.Dict → (pairs : DictContent) × ((known d v).content ≡ content.Dict pairs) × (d < containers_in v.shape)
+known_dict k v d shape possible may is =
+    let p = dict_known v d possible may.locked (ap (λ (z : Shape). kind_in z.kinds d) shape ∙ is) in
+    (p.0, p.1, subst (λ (z : Shape). d < containers_in z) (sym shape) may.container)
+
+module _ (d : ℕ) (v : View) (pairs : DictContent) (low : d < containers_in v.shape) (mine : has_lock d v.log ≡ true) (is_dict : (known d v).content ≡ content.Dict pairs) (key : Key) (fits : FitsKey key) where
+  -- a key that was found
+  has_there : (kind payload : ℕ) → IsHeldAt (content.Dict pairs) key (Some (kind, payload)) → (stored : StoredWorld) → MayHave v stored → has_key pairs.pairs key ≡ true
+  has_there kind payload held stored has =
+      let p = looked.there pairs key fits (each_fits d v pairs low mine is_dict stored has) (some_words (under (content.Dict pairs) key) kind payload held.0 held.1) in
+      any_found (is_at key) pairs.pairs ∙ ap (λ (z : Option DictPair). is_some z) p.1
+
+  value_there : (value : Value) → HasValue (known d v).content key (Some value) → (stored : StoredWorld) → MayHave v stored → dict_get pairs.pairs key ≡ Some value
+  value_there value h stored has = ap (λ (z : DictContent). dict_get z.pairs key) (sym (dict_is d v pairs low mine is_dict stored has)) ∙ got v d key (Some value) low mine fits stored has (Some value) h
+
+  -- what a deletion leaves, as writes of entries have it
+  abbrev left : Kept
+  left = record { content = without_key (known d v).content key; table = (known d v).table }
+
+  left_is : record { content = content.Dict (dict_del pairs key); table = (known d v).table } ≡ left
+  left_is = λ i. record { content = without_key (sym is_dict i) key; table = (known d v).table }
+
+  pub del_leaves : (kind payload : ℕ) → IsHeldAt (known d v).content key (Some (kind, payload)) → Leaves d (call.Dict d (dict.Del key)) reply.Done left v
+  del_leaves kind payload held =
+      let h = subst (λ (z : Content). IsHeldAt z key (Some (kind, payload))) is_dict held in
+      subst (λ (z : Kept). Leaves d (call.Dict d (dict.Del key)) reply.Done z v) left_is
+      (leaves_stay d v pairs (dict_del pairs key) (dict.Del key) reply.Done low mine is_dict refl refl refl refl refl fits
+      (λ stored has. ap (λ (b : Bool). if b then puts stored.world no_hands d (content.Dict (dict_del pairs key)) reply.Done else shows stored.world no_hands (reply.Raised raise.NoKey)) (has_there kind payload h stored has)))
+
+  pub pop_leaves : (value : Value) → HasValue (known d v).content key (Some value) → Leaves d (call.Dict d (dict.Pop key)) (reply.Value value) left v
+  pop_leaves value h =
+      subst (λ (z : Kept). Leaves d (call.Dict d (dict.Pop key)) (reply.Value value) z v) left_is
+      (leaves_stay d v pairs (dict_del pairs key) (dict.Pop key) (reply.Value value) low mine is_dict refl refl refl refl refl fits
+      (λ stored has. ap (λ (z : Option Value). option_map_or (λ value. puts stored.world no_hands d (content.Dict (dict_del pairs key)) (reply.Value value)) z (shows stored.world no_hands (reply.Raised raise.NoKey))) (value_there value h stored has)))
+
+  pub popd_leaves : (default value : Value) → FitsValue default → HasValue (known d v).content key (Some value) → Leaves d (call.Dict d (dict.PopOr key default)) (reply.Value value) left v
+  popd_leaves default value fit h =
+      subst (λ (z : Kept). Leaves d (call.Dict d (dict.PopOr key default)) (reply.Value value) z v) left_is
+      (leaves_stay d v pairs (dict_del pairs key) (dict.PopOr key default) (reply.Value value) low mine is_dict refl refl refl refl refl (fits, fit)
+      (λ stored has. ap (λ (z : Option Value). option_map_or (λ value. puts stored.world no_hands d (content.Dict (dict_del pairs key)) (reply.Value value)) z (shows stored.world no_hands (reply.Value default))) (value_there value h stored has)))
+
+  -- a key that isn't there
+  module _ (none : IsHeldAt (known d v).content key None) where
+    missing : has_key pairs.pairs key ≡ false
+    missing = subst (λ (z : Content). IsHeldAt z key None) is_dict none
+
+    pub default_leaves : (default : Value) → FitsValue default → Leaves d (call.Dict d (dict.PopOr key default)) (reply.Value default) (known d v) v
+    default_leaves default fit =
+        let same : record { content = content.Dict pairs; table = (known d v).table } ≡ known d v = λ i. record { content = sym is_dict i; table = (known d v).table } in
+        subst (λ (z : Kept). Leaves d (call.Dict d (dict.PopOr key default)) (reply.Value default) z v) same
+        (leaves_stay d v pairs pairs (dict.PopOr key default) (reply.Value default) low mine is_dict refl refl refl refl refl (fits, fit)
+        (λ stored has.
+        ap (λ (z : Option Value). option_map_or (λ value. puts stored.world no_hands d (content.Dict (dict_del pairs key)) (reply.Value value)) z (shows stored.world no_hands (reply.Value default))) (not_found pairs.pairs key missing)
+        ∙ shows_puts d v pairs low mine is_dict stored has (reply.Value default)))
+
+    pub del_raises : IsShownBy (call.Dict d (dict.Del key)) (reply.Raised raise.NoKey) v
+    del_raises = record {
+      read = refl;
+      plain = λ stored is. inr (sym is);
+      replied = λ stored has.
+          replies d v pairs low mine is_dict stored has (dict.Del key) (reply.Raised raise.NoKey) (shows stored.world no_hands (reply.Raised raise.NoKey))
+          (ap (λ (b : Bool). if b then puts stored.world no_hands d (content.Dict (dict_del pairs key)) reply.Done else shows stored.world no_hands (reply.Raised raise.NoKey)) missing) refl;
+      cause = λ stored log n. refl;
+    }
+
+    pub pop_raises : IsShownBy (call.Dict d (dict.Pop key)) (reply.Raised raise.NoKey) v
+    pop_raises = record {
+      read = refl;
+      plain = λ stored is. inr (sym is);
+      replied = λ stored has.
+          replies d v pairs low mine is_dict stored has (dict.Pop key) (reply.Raised raise.NoKey) (shows stored.world no_hands (reply.Raised raise.NoKey))
+          (ap (λ (z : Option Value). option_map_or (λ value. puts stored.world no_hands d (content.Dict (dict_del pairs key)) (reply.Value value)) z (shows stored.world no_hands (reply.Raised raise.NoKey))) (not_found pairs.pairs key missing)) refl;
+      cause = λ stored log n. refl;
+    }

@@ -97,6 +97,7 @@ module _ (d : ℕ) (v : View) (pairs : DictContent) (low : d < containers_in v.s
     pub del_raises : IsShownBy (call.Dict d (dict.Del key)) (reply.Raised raise.NoKey) v
     del_raises = record {
       read = refl;
+      cursor = refl;
       plain = λ stored is. inr (sym is);
       replied = λ stored has.
           replies d v pairs low mine is_dict stored has (dict.Del key) (reply.Raised raise.NoKey) (shows stored.world no_hands (reply.Raised raise.NoKey))
@@ -107,6 +108,7 @@ module _ (d : ℕ) (v : View) (pairs : DictContent) (low : d < containers_in v.s
     pub pop_raises : IsShownBy (call.Dict d (dict.Pop key)) (reply.Raised raise.NoKey) v
     pop_raises = record {
       read = refl;
+      cursor = refl;
       plain = λ stored is. inr (sym is);
       replied = λ stored has.
           replies d v pairs low mine is_dict stored has (dict.Pop key) (reply.Raised raise.NoKey) (shows stored.world no_hands (reply.Raised raise.NoKey))

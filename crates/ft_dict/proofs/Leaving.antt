@@ -26,6 +26,7 @@ use Rattle.ft_trace.specs.FitCalls.{FitsDictCall, FitsContent}
 use Rattle.ft_trace.specs.Holds.{known}
 use Rattle.ft_trace.specs.Worlds.{Kept, kept_at, reply_in}
 use Rattle.ft_trace.proofs.Known.{declared_at, at_any}
+use Rattle.ft_trace.proofs.Naming.{named_locked}
 use Rattle.ft_bank.specs.Writes.{MayHave}
 use Rattle.ft_search.specs.Writing.{Leaves}
 
@@ -92,6 +93,7 @@ leaves_stay d v pairs news dc said low mine is_dict changing quiet other cursor 
   write = (λ i. changing i && not (quiet i));
   changed = (λ i. unwrap_or (if changing i then Some (changed_dict d (same i)) else None) 0);
   words = fits;
+  locks = named_locked d (other_dict dc) v.log mine (subst (λ (z : Option ℕ). IfSome z (λ q. has_lock q v.log ≡ true)) (sym other) tt);
   replied = λ stored has. replies d v pairs low mine is_dict stored has dc said (puts stored.world no_hands d (content.Dict news) said) (answered stored has) refl;
   declared = λ stored has. declared d v pairs low mine is_dict stored has dc said other cursor;
   fits = λ stored has. ap (λ (z : TableChange). adds z && list_any passes_cap (named_in (after_write stored.world (call.Dict d dc)) (call.Dict d dc))) same;

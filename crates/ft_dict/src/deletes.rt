@@ -22,7 +22,7 @@ use crate::looks::value_of;
 use ft_bank::{Bank, Pass};
 use ft_keys::Way;
 use ft_model::{Call, DictCall, Key, Raise, Reply, Value};
-use ft_search::{Spot, answer_made, delete_entry, seek_key, write_nothing};
+use ft_search::{Spot, answer_made, delete_entry, seek_key, write_nothing, written};
 use ft_section::{Object, Stamp};
 
 /// The value that these words are of, which a pass with the dict's lock found at a key.
@@ -72,16 +72,6 @@ pub fn del_locked(bank: &Bank, pass: &mut Pass, d: Object, key: Key) -> (Reply, 
         }
         Spot::Free(_, _) => answer_made(bank, pass, &called, Reply::Raised(Raise::NoKey)),
         Spot::Bare => answer_made(bank, pass, &called, Reply::Raised(Raise::NoKey)),
-    }
-}
-
-/// The stamp of a write.
-pub(crate) fn written(number: u64) -> Stamp
-    ensures { result ≡ record { number = number; wrote = true } }
-{
-    Stamp {
-        number,
-        wrote: true,
     }
 }
 

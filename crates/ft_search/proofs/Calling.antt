@@ -1,5 +1,5 @@
 -- What a call answers that was made under its locks, and that the pass is in the midst of its call still.
-use Rattle.std.proofs.Common.{◌≡◌, ◌≢◌, ◌⊎◌, ◌<◌, ℕ, Bool, true, false, true≢false, List, [], ◌∷◌, ◌++◌, refl, sym, ap, ◌∙◌, subst, inl, inr, ⊎_elim, append_assoc}
+use Rattle.std.proofs.Common.{◌≡◌, ◌≢◌, ◌⊎◌, ◌<◌, ℕ, Bool, true, false, true≢false, List, [], ◌∷◌, ◌++◌, refl, sym, ap, ◌∙◌, subst, inl, inr, ⊎_elim, append_assoc, le_trans}
 use Rattle.std.specs.Prelude.{◌&&◌, not}
 use mathlib.Core.Logic.{dite}
 use native.Mathlib.Decide.{ℕ_discrete}
@@ -18,7 +18,8 @@ use Rattle.ft_trace.specs.Acts.{has_lock, stage, debt, noted}
 use Rattle.ft_trace.specs.Addresses.{containers_in}
 use Rattle.ft_trace.specs.Holds.{held, known}
 use Rattle.ft_trace.specs.Words.{Picture, root_in, Stands}
-use Rattle.ft_trace.specs.Worlds.{Kept, changes, reply_in}
+use Rattle.ft_trace.specs.Kinds.{IsKeyed}
+use Rattle.ft_trace.specs.Worlds.{Kept, changes, kind_in, reply_in}
 use Rattle.ft_trace.proofs.Cases.{hit}
 use Rattle.ft_bank.specs.declared.bank.Bank.{Bank}
 use Rattle.ft_bank.specs.declared.pass.Pass.{Pass}
@@ -32,7 +33,7 @@ use Rattle.ft_section.specs.declared.answers.Stamp.{Stamp}
 use Rattle.ft_section.specs.Ready.{IsStill, IsMaking}
 use Rattle.ft_section.proofs.Making.{making_stays}
 use Rattle.ft_search.specs.Calls.{IsReplyTo, IsShownBy, KeepsTables, MadeAs}
-use Rattle.ft_search.specs.Writing.{Leaves}
+use Rattle.ft_search.specs.Writing.{Leaves, MayWriteEntries}
 use Rattle.ft_search.proofs.Trying.{LeavesSections, making_read}
 
 -- a write is a call on a container, which replies as the plain one does
@@ -70,6 +71,8 @@ module _ (v u : View) (l : OnlyLoaded v u) where
         let s = l.work.pass.shape in
         record {
           pass = pass_then v u w l.work.pass x.pass;
+          seen = le_trans l.work.pass.seen x.seen;
+          shows = x.shows;
           left = sym l.work.left ∙ x.left;
           entries = x.entries ∙ ap (λ (es : List Entry). write_entry called said n ∷ es) l.work.entries;
           hands = λ t. x.hands t ∙ (λ d. hand_after o (root_in (h d)) (root_in (held o w)) t (l.work.hands t d));
@@ -103,6 +106,7 @@ module _ (v u : View) (l : OnlyLoaded v u) where
         is = ap (λ (z : List Act). z ++ part) x.counted.is ∙ append_assoc x.counted.newer (ReadCounter n ∷ x.counted.rest) part;
       };
       answered = x.answered;
+      seen = le_trans l.work.pass.seen x.seen;
     }
 
   -- a call that was made after loads
@@ -189,3 +193,16 @@ written_made o left called said n stamp v u w part loaded log leaves wrote root 
 
 pub answer_loaded : (called : Call) (said given : Reply) (stamp : Stamp) (v u w : View) (part : List Act) → OnlyLoaded v u → u.log ≡ part ++ v.log → given ≡ said → MadeAs called said stamp u w → MadeAs called given stamp v w
 answer_loaded called said given stamp v u w part loaded log is made = subst (λ (z : Reply). MadeAs called z stamp v w) (sym is) (made_loaded v u loaded called said stamp w part log made)
+
+-- ---- before the call
+
+pub making_may : (b : Bank) (p : Pass) (k : Shape) (o : ℕ) → IsMaking b p → (view p).shape ≡ k → o < containers_in k → IsKeyed (kind_in k.kinds o) → has_lock o (view p).log ≡ true → 0 < (view p).left → MayWriteEntries k o (view p)
+making_may b p k o m shape low keyed mine left = record {
+  container = low;
+  keyed = keyed;
+  locked = mine;
+  even = m.inside.1.still.even o;
+  stands = subst (λ (z : Shape). Stands z.texts (held o (view p)) (known o (view p))) shape (m.inside.1.still.stands o (subst (λ (z : Shape). o < containers_in z) (sym shape) low) mine);
+  owes = m.inside.1.still.owes;
+  left = left;
+}

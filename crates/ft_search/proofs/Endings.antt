@@ -1,5 +1,5 @@
 -- That a call on a dict or a set may be committed whose words are put, and what holds from then on.
-use Rattle.std.proofs.Common.{◌≡◌, ◌≢◌, ℕ, suc, ◌+◌, ◌%◌, ◌<◌, true, false, true≢false, Bool, List, [], refl, sym, ap, ◌∙◌, subst, arith}
+use Rattle.std.proofs.Common.{◌≡◌, ◌≢◌, ℕ, suc, ◌+◌, ◌%◌, ◌<◌, ◌≤◌, true, false, true≢false, Bool, List, [], refl, sym, ap, ◌∙◌, subst, arith}
 use Rattle.std.specs.Prelude.{slice_index}
 use Rattle.std.proofs.Math.Logic.{∥∥₁_elim}
 use Rattle.std.proofs.Math.Nat.{ℕ_set}
@@ -14,7 +14,7 @@ use Rattle.ft_trace.specs.declared.Act.TheVariants.{StartWrite, Commit, StopWrit
 use Rattle.ft_trace.specs.declared.Shape.{Shape}
 use Rattle.ft_trace.specs.declared.Snap.{Snap}
 use Rattle.ft_trace.specs.declared.View.{View}
-use Rattle.ft_trace.specs.Acts.{has_lock, is_writing, has_committed, has_emptied, owes, noted}
+use Rattle.ft_trace.specs.Acts.{has_lock, is_writing, has_committed, has_emptied, owes, noted, seen_writes}
 use Rattle.ft_trace.specs.Addresses.{containers_in, class_of, slots}
 use Rattle.ft_trace.specs.Carefuls.{Clear}
 use Rattle.ft_trace.specs.Holds.{held, known}
@@ -59,6 +59,7 @@ module _ (o : ℕ) (v s u : View) (f : ℕ) (begun : s ≡ noted (StartWrite o f
     write = l.write;
     changed = l.changed;
     words = l.words;
+    locks = λ p e. puts.work.pass.locks p ∙ (ap (λ (z : View). has_lock p z.log) begun ∙ l.locks p e);
     replied = λ stored has. l.replied stored (has_before stored has);
     declared = λ stored has. l.declared stored (has_before stored has);
     fits = λ stored has. l.fits stored (has_before stored has);
@@ -89,6 +90,7 @@ module _ (o : ℕ) (v s u : View) (f : ℕ) (begun : s ≡ noted (StartWrite o f
         fits = late.fits;
         clear = subst (λ (n : ℕ). (stored : StoredWorld) (t : ℕ) → MayHave u stored → root_in (held n u) ≡ suc t → ClearAs (kind_in u.shape.kinds n) u.shape.texts (class_of t) (held n u).table (known n u).content (kept_at (after_stored stored called) n).content) at clears;
         takes = λ stored class has e. absurd (omega (arith, e, owed));
+        locks = late.locks;
         empties = λ e. absurd (true≢false (sym e ∙ subst (λ (n : ℕ). has_emptied n u.log ≡ false) at empty));
       }
 
@@ -149,10 +151,10 @@ module _ (o : ℕ) (table : Table) (place : ℕ) (called : Call) (said : Reply) 
         subst (λ (x : Shape × Picture). Shut (version_at (kind_in x.0.kinds o) (class_of t)) (rows (kind_in x.0.kinds o) (class_of t)) x.1.table) (sym (λ d. (shape_is d, words_are d))) m.shut in
         subst (λ (r : ℕ). Shut (version_at (kind_in z.shape.kinds o) (class_of r)) (rows (kind_in z.shape.kinds o) (class_of r)) (held o z).table) same here
 
-    pub ends_then : (stop : ℕ) (x : View) → root_in (held o z) ≡ root_in (held o u) → x ≡ noted (StopWrite o stop) z → EndsWrite called said number u x
-    ends_then stop x root stopped =
+    pub ends_then : (stop : ℕ) (x : View) → seen_writes u ≤ number → root_in (held o z) ≡ root_in (held o u) → x ≡ noted (StopWrite o stop) z → EndsWrite called said number u x
+    ends_then stop x seen root stopped =
         let at : o ≡ changes called = sym m.changed in
-        write_ends called said number stop snap u w z x is committed m.may.left
+        write_ends called said number stop snap u w z x seen is committed m.may.left
         (subst (λ (p : ℕ). OnlyPut p w z) at only)
         (subst (λ (p : ℕ). root_in (held p z) ≡ root_in (held p u)) at root)
         (subst (λ (p : ℕ). Stands u.shape.texts (held p z) (known p z)) at stands_then)
@@ -198,12 +200,12 @@ module _ (k : Shape) (o : ℕ) (v s : View) (f : ℕ) (may : MayWriteEntries k o
         ∥∥₁_elim {P = slice_index (held o v).table (version_at (kind_in v.shape.kinds o) (class_of q) p) % 2 ≡ 0} possible (ℕ_set _ _) (λ x. held_shut v o q low' x may.locked may.even root p row) in
         subst (λ (x : Shape × Picture). slice_index x.1.table (version_at (kind_in x.0.kinds o) (class_of q) p) % 2 ≡ 0) (sym (λ d. (shape_now d, same_held d))) before
 
-    pub nothing_wrote : (stop : ℕ) (x : View) → x ≡ noted (StopWrite o stop) w → Wrote called said number v x
-    nothing_wrote stop x stopped =
+    pub nothing_wrote : (stop : ℕ) (x : View) → seen_writes s ≤ number → x ≡ noted (StopWrite o stop) w → Wrote called said number v x
+    nothing_wrote stop x seen stopped =
         let at : o ≡ changes called = sym leaves.changed in
         let stands : Stands s.shape.texts (held o w) (known o w) = subst (λ (z : Shape). Stands z.texts (held o w) (known o w)) (sym (ap (λ (z : View). z.shape) begun ∙ shape)) nothing_stands in
         let ends : EndsWrite called said number s x =
-        write_ends called said number stop snap s w w x is committed nothing_commits.left
+        write_ends called said number stop snap s w w x seen is committed nothing_commits.left
         (subst (λ (p : ℕ). OnlyPut p w w) at (put_same w o))
         (subst (λ (p : ℕ). root_in (held p w) ≡ root_in (held p s)) at (ap (λ (z : View). root_in (held o z)) is))
         (subst (λ (p : ℕ). Stands s.shape.texts (held p w) (known p w)) at stands)

@@ -1,8 +1,9 @@
 -- What a call answers that is made under the locks of its containers and leaves each of them its table.
-use Rattle.std.specs.Prelude.{◌≡◌, ◌⊎◌, ℕ, true, false, List}
+use Rattle.std.specs.Prelude.{◌≡◌, ◌⊎◌, ℕ, true, false, List, None}
 use Rattle.ft_model.specs.declared.call.Call.{Call}
 use Rattle.ft_model.specs.declared.reply.Reply.{Reply}
 use Rattle.ft_model.specs.Answers.{is_write}
+use Rattle.ft_model.specs.Calls.{moved_cursor}
 use Rattle.ft_model.specs.Histories.{IsReplied}
 use Rattle.ft_model.specs.Tables.{StoredWorld}
 use Rattle.ft_trace.specs.declared.Act.{Act}
@@ -29,6 +30,7 @@ IsReplyTo called said v = (stored : StoredWorld) → MayHave v stored → reply_
 -- what the pass knows; the reply is no MemoryError.
 pub record IsShownBy (called : Call) (said : Reply) (v : View) : Type 0 where
   pub read : is_write called said ≡ false
+  pub cursor : moved_cursor called ≡ None
   pub plain : (stored : StoredWorld) → reply_in stored called ≡ said → IsReplied called said (reply_in stored called)
   pub replied : IsReplyTo called said v
   pub cause : (stored : StoredWorld) (log : List Act) (n : ℕ) → HasCause stored log called said n

@@ -20,6 +20,7 @@ use Rattle.ft_trace.specs.FitCalls.{FitsCall}
 use Rattle.ft_trace.specs.Holds.{held, known}
 use Rattle.ft_trace.specs.Kinds.{rows, version_at, CarefulAs, IsKeyed}
 use Rattle.ft_trace.specs.Openings.{Shut}
+use Rattle.ft_trace.specs.Sections.{HasLocksOf}
 use Rattle.ft_trace.specs.Words.{Picture, root_in, entry_at, entry_of, Stands}
 use Rattle.ft_trace.specs.Worlds.{Kept, kept_at, kind_in, changes}
 use Rattle.ft_trace.specs.Writes.{Put, to_block}
@@ -55,12 +56,13 @@ pub record WritesEntries (k : Shape) (o : ℕ) (table : Table) (v : View) : Type
   pub root : root_in (held o v) ≡ suc (name_of table)
 
 -- A call is a write of the container o that takes no table: the plain containers reply so to it, whatever else the bank has
--- that agrees with what the pass knows, and o has this content and this table then; no container passes its greatest
--- length. (Python manual, Mapping Types, Set Types)
+-- that agrees with what the pass knows, and o has this content and this table then; the pass has the locks of the containers
+-- that it names, and none passes its greatest length. (Python manual, Mapping Types, Set Types)
 pub record Leaves (o : ℕ) (called : Call) (said : Reply) (left : Kept) (v : View) : Type 0 where
   pub write : is_write called said ≡ true
   pub changed : changes called ≡ o
   pub words : FitsCall called
+  pub locks : HasLocksOf called v.log
   pub replied : IsReplyTo called said v
   pub declared : (stored : StoredWorld) → MayHave v stored → IsDeclared stored.world no_hands called
   pub fits : (stored : StoredWorld) → MayHave v stored → would_pass stored.world called ≡ false

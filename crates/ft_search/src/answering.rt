@@ -1,5 +1,5 @@
-//! Calls under their locks that turn out to be no write: what they answer.
-ghost use Rattle.std.specs.Prelude.{◌≡◌, ◌<◌};
+//! What calls answer under their locks: those that turn out to be no write, and those that are one.
+ghost use Rattle.std.specs.Prelude.{◌≡◌, ◌<◌, true};
 ghost use Rattle.ft_bank.specs.Passes.{view, IsPassOf};
 ghost use Rattle.ft_bank.specs.Sections.{stack_of};
 ghost use Rattle.ft_search.specs.Calls.{IsShownBy, MadeAs};
@@ -20,4 +20,14 @@ pub fn answer_made(bank: &Bank, pass: &mut Pass, called: &Call, said: Reply) -> 
     ensures made { MadeAs called.now said result.1 (view pass.old) (view pass.new) }
 {
     answer_held(bank, pass, called, said)
+}
+
+/// The stamp of a write.
+pub fn written(number: u64) -> Stamp
+    ensures { result ≡ record { number = number; wrote = true } }
+{
+    Stamp {
+        number,
+        wrote: true,
+    }
 }

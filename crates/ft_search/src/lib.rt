@@ -17,7 +17,7 @@ mod spots;
 mod tables;
 mod words;
 
-pub use crate::answering::answer_made;
+pub use crate::answering::{answer_made, written};
 pub use crate::deleting::delete_entry;
 pub use crate::finishing::write_nothing;
 pub use crate::held::read_key;

@@ -5,11 +5,15 @@
 //! entry to the pass at most, and that this entry has the reply of the plain set at its stamp.
 #![tactic(auto)]
 
+mod deletes;
 mod lens;
 mod locked;
 mod looks;
+mod pops;
 mod tries;
 
+pub use crate::deletes::{discard_locked, remove_locked};
 pub use crate::lens::{look_len, try_len};
 pub use crate::looks::look_has;
+pub use crate::pops::{try_discard, try_remove};
 pub use crate::tries::try_has;

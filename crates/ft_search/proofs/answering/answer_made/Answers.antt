@@ -1,4 +1,5 @@
-use Rattle.std.proofs.Common.{◌≡◌, [], refl, subst, sym, ap, ◌∙◌}
+use Rattle.std.proofs.Common.{◌≡◌, [], ◌∷◌, refl, subst, sym, ap, ◌∙◌}
+use Rattle.ft_trace.specs.declared.Act.TheVariants.{ReadCounter}
 use Rattle.ft_trace.specs.declared.View.{View}
 use Rattle.ft_bank.specs.Passes.{view}
 use Rattle.ft_section.specs.declared.answers.Stamp.{Stamp}
@@ -11,7 +12,7 @@ pub answer_held-requires-clause-shown : goal.answer_held-requires-clause-shown
 answer_held-requires-clause-shown c n =
     let v = view c.args.pass.now in
     let x = c.requires.shown in
-    held_shown v v n (loaded_same v) c.requires.left c.args.called.now c.args.said x.read (shown_replied c.args.called.now c.args.said v n x) (λ stored. x.cause stored _ n)
+    held_shown v v n (loaded_same v) c.requires.left c.args.called.now c.args.said x.read x.cursor (shown_replied c.args.called.now c.args.said v n x) (λ stored. x.cause stored (ReadCounter n ∷ v.log) n)
 
 pub returns-clause-made : goal.returns-clause-made
 returns-clause-made c =
@@ -20,5 +21,5 @@ returns-clause-made c =
     let n = c.answer_held.result.1.number in
     let x = c.requires.shown in
     let e = c.answer_held.ensures in
-    let one = answered_as c.args.called.now c.args.said n v w x.read x.replied e.did.1 (answered_locked v v w c.args.called.now c.args.said n [] (loaded_same v) refl e.did.1) in
+    let one = answered_as c.args.called.now c.args.said n v w x.read x.replied e.did.1 (answered_locked v v w c.args.called.now c.args.said n [] (loaded_same v) refl e.did.1 c.args.pass.now.settled c.answer_held.new.pass.possible) in
     subst (λ (z : Stamp). MadeAs c.args.called.now c.args.said z v w) (λ d. record { number = n; wrote = sym e.said.1 d }) one

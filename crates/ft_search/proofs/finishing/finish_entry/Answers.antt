@@ -34,4 +34,4 @@ returns-clause-ends c =
     let d = c.commit-number.ensures.did in
     let e = c.raise_version.ensures in
     ends_then a.o a.table a.place a.called.now a.said.now (view a.pass.now) c.requires.may c.commit-number.result d.0 (view c.commit-number.new.pass) (view c.raise_version.new.pass) d.1.1 c.commit-number.ensures.committed e.only e.words
-    c.stop_write.result (view c.stop_write.new.pass) (e.writes.root ∙ sym c.requires.writes.root) c.stop_write.ensures.1
+    c.stop_write.result (view c.stop_write.new.pass) c.commit-number.ensures.seen (e.writes.root ∙ sym c.requires.writes.root) c.stop_write.ensures.1

@@ -1,0 +1,163 @@
+-- What calls on a set leave of it, in the words of the plain containers.
+use Rattle.std.proofs.Common.{◌≡◌, ◌≢◌, ℕ, zero, suc, ◌+◌, ◌-◌, ◌<◌, ◌≤◌, Bool, true, false, List, [], ◌∷◌, length, filter, Option, Some, None, refl, sym, ap, ◌∙◌, subst, inr, arith, get_or-set_same}
+use Rattle.std.specs.Prelude.{◌&&◌, ◌||◌, not, cond, IfSome, slice_index_or, slice_set, if◌then◌else◌}
+use Rattle.std.specs.List.{list_any}
+use Rattle.std.specs.Option.{unwrap_or}
+use Rattle.ft_model.specs.declared.call.Call.{Call}
+use Rattle.ft_model.specs.declared.call.Call.TheVariants as call
+use Rattle.ft_model.specs.declared.call.SetCall.{SetCall}
+use Rattle.ft_model.specs.declared.call.SetCall.TheVariants as set
+use Rattle.ft_model.specs.declared.call.TableChange.{TableChange}
+use Rattle.ft_model.specs.declared.call.TableChange.TheVariants as change
+use Rattle.ft_model.specs.declared.content.Content.{Content}
+use Rattle.ft_model.specs.declared.content.Content.TheVariants as content
+use Rattle.ft_model.specs.declared.content.Element.{Element}
+use Rattle.ft_model.specs.declared.data.Key.{Key}
+use Rattle.ft_model.specs.declared.reply.Reply.{Reply}
+use Rattle.ft_model.specs.declared.reply.Reply.TheVariants as reply
+use Rattle.ft_model.specs.declared.reply.Raise.TheVariants as raise
+use Rattle.ft_model.specs.declared.script.Kind.TheVariants as kind
+use Rattle.ft_model.specs.Answers.{Answer, answer, answer_set, puts, shows, after_write, is_raised}
+use Rattle.ft_model.specs.Calls.{is_changing_set, other_set, cursor_of_set, set_change, adds}
+use Rattle.ft_model.specs.Contents.{SetContent, empty_set, has_element, set_discard}
+use Rattle.ft_model.specs.Keys.{same_key}
+use Rattle.ft_model.specs.Tables.{StoredWorld, no_table, takes_in, table_at, change_leaves, grown_table, passes_cap, would_pass, after_stored}
+use Rattle.ft_model.specs.Worlds.{set_of, set_at, named_in, no_hands, IsOfKind, IsDeclared}
+use Rattle.ft_layout.specs.Words.{FitsKey}
+use Rattle.ft_trace.specs.declared.Shape.{Shape}
+use Rattle.ft_trace.specs.declared.View.{View}
+use Rattle.ft_trace.specs.Acts.{has_lock}
+use Rattle.ft_trace.specs.Addresses.{containers_in}
+use Rattle.ft_trace.specs.FitCalls.{FitsSetCall, FitsContent}
+use Rattle.ft_trace.specs.Holds.{known}
+use Rattle.ft_trace.specs.Kinds.{under}
+use Rattle.ft_trace.specs.Traces.{Possible}
+use Rattle.ft_trace.specs.Worlds.{Kept, kept_at, kind_in, reply_in}
+use Rattle.ft_trace.proofs.Known.{declared_at, at_any}
+use Rattle.ft_trace.proofs.LookReplies.{element_there}
+use Rattle.ft_trace.proofs.Naming.{named_locked}
+use Rattle.ft_bank.specs.Writes.{MayHave}
+use Rattle.ft_search.specs.Calls.{IsShownBy}
+use Rattle.ft_search.specs.Held.{IsHeldAt}
+use Rattle.ft_search.specs.Writing.{Leaves, MayWriteEntries, without_key}
+use Rattle.ft_search.proofs.Holding.{set_known}
+
+some_words : (words : List ℕ) (a b c : ℕ) → words ≡ a ∷ b ∷ c ∷ [] → words ≢ []
+some_words words a b c is none = let e = sym is ∙ none in absurd (cc)
+
+-- a pass that may write a set knows that it is one
+pub known_set : (k : Shape) (v : View) (s : ℕ) → v.shape ≡ k → ∥ Possible v ∥₁ → MayWriteEntries k s v → kind_in k.kinds s ≡ kind.Set → (elements : SetContent) × ((known s v).content ≡ content.Set elements) × (s < containers_in v.shape)
+known_set k v s shape possible may is =
+    let p = set_known v s possible may.locked (ap (λ (z : Shape). kind_in z.kinds s) shape ∙ is) in
+    (p.0, p.1, subst (λ (z : Shape). s < containers_in z) (sym shape) may.container)
+
+-- nothing is taken out that isn't there
+discard_same : (elements : List Element) (key : Key) → has_element elements key ≡ false → filter (λ (element : Element). not (same_key element.key key)) elements ≡ elements
+discard_same [] key none = refl
+discard_same (element ∷ elements) key none =
+    elim (same_key element.key key) as (λ b. (b || has_element elements key) ≡ false → cond (not b) (element ∷ filter (λ (element : Element). not (same_key element.key key)) elements) (filter (λ (element : Element). not (same_key element.key key)) elements) ≡ element ∷ elements) [
+      | true ↦ λ yes. absurd (cc)
+      | false ↦ λ no. ap (λ (z : List Element). element ∷ z) (discard_same elements key no)
+    ] none
+
+module _ (s : ℕ) (v : View) (elements : SetContent) (low : s < containers_in v.shape) (mine : has_lock s v.log ≡ true) (is_set : (known s v).content ≡ content.Set elements) (stored : StoredWorld) (has : MayHave v stored) where
+  abbrev world : List Content
+  world = stored.world
+
+  there : slice_index_or world s (content.List []) ≡ content.Set elements
+  there = ap (λ (z : Kept). z.content) (has.agrees s low mine) ∙ is_set
+
+  many : s < length world
+  many = subst (λ (n : ℕ). s < n) (sym has.containers) low
+
+  set_is : set_at world s ≡ elements
+  set_is = ap set_of (at_any world s (content.Set empty_set) (content.List []) many ∙ there)
+
+  each_fits : FitsContent (content.Set elements)
+  each_fits = subst FitsContent there (has.words s (content.List []) many)
+
+  table_is : table_at stored.tables s ≡ (known s v).table
+  table_is = ap (λ (z : Kept). z.table) (has.agrees s low mine)
+
+  module _ (sc : SetCall) (said : Reply) where
+    pub replies : (a : Answer) → answer_set world no_hands s elements sc ≡ a → a.reply ≡ said → reply_in stored (call.Set s sc) ≡ said
+    replies a answered is = ap (λ (z : SetContent). (answer_set world no_hands s z sc).reply) set_is ∙ (ap (λ (z : Answer). z.reply) answered ∙ is)
+
+    declared : other_set sc ≡ None → cursor_of_set sc ≡ None → IsDeclared world no_hands (call.Set s sc)
+    declared other cursor = record {
+      one = declared_at world s (content.Set elements) many there;
+      both = subst (λ (z : Option ℕ). IfSome z (λ p. IsOfKind world kind.Set p)) (sym other) tt;
+      room = subst (λ (z : Option ℕ). IfSome z (λ (n : ℕ). n < 0)) (sym cursor) tt;
+    }
+
+    module _ (news : SetContent) (answered : answer_set world no_hands s elements sc ≡ puts world no_hands s (content.Set news) said) where
+      answer_is : answer world no_hands (call.Set s sc) ≡ puts world no_hands s (content.Set news) said
+      answer_is = ap (λ (z : SetContent). answer_set world no_hands s z sc) set_is ∙ answered
+
+      left_at : (e : Content) → slice_index_or (after_write world (call.Set s sc)) s e ≡ content.Set news
+      left_at e = ap (λ (z : Answer). slice_index_or z.world s e) answer_is ∙ get_or-set_same world s (content.Set news) e many
+
+      stays : set_change sc ≡ change.Stays → kept_at (after_stored stored (call.Set s sc)) s ≡ record { content = content.Set news; table = (known s v).table }
+      stays same =
+          let c = left_at (content.List []) in
+          let t = ap (λ (z : TableChange). table_at (change_leaves stored.tables s z (grown_table (table_at stored.tables s) (takes_in stored (call.Set s sc)) ((set_at (after_write world (call.Set s sc)) s).next - (set_at world s).next) (length (set_at (after_write world (call.Set s sc)) s).elements)) no_table) s) same ∙ table_is in
+          λ i. record { content = c i; table = t i }
+
+-- a call that stores nothing new
+pub leaves_stay : (s : ℕ) (v : View) (elements news : SetContent) (sc : SetCall) (said : Reply) → s < containers_in v.shape → has_lock s v.log ≡ true → (known s v).content ≡ content.Set elements → is_changing_set sc ≡ true → is_raised said ≡ false → other_set sc ≡ None → cursor_of_set sc ≡ None → set_change sc ≡ change.Stays → FitsSetCall sc
+    → ((stored : StoredWorld) → MayHave v stored → answer_set stored.world no_hands s elements sc ≡ puts stored.world no_hands s (content.Set news) said)
+    → Leaves s (call.Set s sc) said (record { content = content.Set news; table = (known s v).table }) v
+leaves_stay s v elements news sc said low mine is_set changing quiet other cursor same fits answered = record {
+  write = (λ i. changing i && not (quiet i));
+  changed = (λ i. unwrap_or (if changing i then Some s else None) 0);
+  words = fits;
+  locks = named_locked s (other_set sc) v.log mine (subst (λ (z : Option ℕ). IfSome z (λ q. has_lock q v.log ≡ true)) (sym other) tt);
+  replied = λ stored has. replies s v elements low mine is_set stored has sc said (puts stored.world no_hands s (content.Set news) said) (answered stored has) refl;
+  declared = λ stored has. declared s v elements low mine is_set stored has sc said other cursor;
+  fits = λ stored has. ap (λ (z : TableChange). adds z && list_any passes_cap (named_in (after_write stored.world (call.Set s sc)) (call.Set s sc))) same;
+  left_is = λ stored has. stays s v elements low mine is_set stored has sc said news (answered stored has) same;
+}
+
+-- ---- calls that take an element out
+
+module _ (s : ℕ) (v : View) (elements : SetContent) (low : s < containers_in v.shape) (mine : has_lock s v.log ≡ true) (is_set : (known s v).content ≡ content.Set elements) (key : Key) (fits : FitsKey key) where
+  has_there : (kind payload : ℕ) → IsHeldAt (content.Set elements) key (Some (kind, payload)) → (stored : StoredWorld) → MayHave v stored → has_element elements.elements key ≡ true
+  has_there kind payload held stored has = element_there elements key fits (each_fits s v elements low mine is_set stored has) (some_words (under (content.Set elements) key) kind payload held.0 held.1)
+
+  abbrev left : Kept
+  left = record { content = without_key (known s v).content key; table = (known s v).table }
+
+  left_is : record { content = content.Set (set_discard elements key); table = (known s v).table } ≡ left
+  left_is = λ i. record { content = without_key (sym is_set i) key; table = (known s v).table }
+
+  pub discard_leaves : Leaves s (call.Set s (set.Discard key)) reply.Done left v
+  discard_leaves =
+      subst (λ (z : Kept). Leaves s (call.Set s (set.Discard key)) reply.Done z v) left_is
+      (leaves_stay s v elements (set_discard elements key) (set.Discard key) reply.Done low mine is_set refl refl refl refl refl fits (λ stored has. refl))
+
+  pub remove_leaves : (kind payload : ℕ) → IsHeldAt (known s v).content key (Some (kind, payload)) → Leaves s (call.Set s (set.Remove key)) reply.Done left v
+  remove_leaves kind payload held =
+      let h = subst (λ (z : Content). IsHeldAt z key (Some (kind, payload))) is_set held in
+      subst (λ (z : Kept). Leaves s (call.Set s (set.Remove key)) reply.Done z v) left_is
+      (leaves_stay s v elements (set_discard elements key) (set.Remove key) reply.Done low mine is_set refl refl refl refl refl fits
+      (λ stored has. ap (λ (b : Bool). if b then puts stored.world no_hands s (content.Set (set_discard elements key)) reply.Done else shows stored.world no_hands (reply.Raised raise.NoKey)) (has_there kind payload h stored has)))
+
+  module _ (none : IsHeldAt (known s v).content key None) where
+    missing : has_element elements.elements key ≡ false
+    missing = subst (λ (z : Content). IsHeldAt z key None) is_set none
+
+    pub nothing_leaves : Leaves s (call.Set s (set.Discard key)) reply.Done (known s v) v
+    nothing_leaves =
+        let same : left ≡ known s v = sym left_is ∙ ((λ i. record { content = content.Set (record { next = elements.next; elements = discard_same elements.elements key missing i }); table = (known s v).table }) ∙ (λ i. record { content = sym is_set i; table = (known s v).table })) in
+        subst (λ (z : Kept). Leaves s (call.Set s (set.Discard key)) reply.Done z v) same discard_leaves
+
+    pub remove_raises : IsShownBy (call.Set s (set.Remove key)) (reply.Raised raise.NoKey) v
+    remove_raises = record {
+      read = refl;
+      cursor = refl;
+      plain = λ stored is. inr (sym is);
+      replied = λ stored has.
+          replies s v elements low mine is_set stored has (set.Remove key) (reply.Raised raise.NoKey) (shows stored.world no_hands (reply.Raised raise.NoKey))
+          (ap (λ (b : Bool). if b then puts stored.world no_hands s (content.Set (set_discard elements key)) reply.Done else shows stored.world no_hands (reply.Raised raise.NoKey)) missing) refl;
+      cause = λ stored log n. refl;
+    }

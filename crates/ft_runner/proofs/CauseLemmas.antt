@@ -1,6 +1,8 @@
 -- From a report to what the source has.
 use Rattle.std.proofs.Common.{◌≡◌, ◌≢◌, ◌∙◌, ◌≤◌, ℕ, Bool, true, false, List, [], ◌++◌, length, Option, Some, None, refl, sym, ap, subst, arith, inl, inr}
 use Rattle.std.specs.Prelude.{IfSome, nat_lt}
+use Rattle.ft_runner.specs.Making.{IsSummary}
+use Rattle.ft_script.specs.Generator.{made_text}
 use Rattle.ft_script.specs.Scripts.{read_script}
 use Rattle.std.proofs.lemmas.Bool.{ltb-false, ltb-true, true≢false}
 use Rattle.std.proofs.lemmas.List.{append-nil, length-append}
@@ -12,11 +14,11 @@ use Rattle.ft_runner.specs.declared.report.Fault.{Fault}
 use Rattle.ft_runner.specs.declared.outcome.Outcome.{Outcome}
 use Rattle.ft_runner.specs.declared.outcome.Outcome.TheVariants as outcome
 use Rattle.ft_runner.specs.declared.report.Report.{Report}
-use Rattle.ft_runner.specs.Causes.{IsCause, IsCheckCause, IsReportOn, IsRunCause}
+use Rattle.ft_runner.specs.Causes.{IsCause, IsCheckCause, IsMakeCause, IsReportOn, IsRunCause}
 use Rattle.ft_runner.specs.Checking.{IsPast, IsTooLong, IsWithin}
 use Rattle.ft_runner.specs.Commands.{runs_script}
 use Rattle.ft_runner.specs.Findings.{IsBadAt, IsFound}
-use Rattle.ft_runner.specs.Reports.{fault_of, is_read, DoesCheck, DoesRun, IsDone, IsFirstFault, IsScriptFault, PutsFor}
+use Rattle.ft_runner.specs.Reports.{fault_of, is_read, DoesCheck, DoesMake, DoesRun, IsDone, IsFirstFault, IsScriptFault, PutsFor}
 use Rattle.ft_runner.specs.Streams.{script_limit, Gives, HasEnded}
 use Rattle.ft_runner.proofs.ReportLemmas.{some_none}
 
@@ -83,10 +85,23 @@ module _ (source source' sink sink' : Stream) (text : List ℕ) (has : source.co
   check_cause (outcome.Write history) came put gives written does = absurd (sink_stood written.faults)
   check_cause outcome.Usage came put gives written does = absurd does.means
 
+  make_cause : (IsWhole : List ℕ → Type 0) (ended : Outcome) (came put : List ℕ) → PutsFor ended sink put sink' → DoesMake IsWhole ended source came source' put → IsMakeCause (fault_of ended)
+  make_cause IsWhole (outcome.Clean history) came put written does = tt
+  make_cause IsWhole outcome.Memory came put written does = tt
+  make_cause IsWhole (outcome.Write history) came put written does = absurd (sink_stood written.faults)
+  make_cause IsWhole (outcome.Script refused) came put written does = absurd does.means
+  make_cause IsWhole outcome.Usage came put written does = absurd does.means
+  make_cause IsWhole outcome.Read came put written does = absurd does.means
+  make_cause IsWhole outcome.TooLong came put written does = absurd does.means
+  make_cause IsWhole (outcome.NotLegal place rule) came put written does = absurd does.means
+  make_cause IsWhole (outcome.Transcript line) came put written does = absurd does.means
+
   any_cause : (command : Subcommand) (ended : Outcome) → IsDone (Some command) source source' sink sink' ended → IsCause command text (fault_of ended)
   any_cause subcommand.Run ended done = run_cause subcommand.Run ended done.came done.put done.reading done.writing done.own
   any_cause subcommand.Turns ended done = run_cause subcommand.Turns ended done.came done.put done.reading done.writing done.own
   any_cause subcommand.Check ended done = check_cause ended done.came done.put done.reading done.writing done.own
+  any_cause (subcommand.Make calls) ended done = make_cause (λ text. text ≡ made_text calls) ended done.came done.put done.writing done.own
+  any_cause (subcommand.MakeTurns calls) ended done = make_cause (IsSummary calls) ended done.came done.put done.writing done.own
 
 pub cause_of : (command : Subcommand) (text : List ℕ) (report : Report) → IsReportOn command text report → IsCause command text report.fault
 cause_of command text report on =
@@ -97,3 +112,5 @@ pub run_cause_of : (command : Subcommand) → runs_script command ≡ true → (
 run_cause_of subcommand.Run runs text reported cause = cause
 run_cause_of subcommand.Turns runs text reported cause = cause
 run_cause_of subcommand.Check runs text reported cause = absurd (true≢false (sym runs))
+run_cause_of (subcommand.Make calls) runs text reported cause = absurd (true≢false (sym runs))
+run_cause_of (subcommand.MakeTurns calls) runs text reported cause = absurd (true≢false (sym runs))

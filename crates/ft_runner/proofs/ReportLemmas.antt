@@ -4,6 +4,7 @@ use Rattle.std.specs.Prelude.{◌==◌, is_some, Vec}
 use Rattle.std.specs.declared.alloc.Global.{Global}
 use Rattle.std.specs.List.{flat_map}
 use Rattle.std.proofs.lemmas.Bool.{eqb-false, le-ltb, false≢true, true≢false}
+use Rattle.std.proofs.lemmas.List.{append-nil}
 use Rattle.ft_io.specs.Streams.{Stream}
 use Rattle.ft_io.specs.declared.source.Failed.{Failed}
 use Rattle.ft_model.specs.declared.content.Content.{Content}
@@ -12,7 +13,9 @@ use Rattle.ft_model.specs.declared.script.ScriptParts.{ScriptParts}
 use Rattle.ft_model.specs.Histories.{writes, world_at, IsLegal}
 use Rattle.ft_script.specs.declared.fault.ScriptFault.{ScriptFault}
 use Rattle.ft_script.specs.Faults.{no_memory}
+use Rattle.ft_script.specs.Generator.{made_text}
 use Rattle.ft_script.specs.Scripts.{read_script}
+use Rattle.ft_runner.specs.Making.{IsSummary}
 use Rattle.ft_script.specs.Texts.{entry_line, world_text}
 use Rattle.ft_turns.specs.Orders.{IsOrderRun}
 use Rattle.ft_history.specs.declared.verdict.Verdict.TheVariants as verdict
@@ -27,7 +30,8 @@ use Rattle.ft_runner.specs.Checking.{IsReadToItsEnd, IsScriptPart, IsWithin, Sto
 use Rattle.ft_runner.specs.Commands.{runs_script}
 use Rattle.ft_runner.specs.Findings.{broken_line, legal_line, stored, IsBadAt, IsFound}
 use Rattle.ft_runner.specs.Streams.{Gives, Receives, IsPart, Puts, Reported, StopsReading, IsWholeInput, has_failed, is_too_much}
-use Rattle.ft_runner.specs.Reports.{is_read, is_too_long, is_usage, has_ended, comes_of_text, refusal_of, stopped, ComesTo, Does, DoesRun, IsHistoryOf, IsDone, MeansChecked, MeansRun, PutsFor}
+use Rattle.ft_runner.specs.Reports.{is_read, is_too_long, is_usage, has_ended, comes_of_text, refusal_of, stopped, ComesTo, Does, DoesMake, DoesRun, IsHistoryOf, IsDone, MeansChecked, MeansMade, MeansRun, PutsFor}
+use Rattle.ft_runner.proofs.OpenLines.{few_fits, fit_in_time}
 use Rattle.ft_runner.proofs.StreamLemmas.{Gives-none, Receives-none}
 
 -- ---- what was put
@@ -46,6 +50,8 @@ pub does_run : (command : Subcommand) → runs_script command ≡ true → (ende
 does_run subcommand.Run runs ended source came source' put does = does
 does_run subcommand.Turns runs ended source came source' put does = does
 does_run subcommand.Check runs ended source came source' put does = absurd (false≢true runs)
+does_run (subcommand.Make calls) runs ended source came source' put does = absurd (false≢true runs)
+does_run (subcommand.MakeTurns calls) runs ended source came source' put does = absurd (false≢true runs)
 
 -- ---- reading stops
 
@@ -88,6 +94,7 @@ module _ (source source' sink : Stream) where
         writing = it.writing;
         own = record {
           too_long = λ long. p.too_long (sym it.too_long ∙ long);
+          fits = λ failed. p.fits (sym it.read ∙ failed);
           within = λ h. absurd (false≢true (sym it.ended ∙ h));
           few = p.few;
           in_time = p.in_time;
@@ -134,9 +141,10 @@ module _ (source source' sink sink' : Stream) (bytes : List ℕ) (ended : Outcom
         writing = q.writing;
         own = record {
           too_long = λ long. absurd (true≢false (sym long ∙ kind.2));
+          fits = λ failed. absurd (true≢false (sym failed ∙ kind.1));
           within = λ h. within;
           few = omega (arith, within.few);
-          in_time = λ far. within.script_few;
+          in_time = fit_in_time bytes ([], subst IsWithin (sym (append-nil bytes)) within);
           to_end = λ h. p.ended;
           means = q.means;
         };
@@ -162,7 +170,9 @@ unsaid : (command : Option Subcommand) (source : Stream) → Does command outcom
 unsaid None source = (refl, refl)
 unsaid (Some subcommand.Run) source = unsaid_run subcommand.Run source
 unsaid (Some subcommand.Turns) source = unsaid_run subcommand.Turns source
-unsaid (Some subcommand.Check) source = record { too_long = λ h. absurd (false≢true h); within = λ h. absurd (false≢true h); few = omega arith; in_time = λ far. absurd (omega arith); to_end = λ h. absurd (false≢true h); means = refl }
+unsaid (Some subcommand.Check) source = record { too_long = λ h. absurd (false≢true h); fits = λ h. absurd (false≢true h); within = λ h. absurd (false≢true h); few = omega arith; in_time = fit_in_time [] (few_fits [] (omega arith)); to_end = λ h. absurd (false≢true h); means = refl }
+unsaid (Some (subcommand.Make calls)) source = record { nothing_came = refl; untouched = refl; means = refl }
+unsaid (Some (subcommand.MakeTurns calls)) source = record { nothing_came = refl; untouched = refl; means = refl }
 
 pub memory_done : (command : Option Subcommand) (source sink : Stream) → IsDone command source source sink sink outcome.Memory
 memory_done command source sink =
@@ -235,3 +245,42 @@ module _ (bytes : List ℕ) (sink sink' : Stream) where
   pub broken_found : (place : ℕ) (rule : Rule) → IsFound bytes (verdict.Not place rule) → Reported sink (broken_line place rule) sink' → ComesTo (MeansChecked bytes) sink sink' (outcome.NotLegal place rule)
   broken_found place rule found (inl all) = record { put = broken_line place rule; writing = inl (refl, all); means = found; cause = refl }
   broken_found place rule found (inr part) = record { put = part.prefix; writing = inr (part.is_prefix, part.receives); means = found; cause = refl }
+
+-- ---- what a script that is made comes to
+
+module _ (sink sink' : Stream) (text : List ℕ) (history : Vec Entry Global) (none : history.items ≡ []) where
+  pub made_whole : Receives sink text false sink' → ComesTo (MeansMade (λ made. made ≡ text)) sink sink' (outcome.Clean history)
+  made_whole all = record { put = text; writing = all; means = (refl, none); cause = refl }
+
+  pub made_part : IsPart sink text true sink' → ComesTo (MeansMade (λ made. made ≡ text)) sink sink' (outcome.Write history)
+  made_part part = record { put = part.prefix; writing = part.receives; means = (text, refl, part.is_prefix, none); cause = refl }
+
+-- a text that is whole in another way
+means_made : (IsWhole : List ℕ → Type 0) (made : List ℕ) → IsWhole made → (ended : Outcome) (put : List ℕ) → MeansMade (λ other. other ≡ made) ended put → MeansMade IsWhole ended put
+means_made IsWhole made whole (outcome.Clean history) put means = (subst IsWhole (sym means.0) whole, means.1)
+means_made IsWhole made whole (outcome.Write history) put means = (means.0, subst IsWhole (sym means.1) whole, means.2, means.3)
+means_made IsWhole made whole outcome.Memory put means = means
+means_made IsWhole made whole (outcome.Script refused) put means = means
+means_made IsWhole made whole outcome.Usage put means = means
+means_made IsWhole made whole outcome.Read put means = means
+means_made IsWhole made whole outcome.TooLong put means = means
+means_made IsWhole made whole (outcome.NotLegal place rule) put means = means
+means_made IsWhole made whole (outcome.Transcript line) put means = means
+
+made_done : (command : Subcommand) (IsWhole : List ℕ → Type 0) (text : List ℕ) → IsWhole text → (sink sink' : Stream) (ended : Outcome) → ComesTo (MeansMade (λ made. made ≡ text)) sink sink' ended → (source : Stream) → ((put : List ℕ) → DoesMake IsWhole ended source [] source put → Does (Some command) ended source [] source put) → IsDone (Some command) source source sink sink' ended
+made_done command IsWhole text whole sink sink' ended comes source does =
+    let kind = text_outcome ended comes.cause in
+    record {
+      came = [];
+      put = comes.put;
+      usage = λ known. kind.0;
+      reading = subst (λ failed. Gives source [] failed source) (sym kind.1) (Gives-none source);
+      writing = comes.writing;
+      own = does comes.put (record { nothing_came = refl; untouched = refl; means = means_made IsWhole text whole ended comes.put comes.means });
+    }
+
+pub script_made : (calls : ℕ) (text : List ℕ) → text ≡ made_text calls → (sink sink' : Stream) (ended : Outcome) → ComesTo (MeansMade (λ made. made ≡ text)) sink sink' ended → (source : Stream) → IsDone (Some (subcommand.Make calls)) source source sink sink' ended
+script_made calls text is sink sink' ended comes source = made_done (subcommand.Make calls) (λ made. made ≡ made_text calls) text is sink sink' ended comes source (λ put does. does)
+
+pub summary_made : (calls : ℕ) (text : List ℕ) → IsSummary calls text → (sink sink' : Stream) (ended : Outcome) → ComesTo (MeansMade (λ made. made ≡ text)) sink sink' ended → (source : Stream) → IsDone (Some (subcommand.MakeTurns calls)) source source sink sink' ended
+summary_made calls text is sink sink' ended comes source = made_done (subcommand.MakeTurns calls) (IsSummary calls) text is sink sink' ended comes source (λ put does. does)

@@ -3,6 +3,7 @@ use Rattle.std.proofs.Common.{◌≡◌, ◌∙◌, ℕ, ◌+◌, ◌-◌, ◌<�
 use Rattle.std.proofs.lemmas.Bool.{cases_lt, true≢false}
 use Rattle.std.proofs.lemmas.List.{drop-append-le, get_or_append_left, length-append, length-drop, take-append-le}
 use Rattle.ft_runner.specs.Checking.{begins_line, is_separator, is_separator_at, HasNoSeparator, IsSeparator, IsSeparatorOf, IsPast, IsScriptFew, IsScriptLong, IsScriptPart, IsWithin}
+use Rattle.ft_runner.specs.Internal.Filling.{IsSettled}
 
 -- ---- bytes that go on
 
@@ -12,14 +13,6 @@ separator_stays bytes more place low =
     let four : take 4 (drop place (bytes ++ more)) ≡ take 4 (drop place bytes) = ap (take 4) (drop-append-le place bytes more (omega arith)) ∙ take-append-le 4 (drop place bytes) more (omega (arith, length-drop place bytes)) in
     let before : begins_line (bytes ++ more) place ≡ begins_line bytes place = ap (λ b. place == 0 || b == 10) (get_or_append_left bytes more 0 (place - 1) (omega arith)) in
     ap₂ (λ b line. b && is_separator line) before four
-
-pub IsSeparator-stays : (bytes more : List ℕ) (place : ℕ) → place + 4 ≤ length bytes → IsSeparator bytes place → IsSeparator (bytes ++ more) place
-IsSeparator-stays bytes more place low separator =
-    record {
-      inside = omega (arith, length-append bytes more);
-      here = separator_stays bytes more place low ∙ separator.here;
-      first = λ earlier before. separator_stays bytes more earlier (omega arith) ∙ separator.first earlier before;
-    }
 
 -- ---- there is one such line, or none
 
@@ -44,18 +37,26 @@ one_script bytes a b (inr one) (inr other) = one.2 ∙ ap (λ p. take p bytes) (
 
 -- ---- limits
 
--- what is decided of the script, where the four bytes of a line have come after it, stays so
-pub IsScriptLong-stays : (bytes more : List ℕ) → 4194307 < length bytes → IsScriptLong bytes → IsScriptLong (bytes ++ more)
-IsScriptLong-stays bytes more far long = (omega (arith, length-append bytes more), λ place low. separator_stays bytes more place (omega arith) ∙ long.1 place low)
+-- what is settled of the script stays so, whatever follows
+pub IsScriptLong-stays : (bytes more : List ℕ) → IsSettled bytes → IsScriptLong bytes → IsScriptLong (bytes ++ more)
+IsScriptLong-stays bytes more settled long = (omega (arith, long.0, length-append bytes more), λ place low. settled more place low ∙ long.1 place low)
 
-pub IsScriptFew-stays : (bytes more : List ℕ) → 4194307 < length bytes → IsScriptFew bytes → IsScriptFew (bytes ++ more)
-IsScriptFew-stays bytes more far (inl few) = absurd (omega arith)
-IsScriptFew-stays bytes more far (inr separator) = inr (separator.0, separator.1, IsSeparator-stays bytes more separator.0 (omega (arith, separator.1)) separator.2)
+separator_settled : (bytes more : List ℕ) (place : ℕ) → IsSettled bytes → place ≤ 4194304 → IsSeparator bytes place → IsSeparator (bytes ++ more) place
+separator_settled bytes more place settled low separator =
+    record {
+      inside = omega (arith, separator.inside, length-append bytes more);
+      here = settled more place low ∙ separator.here;
+      first = λ earlier before. settled more earlier (omega (arith, before, low)) ∙ separator.first earlier before;
+    }
 
-pub IsSeparatorOf-stays : (bytes more : List ℕ) (separator : Option ℕ) → 4194307 < length bytes → IsScriptFew bytes → IsSeparatorOf bytes separator → IsSeparatorOf (bytes ++ more) separator
-IsSeparatorOf-stays bytes more separator far (inl few) is = absurd (omega arith)
-IsSeparatorOf-stays bytes more None far (inr at) none = absurd (no_separator bytes at.0 none at.2)
-IsSeparatorOf-stays bytes more (Some place) far (inr at) separator = IsSeparator-stays bytes more place (omega (arith, one_separator bytes place at.0 separator at.2, at.1)) separator
+pub IsScriptFew-stays : (bytes more : List ℕ) → IsSettled bytes → 4194304 < length bytes → IsScriptFew bytes → IsScriptFew (bytes ++ more)
+IsScriptFew-stays bytes more settled far (inl few) = absurd (omega (arith, few, far))
+IsScriptFew-stays bytes more settled far (inr separator) = inr (separator.0, separator.1, separator_settled bytes more separator.0 settled separator.1 separator.2)
+
+pub IsSeparatorOf-stays : (bytes more : List ℕ) (separator : Option ℕ) → IsSettled bytes → 4194304 < length bytes → IsScriptFew bytes → IsSeparatorOf bytes separator → IsSeparatorOf (bytes ++ more) separator
+IsSeparatorOf-stays bytes more separator settled far (inl few) is = absurd (omega (arith, few, far))
+IsSeparatorOf-stays bytes more None settled far (inr at) none = absurd (no_separator bytes at.0 none at.2)
+IsSeparatorOf-stays bytes more (Some place) settled far (inr at) separator = separator_settled bytes more place settled (omega (arith, one_separator bytes place at.0 separator at.2, at.1)) separator
 
 pub past_within : (bytes : List ℕ) → IsPast bytes → IsWithin bytes → ⊥
 past_within bytes (inl long) within = omega (arith, within.few)

@@ -58,8 +58,22 @@ IsCheckCause text fault.Usage = ⊥
 IsCheckCause text fault.Read = ⊥
 IsCheckCause text fault.Write = ⊥
 
+-- and where a script is made, which no text can spoil
+abbrev pub IsMakeCause : Fault → Type 0
+IsMakeCause fault.Clean = Unit {0}
+IsMakeCause fault.Memory = Unit {0}
+IsMakeCause (fault.Script line kind) = ⊥
+IsMakeCause fault.Usage = ⊥
+IsMakeCause fault.Read = ⊥
+IsMakeCause fault.Write = ⊥
+IsMakeCause fault.TooLong = ⊥
+IsMakeCause (fault.NotLegal place rule) = ⊥
+IsMakeCause (fault.Transcript line) = ⊥
+
 -- what a text has where this is reported of it
 abbrev pub IsCause : Subcommand → List ℕ → Fault → Type 0
 IsCause subcommand.Run text reported = IsRunCause text reported
 IsCause subcommand.Turns text reported = IsRunCause text reported
 IsCause subcommand.Check text reported = IsCheckCause text reported
+IsCause (subcommand.Make calls) text reported = IsMakeCause reported
+IsCause (subcommand.MakeTurns calls) text reported = IsMakeCause reported

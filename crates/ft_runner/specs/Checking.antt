@@ -63,13 +63,17 @@ pub record IsWithin (bytes : List ℕ) : Type 0 where
 abbrev pub most_checked : ℕ
 most_checked = input_limit + piece
 
--- the most bytes that are read before it is known whether a line `---` begins within the limit: those first places, its other three bytes, and one piece
-abbrev pub most_before_separator : ℕ
-most_before_separator = script_limit + 3 + piece
+-- bytes can follow with which these are no more than are taken
+abbrev pub CanFit : List ℕ → Type 0
+CanFit came = (more : List ℕ) × IsWithin (came ++ more)
 
--- reading goes on past that only where such a line begins within the limit
-abbrev pub IsReadInTime : List ℕ → Type 0
-IsReadInTime came = most_before_separator < length came → IsScriptFew came
+-- more is asked for only while what came can fit: all but the last piece can
+pub record IsReadInTime (came : List ℕ) : Type 0 where
+  pub front : List ℕ
+  pub last : List ℕ
+  pub parts : front ++ last ≡ came
+  pub fits : CanFit front
+  pub one_piece : length last ≤ piece
 
 -- all that a source gives is read
 pub record IsReadToItsEnd (before : Stream) (bytes : List ℕ) (after : Stream) : Type 0 where
@@ -86,6 +90,7 @@ pub record StopsInput (stop : ReadFault) (before after : Stream) : Type 0 where
   pub came : List ℕ
   pub gives : Gives before came (has_failed stop) after
   pub too_long : is_too_much stop ≡ true → IsTooLong before came after
+  pub fits : has_failed stop ≡ true → CanFit came
   pub few : length came ≤ most_checked
   pub in_time : IsReadInTime came
 
@@ -95,18 +100,3 @@ ReadsInput before (Ok input) after =
     IsReadToItsEnd before input.bytes.items after × IsWithin input.bytes.items
     × IsSeparatorOf input.bytes.items input.separator
 ReadsInput before (Err stop) after = StopsInput stop before after
-
--- ---- what is read in one part of it
-
--- the source has ended, or more than that many bytes are there
-abbrev pub EndsFilling : Bool → ℕ → List ℕ → Stream → Type 0
-EndsFilling true most bytes after = (length bytes ≤ most) × HasEnded after
-EndsFilling false most bytes after = (most < length bytes) × (length bytes ≤ most + piece)
-
--- a source is read on after these bytes, until it ends or more than that many are there
-abbrev pub Fills : Stream → List ℕ → ℕ → Result Bool ReadFault → List ℕ → Stream → Type 0
-Fills before old most (Ok ended) new after =
-    (came : List ℕ) × (new ≡ old ++ came) × Gives before came false after × EndsFilling ended most new after
-Fills before old most (Err stop) new after =
-    (came : List ℕ) × Gives before came (has_failed stop) after × (length old + length came ≤ most + piece)
-    × (is_too_much stop ≡ false)

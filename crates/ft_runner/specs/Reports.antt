@@ -9,6 +9,7 @@ use Rattle.ft_model.specs.declared.script.ScriptParts.{ScriptParts}
 use Rattle.ft_model.specs.Histories.{IsLegal}
 use Rattle.ft_script.specs.declared.fault.ScriptFault.{ScriptFault}
 use Rattle.ft_script.specs.Faults.{kind_text}
+use Rattle.ft_script.specs.Generator.{made_text}
 use Rattle.ft_script.specs.Scripts.{read_script}
 use Rattle.ft_script.specs.Texts.{transcript}
 use Rattle.ft_turns.specs.Orders.{IsOrderRun}
@@ -21,9 +22,10 @@ use Rattle.ft_runner.specs.declared.reading.ReadFault.TheVariants as read
 use Rattle.ft_runner.specs.declared.report.Fault.{Fault}
 use Rattle.ft_runner.specs.declared.report.Fault.TheVariants as fault
 use Rattle.ft_runner.specs.declared.report.Report.{Report}
-use Rattle.ft_runner.specs.Checking.{most_checked, IsReadInTime, IsScriptPart, IsTooLong, IsWithin}
+use Rattle.ft_runner.specs.Checking.{most_checked, CanFit, IsReadInTime, IsScriptPart, IsTooLong, IsWithin}
 use Rattle.ft_runner.specs.Commands.{command_of}
 use Rattle.ft_runner.specs.Findings.{broken_line, legal_line, stored, IsBadAt, IsFound}
+use Rattle.ft_runner.specs.Making.{IsSummary}
 use Rattle.ft_runner.specs.Streams.{most_read, script_limit, Gives, HasEnded, IsPrefix, Receives, Reported}
 
 -- ---- what a call comes to
@@ -204,14 +206,37 @@ MeansChecked came outcome.TooLong put = put ≡ []
 MeansChecked came outcome.Memory put = put ≡ []
 MeansChecked came outcome.Usage put = ⊥
 
--- what `check` does: more than a script and a transcript may have, whatever follows, stops the reading; what was read to its end is within
+-- what `check` does: more than a script and a transcript may have, whatever follows, stops the reading, and no more is asked for then; what was read to its end is within
 pub record DoesCheck (ended : Outcome) (source : Stream) (came : List ℕ) (source' : Stream) (put : List ℕ) : Type 0 where
   pub too_long : is_too_long ended ≡ true → IsTooLong source came source'
+  pub fits : is_read ended ≡ true → CanFit came
   pub within : has_ended ended ≡ true → IsWithin came
   pub few : length came ≤ most_checked
   pub in_time : IsReadInTime came
   pub to_end : has_ended ended ≡ true → HasEnded source'
   pub means : MeansChecked came ended put
+
+-- ---- a script that is made
+
+-- what it says of the bytes that were put that making came to this; a text that is made is whole as the relation says
+abbrev pub MeansMade : (List ℕ → Type 0) → Outcome → List ℕ → Type 0
+MeansMade IsWhole (outcome.Clean history) put = IsWhole put × (history.items ≡ [])
+MeansMade IsWhole (outcome.Write history) put =
+    (text : List ℕ) × IsWhole text × IsPrefix put text × (history.items ≡ [])
+MeansMade IsWhole outcome.Memory put = put ≡ []
+MeansMade IsWhole (outcome.Script refused) put = ⊥
+MeansMade IsWhole outcome.Usage put = ⊥
+MeansMade IsWhole outcome.Read put = ⊥
+MeansMade IsWhole outcome.TooLong put = ⊥
+MeansMade IsWhole (outcome.NotLegal place rule) put = ⊥
+MeansMade IsWhole (outcome.Transcript line) put = ⊥
+
+-- what a command that makes a script does: it reads nothing
+pub record DoesMake (IsWhole : List ℕ → Type 0) (ended : Outcome) (source : Stream) (came : List ℕ)
+    (source' : Stream) (put : List ℕ) : Type 0 where
+  pub nothing_came : came ≡ []
+  pub untouched : source' ≡ source
+  pub means : MeansMade IsWhole ended put
 
 -- ---- the parts that all commands have
 
@@ -235,6 +260,10 @@ Does None ended source came source' put = (came ≡ []) × (put ≡ [])
 Does (Some subcommand.Run) ended source came source' put = DoesRun subcommand.Run ended came source' put
 Does (Some subcommand.Turns) ended source came source' put = DoesRun subcommand.Turns ended came source' put
 Does (Some subcommand.Check) ended source came source' put = DoesCheck ended source came source' put
+Does (Some (subcommand.Make calls)) ended source came source' put =
+    DoesMake (λ text. text ≡ made_text calls) ended source came source' put
+Does (Some (subcommand.MakeTurns calls)) ended source came source' put =
+    DoesMake (IsSummary calls) ended source came source' put
 
 -- what is done for this command, and what it comes to
 pub record IsDone (command : Option Subcommand) (source source' sink sink' : Stream) (ended : Outcome) : Type 0 where

@@ -1,11 +1,15 @@
 //! Reads the command line.
 ghost use Rattle.clap.specs.Simple.{on_top};
-ghost use Rattle.clap.specs.Words.{app_of, new_app, subcommand_name_of};
-ghost use Rattle.std.specs.Prelude.{◌≡◌, codes, IfOk, map, option_and_then, string_bytes};
-ghost use Rattle.ft_runner.specs.Commands.{command_of, named, tool, without_help};
+ghost use Rattle.clap.specs.Words.{app_of, new_app, subcommand_rows_of};
+ghost use Rattle.clap.specs.declared.builder.command.Command.TheViews.{out-Command};
+ghost use Rattle.std.specs.Prelude.{◌≡◌, [], false, codes, IfOk, map, option_map, string_bytes};
+ghost use Rattle.ft_runner.specs.Commands.{calls_of, command_of, made, make_shape, named, tool, without_help};
+ghost use Rattle.ft_runner.specs.Internal.Matched.{matched};
+ghost use Rattle.ft_script.specs.Words.{is_positive};
 
+use crate::limits::MOST_MADE;
 use clap::error::ErrorKind;
-use clap::{ArgMatches, Command};
+use clap::{Arg, ArgMatches, Command};
 use std::alloc::{AllocError, Global};
 
 /// What the tool is asked to do with its input.
@@ -17,6 +21,10 @@ pub enum Subcommand {
     Turns,
     /// Checks a transcript of a script.
     Check,
+    /// Makes a script of that many calls.
+    Make(u32),
+    /// Makes a script of that many calls, runs it in the order of turns, and sums up what came of it.
+    MakeTurns(u32),
 }
 
 impl Subcommand {
@@ -50,19 +58,71 @@ pub(crate) fn read_command(
 
 /// The subcommand that was met.
 fn matched(matches: &ArgMatches<'_>) -> Option<Subcommand>
-    ensures { result ≡ option_and_then named (subcommand_name_of matches.now) }
+    ensures { result ≡ matched (subcommand_rows_of matches.now) }
 {
-    Subcommand::named(matches.subcommand_name()?)
+    let (name, arguments) = matches.subcommand()?;
+    match arguments.get_str("calls") {
+        None => Subcommand::named(name),
+        Some(calls) => made(calls, arguments.get_str("mode")),
+    }
+}
+
+/// What `make` is asked for by its number of calls, and by a mode where one is given.
+fn made(calls: &str, mode: Option<&str>) -> Option<Subcommand>
+    ensures { result ≡ made calls.now (option_map (λ mode. mode.now) mode.entry) }
+{
+    let count = calls_of(calls)?;
+    match mode {
+        None => Some(Subcommand::Make(count)),
+        Some("turns") => Some(Subcommand::MakeTurns(count)),
+        Some(_) => None,
+    }
+}
+
+/// The number of calls that a word is: a digit from 1 to 9, and then digits.
+fn calls_of(word: &str) -> Option<u32>
+    ensures { result ≡ calls_of word.now }
+{
+    if !is_positive(word.as_bytes()) {
+        return None;
+    }
+    let calls: u32 = word.parse().ok()?;
+    if calls <= MOST_MADE {
+        Some(calls)
+    } else {
+        None
+    }
+}
+
+/// Whether the word is a digit from 1 to 9, and then digits.
+fn is_positive(word: &[u8]) -> bool
+    ensures { result ≡ is_positive word.now }
+{
+    match word {
+        [b'1'..=b'9', rest @ ..] => rest.iter().all(|b| b.is_ascii_digit()),
+        _ => false,
+    }
 }
 
 /// The command line: one of the subcommands.
 fn command<'a>(alloc: Global) -> Result<Command<'a>, AllocError>
     ensures { IfOk result (λ command. app_of command ≡ tool) }
 {
+    let make = make(alloc)?;
     program(alloc)
         .subcommand(Command::new(alloc, "run"))?
         .subcommand(Command::new(alloc, "turns"))?
-        .subcommand(Command::new(alloc, "check"))
+        .subcommand(Command::new(alloc, "check"))?
+        .subcommand(make)
+}
+
+/// `make`, with a number of calls and maybe a mode.
+fn make<'a>(alloc: Global) -> Result<Command<'a>, AllocError>
+    ensures { IfOk result (λ make. (app_of make ≡ record { top = make_shape; subs = [] }) × ((out-Command make).has_globals ≡ false)) }
+{
+    let calls = Arg::new(alloc, "calls").required(true);
+    let mode = Arg::new(alloc, "mode");
+    Command::new(alloc, "make").arg(calls)?.arg(mode)
 }
 
 /// The program's own part of it: no arguments, no flags and no help.

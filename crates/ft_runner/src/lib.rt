@@ -1,4 +1,4 @@
-//! The tool: a script is read, run and written, and a transcript is checked.
+//! The tool: a script is read or made, run and written, and a transcript is checked.
 #![tactic(auto)]
 
 mod checking;
@@ -6,6 +6,7 @@ mod command;
 mod errors;
 mod laws;
 mod limits;
+mod making;
 mod outcome;
 mod program;
 mod reading;

@@ -1,10 +1,11 @@
 //! Reading all of the input, and no more once it is too long.
-ghost use Rattle.std.specs.Prelude.{◌≡◌, ◌≤◌, ◌+◌, length, IfOk, MatchBool};
-ghost use Rattle.ft_runner.specs.Checking.{Fills, IsSeparatorOf, IsScriptFew, IsScriptLong, ReadsInput};
+ghost use Rattle.std.specs.Prelude.{◌≡◌, ◌≤◌, ◌+◌, [], length, IfOk, MatchBool};
+ghost use Rattle.ft_runner.specs.Checking.{IsSeparatorOf, IsScriptFew, IsScriptLong, ReadsInput};
+ghost use Rattle.ft_runner.specs.Internal.Filling.{Fills, ReadsScript, Takes};
 ghost use Rattle.ft_runner.specs.Streams.{input_limit, piece, Reads};
 
 use crate::limits::{INPUT_LIMIT, PIECE, SCRIPT_LIMIT};
-use crate::separator::separator_of;
+use crate::separator::{is_open, separator_of};
 use ft_io::{Failed, Source};
 use std::alloc::{AllocError, Global};
 
@@ -52,14 +53,17 @@ pub(crate) fn read_all<S: Source>(alloc: Global, source: &mut S) -> Result<Vec<u
     unreachable!()
 }
 
-/// Reads a script, a line `---` and a transcript: all there is. It stops as soon as more came than
-/// they may have, whatever follows; of the script that is reported once the bytes of such a line came
-/// after it.
+/// Reads a script, a line `---` and a transcript: all there is. It asks for no more once more came than
+/// they may have, whatever follows.
 pub(crate) fn read_input<S: Source>(alloc: Global, source: &mut S) -> Result<Input, ReadFault>
     ensures { ReadsInput (S.stream source.old) result (S.stream source.new) }
 {
+    let Ok(mut room) = zeros(alloc, PIECE) else {
+        return Err(ReadFault::Memory);
+    };
+    let buffer = room.as_mut_slice();
     let mut bytes = Vec::new(alloc);
-    let ended = fill(alloc, source, &mut bytes, SCRIPT_LIMIT + 3)?;
+    let ended = read_script_part(source, buffer, &mut bytes)?;
     let separator = separator_of(&bytes);
     if !is_script_few(&bytes, separator) {
         return Err(ReadFault::TooLong);
@@ -67,11 +71,33 @@ pub(crate) fn read_input<S: Source>(alloc: Global, source: &mut S) -> Result<Inp
     if ended {
         return Ok(Input { bytes, separator });
     }
-    if fill(alloc, source, &mut bytes, INPUT_LIMIT)? {
+    if fill(source, buffer, &mut bytes, INPUT_LIMIT)? {
         Ok(Input { bytes, separator })
     } else {
         Err(ReadFault::TooLong)
     }
+}
+
+/// Reads from the beginning, until the source ends or it is settled whether a line `---` begins within
+/// a script's limit. It answers whether the source has ended.
+fn read_script_part<S: Source>(
+    source: &mut S,
+    buffer: &mut [u8],
+    bytes: &mut Vec<u8>,
+) -> Result<bool, ReadFault>
+    requires room { length buffer.old ≡ piece }
+    requires start { bytes.old.items ≡ [] }
+    ensures { ReadsScript (S.stream source.old) result bytes.new.items (S.stream source.new) }
+{
+    if fill(source, buffer, bytes, SCRIPT_LIMIT)? {
+        return Ok(true);
+    }
+    while is_open(bytes) {
+        if take_piece(source, buffer, bytes)? {
+            return Ok(true);
+        }
+    }
+    Ok(false)
 }
 
 /// Whether the bytes before the line `---`, or all where there is none, are no more than a script
@@ -92,31 +118,41 @@ fn is_script_few(bytes: &[u8], separator: Option<usize>) -> bool
 /// Reads on, until the source ends or more than that many bytes are there. It answers whether it has
 /// ended.
 fn fill<S: Source>(
-    alloc: Global,
     source: &mut S,
+    buffer: &mut [u8],
     bytes: &mut Vec<u8>,
     most: usize,
 ) -> Result<bool, ReadFault>
+    requires room { length buffer.old ≡ piece }
     requires few { length bytes.old.items ≤ most + piece }
     requires most { most ≤ input_limit }
     ensures { Fills (S.stream source.old) bytes.old.items most result bytes.new.items (S.stream source.new) }
 {
-    let Ok(mut buffer) = zeros(alloc, PIECE) else {
-        return Err(ReadFault::Memory);
-    };
     while bytes.len() <= most {
-        let count = match source.take(&mut buffer) {
-            Ok(count) => count,
-            Err(Failed) => return Err(ReadFault::Failed),
-        };
-        if count == 0 {
+        if take_piece(source, buffer, bytes)? {
             return Ok(true);
         }
-        let Ok(()) = bytes.extend_from_slice(&buffer[..count]) else {
-            return Err(ReadFault::Memory);
-        };
     }
     Ok(false)
+}
+
+/// Reads one piece more. It answers whether the source has ended.
+fn take_piece<S: Source>(
+    source: &mut S,
+    buffer: &mut [u8],
+    bytes: &mut Vec<u8>,
+) -> Result<bool, ReadFault>
+    requires room { length buffer.old ≡ piece }
+    ensures { Takes (S.stream source.old) bytes.old.items result bytes.new.items (S.stream source.new) }
+{
+    let count = match source.take(buffer) {
+        Ok(count) => count,
+        Err(Failed) => return Err(ReadFault::Failed),
+    };
+    let Ok(()) = bytes.extend_from_slice(&buffer[..count]) else {
+        return Err(ReadFault::Memory);
+    };
+    Ok(count == 0)
 }
 
 fn zeros(alloc: Global, len: usize) -> Result<Vec<u8>, AllocError>

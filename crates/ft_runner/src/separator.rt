@@ -1,6 +1,10 @@
 //! The line that parts a script from a transcript.
-ghost use Rattle.std.specs.Prelude.{◌≡◌, ◌+◌, ◌<◌, drop, length};
-ghost use Rattle.ft_runner.specs.Checking.{is_separator, is_separator_at, IsSeparatorOf, IsScriptPart};
+ghost use Rattle.std.specs.Prelude.{◌≡◌, ◌+◌, ◌<◌, drop, length, MatchBool};
+ghost use Rattle.ft_runner.specs.Checking.{begins_line, is_separator, is_separator_at, IsSeparatorOf, IsScriptPart};
+ghost use Rattle.ft_runner.specs.Internal.Filling.{is_begun, is_open_at, IsOpen, IsShut};
+ghost use Rattle.ft_runner.specs.Streams.{script_limit};
+
+use crate::limits::SCRIPT_LIMIT;
 
 /// Where the first line that is `---` begins.
 pub(crate) fn separator_of(bytes: &[u8]) -> Option<usize>
@@ -19,9 +23,16 @@ fn is_separator_at(bytes: &[u8], place: usize) -> bool
     requires { place < length bytes.now }
     ensures { result ≡ is_separator_at bytes.now place }
 {
-    let begins = place == 0 || bytes[place - 1] == b'\n';
     let rest = &bytes[place..];
-    begins && is_separator(&rest[..rest.len().min(4)])
+    begins_line(bytes, place) && is_separator(&rest[..rest.len().min(4)])
+}
+
+/// Whether a line begins at a place.
+fn begins_line(bytes: &[u8], place: usize) -> bool
+    requires { place < length bytes.now }
+    ensures { result ≡ begins_line bytes.now place }
+{
+    place == 0 || bytes[place - 1] == b'\n'
 }
 
 /// Whether bytes are `---` to the letter, with a line feed or without one.
@@ -29,6 +40,34 @@ fn is_separator(line: &[u8]) -> bool
     ensures { result ≡ is_separator line.now }
 {
     line == b"---\n".as_slice() || line == b"---".as_slice()
+}
+
+/// Whether a line that has begun within a script's limit, and hasn't ended, can become `---`.
+pub(crate) fn is_open(bytes: &[u8]) -> bool
+    requires { script_limit < length bytes.now }
+    ensures { MatchBool result (IsOpen bytes.now) (IsShut bytes.now) }
+{
+    for place in bytes.len() - 3..SCRIPT_LIMIT + 1 {
+        if is_open_at(bytes, place) {
+            return true;
+        }
+    }
+    false
+}
+
+/// Whether a line that has begun there, and hasn't ended, can become `---`.
+fn is_open_at(bytes: &[u8], place: usize) -> bool
+    requires { place < length bytes.now }
+    ensures { result ≡ is_open_at bytes.now place }
+{
+    begins_line(bytes, place) && is_begun(&bytes[place..])
+}
+
+/// Whether bytes are those of `---` that have come, one at least.
+fn is_begun(rest: &[u8]) -> bool
+    ensures { result ≡ is_begun rest.now }
+{
+    rest == b"-".as_slice() || rest == b"--".as_slice() || rest == b"---".as_slice()
 }
 
 /// What stands before the line, or all where there is none.

@@ -11,6 +11,7 @@ ghost use Rattle.ft_runner.specs.Reports.{error_line, fault_of, has_line, histor
 use crate::checking::check_text;
 use crate::command::{Subcommand, read_command};
 use crate::errors::tell;
+use crate::making::{make, make_turns};
 use crate::outcome::Outcome;
 use crate::reading::{read_all, read_input};
 use crate::report::Report;
@@ -112,6 +113,8 @@ fn perform<S: Source, K: Sink>(
         Ok(Some(Subcommand::Run)) => run(alloc, source, sink),
         Ok(Some(Subcommand::Turns)) => run(alloc, source, sink),
         Ok(Some(Subcommand::Check)) => check(alloc, source, sink),
+        Ok(Some(Subcommand::Make(calls))) => make(alloc, calls, sink),
+        Ok(Some(Subcommand::MakeTurns(calls))) => make_turns(alloc, calls, sink),
         Ok(None) => Outcome::Usage,
         Err(AllocError) => Outcome::Memory,
     }

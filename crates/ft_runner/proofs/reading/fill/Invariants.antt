@@ -9,7 +9,7 @@ invariant-loop-source g l =
     record {
       came : (more : List ℕ) × (l.bytes.items ≡ l.fn.bytes.items ++ more) × Gives (source.stream l.fn.source) more false (source.stream l.source);
       few : length l.bytes.items ≤ l.most + 65536;
-      buffer : length l.buffer.items ≡ 65536;
+      buffer : length l.buffer ≡ 65536;
     }
 
 abbrev pub decreases-loop-source : goal.decreases-loop-source

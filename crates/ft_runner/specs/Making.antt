@@ -1,0 +1,58 @@
+-- What `make` writes. (profile)
+use Rattle.std.specs.Prelude.{◌≡◌, ℕ, Bool, true, false, List, [], ◌∷◌, ◌++◌, length, count_by, slice_get, codes, Ok}
+use Rattle.std.specs.Fmt.{decimal}
+use Rattle.std.specs.List.{flat_map}
+use Rattle.std.specs.Option.{option_map_or}
+use Rattle.ft_model.specs.declared.content.Content.{Content}
+use Rattle.ft_model.specs.declared.entry.Entry.{Entry}
+use Rattle.ft_model.specs.declared.reply.Reply.{Reply}
+use Rattle.ft_model.specs.declared.reply.Reply.TheVariants as reply
+use Rattle.ft_model.specs.declared.reply.Raise.TheVariants as raise
+use Rattle.ft_model.specs.declared.script.ScriptParts.{ScriptParts}
+use Rattle.ft_model.specs.Answers.{is_memory}
+use Rattle.ft_model.specs.Histories.{writes, world_at, IsLegal}
+use Rattle.ft_model.specs.Worlds.{length_of}
+use Rattle.ft_script.specs.Generator.{made_text}
+use Rattle.ft_script.specs.Scripts.{read_script}
+use Rattle.ft_turns.specs.Orders.{IsOrderRun}
+use Rattle.ft_runner.specs.Findings.{stored}
+
+-- ---- the summary
+
+abbrev pub is_key_error : Reply → Bool
+is_key_error (reply.Raised raise.NoKey) = true
+is_key_error _ = false
+
+abbrev pub is_index_error : Reply → Bool
+is_index_error (reply.Raised raise.NoIndex) = true
+is_index_error _ = false
+
+-- how many pairs, items or elements a container has
+abbrev pub length_in : List Content → ℕ → ℕ
+length_in world container = option_map_or length_of (slice_get world container) 0
+
+-- a line of the summary for each: the calls, the writes, the replies of three kinds, and what the dict, the list and the set have in the end
+abbrev pub summary_rows : ℕ → List Entry → List Content → List (List ℕ × ℕ)
+summary_rows calls history world =
+    (codes "calls", calls)
+    ∷ (codes "writes", count_by (λ entry. entry.wrote) history)
+    ∷ (codes "KeyError", count_by (λ entry. is_key_error entry.reply) history)
+    ∷ (codes "IndexError", count_by (λ entry. is_index_error entry.reply) history)
+    ∷ (codes "MemoryError", count_by (λ entry. is_memory entry.reply) history)
+    ∷ (codes "d", length_in world 0) ∷ (codes "l", length_in world 1) ∷ (codes "s", length_in world 2) ∷ []
+
+-- a word and a number
+abbrev pub row_text : List ℕ × ℕ → List ℕ
+row_text row = row.0 ++ 32 ∷ decimal row.1 ++ 10 ∷ []
+
+abbrev pub summary_text : ℕ → List Entry → List Content → List ℕ
+summary_text calls history world = flat_map row_text (summary_rows calls history world)
+
+-- the text is the summary of the history to which the made script of this many calls comes in the order of its turns
+pub record IsSummary (calls : ℕ) (text : List ℕ) : Type 0 where
+  pub script : ScriptParts
+  pub read : read_script (made_text calls) ≡ Ok script
+  pub history : List Entry
+  pub legal : IsLegal stored script history
+  pub order : IsOrderRun stored script history
+  pub written : text ≡ summary_text calls history (world_at script history (length (writes history)))

@@ -1,0 +1,152 @@
+//! Makes scripts, and sums up what comes of running one. Nothing is read, and the whole text is there
+//! before any of it is put.
+ghost use Rattle.std.specs.Prelude.{◌≡◌, ◌++◌, List, ℕ, IfOk, OnOk, count_by, Some};
+ghost use Rattle.std.specs.List.{flat_map};
+ghost use Rattle.ft_io.specs.Streams.{Stream};
+ghost use Rattle.ft_script.specs.Generator.{made_text};
+ghost use Rattle.ft_runner.specs.declared.command.Subcommand.TheVariants as subcommand;
+ghost use Rattle.ft_runner.specs.Internal.Counts.{is_counted};
+ghost use Rattle.ft_runner.specs.Making.{length_in, row_text, summary_text, IsSummary};
+ghost use Rattle.ft_runner.specs.Reports.{ComesTo, IsDone, MeansMade};
+
+use crate::outcome::Outcome;
+use crate::writing::put_all;
+use ft_io::{Failed, Sink};
+use ft_model::{Entry, Raise, Reply, World};
+use ft_script::{make_script, parse};
+use ft_turns::run_turns;
+use itoa::Buffer;
+use std::alloc::{AllocError, Global};
+
+/// What is counted of a history.
+#[derive(Clone, Copy, Debug, PartialEq, Eq, Hash)]
+enum Counted {
+    Writes,
+    KeyErrors,
+    IndexErrors,
+    MemoryErrors,
+}
+
+/// Writes the script of that many calls.
+pub(crate) fn make<K: Sink>(alloc: Global, calls: u32, sink: &mut K) -> Outcome
+    ensures { (source : Stream) → IsDone (Some (subcommand.Make calls)) source source (K.stream sink.old) (K.stream sink.new) result }
+{
+    match make_script(alloc, calls) {
+        Ok(text) => put_made(alloc, &text, sink),
+        Err(AllocError) => Outcome::Memory,
+    }
+}
+
+/// Runs the script of that many calls in the order of its turns, and writes what it came to as a
+/// summary.
+pub(crate) fn make_turns<K: Sink>(alloc: Global, calls: u32, sink: &mut K) -> Outcome
+    ensures { (source : Stream) → IsDone (Some (subcommand.MakeTurns calls)) source source (K.stream sink.old) (K.stream sink.new) result }
+{
+    match summary(alloc, calls) {
+        Ok(text) => put_made(alloc, &text, sink),
+        Err(AllocError) => Outcome::Memory,
+    }
+}
+
+/// Puts a text that was made, and answers what it comes to.
+fn put_made<K: Sink>(alloc: Global, text: &[u8], sink: &mut K) -> Outcome
+    ensures { ComesTo (MeansMade (λ made. made ≡ text.now)) (K.stream sink.old) (K.stream sink.new) result }
+{
+    match put_all(sink, text) {
+        Ok(()) => Outcome::Clean(Vec::new(alloc)),
+        Err(Failed) => Outcome::Write(Vec::new(alloc)),
+    }
+}
+
+/// The summary of the script of that many calls.
+fn summary(alloc: Global, calls: u32) -> Result<Vec<u8>, AllocError>
+    ensures { IfOk result (λ text. IsSummary calls text.items) }
+{
+    let made = make_script(alloc, calls)?;
+    // What was made is a script, so it is refused only where memory runs out.
+    let Ok(script) = parse(alloc, &made) else {
+        return Err(AllocError);
+    };
+    let run = run_turns(alloc, &script)?;
+    summary_of(alloc, calls, &run.entries, &run.world)
+}
+
+/// The summary of a history and of the contents that it leaves.
+fn summary_of(
+    alloc: Global,
+    calls: u32,
+    entries: &[Entry],
+    world: &World,
+) -> Result<Vec<u8>, AllocError>
+    ensures { IfOk result (λ text. text.items ≡ summary_text calls entries.now world.now) }
+{
+    let rows = [
+        ("calls", u64::from(calls)),
+        ("writes", count(entries, Counted::Writes)),
+        ("KeyError", count(entries, Counted::KeyErrors)),
+        ("IndexError", count(entries, Counted::IndexErrors)),
+        ("MemoryError", count(entries, Counted::MemoryErrors)),
+        ("d", length_in(world, 0)),
+        ("l", length_in(world, 1)),
+        ("s", length_in(world, 2)),
+    ];
+    let mut text = Vec::new(alloc);
+    push_rows(&mut text, &rows)?;
+    Ok(text)
+}
+
+/// How many entries are of a kind.
+fn count(entries: &[Entry], kind: Counted) -> u64
+    ensures { result ≡ count_by (is_counted kind) entries.now }
+{
+    entries
+        .iter()
+        .filter(|entry| is_counted(kind, entry))
+        .count() as u64
+}
+
+/// Whether an entry is of a kind.
+fn is_counted(kind: Counted, entry: &Entry) -> bool
+    ensures { result ≡ is_counted kind entry.now }
+{
+    match kind {
+        Counted::Writes => entry.wrote,
+        Counted::KeyErrors => matches!(entry.reply, Reply::Raised(Raise::NoKey)),
+        Counted::IndexErrors => matches!(entry.reply, Reply::Raised(Raise::NoIndex)),
+        Counted::MemoryErrors => matches!(
+            entry.reply,
+            Reply::Raised(Raise::Memory(_) | Raise::Over | Raise::Heap)
+        ),
+    }
+}
+
+/// How many pairs, items or elements a container has.
+fn length_in(world: &World, container: usize) -> u64
+    ensures { result ≡ length_in world.now container }
+{
+    match world.contents().get(container) {
+        Some(content) => content.len() as u64,
+        None => 0,
+    }
+}
+
+/// Adds a line for each word and its number.
+fn push_rows(out: &mut Vec<u8>, rows: &[(&str, u64)]) -> Result<(), AllocError>
+    ensures { OnOk result (out.new.items ≡ out.old.items ++ flat_map (λ row. row_text (row.0.now, row.1)) rows.now) }
+{
+    for (word, number) in rows {
+        push_row(out, word, *number)?;
+    }
+    Ok(())
+}
+
+/// Adds the line of a word and its number.
+fn push_row(out: &mut Vec<u8>, word: &str, number: u64) -> Result<(), AllocError>
+    ensures { OnOk result (out.new.items ≡ out.old.items ++ row_text (word.now, number)) }
+{
+    out.extend_from_slice(word.as_bytes())?;
+    out.push(b' ')?;
+    out.extend_from_slice(Buffer::new().format(number).as_bytes())?;
+    out.push(b'\n')?;
+    Ok(())
+}

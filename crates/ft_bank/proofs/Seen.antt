@@ -1,5 +1,5 @@
 -- What a load of the counter shows of what a pass has learnt, and what a note leaves of it.
-use Rattle.std.proofs.Common.{◌≡◌, ℕ, ◌+◌, ◌-◌, ◌<◌, ◌≤◌, List, [], ◌∷◌, ◌++◌, refl, sym, ap, ◌∙◌, arith, inl, le_trans, le_refl, append_assoc}
+use Rattle.std.proofs.Common.{◌≡◌, ℕ, ◌+◌, ◌-◌, ◌<◌, ◌≤◌, List, [], ◌∷◌, ◌++◌, refl, sym, ap, ◌∙◌, arith, inl, le_trans, le_refl, append_assoc, append-nil}
 use Rattle.std.specs.Prelude.{max}
 use Rattle.std.proofs.Math.Bridge.{le_prop}
 use Rattle.std.proofs.Math.Nat.{le-max_left, le-max_right, max-zero, max-le}
@@ -45,6 +45,7 @@ knowing_is n m v = λ i. record {
   shape = v.shape;
   log = ReadCounter m ∷ v.log;
   entries = v.entries;
+  lists = append-nil v.lists i;
   tokens = add_none v.tokens i;
   learnt = max v.learnt (max-zero n i);
   has_floor = v.has_floor;

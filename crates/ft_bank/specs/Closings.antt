@@ -1,20 +1,30 @@
 -- What contracts see in a closed bank.
-use Rattle.std.specs.Prelude.{List}
+use Rattle.std.specs.Prelude.{All, List}
+use Rattle.std.specs.List.{flat_map}
 use Rattle.ft_model.specs.declared.call.Call.{Call}
 use Rattle.ft_trace.specs.declared.Entry.{Entry}
 use Rattle.ft_trace.specs.declared.Shape.{Shape}
+use Rattle.ft_trace.specs.Acts.{all_lists}
 use Rattle.ft_trace.specs.InOrder.{AreInOrder}
+use Rattle.ft_trace.specs.OwnOrder.{AreInOwnOrder, IsWriteIn}
 use Rattle.ft_bank.specs.Shapes.{plan}
 use Rattle.ft_bank.specs.declared.closed.Closed.{Closed}
 
 abbrev pub shape_in : Closed → Shape
 shape_in c = plan c.shape
 
+-- the entries of each pass, newest first: those of the pass that closed the bank, and those of each that it took in
+abbrev pub lists_in : Closed → List (List Entry)
+lists_in c = all_lists c.pass.seat.me.0
+
 -- the entries of all passes
 abbrev pub entries_in : Closed → List Entry
-entries_in c = c.pass.seat.me.0.entries
+entries_in c = flat_map (λ entries. entries) (lists_in c)
 
--- there are writes, the oldest first, beside which all these entries stand: each write is that of one entry, and each
--- entry has the reply of the plain containers at its stamp, or that of a section, or a MemoryError with its cause there
+-- There are writes, the oldest first, beside which all these entries stand: each write is that of one entry, and each
+-- entry has the reply of the plain containers at its stamp, or that of a section, or a MemoryError with its cause there.
+-- The stamps of each pass rise, and inside a section that it says it kept no other pass wrote on the section's containers.
 abbrev pub IsWhole : Closed → Type 0
-IsWhole c = ∥ ((calls : List Call) × AreInOrder (shape_in c) calls (entries_in c)) ∥₁
+IsWhole c =
+    ∥ ((calls : List Call) × AreInOrder (shape_in c) calls (entries_in c)
+    × All (AreInOwnOrder (IsWriteIn calls)) (lists_in c)) ∥₁

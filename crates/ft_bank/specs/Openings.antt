@@ -23,6 +23,7 @@ opening_view k i =
       shape = k;
       log = [];
       entries = [];
+      lists = [];
       tokens = 1;
       learnt = 0;
       has_floor = false;
@@ -48,6 +49,7 @@ pub record HasMade (k : Shape) (i : ℕ) (v : View) : Type 0 where
   pub shape : v.shape ≡ k
   pub log : v.log ≡ []
   pub entries : v.entries ≡ []
+  pub lists : v.lists ≡ []
   pub tokens : v.tokens + i ≡ k.passes
   pub learnt : v.learnt ≡ 0
   pub has_floor : v.has_floor ≡ false

@@ -15,6 +15,7 @@ slip_with tokens n words =
       shape = no_shape;
       log = [];
       entries = [];
+      lists = [];
       tokens = tokens;
       learnt = n;
       has_floor = false;

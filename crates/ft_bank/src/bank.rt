@@ -3,7 +3,7 @@
 ghost use Rattle.std.specs.Prelude.{◌≡◌, ◌<◌, ◌^◌, ◌*◌, [], length, IfOk, ℕ};
 ghost use Rattle.ft_trace.specs.declared.Act.TheVariants.{ReadCounter};
 ghost use Rattle.ft_trace.specs.Addresses.{extent};
-ghost use Rattle.ft_trace.specs.Acts.{starter, maker, made, both, noted};
+ghost use Rattle.ft_trace.specs.Acts.{starter, maker, made, both, noted, all_lists};
 ghost use Rattle.ft_trace.specs.Traces.{MayFork, IsFree};
 ghost use Rattle.ft_bank.specs.Shapes.{plan, IsShape};
 ghost use Rattle.ft_bank.specs.Tables.{starts_from, sizes_from};
@@ -39,7 +39,7 @@ pub struct Bank {
 
 impl Bank {
     ghost use Rattle.ft_bank.specs.Passes.{shape_of, view, IsPassOf};
-    ghost use Rattle.ft_bank.specs.Closings.{shape_in, entries_in};
+    ghost use Rattle.ft_bank.specs.Closings.{shape_in, lists_in};
     ghost use Rattle.ft_bank.specs.Sections.{stack_of, no_sections};
 
     /// A bank of this shape, and its first pass, which stands for all passes.
@@ -102,8 +102,8 @@ impl Bank {
     }
 
     /// Takes in another pass, which has no lock, no open section and no table in hand, is offline and has
-    /// no pass to make: what it wrote and read is the first one's from then on. The counter is loaded, so the first pass
-    /// knows a number of writes that are before this moment.
+    /// no pass to make: the first one keeps its entries, in a list beside its own. The counter is loaded, so the first
+    /// pass has then seen all that the other had.
     pub fn join(&self, pass: &mut Pass, other: Pass)
         requires passes { IsPassOf self.now pass.old × IsPassOf self.now other }
         requires last { (view other).next ≡ 0 }
@@ -134,7 +134,7 @@ impl Bank {
         requires sections { (stack_of pass).sections ≡ [] }
         requires all { (view pass).parts ≡ (shape_of self).passes }
         ensures shape { shape_in result ≡ shape_of self }
-        ensures entries { entries_in result ≡ (view pass).entries }
+        ensures lists { lists_in result ≡ all_lists (view pass) }
     {
         let Bank {
             table: _,

@@ -19,7 +19,8 @@ impl Closed {
 
     /// The entries have one history of writes: each write's number is its place there, each number is
     /// that of one entry, and each entry has the reply of the plain containers at its stamp; a
-    /// MemoryError has its cause there.
+    /// MemoryError has its cause there. The stamps of each pass rise from entry to entry, and inside a
+    /// section that it says it kept no other pass wrote on the section's containers.
     pub fn entries_are_whole(&self)
         ensures { IsWhole self.now }
     {}

@@ -20,7 +20,11 @@ use Rattle.ft_trace.specs.declared.Act.TheVariants.{ReadCounter, Answer}
 use Rattle.ft_trace.specs.declared.View.{View}
 use Rattle.ft_trace.specs.Acts.{noted}
 use Rattle.ft_trace.specs.Causes.{HasCause}
-use Rattle.std.specs.Prelude.{List, ◌∷◌}
+use Rattle.std.specs.Prelude.{List, ◌∷◌, length}
+use Rattle.ft_trace.specs.Entries.{IsNumber}
+use Rattle.ft_trace.specs.OwnOrder.{HasWritesOn}
+use Rattle.ft_trace.specs.Sections.{Begun}
+use Rattle.ft_trace.specs.Traces.{history, Sure}
 
 -- the call that begins a section on these containers
 abbrev pub begin_of : Objects → Call
@@ -52,3 +56,9 @@ pub record AreNoted (objects : Objects) (own : Taking) : Type 0 where
   pub lower : own.lower ≡ lower_of objects
   pub upper : own.upper ≡ upper_of objects
   pub once : own.lower ≡ own.upper → own.took_upper ≡ false
+
+-- Whatever other passes did, each write from the stamp of the `begin` on that names a container of the section is one of
+-- the pass's own entries: no other pass wrote on them. (C API, critical sections)
+abbrev pub IsUntouched : Begun → View → Type 0
+IsUntouched b v =
+    Sure v (λ es. HasWritesOn (IsNumber (history es)) v.entries b.containers b.stamp (length (history es)))

@@ -7,7 +7,7 @@ ghost use Rattle.ft_model.specs.declared.call.Call.TheVariants as call;
 ghost use Rattle.ft_section.specs.Answers.{stamp_of, marks_in};
 ghost use Rattle.ft_section.specs.Locking.{OnlyLocked};
 ghost use Rattle.ft_section.specs.Ready.{IsReady, MayResume};
-ghost use Rattle.ft_section.specs.Sectioning.{IsSaid, ended_by, reply_of, answered_view};
+ghost use Rattle.ft_section.specs.Sectioning.{IsSaid, IsUntouched, ended_by, reply_of, answered_view};
 ghost use Rattle.ft_trace.specs.declared.Act.{Act};
 ghost use Rattle.ft_trace.specs.Acts.{seen_writes};
 ghost use Rattle.ft_trace.specs.Sections.{Begun, begun, IsInnermostHeld};
@@ -44,7 +44,7 @@ fn end_answer(marks: u32, stamp: Stamp) -> Ended
 }
 
 /// Ends the innermost section: it is kept exactly where none of the calls in it had to wait, and then the pass
-/// has had its locks since its `begin`. The entry is made while they are held; then the locks that the section
+/// has had its locks since its `begin`, and no other pass wrote on its containers. The entry is made while they are held; then the locks that the section
 /// took itself are let go.
 pub fn end(bank: &Bank, pass: &mut Pass) -> Ended
     requires ready { IsReady bank.now pass.old }
@@ -55,7 +55,8 @@ pub fn end(bank: &Bank, pass: &mut Pass) -> Ended
     ensures read { (stamp_of result).wrote ≡ false }
     ensures section { (outer : List OpenSection) (top : OpenSection) → (stack_of pass.old).sections ≡ outer ++ top ∷ [] →
         (result ≡ ended_by top.marks (stamp_of result)) × (stack_of pass.new ≡ record (stack_of pass.old) { sections = outer }) }
-    ensures kept { (b : Begun) (bs : List Begun) → begun (view pass.old).log ≡ b ∷ bs → marks_in result ≡ 0 → b.held ≡ true }
+    ensures kept { (b : Begun) (bs : List Begun) → begun (view pass.old).log ≡ b ∷ bs → marks_in result ≡ 0 →
+        (b.held ≡ true) × IsUntouched b (view pass.old) }
     ensures resume { MayResume bank.now pass.new }
 {
     let mut sections = pass.sections().copied();

@@ -10,7 +10,8 @@ use Rattle.ft_trace.specs.declared.Act.{Act}
 use Rattle.ft_trace.specs.declared.Act.TheVariants.{Commit, Answer, AnswerCursor}
 use Rattle.ft_model.specs.declared.call.Call.{Call}
 use Rattle.ft_trace.specs.declared.Entry.{Entry}
-use Rattle.ft_trace.specs.Acts.{place, Reports, starter, noted, entries_next, maker, made, both, spent, sender, note}
+use Rattle.std.specs.List.{flat_map}
+use Rattle.ft_trace.specs.Acts.{place, Reports, starter, noted, entries_next, maker, made, both, spent, sender, note, all_entries}
 use Rattle.ft_model.specs.declared.script.Kind.{Kind}
 use Rattle.ft_model.specs.Histories.{IsReplied}
 use Rattle.ft_model.specs.Tables.{stored_newest}
@@ -19,6 +20,7 @@ use Rattle.ft_model.specs.Worlds.{no_hands}
 use Rattle.ft_trace.specs.Worlds.{first_writes, reply_in}
 use Rattle.ft_trace.specs.Traces.{Event, did, forked, joined, sent, run, word, writes_of, history, May, Valid}
 use Rattle.ft_trace.specs.Entries.{total, entries_of, IsNumber, Right, AllRight, is_number, Numbered}
+use Rattle.ft_trace.proofs.AllEntries.{next_all, has_none, both_all}
 use Rattle.ft_trace.proofs.Sizes.{set_views, one_more, one_view}
 use Rattle.ft_trace.proofs.Stamps.{all_writes, writes_stay, grows_by}
 use Rattle.ft_trace.proofs.Cursors.{hands_with, moved_reads, moved_replied, moved_reply}
@@ -56,24 +58,29 @@ right_next k es count v (AnswerCursor c x n m had left) found may fs all = (reco
 right_next k es count v act found may fs all = all
 
 -- each entry of each pass is right
-pub all_right : (k : Shape) (es : List Event) → Valid k es → (j : ℕ) (u : View) → get_elem? (run k es).views j ≡ some u → AllRight k.kinds (history es) u.entries
-all_right k [] valid = one_view (λ j u. AllRight k.kinds [] u.entries) (starter k) tt
+pub all_right : (k : Shape) (es : List Event) → Valid k es → (j : ℕ) (u : View) → get_elem? (run k es).views j ≡ some u → AllRight k.kinds (history es) (all_entries u)
+all_right k [] valid = one_view (λ j u. AllRight k.kinds [] (all_entries u)) (starter k) tt
 all_right k (did id v a ∷ es) valid =
     let old = all_right k es valid.0 in
-    let P : ℕ → View → Type 0 = λ j u. AllRight k.kinds (writes_of a (history es)) u.entries in
-    set_views P _ id (noted a v) (right_next k es (counted k es valid.0) v a valid.1.2 valid.1.3 v.entries (all_stay k.kinds a (history es) v.entries (old id v valid.1.0))) (λ j u _ e. all_stay k.kinds a (history es) u.entries (old j u e))
+    let P : ℕ → View → Type 0 = λ j u. AllRight k.kinds (writes_of a (history es)) (all_entries u) in
+    set_views P _ id (noted a v)
+    (subst (AllRight k.kinds (writes_of a (history es))) (next_all a v.entries (flat_map (λ (l : List Entry). l) v.lists)) (right_next k es (counted k es valid.0) v a valid.1.2 valid.1.3 (all_entries v) (all_stay k.kinds a (history es) (all_entries v) (old id v valid.1.0))))
+    (λ j u _ e. all_stay k.kinds a (history es) (all_entries u) (old j u e))
 all_right k (forked id v ∷ es) valid =
     let old = all_right k es valid.0 in
-    let P : ℕ → View → Type 0 = λ j u. AllRight k.kinds (history es) u.entries in
+    let P : ℕ → View → Type 0 = λ j u. AllRight k.kinds (history es) (all_entries u) in
     one_more P _ (made v) tt (set_views P _ id (maker v) (old id v valid.1.0) (λ j u _ e. old j u e))
 all_right k (sent id v given ∷ es) valid =
     let old = all_right k es valid.0 in
-    let P : ℕ → View → Type 0 = λ j u. AllRight k.kinds (history es) u.entries in
+    let P : ℕ → View → Type 0 = λ j u. AllRight k.kinds (history es) (all_entries u) in
     one_more P _ (note given v) tt (set_views P _ id (sender given v) (old id v valid.1.0) (λ j u _ e. old j u e))
 all_right k (joined id v other w ∷ es) valid =
     let old = all_right k es valid.0 in
-    let P : ℕ → View → Type 0 = λ j u. AllRight k.kinds (history es) u.entries in
-    set_views P _ other spent tt (λ j u _. set_views P _ id (both v w) (all-append k.kinds (history es) w.entries v.entries (old other w valid.1.2) (old id v valid.1.0)) (λ j u _ e. old j u e) j u)
+    let P : ℕ → View → Type 0 = λ j u. AllRight k.kinds (history es) (all_entries u) in
+    set_views P _ other spent tt
+    (λ j u _. set_views P _ id (both v w)
+    (subst (AllRight k.kinds (history es)) (sym (both_all v w (has_none k es valid.0 other w valid.1.2).entries)) (all-append k.kinds (history es) (all_entries v) (all_entries w) (old id v valid.1.0) (old other w valid.1.2)))
+    (λ j u _ e. old j u e) j u)
 
 below_next : (m n : ℕ) → cond (eqb m n) 1 0 + cond (ltb n m) 1 0 ≡ cond (ltb n (suc m)) 1 0
 below_next m n = grind (arith, nat_tests)
@@ -99,35 +106,34 @@ once k (forked id v ∷ es) valid n = once k es valid.0 n
 once k (sent id v given ∷ es) valid n = once k es valid.0 n
 once k (joined id v other w ∷ es) valid n = once k es valid.0 n
 
--- a pass that stands for none has no entry
+-- a pass stands for itself at least
 pub record Stood (u : View) : Type 0 where
   pub live : u.number ≢ 0 → 0 < u.parts
-  pub silent : u.number ≡ 0 → u.entries ≡ []
 
 stood : (k : Shape) (es : List Event) → Valid k es → 0 < k.passes → (j : ℕ) (u : View) → get_elem? (run k es).views j ≡ some u → Stood u
-stood k [] valid some_pass = one_view (λ j u. Stood u) (starter k) (record { live = λ _. some_pass; silent = λ _. refl })
+stood k [] valid some_pass = one_view (λ j u. Stood u) (starter k) (record { live = λ _. some_pass })
 stood k (did id v a ∷ es) valid some_pass =
     let old = stood k es valid.0 some_pass in
-    set_views (λ j u. Stood u) _ id (noted a v) (record { live = (old id v valid.1.0).live; silent = λ e. absurd (valid.1.1 e) }) (λ j u _ e. old j u e)
+    set_views (λ j u. Stood u) _ id (noted a v) (record { live = (old id v valid.1.0).live }) (λ j u _ e. old j u e)
 stood k (forked id v ∷ es) valid some_pass =
     let old = stood k es valid.0 some_pass in
     let may = valid.1.3 in
-    one_more (λ j u. Stood u) _ (made v) (record { live = λ _. omega arith; silent = λ _. refl }) (set_views (λ j u. Stood u) _ id (maker v) (record { live = λ _. omega arith; silent = λ e. absurd (valid.1.1 e) }) (λ j u _ e. old j u e))
+    one_more (λ j u. Stood u) _ (made v) (record { live = λ _. omega arith }) (set_views (λ j u. Stood u) _ id (maker v) (record { live = λ _. omega arith }) (λ j u _ e. old j u e))
 stood k (sent id v given ∷ es) valid some_pass =
     let old = stood k es valid.0 some_pass in
-    one_more (λ j u. Stood u) _ (note given v) (record { live = λ live. absurd (live refl); silent = λ _. refl }) (set_views (λ j u. Stood u) _ id (sender given v) (record { live = (old id v valid.1.0).live; silent = λ e. absurd (valid.1.1 e) }) (λ j u _ e. old j u e))
+    one_more (λ j u. Stood u) _ (note given v) (record { live = λ live. absurd (live refl) }) (set_views (λ j u. Stood u) _ id (sender given v) (record { live = (old id v valid.1.0).live }) (λ j u _ e. old j u e))
 stood k (joined id v other w ∷ es) valid some_pass =
     let old = stood k es valid.0 some_pass in
     let mine = (old id v valid.1.0).live valid.1.3 in
-    set_views (λ j u. Stood u) _ other spent (record { live = λ live. absurd (live refl); silent = λ _. refl })
-    (λ j u _. set_views (λ j u. Stood u) _ id (both v w) (record { live = λ _. omega arith; silent = λ e. absurd (valid.1.3 e) }) (λ j u _ e. old j u e) j u)
+    set_views (λ j u. Stood u) _ other spent (record { live = λ live. absurd (live refl) })
+    (λ j u _. set_views (λ j u. Stood u) _ id (both v w) (record { live = λ _. omega arith }) (λ j u _ e. old j u e) j u)
 
 zero_or : (n : ℕ) → (n ≢ 0 → ⊥) → n ≡ 0
 zero_or zero never = refl
 zero_or (suc n) never = absurd (never (λ e. omega arith))
 
 -- who stands for all passes has the whole history
-pub closes : (k : Shape) (es : List Event) → Valid k es → 0 < k.passes → (id : ℕ) (v : View) → get_elem? (run k es).views id ≡ some v → v.parts ≡ k.passes → Numbered k.kinds (history es) v.entries
+pub closes : (k : Shape) (es : List Event) → Valid k es → 0 < k.passes → (id : ℕ) (v : View) → get_elem? (run k es).views id ≡ some v → v.parts ≡ k.passes → Numbered k.kinds (history es) (all_entries v)
 closes k es valid some_pass id v at all = record {
   right = all_right k es valid id v at;
   once = λ n.
@@ -137,6 +143,7 @@ closes k es valid some_pass id v at all = record {
       let sum = parts_total k es valid in
       let s = stood k es valid some_pass j u e in
       let none : u.number ≡ 0 = zero_or u.number (λ live. let more = s.live live in omega arith) in
-      ap (λ (l : List Entry). total h l) (s.silent none)) in
+      let empty = has_none k es valid j u e in
+      (λ d. total h (empty.entries none d ++ flat_map (λ (l : List Entry). l) (empty.lists none d)))) in
       sym alone ∙ (entries_total h k es valid ∙ once k es valid n);
 }

@@ -15,7 +15,9 @@ use Rattle.ft_trace.specs.declared.Act.TheVariants.{Commit, Answer, AnswerCursor
 use Rattle.ft_trace.specs.declared.Entry.{Entry}
 use Rattle.ft_trace.specs.declared.Shape.{Shape}
 use Rattle.ft_trace.specs.declared.View.{View}
-use Rattle.ft_trace.specs.Acts.{place, Reports, noted, starter, maker, made, note, sender, both, spent, entries_next}
+use Rattle.std.specs.List.{flat_map}
+use Rattle.ft_trace.specs.Acts.{place, Reports, noted, starter, maker, made, note, sender, both, spent, entries_next, all_entries}
+use Rattle.ft_trace.proofs.AllEntries.{next_all, has_none, both_all}
 use Rattle.ft_trace.specs.Causes.{HasCause}
 use Rattle.ft_trace.specs.Earnings.{IsEarnedSo, AllEarned, EntriesAreEarned}
 use Rattle.ft_trace.specs.Entries.{AllRight}
@@ -57,16 +59,16 @@ cause_earned k es valid id v at called (reply.Raised raise.Heap) n cause = absur
 cause_earned k es valid id v at called reply.Kept n cause = cause.0
 cause_earned k es valid id v at called said n cause = cause
 
-earned_next : (k : Shape) (es : List Event) → Valid k es → (id : ℕ) (v : View) → get_elem? (run k es).views id ≡ some v → (b : Act) → Reports b (word k es (place b)) → May k (run k es) (history es) v b → AllEarned k (writes_of b (history es)) v.entries → AllEarned k (writes_of b (history es)) (entries_next b v.entries)
-earned_next k es valid id v at (Commit c r f s) found may all =
+earned_next : (k : Shape) (es : List Event) → Valid k es → (id : ℕ) (v : View) → get_elem? (run k es).views id ≡ some v → (b : Act) → Reports b (word k es (place b)) → May k (run k es) (history es) v b → (fs : List Entry) → AllEarned k (writes_of b (history es)) fs → AllEarned k (writes_of b (history es)) (entries_next b fs)
+earned_next k es valid id v at (Commit c r f s) found may fs all =
     let is : f ≡ length (history es) = found ∙ counted k es valid in
     let all_of : first_writes f (c ∷ history es) ≡ history es = writes_stay f (Commit c r f s) (history es) (omega (arith, is)) ∙ (ap (λ (z : ℕ). first_writes z (history es)) is ∙ all_writes (history es)) in
     (subst (λ (l : List Call). IsEarnedSo k l c r) (sym all_of) (plain_earned k (history es) c r (no_memory c r may.0) may.9), all)
-earned_next k es valid id v at (Answer c r n) found may all = (cause_earned k es valid id v at c r n may.4, all)
-earned_next k es valid id v at (AnswerCursor c r n m had left) found may all =
+earned_next k es valid id v at (Answer c r n) found may fs all = (cause_earned k es valid id v at c r n may.4, all)
+earned_next k es valid id v at (AnswerCursor c r n m had left) found may fs all =
     let cs = first_writes n (history es) in
     (plain_earned k cs c r (moved_plain (stored_newest k.kinds cs).world c m may.0 had r left may.2) (moved_short (stored_newest k.kinds cs).world c m may.0), all)
-earned_next k es valid id v at act found may all = all
+earned_next k es valid id v at act found may fs all = all
 
 earned_stays : (k : Shape) (b : Act) (cs : List Call) (fs : List Entry) → AllRight k.kinds cs fs → AllEarned k cs fs → AllEarned k (writes_of b cs) fs
 earned_stays k b cs [] right all = tt
@@ -77,21 +79,26 @@ earned-append k cs [] ys a b = b
 earned-append k cs (x ∷ xs) ys a b = (a.0, earned-append k cs xs ys a.1 b)
 
 pub entries_are_earned : EntriesAreEarned
-entries_are_earned k [] valid = one_view (λ j u. AllEarned k [] u.entries) (starter k) tt
+entries_are_earned k [] valid = one_view (λ j u. AllEarned k [] (all_entries u)) (starter k) tt
 entries_are_earned k (did id v a ∷ es) valid =
     let old = entries_are_earned k es valid.0 in
     let right = all_right k es valid.0 in
-    let P : ℕ → View → Type 0 = λ j u. AllEarned k (writes_of a (history es)) u.entries in
-    set_views P _ id (noted a v) (earned_next k es valid.0 id v valid.1.0 a valid.1.2 valid.1.3 (earned_stays k a (history es) v.entries (right id v valid.1.0) (old id v valid.1.0))) (λ j u _ e. earned_stays k a (history es) u.entries (right j u e) (old j u e))
+    let P : ℕ → View → Type 0 = λ j u. AllEarned k (writes_of a (history es)) (all_entries u) in
+    set_views P _ id (noted a v)
+    (subst (AllEarned k (writes_of a (history es))) (next_all a v.entries (flat_map (λ (l : List Entry). l) v.lists)) (earned_next k es valid.0 id v valid.1.0 a valid.1.2 valid.1.3 (all_entries v) (earned_stays k a (history es) (all_entries v) (right id v valid.1.0) (old id v valid.1.0))))
+    (λ j u _ e. earned_stays k a (history es) (all_entries u) (right j u e) (old j u e))
 entries_are_earned k (forked id v ∷ es) valid =
     let old = entries_are_earned k es valid.0 in
-    let P : ℕ → View → Type 0 = λ j u. AllEarned k (history es) u.entries in
+    let P : ℕ → View → Type 0 = λ j u. AllEarned k (history es) (all_entries u) in
     one_more P _ (made v) tt (set_views P _ id (maker v) (old id v valid.1.0) (λ j u _ e. old j u e))
 entries_are_earned k (sent id v given ∷ es) valid =
     let old = entries_are_earned k es valid.0 in
-    let P : ℕ → View → Type 0 = λ j u. AllEarned k (history es) u.entries in
+    let P : ℕ → View → Type 0 = λ j u. AllEarned k (history es) (all_entries u) in
     one_more P _ (note given v) tt (set_views P _ id (sender given v) (old id v valid.1.0) (λ j u _ e. old j u e))
 entries_are_earned k (joined id v other w ∷ es) valid =
     let old = entries_are_earned k es valid.0 in
-    let P : ℕ → View → Type 0 = λ j u. AllEarned k (history es) u.entries in
-    set_views P _ other spent tt (λ j u _. set_views P _ id (both v w) (earned-append k (history es) w.entries v.entries (old other w valid.1.2) (old id v valid.1.0)) (λ j u _ e. old j u e) j u)
+    let P : ℕ → View → Type 0 = λ j u. AllEarned k (history es) (all_entries u) in
+    set_views P _ other spent tt
+    (λ j u _. set_views P _ id (both v w)
+    (subst (AllEarned k (history es)) (sym (both_all v w (has_none k es valid.0 other w valid.1.2).entries)) (earned-append k (history es) (all_entries v) (all_entries w) (old id v valid.1.0) (old other w valid.1.2)))
+    (λ j u _ e. old j u e) j u)

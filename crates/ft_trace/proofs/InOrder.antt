@@ -69,7 +69,7 @@ get_last [] x (suc n) e = absurd (omega (arith, e))
 get_last (y ∷ ys) x zero e = absurd (omega (arith, e))
 get_last (y ∷ ys) x (suc n) e = get_last ys x n (omega (arith, e))
 
-number_low : (cs : List Call) (n : ℕ) (c : Call) → IsNumber cs n c → n < length cs
+pub number_low : (cs : List Call) (n : ℕ) (c : Call) → IsNumber cs n c → n < length cs
 number_low [] n c is = absurd is
 number_low (d ∷ cs) n c (inl e) = let at = e.0 in omega (arith, at)
 number_low (d ∷ cs) n c (inr is) = let r = number_low cs n c is in omega (arith, r)
@@ -78,6 +78,25 @@ number_in_order : (cs : List Call) (n : ℕ) (c : Call) → IsNumber cs n c → 
 number_in_order [] n c is = absurd is
 number_in_order (d ∷ cs) n c (inl e) = ap (λ l. slice_get l n) (reverse-cons d cs) ∙ (get_last (reverse cs) d n (e.0 ∙ sym (length-reverse cs)) ∙ ap Some (sym e.1))
 number_in_order (d ∷ cs) n c (inr is) = let low = number_low cs n c is in let l = length-reverse cs in ap (λ l. slice_get l n) (reverse-cons d cs) ∙ (get_front (reverse cs) (d ∷ []) n (omega (arith, low, l)) ∙ number_in_order cs n c is)
+
+-- and the other way round
+get_within : {A : Type 0} (l : List A) (n : ℕ) (x : A) → slice_get l n ≡ Some x → n < length l
+get_within [] n x e = absurd (cc)
+get_within (y ∷ ys) zero x e = omega arith
+get_within (y ∷ ys) (suc n) x e = let r = get_within ys n x e in omega (arith, r)
+
+pub order_numbered : (cs : List Call) (n : ℕ) (c : Call) → slice_get (reverse cs) n ≡ Some c → IsNumber cs n c
+order_numbered [] n c e = absurd (cc)
+order_numbered (d ∷ cs) n c e =
+    let l = length-reverse cs in
+    let long = length-reverse (d ∷ cs) in
+    let there : slice_get (reverse cs ++ d ∷ []) n ≡ Some c = ap (λ m. slice_get m n) (sym (reverse-cons d cs)) ∙ e in
+    dite (dec_lt n (length cs))
+    (λ (low : n < length cs). inr (order_numbered cs n c (sym (get_front (reverse cs) (d ∷ []) n (omega (arith, low, l))) ∙ there)))
+    (λ high.
+    let within = get_within (reverse (d ∷ cs)) n c e in
+    let at : n ≡ length cs = omega (arith, within, long, high) in
+    inl (at, let same = sym there ∙ get_last (reverse cs) d n (at ∙ sym l) in cc))
 
 -- ---- what is earned
 

@@ -8,7 +8,9 @@ use Rattle.ft_trace.specs.declared.Act.{Act}
 use Rattle.ft_trace.specs.declared.Act.TheVariants.{Commit, Answer, AnswerCursor}
 use Rattle.ft_model.specs.declared.call.Call.{Call}
 use Rattle.ft_trace.specs.declared.Entry.{Entry}
-use Rattle.ft_trace.specs.Acts.{noted, entries_next, left_next, maker, made, both, spent, sender, note}
+use Rattle.std.specs.List.{flat_map}
+use Rattle.ft_trace.specs.Acts.{noted, entries_next, left_next, maker, made, both, spent, sender, note, all_entries}
+use Rattle.ft_trace.proofs.AllEntries.{next_all, has_none, both_all}
 use Rattle.ft_trace.specs.Traces.{Moment, Event, did, forked, joined, sent, run, writes_of, history, May, Valid}
 use Rattle.ft_trace.specs.Entries.{total, entries_of}
 use Rattle.atomic_table.proofs.Lists.{set_else}
@@ -59,7 +61,7 @@ module _ (f : View → ℕ) where
   total_joined l i j v w b s at ne there glue = let t = total_set l i v b at in let d = total_set (set l i b) j w s (set_else l i j b ne ∙ there) in omega arith
 
 abbrev pub weight : (Entry → ℕ) → View → ℕ
-weight h u = total h u.entries
+weight h u = total h (all_entries u)
 
 pub parts_total : (k : Shape) (es : List Event) → Valid k es → total (λ (u : View). u.parts) (run k es).views ≡ k.passes
 parts_total k [] valid = omega arith
@@ -108,9 +110,11 @@ entries_total h k [] valid = refl
 entries_total h k (did id v a ∷ es) valid =
     let t = total_set (weight h) (run k es).views id v (noted a v) valid.1.0 in
     let old = entries_total h k es valid.0 in
-    let by = weight_by h a v.entries (entries_of es) in
-    omega arith
+    let by = weight_by h a (all_entries v) (entries_of es) in
+    let next : total h (all_entries (noted a v)) ≡ total h (entries_next a (all_entries v)) = ap (total h) (sym (next_all a v.entries (flat_map (λ (l : List Entry). l) v.lists))) in
+    omega (arith, t, old, by, next)
 entries_total h k (forked id v ∷ es) valid = total_forked (weight h) (run k es).views id v (maker v) (made v) valid.1.0 (omega arith) ∙ entries_total h k es valid.0
 entries_total h k (sent id v given ∷ es) valid = total_forked (weight h) (run k es).views id v (sender given v) (note given v) valid.1.0 (omega arith) ∙ entries_total h k es valid.0
 entries_total h k (joined id v other w ∷ es) valid =
-    total_joined (weight h) (run k es).views id other v w (both v w) spent valid.1.0 valid.1.1 valid.1.2 (omega (arith, total-append h w.entries v.entries)) ∙ entries_total h k es valid.0
+    let all : total h (all_entries (both v w)) ≡ total h (all_entries v) + total h (all_entries w) = ap (total h) (both_all v w (has_none k es valid.0 other w valid.1.2).entries) ∙ total-append h (all_entries v) (all_entries w) in
+    total_joined (weight h) (run k es).views id other v w (both v w) spent valid.1.0 valid.1.1 valid.1.2 (omega (arith, all)) ∙ entries_total h k es valid.0

@@ -1,5 +1,6 @@
 -- What one action reads and writes, and what the actions of a pass say of it.
 use Rattle.std.specs.Prelude.{◌≡◌, ℕ, suc, max, ◌+◌, ◌-◌, ◌*◌, ◌^◌, ◌%◌, ◌==◌, nat_lt, Bool, true, false, cond, List, [], ◌∷◌, ◌++◌, slice_index, slice_set}
+use Rattle.std.specs.List.{flat_map}
 use prog.Atomic.{either}
 use Rattle.ft_trace.specs.declared.Act.{Act}
 use Rattle.ft_trace.specs.declared.Act.TheVariants.{Lock, Unlock, StartWrite, PutBlock, PutRoot, PutTable, PutFresh, PutHeader, ReadHeader, Commit, StopWrite, Version, ReadBlock, ReadRoot, ReadTable, ReadCounter, Answer, AnswerCursor, LowerCount, RaiseCount, ReadCount, ReadFree, TakeTable, GiveTable, Retire, Announce, ReadAnnounced, WriteNumber, TakeFloor}
@@ -283,6 +284,7 @@ noted a v =
       shape = v.shape;
       log = a ∷ v.log;
       entries = entries_next a v.entries;
+      lists = v.lists;
       tokens = v.tokens;
       learnt = v.learnt;
       has_floor = has_floor_next a v.has_floor;
@@ -300,6 +302,7 @@ starter k =
       shape = k;
       log = [];
       entries = [];
+      lists = [];
       tokens = k.passes;
       learnt = 0;
       has_floor = false;
@@ -317,6 +320,7 @@ maker v =
       shape = v.shape;
       log = v.log;
       entries = v.entries;
+      lists = v.lists;
       tokens = v.tokens - 1;
       learnt = v.learnt;
       has_floor = false;
@@ -333,11 +337,24 @@ made v =
       shape = v.shape;
       log = [];
       entries = [];
+      lists = [];
       tokens = 1;
       learnt = 0;
       has_floor = false;
       floor = [];
     }
+
+-- the entries of the passes that this one stands for, a list for each: its own first
+abbrev pub all_lists : View → List (List Entry)
+all_lists v = v.entries ∷ v.lists
+
+-- and all of them in one list
+abbrev pub all_entries : View → List Entry
+all_entries v = flat_map (λ l. l) (all_lists v)
+
+-- the lists that a pass gives to another which takes it in; a note gives none
+abbrev pub lists_of : View → List (List Entry)
+lists_of w = cond (w.number == 0) w.lists (all_lists w)
 
 -- what two passes know, in the first one's place, and the second afterwards
 abbrev pub both : View → View → View
@@ -349,7 +366,8 @@ both v w =
       left = v.left + w.left;
       shape = v.shape;
       log = v.log;
-      entries = w.entries ++ v.entries;
+      entries = v.entries;
+      lists = v.lists ++ lists_of w;
       tokens = v.tokens + w.tokens;
       learnt = max v.learnt (seen_writes w);
       has_floor = v.has_floor;
@@ -369,6 +387,7 @@ spent =
       shape = no_shape;
       log = [];
       entries = [];
+      lists = [];
       tokens = 0;
       learnt = 0;
       has_floor = false;
@@ -390,6 +409,7 @@ sender given v =
       shape = v.shape;
       log = v.log;
       entries = v.entries;
+      lists = v.lists;
       tokens = v.tokens - given;
       learnt = v.learnt;
       has_floor = cond (given == 0) v.has_floor false;
@@ -408,6 +428,7 @@ note given v =
       shape = no_shape;
       log = [];
       entries = [];
+      lists = [];
       tokens = given;
       learnt = seen_writes v;
       has_floor = false;

@@ -10,6 +10,7 @@ use Rattle.ft_trace.specs.declared.Entry.{Entry}
 use Rattle.ft_trace.specs.declared.Shape.{Shape}
 use Rattle.ft_trace.specs.declared.View.{View}
 use Rattle.ft_trace.specs.Addresses.{tables_in}
+use Rattle.ft_trace.specs.Acts.{all_entries}
 use Rattle.ft_trace.specs.Worlds.{first_writes}
 use Rattle.ft_trace.specs.Traces.{Event, history, Valid}
 use Rattle.ft_trace.specs.Laws.{HasView}
@@ -39,4 +40,4 @@ AllEarned k cs (e ∷ es) = IsEarnedSo k (first_writes e.stamp cs) e.call e.repl
 abbrev pub EntriesAreEarned : Type 0
 EntriesAreEarned =
     (k : Shape) (es : List Event) → Valid k es → (j : ℕ) (u : View) → HasView k es j u
-    → AllEarned k (history es) u.entries
+    → AllEarned k (history es) (all_entries u)

@@ -27,7 +27,7 @@ use Rattle.ft_trace.specs.Bits.{bit}
 use Rattle.ft_trace.specs.Counts.{word_bits, taking, giving, owing}
 use Rattle.ft_trace.specs.Entries.{total, is_number, AllRight, Numbered}
 use Rattle.ft_trace.specs.Addresses.{Word, Inside, at, sizes_of, part_of, counter, write_number, announced_of, count_of_class, bits, lock_of, version_of, block, header, containers_in, tables_in, class_of, slots, IsTable, free_word_of, free_bit_of}
-use Rattle.ft_trace.specs.Acts.{has_lock, is_writing, reads, stage, goal, has_goal, clear, announces, owes}
+use Rattle.ft_trace.specs.Acts.{has_lock, is_writing, reads, stage, goal, has_goal, clear, announces, owes, all_entries}
 use Rattle.ft_trace.specs.Ages.{age, all_acts}
 use Rattle.ft_trace.specs.Worlds.{kept, first_writes, kind_in, reply_in}
 use Rattle.ft_trace.specs.Words.{entry_at, item_at, walk_of, table_of, picture}
@@ -82,13 +82,13 @@ EvenTablesAreShut =
 abbrev pub NumbersAreOnce : Type 0
 NumbersAreOnce =
     (k : Shape) (es : List Event) → Valid k es → (n : ℕ)
-    → total (λ (u : View). total (is_number n) u.entries) (run k es).views ≡ cond (nat_lt n (word k es counter)) 1 0
+    → total (λ (u : View). total (is_number n) (all_entries u)) (run k es).views ≡ cond (nat_lt n (word k es counter)) 1 0
 
 -- each entry has the reply of the plain containers after as many writes as its stamp says
 abbrev pub EntriesAreRight : Type 0
 EntriesAreRight =
     (k : Shape) (es : List Event) → Valid k es → (j : ℕ) (u : View) → HasView k es j u
-    → AllRight k.kinds (history es) u.entries
+    → AllRight k.kinds (history es) (all_entries u)
 
 -- stamps of a pass never fall, and rise after a write; and what its loads of the counter gave never falls
 abbrev pub StampsRise : Type 0
@@ -112,7 +112,7 @@ MemoryErrorsAreEarned =
 abbrev pub OneHasAllEntries : Type 0
 OneHasAllEntries =
     (k : Shape) (es : List Event) → Valid k es → (j : ℕ) (u : View) → HasView k es j u → u.parts ≡ k.passes
-    → Numbered k.kinds (history es) u.entries
+    → Numbered k.kinds (history es) (all_entries u)
 
 -- ---- what words stand for
 

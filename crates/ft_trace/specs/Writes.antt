@@ -104,6 +104,7 @@ with_log v log =
       shape = v.shape;
       log = log;
       entries = v.entries;
+      lists = v.lists;
       tokens = v.tokens;
       learnt = v.learnt;
       has_floor = v.has_floor;

@@ -146,8 +146,10 @@ pub struct View {
     pub shape: Shape,
     /// What it did, newest first.
     pub log: LinkedList<Act>,
-    /// Its entries, newest first.
+    /// Its own entries, newest first.
     pub entries: LinkedList<Entry>,
+    /// The entries of each pass that it took in, a list for each, newest first; a note has none.
+    pub lists: LinkedList<LinkedList<Entry>>,
     /// How many of the bank's tokens it has, of which there are as many as passes. A pass with none
     /// takes no step, so one with all of them is alone.
     pub tokens: u64,
@@ -163,3 +165,4 @@ pub struct View {
 
 pub mod laws;
 pub mod notes;
+pub mod order;

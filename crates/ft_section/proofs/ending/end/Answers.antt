@@ -1,4 +1,4 @@
-use Rattle.std.proofs.Common.{◌≡◌, ℕ, false, List, inl, sym, ap, ◌∙◌, subst}
+use Rattle.std.proofs.Common.{◌≡◌, ℕ, false, List, [], inl, sym, ap, ◌∙◌, subst}
 use Rattle.ft_bank.specs.declared.sections.OpenSection.{OpenSection}
 use Rattle.ft_bank.specs.Passes.{view, IsPassOf}
 use Rattle.ft_bank.specs.Sections.{Stack, stack_of, taken_in}
@@ -10,6 +10,7 @@ use Rattle.ft_section.specs.Sectioning.{ended_by}
 use Rattle.ft_section.proofs.Ends.{end_may, ended, kept_held}
 use Rattle.ft_trace.specs.declared.View.{View}
 use Rattle.ft_trace.specs.Sections.{Begun}
+use Rattle.ft_trace.proofs.KeptSections.{kept_sections_are_untouched}
 use Rattle.ft_section.proofs.ending.end.Goals as goal
 
 pub make_entry-number-requires-clause-said : goal.make_entry-number-requires-clause-said
@@ -40,8 +41,9 @@ returns-clause-section c outer top cut =
 pub returns-clause-kept : goal.returns-clause-kept
 returns-clause-kept c b bs is none =
     let split = sym (c.copied-sections.ensures ∙ c.sections.ensures) ∙ c.pop.ensures.some c.in-Some.section c.in-Some.is in
-    kept_held (stack_of c.args.pass.now).sections c.pop.new.self c.in-Some.section b bs split
-    (subst (λ (x : List Begun). AreBegun (stack_of c.args.pass.now).sections x) is c.requires.ready.inside.1.begun) (sym c.end_answer.ensures.marks ∙ none)
+    let held = kept_held (stack_of c.args.pass.now).sections c.pop.new.self c.in-Some.section b bs split
+    (subst (λ (x : List Begun). AreBegun (stack_of c.args.pass.now).sections x) is c.requires.ready.inside.1.begun) (sym c.end_answer.ensures.marks ∙ none) in
+    (held, λ es id knows. kept_sections_are_untouched (view c.args.pass.now).shape es knows.0 id (view c.args.pass.now) knows.1 [] b bs is held)
 
 pub returns-clause-resume : goal.returns-clause-resume
 returns-clause-resume c =

@@ -1,6 +1,6 @@
 -- What each call on a list changes, in the words of the plain containers.
 use Rattle.std.proofs.Common.{◌≡◌, ℕ, ◌+◌, ◌<◌, ◌≤◌, ℤ, Bool, true, false, List, [], length, Option, Some, None, refl, sym, ap, ◌∙◌, subst, arith, get_or-set_same}
-use Rattle.std.specs.Prelude.{map, ◌&&◌, ◌||◌, nat_lt, IfSome, slice_index_or, slice_set, negsuc, if◌then◌else◌}
+use Rattle.std.specs.Prelude.{map, reverse, ◌&&◌, ◌||◌, nat_lt, IfSome, slice_index_or, slice_set, negsuc, if◌then◌else◌}
 use Rattle.std.specs.List.{insert, remove, list_any}
 use Rattle.std.specs.Option.{unwrap_or, option_map_or}
 use Rattle.std.proofs.lemmas.Bool.{le-ltb}
@@ -74,6 +74,10 @@ pub remove_changes : (o : ℕ) (value : Value) (values : List Value) (place : �
 remove_changes o value values place v low mine is_list fits means =
     changes_stay o (list.Remove value) reply.Done values (remove values place) v low mine is_list refl refl refl refl refl fits
     (λ world. ap (λ (z : Option ℕ). option_map_or (λ (i : ℕ). puts world no_hands o (content.List (remove values i)) reply.Done) z (shows world no_hands (reply.Raised raise.NoValue))) means)
+
+-- l.reverse()
+pub reverse_changes : (o : ℕ) (values : List Value) (v : View) → o < containers_in v.shape → has_lock o v.log ≡ true → (known o v).content ≡ content.List values → Changes o list.Reverse reply.Done values (reverse values) v
+reverse_changes o values v low mine is_list = changes_stay o list.Reverse reply.Done values (reverse values) v low mine is_list refl refl refl refl refl tt (λ world. refl)
 
 -- a call that adds items for which the table has room
 module _ (o : ℕ) (lc : ListCall) (values news : List Value) (v : View) (low : o < containers_in v.shape) (mine : has_lock o v.log ≡ true) (is_list : (known o v).content ≡ content.List values) (class : ℕ) (is_class : IsClass class) (kept_table : (known o v).table ≡ record { class = Some class; fill = 0 }) (room : length news ≤ slots class) (other : other_list lc ≡ None) (grows : list_change lc ≡ change.Grows)

@@ -47,7 +47,7 @@ use Rattle.ft_search.specs.Lengths.{StopsAtVersion}
 use Rattle.ft_search.specs.Looks.{AreLooks}
 use Rattle.ft_search.proofs.Asking.{held_shown}
 use Rattle.ft_search.proofs.Lengths.{IsPlain, between_own}
-use Rattle.ft_search.proofs.Running.{did_trans}
+use Rattle.ft_search.proofs.Running.{did_none, did_trans}
 use Rattle.ft_search.proofs.Rounding.{looks_append, looks_load, among_in}
 use Rattle.ft_list.specs.Indexes.{Reads, item_named, IsItemNamed, ShowsNamed}
 use Rattle.ft_list.proofs.Lists.{list_content}
@@ -150,6 +150,19 @@ reads_then k o P Q p q r a b =
           let same = loaded_held (view p) (view q) c loaded in
           agrees_append k c (held c (view p)) b.0 a.0 (subst (λ (z : Picture). Agrees k c b.0 z) same (b.4 c low (loaded.work.pass.locks c ∙ mine))) (a.4 c low mine)),
     )
+
+pub reads_none : (k : Shape) (o : ℕ) (P : Picture → Type 0) (p : Pass) → ((x : Picture) → P x) → Reads k o P p p
+reads_none k o P p all = (
+  [],
+  tt,
+  did_none p,
+  (λ x g. all x),
+  (λ c inside mine. record {
+    root = λ f m. absurd (among_none (ReadRoot c f) m);
+    block = λ i f low m. absurd (among_none (ReadBlock c i f) m);
+    table = λ t i f is low names m. absurd (among_none (ReadTable t i f) m);
+  }),
+)
 
 pub reads_block : (k : Shape) (o i f : ℕ) (p q : Pass) → i < 6 → DidAll (ReadBlock o i f ∷ []) p q → (has_lock o (view p).log ≡ true → f ≡ slice_index (held o (view p)).block i) → Reads k o (λ x. f ≡ slice_index x.block i) p q
 reads_block k o i f p q low did holds = (

@@ -16,3 +16,6 @@ pub mod Values
 pub mod Trying
 pub mod Scanning
 pub mod Equal
+pub mod Turned
+pub mod Nothing
+pub mod Glancing

@@ -1,6 +1,7 @@
 -- Loops over the items of a list, step by step, and what they show in the end.
-use Rattle.std.proofs.Common.{◌≡◌, ℕ, ◌<◌, Bool, true, List, ◌++◌, length, take, Option, Some, None, refl, sym, ap, ◌∙◌, inr}
-use Rattle.std.specs.Prelude.{slice_index, slice_index_or, is_some}
+use Rattle.std.proofs.Common.{◌≡◌, ℕ, ◌<◌, ◌≤◌, ℤ, Bool, true, List, ◌++◌, length, take, Option, Some, None, refl, sym, ap, ◌∙◌, inr, arith}
+use Rattle.std.specs.Prelude.{slice_index, slice_index_or, is_some, pos, negsuc, Result, Ok, Err, IfOk}
+use Rattle.std.proofs.Math.Nat.{min-le_right}
 use Rattle.std.specs.Option.{option_map_or}
 use Rattle.ft_model.specs.declared.call.Call.TheVariants as call
 use Rattle.ft_model.specs.declared.call.ListCall.TheVariants as list
@@ -11,7 +12,7 @@ use Rattle.ft_model.specs.declared.reply.Reply.TheVariants as reply
 use Rattle.ft_model.specs.Answers.{shows}
 use Rattle.ft_model.specs.declared.data.Value.{Value}
 use Rattle.ft_model.specs.declared.data.Value.TheVariants.{Nothing}
-use Rattle.ft_model.specs.Lists.{index_of, count_of}
+use Rattle.ft_model.specs.Lists.{index_of, count_of, clamped_in, list_slice}
 use Rattle.ft_model.specs.Worlds.{kind_of, list_of, no_hands}
 use Rattle.ft_trace.specs.declared.Shape.{Shape}
 use Rattle.ft_trace.specs.declared.View.{View}
@@ -29,7 +30,7 @@ use Rattle.ft_list.specs.Indexes.{Reads, IsItemAt}
 use Rattle.ft_list.specs.Scans.{IsOfItems}
 use Rattle.ft_list.specs.Tries.{IsReplyTo}
 use Rattle.ft_list.proofs.Trying.{reply_of_list}
-use Rattle.ft_list.proofs.Indexes.{reads_map, reads_then, reads_loaded, items_counted}
+use Rattle.ft_list.proofs.Indexes.{reads_none, reads_map, reads_then, reads_loaded, items_counted}
 use Rattle.ft_list.proofs.Lists.{content_of, may_loaded}
 use Rattle.ft_list.proofs.Values.{NoneBefore, has_first}
 
@@ -105,3 +106,38 @@ count_plain o value equal = record { reads = refl; cursor = refl; adds = refl; m
 
 pub has_plain : (o : ℕ) (value : Value) (truth : Bool) → IsPlain (call.List o (list.Has value)) (reply.Truth truth)
 has_plain o value truth = record { reads = refl; cursor = refl; adds = refl; memory = refl; replied = λ plain is. inr is; cause = λ stored log n. refl }
+
+-- ---- copies
+
+-- a value of a result, where there is one, is such
+pub if_ok : {X E : Type 0} (P Q : X → Type 0) (r : Result X E) → ((x : X) → P x → Q x) → IfOk r P → IfOk r Q
+if_ok P Q (Ok x) f p = f x p
+if_ok P Q (Err e) f p = tt
+
+-- before the first load of a call
+pub nothing_read : (k : Shape) (o : ℕ) (holds : List Value → Type 0) (p : Pass) → ((items : List Value) → holds items) → Reads k o (IsOfItems k holds) p p
+nothing_read k o holds p all = reads_none k o (IsOfItems k holds) p (λ x kept is stands. all (list_of kept.content))
+
+-- how many items there are, and what is so then
+pub after_count : (k : Shape) (o : ℕ) (count : ℕ) (holds then : List Value → Type 0) (p q r : Pass) → Reads k o (λ x. count ≡ slice_index x.block 1) p q → Reads k o (IsOfItems k holds) q r → ((items : List Value) → count ≡ length items → holds items → then items) → Reads k o (IsOfItems k then) p r
+after_count k o count holds then p q r a b f =
+    reads_map k o (λ x. IsOfItems k (λ items. count ≡ length items) x × IsOfItems k holds x) (IsOfItems k then) p r
+    (λ x both kept is stands. f (list_of kept.content) (both.0 kept is stands) (both.1 kept is stands))
+    (reads_then k o (IsOfItems k (λ items. count ≡ length items)) (IsOfItems k holds) p q r (counted k o count p q a) b)
+
+pub clamped_low : (n : ℕ) (index : ℤ) → clamped_in n index ≤ n
+clamped_low n (pos index) = min-le_right index n
+clamped_low n (negsuc below) = omega arith
+
+module _ (o : ℕ) (values : List Value) (v : View) (low : o < containers_in v.shape) (mine : has_lock o v.log ≡ true) (is_list : (known o v).content ≡ content.List values) where
+  pub slice_replied : (start end : ℤ) (part : List Value) → part ≡ list_slice values start end → IsReplyTo (call.List o (list.Slice start end)) (reply.List part) v
+  slice_replied start end part is = reply_of_list o (list.Slice start end) (reply.List part) values v low mine is_list (λ stored has. ap reply.List (sym is))
+
+  pub items_replied : (copy : List Value) → copy ≡ values → IsReplyTo (call.List o list.Items) (reply.List copy) v
+  items_replied copy is = reply_of_list o list.Items (reply.List copy) values v low mine is_list (λ stored has. ap reply.List (sym is))
+
+pub slice_plain : (o : ℕ) (start end : ℤ) (part : List Value) → IsPlain (call.List o (list.Slice start end)) (reply.List part)
+slice_plain o start end part = record { reads = refl; cursor = refl; adds = refl; memory = refl; replied = λ plain is. inr is; cause = λ stored log n. refl }
+
+pub items_plain : (o : ℕ) (copy : List Value) → IsPlain (call.List o list.Items) (reply.List copy)
+items_plain o copy = record { reads = refl; cursor = refl; adds = refl; memory = refl; replied = λ plain is. inr is; cause = λ stored log n. refl }

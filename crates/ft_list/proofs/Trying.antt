@@ -1,7 +1,8 @@
 -- Calls under locks: what a pass in the midst of a call may do with a list, and that it is in the midst of its call still
 -- once it has.
 use Rattle.std.proofs.Common.{◌≡◌, ℕ, ◌<◌, ◌≤◌, Bool, true, false, List, ◌∷◌, ◌++◌, Some, None, refl, sym, ap, ◌∙◌, subst, inl, inr, ⊎_elim}
-use Rattle.std.specs.Prelude.{◌&&◌, not, if◌then◌else◌}
+use Rattle.std.specs.Prelude.{◌&&◌, not, if◌then◌else◌, Result, Ok, Err}
+use Rattle.std.specs.declared.alloc.AllocError.{AllocError}
 use Rattle.std.specs.Option.{unwrap_or}
 use Rattle.std.proofs.lemmas.Bool.{cases_eq}
 use Rattle.ft_model.specs.declared.call.Call.{Call}
@@ -44,7 +45,7 @@ use Rattle.ft_search.proofs.Lengths.{IsPlain}
 use Rattle.ft_search.proofs.Trying.{LeavesSections, still_loaded, making_read, making_stands}
 use Rattle.ft_list.specs.Calls.{MayWriteList, Changes, Raises}
 use Rattle.ft_list.specs.Items.{items_of}
-use Rattle.ft_list.specs.Tries.{IsReplyTo, KeepsTables, MadeAs}
+use Rattle.ft_list.specs.Tries.{IsReplyTo, KeepsTables, MadeAs, IsCopied}
 use Rattle.ft_list.proofs.Commits.{list_is}
 use Rattle.ft_list.proofs.Lists.{content_of}
 use Rattle.ft_list.proofs.Loaded.{loaded_wrote, loaded_answered}
@@ -194,6 +195,11 @@ making_made b p q called said stamp leaves m pass stack x =
 -- loads in the midst of it
 pub making_loaded : (b : Bank) (p q : Pass) → IsMaking b p → IsPassOf b q → stack_of q ≡ stack_of p → OnlyLoaded (view p) (view q) → IsMaking b q
 making_loaded b p q m pass stack l = making_stays b p q m pass stack l.work.pass.shape l.work.pass.locks l.work.pass.begun (still_loaded (view p) (view q) l m.inside.1.still)
+
+-- a call that takes memory
+pub making_copied : (b : Bank) (p q : Pass) (asked : Call) (copied : Result (Reply × Stamp) AllocError) → LeavesSections asked → IsMaking b p → IsPassOf b q → stack_of q ≡ stack_of p → IsCopied asked (view p) (view q) copied → IsMaking b q
+making_copied b p q asked (Ok made) leaves m pass stack x = making_made b p q asked made.0 made.1 leaves m pass stack x
+making_copied b p q asked (Err e) leaves m pass stack x = making_loaded b p q m pass stack x
 
 -- ---- calls that read, with the stamp that is loaded under the lock
 

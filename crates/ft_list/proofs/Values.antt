@@ -98,8 +98,14 @@ part_more items first place from low =
     ap (drop first) (take_more items place Nothing low)
     ∙ drop-append-le first (take place items) (slice_index_or items place Nothing ∷ []) (let n = length-take-le place items (omega (arith, low)) in omega (arith, n, from))
 
-pub part_none : (items : List Value) (first : ℕ) → first ≤ length items → drop first (take first items) ≡ []
-part_none items first low = drop_of_length-le (take first items) (let n = length-take-le first items low in omega (arith, n))
+pub part_none : (items : List Value) (first : ℕ) → drop first (take first items) ≡ []
+part_none [] zero = refl
+part_none [] (suc first) = refl
+part_none (x ∷ items) zero = refl
+part_none (x ∷ items) (suc first) = part_none items first
+
+pub part_short : (items : List Value) (first past : ℕ) → past ≤ first → past ≤ length items → drop first (take past items) ≡ []
+part_short items first past from low = drop_of_length-le (take past items) (let n = length-take-le past items low in omega (arith, n, from))
 
 -- ---- reversed
 

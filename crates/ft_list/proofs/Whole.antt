@@ -45,7 +45,7 @@ module _ (k : Shape) (o : ℕ) (table : Table) (v s u : View) (f : ℕ) (may : M
     words = has.words;
   }
 
-  still_changes : (lc : ListCall) (said : Reply) (values news : List Value) → Changes o lc said values news v → Changes o lc said values news u
+  pub still_changes : (lc : ListCall) (said : Reply) (values news : List Value) → Changes o lc said values news v → Changes o lc said values news u
   still_changes lc said values news call_is = record {
     changing = call_is.changing;
     raises = call_is.raises;

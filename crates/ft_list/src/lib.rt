@@ -6,7 +6,10 @@
 //! counter, which is the write, and makes the versions even again.
 #![tactic(auto)]
 
+mod bare;
+mod copies;
 mod gets;
+mod glances;
 mod indexing;
 mod items;
 mod lens;
@@ -17,11 +20,17 @@ mod removals;
 mod scans;
 mod searches;
 mod tries;
+mod turning;
 mod writes;
 
 pub use crate::gets::look_item;
+pub use crate::glances::{look_has, look_items};
 pub use crate::indexing::{look_get, try_get};
 pub use crate::lens::{look_len, try_len};
 pub use crate::locked::{Appended, append_locked, del_locked, set_locked};
 pub use crate::removals::{pop_locked, remove_locked};
-pub use crate::tries::{try_count, try_del, try_has, try_index, try_pop, try_remove, try_set};
+pub use crate::tries::{
+    try_count, try_del, try_has, try_index, try_items, try_pop, try_remove, try_reverse, try_set,
+    try_slice,
+};
+pub use crate::turning::reverse_locked;

@@ -8,14 +8,17 @@ ghost use Rattle.ft_trace.specs.Worlds.{kind_in};
 ghost use Rattle.ft_bank.specs.Passes.{shape_of, view};
 ghost use Rattle.ft_section.specs.declared.answers.Objects.TheVariants.{One};
 ghost use Rattle.ft_section.specs.Ready.{MayTry};
-ghost use Rattle.ft_list.specs.Tries.{IsMadeOf};
+ghost use Rattle.ft_list.specs.Tries.{IsMadeOf, IsCopyOf};
 
+use crate::copies::{items_locked, slice_locked};
 use crate::locked::{del_locked, set_locked};
 use crate::removals::{pop_locked, remove_locked};
 use crate::searches::{count_locked, has_locked, index_locked};
+use crate::turning::reverse_locked;
 use ft_bank::{Bank, Pass};
 use ft_model::Value;
 use ft_section::{Got, Object, Objects, Step, let_go, take_for};
+use std::alloc::Global;
 
 /// `l[i] = v`, an IndexError where there is no such item (Python manual, Mutable Sequence Types).
 ///
@@ -180,6 +183,93 @@ pub fn try_has(bank: &Bank, pass: &mut Pass, l: Object, value: Value) -> Step
             let (reply, stamp) = has_locked(bank, pass, l, value);
             let_go(bank, pass);
             Step::Done(reply, stamp)
+        }
+        Got::NotYet(container, owner) => Step::NotYet(container, owner),
+    }
+}
+
+/// `l.reverse()` (Python manual, Mutable Sequence Types).
+///
+/// # Errors
+///
+/// `NotYet` where a step of the call found another pass with the lock of the list; the same call comes next.
+/// It never answers `Moved` or `NoMemory`.
+pub fn try_reverse(bank: &Bank, pass: &mut Pass, l: Object) -> Step
+    requires may { MayTry bank.now pass.old (One l) }
+    requires container { l < containers_in (shape_of bank.now) }
+    requires list { kind_in (shape_of bank.now).kinds l ≡ kind.List }
+    requires left { 0 < (view pass.old).left }
+    ensures may { MayTry bank.now pass.new (One l) }
+    ensures made { IsMadeOf (One l) (call.List l list.Reverse) (view pass.old) (view pass.new) result }
+{
+    match take_for(bank, pass, Objects::One(l)) {
+        Got::Have => {
+            let (reply, stamp) = reverse_locked(bank, pass, l);
+            let_go(bank, pass);
+            Step::Done(reply, stamp)
+        }
+        Got::NotYet(container, owner) => Step::NotYet(container, owner),
+    }
+}
+
+/// `l[i:j]`, both ends clamped (Python manual, Sequence Types).
+///
+/// # Errors
+///
+/// `NotYet` where a step of the call found another pass with the lock of the list; the same call comes next.
+/// `NoMemory` where memory for the copy ran out: the list is as it was, and the lock is let go. It never
+/// answers `Moved`.
+pub fn try_slice(
+    bank: &Bank,
+    pass: &mut Pass,
+    alloc: Global,
+    l: Object,
+    start: i64,
+    end: i64,
+) -> Step
+    requires may { MayTry bank.now pass.old (One l) }
+    requires container { l < containers_in (shape_of bank.now) }
+    requires list { kind_in (shape_of bank.now).kinds l ≡ kind.List }
+    requires left { 0 < (view pass.old).left }
+    ensures may { MayTry bank.now pass.new (One l) }
+    ensures made { IsCopyOf (One l) (call.List l (list.Slice start end)) (view pass.old) (view pass.new) result }
+{
+    match take_for(bank, pass, Objects::One(l)) {
+        Got::Have => {
+            let copied = slice_locked(bank, pass, alloc, l, start, end);
+            let_go(bank, pass);
+            match copied {
+                Ok((reply, stamp)) => Step::Done(reply, stamp),
+                Err(_) => Step::NoMemory,
+            }
+        }
+        Got::NotYet(container, owner) => Step::NotYet(container, owner),
+    }
+}
+
+/// All items under the lock.
+///
+/// # Errors
+///
+/// `NotYet` where a step of the call found another pass with the lock of the list; the same call comes next.
+/// `NoMemory` where memory for the copy ran out: the list is as it was, and the lock is let go. It never
+/// answers `Moved`.
+pub fn try_items(bank: &Bank, pass: &mut Pass, alloc: Global, l: Object) -> Step
+    requires may { MayTry bank.now pass.old (One l) }
+    requires container { l < containers_in (shape_of bank.now) }
+    requires list { kind_in (shape_of bank.now).kinds l ≡ kind.List }
+    requires left { 0 < (view pass.old).left }
+    ensures may { MayTry bank.now pass.new (One l) }
+    ensures made { IsCopyOf (One l) (call.List l list.Items) (view pass.old) (view pass.new) result }
+{
+    match take_for(bank, pass, Objects::One(l)) {
+        Got::Have => {
+            let copied = items_locked(bank, pass, alloc, l);
+            let_go(bank, pass);
+            match copied {
+                Ok((reply, stamp)) => Step::Done(reply, stamp),
+                Err(_) => Step::NoMemory,
+            }
         }
         Got::NotYet(container, owner) => Step::NotYet(container, owner),
     }

@@ -1,0 +1,82 @@
+-- From what loads between two loads of a list's version show to what a call may answer.
+use Rattle.std.proofs.Common.{◌≡◌, ◌≢◌, ◌≤◌, ℕ, ◌<◌, List, [], ◌∷◌, ◌++◌, refl, sym, ◌∙◌, subst}
+use Rattle.ft_model.specs.declared.call.Call.{Call}
+use Rattle.ft_model.specs.declared.call.Call.TheVariants as call
+use Rattle.ft_model.specs.declared.call.ListCall.{ListCall}
+use Rattle.ft_model.specs.declared.content.Content.{Content}
+use Rattle.ft_model.specs.declared.data.Value.{Value}
+use Rattle.ft_model.specs.declared.reply.Reply.{Reply}
+use Rattle.ft_model.specs.declared.reply.Reply.TheVariants as reply
+use Rattle.ft_model.specs.declared.script.Kind.TheVariants as kind
+use Rattle.ft_model.specs.Answers.{answer_list}
+use Rattle.ft_model.specs.Worlds.{no_hands, list_of}
+use Rattle.ft_trace.specs.declared.Act.{Act}
+use Rattle.ft_trace.specs.declared.Act.TheVariants.{Version, ReadCounter, Answer}
+use Rattle.ft_trace.specs.declared.Shape.{Shape}
+use Rattle.ft_trace.specs.declared.View.{View}
+use Rattle.ft_trace.specs.Acts.{noted, shown}
+use Rattle.ft_trace.specs.Addresses.{containers_in}
+use Rattle.ft_trace.specs.Reading.{Among, Looked}
+use Rattle.ft_trace.specs.Traces.{Possible}
+use Rattle.ft_trace.specs.Worlds.{kind_in, kept_at}
+use Rattle.ft_bank.specs.declared.pass.Pass.{Pass}
+use Rattle.ft_bank.specs.Answered.{Answered}
+use Rattle.ft_bank.specs.Passes.{view}
+use Rattle.ft_bank.specs.Reads.{IsShown}
+use Rattle.ft_bank.specs.Whole.{OnlyLoaded}
+use Rattle.ft_bank.proofs.Showing.{looks_are_shown}
+use Rattle.ft_search.specs.Lengths.{IsStopped}
+use Rattle.ft_search.specs.Looks.{AreLooks}
+use Rattle.ft_search.proofs.Asking.{may_ask, answered_after}
+use Rattle.ft_search.proofs.Lengths.{IsPlain, between_own}
+use Rattle.ft_search.proofs.Rounding.{looks_append, looks_load}
+use Rattle.ft_search.proofs.Running.{did_log}
+use Rattle.ft_list.specs.declared.glances.Window.{Window}
+use Rattle.ft_list.specs.Glances.{HasMoved, WasStill, SawItems}
+use Rattle.ft_list.proofs.Indexes.{agrees_older}
+
+module _ (k : Shape) (o : ℕ) (holds : List Value → Type 0) (w : Window) (p q : Pass) (saw : SawItems k o holds w p q) where
+  abbrev part : List Act
+  part = saw.0
+
+  abbrev acts : List Act
+  acts = Version o w.closed ∷ (ReadCounter w.number ∷ (part ++ Version o w.opened ∷ []))
+
+  looks : AreLooks acts
+  looks = looks_append part (Version o w.opened ∷ []) saw.1 tt
+
+  own : (view q).log ≡ acts ++ (view p).log
+  own = did_log acts p q saw.2
+
+  counted : Among (ReadCounter w.number) acts
+  counted = record { newer = Version o w.closed ∷ []; rest = part ++ Version o w.opened ∷ []; is = refl }
+
+  pub saw_loaded : OnlyLoaded (view p) (view q)
+  saw_loaded = subst (OnlyLoaded (view p)) (sym saw.2.1) (looks_load acts (view p) looks)
+
+  pub saw_stopped : HasMoved w → IsStopped o w.opened w.closed (view p) (view q)
+  saw_stopped moved = record {
+    loaded = saw_loaded;
+    part = acts;
+    looks = looks;
+    own = own;
+    stops = record { newer = []; mid = ReadCounter w.number ∷ part; rest = []; is = refl; moved = moved };
+  }
+
+  pub saw_answered : (called : Call) (given said : Reply) (z : View) → z ≡ noted (Answer called given w.number) (view q) → given ≡ said → (view p).learnt ≤ shown (view p).log → ∥ Possible z ∥₁ → Answered called said w.number (view p) z
+  saw_answered called given said z did is settled possible = subst (λ (r : Reply). Answered called r w.number (view p) z) is (answered_after (view p) (view q) z called given w.number acts saw_loaded own counted did settled possible)
+
+  module _ (lc : ListCall) (said : Reply) (plain : IsPlain (call.List o lc) said) (other : said ≢ reply.Kept) (replied : (world : List Content) (items : List Value) → holds items → (answer_list world no_hands o items lc).reply ≡ said) where
+    looked : WasStill w → kind_in k.kinds o ≡ kind.List → Looked k (call.List o lc) o said w.number (view q).log
+    looked still is = record {
+      mid = ReadCounter w.number ∷ part;
+      between = between_own o (ReadCounter w.number ∷ part) acts (view p).log (view q).log own
+          (record { version = w.opened; even = still.1; newer = []; rest = []; is = λ d. Version o (still.0 d) ∷ ((ReadCounter w.number ∷ part) ++ Version o w.opened ∷ []) });
+      stamp = record { newer = []; rest = part; is = refl };
+      answers = λ x stored is_kind stands agrees. replied stored.world (list_of (kept_at stored o).content) (saw.3 x (agrees_older k o x (ReadCounter w.number ∷ []) part agrees) (kept_at stored o) (is_kind ∙ is) stands);
+    }
+
+    pub saw_shown : WasStill w → (view q).shape ≡ k → o < containers_in k → kind_in k.kinds o ≡ kind.List → 0 < (view p).left → IsShown (view q) (call.List o lc) said w.number
+    saw_shown still same low is left =
+        looks_are_shown (view q) (call.List o lc) o said w.number (may_ask (view p) (view q) k o w.number acts saw_loaded looks own counted same low left) plain.reads plain.cursor plain.adds plain.memory other (plain.replied said refl)
+        (subst (λ (z : Shape). Looked z (call.List o lc) o said w.number (view q).log) (sym same) (looked still is))

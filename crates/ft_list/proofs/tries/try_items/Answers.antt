@@ -1,0 +1,51 @@
+use Rattle.std.proofs.Common.{ℕ, ◌<◌, refl, inr, sym, subst}
+use Rattle.ft_model.specs.declared.call.Call.TheVariants as call
+use Rattle.ft_model.specs.declared.call.ListCall.TheVariants as list
+use Rattle.ft_bank.specs.Passes.{view}
+use Rattle.ft_section.specs.declared.answers.Objects.TheVariants.{One}
+use Rattle.ft_list.specs.Tries.{IsCopied}
+use Rattle.ft_list.proofs.Trying.{may_write, making_copied}
+use Rattle.ft_list.proofs.tries.try_items.Goals as goal
+
+pub items_locked-copied-requires-clause-pass : goal.items_locked-copied-requires-clause-pass
+items_locked-copied-requires-clause-pass c = c.in-Have.ensures.making.inside.0
+
+pub items_locked-copied-requires-clause-may : goal.items_locked-copied-requires-clause-may
+items_locked-copied-requires-clause-may c =
+    may_write c.args.bank.now c.take_for.new.pass c.args.l c.in-Have.ensures.making c.requires.container c.requires.list c.in-Have.ensures.has.0.0
+    (subst (λ (n : ℕ). 0 < n) (sym c.in-Have.ensures.locked.left) c.requires.left)
+
+pub let_go-requires : goal.let_go-requires
+let_go-requires c =
+    let e = c.items_locked-copied.ensures in
+    making_copied c.args.bank.now c.take_for.new.pass c.items_locked-copied.new.pass (call.List c.args.l list.Items) c.items_locked-copied.result (λ n l sections. refl) c.in-Have.ensures.making e.pass e.stack e.copied
+
+pub returns-in-Ok-clause-may : goal.returns-in-Ok-clause-may
+returns-in-Ok-clause-may c = c.let_go.ensures.may (One c.args.l)
+
+pub returns-in-Err-clause-may : goal.returns-in-Err-clause-may
+returns-in-Err-clause-may c = c.let_go.ensures.may (One c.args.l)
+
+pub returns-in-Ok-clause-made : goal.returns-in-Ok-clause-made
+returns-in-Ok-clause-made c = record {
+  before = view c.take_for.new.pass;
+  after = view c.items_locked-copied.new.pass;
+  took = c.in-Have.ensures.locked;
+  made = subst (λ r. IsCopied (call.List c.args.l list.Items) (view c.take_for.new.pass) (view c.items_locked-copied.new.pass) r) c.in-Ok.is (c.items_locked-copied.ensures.copied);
+  gone = c.let_go.ensures.locked;
+}
+
+pub returns-in-Err-clause-made : goal.returns-in-Err-clause-made
+returns-in-Err-clause-made c = record {
+  before = view c.take_for.new.pass;
+  after = view c.items_locked-copied.new.pass;
+  took = c.in-Have.ensures.locked;
+  loaded = subst (λ r. IsCopied (call.List c.args.l list.Items) (view c.take_for.new.pass) (view c.items_locked-copied.new.pass) r) c.in-Err.is (c.items_locked-copied.ensures.copied);
+  gone = c.let_go.ensures.locked;
+}
+
+pub returns-in-NotYet-clause-may : goal.returns-in-NotYet-clause-may
+returns-in-NotYet-clause-may c = inr c.in-NotYet.ensures.waiting.0
+
+pub returns-in-NotYet-clause-made : goal.returns-in-NotYet-clause-made
+returns-in-NotYet-clause-made c = (c.in-NotYet.ensures.locked, c.in-NotYet.ensures.found.0, c.in-NotYet.ensures.found.1)

@@ -1,0 +1,38 @@
+use Rattle.std.proofs.Common.{ℕ, ◌<◌, refl, inr, sym, subst}
+use Rattle.ft_model.specs.declared.call.Call.TheVariants as call
+use Rattle.ft_model.specs.declared.call.ListCall.TheVariants as list
+use Rattle.ft_bank.specs.Passes.{view}
+use Rattle.ft_section.specs.declared.answers.Objects.TheVariants.{One}
+use Rattle.ft_list.proofs.Trying.{may_write, making_made}
+use Rattle.ft_list.proofs.tries.try_reverse.Goals as goal
+
+pub reverse_locked-reply-requires-clause-pass : goal.reverse_locked-reply-requires-clause-pass
+reverse_locked-reply-requires-clause-pass c = c.in-Have.ensures.making.inside.0
+
+pub reverse_locked-reply-requires-clause-may : goal.reverse_locked-reply-requires-clause-may
+reverse_locked-reply-requires-clause-may c =
+    may_write c.args.bank.now c.take_for.new.pass c.args.l c.in-Have.ensures.making c.requires.container c.requires.list c.in-Have.ensures.has.0.0
+    (subst (λ (n : ℕ). 0 < n) (sym c.in-Have.ensures.locked.left) c.requires.left)
+
+pub let_go-requires : goal.let_go-requires
+let_go-requires c =
+    let e = c.reverse_locked-reply.ensures in
+    making_made c.args.bank.now c.take_for.new.pass c.reverse_locked-reply.new.pass (call.List c.args.l list.Reverse) c.reverse_locked-reply.result.0 c.reverse_locked-reply.result.1 (λ n l sections. refl) c.in-Have.ensures.making e.pass e.stack e.made
+
+pub returns-in-Have-clause-may : goal.returns-in-Have-clause-may
+returns-in-Have-clause-may c = c.let_go.ensures.may (One c.args.l)
+
+pub returns-in-Have-clause-made : goal.returns-in-Have-clause-made
+returns-in-Have-clause-made c = record {
+  before = view c.take_for.new.pass;
+  after = view c.reverse_locked-reply.new.pass;
+  took = c.in-Have.ensures.locked;
+  made = c.reverse_locked-reply.ensures.made;
+  gone = c.let_go.ensures.locked;
+}
+
+pub returns-in-NotYet-clause-may : goal.returns-in-NotYet-clause-may
+returns-in-NotYet-clause-may c = inr c.in-NotYet.ensures.waiting.0
+
+pub returns-in-NotYet-clause-made : goal.returns-in-NotYet-clause-made
+returns-in-NotYet-clause-made c = (c.in-NotYet.ensures.locked, c.in-NotYet.ensures.found.0, c.in-NotYet.ensures.found.1)

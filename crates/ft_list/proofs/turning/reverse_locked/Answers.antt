@@ -1,0 +1,206 @@
+use Rattle.std.proofs.Common.{◌≡◌, ◌<◌, List, length, refl, sym, ap, ◌∙◌, subst}
+use Rattle.std.specs.Prelude.{reverse}
+use Rattle.ft_model.specs.declared.call.ListCall.TheVariants as list
+use Rattle.ft_model.specs.declared.data.Value.{Value}
+use Rattle.ft_model.specs.declared.reply.Reply.TheVariants as reply
+use Rattle.ft_trace.specs.declared.Act.TheVariants.{ReadBlock}
+use Rattle.ft_trace.specs.declared.Shape.{Shape}
+use Rattle.ft_trace.specs.declared.View.{View}
+use Rattle.ft_trace.specs.Addresses.{containers_in}
+use Rattle.ft_trace.specs.Holds.{held, known}
+use Rattle.ft_trace.specs.Words.{root_in}
+use Rattle.ft_bank.specs.Passes.{shape_of, view}
+use Rattle.ft_bank.proofs.Whole.{loaded_by, loaded_then, loaded_held}
+use Rattle.ft_list.specs.Calls.{Changes}
+use Rattle.ft_list.specs.Items.{items_of}
+use Rattle.ft_list.proofs.CallFacts.{reverse_changes}
+use Rattle.ft_list.proofs.Indexes.{no_items}
+use Rattle.ft_list.proofs.Lists.{content_of, items_loaded, may_loaded}
+use Rattle.ft_list.proofs.Trying.{wrote_as}
+use Rattle.ft_list.proofs.Turned.{reversed_none}
+use Rattle.ft_list.proofs.turning.reverse_locked.Goals as goal
+
+pub reverse_items-number-requires-clause-may : goal.reverse_items-number-requires-clause-may
+reverse_items-number-requires-clause-may c =
+    let a = c.args in
+    let k = shape_of a.bank.now in
+    let v = view a.pass.now in
+    let u = view c.count_of-count.new.pass in
+    let t = view c.read_block-root.new.pass in
+    let root = c.read_block-root.result in
+    let e = c.count_of-count.ensures in
+    let f = c.read_block-root.ensures in
+    let only = loaded_by (ReadBlock a.l 0 root) u t tt f.did.1 in
+    let may = may_loaded k a.l u t only e.may in
+    let shape = ap (λ (z : View). z.shape) f.did.1 ∙ e.pass.1 in
+    let values = items_of a.l t in
+    let low : a.l < containers_in t.shape = subst (λ (s : Shape). a.l < containers_in s) (sym shape) may.container in
+    let is_list = content_of k a.l t shape c.read_block-root.new.pass.possible may in
+    let turned = reverse_changes a.l values t low may.locked is_list in
+    may
+
+pub reverse_items-number-requires-clause-table : goal.reverse_items-number-requires-clause-table
+reverse_items-number-requires-clause-table c =
+    let a = c.args in
+    let k = shape_of a.bank.now in
+    let v = view a.pass.now in
+    let u = view c.count_of-count.new.pass in
+    let t = view c.read_block-root.new.pass in
+    let root = c.read_block-root.result in
+    let e = c.count_of-count.ensures in
+    let f = c.read_block-root.ensures in
+    let only = loaded_by (ReadBlock a.l 0 root) u t tt f.did.1 in
+    let may = may_loaded k a.l u t only e.may in
+    let shape = ap (λ (z : View). z.shape) f.did.1 ∙ e.pass.1 in
+    let values = items_of a.l t in
+    let low : a.l < containers_in t.shape = subst (λ (s : Shape). a.l < containers_in s) (sym shape) may.container in
+    let is_list = content_of k a.l t shape c.read_block-root.new.pass.possible may in
+    let turned = reverse_changes a.l values t low may.locked is_list in
+    record {
+      table_in = c.in-Some.ensures.in_bank k (λ n x. f.table n refl x);
+      root = ap root_in (loaded_held u t a.l only) ∙ (sym (f.held e.may.locked) ∙ c.in-Some.ensures.named);
+    }
+
+pub reverse_items-number-requires-clause-count : goal.reverse_items-number-requires-clause-count
+reverse_items-number-requires-clause-count c =
+    let a = c.args in
+    let k = shape_of a.bank.now in
+    let v = view a.pass.now in
+    let u = view c.count_of-count.new.pass in
+    let t = view c.read_block-root.new.pass in
+    let root = c.read_block-root.result in
+    let e = c.count_of-count.ensures in
+    let f = c.read_block-root.ensures in
+    let only = loaded_by (ReadBlock a.l 0 root) u t tt f.did.1 in
+    let may = may_loaded k a.l u t only e.may in
+    let shape = ap (λ (z : View). z.shape) f.did.1 ∙ e.pass.1 in
+    let values = items_of a.l t in
+    let low : a.l < containers_in t.shape = subst (λ (s : Shape). a.l < containers_in s) (sym shape) may.container in
+    let is_list = content_of k a.l t shape c.read_block-root.new.pass.possible may in
+    let turned = reverse_changes a.l values t low may.locked is_list in
+    e.count ∙ sym (ap length (items_loaded a.l u t only ∙ e.items))
+
+pub reverse_items-number-requires-clause-call : goal.reverse_items-number-requires-clause-call
+reverse_items-number-requires-clause-call c =
+    let a = c.args in
+    let k = shape_of a.bank.now in
+    let v = view a.pass.now in
+    let u = view c.count_of-count.new.pass in
+    let t = view c.read_block-root.new.pass in
+    let root = c.read_block-root.result in
+    let e = c.count_of-count.ensures in
+    let f = c.read_block-root.ensures in
+    let only = loaded_by (ReadBlock a.l 0 root) u t tt f.did.1 in
+    let may = may_loaded k a.l u t only e.may in
+    let shape = ap (λ (z : View). z.shape) f.did.1 ∙ e.pass.1 in
+    let values = items_of a.l t in
+    let low : a.l < containers_in t.shape = subst (λ (s : Shape). a.l < containers_in s) (sym shape) may.container in
+    let is_list = content_of k a.l t shape c.read_block-root.new.pass.possible may in
+    let turned = reverse_changes a.l values t low may.locked is_list in
+    (list.Reverse, refl, turned)
+
+pub write_nothing-number-requires-clause-may : goal.write_nothing-number-requires-clause-may
+write_nothing-number-requires-clause-may c =
+    let a = c.args in
+    let k = shape_of a.bank.now in
+    let v = view a.pass.now in
+    let u = view c.count_of-count.new.pass in
+    let t = view c.read_block-root.new.pass in
+    let root = c.read_block-root.result in
+    let e = c.count_of-count.ensures in
+    let f = c.read_block-root.ensures in
+    let only = loaded_by (ReadBlock a.l 0 root) u t tt f.did.1 in
+    let may = may_loaded k a.l u t only e.may in
+    let shape = ap (λ (z : View). z.shape) f.did.1 ∙ e.pass.1 in
+    let values = items_of a.l t in
+    let low : a.l < containers_in t.shape = subst (λ (s : Shape). a.l < containers_in s) (sym shape) may.container in
+    let is_list = content_of k a.l t shape c.read_block-root.new.pass.possible may in
+    let turned = reverse_changes a.l values t low may.locked is_list in
+    may
+
+pub write_nothing-number-requires-clause-bare : goal.write_nothing-number-requires-clause-bare
+write_nothing-number-requires-clause-bare c =
+    let a = c.args in
+    let k = shape_of a.bank.now in
+    let v = view a.pass.now in
+    let u = view c.count_of-count.new.pass in
+    let t = view c.read_block-root.new.pass in
+    let root = c.read_block-root.result in
+    let e = c.count_of-count.ensures in
+    let f = c.read_block-root.ensures in
+    let only = loaded_by (ReadBlock a.l 0 root) u t tt f.did.1 in
+    let may = may_loaded k a.l u t only e.may in
+    let shape = ap (λ (z : View). z.shape) f.did.1 ∙ e.pass.1 in
+    let values = items_of a.l t in
+    let low : a.l < containers_in t.shape = subst (λ (s : Shape). a.l < containers_in s) (sym shape) may.container in
+    let is_list = content_of k a.l t shape c.read_block-root.new.pass.possible may in
+    let turned = reverse_changes a.l values t low may.locked is_list in
+    let none : root_in (held a.l t) ≡ 0 = ap root_in (loaded_held u t a.l only) ∙ (sym (f.held e.may.locked) ∙ c.in-None.ensures.none k (λ n x. f.table n refl x)) in
+    let same : reverse values ≡ values = reversed_none values (no_items k.texts (held a.l t) (known a.l t) none may.stands) in
+    let stays = subst (λ (z : List Value). Changes a.l list.Reverse reply.Done values z t) same turned in
+    none
+
+pub write_nothing-number-requires-clause-call : goal.write_nothing-number-requires-clause-call
+write_nothing-number-requires-clause-call c =
+    let a = c.args in
+    let k = shape_of a.bank.now in
+    let v = view a.pass.now in
+    let u = view c.count_of-count.new.pass in
+    let t = view c.read_block-root.new.pass in
+    let root = c.read_block-root.result in
+    let e = c.count_of-count.ensures in
+    let f = c.read_block-root.ensures in
+    let only = loaded_by (ReadBlock a.l 0 root) u t tt f.did.1 in
+    let may = may_loaded k a.l u t only e.may in
+    let shape = ap (λ (z : View). z.shape) f.did.1 ∙ e.pass.1 in
+    let values = items_of a.l t in
+    let low : a.l < containers_in t.shape = subst (λ (s : Shape). a.l < containers_in s) (sym shape) may.container in
+    let is_list = content_of k a.l t shape c.read_block-root.new.pass.possible may in
+    let turned = reverse_changes a.l values t low may.locked is_list in
+    let none : root_in (held a.l t) ≡ 0 = ap root_in (loaded_held u t a.l only) ∙ (sym (f.held e.may.locked) ∙ c.in-None.ensures.none k (λ n x. f.table n refl x)) in
+    let same : reverse values ≡ values = reversed_none values (no_items k.texts (held a.l t) (known a.l t) none may.stands) in
+    let stays = subst (λ (z : List Value). Changes a.l list.Reverse reply.Done values z t) same turned in
+    (list.Reverse, refl, stays)
+
+pub returns-in-Some-clause-made : goal.returns-in-Some-clause-made
+returns-in-Some-clause-made c =
+    let a = c.args in
+    let k = shape_of a.bank.now in
+    let v = view a.pass.now in
+    let u = view c.count_of-count.new.pass in
+    let t = view c.read_block-root.new.pass in
+    let root = c.read_block-root.result in
+    let e = c.count_of-count.ensures in
+    let f = c.read_block-root.ensures in
+    let only = loaded_by (ReadBlock a.l 0 root) u t tt f.did.1 in
+    let may = may_loaded k a.l u t only e.may in
+    let shape = ap (λ (z : View). z.shape) f.did.1 ∙ e.pass.1 in
+    let values = items_of a.l t in
+    let low : a.l < containers_in t.shape = subst (λ (s : Shape). a.l < containers_in s) (sym shape) may.container in
+    let is_list = content_of k a.l t shape c.read_block-root.new.pass.possible may in
+    let turned = reverse_changes a.l values t low may.locked is_list in
+    wrote_as k a.l list.Reverse reply.Done v t (view c.reverse_items-number.new.pass) shape c.read_block-root.new.pass.possible may (loaded_then v u t e.only only) c.reverse_items-number.result (reverse values) turned
+    c.reverse_items-number.ensures.wrote c.reverse_items-number.ensures.root
+
+pub returns-in-None-clause-made : goal.returns-in-None-clause-made
+returns-in-None-clause-made c =
+    let a = c.args in
+    let k = shape_of a.bank.now in
+    let v = view a.pass.now in
+    let u = view c.count_of-count.new.pass in
+    let t = view c.read_block-root.new.pass in
+    let root = c.read_block-root.result in
+    let e = c.count_of-count.ensures in
+    let f = c.read_block-root.ensures in
+    let only = loaded_by (ReadBlock a.l 0 root) u t tt f.did.1 in
+    let may = may_loaded k a.l u t only e.may in
+    let shape = ap (λ (z : View). z.shape) f.did.1 ∙ e.pass.1 in
+    let values = items_of a.l t in
+    let low : a.l < containers_in t.shape = subst (λ (s : Shape). a.l < containers_in s) (sym shape) may.container in
+    let is_list = content_of k a.l t shape c.read_block-root.new.pass.possible may in
+    let turned = reverse_changes a.l values t low may.locked is_list in
+    let none : root_in (held a.l t) ≡ 0 = ap root_in (loaded_held u t a.l only) ∙ (sym (f.held e.may.locked) ∙ c.in-None.ensures.none k (λ n x. f.table n refl x)) in
+    let same : reverse values ≡ values = reversed_none values (no_items k.texts (held a.l t) (known a.l t) none may.stands) in
+    let stays = subst (λ (z : List Value). Changes a.l list.Reverse reply.Done values z t) same turned in
+    wrote_as k a.l list.Reverse reply.Done v t (view c.write_nothing-number.new.pass) shape c.read_block-root.new.pass.possible may (loaded_then v u t e.only only) c.write_nothing-number.result values stays
+    c.write_nothing-number.ensures.wrote c.write_nothing-number.ensures.root

@@ -1,0 +1,51 @@
+use Rattle.std.proofs.Common.{◌≡◌, ℕ, ◌/◌, refl, sym, ◌∙◌, subst, arith}
+use Rattle.ft_trace.specs.Addresses.{class_of}
+use Rattle.ft_trace.specs.Holds.{held}
+use Rattle.ft_bank.specs.Passes.{shape_of, view}
+use Rattle.ft_bank.specs.Tables.{name_of}
+use Rattle.ft_bank.proofs.Whole.{put_same, put_then}
+use Rattle.ft_list.specs.Items.{IsPutting, stored_at}
+use Rattle.ft_list.specs.Turning.{IsTurning}
+use Rattle.ft_list.proofs.Cares.{table_class}
+use Rattle.ft_list.proofs.Turned.{turning_starts}
+use Rattle.ft_list.proofs.turning.turn.Goals as goal
+
+pub loop-at-init : goal.loop-at-init
+loop-at-init c =
+    let a = c.args in
+    let v = view a.pass.now in
+    let class = class_of (name_of a.table) in
+    record {
+      pass = c.requires.pass;
+      stack = refl;
+      list = c.requires.list;
+      early = c.requires.early;
+      only = put_same v a.o;
+      block = refl;
+      turning = λ values long putting. turning_starts class (table_class (shape_of a.bank.now) a.table c.requires.list.table_in) values (held a.o v).table
+          (subst (λ (n : ℕ). IsPutting class values 0 n (stored_at values) (held a.o v).table) (sym long) putting);
+    }
+
+pub loop-at-preserved : goal.loop-at-preserved
+loop-at-preserved c =
+    let a = c.args in
+    let v = view a.pass.now in
+    let x = view c.loop-at.pass in
+    let z = view c.swap.new.pass in
+    let i = c.loop-at.invariant in
+    let e = c.swap.ensures in
+    record {
+      pass = e.pass;
+      stack = e.stack ∙ i.stack;
+      list = e.list;
+      early = e.only.work.committed a.o ∙ i.early;
+      only = put_then v x z a.o i.only e.only;
+      block = e.block ∙ i.block;
+      turning = λ values long putting. e.turned values long (i.turning values long putting);
+    }
+
+pub returns-clause-turned : goal.returns-clause-turned
+returns-clause-turned c values long putting =
+    let a = c.args in
+    let at : c.loop-at.at ≡ a.count / 2 = let t = c.loop-at-test.false in let e = c.loop-at.auto.at-end in omega (arith, t, e) in
+    subst (λ (n : ℕ). IsTurning (class_of (name_of a.table)) values n (held a.o (view c.loop-at.pass)).table) at (c.loop-at.invariant.turning values long putting)

@@ -1,0 +1,26 @@
+use Rattle.std.proofs.Common.{◌≡◌, false, List, length}
+use Rattle.ft_model.specs.declared.data.Value.{Value}
+use Rattle.ft_trace.specs.Acts.{has_committed}
+use Rattle.ft_trace.specs.Addresses.{class_of}
+use Rattle.ft_trace.specs.Holds.{held}
+use Rattle.ft_bank.specs.Passes.{shape_of, view, IsPassOf}
+use Rattle.ft_bank.specs.Sections.{stack_of}
+use Rattle.ft_bank.specs.Tables.{name_of}
+use Rattle.ft_bank.specs.Whole.{OnlyPut}
+use Rattle.ft_list.specs.Items.{WritesList, IsPutting, stored_at}
+use Rattle.ft_list.specs.Turning.{IsTurning}
+use Rattle.ft_list.proofs.turning.turn.Given as goal
+
+abbrev pub invariant-loop-at : goal.invariant-loop-at
+invariant-loop-at l =
+    record {
+      pass : IsPassOf l.bank l.pass;
+      stack : stack_of l.pass ≡ stack_of l.initial.pass;
+      list : WritesList (shape_of l.bank) l.o l.table (view l.pass);
+      early : has_committed l.o (view l.pass).log ≡ false;
+      only : OnlyPut l.o (view l.initial.pass) (view l.pass);
+      block : (held l.o (view l.pass)).block ≡ (held l.o (view l.initial.pass)).block;
+      turning : (values : List Value) → length values ≡ l.count
+          → IsPutting (class_of (name_of l.table)) values 0 l.count (stored_at values) (held l.o (view l.initial.pass)).table
+          → IsTurning (class_of (name_of l.table)) values l.at (held l.o (view l.pass)).table;
+    }

@@ -1,0 +1,161 @@
+//! Looks at whole lists without a lock, by their versions: `v in l`, all items, `l == m`.
+//!
+//! The version of each list that the call names is loaded before its words and after them. Where it was even
+//! and stayed the same, no write of that list came between.
+ghost use Rattle.std.specs.Prelude.{◌≡◌, ◌<◌, true, false, IfOk};
+ghost use Rattle.ft_model.specs.declared.call.Call.TheVariants as call;
+ghost use Rattle.ft_model.specs.declared.call.ListCall.TheVariants as list;
+ghost use Rattle.ft_model.specs.declared.script.Kind.TheVariants as kind;
+ghost use Rattle.ft_model.specs.Lists.{index_of};
+ghost use Rattle.ft_trace.specs.Addresses.{containers_in};
+ghost use Rattle.ft_trace.specs.Worlds.{kind_in};
+ghost use Rattle.ft_bank.specs.Passes.{shape_of, view, IsPassOf};
+ghost use Rattle.ft_bank.specs.Sections.{stack_of};
+ghost use Rattle.ft_search.specs.Lengths.{IsGlanceOf};
+ghost use Rattle.ft_list.specs.Glances.{HasMoved, WasStill, SawItems, IsCopyGlanceOf};
+
+use crate::copies::copy_items;
+use crate::scans::first_equal;
+use ft_bank::{Bank, Pass};
+use ft_model::{Call, ListCall, Reply, Value, Values};
+use ft_search::answer_look;
+use ft_section::{Look, Object};
+use std::alloc::{AllocError, Global};
+
+/// Two loads of the version of a list, and the load of the counter between them.
+#[derive(Clone, Copy)]
+pub(crate) struct Window {
+    /// The version at first.
+    pub(crate) opened: u64,
+    /// The counter.
+    pub(crate) number: u64,
+    /// The version at last.
+    pub(crate) closed: u64,
+}
+
+impl Window {
+    /// Whether a write may have come between: the version was odd, or it moved.
+    fn has_moved(self) -> bool
+        ensures moved { result ≡ true → HasMoved self }
+        ensures still { result ≡ false → WasStill self }
+    {
+        self.closed != self.opened || self.opened % 2 != 0
+    }
+}
+
+/// Looks for the first equal item, and loads the counter, between two loads of the version of the list.
+fn find_between(bank: &Bank, pass: &mut Pass, l: Object, value: Value) -> (Option<u64>, Window)
+    requires pass { IsPassOf bank.now pass.old }
+    requires container { l < containers_in (shape_of bank.now) }
+    ensures pass { IsPassOf bank.now pass.new }
+    ensures saw { SawItems (shape_of bank.now) l (λ items. result.0 ≡ index_of items value) result.1 pass.old pass.new }
+{
+    let opened = bank.seq(pass, l);
+    let found = first_equal(bank, pass, l, value);
+    let number = bank.stamp(pass);
+    let closed = bank.seq(pass, l);
+    (
+        found,
+        Window {
+            opened,
+            number,
+            closed,
+        },
+    )
+}
+
+/// Copies all items, and loads the counter, between two loads of the version of the list.
+fn copy_between(
+    bank: &Bank,
+    pass: &mut Pass,
+    alloc: Global,
+    l: Object,
+) -> (Result<Vec<Value>, AllocError>, Window)
+    requires pass { IsPassOf bank.now pass.old }
+    requires container { l < containers_in (shape_of bank.now) }
+    ensures pass { IsPassOf bank.now pass.new }
+    ensures saw { SawItems (shape_of bank.now) l (λ items. IfOk result.0 (λ copy. copy.items ≡ items)) result.1
+        pass.old pass.new }
+{
+    let opened = bank.seq(pass, l);
+    let copy = copy_items(bank, pass, alloc, l);
+    let number = bank.stamp(pass);
+    let closed = bank.seq(pass, l);
+    (
+        copy,
+        Window {
+            opened,
+            number,
+            closed,
+        },
+    )
+}
+
+/// `v in l` without the lock (Python manual, Sequence Types).
+///
+/// # Errors
+///
+/// `Contended` where two loads of the version of the list gave an odd number or two different ones. It never
+/// answers `NoMemory`.
+pub fn look_has(bank: &Bank, pass: &mut Pass, l: Object, value: Value) -> Look
+    requires pass { IsPassOf bank.now pass.old }
+    requires container { l < containers_in (shape_of bank.now) }
+    requires list { kind_in (shape_of bank.now).kinds l ≡ kind.List }
+    requires left { 0 < (view pass.old).left }
+    ensures pass { IsPassOf bank.now pass.new }
+    ensures sections { stack_of pass.new ≡ stack_of pass.old }
+    ensures looked { IsGlanceOf l (call.List l (list.Has value)) (view pass.old) (view pass.new) result }
+{
+    let (found, window) = find_between(bank, pass, l, value);
+    if window.has_moved() {
+        return Look::Contended(window.opened, window.closed);
+    }
+    let called = Call::List {
+        container: l,
+        call: ListCall::Has { value },
+    };
+    answer_look(
+        bank,
+        pass,
+        &called,
+        Reply::Truth(found.is_some()),
+        window.number,
+    )
+}
+
+/// All items without the lock.
+///
+/// # Errors
+///
+/// `Contended` where two loads of the version of the list gave an odd number or two different ones;
+/// `NoMemory` where memory for the copy ran out. The pass only loaded words then.
+pub fn look_items(bank: &Bank, pass: &mut Pass, alloc: Global, l: Object) -> Look
+    requires pass { IsPassOf bank.now pass.old }
+    requires container { l < containers_in (shape_of bank.now) }
+    requires list { kind_in (shape_of bank.now).kinds l ≡ kind.List }
+    requires left { 0 < (view pass.old).left }
+    ensures pass { IsPassOf bank.now pass.new }
+    ensures sections { stack_of pass.new ≡ stack_of pass.old }
+    ensures looked { IsCopyGlanceOf l (call.List l list.Items) (view pass.old) (view pass.new) result }
+{
+    let (copy, window) = copy_between(bank, pass, alloc, l);
+    if window.has_moved() {
+        return Look::Contended(window.opened, window.closed);
+    }
+    match copy {
+        Ok(items) => {
+            let called = Call::List {
+                container: l,
+                call: ListCall::Items,
+            };
+            answer_look(
+                bank,
+                pass,
+                &called,
+                Reply::List(Values::from_vec(items)),
+                window.number,
+            )
+        }
+        Err(_) => Look::NoMemory,
+    }
+}

@@ -1,0 +1,136 @@
+//! `l.reverse()` of a list whose lock the pass has: one whole write, in which the items are swapped pairwise.
+ghost use Rattle.std.specs.Prelude.{◌≡◌, ℕ, ◌+◌, ◌-◌, ◌/◌, ◌<◌, ◌≤◌, List, false, true, length, reverse};
+ghost use Rattle.ft_model.specs.declared.call.Call.TheVariants as call;
+ghost use Rattle.ft_model.specs.declared.call.ListCall.{ListCall};
+ghost use Rattle.ft_model.specs.declared.call.ListCall.TheVariants as list;
+ghost use Rattle.ft_model.specs.declared.data.Value.{Value};
+ghost use Rattle.ft_model.specs.declared.reply.Reply.TheVariants as reply;
+ghost use Rattle.ft_trace.specs.Acts.{has_committed};
+ghost use Rattle.ft_trace.specs.Addresses.{class_of, slots};
+ghost use Rattle.ft_trace.specs.Holds.{held};
+ghost use Rattle.ft_trace.specs.Words.{root_in};
+ghost use Rattle.ft_bank.specs.Passes.{shape_of, view, IsPassOf};
+ghost use Rattle.ft_bank.specs.Sections.{stack_of};
+ghost use Rattle.ft_bank.specs.Tables.{name_of};
+ghost use Rattle.ft_bank.specs.Whole.{OnlyPut, Wrote};
+ghost use Rattle.ft_list.specs.Calls.{MayWriteList, HasTable, Changes};
+ghost use Rattle.ft_list.specs.Items.{WritesList, IsPutting, items_of, stored_at};
+ghost use Rattle.ft_list.specs.Tries.{MadeAs};
+ghost use Rattle.ft_list.specs.Turning.{IsTurning};
+
+use crate::bare::write_nothing;
+use crate::items::{finish, item, put_item};
+use crate::locked::count_of;
+use crate::writes::begin;
+use ft_bank::{Bank, Pass, Table};
+use ft_model::{Call, ListCall, Reply};
+use ft_search::table_named;
+use ft_section::{Object, Stamp};
+
+/// Swaps two items, the later one as far from the last as the earlier one from the first.
+fn swap(bank: &Bank, pass: &mut Pass, o: u32, table: Table, count: u64, at: u64)
+    requires pass { IsPassOf bank.now pass.old }
+    requires list { WritesList (shape_of bank.now) o table (view pass.old) }
+    requires early { has_committed o (view pass.old).log ≡ false }
+    requires places { (at < count - 1 - at) × (count ≤ slots (class_of (name_of table))) }
+    ensures pass { IsPassOf bank.now pass.new }
+    ensures stack { stack_of pass.new ≡ stack_of pass.old }
+    ensures list { WritesList (shape_of bank.now) o table (view pass.new) }
+    ensures only { OnlyPut o (view pass.old) (view pass.new) }
+    ensures block { (held o (view pass.new)).block ≡ (held o (view pass.old)).block }
+    ensures turned { (values : List Value) → length values ≡ count →
+        IsTurning (class_of (name_of table)) values at (held o (view pass.old)).table →
+        IsTurning (class_of (name_of table)) values (at + 1) (held o (view pass.new)).table }
+{
+    let last = count - 1 - at;
+    let early = item(bank, pass, o, table, at);
+    let late = item(bank, pass, o, table, last);
+    put_item(bank, pass, o, table, at, late);
+    put_item(bank, pass, o, table, last, early);
+}
+
+/// Swaps the first item with the last one, and so on up to the middle.
+fn turn(bank: &Bank, pass: &mut Pass, o: u32, table: Table, count: u64)
+    requires pass { IsPassOf bank.now pass.old }
+    requires list { WritesList (shape_of bank.now) o table (view pass.old) }
+    requires early { has_committed o (view pass.old).log ≡ false }
+    requires count { count ≤ slots (class_of (name_of table)) }
+    ensures pass { IsPassOf bank.now pass.new }
+    ensures stack { stack_of pass.new ≡ stack_of pass.old }
+    ensures list { WritesList (shape_of bank.now) o table (view pass.new) }
+    ensures only { OnlyPut o (view pass.old) (view pass.new) }
+    ensures block { (held o (view pass.new)).block ≡ (held o (view pass.old)).block }
+    ensures turned { (values : List Value) → length values ≡ count →
+        IsPutting (class_of (name_of table)) values 0 count (stored_at values) (held o (view pass.old)).table →
+        IsTurning (class_of (name_of table)) values (count / 2) (held o (view pass.new)).table }
+{
+    for at in 0..count / 2 {
+        swap(bank, pass, o, table, count, at);
+    }
+}
+
+/// Turns the items of a list round, as the write of this call. Answers the number of the write.
+fn reverse_items(
+    bank: &Bank,
+    pass: &mut Pass,
+    o: u32,
+    table: Table,
+    count: u64,
+    called: &Call,
+    said: &Reply,
+) -> u64
+    requires pass { IsPassOf bank.now pass.old }
+    requires may { MayWriteList (shape_of bank.now) o (view pass.old) }
+    requires table { HasTable (shape_of bank.now) o table (view pass.old) }
+    requires count { count ≡ length (items_of o (view pass.old)) }
+    requires call { (lc : ListCall) × (called.now ≡ call.List o lc) × Changes o lc said.now
+        (items_of o (view pass.old)) (reverse (items_of o (view pass.old))) (view pass.old) }
+    ensures pass { IsPassOf bank.now pass.new }
+    ensures stack { stack_of pass.new ≡ stack_of pass.old }
+    ensures wrote { Wrote called.now said.now result (view pass.old) (view pass.new) }
+    ensures root { root_in (held o (view pass.new)) ≡ root_in (held o (view pass.old)) }
+{
+    begin(bank, pass, o, table);
+    turn(bank, pass, o, table, count);
+    finish(bank, pass, o, table, called, said, 0, count)
+}
+
+/// `l.reverse()`, under the lock (Python manual, Mutable Sequence Types).
+pub fn reverse_locked(bank: &Bank, pass: &mut Pass, l: Object) -> (Reply, Stamp)
+    requires pass { IsPassOf bank.now pass.old }
+    requires may { MayWriteList (shape_of bank.now) l (view pass.old) }
+    ensures pass { IsPassOf bank.now pass.new }
+    ensures stack { stack_of pass.new ≡ stack_of pass.old }
+    ensures made { MadeAs (call.List l list.Reverse) result.0 result.1 (view pass.old) (view pass.new) }
+    ensures done { (result.0 ≡ reply.Done) × (result.1.wrote ≡ true) }
+{
+    let called = Call::List {
+        container: l,
+        call: ListCall::Reverse,
+    };
+    let said = Reply::Done;
+    let count = count_of(bank, pass, l);
+    let root = bank.read_block(pass, l, 0);
+    match table_named(root) {
+        Some(table) => {
+            let number = reverse_items(bank, pass, l, table, count, &called, &said);
+            (
+                said,
+                Stamp {
+                    number,
+                    wrote: true,
+                },
+            )
+        }
+        None => {
+            let number = write_nothing(bank, pass, l, &called, &said);
+            (
+                said,
+                Stamp {
+                    number,
+                    wrote: true,
+                },
+            )
+        }
+    }
+}

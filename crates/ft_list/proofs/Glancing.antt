@@ -1,8 +1,10 @@
 -- From what loads between two loads of a list's version show to what a call may answer.
-use Rattle.std.proofs.Common.{◌≡◌, ◌≢◌, ◌≤◌, ℕ, ◌<◌, List, [], ◌∷◌, ◌++◌, refl, sym, ◌∙◌, subst}
+use Rattle.std.proofs.Common.{◌≡◌, ◌≢◌, ◌≤◌, ℕ, ◌<◌, Bool, List, [], ◌∷◌, ◌++◌, refl, sym, ap, ◌∙◌, subst, inr, append_assoc}
 use Rattle.ft_model.specs.declared.call.Call.{Call}
 use Rattle.ft_model.specs.declared.call.Call.TheVariants as call
 use Rattle.ft_model.specs.declared.call.ListCall.{ListCall}
+use Rattle.ft_model.specs.declared.call.ListCall.TheVariants as list
+use Rattle.ft_model.specs.Lists.{same_items}
 use Rattle.ft_model.specs.declared.content.Content.{Content}
 use Rattle.ft_model.specs.declared.data.Value.{Value}
 use Rattle.ft_model.specs.declared.reply.Reply.{Reply}
@@ -16,7 +18,7 @@ use Rattle.ft_trace.specs.declared.Shape.{Shape}
 use Rattle.ft_trace.specs.declared.View.{View}
 use Rattle.ft_trace.specs.Acts.{noted, shown}
 use Rattle.ft_trace.specs.Addresses.{containers_in}
-use Rattle.ft_trace.specs.Reading.{Among, Looked}
+use Rattle.ft_trace.specs.Reading.{Among, Between, Looked, LookedAtBoth}
 use Rattle.ft_trace.specs.Traces.{Possible}
 use Rattle.ft_trace.specs.Worlds.{kind_in, kept_at}
 use Rattle.ft_bank.specs.declared.pass.Pass.{Pass}
@@ -24,7 +26,7 @@ use Rattle.ft_bank.specs.Answered.{Answered}
 use Rattle.ft_bank.specs.Passes.{view}
 use Rattle.ft_bank.specs.Reads.{IsShown}
 use Rattle.ft_bank.specs.Whole.{OnlyLoaded}
-use Rattle.ft_bank.proofs.Showing.{looks_are_shown}
+use Rattle.ft_bank.proofs.Showing.{looks_are_shown, looks_at_both_are_shown}
 use Rattle.ft_search.specs.Lengths.{IsStopped}
 use Rattle.ft_search.specs.Looks.{AreLooks}
 use Rattle.ft_search.proofs.Asking.{may_ask, answered_after}
@@ -32,8 +34,8 @@ use Rattle.ft_search.proofs.Lengths.{IsPlain, between_own}
 use Rattle.ft_search.proofs.Rounding.{looks_append, looks_load}
 use Rattle.ft_search.proofs.Running.{did_log}
 use Rattle.ft_list.specs.declared.glances.Window.{Window}
-use Rattle.ft_list.specs.Glances.{HasMoved, WasStill, SawItems}
-use Rattle.ft_list.proofs.Indexes.{agrees_older}
+use Rattle.ft_list.specs.Glances.{HasMoved, WasStill, SawItems, SawBoth}
+use Rattle.ft_list.proofs.Indexes.{agrees_newer, agrees_older}
 
 module _ (k : Shape) (o : ℕ) (holds : List Value → Type 0) (w : Window) (p q : Pass) (saw : SawItems k o holds w p q) where
   abbrev part : List Act
@@ -80,3 +82,85 @@ module _ (k : Shape) (o : ℕ) (holds : List Value → Type 0) (w : Window) (p q
     saw_shown still same low is left =
         looks_are_shown (view q) (call.List o lc) o said w.number (may_ask (view p) (view q) k o w.number acts saw_loaded looks own counted same low left) plain.reads plain.cursor plain.adds plain.memory other (plain.replied said refl)
         (subst (λ (z : Shape). Looked z (call.List o lc) o said w.number (view q).log) (sym same) (looked still is))
+
+-- ---- two lists
+
+module _ (k : Shape) (o m : ℕ) (holds : List Value → List Value → Type 0) (w u : Window) (p q : Pass) (saw : SawBoth k o m holds w u p q) where
+  abbrev both : List Act
+  both = saw.0
+
+  abbrev opens : List Act
+  opens = Version m u.opened ∷ (Version o w.opened ∷ [])
+
+  abbrev both_acts : List Act
+  both_acts = Version o w.closed ∷ (Version m u.closed ∷ (ReadCounter w.number ∷ (both ++ opens)))
+
+  both_looks : AreLooks both_acts
+  both_looks = looks_append both opens saw.1 tt
+
+  both_own : (view q).log ≡ both_acts ++ (view p).log
+  both_own = did_log both_acts p q saw.2
+
+  both_counted : Among (ReadCounter w.number) both_acts
+  both_counted = record { newer = Version o w.closed ∷ (Version m u.closed ∷ []); rest = both ++ opens; is = refl }
+
+  saw_both_loaded : OnlyLoaded (view p) (view q)
+  saw_both_loaded = subst (OnlyLoaded (view p)) (sym saw.2.1) (looks_load both_acts (view p) both_looks)
+
+  -- what was done between the loads of the version of each
+  abbrev first_mid : List Act
+  first_mid = Version m u.closed ∷ (ReadCounter w.number ∷ (both ++ Version m u.opened ∷ []))
+
+  abbrev other_mid : List Act
+  other_mid = ReadCounter w.number ∷ both
+
+  first_is : both_acts ≡ Version o w.closed ∷ (first_mid ++ Version o w.opened ∷ [])
+  first_is = ap (λ (l : List Act). Version o w.closed ∷ (Version m u.closed ∷ (ReadCounter w.number ∷ l))) (sym (append_assoc both (Version m u.opened ∷ []) (Version o w.opened ∷ [])))
+
+  pub saw_first_stopped : HasMoved w → IsStopped o w.opened w.closed (view p) (view q)
+  saw_first_stopped moved = record {
+    loaded = saw_both_loaded;
+    part = both_acts;
+    looks = both_looks;
+    own = both_own;
+    stops = record { newer = []; mid = first_mid; rest = []; is = first_is; moved = moved };
+  }
+
+  pub saw_other_stopped : HasMoved u → IsStopped m u.opened u.closed (view p) (view q)
+  saw_other_stopped moved = record {
+    loaded = saw_both_loaded;
+    part = both_acts;
+    looks = both_looks;
+    own = both_own;
+    stops = record { newer = Version o w.closed ∷ []; mid = other_mid; rest = Version o w.opened ∷ []; is = refl; moved = moved };
+  }
+
+  pub saw_both_answered : (called : Call) (said : Reply) (z : View) → z ≡ noted (Answer called said w.number) (view q) → (view p).learnt ≤ shown (view p).log → ∥ Possible z ∥₁ → Answered called said w.number (view p) z
+  saw_both_answered called said z did settled possible = answered_after (view p) (view q) z called said w.number both_acts saw_both_loaded both_own both_counted did settled possible
+
+  both_between : WasStill w → WasStill u → Between both_acts o first_mid × Between both_acts m other_mid
+  both_between still calm = (
+    record { version = w.opened; even = still.1; newer = []; rest = []; is = first_is ∙ (λ d. Version o (still.0 d) ∷ (first_mid ++ Version o w.opened ∷ [])) },
+    record { version = u.opened; even = calm.1; newer = Version o w.closed ∷ []; rest = Version o w.opened ∷ []; is = λ d. Version o w.closed ∷ (Version m (calm.0 d) ∷ (other_mid ++ Version m u.opened ∷ (Version o w.opened ∷ []))) },
+  )
+
+  module _ (alike : Bool) (means : (xs ys : List Value) → holds xs ys → alike ≡ same_items xs ys) where
+    looked_at_both : WasStill w → WasStill u → kind_in k.kinds o ≡ kind.List → kind_in k.kinds m ≡ kind.List → LookedAtBoth k (call.List o (list.Eq m)) o m (reply.Truth alike) w.number (view q).log
+    looked_at_both still calm is is' =
+        let between = both_between still calm in
+        record {
+          one = first_mid;
+          other = other_mid;
+          between = (between_own o first_mid both_acts (view p).log (view q).log both_own between.0, between_own m other_mid both_acts (view p).log (view q).log both_own between.1);
+          stamp = (record { newer = Version m u.closed ∷ []; rest = both ++ Version m u.opened ∷ []; is = refl }, record { newer = []; rest = both; is = refl });
+          answers = λ x y stored kind_is kind_is' stands stands' agrees agrees'.
+              let near = agrees_newer k o x both (Version m u.opened ∷ []) (agrees_older k o x (Version m u.closed ∷ (ReadCounter w.number ∷ [])) (both ++ Version m u.opened ∷ []) agrees) in
+              let far = agrees_older k m y (ReadCounter w.number ∷ []) both agrees' in
+              ap reply.Truth (sym (means (list_of (kept_at stored o).content) (list_of (kept_at stored m).content) (saw.3 x y near far (kept_at stored o) (kept_at stored m) (kind_is ∙ is) (kind_is' ∙ is') stands stands')));
+        }
+
+    pub saw_both_shown : WasStill w → WasStill u → (view q).shape ≡ k → o < containers_in k → m < containers_in k → kind_in k.kinds o ≡ kind.List → kind_in k.kinds m ≡ kind.List → 0 < (view p).left → IsShown (view q) (call.List o (list.Eq m)) (reply.Truth alike) w.number
+    saw_both_shown still calm same low high is is' left =
+        looks_at_both_are_shown (view q) (call.List o (list.Eq m)) o m (reply.Truth alike) w.number (may_ask (view p) (view q) k o w.number both_acts saw_both_loaded both_looks both_own both_counted same low left)
+        (subst (λ (z : Shape). m < containers_in z) (sym same) high) refl refl refl refl (λ e. absurd (cc)) (inr refl)
+        (subst (λ (z : Shape). LookedAtBoth z (call.List o (list.Eq m)) o m (reply.Truth alike) w.number (view q).log) (sym same) (looked_at_both still calm is is'))

@@ -86,14 +86,14 @@ among_older a b c m = record { newer = b ++ m.newer; rest = m.rest; is = ap (λ 
 -- ---- words that answer as loads did
 
 module _ (k : Shape) (o : ℕ) (x : Picture) where
-  agrees_append : (b c : List Act) → Agrees k o b x → Agrees k o c x → Agrees k o (b ++ c) x
+  pub agrees_append : (b c : List Act) → Agrees k o b x → Agrees k o c x → Agrees k o (b ++ c) x
   agrees_append b c p q = record {
     root = λ f m. ⊎_elim (λ n. p.root f n) (λ n. q.root f n) (among_split (ReadRoot o f) b c m);
     block = λ i f low m. ⊎_elim (λ n. p.block i f low n) (λ n. q.block i f low n) (among_split (ReadBlock o i f) b c m);
     table = λ t i f is low names m. ⊎_elim (λ n. p.table t i f is low names n) (λ n. q.table t i f is low names n) (among_split (ReadTable t i f) b c m);
   }
 
-  agrees_newer : (b c : List Act) → Agrees k o (b ++ c) x → Agrees k o b x
+  pub agrees_newer : (b c : List Act) → Agrees k o (b ++ c) x → Agrees k o b x
   agrees_newer b c p = record {
     root = λ f m. p.root f (among_in (ReadRoot o f) [] b c m);
     block = λ i f low m. p.block i f low (among_in (ReadBlock o i f) [] b c m);

@@ -18,4 +18,5 @@ pub mod Scanning
 pub mod Equal
 pub mod Turned
 pub mod Nothing
+pub mod Both
 pub mod Glancing

@@ -28,7 +28,7 @@ use Rattle.ft_list.specs.Calls.{MayWriteList}
 use Rattle.ft_list.specs.Items.{items_of}
 use Rattle.ft_list.specs.Indexes.{Reads, IsItemAt}
 use Rattle.ft_list.specs.Scans.{IsOfItems}
-use Rattle.ft_list.specs.Tries.{IsReplyTo}
+use Rattle.ft_search.specs.Calls.{IsReplyTo}
 use Rattle.ft_list.proofs.Trying.{reply_of_list}
 use Rattle.ft_list.proofs.Indexes.{reads_none, reads_map, reads_then, reads_loaded, items_counted}
 use Rattle.ft_list.proofs.Lists.{content_of, may_loaded}

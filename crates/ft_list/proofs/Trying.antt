@@ -1,10 +1,9 @@
 -- Calls under locks: what a pass in the midst of a call may do with a list, and that it is in the midst of its call still
 -- once it has.
-use Rattle.std.proofs.Common.{◌≡◌, ℕ, ◌<◌, ◌≤◌, Bool, true, false, List, ◌∷◌, ◌++◌, Some, None, refl, sym, ap, ◌∙◌, subst, inl, inr, ⊎_elim}
+use Rattle.std.proofs.Common.{◌≡◌, ℕ, ◌<◌, ◌≤◌, Bool, true, false, List, ◌∷◌, ◌++◌, Some, None, refl, sym, ap, ◌∙◌, subst, inl, inr}
 use Rattle.std.specs.Prelude.{◌&&◌, not, if◌then◌else◌, Result, Ok, Err}
 use Rattle.std.specs.declared.alloc.AllocError.{AllocError}
 use Rattle.std.specs.Option.{unwrap_or}
-use Rattle.std.proofs.lemmas.Bool.{cases_eq}
 use Rattle.ft_model.specs.declared.call.Call.{Call}
 use Rattle.ft_model.specs.declared.call.Call.TheVariants as call
 use Rattle.ft_model.specs.declared.call.ListCall.{ListCall}
@@ -25,8 +24,8 @@ use Rattle.ft_trace.specs.Acts.{has_lock, stage, stage_next, debt, debt_next, no
 use Rattle.ft_trace.specs.Addresses.{containers_in}
 use Rattle.ft_trace.specs.Holds.{held, known}
 use Rattle.ft_trace.specs.Traces.{Possible}
-use Rattle.ft_trace.specs.Words.{Picture, root_in, Stands}
-use Rattle.ft_trace.specs.Worlds.{Kept, kind_in, changes, reply_in}
+use Rattle.ft_trace.specs.Words.{root_in}
+use Rattle.ft_trace.specs.Worlds.{kind_in, changes, reply_in}
 use Rattle.ft_trace.proofs.Cases.{here}
 use Rattle.ft_bank.specs.declared.bank.Bank.{Bank}
 use Rattle.ft_bank.specs.declared.pass.Pass.{Pass}
@@ -38,14 +37,16 @@ use Rattle.ft_bank.specs.Whole.{OnlyLoaded, Wrote, hand_after, debt_after}
 use Rattle.ft_bank.specs.Writes.{MayHave}
 use Rattle.ft_bank.proofs.Whole.{loaded_by, loaded_then, work_knows}
 use Rattle.ft_section.specs.declared.answers.Stamp.{Stamp}
-use Rattle.ft_section.specs.Ready.{IsStill, IsMaking}
+use Rattle.ft_section.specs.Ready.{IsMaking}
 use Rattle.ft_section.proofs.Making.{making_stays}
 use Rattle.ft_search.proofs.Asking.{held_shown, answered_locked}
+use Rattle.ft_search.proofs.Calling.{has_loaded, making_made}
 use Rattle.ft_search.proofs.Lengths.{IsPlain}
-use Rattle.ft_search.proofs.Trying.{LeavesSections, still_loaded, making_read, making_stands}
+use Rattle.ft_search.proofs.Trying.{LeavesSections, still_loaded, making_stands}
 use Rattle.ft_list.specs.Calls.{MayWriteList, Changes, Raises}
 use Rattle.ft_list.specs.Items.{items_of}
-use Rattle.ft_list.specs.Tries.{IsReplyTo, KeepsTables, MadeAs, IsCopied}
+use Rattle.ft_search.specs.Calls.{IsReplyTo, KeepsTables, MadeAs}
+use Rattle.ft_list.specs.Copies.{IsCopied}
 use Rattle.ft_list.proofs.Commits.{list_is}
 use Rattle.ft_list.proofs.Lists.{content_of}
 use Rattle.ft_list.proofs.Loaded.{loaded_wrote, loaded_answered}
@@ -68,20 +69,8 @@ may_write b p o m low is mine left =
 
 -- ---- the reply
 
--- loads leave what the bank may have
-pub has_loaded : (v u : View) (stored : StoredWorld) → OnlyLoaded v u → MayHave v stored → MayHave u stored
-has_loaded v u stored l has =
-    let s = l.work.pass.shape in
-    record {
-      agrees = λ p low mine. has.agrees p (subst (λ (k : Shape). p < containers_in k) s low) (sym (l.work.pass.locks p) ∙ mine) ∙ sym (work_knows v u p l.work);
-      containers = has.containers ∙ sym (ap containers_in s);
-      kinds = has.kinds ∙ sym (ap (λ (k : Shape). k.kinds) s);
-      order = has.order;
-      words = has.words;
-    }
-
 pub reply_loaded : (called : Call) (said : Reply) (v u : View) → OnlyLoaded v u → IsReplyTo called said u → IsReplyTo called said v
-reply_loaded called said v u l replied stored has = replied stored (has_loaded v u stored l has)
+reply_loaded called said v u l replied stored has = replied stored (has_loaded v u l stored has)
 
 module _ (o : ℕ) (lc : ListCall) (said : Reply) (values : List Value) (v : View) (low : o < containers_in v.shape) (mine : has_lock o v.log ≡ true) (is_list : (known o v).content ≡ content.List values) where
   -- it is that of the plain list with the items that the pass knows
@@ -164,33 +153,6 @@ module _ (k : Shape) (o : ℕ) (lc : ListCall) (said : Reply) (v u w : View) (sh
       (loaded_answered called said stamp.number v u w loaded part log x)
 
 -- ---- after the call
-
-still_wrote : (called : Call) (said : Reply) (n : ℕ) (v w : View) → Wrote called said n v w → KeepsTables v w → IsStill v → IsStill w
-still_wrote called said n v w x tables s = record {
-  even = λ p. x.pass.writes p ∙ s.even p;
-  hands = λ t. ⊎_elim (λ (e : stage t v.log ≡ 0). inl (tables.hands t ∙ e)) (λ (e : stage t v.log ≡ 4). inr (tables.hands t ∙ e)) (s.hands t);
-  used = x.used;
-  owes = x.owes;
-  flight = x.pass.flight ∙ s.flight;
-  stands = λ p low has.
-      let inside = subst (λ (k : Shape). p < containers_in k) x.pass.shape low in
-      let mine = sym (x.pass.locks p) ∙ has in
-      subst (λ (k : Shape). Stands k.texts (held p w) (known p w)) (sym x.pass.shape) (elim (cases_eq p (changes called)) [
-        | inl e ↦ subst (λ (o : ℕ). Stands v.shape.texts (held o w) (known o w)) (sym e) x.stands
-        | inr ne ↦
-            let same = x.others p inside ne mine (s.even p) in
-            subst (λ (z : Picture × Kept). Stands v.shape.texts z.0 z.1) (sym (λ d. (same.0 d, same.1 d))) (s.stands p inside mine)
-      ]);
-}
-
-pub making_made : (b : Bank) (p q : Pass) (called : Call) (said : Reply) (stamp : Stamp) → LeavesSections called → IsMaking b p → IsPassOf b q → stack_of q ≡ stack_of p → MadeAs called said stamp (view p) (view q) → IsMaking b q
-making_made b p q called said stamp leaves m pass stack x =
-    ⊎_elim
-    (λ (w : (stamp.wrote ≡ true) × Wrote called said stamp.number (view p) (view q)).
-    making_stays b p q m pass stack w.1.pass.shape w.1.pass.locks w.1.pass.begun (still_wrote called said stamp.number (view p) (view q) w.1 x.tables m.inside.1.still))
-    (λ (a : (stamp.wrote ≡ false) × Answered called said stamp.number (view p) (view q)).
-    making_read b p q called said stamp.number leaves m pass stack a.1)
-    x.made
 
 -- loads in the midst of it
 pub making_loaded : (b : Bank) (p q : Pass) → IsMaking b p → IsPassOf b q → stack_of q ≡ stack_of p → OnlyLoaded (view p) (view q) → IsMaking b q

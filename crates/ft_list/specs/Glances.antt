@@ -17,6 +17,7 @@ use Rattle.ft_section.specs.declared.answers.Look.TheVariants as look
 use Rattle.ft_search.specs.Lengths.{IsStopped}
 use Rattle.ft_search.specs.Looks.{AreLooks}
 use Rattle.ft_list.specs.declared.glances.Window.{Window}
+use Rattle.ft_list.specs.Pairs.{AreOfItems}
 use Rattle.ft_list.specs.Scans.{IsOfItems}
 
 -- the version was odd at first, or it moved
@@ -34,6 +35,15 @@ SawItems k o holds w p q =
     (part : List Act) × AreLooks part
     × DidAll (Version o w.closed ∷ (ReadCounter w.number ∷ (part ++ Version o w.opened ∷ []))) p q
     × ((x : Picture) → Agrees k o part x → IsOfItems k holds x)
+
+-- The pass loaded the version of each of two lists, words of both, the counter, and both versions again; and this is so of
+-- the items of any two lists whose words answer so.
+abbrev pub SawBoth : Shape → ℕ → ℕ → (List Value → List Value → Type 0) → Window → Window → Pass → Pass → Type 0
+SawBoth k o m holds w u p q =
+    (part : List Act) × AreLooks part
+    × DidAll (Version o w.closed ∷ (Version m u.closed ∷ (ReadCounter w.number ∷ (part
+    ++ Version m u.opened ∷ (Version o w.opened ∷ []))))) p q
+    × ((x y : Picture) → Agrees k o part x → Agrees k m part y → AreOfItems k holds x y)
 
 -- What a call answers that copies a list between two loads of its version. It gave a reply, which is the one that its entry
 -- has, with a stamp that it loaded; or it was contended; or there was no memory, and the pass only loaded words.

@@ -9,7 +9,7 @@ ghost use Rattle.ft_bank.specs.Sections.{stack_of};
 ghost use Rattle.ft_list.specs.Calls.{MayWriteList};
 ghost use Rattle.ft_list.specs.Indexes.{Reads};
 ghost use Rattle.ft_list.specs.Scans.{IsOfItems};
-ghost use Rattle.ft_list.specs.Tries.{IsCopied};
+ghost use Rattle.ft_list.specs.Copies.{IsCopied};
 
 use crate::locked::LENGTH;
 use crate::reads::read_item;

@@ -6,15 +6,17 @@ ghost use Rattle.std.specs.Prelude.{◌≡◌, ◌<◌, true, false, IfOk};
 ghost use Rattle.ft_model.specs.declared.call.Call.TheVariants as call;
 ghost use Rattle.ft_model.specs.declared.call.ListCall.TheVariants as list;
 ghost use Rattle.ft_model.specs.declared.script.Kind.TheVariants as kind;
-ghost use Rattle.ft_model.specs.Lists.{index_of};
+ghost use Rattle.ft_model.specs.Lists.{index_of, same_items};
 ghost use Rattle.ft_trace.specs.Addresses.{containers_in};
 ghost use Rattle.ft_trace.specs.Worlds.{kind_in};
 ghost use Rattle.ft_bank.specs.Passes.{shape_of, view, IsPassOf};
 ghost use Rattle.ft_bank.specs.Sections.{stack_of};
 ghost use Rattle.ft_search.specs.Lengths.{IsGlanceOf};
-ghost use Rattle.ft_list.specs.Glances.{HasMoved, WasStill, SawItems, IsCopyGlanceOf};
+ghost use Rattle.ft_list.specs.Glances.{HasMoved, WasStill, SawItems, SawBoth, IsCopyGlanceOf};
+ghost use Rattle.ft_list.specs.Pairs.{IsGlanceOfBoth};
 
 use crate::copies::copy_items;
+use crate::pairs::are_alike;
 use crate::scans::first_equal;
 use ft_bank::{Bank, Pass};
 use ft_model::{Call, ListCall, Reply, Value, Values};
@@ -158,4 +160,65 @@ pub fn look_items(bank: &Bank, pass: &mut Pass, alloc: Global, l: Object) -> Loo
         }
         Err(_) => Look::NoMemory,
     }
+}
+
+/// Compares two lists, and loads the counter, between two loads of the version of each.
+fn alike_between(bank: &Bank, pass: &mut Pass, l: Object, m: Object) -> (bool, Window, Window)
+    requires pass { IsPassOf bank.now pass.old }
+    requires container { l < containers_in (shape_of bank.now) }
+    requires other { m < containers_in (shape_of bank.now) }
+    ensures pass { IsPassOf bank.now pass.new }
+    ensures saw { SawBoth (shape_of bank.now) l m (λ items others. result.0 ≡ same_items items others)
+        result.1 result.2 pass.old pass.new }
+{
+    let opened = bank.seq(pass, l);
+    let other_opened = bank.seq(pass, m);
+    let alike = are_alike(bank, pass, l, m);
+    let number = bank.stamp(pass);
+    let other_closed = bank.seq(pass, m);
+    let closed = bank.seq(pass, l);
+    (
+        alike,
+        Window {
+            opened,
+            number,
+            closed,
+        },
+        Window {
+            opened: other_opened,
+            number,
+            closed: other_closed,
+        },
+    )
+}
+
+/// `l == m` without locks (Python manual, Comparisons).
+///
+/// # Errors
+///
+/// `Contended` where two loads of the version of one of the lists gave an odd number or two different ones.
+/// It never answers `NoMemory`.
+pub fn look_eq(bank: &Bank, pass: &mut Pass, l: Object, m: Object) -> Look
+    requires pass { IsPassOf bank.now pass.old }
+    requires container { l < containers_in (shape_of bank.now) }
+    requires other { m < containers_in (shape_of bank.now) }
+    requires list { kind_in (shape_of bank.now).kinds l ≡ kind.List }
+    requires other_list { kind_in (shape_of bank.now).kinds m ≡ kind.List }
+    requires left { 0 < (view pass.old).left }
+    ensures pass { IsPassOf bank.now pass.new }
+    ensures sections { stack_of pass.new ≡ stack_of pass.old }
+    ensures looked { IsGlanceOfBoth l m (call.List l (list.Eq m)) (view pass.old) (view pass.new) result }
+{
+    let (alike, window, other) = alike_between(bank, pass, l, m);
+    if window.has_moved() {
+        return Look::Contended(window.opened, window.closed);
+    }
+    if other.has_moved() {
+        return Look::Contended(other.opened, other.closed);
+    }
+    let called = Call::List {
+        container: l,
+        call: ListCall::Eq { other: m },
+    };
+    answer_look(bank, pass, &called, Reply::Truth(alike), window.number)
 }

@@ -15,6 +15,7 @@ mod items;
 mod lens;
 mod locked;
 mod looks;
+mod pairs;
 mod reads;
 mod removals;
 mod scans;
@@ -24,10 +25,11 @@ mod turning;
 mod writes;
 
 pub use crate::gets::look_item;
-pub use crate::glances::{look_has, look_items};
+pub use crate::glances::{look_eq, look_has, look_items};
 pub use crate::indexing::{look_get, try_get};
 pub use crate::lens::{look_len, try_len};
 pub use crate::locked::{Appended, append_locked, del_locked, set_locked};
+pub use crate::pairs::try_eq;
 pub use crate::removals::{pop_locked, remove_locked};
 pub use crate::tries::{
     try_count, try_del, try_has, try_index, try_items, try_pop, try_remove, try_reverse, try_set,

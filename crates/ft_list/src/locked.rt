@@ -17,7 +17,7 @@ ghost use Rattle.ft_bank.specs.Sections.{stack_of};
 ghost use Rattle.ft_bank.specs.Whole.{OnlyLoaded};
 ghost use Rattle.ft_list.specs.Items.{items_of};
 ghost use Rattle.ft_list.specs.Calls.{MayWriteList, HasTable, Raises, IsAppended};
-ghost use Rattle.ft_list.specs.Tries.{MadeAs};
+ghost use Rattle.ft_search.specs.Calls.{MadeAs};
 
 use crate::writes::{insert_item, remove_item, set_item};
 use ft_bank::{Bank, Pass, Table};

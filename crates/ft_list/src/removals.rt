@@ -12,7 +12,7 @@ ghost use Rattle.ft_bank.specs.Sections.{stack_of};
 ghost use Rattle.ft_bank.specs.Whole.{OnlyLoaded};
 ghost use Rattle.ft_list.specs.Items.{items_of};
 ghost use Rattle.ft_list.specs.Calls.{MayWriteList};
-ghost use Rattle.ft_list.specs.Tries.{MadeAs};
+ghost use Rattle.ft_search.specs.Calls.{MadeAs};
 
 use crate::locked::{count_of, place_in, raise, table_of, value_fits};
 use crate::reads::read_item;

@@ -8,7 +8,7 @@ ghost use Rattle.ft_model.specs.declared.reply.Reply.TheVariants as reply;
 ghost use Rattle.ft_bank.specs.Passes.{shape_of, view, IsPassOf};
 ghost use Rattle.ft_bank.specs.Sections.{stack_of};
 ghost use Rattle.ft_list.specs.Calls.{MayWriteList};
-ghost use Rattle.ft_list.specs.Tries.{MadeAs};
+ghost use Rattle.ft_search.specs.Calls.{MadeAs};
 
 use crate::scans::{count_equal, first_equal};
 use ft_bank::{Bank, Pass};

@@ -8,7 +8,8 @@ ghost use Rattle.ft_trace.specs.Worlds.{kind_in};
 ghost use Rattle.ft_bank.specs.Passes.{shape_of, view};
 ghost use Rattle.ft_section.specs.declared.answers.Objects.TheVariants.{One};
 ghost use Rattle.ft_section.specs.Ready.{MayTry};
-ghost use Rattle.ft_list.specs.Tries.{IsMadeOf, IsCopyOf};
+ghost use Rattle.ft_search.specs.Calls.{IsMadeOf};
+ghost use Rattle.ft_list.specs.Copies.{IsCopyOf};
 
 use crate::copies::{items_locked, slice_locked};
 use crate::locked::{del_locked, set_locked};

@@ -15,7 +15,7 @@ ghost use Rattle.ft_bank.specs.Tables.{name_of};
 ghost use Rattle.ft_bank.specs.Whole.{OnlyPut, Wrote};
 ghost use Rattle.ft_list.specs.Calls.{MayWriteList, HasTable, Changes};
 ghost use Rattle.ft_list.specs.Items.{WritesList, IsPutting, items_of, stored_at};
-ghost use Rattle.ft_list.specs.Tries.{MadeAs};
+ghost use Rattle.ft_search.specs.Calls.{MadeAs};
 ghost use Rattle.ft_list.specs.Turning.{IsTurning};
 
 use crate::bare::write_nothing;

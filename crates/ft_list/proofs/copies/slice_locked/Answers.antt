@@ -11,7 +11,8 @@ use Rattle.ft_trace.specs.declared.Shape.{Shape}
 use Rattle.ft_trace.specs.Addresses.{containers_in}
 use Rattle.ft_bank.specs.Passes.{shape_of, view}
 use Rattle.ft_list.specs.Items.{items_of}
-use Rattle.ft_list.specs.Tries.{IsCopied, IsReplyTo, MadeAs}
+use Rattle.ft_search.specs.Calls.{IsReplyTo, MadeAs}
+use Rattle.ft_list.specs.Copies.{IsCopied}
 use Rattle.ft_list.proofs.Lists.{content_of}
 use Rattle.ft_list.proofs.Scanning.{items_hold, scan_loaded, scan_log, slice_replied, slice_plain}
 use Rattle.ft_list.proofs.Trying.{read_shown, read_made}

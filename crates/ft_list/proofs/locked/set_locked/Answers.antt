@@ -13,7 +13,7 @@ use Rattle.ft_trace.specs.declared.Shape.{Shape}
 use Rattle.ft_trace.specs.Addresses.{containers_in}
 use Rattle.ft_bank.specs.Passes.{shape_of, view}
 use Rattle.ft_bank.proofs.Whole.{loaded_then}
-use Rattle.ft_list.specs.Tries.{MadeAs}
+use Rattle.ft_search.specs.Calls.{MadeAs}
 use Rattle.ft_list.specs.Items.{items_of}
 use Rattle.ft_list.proofs.CallFacts.{set_changes}
 use Rattle.ft_list.proofs.Lists.{content_of}

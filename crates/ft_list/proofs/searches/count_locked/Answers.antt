@@ -6,7 +6,7 @@ use Rattle.ft_model.specs.Lists.{count_of}
 use Rattle.ft_trace.specs.declared.Shape.{Shape}
 use Rattle.ft_trace.specs.Addresses.{containers_in}
 use Rattle.ft_bank.specs.Passes.{shape_of, view}
-use Rattle.ft_list.specs.Tries.{IsReplyTo}
+use Rattle.ft_search.specs.Calls.{IsReplyTo}
 use Rattle.ft_list.proofs.Lists.{content_of}
 use Rattle.ft_list.proofs.Scanning.{items_hold, scan_loaded, scan_log, count_replied, count_plain}
 use Rattle.ft_list.proofs.Trying.{read_shown, read_made}

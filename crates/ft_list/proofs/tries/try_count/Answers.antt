@@ -3,7 +3,8 @@ use Rattle.ft_model.specs.declared.call.Call.TheVariants as call
 use Rattle.ft_model.specs.declared.call.ListCall.TheVariants as list
 use Rattle.ft_bank.specs.Passes.{view}
 use Rattle.ft_section.specs.declared.answers.Objects.TheVariants.{One}
-use Rattle.ft_list.proofs.Trying.{may_write, making_made}
+use Rattle.ft_search.proofs.Calling.{making_made}
+use Rattle.ft_list.proofs.Trying.{may_write}
 use Rattle.ft_list.proofs.tries.try_count.Goals as goal
 
 pub count_locked-reply-requires-clause-pass : goal.count_locked-reply-requires-clause-pass

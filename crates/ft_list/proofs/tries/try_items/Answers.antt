@@ -3,7 +3,7 @@ use Rattle.ft_model.specs.declared.call.Call.TheVariants as call
 use Rattle.ft_model.specs.declared.call.ListCall.TheVariants as list
 use Rattle.ft_bank.specs.Passes.{view}
 use Rattle.ft_section.specs.declared.answers.Objects.TheVariants.{One}
-use Rattle.ft_list.specs.Tries.{IsCopied}
+use Rattle.ft_list.specs.Copies.{IsCopied}
 use Rattle.ft_list.proofs.Trying.{may_write, making_copied}
 use Rattle.ft_list.proofs.tries.try_items.Goals as goal
 

@@ -20,7 +20,7 @@ use Rattle.ft_script.specs.Texts.{line, call_words}
 abbrev pub number_after : ℕ → ℕ
 number_after number = (number * 6364136223846793005 + 1442695040888963407) % 2 ^ 64
 
--- The number that stands after so many draws from a first one. (profile)
+-- The number that stands after this many draws from a first one. (profile)
 abbrev pub number_at : ℕ → ℕ → ℕ
 number_at first zero = first
 number_at first (suc draws) = number_after (number_at first draws)
@@ -41,7 +41,7 @@ call_by rest k =
 abbrev pub made_call : ℕ → Call
 made_call number = call_by (number / 2 ^ 33 % 8) (number / 2 ^ 33 / 8 % 1000)
 
--- The calls of so many numbers, the first of which is drawn after this one. (profile)
+-- The calls of this many numbers, the first of which is drawn after this one. (profile)
 abbrev pub made_calls : ℕ → ℕ → List Call
 made_calls first count = map (λ draws. made_call (number_at first (draws + 1))) (range_with_len 0 count)
 
@@ -76,7 +76,7 @@ made_head = record {
   order = [];
 }
 
--- The script of so many calls. (profile)
+-- The script of this number of calls. (profile)
 abbrev pub made_script : ℕ → ScriptParts
 made_script calls = record made_head { threads = map (made_thread calls) (range_with_len 0 4) }
 
@@ -92,6 +92,6 @@ head_words =
 abbrev pub thread_words : Thread → List (List (List ℕ))
 thread_words thread = (codes "thread" ∷ thread.name ∷ []) ∷ map (call_words made_head 0) thread.calls
 
--- The text of the script of so many calls: a line for each list of words. (profile)
+-- The text of the script of this number of calls: a line for each list of words. (profile)
 abbrev pub made_text : ℕ → List ℕ
 made_text calls = flat_map line (head_words ++ flat_map thread_words (made_script calls).threads)

@@ -15,7 +15,7 @@ const THREADS: u32 = 4;
 /// What each script declares that is made.
 const HEAD: &[u8] = b"heap 4096\ntables 12 16\ndict d\nlist l\nset s\n";
 
-/// Makes the text of a script with so many calls of a dict, a list and a set, dealt to four threads.
+/// Makes the text of a script with this number of calls of a dict, a list and a set, dealt to four threads.
 ///
 /// The same number gives the same text. `parse` reads it where it has at most 500,000 calls.
 ///

@@ -1,0 +1,3 @@
+pub mod NumberedEntries
+pub mod Parts
+pub mod Replies

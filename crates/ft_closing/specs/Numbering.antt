@@ -1,0 +1,60 @@
+-- What callers keep of the entries of their passes, and what they have then of the entries of all.
+use Rattle.std.specs.Prelude.{◌≡◌, ℕ, suc, All, List, [], ◌∷◌, length, map, reverse, take}
+use Rattle.std.specs.List.{flat_map, range_with_len}
+use Rattle.ft_model.specs.declared.call.Call.{Call}
+use Rattle.ft_model.specs.declared.entry.Entry.{Entry as NamedEntry}
+use Rattle.ft_model.specs.declared.entry.Storage.TheVariants as storage
+use Rattle.ft_model.specs.declared.script.ScriptParts.{ScriptParts}
+use Rattle.ft_model.specs.declared.script.Kind.{Kind}
+use Rattle.ft_model.specs.Answers.{answer, world_by}
+use Rattle.ft_model.specs.Histories.{cursors_of, hands_by, EachAt, IsCountedAs, IsReplied}
+use Rattle.ft_model.specs.Numbers.{IfEndsBegin, begins_of, marks_since, AreNumberedLists}
+use Rattle.ft_model.specs.Worlds.{kinds_of}
+use Rattle.ft_trace.specs.declared.Entry.{Entry}
+use Rattle.ft_trace.specs.declared.Shape.{Shape}
+use Rattle.ft_trace.specs.InOrder.{AreInOrder}
+use Rattle.ft_trace.specs.OwnCursors.{entry_of, AsksWithin}
+use Rattle.ft_trace.specs.OwnOrder.{AreInOwnOrder, IsWriteIn}
+
+-- the bank is made for the script: its containers, its tables, and a pass for each thread (profile)
+pub record IsFor (script : ScriptParts) (k : Shape) : Type 0 where
+  pub kinds : k.kinds ≡ kinds_of script.containers
+  pub tables : k.tables ≡ script.tables
+  pub passes : k.passes ≡ length script.threads
+
+-- Entries of a pass, newest first: where these are the same with thread, index and mark, the oldest first, each has the
+-- reply of the plain containers at its stamp to a thread with the hands that the earlier ones leave, or that of a section,
+-- or a MemoryError. (Python manual, Iterator Types: a cursor is its thread's)
+abbrev pub AreReplied : List Kind → List Call → ℕ → List Entry → Type 0
+AreReplied kinds calls room own =
+    (mine : List NamedEntry) → map entry_of mine ≡ reverse own → All (AsksWithin room) mine
+    → EachAt mine (λ place e. IsReplied e.call e.reply
+    (answer (world_by kinds (take e.stamp calls)) (hands_by kinds calls room (take place mine)) e.call).reply)
+
+-- A caller kept the entries of its pass, the oldest first, with its thread and an index, which counts from 1. An `end`
+-- says how many of its entries in the section waited. Each cursor is one of the thread's in the script. (profile)
+pub record IsKeptOf (script : ScriptParts) (thread : ℕ) (mine : List NamedEntry) (entries : List Entry) : Type 0 where
+  pub same : map entry_of mine ≡ reverse entries
+  pub own : All (λ entry. entry.thread ≡ thread) mine
+  pub indexes : map (λ entry. entry.index) mine ≡ range_with_len 1 (length mine)
+  pub counted : EachAt mine (λ place entry. IfEndsBegin (begins_of (take place mine)) entry.call
+      (λ begun. IsCountedAs (marks_since entry.thread (take place mine) begun) entry.reply))
+  pub asks : All (AsksWithin (cursors_of script thread)) mine
+
+-- each caller did, from this thread on, beside the entries of the passes in the same order (profile)
+abbrev pub AreKeptFrom : ScriptParts → ℕ → List (List NamedEntry) → List (List Entry) → Type 0
+AreKeptFrom script thread [] [] = Unit {0}
+AreKeptFrom script thread [] (own ∷ lists) = ⊥
+AreKeptFrom script thread (mine ∷ kept) [] = ⊥
+AreKeptFrom script thread (mine ∷ kept) (own ∷ lists) =
+    IsKeptOf script thread mine own × AreKeptFrom script (suc thread) kept lists
+
+-- entries of passes beside the writes in their order, and in the order of each pass, with replies by the hands that each
+-- pass had, are numbered entries of the script
+abbrev pub EntriesAreNumbered : Type 0
+EntriesAreNumbered =
+    (k : Shape) (script : ScriptParts) (calls : List Call) (lists : List (List Entry)) (kept : List (List NamedEntry))
+    → IsFor script k → AreInOrder k calls (flat_map (λ own. own) lists) → All (AreInOwnOrder (IsWriteIn calls)) lists
+    → All (λ own. (room : ℕ) → AreReplied k.kinds calls room own) lists
+    → AreKeptFrom script 0 kept lists → length kept ≡ length script.threads
+    → AreNumberedLists storage.Tables script calls kept

@@ -1,0 +1,7 @@
+//! From a closed bank to the entries of threads with their numbers, for whoever makes one history of them: it holds all
+//! that `ft_history` asks of entries that threads made beside each other.
+#![tactic(auto)]
+
+mod numbering;
+
+pub use crate::numbering::{closed_entries_are_numbered, entries_are_numbered};

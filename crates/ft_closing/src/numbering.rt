@@ -1,0 +1,28 @@
+//! The entries that callers kept of their passes, beside those of a closed bank. The functions do nothing: their
+//! contracts are laws.
+ghost use Rattle.std.specs.Prelude.{◌≡◌, List, length};
+ghost use Rattle.ft_model.specs.declared.call.Call.{Call};
+ghost use Rattle.ft_model.specs.declared.entry.Entry.{Entry};
+ghost use Rattle.ft_model.specs.declared.entry.Storage.TheVariants as storage;
+ghost use Rattle.ft_model.specs.declared.script.ScriptParts.{ScriptParts};
+ghost use Rattle.ft_model.specs.Numbers.{AreNumberedLists};
+ghost use Rattle.ft_bank.specs.Closings.{shape_in, lists_in};
+ghost use Rattle.ft_closing.specs.Numbering.{EntriesAreNumbered, IsFor, AreKeptFrom};
+
+use ft_bank::Closed;
+
+/// Entries that stand beside writes in their order, and in the order of their passes, with replies by the hands that each
+/// pass had, are numbered entries, where each caller kept its own with its thread and index.
+pub fn entries_are_numbered()
+    ensures { EntriesAreNumbered }
+{}
+
+/// The entries of a closed bank are numbered entries, where each caller kept its own with its thread and index, and the
+/// passes were taken in in the order of the threads.
+pub fn closed_entries_are_numbered(closed: &Closed)
+    ensures { (script : ScriptParts) (kept : List (List Entry)) → IsFor script (shape_in closed.now) →
+        AreKeptFrom script 0 kept (lists_in closed.now) → length kept ≡ length script.threads →
+        ∥ ((calls : List Call) × AreNumberedLists storage.Tables script calls kept) ∥₁ }
+{
+    let _ = closed;
+}

@@ -22,9 +22,9 @@ pub record IsFor (script : ScriptParts) (k : Shape) : Type 0 where
   pub tables : k.tables ≡ script.tables
   pub passes : k.passes ≡ length script.threads
 
--- Entries of a pass, newest first: where these are the same with thread, index and mark, the oldest first, each has the
--- reply of the plain containers at its stamp to a thread with the hands that the earlier ones leave, or that of a section,
--- or a MemoryError. (Python manual, Iterator Types: a cursor is its thread's)
+-- Entries of a pass, newest first: where these are the same with thread, index and mark, the oldest first, each has
+-- the reply of the plain containers at its stamp to a thread with the hands that the earlier ones leave, or that of a
+-- section, or a MemoryError. (Python manual, Iterator Types: a cursor is its thread's)
 abbrev pub AreReplied : List Kind → List Call → ℕ → List Entry → Type 0
 AreReplied kinds calls room own =
     (mine : List NamedEntry) → map entry_of mine ≡ reverse own → All (AsksWithin room) mine
@@ -49,8 +49,8 @@ AreKeptFrom script thread (mine ∷ kept) [] = ⊥
 AreKeptFrom script thread (mine ∷ kept) (own ∷ lists) =
     IsKeptOf script thread mine own × AreKeptFrom script (suc thread) kept lists
 
--- entries of passes beside the writes in their order, and in the order of each pass, with replies by the hands that each
--- pass had, are numbered entries of the script
+-- entries of passes beside the writes in their order, and in the order of each pass, with replies by the hands that
+-- each pass had, are numbered entries of the script
 abbrev pub EntriesAreNumbered : Type 0
 EntriesAreNumbered =
     (k : Shape) (script : ScriptParts) (calls : List Call) (lists : List (List Entry)) (kept : List (List NamedEntry))

@@ -4,4 +4,6 @@
 
 mod numbering;
 
-pub use crate::numbering::{closed_entries_are_numbered, entries_are_numbered};
+pub use crate::numbering::{
+    closed_entries_are_legal, closed_entries_are_numbered, entries_are_numbered,
+};

@@ -1,11 +1,14 @@
 //! The entries that callers kept of their passes, beside those of a closed bank. The functions do nothing: their
 //! contracts are laws.
 ghost use Rattle.std.specs.Prelude.{◌≡◌, List, length};
+ghost use Rattle.std.specs.List.{flat_map};
+ghost use Rattle.std.specs.List.Sorted.{IsPermutation, IsSorted};
 ghost use Rattle.ft_model.specs.declared.call.Call.{Call};
 ghost use Rattle.ft_model.specs.declared.entry.Entry.{Entry};
 ghost use Rattle.ft_model.specs.declared.entry.Storage.TheVariants as storage;
 ghost use Rattle.ft_model.specs.declared.script.ScriptParts.{ScriptParts};
-ghost use Rattle.ft_model.specs.Numbers.{AreNumberedLists};
+ghost use Rattle.ft_model.specs.Histories.{history_cmp};
+ghost use Rattle.ft_model.specs.Numbers.{AreDone, AreNumberedLists, IsHistoryOf};
 ghost use Rattle.ft_bank.specs.Closings.{shape_in, lists_in};
 ghost use Rattle.ft_closing.specs.Numbering.{EntriesAreNumbered, IsFor, AreKeptFrom};
 
@@ -25,4 +28,17 @@ pub fn closed_entries_are_numbered(closed: &Closed)
         ∥ ((calls : List Call) × AreNumberedLists storage.Tables script calls kept) ∥₁ }
 {
     let _ = closed;
+}
+
+/// So the entries of a closed bank, put in the order of a history, are a legal history of the script, where each caller
+/// made all its calls and its marks are right.
+pub fn closed_entries_are_legal(closed: &Closed)
+    ensures { (script : ScriptParts) (kept : List (List Entry)) (history : List Entry) →
+        IsFor script (shape_in closed.now) → AreKeptFrom script 0 kept (lists_in closed.now) →
+        length kept ≡ length script.threads →
+        ((calls : List Call) → AreNumberedLists storage.Tables script calls kept → AreDone script calls kept) →
+        IsPermutation (flat_map (λ mine. mine) kept) history → IsSorted history_cmp history →
+        ∥ ((calls : List Call) × IsHistoryOf storage.Tables script calls history) ∥₁ }
+{
+    closed_entries_are_numbered(closed);
 }

@@ -29,6 +29,7 @@ pub record KeepsHeld (F : ℕ → Type 0) (v w : View) : Type 0 where
   pub left : w.left ≡ v.left
   pub shape : w.shape ≡ v.shape
   pub entries : w.entries ≡ v.entries
+  pub lists : w.lists ≡ v.lists
   pub locks : (o : ℕ) → has_lock o w.log ≡ has_lock o v.log
   pub writes : (o : ℕ) → is_writing o w.log ≡ is_writing o v.log
   pub committed : (o : ℕ) → has_committed o w.log ≡ has_committed o v.log

@@ -16,7 +16,8 @@ use Rattle.ft_trace.specs.Holds.{held, known}
 use Rattle.ft_bank.specs.Writes.{MayHave}
 
 -- It is the same pass: it has the same locks, has made the same versions odd, announces the same, is in the midst of the
--- same taking or giving, has begun the same sections, has the same cursors, and has seen no fewer writes. (profile)
+-- same taking or giving, has begun the same sections, has the same cursors and the same entries of passes that it took
+-- in, and has seen no fewer writes. (profile)
 pub record SamePass (v w : View) : Type 0 where
   pub number : w.number ≡ v.number
   pub next : w.next ≡ v.next
@@ -30,6 +31,7 @@ pub record SamePass (v w : View) : Type 0 where
   pub cursors : (n : ℕ) → cursor_in n w.log ≡ cursor_in n v.log
   pub tokens : w.tokens ≡ v.tokens
   pub learnt : w.learnt ≡ v.learnt
+  pub lists : w.lists ≡ v.lists
   pub seen : seen_writes v ≤ seen_writes w
 
 -- The same pass has made no entry and no call, and has the same tables in hand; and each write that it has begun is as
@@ -88,6 +90,7 @@ pub record EndsWrite (called : Call) (said : Reply) (number : ℕ) (v w : View) 
   pub cursors : (n : ℕ) → cursor_in n w.log ≡ cursor_in n v.log
   pub tokens : w.tokens ≡ v.tokens
   pub learnt : w.learnt ≡ v.learnt
+  pub lists : w.lists ≡ v.lists
   pub seen : seen_writes v ≤ number
   pub shows : number < seen_writes w
   pub left : v.left ≡ suc w.left

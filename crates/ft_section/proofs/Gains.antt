@@ -28,6 +28,7 @@ only_tried v o f s free keeps =
       cursors = λ n. refl;
       tokens = refl;
       learnt = refl;
+      lists = refl;
       floor = refl;
       writes = λ p. refl;
       committed = λ p. refl;

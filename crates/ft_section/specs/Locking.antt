@@ -32,6 +32,7 @@ pub record OnlyLocked (v w : View) : Type 0 where
   pub cursors : (n : ℕ) → cursor_in n w.log ≡ cursor_in n v.log
   pub tokens : w.tokens ≡ v.tokens
   pub learnt : w.learnt ≡ v.learnt
+  pub lists : w.lists ≡ v.lists
   pub floor : w.has_floor ≡ v.has_floor
   pub writes : (p : ℕ) → is_writing p w.log ≡ is_writing p v.log
   pub committed : (p : ℕ) → has_committed p w.log ≡ has_committed p v.log

@@ -57,8 +57,8 @@ pub record AreNoted (objects : Objects) (own : Taking) : Type 0 where
   pub upper : own.upper ≡ upper_of objects
   pub once : own.lower ≡ own.upper → own.took_upper ≡ false
 
--- Whatever other passes did, each write from the stamp of the `begin` on that names a container of the section is one of
--- the pass's own entries: no other pass wrote on them. (C API, critical sections)
+-- Whatever other passes did, each write from the stamp of the `begin` on that names a container of the section is one
+-- of the pass's own entries: no other pass wrote on them. (C API, critical sections)
 abbrev pub IsUntouched : Begun → View → Type 0
 IsUntouched b v =
     Sure v (λ es. HasWritesOn (IsNumber (history es)) v.entries b.containers b.stamp (length (history es)))

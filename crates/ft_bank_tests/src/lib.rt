@@ -4,10 +4,18 @@
 
 mod rounds;
 #[cfg(test)]
+mod shapes;
+#[cfg(test)]
 mod steps;
 #[cfg(test)]
 mod tables;
 #[cfg(test)]
 mod threads;
+mod workers;
+mod writes;
+#[cfg(test)]
+mod writing;
 
 pub use crate::rounds::{go_round, go_round_with};
+pub use crate::workers::{Tally, take_once, work, work_in_four, work_in_two, write_once};
+pub use crate::writes::reverse_bare;

@@ -1,6 +1,7 @@
 //! One bank with two containers and two passes, through steps that need no table: numbers, starts and
 //! locks, worked by hand.
-ghost use Rattle.std.specs.Prelude.{◌≡◌, IfOk, length};
+ghost use Rattle.std.specs.Prelude.{◌≡◌, [], ◌∷◌, IfOk, length};
+ghost use Rattle.ft_model.specs.declared.script.Kind.TheVariants as kind;
 ghost use Rattle.ft_bank.specs.Openings.{IsOpening, AreOpening};
 
 use ft_bank::{Bank, Pass, Shape};
@@ -9,7 +10,8 @@ use std::alloc::Global;
 use std::test::Fail;
 
 pub(crate) fn small(alloc: Global) -> Result<Shape, Fail>
-    ensures { IfOk result (λ s. (length s.kinds.items ≡ 2) × (s.passes ≡ 2) × (s.calls ≡ 10)) }
+    ensures sizes { IfOk result (λ s. (length s.kinds.items ≡ 2) × (s.passes ≡ 2) × (s.calls ≡ 10)) }
+    ensures kinds { IfOk result (λ s. s.kinds.items ≡ kind.List ∷ kind.Dict ∷ []) }
 {
     Ok(Shape {
         kinds: vec![in alloc; Kind::List, Kind::Dict]?,

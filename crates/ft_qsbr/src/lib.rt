@@ -12,8 +12,6 @@ mod laws;
 mod retiring;
 mod sweeping;
 mod taking;
-#[cfg(test)]
-mod tests;
 
 pub use crate::announcing::{enter, leave, quiesce};
 pub use crate::collecting::collect;

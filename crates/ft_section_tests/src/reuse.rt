@@ -1,42 +1,9 @@
 //! Announcements, collections and takings of two passes, worked by hand. Write number and announced numbers
 //! begin with 1 and 0.
-ghost use Rattle.std.specs.Prelude.{◌≡◌, IfOk, length};
-ghost use Rattle.ft_bank.specs.Openings.{IsOpening, AreOpening};
-
-use crate::{collect, enter, leave, quiesce, take};
-use ft_bank::{Bank, Pass, Shape, Took};
-use ft_model::Kind;
-use std::alloc::Global;
+use crate::sections::{small, two};
+use ft_bank::{Bank, Took};
+use ft_qsbr::{collect, enter, leave, quiesce, take};
 use std::test::Fail;
-
-fn small(alloc: Global) -> Result<Shape, Fail>
-    ensures { IfOk result (λ s. s.passes ≡ 2) }
-{
-    Ok(Shape {
-        kinds: vec![in alloc; Kind::List]?,
-        texts: Vec::new(alloc),
-        tables: vec![in alloc; 1u32; 14]?,
-        heap: 64,
-        passes: 2,
-        calls: 10,
-    })
-}
-
-/// The two passes of a bank.
-fn two(bank: &Bank, passes: Vec<Pass>) -> Result<(Pass, Pass), Fail>
-    requires { AreOpening bank.now 0 passes.items }
-    ensures { IfOk result (λ p. IsOpening bank.now 0 p.0 × IsOpening bank.now 1 p.1) }
-{
-    let _ = bank;
-    let mut each = passes.into_iter();
-    let Some(first) = each.next() else {
-        return Err(Fail::from("there is pass 0"));
-    };
-    let Some(second) = each.next() else {
-        return Err(Fail::from("there is pass 1"));
-    };
-    Ok((first, second))
-}
 
 #[test]
 fn the_last_table_of_a_class_goes_round(rt: HostRuntime) -> Result<(), Fail> {

@@ -1,0 +1,175 @@
+-- The reversal of a list that has nothing, as a whole write.
+use Rattle.std.proofs.Common.{◌≡◌, ◌≢◌, ℕ, suc, ◌<◌, ◌≤◌, Bool, true, false, true≢false, List, [], ◌∷◌, length, Option, Some, None, refl, sym, ap, ◌∙◌, subst, inr, arith, get_or-set_same}
+use Rattle.std.specs.Prelude.{reverse, slice_index_or}
+use Rattle.std.proofs.lemmas.List.{length-reverse}
+use Rattle.std.proofs.Math.Nat.{ℕ_set}
+use Rattle.std.proofs.Math.Logic.{∥∥₁_elim}
+use Rattle.ft_model.specs.declared.call.Call.{Call}
+use Rattle.ft_model.specs.declared.call.Call.TheVariants as call
+use Rattle.ft_model.specs.declared.call.ListCall.TheVariants as list
+use Rattle.ft_model.specs.declared.content.Content.{Content}
+use Rattle.ft_model.specs.declared.content.Content.TheVariants as content
+use Rattle.ft_model.specs.declared.data.Value.{Value}
+use Rattle.ft_model.specs.declared.reply.Reply.TheVariants as reply
+use Rattle.ft_model.specs.declared.script.Kind.{Kind}
+use Rattle.ft_model.specs.declared.script.Kind.TheVariants as kind
+use Rattle.ft_model.specs.Answers.{after_write}
+use Rattle.ft_model.specs.Tables.{StoredWorld, after_stored}
+use Rattle.ft_model.specs.Worlds.{kind_of, length_of, list_of, list_at}
+use Rattle.ft_trace.specs.declared.Act.TheVariants.{StartWrite, Commit, StopWrite}
+use Rattle.ft_trace.specs.declared.Shape.{Shape}
+use Rattle.ft_trace.specs.declared.Snap.{Snap}
+use Rattle.ft_trace.specs.declared.View.{View}
+use Rattle.ft_trace.specs.Addresses.{containers_in}
+use Rattle.ft_trace.specs.Acts.{has_lock, is_writing, has_emptied, noted, seen_writes}
+use Rattle.ft_trace.specs.Reading.{IsNothing}
+use Rattle.ft_trace.specs.Traces.{Possible}
+use Rattle.ft_trace.specs.Worlds.{Kept, kept_at, kind_in}
+use Rattle.ft_trace.specs.Words.{Picture, root_in, Stands}
+use Rattle.ft_trace.specs.Holds.{held, known}
+use Rattle.ft_trace.proofs.Cases.{hit}
+use Rattle.ft_trace.proofs.Known.{declared_at, kind_known}
+use Rattle.ft_trace.proofs.Naming.{one_locked}
+use Rattle.ft_trace.proofs.Nothing.{no_table_stands}
+use Rattle.ft_bank.specs.Writes.{Committed, IsShut, MayCommit, MayHave}
+use Rattle.ft_bank.specs.Whole.{EndsWrite, OnlyLoaded, Wrote}
+use Rattle.ft_bank.proofs.Whole.{loaded_held, plain_write, put_same, work_knows, write_ends}
+use Rattle.ft_bank_tests.specs.Reversing.{MayReverse}
+
+-- the call
+abbrev pub reversal : ℕ → Call
+reversal l = call.List l list.Reverse
+
+-- 1 for a list
+list_code : Kind → ℕ
+list_code kind.Dict = 0
+list_code kind.List = 1
+list_code kind.Set = 0
+
+no_items : (values : List Value) → length values ≡ 0 → values ≡ []
+no_items [] none = refl
+no_items (x ∷ values) none = absurd (omega (arith, none))
+
+as_empty : (c : Content) → list_code (kind_of c) ≡ 1 → length_of c ≡ 0 → c ≡ content.List []
+unfolding list_code
+as_empty (content.List values) is none = ap content.List (no_items values none)
+as_empty (content.Dict dict) is none = absurd (omega (arith, is))
+as_empty (content.Set set) is none = absurd (omega (arith, is))
+
+module _ (k : Shape) (l : ℕ) (v : View) (possible : ∥ Possible v ∥₁) (shape : v.shape ≡ k) (may : MayReverse k l v) (bare : root_in (held l v) ≡ 0) where
+  low : l < containers_in v.shape
+  low = subst (λ (z : Shape). l < containers_in z) (sym shape) may.container
+
+  is_kind : kind_in v.shape.kinds l ≡ kind.List
+  is_kind = ap (λ (z : Shape). kind_in z.kinds l) shape ∙ may.kind
+
+  -- the list has nothing
+  empty : (known l v).content ≡ content.List []
+  unfolding list_code
+  empty =
+      let nothing = no_table_stands k.texts (held l v) (known l v) bare may.stands in
+      let code : list_code (kind_of (known l v).content) ≡ 1 = ∥∥₁_elim {P = list_code (kind_of (known l v).content) ≡ 1} possible (ℕ_set _ _) (λ p. ap list_code (kind_known v l may.locked p ∙ is_kind)) in
+      as_empty (known l v).content code nothing.1
+
+  module _ (stored : StoredWorld) (agrees : kept_at stored l ≡ known l v) (containers : length stored.world ≡ containers_in v.shape) where
+    there : slice_index_or stored.world l (content.List []) ≡ content.List []
+    there = ap (λ (z : Kept). z.content) agrees ∙ empty
+
+    in_world : l < length stored.world
+    in_world = subst (λ (n : ℕ). l < n) (sym containers) low
+
+    turned : reverse (list_at stored.world l) ≡ []
+    turned =
+        let none : length (list_at stored.world l) ≡ 0 = ap (λ (z : Content). length (list_of z)) there in
+        no_items (reverse (list_at stored.world l)) (length-reverse (list_at stored.world l) ∙ none)
+
+    content_after : slice_index_or (after_write stored.world (reversal l)) l (content.List []) ≡ content.List []
+    content_after = get_or-set_same stored.world l (content.List (reverse (list_at stored.world l))) (content.List []) in_world ∙ ap content.List turned
+
+    -- it leaves the list as it is
+    kept_after : kept_at (after_stored stored (reversal l)) l ≡ known l v
+    kept_after =
+        let c = content_after ∙ sym empty in
+        let t = ap (λ (z : Kept). z.table) agrees in
+        λ d. record { content = c d; table = t d }
+
+  module _ (f : ℕ) where
+    abbrev begun : View
+    begun = noted (StartWrite l f) v
+
+    may_commit_begun : MayCommit begun (reversal l) reply.Done
+    may_commit_begun = record {
+      write = refl;
+      container = low;
+      odd = hit l true (is_writing l v.log);
+      left = may.left;
+      locks = one_locked l begun.log may.locked;
+      words = tt;
+      reply_is = λ stored has. inr refl;
+      declared = λ stored has. record {
+        one = declared_at stored.world l (content.List []) (in_world stored (has.agrees l low may.locked) has.containers) (there stored (has.agrees l low may.locked) has.containers);
+        both = tt;
+        room = tt;
+      };
+      fits = λ stored has. refl;
+      clear = λ stored t has names. absurd (omega (arith, names, bare));
+      takes = λ stored class has e. let o = may.owes in absurd (omega (arith, e, o));
+      empties = λ e. absurd (true≢false (sym e ∙ hit l false (has_emptied l v.log)));
+    }
+
+    pub may_commit : (s : View) → s ≡ begun → MayCommit s (reversal l) reply.Done
+    may_commit s is = subst (λ (z : View). MayCommit z (reversal l) reply.Done) (sym is) may_commit_begun
+
+    module _ (number : ℕ) (snap : Snap) (c : View) (committed : Committed begun c (reversal l)) (is : c ≡ noted (Commit (reversal l) reply.Done number snap) begun) where
+      known_after : known l c ≡ known l v
+      known_after = committed.left l ∙ kept_after committed.found (committed.has.agrees l low may.locked) committed.has.containers
+
+      held_after : held l c ≡ held l v
+      held_after = ap (λ (z : View). held l z) is
+
+      stands_begun : Stands k.texts (held l c) (known l c)
+      stands_begun = subst (λ (z : Picture × Kept). Stands k.texts z.0 z.1) (λ d. (sym held_after d, sym known_after d)) may.stands
+
+      shut_begun : IsShut l c
+      shut_begun t names = let root = ap root_in held_after ∙ bare in absurd (omega (arith, names, root))
+
+      wrote_begun : seen_writes begun ≤ number → (g : ℕ) (w : View) → w ≡ noted (StopWrite l g) c → Wrote (reversal l) reply.Done number v w × (root_in (held l w) ≡ 0)
+      wrote_begun seen g w stopped = (
+        plain_write (reversal l) reply.Done number f v begun begun w refl may.even (put_same begun l)
+            (write_ends (reversal l) reply.Done number g snap begun c c w seen is committed may.left (put_same c l)
+            (ap root_in held_after)
+            (subst (λ (z : Shape). Stands z.texts (held l c) (known l c)) (sym shape) stands_begun)
+            stopped) refl,
+        ap (λ (z : View). root_in (held l z)) stopped ∙ (ap root_in held_after ∙ bare),
+      )
+
+    module _ (s : View) (is_begun : s ≡ begun) (number : ℕ) (snap : Snap) (c : View) (committed : Committed s c (reversal l)) (is : c ≡ noted (Commit (reversal l) reply.Done number snap) s) where
+      committed_begun : Committed begun c (reversal l)
+      committed_begun = subst (λ (z : View). Committed z c (reversal l)) is_begun committed
+
+      is_at : c ≡ noted (Commit (reversal l) reply.Done number snap) begun
+      is_at = is ∙ ap (λ (z : View). noted (Commit (reversal l) reply.Done number snap) z) is_begun
+
+      pub stands_after : Stands k.texts (held l c) (known l c)
+      stands_after = stands_begun number snap c committed_begun is_at
+
+      pub shut_after : IsShut l c
+      shut_after = shut_begun number snap c committed_begun is_at
+
+      pub wrote : seen_writes s ≤ number → (g : ℕ) (w : View) → w ≡ noted (StopWrite l g) c → Wrote (reversal l) reply.Done number v w × (root_in (held l w) ≡ 0)
+      wrote seen g w stopped = wrote_begun number snap c committed_begun is_at (subst (λ (z : View). seen_writes z ≤ number) is_begun seen) g w stopped
+
+-- a load of the root leaves all that
+pub may_loaded : (k : Shape) (l : ℕ) (v w : View) → OnlyLoaded v w → MayReverse k l v → MayReverse k l w
+may_loaded k l v w only may =
+    let h = loaded_held v w l only in
+    let n = work_knows v w l only.work in
+    record {
+      container = may.container;
+      kind = may.kind;
+      locked = only.work.pass.locks l ∙ may.locked;
+      even = only.work.pass.writes l ∙ may.even;
+      stands = subst (λ (z : Picture × Kept). Stands k.texts z.0 z.1) (λ d. (sym h d, sym n d)) may.stands;
+      owes = only.work.owes ∙ may.owes;
+      left = subst (λ (z : ℕ). 0 < z) (sym only.work.left) may.left;
+    }

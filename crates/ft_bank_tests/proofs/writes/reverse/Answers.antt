@@ -1,0 +1,34 @@
+use Rattle.std.proofs.Common.{◌≡◌, ◌<◌, refl, sym, subst}
+use Rattle.ft_trace.specs.declared.Shape.{Shape}
+use Rattle.ft_bank.specs.Passes.{shape_of, view}
+use Rattle.ft_bank_tests.proofs.Reversing.{may_commit, shut_after, stands_after, wrote}
+use Rattle.ft_bank_tests.proofs.writes.reverse.Goals as goal
+
+pub commit-number-requires-clause-may : goal.commit-number-requires-clause-may
+commit-number-requires-clause-may c =
+    let a = c.args in
+    may_commit (shape_of a.bank.now) a.l (view a.pass.now) a.pass.now.possible c.requires.pass.1 c.requires.may c.requires.bare c.start_write.result (view c.start_write.new.pass) c.start_write.ensures.1
+
+pub stop_write-requires-clause-stands : goal.stop_write-requires-clause-stands
+stop_write-requires-clause-stands c =
+    let a = c.args in
+    let d = c.commit-number.ensures.did in
+    stands_after (shape_of a.bank.now) a.l (view a.pass.now) a.pass.now.possible c.requires.pass.1 c.requires.may c.requires.bare c.start_write.result (view c.start_write.new.pass) c.start_write.ensures.1 c.commit-number.result d.0 (view c.commit-number.new.pass) c.commit-number.ensures.committed d.1.1
+
+pub stop_write-requires-clause-shut : goal.stop_write-requires-clause-shut
+stop_write-requires-clause-shut c =
+    let a = c.args in
+    let d = c.commit-number.ensures.did in
+    shut_after (shape_of a.bank.now) a.l (view a.pass.now) a.pass.now.possible c.requires.pass.1 c.requires.may c.requires.bare c.start_write.result (view c.start_write.new.pass) c.start_write.ensures.1 c.commit-number.result d.0 (view c.commit-number.new.pass) c.commit-number.ensures.committed d.1.1
+
+pub returns-clause-wrote : goal.returns-clause-wrote
+returns-clause-wrote c =
+    let a = c.args in
+    let d = c.commit-number.ensures.did in
+    (wrote (shape_of a.bank.now) a.l (view a.pass.now) a.pass.now.possible c.requires.pass.1 c.requires.may c.requires.bare c.start_write.result (view c.start_write.new.pass) c.start_write.ensures.1 c.commit-number.result d.0 (view c.commit-number.new.pass) c.commit-number.ensures.committed d.1.1 c.commit-number.ensures.seen c.stop_write.result (view c.stop_write.new.pass) c.stop_write.ensures.1).0
+
+pub returns-clause-still_bare : goal.returns-clause-still_bare
+returns-clause-still_bare c =
+    let a = c.args in
+    let d = c.commit-number.ensures.did in
+    (wrote (shape_of a.bank.now) a.l (view a.pass.now) a.pass.now.possible c.requires.pass.1 c.requires.may c.requires.bare c.start_write.result (view c.start_write.new.pass) c.start_write.ensures.1 c.commit-number.result d.0 (view c.commit-number.new.pass) c.commit-number.ensures.committed d.1.1 c.commit-number.ensures.seen c.stop_write.result (view c.stop_write.new.pass) c.stop_write.ensures.1).1

@@ -1,0 +1,155 @@
+//! Banks that are written: by two passes that meet, and by threads whose passes are joined and closed. The numbers
+//! of the writes are those from 0 on, each once, whatever the schedule is.
+ghost use Rattle.std.specs.Prelude.{◌≡◌, [], ◌∷◌, IfOk, length};
+ghost use Rattle.ft_model.specs.declared.script.Kind.TheVariants as kind;
+ghost use Rattle.ft_bank.specs.Openings.{IsOpening, AreOpening};
+
+use crate::steps::{small, two};
+use crate::{work_in_four, work_in_two, write_once};
+use ft_bank::{Bank, Pass, Shape};
+use ft_model::Kind;
+use std::alloc::Global;
+use std::test::Fail;
+
+/// The sum of the numbers below this one.
+fn sum_below(count: u64) -> u64 {
+    if count % 2 == 0 {
+        (count / 2).wrapping_mul(count.wrapping_sub(1))
+    } else {
+        count.wrapping_mul(count / 2)
+    }
+}
+
+#[test]
+fn a_note_tells_of_a_write(rt: HostRuntime) -> Result<(), Fail> {
+    let alloc = rt.alloc();
+    let shape = small(alloc)?;
+    if !shape.fits() {
+        return Err(Fail::from("a small shape fits"));
+    }
+    let Ok((bank, passes)) = Bank::new(alloc, shape) else {
+        return Err(Fail::from("there is memory"));
+    };
+    let (mut first, mut second) = two(&bank, passes)?;
+    let Some(number) = write_once(&bank, &mut first, 0) else {
+        return Err(Fail::from("the list is free and has nothing"));
+    };
+    assert_eq!(rt; number, 0);
+    assert_eq!(rt; first.left(), 9);
+    let note = bank.note(&mut first);
+    bank.learn(&mut second, note);
+    assert_eq!(rt; bank.stamp(&mut second), 1);
+    assert_eq!(rt; bank.seq(&mut second, 0), 2);
+    let Some(next) = write_once(&bank, &mut second, 0) else {
+        return Err(Fail::from("the list is free and has nothing"));
+    };
+    assert_eq!(rt; next, 1);
+    bank.join(&mut first, second);
+    assert_eq!(rt; bank.stamp(&mut first), 2);
+    assert_eq!(rt; first.left(), 18);
+    let closed = bank.close(first);
+    closed.entries_are_whole();
+    Ok(())
+}
+
+fn one_list(alloc: Global, passes: u32) -> Result<Shape, Fail>
+    ensures sizes { IfOk result (λ s. (length s.kinds.items ≡ 1) × (s.passes ≡ passes) × (s.calls ≡ 2000)) }
+    ensures kinds { IfOk result (λ s. s.kinds.items ≡ kind.List ∷ []) }
+{
+    Ok(Shape {
+        kinds: vec![in alloc; Kind::List]?,
+        texts: Vec::new(alloc),
+        tables: vec![in alloc; 3u32; 14]?,
+        heap: 64,
+        passes,
+        calls: 2_000,
+    })
+}
+
+#[test]
+fn two_threads_write_and_take_tables(rt: HostRuntime) -> Result<(), Fail> {
+    let alloc = rt.alloc();
+    let shape = one_list(alloc, 2)?;
+    if !shape.fits() {
+        return Err(Fail::from("a small shape fits"));
+    }
+    let Ok((bank, passes)) = Bank::new(alloc, shape) else {
+        return Err(Fail::from("there is memory"));
+    };
+    let (first, second) = two(&bank, passes)?;
+    let (mut pass, tally) = work_in_two(&rt, &bank, first, second, 0, 2_000);
+    // There are three tables of the class, so no taking finds none.
+    assert_eq!(rt; tally.writes, bank.stamp(&mut pass));
+    assert_eq!(rt; tally.numbers, sum_below(tally.writes));
+    assert_eq!(rt; pass.left(), 4_000 - tally.writes);
+    assert!(rt; tally.writes > 0 && tally.tables > 0);
+    let closed = bank.close(pass);
+    closed.entries_are_whole();
+    Ok(())
+}
+
+/// The four passes of a bank.
+fn four(bank: &Bank, passes: Vec<Pass>) -> Result<(Pass, Pass, Pass, Pass), Fail>
+    requires { AreOpening bank.now 0 passes.items }
+    ensures { IfOk result (λ p. IsOpening bank.now 0 p.0 × IsOpening bank.now 1 p.1 × IsOpening bank.now 2 p.2
+        × IsOpening bank.now 3 p.3) }
+{
+    let _ = bank;
+    let mut each = passes.into_iter();
+    let Some(first) = each.next() else {
+        return Err(Fail::from("there is pass 0"));
+    };
+    let Some(second) = each.next() else {
+        return Err(Fail::from("there is pass 1"));
+    };
+    let Some(third) = each.next() else {
+        return Err(Fail::from("there is pass 2"));
+    };
+    let Some(fourth) = each.next() else {
+        return Err(Fail::from("there is pass 3"));
+    };
+    Ok((first, second, third, fourth))
+}
+
+#[test]
+fn four_threads_write_and_take_tables(rt: HostRuntime) -> Result<(), Fail> {
+    let alloc = rt.alloc();
+    let shape = one_list(alloc, 4)?;
+    if !shape.fits() {
+        return Err(Fail::from("a small shape fits"));
+    }
+    let Ok((bank, passes)) = Bank::new(alloc, shape) else {
+        return Err(Fail::from("there is memory"));
+    };
+    let (first, second, third, fourth) = four(&bank, passes)?;
+    let (mut pass, tally) = work_in_four(&rt, &bank, (first, second), (third, fourth), 0, 2_000);
+    assert_eq!(rt; tally.writes, bank.stamp(&mut pass));
+    assert_eq!(rt; tally.numbers, sum_below(tally.writes));
+    assert_eq!(rt; pass.left(), 8_000 - tally.writes);
+    assert!(rt; tally.writes > 0 && tally.tables > 0);
+    let closed = bank.close(pass);
+    closed.entries_are_whole();
+    Ok(())
+}
+
+#[test]
+fn a_pass_that_is_let_go_keeps_its_lock(rt: HostRuntime) -> Result<(), Fail> {
+    let alloc = rt.alloc();
+    let shape = small(alloc)?;
+    if !shape.fits() {
+        return Err(Fail::from("a small shape fits"));
+    }
+    let Ok((bank, passes)) = Bank::new(alloc, shape) else {
+        return Err(Fail::from("there is memory"));
+    };
+    let (mut first, mut second) = two(&bank, passes)?;
+    let Ok(()) = bank.try_lock(&mut first, 0) else {
+        return Err(Fail::from("the lock is free"));
+    };
+    bank.start_write(&mut first, 0);
+    drop(first);
+    assert_eq!(rt; bank.try_lock(&mut second, 0), Err(0));
+    assert_eq!(rt; bank.seq(&mut second, 0), 1);
+    assert_eq!(rt; bank.try_lock(&mut second, 1), Ok(()));
+    Ok(())
+}

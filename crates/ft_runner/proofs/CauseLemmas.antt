@@ -15,7 +15,7 @@ use Rattle.ft_runner.specs.declared.outcome.Outcome.{Outcome}
 use Rattle.ft_runner.specs.declared.outcome.Outcome.TheVariants as outcome
 use Rattle.ft_runner.specs.declared.report.Report.{Report}
 use Rattle.ft_runner.specs.Causes.{IsCause, IsCheckCause, IsMakeCause, IsReportOn, IsRunCause}
-use Rattle.ft_runner.specs.Checking.{IsPast, IsTooLong, IsWithin}
+use Rattle.ft_runner.specs.Checking.{IsPast, IsTooLong, IsWithinLimits}
 use Rattle.ft_runner.specs.Commands.{runs_script}
 use Rattle.ft_runner.specs.Findings.{IsBadAt, IsFound}
 use Rattle.ft_runner.specs.Reports.{fault_of, is_read, DoesCheck, DoesMake, DoesRun, IsDone, IsFirstFault, IsScriptFault, PutsFor}
@@ -69,16 +69,16 @@ module _ (source source' sink sink' : Stream) (text : List ℕ) (has : source.co
   check_cause : (ended : Outcome) (came put : List ℕ) → Gives source came (is_read ended) source' → PutsFor ended sink put sink' → DoesCheck ended source came source' put → IsCheckCause text (fault_of ended)
   check_cause (outcome.Clean history) came put gives written does =
       let whole = gives_all source source' came text false gives has (does.to_end refl) in
-      (subst IsWithin whole (does.within refl), subst (λ bytes. IsFound bytes verdict.Legal) whole does.means.0)
+      (subst IsWithinLimits whole (does.within refl), subst (λ bytes. IsFound bytes verdict.Legal) whole does.means.0)
   check_cause (outcome.NotLegal place rule) came put gives written does =
       let whole = gives_all source source' came text false gives has (does.to_end refl) in
-      (subst IsWithin whole (does.within refl), subst (λ bytes. IsFound bytes (verdict.Not place rule)) whole does.means)
+      (subst IsWithinLimits whole (does.within refl), subst (λ bytes. IsFound bytes (verdict.Not place rule)) whole does.means)
   check_cause (outcome.Transcript line) came put gives written does =
       let whole = gives_all source source' came text false gives has (does.to_end refl) in
-      (subst IsWithin whole (does.within refl), subst (λ bytes. IsBadAt bytes line) whole does.means.0)
+      (subst IsWithinLimits whole (does.within refl), subst (λ bytes. IsBadAt bytes line) whole does.means.0)
   check_cause (outcome.Script refused) came put gives written does =
       let whole = gives_all source source' came text false gives has (does.to_end refl) in
-      (subst IsWithin whole (does.within refl), refused.which, subst (λ bytes. IsScriptFault bytes refused) whole does.means.0)
+      (subst IsWithinLimits whole (does.within refl), refused.which, subst (λ bytes. IsScriptFault bytes refused) whole does.means.0)
   check_cause outcome.TooLong came put gives written does = too_long_text source source' came text false gives has (does.too_long refl)
   check_cause outcome.Memory came put gives written does = tt
   check_cause outcome.Read came put gives written does = absurd (source_stood gives.faults)

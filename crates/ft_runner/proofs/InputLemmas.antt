@@ -5,7 +5,7 @@ use Rattle.std.proofs.lemmas.Bool.{false≢true}
 use Rattle.std.proofs.lemmas.List.{append-nil, length-append, length-drop, take-append-drop}
 use Rattle.ft_runner.specs.declared.reading.ReadFault.{ReadFault}
 use Rattle.ft_runner.specs.declared.reading.ReadFault.TheVariants as read
-use Rattle.ft_runner.specs.Checking.{CanFit, IsReadInTime, IsSeparatorOf, IsReadToItsEnd, IsScriptFew, IsScriptLong, IsWithin, StopsInput}
+use Rattle.ft_runner.specs.Checking.{CanFit, IsReadInTime, IsSeparatorOf, IsReadToItsEnd, IsScriptFew, IsScriptLong, IsWithinLimits, StopsInput}
 use Rattle.ft_runner.specs.Internal.Filling.{EndsScript, Fills, IsOpen, IsShut, Takes}
 use Rattle.ft_runner.specs.Streams.{has_failed, Gives}
 use Rattle.ft_runner.proofs.OpenLines.{few_fits, fit_in_time, open_fits, open_is_few, piece_in_time, shut_settles}
@@ -160,7 +160,7 @@ module _ (a b d : Stream) (bytes : List ℕ) (gives : Gives a bytes false b) (en
   on_fits more few =
       let same : (bytes ++ more) ++ [] ≡ bytes ++ more = append-nil (bytes ++ more) in (
         [],
-        subst IsWithin (sym same) (record { few = few; script_few = IsScriptFew-stays bytes more ends.2 ends.0 short }),
+        subst IsWithinLimits (sym same) (record { few = few; script_few = IsScriptFew-stays bytes more ends.2 ends.0 short }),
       )
 
   on_in_time : (more : List ℕ) → length (bytes ++ more) ≤ 67108864 + 65536 → IsReadInTime (bytes ++ more)
@@ -208,7 +208,7 @@ module _ (a b d : Stream) (bytes : List ℕ) (gives : Gives a bytes false b) (en
       }
 
   -- it is read to its end
-  pub whole_input : (new : List ℕ) (separator : Option ℕ) → IsSeparatorOf bytes separator → Fills b bytes 67108864 (Ok true) new d → IsReadToItsEnd a new d × IsWithin new × IsSeparatorOf new separator
+  pub whole_input : (new : List ℕ) (separator : Option ℕ) → IsSeparatorOf bytes separator → Fills b bytes 67108864 (Ok true) new d → IsReadToItsEnd a new d × IsWithinLimits new × IsSeparatorOf new separator
   whole_input new separator is p = (
     record { gives = gives_second new true p; ended = p.3.1 },
     record { few = p.3.0; script_few = subst IsScriptFew (sym p.1) (IsScriptFew-stays bytes p.0 ends.2 ends.0 short) },

@@ -26,10 +26,10 @@ use Rattle.ft_runner.specs.declared.outcome.Outcome.{Outcome}
 use Rattle.ft_runner.specs.declared.outcome.Outcome.TheVariants as outcome
 use Rattle.ft_runner.specs.declared.reading.ReadFault.{ReadFault}
 use Rattle.ft_runner.specs.declared.reading.ReadFault.TheVariants as read
-use Rattle.ft_runner.specs.Checking.{IsReadToItsEnd, IsScriptPart, IsWithin, StopsInput}
+use Rattle.ft_runner.specs.Checking.{IsReadToItsEnd, IsScriptPart, IsWithinLimits, StopsInput}
 use Rattle.ft_runner.specs.Commands.{runs_script}
 use Rattle.ft_runner.specs.Findings.{broken_line, legal_line, stored, IsBadAt, IsFound}
-use Rattle.ft_runner.specs.Streams.{Gives, Receives, IsPart, Puts, Reported, StopsReading, IsWholeInput, has_failed, is_too_much}
+use Rattle.ft_runner.specs.Streams.{Gives, Receives, PutsPrefix, Puts, Reported, StopsReading, IsWholeInput, has_failed, is_too_much}
 use Rattle.ft_runner.specs.Reports.{is_read, is_too_long, is_usage, has_ended, comes_of_text, refusal_of, stopped, ComesTo, Does, DoesMake, DoesRun, IsHistoryOf, IsDone, MeansChecked, MeansMade, MeansRun, PutsFor}
 use Rattle.ft_runner.proofs.OpenLines.{few_fits, fit_in_time}
 use Rattle.ft_runner.proofs.StreamLemmas.{Gives-none, Receives-none}
@@ -130,7 +130,7 @@ module _ (source source' sink sink' : Stream) (bytes : List ℕ) (ended : Outcom
         own = does_run command runs ended source bytes source' q.put (record { too_long = kind.2 ∙ sym (le-ltb 4194304 (length bytes) p.few); few = omega (arith, p.few); to_end = λ h. p.ended; means = q.means });
       }
 
-  pub input_done : IsReadToItsEnd source bytes source' → IsWithin bytes → ComesTo (MeansChecked bytes) sink sink' ended → IsDone (Some subcommand.Check) source source' sink sink' ended
+  pub input_done : IsReadToItsEnd source bytes source' → IsWithinLimits bytes → ComesTo (MeansChecked bytes) sink sink' ended → IsDone (Some subcommand.Check) source source' sink sink' ended
   input_done p within q =
       let kind = text_outcome ended q.cause in
       record {
@@ -144,7 +144,7 @@ module _ (source source' sink sink' : Stream) (bytes : List ℕ) (ended : Outcom
           fits = λ failed. absurd (true≢false (sym failed ∙ kind.1));
           within = λ h. within;
           few = omega (arith, within.few);
-          in_time = fit_in_time bytes ([], subst IsWithin (sym (append-nil bytes)) within);
+          in_time = fit_in_time bytes ([], subst IsWithinLimits (sym (append-nil bytes)) within);
           to_end = λ h. p.ended;
           means = q.means;
         };
@@ -211,10 +211,10 @@ module _ (command : Subcommand) (bytes : List ℕ) where
     pub run_written : (sink sink' : Stream) (made : Vec Entry Global) → made.items ≡ history → Receives sink text false sink' → ComesTo (MeansRun command bytes) sink sink' (outcome.Clean made)
     run_written sink sink' made is all = record { put = text; writing = all; means = subst (λ (es : List Entry). IsHistoryOf command bytes es text) (sym is) history_is; cause = refl }
 
-    pub run_failed : (sink sink' : Stream) (made : Vec Entry Global) → made.items ≡ history → IsPart sink text true sink' → ComesTo (MeansRun command bytes) sink sink' (outcome.Write made)
+    pub run_failed : (sink sink' : Stream) (made : Vec Entry Global) → made.items ≡ history → PutsPrefix sink text true sink' → ComesTo (MeansRun command bytes) sink sink' (outcome.Write made)
     run_failed sink sink' made is part = record { put = part.prefix; writing = part.receives; means = record { text = text; whole = subst (λ (es : List Entry). IsHistoryOf command bytes es text) (sym is) history_is; prefix = part.is_prefix }; cause = refl }
 
-    pub run_short : (sink sink' : Stream) → IsPart sink text false sink' → ComesTo (MeansRun command bytes) sink sink' outcome.Memory
+    pub run_short : (sink sink' : Stream) → PutsPrefix sink text false sink' → ComesTo (MeansRun command bytes) sink sink' outcome.Memory
     run_short sink sink' part = record { put = part.prefix; writing = part.receives; means = inr (history, record { text = text; whole = history_is; prefix = part.is_prefix }); cause = refl }
 
 -- ---- what a transcript comes to
@@ -239,7 +239,7 @@ module _ (bytes : List ℕ) (sink sink' : Stream) where
   pub legal_found : (history : Vec Entry Global) → history.items ≡ [] → IsFound bytes verdict.Legal → Receives sink legal_line false sink' → ComesTo (MeansChecked bytes) sink sink' (outcome.Clean history)
   legal_found history none found all = record { put = legal_line; writing = all; means = (found, none, refl); cause = refl }
 
-  pub legal_begun : (history : Vec Entry Global) → history.items ≡ [] → IsFound bytes verdict.Legal → IsPart sink legal_line true sink' → ComesTo (MeansChecked bytes) sink sink' (outcome.Write history)
+  pub legal_begun : (history : Vec Entry Global) → history.items ≡ [] → IsFound bytes verdict.Legal → PutsPrefix sink legal_line true sink' → ComesTo (MeansChecked bytes) sink sink' (outcome.Write history)
   legal_begun history none found part = record { put = part.prefix; writing = part.receives; means = (found, none, part.is_prefix); cause = refl }
 
   pub broken_found : (place : ℕ) (rule : Rule) → IsFound bytes (verdict.Not place rule) → Reported sink (broken_line place rule) sink' → ComesTo (MeansChecked bytes) sink sink' (outcome.NotLegal place rule)
@@ -252,7 +252,7 @@ module _ (sink sink' : Stream) (text : List ℕ) (history : Vec Entry Global) (n
   pub made_whole : Receives sink text false sink' → ComesTo (MeansMade (λ made. made ≡ text)) sink sink' (outcome.Clean history)
   made_whole all = record { put = text; writing = all; means = (refl, none); cause = refl }
 
-  pub made_part : IsPart sink text true sink' → ComesTo (MeansMade (λ made. made ≡ text)) sink sink' (outcome.Write history)
+  pub made_part : PutsPrefix sink text true sink' → ComesTo (MeansMade (λ made. made ≡ text)) sink sink' (outcome.Write history)
   made_part part = record { put = part.prefix; writing = part.receives; means = (text, refl, part.is_prefix, none); cause = refl }
 
 -- a text that is whole in another way

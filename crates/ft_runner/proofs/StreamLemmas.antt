@@ -4,7 +4,7 @@ use Rattle.std.proofs.lemmas.List.{append-nil}
 use Rattle.std.proofs.Math.Seq.{take-add}
 use Rattle.ft_io.specs.Streams.{raised, prepended, added, Stream}
 use Rattle.ft_io.specs.declared.source.Failed.{Failed}
-use Rattle.ft_runner.specs.Streams.{Gives, Receives, IsPart, Puts, IsBuffered}
+use Rattle.ft_runner.specs.Streams.{Gives, Receives, PutsPrefix, Puts, IsBuffered}
 use Rattle.std.specs.List.{flat_map}
 use Rattle.std.proofs.lemmas.List.Concat.{flat_map-append}
 use Rattle.std.proofs.lemmas.List.{take-append-drop, take_more, take_all}
@@ -71,16 +71,16 @@ IsBuffered-push a b buffer buffer' text more p e = record {
 }
 
 -- what was put is a part of any longer text
-pub IsPart-put : (a b : Stream) (buffer text more : List ℕ) → IsBuffered a b buffer text → IsPart a (text ++ more) false b
-IsPart-put a b buffer text more p = record {
+pub PutsPrefix-put : (a b : Stream) (buffer text more : List ℕ) → IsBuffered a b buffer text → PutsPrefix a (text ++ more) false b
+PutsPrefix-put a b buffer text more p = record {
   prefix = p.put;
   is_prefix = (buffer ++ more, sym (append_assoc p.put buffer more) ∙ ap (λ (bytes : List ℕ). bytes ++ more) p.text_is);
   receives = p.receives;
 }
 
 -- and so it is with a part of the buffer
-pub IsPart-then : (a b c : Stream) (buffer text more : List ℕ) → IsBuffered a b buffer text → IsPart b buffer true c → IsPart a (text ++ more) true c
-IsPart-then a b c buffer text more p q =
+pub PutsPrefix-then : (a b c : Stream) (buffer text more : List ℕ) → IsBuffered a b buffer text → PutsPrefix b buffer true c → PutsPrefix a (text ++ more) true c
+PutsPrefix-then a b c buffer text more p q =
     let prefix : (p.put ++ q.prefix) ++ q.is_prefix.0 ≡ text = append_assoc p.put q.prefix q.is_prefix.0 ∙ ap (λ (bytes : List ℕ). p.put ++ bytes) q.is_prefix.1 ∙ p.text_is in
     record {
       prefix = p.put ++ q.prefix;
@@ -99,8 +99,8 @@ Puts-then a b c x y (Err e) p q = record {
 }
 
 -- a part of a text is one of any longer text
-pub IsPart-longer : (a b : Stream) (x y : List ℕ) (failed : Bool) → IsPart a x failed b → IsPart a (x ++ y) failed b
-IsPart-longer a b x y failed p = record {
+pub PutsPrefix-longer : (a b : Stream) (x y : List ℕ) (failed : Bool) → PutsPrefix a x failed b → PutsPrefix a (x ++ y) failed b
+PutsPrefix-longer a b x y failed p = record {
   prefix = p.prefix;
   is_prefix = (p.is_prefix.0 ++ y, sym (append_assoc p.prefix p.is_prefix.0 y) ∙ ap (λ (bytes : List ℕ). bytes ++ y) p.is_prefix.1);
   receives = p.receives;

@@ -10,7 +10,7 @@ use Rattle.ft_runner.specs.declared.command.Subcommand.TheVariants as subcommand
 use Rattle.ft_runner.specs.declared.report.Fault.{Fault}
 use Rattle.ft_runner.specs.declared.report.Fault.TheVariants as fault
 use Rattle.ft_runner.specs.declared.report.Report.{Report}
-use Rattle.ft_runner.specs.Checking.{IsPast, IsWithin}
+use Rattle.ft_runner.specs.Checking.{IsPast, IsWithinLimits}
 use Rattle.ft_runner.specs.Commands.{command_of}
 use Rattle.ft_runner.specs.Findings.{IsBadAt, IsFound}
 use Rattle.ft_runner.specs.Reports.{IsFirstFault, IsReport, IsScriptFault}
@@ -47,11 +47,11 @@ IsRunCause text (fault.Transcript line) = ⊥
 
 -- and where it is checked
 abbrev pub IsCheckCause : List ℕ → Fault → Type 0
-IsCheckCause text fault.Clean = IsWithin text × IsFound text verdict.Legal
-IsCheckCause text (fault.NotLegal place rule) = IsWithin text × IsFound text (verdict.Not place rule)
-IsCheckCause text (fault.Transcript line) = IsWithin text × IsBadAt text line
+IsCheckCause text fault.Clean = IsWithinLimits text × IsFound text verdict.Legal
+IsCheckCause text (fault.NotLegal place rule) = IsWithinLimits text × IsFound text (verdict.Not place rule)
+IsCheckCause text (fault.Transcript line) = IsWithinLimits text × IsBadAt text line
 IsCheckCause text (fault.Script line kind) =
-    IsWithin text × (limit : Option Which) × IsScriptFault text (record { line = line; kind = kind; which = limit })
+    IsWithinLimits text × (limit : Option Which) × IsScriptFault text (record { line = line; kind = kind; which = limit })
 IsCheckCause text fault.TooLong = IsPast text
 IsCheckCause text fault.Memory = Unit {0}
 IsCheckCause text fault.Usage = ⊥

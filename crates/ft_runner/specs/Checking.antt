@@ -55,7 +55,7 @@ abbrev pub IsPast : List ℕ → Type 0
 IsPast bytes = (input_limit < length bytes) ⊎ IsScriptLong bytes
 
 -- no more bytes than are taken
-pub record IsWithin (bytes : List ℕ) : Type 0 where
+pub record IsWithinLimits (bytes : List ℕ) : Type 0 where
   pub few : length bytes ≤ input_limit
   pub script_few : IsScriptFew bytes
 
@@ -65,7 +65,7 @@ most_checked = input_limit + piece
 
 -- bytes can follow with which these are no more than are taken
 abbrev pub CanFit : List ℕ → Type 0
-CanFit came = (more : List ℕ) × IsWithin (came ++ more)
+CanFit came = (more : List ℕ) × IsWithinLimits (came ++ more)
 
 -- more is asked for only while what came can fit: all but the last piece can
 pub record IsReadInTime (came : List ℕ) : Type 0 where
@@ -97,6 +97,6 @@ pub record StopsInput (stop : ReadFault) (before after : Stream) : Type 0 where
 -- what reading a script, the line and a transcript comes to
 abbrev pub ReadsInput : Stream → Result Input ReadFault → Stream → Type 0
 ReadsInput before (Ok input) after =
-    IsReadToItsEnd before input.bytes.items after × IsWithin input.bytes.items
+    IsReadToItsEnd before input.bytes.items after × IsWithinLimits input.bytes.items
     × IsSeparatorOf input.bytes.items input.separator
 ReadsInput before (Err stop) after = StopsInput stop before after

@@ -55,7 +55,7 @@ abbrev pub command_of : List (List ℕ) → Option Subcommand
 command_of (program ∷ word ∷ words) = commanded word (without_mark words)
 command_of others = None
 
--- the same as a parser of command lines is told it: one of the subcommands is required, and there is no help and no version
+-- the same as the parser of command lines gets it: one of the subcommands is required, and there is no help and no version
 abbrev pub without_help : Shape → Shape
 without_help shape =
     record shape {

@@ -22,7 +22,7 @@ use Rattle.ft_runner.specs.declared.reading.ReadFault.TheVariants as read
 use Rattle.ft_runner.specs.declared.report.Fault.{Fault}
 use Rattle.ft_runner.specs.declared.report.Fault.TheVariants as fault
 use Rattle.ft_runner.specs.declared.report.Report.{Report}
-use Rattle.ft_runner.specs.Checking.{most_checked, CanFit, IsReadInTime, IsScriptPart, IsTooLong, IsWithin}
+use Rattle.ft_runner.specs.Checking.{most_checked, CanFit, IsReadInTime, IsScriptPart, IsTooLong, IsWithinLimits}
 use Rattle.ft_runner.specs.Commands.{command_of}
 use Rattle.ft_runner.specs.Findings.{broken_line, legal_line, stored, IsBadAt, IsFound}
 use Rattle.ft_runner.specs.Making.{IsSummary}
@@ -180,7 +180,8 @@ MeansRun command came (outcome.NotLegal place rule) put = ⊥
 MeansRun command came (outcome.Transcript line) put = ⊥
 
 -- what a command that runs a script does: more than a script may have stops the reading, else it goes on to the end
-pub record DoesRun (command : Subcommand) (ended : Outcome) (came : List ℕ) (source' : Stream) (put : List ℕ) : Type 0 where
+pub record DoesRun (command : Subcommand) (ended : Outcome) (came : List ℕ) (source' : Stream)
+    (put : List ℕ) : Type 0 where
   pub too_long : is_too_long ended ≡ nat_lt script_limit (length came)
   pub few : length came ≤ most_read
   pub to_end : has_ended ended ≡ true → HasEnded source'
@@ -207,10 +208,11 @@ MeansChecked came outcome.Memory put = put ≡ []
 MeansChecked came outcome.Usage put = ⊥
 
 -- what `check` does: more than a script and a transcript may have, whatever follows, stops the reading, and no more is asked for then; what was read to its end is within
-pub record DoesCheck (ended : Outcome) (source : Stream) (came : List ℕ) (source' : Stream) (put : List ℕ) : Type 0 where
+pub record DoesCheck (ended : Outcome) (source : Stream) (came : List ℕ) (source' : Stream)
+    (put : List ℕ) : Type 0 where
   pub too_long : is_too_long ended ≡ true → IsTooLong source came source'
   pub fits : is_read ended ≡ true → CanFit came
-  pub within : has_ended ended ≡ true → IsWithin came
+  pub within : has_ended ended ≡ true → IsWithinLimits came
   pub few : length came ≤ most_checked
   pub in_time : IsReadInTime came
   pub to_end : has_ended ended ≡ true → HasEnded source'

@@ -81,7 +81,7 @@ Reads before (Err stop) after = StopsReading stop before after
 -- ---- writing
 
 -- a prefix of a text goes into a sink, which fails or not
-pub record IsPart (before : Stream) (text : List ℕ) (failed : Bool) (after : Stream) : Type 0 where
+pub record PutsPrefix (before : Stream) (text : List ℕ) (failed : Bool) (after : Stream) : Type 0 where
   pub prefix : List ℕ
   pub is_prefix : IsPrefix prefix text
   pub receives : Receives before prefix failed after
@@ -89,7 +89,7 @@ pub record IsPart (before : Stream) (text : List ℕ) (failed : Bool) (after : S
 -- a text is put: whole, or a prefix where the sink fails
 abbrev pub Puts : Stream → List ℕ → Result (Unit {0}) Failed → Stream → Type 0
 Puts before text (Ok u) after = Receives before text false after
-Puts before text (Err e) after = IsPart before text true after
+Puts before text (Err e) after = PutsPrefix before text true after
 
 -- what was put, and then what the buffer has, are the text so far
 pub record IsBuffered (before now : Stream) (buffer text : List ℕ) : Type 0 where
@@ -100,9 +100,9 @@ pub record IsBuffered (before now : Stream) (buffer text : List ℕ) : Type 0 wh
 -- out of memory stops writing after a part of the text
 abbrev pub Writes : Stream → List ℕ → Result (Unit {0}) WriteFault → Stream → Type 0
 Writes before text (Ok u) after = Receives before text false after
-Writes before text (Err write.Failed) after = IsPart before text true after
-Writes before text (Err write.Memory) after = IsPart before text false after
+Writes before text (Err write.Failed) after = PutsPrefix before text true after
+Writes before text (Err write.Memory) after = PutsPrefix before text false after
 
 -- a sink gets a text: whole, or a prefix where the sink failed
 abbrev pub Reported : Stream → List ℕ → Stream → Type 0
-Reported before text after = Receives before text false after ⊎ IsPart before text true after
+Reported before text after = Receives before text false after ⊎ PutsPrefix before text true after

@@ -8,7 +8,7 @@ ghost use Rattle.ft_runner.specs.declared.command.Subcommand.TheVariants as subc
 ghost use Rattle.ft_runner.specs.declared.report.Fault.TheVariants as fault;
 ghost use Rattle.ft_runner.specs.declared.report.Report.{Report};
 ghost use Rattle.ft_runner.specs.Causes.{IsCause, IsReportOn};
-ghost use Rattle.ft_runner.specs.Checking.{IsPast, IsScriptPart, IsWithin};
+ghost use Rattle.ft_runner.specs.Checking.{IsPast, IsScriptPart, IsWithinLimits};
 ghost use Rattle.ft_runner.specs.Commands.{runs_script};
 ghost use Rattle.ft_runner.specs.Findings.{IsBadAt, IsInput, IsVerdictOn};
 ghost use Rattle.ft_runner.specs.Streams.{script_limit};
@@ -50,7 +50,7 @@ pub fn scripts_are_refused()
 pub fn transcripts_are_checked()
     ensures { (text part : List ℕ) (report : Report) (script : ScriptParts)
         → IsReportOn subcommand.Check text report
-        → IsWithin text → IsScriptPart text part → read_script part ≡ Ok script
+        → IsWithinLimits text → IsScriptPart text part → read_script part ≡ Ok script
         → (report.status ≡ 0) ⊎ (report.status ≡ 5) ⊎ (report.status ≡ 7) ⊎ (report.status ≡ 8) }
 {}
 
@@ -59,7 +59,7 @@ pub fn transcripts_are_checked()
 pub fn verdicts_are_reported()
     ensures { (text : List ℕ) (report : Report) (script : ScriptParts) (entries : List Entry) (lines : List (List ℕ)) (found : Verdict)
         → IsReportOn subcommand.Check text report
-        → IsWithin text → IsInput text script entries lines → IsVerdictOn script entries lines found
+        → IsWithinLimits text → IsInput text script entries lines → IsVerdictOn script entries lines found
         → (report.fault ≡ reported_of found) ⊎ (report.fault ≡ fault.Memory) }
 {}
 
@@ -67,6 +67,6 @@ pub fn verdicts_are_reported()
 /// there is one first such line, or memory runs out.
 pub fn bad_lines_are_reported()
     ensures { (text : List ℕ) (report : Report) (line : ℕ)
-        → IsReportOn subcommand.Check text report → IsWithin text → IsBadAt text line
+        → IsReportOn subcommand.Check text report → IsWithinLimits text → IsBadAt text line
         → (report.fault ≡ fault.Transcript line) ⊎ (report.fault ≡ fault.Memory) }
 {}

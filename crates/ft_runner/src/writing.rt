@@ -4,7 +4,7 @@ ghost use Rattle.std.specs.Prelude.{◌≡◌, true, ◌++◌, All, OnOk, OnErr}
 ghost use Rattle.ft_model.specs.Parts.{IsEntryOf, IsWorldOf};
 ghost use Rattle.ft_script.specs.Texts.{entry_line, world_text};
 ghost use Rattle.std.specs.List.{flat_map};
-ghost use Rattle.ft_runner.specs.Streams.{IsPart, IsBuffered, Puts, Writes};
+ghost use Rattle.ft_runner.specs.Streams.{PutsPrefix, IsBuffered, Puts, Writes};
 
 use crate::limits::PIECE;
 use ft_io::{Failed, Sink};
@@ -12,7 +12,7 @@ use ft_model::{Entry, Script, World};
 use ft_script::{push_entry, push_world};
 use std::alloc::{AllocError, Global};
 
-/// The buffer goes out when it has so many bytes, so that no line of up to 4,096 bytes makes it grow.
+/// The buffer goes out when it has this many bytes, so that no line of up to 4,096 bytes makes it grow.
 const FULL: usize = PIECE - 4_096;
 
 /// Why a text was not written to its end.
@@ -69,7 +69,7 @@ pub(crate) fn write_all<K: Sink>(
 /// Puts what the buffer has, where it is full, and empties it.
 fn put_full<K: Sink>(sink: &mut K, buffer: &mut Vec<u8>) -> Result<(), Failed>
     ensures ok { OnOk result (IsBuffered (K.stream sink.old) (K.stream sink.new) buffer.new.items buffer.old.items) }
-    ensures err { OnErr result (IsPart (K.stream sink.old) buffer.old.items true (K.stream sink.new)) }
+    ensures err { OnErr result (PutsPrefix (K.stream sink.old) buffer.old.items true (K.stream sink.new)) }
 {
     if buffer.len() >= FULL {
         put_all(sink, buffer)?;

@@ -27,7 +27,8 @@ IsShut bytes = (place : ℕ) → place ≤ script_limit → is_open_at bytes pla
 -- whatever follows, it is settled at which places within the limit a line is `---`
 abbrev pub IsSettled : List ℕ → Type 0
 IsSettled bytes =
-    (more : List ℕ) (place : ℕ) → place ≤ script_limit → is_separator_at (bytes ++ more) place ≡ is_separator_at bytes place
+    (more : List ℕ) (place : ℕ) → place ≤ script_limit
+    → is_separator_at (bytes ++ more) place ≡ is_separator_at bytes place
 
 -- ---- pieces
 

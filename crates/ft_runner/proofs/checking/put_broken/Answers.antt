@@ -3,7 +3,7 @@ use Rattle.std.specs.Fmt.{decimal}
 use Rattle.std.specs.Prelude.{codes}
 use Rattle.std.proofs.lemmas.Result.{err_from_is_err_and}
 use Rattle.ft_runner.specs.Findings.{rule_word}
-use Rattle.ft_runner.proofs.StreamLemmas.{Receives-then, Puts-then, IsPart-longer}
+use Rattle.ft_runner.proofs.StreamLemmas.{Receives-then, Puts-then, PutsPrefix-longer}
 use Rattle.ft_runner.proofs.checking.put_broken.Goals as goal
 
 pub returns-in_err-put_number : goal.returns-in_err-put_number
@@ -14,7 +14,7 @@ returns-in_err-put_number g c =
     let r = err_from_is_err_and c.from_residual.result c.from_residual.ensures.1 in
     let front = codes "not legal at " ++ decimal c.args.place ++ codes ": " in
     let word = rule_word c.args.rule in
-    rw r.1 (IsPart-longer a b (front ++ word) (codes "\n") true (IsPart-longer a b front word true c.in_err-put_number.ensures))
+    rw r.1 (PutsPrefix-longer a b (front ++ word) (codes "\n") true (PutsPrefix-longer a b front word true c.in_err-put_number.ensures))
 
 pub returns-in_err-put_all : goal.returns-in_err-put_all
 returns-in_err-put_all g c =
@@ -26,7 +26,7 @@ returns-in_err-put_all g c =
     let front = codes "not legal at " ++ decimal c.args.place ++ codes ": " in
     let word = rule_word c.args.rule in
     let part = rw (c.as_bytes.ensures.value, c.rule_word.ensures) at c.in_err-put_all.ensures in
-    rw r.1 (IsPart-longer a d (front ++ word) (codes "\n") true (Puts-then a b d front word (Err r.0) c.in_ok-put_number.ensures part))
+    rw r.1 (PutsPrefix-longer a d (front ++ word) (codes "\n") true (Puts-then a b d front word (Err r.0) c.in_ok-put_number.ensures part))
 
 pub returns : goal.returns
 returns g c =

@@ -3,7 +3,7 @@ use Rattle.ft_runner.specs.declared.command.Subcommand.TheVariants as subcommand
 use Rattle.ft_runner.specs.declared.report.Fault.{Fault}
 use Rattle.ft_runner.specs.declared.report.Fault.TheVariants as fault
 use Rattle.ft_runner.specs.Causes.{IsCheckCause}
-use Rattle.ft_runner.specs.Checking.{IsWithin}
+use Rattle.ft_runner.specs.Checking.{IsWithinLimits}
 use Rattle.ft_runner.specs.Findings.{IsBadAt}
 use Rattle.ft_runner.proofs.CauseLemmas.{cause_of}
 use Rattle.ft_runner.proofs.OneBadLine.{no_fault_before, one_bad_line}
@@ -11,7 +11,7 @@ use Rattle.ft_runner.proofs.OneFinding.{no_bad_line}
 use Rattle.ft_runner.proofs.SeparatorLemmas.{past_within}
 use Rattle.ft_runner.proofs.laws.bad_lines_are_reported.Goals as goal
 
-module _ (text : List ℕ) (line : ℕ) (within : IsWithin text) (bad : IsBadAt text line) where
+module _ (text : List ℕ) (line : ℕ) (within : IsWithinLimits text) (bad : IsBadAt text line) where
   reported : (f : Fault) → IsCheckCause text f → (f ≡ fault.Transcript line) ⊎ (f ≡ fault.Memory)
   reported (fault.Transcript other) cause = inl (ap fault.Transcript (one_bad_line text other line cause.1 bad))
   reported fault.Memory cause = inr refl

@@ -8,7 +8,7 @@ use Rattle.ft_runner.specs.declared.command.Subcommand.TheVariants as subcommand
 use Rattle.ft_runner.specs.declared.report.Fault.{Fault}
 use Rattle.ft_runner.specs.declared.report.Fault.TheVariants as fault
 use Rattle.ft_runner.specs.Causes.{IsCheckCause}
-use Rattle.ft_runner.specs.Checking.{IsScriptPart, IsWithin}
+use Rattle.ft_runner.specs.Checking.{IsScriptPart, IsWithinLimits}
 use Rattle.ft_runner.specs.Reports.{status_of}
 use Rattle.ft_runner.proofs.CauseLemmas.{cause_of}
 use Rattle.ft_runner.proofs.SeparatorLemmas.{one_script, past_within}
@@ -17,7 +17,7 @@ use Rattle.ft_runner.proofs.laws.transcripts_are_checked.Goals as goal
 abbrev EndsWell : ℕ → Type 0
 EndsWell status = (status ≡ 0) ⊎ (status ≡ 5) ⊎ (status ≡ 7) ⊎ (status ≡ 8)
 
-ends_well : (f : Fault) (text part : List ℕ) (script : ScriptParts) → IsCheckCause text f → IsWithin text → IsScriptPart text part → read_script part ≡ Ok script → EndsWell (status_of f)
+ends_well : (f : Fault) (text part : List ℕ) (script : ScriptParts) → IsCheckCause text f → IsWithinLimits text → IsScriptPart text part → read_script part ≡ Ok script → EndsWell (status_of f)
 ends_well fault.Clean text part script cause within is read = inl refl
 ends_well fault.Memory text part script cause within is read = inr (inl refl)
 ends_well (fault.NotLegal place rule) text part script cause within is read = inr (inr (inl refl))

@@ -7,7 +7,7 @@ use Rattle.ft_runner.specs.declared.command.Subcommand.TheVariants as subcommand
 use Rattle.ft_runner.specs.declared.report.Fault.{Fault}
 use Rattle.ft_runner.specs.declared.report.Fault.TheVariants as fault
 use Rattle.ft_runner.specs.Causes.{IsCheckCause}
-use Rattle.ft_runner.specs.Checking.{IsWithin}
+use Rattle.ft_runner.specs.Checking.{IsWithinLimits}
 use Rattle.ft_runner.specs.Findings.{IsInput, IsVerdictOn}
 use Rattle.ft_runner.specs.Reports.{reported_of}
 use Rattle.ft_runner.proofs.CauseLemmas.{cause_of}
@@ -15,7 +15,7 @@ use Rattle.ft_runner.proofs.SeparatorLemmas.{past_within}
 use Rattle.ft_runner.proofs.OneFinding.{no_bad_line, no_script_fault, one_finding}
 use Rattle.ft_runner.proofs.laws.verdicts_are_reported.Goals as goal
 
-module _ (text : List ℕ) (script : ScriptParts) (entries : List Entry) (lines : List (List ℕ)) (found : Verdict) (within : IsWithin text) (input : IsInput text script entries lines) (on : IsVerdictOn script entries lines found) where
+module _ (text : List ℕ) (script : ScriptParts) (entries : List Entry) (lines : List (List ℕ)) (found : Verdict) (within : IsWithinLimits text) (input : IsInput text script entries lines) (on : IsVerdictOn script entries lines found) where
   reported : (f : Fault) → IsCheckCause text f → (f ≡ reported_of found) ⊎ (f ≡ fault.Memory)
   reported fault.Clean cause = inl (ap reported_of (sym (one_finding text script entries lines input found verdict.Legal on cause.1)))
   reported (fault.NotLegal place rule) cause = inl (ap reported_of (sym (one_finding text script entries lines input found (verdict.Not place rule) on cause.1)))

@@ -30,6 +30,7 @@ pub use crate::indexing::{look_get, try_get};
 pub use crate::lens::{look_len, try_len};
 pub use crate::locked::{Appended, append_locked, del_locked, set_locked};
 pub use crate::pairs::try_eq;
+pub use crate::reads::read_named;
 pub use crate::removals::{pop_locked, remove_locked};
 pub use crate::tries::{
     try_count, try_del, try_has, try_index, try_items, try_pop, try_remove, try_reverse, try_set,

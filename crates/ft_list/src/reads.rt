@@ -55,7 +55,7 @@ pub(crate) fn read_item(bank: &Bank, pass: &mut Pass, l: Object, place: u64) -> 
 }
 
 /// Reads the item that an index names, or none.
-pub(crate) fn read_named(bank: &Bank, pass: &mut Pass, l: Object, index: i64) -> Option<Value>
+pub fn read_named(bank: &Bank, pass: &mut Pass, l: Object, index: i64) -> Option<Value>
     requires pass { IsPassOf bank.now pass.old }
     requires container { l < containers_in (shape_of bank.now) }
     ensures pass { IsPassOf bank.now pass.new }

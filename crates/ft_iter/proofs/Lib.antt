@@ -1,0 +1,9 @@
+pub mod Probing
+pub mod Halving
+pub mod Following
+pub mod Giving
+pub mod Nexts
+pub mod Moves
+pub mod Answering
+pub mod Steps
+pub mod ListSteps

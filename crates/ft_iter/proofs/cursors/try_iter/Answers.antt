@@ -1,0 +1,61 @@
+use Rattle.std.proofs.Common.{◌<◌, ℕ, refl, inr, sym, ap, ◌∙◌, subst}
+use Rattle.ft_trace.specs.declared.Shape.{Shape}
+use Rattle.ft_trace.specs.Addresses.{containers_in}
+use Rattle.ft_bank.specs.Passes.{shape_of, view}
+use Rattle.ft_section.specs.declared.answers.Objects.TheVariants.{One}
+use Rattle.ft_search.proofs.Trying.{making_stands}
+use Rattle.ft_iter.specs.Cursors.{iter_call}
+use Rattle.ft_iter.proofs.Answering.{cursor-left, making-moved}
+use Rattle.ft_iter.proofs.cursors.try_iter.Goals as goal
+
+pub iter_locked-reply-requires-clause-stands : goal.iter_locked-reply-requires-clause-stands
+iter_locked-reply-requires-clause-stands c =
+    let m = c.in-Have.ensures.making in
+    let same = m.inside.0.1 in
+    let o = c.args.o in
+    making_stands c.args.bank.now c.take_for.new.pass (shape_of c.args.bank.now).texts o m (ap (λ (k : Shape). k.texts) same)
+    (subst (λ (k : Shape). o < containers_in k) (sym same) c.requires.container) c.in-Have.ensures.has.0.0
+
+pub iter_locked-reply-requires-clause-pass : goal.iter_locked-reply-requires-clause-pass
+iter_locked-reply-requires-clause-pass c = c.in-Have.ensures.making.inside.0
+
+pub iter_locked-reply-requires-clause-locked : goal.iter_locked-reply-requires-clause-locked
+iter_locked-reply-requires-clause-locked c = c.in-Have.ensures.has.0.0
+
+pub iter_locked-reply-requires-clause-left : goal.iter_locked-reply-requires-clause-left
+iter_locked-reply-requires-clause-left c = subst (λ (n : ℕ). 0 < n) (sym c.in-Have.ensures.locked.left) c.requires.left
+
+pub let_go-requires : goal.let_go-requires
+let_go-requires c =
+    let r = c.iter_locked-reply.result in
+    let e = c.iter_locked-reply.ensures in
+    making-moved c.args.bank.now c.take_for.new.pass c.iter_locked-reply.new.pass (iter_call c.args.kind c.args.o c.args.number) r.0 r.1.number c.args.number e.answered.0 c.in-Have.ensures.making e.pass e.sections e.answered.3
+
+pub returns-in-Have-clause-may : goal.returns-in-Have-clause-may
+returns-in-Have-clause-may c = c.let_go.ensures.may (One (c.args.o))
+
+pub returns-in-Have-clause-moved : goal.returns-in-Have-clause-moved
+returns-in-Have-clause-moved c = (
+  c.iter_locked-reply.ensures.answered.0,
+  c.iter_locked-reply.ensures.answered.1,
+  c.iter_locked-reply.ensures.answered.2,
+  record {
+    before = view c.take_for.new.pass;
+    after = view c.iter_locked-reply.new.pass;
+    took = c.in-Have.ensures.locked;
+    answered = c.iter_locked-reply.ensures.answered.3;
+    gone = c.let_go.ensures.locked;
+    mine =
+        let r = c.iter_locked-reply.result in
+        let a = c.iter_locked-reply.ensures.answered in
+        c.let_go.ensures.locked.cursors c.args.number
+        ∙ cursor-left (view c.take_for.new.pass) (view c.iter_locked-reply.new.pass) (iter_call c.args.kind c.args.o c.args.number) r.0 r.1.number c.args.number a.0 a.3;
+  },
+  c.iter_locked-reply.ensures.wrote,
+)
+
+pub returns-in-NotYet-clause-may : goal.returns-in-NotYet-clause-may
+returns-in-NotYet-clause-may c = inr c.in-NotYet.ensures.waiting.0
+
+pub returns-in-NotYet-clause-moved : goal.returns-in-NotYet-clause-moved
+returns-in-NotYet-clause-moved c = (refl, c.in-NotYet.ensures.locked, c.in-NotYet.ensures.found.0, c.in-NotYet.ensures.found.1)

@@ -1,0 +1,93 @@
+use Rattle.std.proofs.Common.{◌≡◌, ◌≤◌, ℕ, suc, true, List, [], ◌∷◌, ◌++◌, refl, sym, ap, ◌∙◌, subst}
+use Rattle.std.specs.Prelude.{slice_index}
+use Rattle.ft_layout.specs.Containers.{class_mask}
+use Rattle.ft_layout.specs.Tables.{dict_room}
+use Rattle.ft_trace.specs.declared.Act.{Act}
+use Rattle.ft_trace.specs.declared.Act.TheVariants.{ReadBlock}
+use Rattle.ft_trace.specs.declared.Shape.{Shape}
+use Rattle.ft_trace.specs.declared.View.{View}
+use Rattle.ft_trace.specs.Acts.{has_lock}
+use Rattle.ft_trace.specs.Holds.{held, known}
+use Rattle.ft_trace.specs.Kinds.{IsKeyed}
+use Rattle.ft_trace.specs.Words.{Picture, root_in}
+use Rattle.ft_trace.specs.Worlds.{kind_in}
+use Rattle.ft_bank.specs.Passes.{shape_of, view}
+use Rattle.ft_bank.specs.Tables.{name_of}
+use Rattle.ft_bank.specs.Whole.{OnlyLoaded}
+use Rattle.ft_search.proofs.Running.{did_trans}
+use Rattle.ft_search.proofs.Rounding.{looks_append, looks_load}
+use Rattle.ft_iter.specs.Seeking.{GivesPair}
+use Rattle.ft_iter.proofs.Nexts.{keyed-known, fill-low, next-held, bare-next}
+use Rattle.ft_iter.proofs.held.next_of.Goals as goal
+
+pub seek_in-requires-clause-table : goal.seek_in-requires-clause-table
+seek_in-requires-clause-table c = c.in-Some.ensures.in_bank (shape_of c.args.bank.now) (λ t e. c.read_block-root.ensures.table t refl e)
+
+pub seek_in-requires-clause-fill : goal.seek_in-requires-clause-fill
+seek_in-requires-clause-fill c =
+    let v = view c.args.pass.now in
+    let o = c.args.o in
+    let k = shape_of c.args.bank.now in
+    let keyed = keyed-known v o c.args.pass.now.possible c.requires.locked (subst (λ (z : Shape). IsKeyed (kind_in z.kinds o)) (sym c.requires.pass.1) c.requires.keyed) in
+    let table = c.in-Some.table in
+    let in_bank = c.in-Some.ensures.in_bank k (λ t e. c.read_block-root.ensures.table t refl e) in
+    let names : root_in (held o v) ≡ suc (name_of table) = sym (c.read_block-root.ensures.held c.requires.locked) ∙ c.in-Some.ensures.named in
+    let w = view c.read_block-root.new.pass in
+    let same : held o w ≡ held o v = ap (held o) c.read_block-root.ensures.did.1 in
+    let locked : has_lock o w.log ≡ true = ap (λ (z : View). has_lock o z.log) c.read_block-root.ensures.did.1 ∙ c.requires.locked in
+    let filled : c.read_block-fill.result ≡ slice_index (held o v).block 2 = c.read_block-fill.ensures.held locked ∙ ap (λ (x : Picture). slice_index x.block 2) same in
+    subst (λ (z : ℕ). z ≤ dict_room (class_mask table.class)) (sym filled) (fill-low k.texts (held o v) (known o v) c.requires.stands k table in_bank names keyed)
+
+pub returns-in-Some-clause-keeps : goal.returns-in-Some-clause-keeps
+returns-in-Some-clause-keeps c =
+    let v = view c.args.pass.now in
+    let r = c.seek_in.ensures.looks in
+    let root : List Act = ReadBlock c.args.o 0 c.read_block-root.result ∷ [] in
+    let fill : List Act = ReadBlock c.args.o 2 c.read_block-fill.result ∷ [] in
+    let both = did_trans fill root c.args.pass.now c.read_block-root.new.pass c.read_block-fill.new.pass c.read_block-root.ensures.did c.read_block-fill.ensures.did in
+    let did = did_trans r.0 (fill ++ root) c.args.pass.now c.read_block-fill.new.pass c.seek_in.new.pass both r.2 in
+    subst (OnlyLoaded v) (sym did.1) (looks_load (r.0 ++ (fill ++ root)) v (looks_append r.0 (fill ++ root) r.1 tt))
+
+pub returns-in-Some-clause-looks : goal.returns-in-Some-clause-looks
+returns-in-Some-clause-looks c =
+    let r = c.seek_in.ensures.looks in
+    let root : List Act = ReadBlock c.args.o 0 c.read_block-root.result ∷ [] in
+    let fill : List Act = ReadBlock c.args.o 2 c.read_block-fill.result ∷ [] in
+    let both = did_trans fill root c.args.pass.now c.read_block-root.new.pass c.read_block-fill.new.pass c.read_block-root.ensures.did c.read_block-fill.ensures.did in
+    (r.0 ++ (fill ++ root), looks_append r.0 (fill ++ root) r.1 tt, did_trans r.0 (fill ++ root) c.args.pass.now c.read_block-fill.new.pass c.seek_in.new.pass both r.2)
+
+pub returns-in-Some-clause-next : goal.returns-in-Some-clause-next
+returns-in-Some-clause-next c =
+    let v = view c.args.pass.now in
+    let o = c.args.o in
+    let k = shape_of c.args.bank.now in
+    let keyed = keyed-known v o c.args.pass.now.possible c.requires.locked (subst (λ (z : Shape). IsKeyed (kind_in z.kinds o)) (sym c.requires.pass.1) c.requires.keyed) in
+    let table = c.in-Some.table in
+    let in_bank = c.in-Some.ensures.in_bank k (λ t e. c.read_block-root.ensures.table t refl e) in
+    let names : root_in (held o v) ≡ suc (name_of table) = sym (c.read_block-root.ensures.held c.requires.locked) ∙ c.in-Some.ensures.named in
+    let w = view c.read_block-root.new.pass in
+    let same : held o w ≡ held o v = ap (held o) c.read_block-root.ensures.did.1 in
+    let locked : has_lock o w.log ≡ true = ap (λ (z : View). has_lock o z.log) c.read_block-root.ensures.did.1 ∙ c.requires.locked in
+    let filled : c.read_block-fill.result ≡ slice_index (held o v).block 2 = c.read_block-fill.ensures.held locked ∙ ap (λ (x : Picture). slice_index x.block 2) same in
+    let last = c.args.after in
+    let given = c.seek_in.result in
+    let now : held o (view c.read_block-fill.new.pass) ≡ held o v = ap (held o) c.read_block-fill.ensures.did.1 ∙ same in
+    let gives = subst (λ (x : Picture). GivesPair (class_mask table.class) (0 ∷ 0 ∷ x.table) c.read_block-fill.result last given) now c.seek_in.ensures.gives in
+    next-held k.texts (held o v) (known o v) c.requires.stands k table in_bank names last given keyed
+    (subst (λ (z : ℕ). GivesPair (class_mask table.class) (0 ∷ 0 ∷ (held o v).table) z last given) filled gives)
+
+pub returns-in-None-clause-looks : goal.returns-in-None-clause-looks
+returns-in-None-clause-looks c =
+    let root : List Act = ReadBlock c.args.o 0 c.read_block-root.result ∷ [] in
+    let fill : List Act = ReadBlock c.args.o 2 c.read_block-fill.result ∷ [] in
+    let both = did_trans fill root c.args.pass.now c.read_block-root.new.pass c.read_block-fill.new.pass c.read_block-root.ensures.did c.read_block-fill.ensures.did in
+    (fill ++ root, tt, both)
+
+pub returns-in-None-clause-next : goal.returns-in-None-clause-next
+returns-in-None-clause-next c =
+    let v = view c.args.pass.now in
+    let o = c.args.o in
+    let k = shape_of c.args.bank.now in
+    let keyed = keyed-known v o c.args.pass.now.possible c.requires.locked (subst (λ (z : Shape). IsKeyed (kind_in z.kinds o)) (sym c.requires.pass.1) c.requires.keyed) in
+    let none = c.in-None.ensures.none k (λ t e. c.read_block-root.ensures.table t refl e) in
+    bare-next k.texts (held o v) (known o v) c.requires.stands c.args.after keyed (sym (c.read_block-root.ensures.held c.requires.locked) ∙ none)

@@ -1,0 +1,21 @@
+use Rattle.std.proofs.Common.{map}
+use Rattle.ft_bank.specs.Tables.{name_of}
+use Rattle.ft_search.specs.Words.{act_of, known_words}
+use Rattle.ft_search.proofs.Running.{ran, ran_known, looks_calls}
+use Rattle.ft_iter.proofs.held.seek_held.Goals as goal
+
+pub returns-clause-same : goal.returns-clause-same
+returns-clause-same g c = let s = c.seek_pair.ensures.gives in (ran c.args.words.now s.0 c.seek_pair.new.words s.1).0
+
+pub returns-clause-looks : goal.returns-clause-looks
+returns-clause-looks g c =
+    let z = c.args.words.now in
+    let s = c.seek_pair.ensures.gives in
+    (map (act_of z.o (name_of z.table)) s.0, looks_calls z.o (name_of z.table) s.0 s.2, (ran z s.0 c.seek_pair.new.words s.1).1)
+
+pub returns-clause-gives : goal.returns-clause-gives
+returns-clause-gives g c =
+    let z = c.args.words.now in
+    let s = c.seek_pair.ensures.gives in
+    let r = ran_known z s.0 c.seek_pair.new.words s.1 c.requires.knows s.2 in
+    s.3 (known_words z) r.2

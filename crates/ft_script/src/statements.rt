@@ -1,6 +1,6 @@
 //! Reads the lines of a script.
 ghost use Rattle.ft_script.specs.Drafts.{HasFewThreads, Leaves, LeavesAlways};
-ghost use Rattle.ft_script.specs.Reading.{class_of, class_place, container_line, declaration, heap_line, open_line, order_line, other_statement, plain_statement, read_line, statement, tables_at, tables_line, tables_of, thread_line, thread_statement, turn, turns, unordered_statement, words_line};
+ghost use Rattle.ft_script.specs.Reading.{class_of, class_place, container_line, declaration, heap_line, open_line, order_line, other_statement, read_line, statement, tables_at, tables_line, tables_of, thread_line, thread_statement, turn, turns, words_line};
 ghost use Rattle.std.specs.Prelude.{◌≡◌, ◌<◌, ◌≤◌, IfOk, IfSome, OnOk, length, map};
 
 use crate::arguments::index_of;
@@ -224,8 +224,8 @@ impl Draft {
         }
     }
 
-    /// Reads a line that isn't an `order` line.
-    #[tactic(auto, unfolding(crate::specs::Reading::other_statement))]
+    /// Reads a line that isn't an `order` line: after one it may not stand, and after a `thread` line no declaration may.
+    #[tactic(auto, unfolding(crate::specs::Reading::other_statement, crate::specs::Reading::unordered_statement, crate::specs::Reading::plain_statement))]
     fn other_statement(
         &mut self,
         alloc: Global,
@@ -235,40 +235,11 @@ impl Draft {
         requires { length self.old.threads ≤ 64 }
         ensures { Leaves result self.new (other_statement self.old word.now (map (λ word. word.now) words.now)) }
     {
-        if self.order.len() == 0 {
-            self.unordered_statement(alloc, word, words)
-        } else {
+        if self.order.len() != 0 {
             Err(Fault::UnknownWord.into())
-        }
-    }
-
-    #[tactic(auto, unfolding(crate::specs::Reading::unordered_statement))]
-    fn unordered_statement(
-        &mut self,
-        alloc: Global,
-        word: &[u8],
-        words: &[&[u8]],
-    ) -> Result<(), LineError>
-        requires { length self.old.threads ≤ 64 }
-        ensures { Leaves result self.new (unordered_statement self.old word.now (map (λ word. word.now) words.now)) }
-    {
-        if word == b"thread".as_slice() {
+        } else if word == b"thread".as_slice() {
             self.thread_line(alloc, words)
-        } else {
-            self.plain_statement(alloc, word, words)
-        }
-    }
-
-    #[tactic(auto, unfolding(crate::specs::Reading::plain_statement))]
-    fn plain_statement(
-        &mut self,
-        alloc: Global,
-        word: &[u8],
-        words: &[&[u8]],
-    ) -> Result<(), LineError>
-        ensures { Leaves result self.new (plain_statement self.old word.now (map (λ word. word.now) words.now)) }
-    {
-        if self.name.is_some() {
+        } else if self.name.is_some() {
             self.thread_statement(alloc, word, words)
         } else {
             self.declaration(alloc, word, words)

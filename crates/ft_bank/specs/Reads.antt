@@ -33,5 +33,6 @@ pub record IsCursorShown (v : View) (call : Call) (reply : Reply) (stamp number 
   pub moved : moved_cursor call ≡ Some number
   pub left : 0 < v.left
   pub loaded : Loaded stamp v.log
-  pub moves : Sure v (λ es. MovesCursor (stored_newest v.shape.kinds (first_writes stamp (history es))).world call number
+  pub moves : Sure v (λ es.
+      MovesCursor (stored_newest v.shape.kinds (first_writes stamp (history es))).world call number
       (cursor_in number v.log) reply cursor)

@@ -11,5 +11,6 @@ use Rattle.ft_iter.specs.Seeking.{used_of}
 -- the last one given, or none. A list has no serials. (profile)
 abbrev pub IsNextOf : Content → Option ℕ → Option Pair → Type 0
 IsNextOf (content.Dict dict) last given = option_map used_of given ≡ option_map used_pair (next_pair dict.pairs last)
-IsNextOf (content.Set set) last given = option_map used_of given ≡ option_map used_element (next_element set.elements last)
+IsNextOf (content.Set set) last given =
+    option_map used_of given ≡ option_map used_element (next_element set.elements last)
 IsNextOf (content.List items) last given = ⊥

@@ -90,7 +90,8 @@ Seeks mask words fill last place =
 
 -- the words of the entry at the place have this pair, or none that is there
 abbrev pub SaysPair : ℕ → List ℕ → ℕ → Option Pair → Type 0
-SaysPair mask words place result = (pair : Pair) → IsEntry (entry_word mask words place) (Live pair) ↔ (result ≡ Some pair)
+SaysPair mask words place result =
+    (pair : Pair) → IsEntry (entry_word mask words place) (Live pair) ↔ (result ≡ Some pair)
 
 -- what a pair has among used entries
 abbrev pub used_of : Pair → UsedEntry

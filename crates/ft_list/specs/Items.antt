@@ -70,7 +70,8 @@ words_for stored = stored_kind stored ∷ stored_payload stored ∷ []
 
 -- The words of a list's table while a pass puts its items, before the commit: they store `now` at each place, and where
 -- the version of an item is even the list had the same there. Each odd version lies in this range of places. (profile)
-pub record IsPutting (class : ℕ) (before : List Value) (first past : ℕ) (now : ℕ → Stored) (words : List ℕ) : Type 0 where
+pub record IsPutting
+    (class : ℕ) (before : List Value) (first past : ℕ) (now : ℕ → Stored) (words : List ℕ) : Type 0 where
   pub size : length words + 2 ≡ table_length (class_mask class)
   pub spare : (p : ℕ) → p < slots class → item_of words p 3 ≡ 0
   pub items : (p : ℕ) → p < slots class → IsStored (item_of words p 1) (item_of words p 2) (now p)

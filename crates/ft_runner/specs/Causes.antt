@@ -51,7 +51,8 @@ IsCheckCause text fault.Clean = IsWithinLimits text × IsFound text verdict.Lega
 IsCheckCause text (fault.NotLegal place rule) = IsWithinLimits text × IsFound text (verdict.Not place rule)
 IsCheckCause text (fault.Transcript line) = IsWithinLimits text × IsBadAt text line
 IsCheckCause text (fault.Script line kind) =
-    IsWithinLimits text × (limit : Option Which) × IsScriptFault text (record { line = line; kind = kind; which = limit })
+    IsWithinLimits text × (limit : Option Which)
+    × IsScriptFault text (record { line = line; kind = kind; which = limit })
 IsCheckCause text fault.TooLong = IsPast text
 IsCheckCause text fault.Memory = Unit {0}
 IsCheckCause text fault.Usage = ⊥

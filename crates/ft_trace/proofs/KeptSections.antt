@@ -90,6 +90,7 @@ each_let_go p l (b ∷ bs) each = (one, each_let_go p l bs each.1)
     kept : (x y : Bool) → cond x false y ≡ true → (x ≡ true → ⊥) × (y ≡ true)
     kept true y e = off e
     kept false y e = ((λ z. off z), e)
+
     one : cond (is_among p b.containers) false b.held ≡ true → (o : ℕ) → is_among o b.containers ≡ true → since_load o b.stamp (Unlock p ∷ l) ≡ true
     one held o among =
         let k = kept (is_among p b.containers) b.held held in
@@ -109,6 +110,7 @@ each_held (a ∷ l) = by a (each_held l)
     of_call (call.Set o c) n each = each
     of_call (call.Next c) n each = each
     of_call call.Quiesce n each = each
+
     by : (a : Act) → EachHeld l (begun l) → EachHeld (a ∷ l) (begun (a ∷ l))
     by (Answer c r n) each = each_same l (Answer c r n ∷ l) (begun_by c n l (begun l)) (λ o m e. e) (of_call c n each)
     by (Unlock p) each = each_let_go p l (begun l) each
@@ -156,15 +158,15 @@ own_by : (k : Shape) (es : List Event) → Valid k es → (o n id : ℕ) (v : Vi
 own_by k es valid o n id v at old (Commit c r f s) found may =
     set_views (Own k (did id v (Commit c r f s) ∷ es) o n) _ id (noted (Commit c r f s) v)
     (λ held m called named low is. ⊎_elim
-      (λ (e : (m ≡ length (history es)) × (called ≡ c)).
-      ap (λ (b : Bool). b || list_any (is_write_of m) v.entries) (eq-eqb f m (found ∙ (counted k es valid ∙ sym e.0))))
-      (λ is. any_later m (record { call = c; reply = r; stamp = f; wrote = true }) v.entries (old id v at held m called named low is)) is)
+    (λ (e : (m ≡ length (history es)) × (called ≡ c)).
+    ap (λ (b : Bool). b || list_any (is_write_of m) v.entries) (eq-eqb f m (found ∙ (counted k es valid ∙ sym e.0))))
+    (λ is. any_later m (record { call = c; reply = r; stamp = f; wrote = true }) v.entries (old id v at held m called named low is)) is)
     (λ j u apart there held m called named low is. ⊎_elim
-      (λ (e : (m ≡ length (history es)) × (called ≡ c)).
-      let theirs = held_now o n u.log held in
-      let ours = may.13 o (subst (λ (z : Call). names o z ≡ true) e.1 named) in
-      absurd (apart (one_holder k es valid o (locked_low k es valid o j u there theirs) j id u v there at theirs ours)))
-      (λ is. old j u there held m called named low is) is)
+    (λ (e : (m ≡ length (history es)) × (called ≡ c)).
+    let theirs = held_now o n u.log held in
+    let ours = may.13 o (subst (λ (z : Call). names o z ≡ true) e.1 named) in
+    absurd (apart (one_holder k es valid o (locked_low k es valid o j u there theirs) j id u v there at theirs ours)))
+    (λ is. old j u there held m called named low is) is)
 own_by k es valid o n id v at old (ReadCounter f) found may =
     set_views (Own k (did id v (ReadCounter f) ∷ es) o n) _ id (noted (ReadCounter f) v)
     (λ held m called named low is.

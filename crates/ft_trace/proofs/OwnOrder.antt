@@ -196,29 +196,35 @@ kept_cause stored log c r n is cause = (subst (λ (z : Reply). HasCause stored l
 own_next : (k : Shape) (es : List Event) → Valid k es → (id : ℕ) (v : View) → get_elem? (run k es).views id ≡ some v → (b : Act) → Reports b (word k es (place b)) → May k (run k es) (history es) v b → AreInOwnOrder (IsNumber (writes_of b (history es))) v.entries → AreInOwnOrder (IsNumber (writes_of b (history es))) (noted b v).entries
 own_next k es valid id v at (Commit c r f s) found may old =
     let low = least_low k es valid id v at in
-    let before = made_all k es valid id v at in
-    (record {
-      rises = All-weaker (λ e. number_after e ≤ least_stamp v.log) (λ e. number_after e ≤ f) (λ e past. omega (arith, past, low, found)) v.entries before;
-      kept = λ is_end _ _ _ _. absurd (true≢false (sym may.0 ∙ ap (λ (z : Call). is_write z r) is_end));
-    }, old)
+    let before = made_all k es valid id v at in (
+      record {
+        rises = All-weaker (λ e. number_after e ≤ least_stamp v.log) (λ e. number_after e ≤ f) (λ e past. omega (arith, past, low, found)) v.entries before;
+        kept = λ is_end _ _ _ _. absurd (true≢false (sym may.0 ∙ ap (λ (z : Call). is_write z r) is_end));
+      },
+      old,
+    )
 own_next k es valid id v at (Answer c r n) found may old =
     let before = made_all k es valid id v at in
-    let up = loaded_up k es valid id v at n may.3 in
-    (record {
-      rises = All-weaker (λ e. number_after e ≤ least_stamp v.log) (λ e. number_after e ≤ n) (λ e past. le_trans past up) v.entries before;
-      kept = λ is_end is_kept first outer opens o m called among named low past is.
-          let f = alike_first first outer (begun v.log) (subst (λ (l : List Entry). Alike l (begun v.log)) opens (alike k es valid id v at)) in
-          let held = kept_cause (stored_newest k.kinds (first_writes n (history es))) v.log c r n is_kept may.4 f.0 f.1 f.2 in
-          let since = (subst (EachHeld v.log) f.2 (each_held v.log)).0 held o (ap (is_among o) (sym f.3) ∙ among) in
-          own_writes k es valid o f.0.stamp id v at since m called named (subst (λ (z : ℕ). z ≤ m) f.4 low) is;
-    }, old)
+    let up = loaded_up k es valid id v at n may.3 in (
+      record {
+        rises = All-weaker (λ e. number_after e ≤ least_stamp v.log) (λ e. number_after e ≤ n) (λ e past. le_trans past up) v.entries before;
+        kept = λ is_end is_kept first outer opens o m called among named low past is.
+            let f = alike_first first outer (begun v.log) (subst (λ (l : List Entry). Alike l (begun v.log)) opens (alike k es valid id v at)) in
+            let held = kept_cause (stored_newest k.kinds (first_writes n (history es))) v.log c r n is_kept may.4 f.0 f.1 f.2 in
+            let since = (subst (EachHeld v.log) f.2 (each_held v.log)).0 held o (ap (is_among o) (sym f.3) ∙ among) in
+            own_writes k es valid o f.0.stamp id v at since m called named (subst (λ (z : ℕ). z ≤ m) f.4 low) is;
+      },
+      old,
+    )
 own_next k es valid id v at (AnswerCursor c r n number had left) found may old =
     let before = made_all k es valid id v at in
-    let up = loaded_up k es valid id v at n may.3 in
-    (record {
-      rises = All-weaker (λ e. number_after e ≤ least_stamp v.log) (λ e. number_after e ≤ n) (λ e past. le_trans past up) v.entries before;
-      kept = λ is_end _ _ _ _. absurd (let moved : moved_cursor call.End ≡ Some number = ap moved_cursor (sym is_end) ∙ may.0 in cc);
-    }, old)
+    let up = loaded_up k es valid id v at n may.3 in (
+      record {
+        rises = All-weaker (λ e. number_after e ≤ least_stamp v.log) (λ e. number_after e ≤ n) (λ e past. le_trans past up) v.entries before;
+        kept = λ is_end _ _ _ _. absurd (let moved : moved_cursor call.End ≡ Some number = ap moved_cursor (sym is_end) ∙ may.0 in cc);
+      },
+      old,
+    )
 own_next k es valid id v at act found may old = old
 
 -- ---- all passes

@@ -82,7 +82,8 @@ EvenTablesAreShut =
 abbrev pub NumbersAreOnce : Type 0
 NumbersAreOnce =
     (k : Shape) (es : List Event) → Valid k es → (n : ℕ)
-    → total (λ (u : View). total (is_number n) (all_entries u)) (run k es).views ≡ cond (nat_lt n (word k es counter)) 1 0
+    → total (λ (u : View). total (is_number n) (all_entries u)) (run k es).views
+    ≡ cond (nat_lt n (word k es counter)) 1 0
 
 -- each entry has the reply of the plain containers after as many writes as its stamp says
 abbrev pub EntriesAreRight : Type 0

@@ -66,7 +66,8 @@ begun (a ∷ l) = begun_next a l (begun l)
 
 -- the pass has had the locks of the innermost section that it has begun and not ended, since its `begin`
 abbrev pub IsInnermostHeld : List Begun → Type 0
-IsInnermostHeld sections = (innermost : Begun) (outer : List Begun) → sections ≡ innermost ∷ outer → innermost.held ≡ true
+IsInnermostHeld sections =
+    (innermost : Begun) (outer : List Begun) → sections ≡ innermost ∷ outer → innermost.held ≡ true
 
 -- the pass has the lock of each container that the call names (PEP 703, Container Thread-Safety)
 abbrev pub HasLocksOf : Call → List Act → Type 0

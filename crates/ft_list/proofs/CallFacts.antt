@@ -18,11 +18,11 @@ use Rattle.ft_model.specs.declared.reply.Reply.{Reply}
 use Rattle.ft_model.specs.declared.reply.Reply.TheVariants as reply
 use Rattle.ft_model.specs.declared.reply.Raise.TheVariants as raise
 use Rattle.ft_model.specs.declared.script.Kind.TheVariants as kind
-use Rattle.ft_model.specs.Answers.{answer_list, puts, shows, after_write, is_raised}
+use Rattle.ft_model.specs.Answers.{Answer as Given, answer, answer_list, puts, shows, after_write, is_raised}
 use Rattle.ft_model.specs.Calls.{is_changing_list, other_list, cursor_of_list, list_change, adds, one_or_two}
 use Rattle.ft_model.specs.Classes.{IsClass, list_items, list_class, most_items}
-use Rattle.ft_model.specs.Lists.{index_in, index_of}
-use Rattle.ft_model.specs.Tables.{StoredWorld, no_table, takes_in, table_at, change_leaves, change_takes, list_takes, grown_table, passes_cap, would_pass, after_stored}
+use Rattle.ft_model.specs.Lists.{clamped_in, index_in, index_of}
+use Rattle.ft_model.specs.Tables.{StoredWorld, CanLackMemory, no_table, takes_in, table_at, change_leaves, change_takes, list_takes, grown_table, passes_cap, would_pass, after_stored}
 use Rattle.ft_model.specs.Worlds.{list_of, list_at, named_in, no_hands, IsOfKind}
 use Rattle.ft_layout.proofs.Powers.{slots_range}
 use Rattle.ft_trace.specs.declared.View.{View}
@@ -33,21 +33,23 @@ use Rattle.ft_trace.specs.Worlds.{Kept}
 use Rattle.ft_trace.proofs.Naming.{named_locked}
 use Rattle.ft_trace.specs.Holds.{known}
 use Rattle.ft_bank.specs.Writes.{MayHave}
-use Rattle.ft_list.specs.Calls.{Changes}
-use Rattle.ft_list.proofs.Commits.{content_after, in_tables, table_stays}
+use Rattle.ft_list.specs.Calls.{IsListWrite, Changes, Grows, Adds}
+use Rattle.ft_list.proofs.Commits.{answer_is, content_after, in_tables, table_stays}
 
 -- a call that stores no more than before
 pub changes_stay : (o : ℕ) (lc : ListCall) (said : Reply) (values news : List Value) (v : View) → o < containers_in v.shape → has_lock o v.log ≡ true → (known o v).content ≡ content.List values → is_changing_list lc ≡ true → is_raised said ≡ false → cursor_of_list lc ≡ None → other_list lc ≡ None → list_change lc ≡ change.Stays → FitsListCall lc
     → ((world : List Content) → answer_list world no_hands o values lc ≡ puts world no_hands o (content.List news) said) → Changes o lc said values news v
 changes_stay o lc said values news v low mine is_list changing raises cursor other stays fits answered = record {
-  changing = changing;
-  raises = raises;
-  cursor = cursor;
-  fits = fits;
-  locks = named_locked o (other_list lc) v.log mine (subst (λ (z : Option ℕ). IfSome z (λ q. has_lock q v.log ≡ true)) (sym other) tt);
-  answered = λ stored has. answered stored.world;
-  other = λ stored has. subst (λ (z : Option ℕ). IfSome z (λ p. IsOfKind stored.world kind.List p)) (sym other) tt;
-  caps = λ stored has. ap (λ (z : TableChange). adds z && list_any passes_cap (named_in (after_write stored.world (call.List o lc)) (call.List o lc))) stays;
+  write = record {
+    changing = changing;
+    raises = raises;
+    cursor = cursor;
+    fits = fits;
+    locks = named_locked o (other_list lc) v.log mine (subst (λ (z : Option ℕ). IfSome z (λ q. has_lock q v.log ≡ true)) (sym other) tt);
+    answered = λ stored has. answered stored.world;
+    other = λ stored has. subst (λ (z : Option ℕ). IfSome z (λ p. IsOfKind stored.world kind.List p)) (sym other) tt;
+    caps = λ stored has. ap (λ (z : TableChange). adds z && list_any passes_cap (named_in (after_write stored.world (call.List o lc)) (call.List o lc))) stays;
+  };
   table = λ stored has. table_stays o lc said values news v low mine is_list stored has stays;
 }
 
@@ -79,67 +81,111 @@ remove_changes o value values place v low mine is_list fits means =
 pub reverse_changes : (o : ℕ) (values : List Value) (v : View) → o < containers_in v.shape → has_lock o v.log ≡ true → (known o v).content ≡ content.List values → Changes o list.Reverse reply.Done values (reverse values) v
 reverse_changes o values v low mine is_list = changes_stay o list.Reverse reply.Done values (reverse values) v low mine is_list refl refl refl refl refl tt (λ world. refl)
 
--- a call that adds items for which the table has room
-module _ (o : ℕ) (lc : ListCall) (values news : List Value) (v : View) (low : o < containers_in v.shape) (mine : has_lock o v.log ≡ true) (is_list : (known o v).content ≡ content.List values) (class : ℕ) (is_class : IsClass class) (kept_table : (known o v).table ≡ record { class = Some class; fill = 0 }) (room : length news ≤ slots class) (other : other_list lc ≡ None) (grows : list_change lc ≡ change.Grows)
-    (answered : (world : List Content) → answer_list world no_hands o values lc ≡ puts world no_hands o (content.List news) reply.Done) where
-  few : length news ≤ most_items
-  unfolding slots
-  few = let r = (slots_range class is_class).1 in omega (arith, r, room)
+-- ---- calls that add items
 
-  and_false : (b : Bool) → (b && false) ≡ false
-  and_false true = refl
-  and_false false = refl
+or_false : (b : Bool) → (b || false) ≡ b
+or_false true = refl
+or_false false = refl
+
+not_false : (b : Bool) → (b ≡ true → ⊥) → b ≡ false
+not_false true never = absurd (never refl)
+not_false false never = refl
+
+-- a call that adds to one list alone
+adds_alone : (o : ℕ) (lc : ListCall) (values news : List Value) (v : View) → o < containers_in v.shape → has_lock o v.log ≡ true → (known o v).content ≡ content.List values → is_changing_list lc ≡ true → list_change lc ≡ change.Grows → other_list lc ≡ None → cursor_of_list lc ≡ None → FitsListCall lc
+    → ((world : List Content) → answer_list world no_hands o values lc ≡ puts world no_hands o (content.List news) reply.Done) → Adds o lc values news v
+adds_alone o lc values news v low mine is_list changing grows other cursor fits answered = record {
+  changing = changing;
+  grows = grows;
+  cursor = cursor;
+  fits = fits;
+  locks = named_locked o (other_list lc) v.log mine (subst (λ (z : Option ℕ). IfSome z (λ q. has_lock q v.log ≡ true)) (sym other) tt);
+  answered = λ stored has. answered stored.world;
+  other = λ stored has. subst (λ (z : Option ℕ). IfSome z (λ p. IsOfKind stored.world kind.List p)) (sym other) tt;
+  caps = λ stored has.
+      let left = after_write stored.world (call.List o lc) in
+      (λ d. adds (grows d) && list_any passes_cap (map (λ place. slice_index_or left place (content.List [])) (one_or_two o (other d))))
+      ∙ (ap (λ (z : Content). passes_cap z || false) (content_after o lc reply.Done values news v low mine is_list stored has (answered stored.world)) ∙ or_false (nat_lt most_items (length news)));
+}
+
+-- l.append(v)
+pub append_adds : (o : ℕ) (value : Value) (values : List Value) (v : View) → o < containers_in v.shape → has_lock o v.log ≡ true → (known o v).content ≡ content.List values → FitsListCall (list.Append value) → Adds o (list.Append value) values (insert values (length values) value) v
+append_adds o value values v low mine is_list fits =
+    adds_alone o (list.Append value) values (insert values (length values) value) v low mine is_list refl refl refl refl fits
+    (λ world. ap (λ (vs : List Value). puts world no_hands o (content.List vs) reply.Done) (sym (insert_end values value)))
+
+-- l.insert(i, v)
+pub insert_adds : (o : ℕ) (index : ℤ) (value : Value) (values : List Value) (v : View) → o < containers_in v.shape → has_lock o v.log ≡ true → (known o v).content ≡ content.List values → FitsListCall (list.Insert index value) → Adds o (list.Insert index value) values (insert values (clamped_in (length values) index) value) v
+insert_adds o index value values v low mine is_list fits =
+    adds_alone o (list.Insert index value) values (insert values (clamped_in (length values) index) value) v low mine is_list refl refl refl refl fits (λ world. refl)
+
+-- what such a call takes, and what it leaves
+module _ (o : ℕ) (lc : ListCall) (values news : List Value) (v : View) (low : o < containers_in v.shape) (mine : has_lock o v.log ≡ true) (is_list : (known o v).content ≡ content.List values) (call_is : Adds o lc values news v) where
+  abbrev wanted : Option ℕ
+  wanted = list_takes (known o v).table (length news)
+
+  abbrev passes : Bool
+  passes = nat_lt most_items (length news)
 
   module _ (stored : StoredWorld) (has : MayHave v stored) where
     abbrev left : List Content
     left = after_write stored.world (call.List o lc)
 
     content_is : slice_index_or left o (content.List []) ≡ content.List news
-    content_is = content_after o lc reply.Done values news v low mine is_list stored has (answered stored.world)
+    content_is = content_after o lc reply.Done values news v low mine is_list stored has (call_is.answered stored has)
 
-    table_is : table_at stored.tables o ≡ record { class = Some class; fill = 0 }
-    table_is = ap (λ (z : Kept). z.table) (has.agrees o low mine) ∙ kept_table
+    table_is : table_at stored.tables o ≡ (known o v).table
+    table_is = ap (λ (z : Kept). z.table) (has.agrees o low mine)
 
-    not_outgrown : list_takes (table_at stored.tables o) (length (list_at left o)) ≡ None
-    unfolding slots
-    not_outgrown =
-        let count_is : length (list_at left o) ≡ length news = ap (λ (z : Content). length (list_of z)) content_is in
-        (λ d. list_takes (table_is d) (count_is d))
-        ∙ ap (λ (b : Bool). if b then Some (list_class (length news)) else None) (ap (λ (z : Bool). nat_lt 0 (length news) && z) (le-ltb (list_items class) (length news) room) ∙ and_false (nat_lt 0 (length news)))
+    takes_wanted : takes_in stored (call.List o lc) ≡ wanted
+    takes_wanted =
+        ap (λ (z : TableChange). change_takes z (list_takes (table_at stored.tables o) (length (list_at left o))) None) call_is.grows
+        ∙ (λ d. list_takes (table_is d) (length (list_of (content_is d))))
 
-    takes_none : takes_in stored (call.List o lc) ≡ None
-    takes_none = ap (λ (z : TableChange). change_takes z (list_takes (table_at stored.tables o) (length (list_at left o))) None) grows ∙ not_outgrown
+    leaves_grown : (takes : Option ℕ) → takes_in stored (call.List o lc) ≡ takes → table_at (after_stored stored (call.List o lc)).tables o ≡ grown_table (table_at stored.tables o) takes 0 0
+    leaves_grown takes is =
+        let T = table_at stored.tables o in
+        ap (λ (z : TableChange). table_at (change_leaves stored.tables o z (grown_table T (takes_in stored (call.List o lc)) 0 0) no_table) o) call_is.grows
+        ∙ (get_or-set_same stored.tables o (grown_table T (takes_in stored (call.List o lc)) 0 0) no_table (in_tables o lc reply.Done values news v low mine is_list stored has)
+        ∙ ap (λ (z : Option ℕ). grown_table T z 0 0) is)
 
-    table_after : table_at (after_stored stored (call.List o lc)).tables o ≡ table_at stored.tables o
-    table_after =
+    -- with the table that it has
+    stays_so : wanted ≡ None → table_at (after_stored stored (call.List o lc)).tables o ≡ table_at stored.tables o
+    stays_so none =
         let T = table_at stored.tables o in
         let fill_is : T.fill + 0 ≡ T.fill = omega arith in
-        ap (λ (z : TableChange). table_at (change_leaves stored.tables o z (grown_table T (takes_in stored (call.List o lc)) 0 0) no_table) o) grows
-        ∙ (get_or-set_same stored.tables o (grown_table T (takes_in stored (call.List o lc)) 0 0) no_table (in_tables o lc reply.Done values news v low mine is_list stored has)
-        ∙ (ap (λ (z : Option ℕ). grown_table T z 0 0) takes_none
-        ∙ (λ d. record { class = T.class; fill = fill_is d })))
+        leaves_grown None (takes_wanted ∙ none) ∙ (λ d. record { class = T.class; fill = fill_is d })
 
-    caps_is : would_pass stored.world (call.List o lc) ≡ false
-    caps_is =
-        (λ d. adds (grows d) && list_any passes_cap (map (λ place. slice_index_or left place (content.List [])) (one_or_two o (other d))))
-        ∙ (ap (λ (z : Content). passes_cap z || false) content_is ∙ ap (λ (z : Bool). z || false) (le-ltb most_items (length news) few))
+    lacks_so : is_raised (answer stored.world no_hands (call.List o lc)).reply ≡ false
+    lacks_so = ap (λ (z : Given). is_raised z.reply) (answer_is o lc reply.Done values news v low mine is_list stored has (call_is.answered stored has))
 
-  pub changes_grow : is_changing_list lc ≡ true → cursor_of_list lc ≡ None → FitsListCall lc → Changes o lc reply.Done values news v
-  changes_grow changing cursor fits = record {
-    changing = changing;
+    pub can_lack : CanLackMemory stored.world (call.List o lc)
+    can_lack = record { adds = ap adds call_is.grows; raises_nothing = lacks_so }
+
+    pub lacks_table : (class : ℕ) → passes ≡ false → wanted ≡ Some class → CanLackMemory stored.world (call.List o lc) × (would_pass stored.world (call.List o lc) ≡ false) × (takes_in stored (call.List o lc) ≡ Some class)
+    lacks_table class few is = (can_lack, call_is.caps stored has ∙ few, takes_wanted ∙ is)
+
+    pub passes_most : passes ≡ true → CanLackMemory stored.world (call.List o lc) × (would_pass stored.world (call.List o lc) ≡ true)
+    passes_most more = (can_lack, call_is.caps stored has ∙ more)
+
+  adds_write : passes ≡ false → IsListWrite o lc reply.Done values news v
+  adds_write few = record {
+    changing = call_is.changing;
     raises = refl;
-    cursor = cursor;
-    fits = fits;
-    locks = named_locked o (other_list lc) v.log mine (subst (λ (z : Option ℕ). IfSome z (λ q. has_lock q v.log ≡ true)) (sym other) tt);
-    answered = λ stored has. answered stored.world;
-    other = λ stored has. subst (λ (z : Option ℕ). IfSome z (λ p. IsOfKind stored.world kind.List p)) (sym other) tt;
-    caps = caps_is;
-    table = table_after;
+    cursor = call_is.cursor;
+    fits = call_is.fits;
+    locks = call_is.locks;
+    answered = call_is.answered;
+    other = call_is.other;
+    caps = λ stored has. call_is.caps stored has ∙ few;
   }
 
--- l.append(v), where the table has room
-pub append_changes : (o : ℕ) (value : Value) (values : List Value) (v : View) → o < containers_in v.shape → has_lock o v.log ≡ true → (known o v).content ≡ content.List values → (class : ℕ) → IsClass class → (known o v).table ≡ record { class = Some class; fill = 0 } → length values < slots class → FitsListCall (list.Append value) → Changes o (list.Append value) reply.Done values (insert values (length values) value) v
-append_changes o value values v low mine is_list class is_class kept_table room fits =
-    let long = length-insert values (length values) value (omega arith) in
-    changes_grow o (list.Append value) values (insert values (length values) value) v low mine is_list class is_class kept_table (omega (arith, long, room)) refl refl
-    (λ world. ap (λ (vs : List Value). puts world no_hands o (content.List vs) reply.Done) (sym (insert_end values value))) refl refl fits
+  pub adds_changes : passes ≡ false → wanted ≡ None → Changes o lc reply.Done values news v
+  adds_changes few none = record { write = adds_write few; table = λ stored has. stays_so stored has none }
+
+  pub adds_grows : (class : ℕ) → passes ≡ false → wanted ≡ Some class → Grows o lc values news class v
+  adds_grows class few is = record {
+    write = adds_write few;
+    takes = λ stored has. takes_wanted stored has ∙ is;
+    table = λ stored has. leaves_grown stored has (Some class) (takes_wanted stored has ∙ is);
+  }

@@ -33,7 +33,7 @@ use Rattle.ft_bank.specs.declared.table.Table.{Table}
 use Rattle.ft_bank.specs.Tables.{name_of}
 use Rattle.ft_bank.specs.Writes.{MayHave}
 use Rattle.ft_list.specs.Items.{WritesList, IsChanging, MayFinish}
-use Rattle.ft_list.specs.Calls.{Changes}
+use Rattle.ft_list.specs.Calls.{IsListWrite}
 use Rattle.ft_list.proofs.Cares.{table_class}
 
 module _ (o : ℕ) (lc : ListCall) (said : Reply) (values news : List Value) (v : View) (low : o < containers_in v.shape) (mine : has_lock o v.log ≡ true) (is_list : (known o v).content ≡ content.List values) (stored : StoredWorld) (has : MayHave v stored) where
@@ -63,7 +63,10 @@ module _ (o : ℕ) (lc : ListCall) (said : Reply) (values news : List Value) (v 
   pub table_stays : list_change lc ≡ change.Stays → table_at (after_stored stored (call.List o lc)).tables o ≡ table_at stored.tables o
   table_stays stays = ap (λ (z : TableChange). table_at (change_leaves stored.tables o z (grown_table (table_at stored.tables o) (takes_in stored (call.List o lc)) 0 0) no_table) o) stays
 
-module _ (k : Shape) (o : ℕ) (table : Table) (first past : ℕ) (lc : ListCall) (said : Reply) (values news : List Value) (v : View) (list : WritesList k o table v) (shape : v.shape ≡ k) (is_list : (known o v).content ≡ content.List values) (kept_table : (known o v).table ≡ record { class = Some (class_of (name_of table)); fill = 0 }) (call_is : Changes o lc said values news v) (changing : IsChanging (class_of (name_of table)) values news first past (held o v).table) where
+module _ (k : Shape) (o : ℕ) (table : Table) (first past : ℕ) (lc : ListCall) (said : Reply) (values news : List Value) (v : View) (list : WritesList k o table v) (shape : v.shape ≡ k) (is_list : (known o v).content ≡ content.List values) (call_is : IsListWrite o lc said values news v)
+    (table_after : (stored : StoredWorld) → MayHave v stored → table_at (after_stored stored (call.List o lc)).tables o ≡ record { class = Some (class_of (name_of table)); fill = 0 })
+    (takes_owed : (stored : StoredWorld) (c : ℕ) → MayHave v stored → owes v.log ≡ suc c → takes_in stored (call.List o lc) ≡ Some c)
+    (changing : IsChanging (class_of (name_of table)) values news first past (held o v).table) where
   abbrev called : Call
   called = call.List o lc
 
@@ -82,7 +85,7 @@ module _ (k : Shape) (o : ℕ) (table : Table) (first past : ℕ) (lc : ListCall
   left_after : (stored : StoredWorld) → MayHave v stored → kept_at (after_stored stored called) o ≡ record { content = content.List news; table = record { class = Some class; fill = 0 } }
   left_after stored has =
       let c = content_after o lc said values news v low' list.locked is_list stored has (call_is.answered stored has) in
-      let t = call_is.table stored has ∙ (ap (λ (z : Kept). z.table) (has.agrees o low' list.locked) ∙ kept_table) in
+      let t = table_after stored has in
       λ d. record { content = c d; table = t d }
 
   few : length news ≤ slots class
@@ -105,8 +108,8 @@ module _ (k : Shape) (o : ℕ) (table : Table) (first past : ℕ) (lc : ListCall
     room = subst (λ (z : Option ℕ). IfSome z (λ (n : ℕ). n < 0)) (sym call_is.cursor) tt;
   }
 
-  pub may_finish : 0 < v.left → owes v.log ≡ 0 → has_emptied o v.log ≡ false → IsBlock (held o v).block (Some class) (length news) 0 0 → MayFinish o table called said first past v
-  may_finish left none full head = record {
+  pub may_finish : 0 < v.left → has_emptied o v.log ≡ false → IsBlock (held o v).block (Some class) (length news) 0 0 → MayFinish o table called said first past v
+  may_finish left full head = record {
     may = record {
       write = (λ d. call_is.changing d && not (call_is.raises d));
       container = subst (λ (n : ℕ). n < containers_in v.shape) (sym changed) low';
@@ -118,7 +121,7 @@ module _ (k : Shape) (o : ℕ) (table : Table) (first past : ℕ) (lc : ListCall
       declared = declared;
       fits = call_is.caps;
       clear = subst (λ (n : ℕ). (stored : StoredWorld) (t : ℕ) → MayHave v stored → root_in (held n v) ≡ suc t → ClearAs (kind_in v.shape.kinds n) v.shape.texts (class_of t) (held n v).table (known n v).content (kept_at (after_stored stored called) n).content) (sym changed) clears;
-      takes = λ stored class has e. absurd (omega (arith, e, none));
+      takes = takes_owed;
       empties = λ e. absurd (true≢false (sym e ∙ subst (λ (n : ℕ). has_emptied n v.log ≡ false) (sym changed) full));
     };
     changed = changed;

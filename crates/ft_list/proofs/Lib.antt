@@ -20,3 +20,9 @@ pub mod Turned
 pub mod Nothing
 pub mod Both
 pub mod Glancing
+pub mod Filling
+pub mod Wanted
+pub mod Growing
+pub mod GrowWrites
+pub mod Additions
+pub mod Emptying

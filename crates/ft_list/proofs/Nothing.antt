@@ -38,33 +38,33 @@ module _ (o : ℕ) (lc : ListCall) (said : Reply) (values : List Value) (v : Vie
   called = call.List o lc
 
   pub changed : changes called ≡ o
-  changed = ap (λ (b : Bool). unwrap_or (if b then Some o else None) 0) c.changing
+  changed = ap (λ (b : Bool). unwrap_or (if b then Some o else None) 0) c.write.changing
 
   -- the list is as it was
   pub left_same : (stored : StoredWorld) → MayHave v stored → kept_at (after_stored stored called) o ≡ known o v
   left_same stored has =
-      let inside = content_after o lc said values values v low mine is_list stored has (c.answered stored has) ∙ sym is_list in
+      let inside = content_after o lc said values values v low mine is_list stored has (c.write.answered stored has) ∙ sym is_list in
       let table = c.table stored has ∙ ap (λ (z : Kept). z.table) (has.agrees o low mine) in
       λ d. record { content = inside d; table = table d }
 
   declared : (stored : StoredWorld) → MayHave v stored → IsDeclared stored.world no_hands called
   declared stored has = record {
     one = declared_at stored.world o (content.List values) (in_world o lc said values values v low mine is_list stored has) (list_there o lc said values values v low mine is_list stored has);
-    both = c.other stored has;
-    room = subst (λ (z : Option ℕ). IfSome z (λ (n : ℕ). n < 0)) (sym c.cursor) tt;
+    both = c.write.other stored has;
+    room = subst (λ (z : Option ℕ). IfSome z (λ (n : ℕ). n < 0)) (sym c.write.cursor) tt;
   }
 
   pub may_commit_nothing : root_in (held o v) ≡ 0 → is_writing o v.log ≡ true → 0 < v.left → owes v.log ≡ 0 → has_emptied o v.log ≡ false → MayCommit v called said
   may_commit_nothing none odd left rest full = record {
-    write = (λ d. c.changing d && not (c.raises d));
+    write = (λ d. c.write.changing d && not (c.write.raises d));
     container = subst (λ (n : ℕ). n < containers_in v.shape) (sym changed) low;
     odd = subst (λ (n : ℕ). is_writing n v.log ≡ true) (sym changed) odd;
     left = left;
-    words = c.fits;
-    locks = c.locks;
+    words = c.write.fits;
+    locks = c.write.locks;
     reply_is = λ stored has. inr (sym (reply_changes o lc said values v low mine is_list values c stored has));
     declared = declared;
-    fits = c.caps;
+    fits = c.write.caps;
     clear = λ stored t has names. let e : root_in (held o v) ≡ suc t = subst (λ (n : ℕ). root_in (held n v) ≡ suc t) changed names in absurd (omega (arith, e, none));
     takes = λ stored class has e. absurd (omega (arith, e, rest));
     empties = λ e. absurd (true≢false (sym e ∙ subst (λ (n : ℕ). has_emptied n v.log ≡ false) (sym changed) full));
@@ -127,4 +127,4 @@ module _ (k : Shape) (o : ℕ) (lc : ListCall) (said : Reply) (v s : View) (f : 
         (subst (λ (n : ℕ). root_in (held n w) ≡ root_in (held n s)) at (ap (λ (z : View). root_in (held o z)) done))
         (subst (λ (n : ℕ). Stands s.shape.texts (held n w) (known n w)) at stands)
         (subst (λ (n : ℕ). x ≡ noted (StopWrite n g) w) at end) in
-        list_wrote k o none v s s f may begun (put_same s o) lc called said number x is c.changing ends (ap (λ (z : View). root_in (held o z)) begun)
+        list_wrote k o none v s s f may begun (put_same s o) lc called said number x is c.write.changing ends (ap (λ (z : View). root_in (held o z)) begun)

@@ -78,7 +78,7 @@ module _ (o : ℕ) (lc : ListCall) (said : Reply) (values : List Value) (v : Vie
   reply_of_list replied stored has = ap (λ (l : List Value). (answer_list stored.world no_hands o l lc).reply) (list_is o lc said values values v low mine is_list stored has) ∙ replied stored has
 
   pub reply_changes : (news : List Value) → Changes o lc said values news v → IsReplyTo (call.List o lc) said v
-  reply_changes news c = reply_of_list (λ stored has. ap (λ (z : Given). z.reply) (c.answered stored has))
+  reply_changes news c = reply_of_list (λ stored has. ap (λ (z : Given). z.reply) (c.write.answered stored has))
 
   pub reply_raises : Raises o lc said values → IsReplyTo (call.List o lc) said v
   reply_raises r = reply_of_list (λ stored has. ap (λ (z : Given). z.reply) (r.answered stored.world))
@@ -142,8 +142,8 @@ module _ (k : Shape) (o : ℕ) (lc : ListCall) (said : Reply) (v u w : View) (sh
 
   pub wrote_as : (n : ℕ) (news : List Value) → Changes o lc said (items_of o u) news u → Wrote called said n u w → root_in (held o w) ≡ root_in (held o u) → MadeAs called said (record { number = n; wrote = true }) v w
   wrote_as n news c x root =
-      let at : o ≡ changes called = sym (ap (λ (b : Bool). unwrap_or (if b then Some o else None) 0) c.changing) in
-      made_write called said n v u w loaded (reply_changes o lc said (items_of o u) u inside may.locked is_list news c) (λ d. c.changing d && not (c.raises d)) x
+      let at : o ≡ changes called = sym (ap (λ (b : Bool). unwrap_or (if b then Some o else None) 0) c.write.changing) in
+      made_write called said n v u w loaded (reply_changes o lc said (items_of o u) u inside may.locked is_list news c) (λ d. c.write.changing d && not (c.write.raises d)) x
       (subst (λ (p : ℕ). root_in (held p w) ≡ root_in (held p u)) at root)
 
   pub raised_as : (stamp : Stamp) (part : List Act) → u.log ≡ part ++ v.log → Raises o lc said (items_of o u) → stamp.wrote ≡ false → Answered called said stamp.number u w → MadeAs called said stamp v w

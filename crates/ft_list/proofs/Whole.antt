@@ -1,5 +1,5 @@
 -- A whole write of a list, from the version made odd to its end.
-use Rattle.std.proofs.Common.{◌≡◌, ℕ, ◌<◌, Bool, true, false, List, length, Some, sym, ap, ◌∙◌, subst}
+use Rattle.std.proofs.Common.{◌≡◌, ℕ, suc, ◌<◌, Bool, true, false, List, length, Some, sym, ap, ◌∙◌, subst, arith}
 use Rattle.std.specs.Prelude.{if◌then◌else◌, None}
 use Rattle.std.specs.Option.{unwrap_or}
 use Rattle.ft_model.specs.declared.call.Call.{Call}
@@ -8,6 +8,7 @@ use Rattle.ft_model.specs.declared.call.ListCall.{ListCall}
 use Rattle.ft_model.specs.declared.content.Content.TheVariants as content
 use Rattle.ft_model.specs.declared.data.Value.{Value}
 use Rattle.ft_model.specs.declared.reply.Reply.{Reply}
+use Rattle.ft_model.specs.declared.reply.Reply.TheVariants as reply
 use Rattle.ft_model.specs.Calls.{is_changing_list}
 use Rattle.ft_model.specs.Tables.{StoredWorld}
 use Rattle.ft_layout.specs.Containers.{IsBlock}
@@ -26,8 +27,50 @@ use Rattle.ft_bank.specs.Writes.{MayHave}
 use Rattle.ft_bank.specs.Whole.{OnlyPut, EndsWrite, Wrote}
 use Rattle.ft_bank.proofs.Whole.{work_knows, plain_write}
 use Rattle.ft_list.specs.Items.{WritesList, IsChanging, MayFinish}
-use Rattle.ft_list.specs.Calls.{MayWriteList, Changes}
+use Rattle.ft_list.specs.Calls.{MayWriteList, IsListWrite, Changes, Grows}
 use Rattle.ft_list.proofs.Commits.{may_finish}
+
+-- ---- what a call does, seen from later
+
+-- where what the bank may have now it may have had before
+module _ (v u : View) (before : (stored : StoredWorld) → MayHave u stored → MayHave v stored) (locks_too : (p : ℕ) → has_lock p v.log ≡ true → has_lock p u.log ≡ true) where
+  pub write_from : (o : ℕ) (lc : ListCall) (said : Reply) (values news : List Value) → IsListWrite o lc said values news v → IsListWrite o lc said values news u
+  write_from o lc said values news is = record {
+    changing = is.changing;
+    raises = is.raises;
+    cursor = is.cursor;
+    fits = is.fits;
+    locks = λ p named. locks_too p (is.locks p named);
+    answered = λ stored has. is.answered stored (before stored has);
+    other = λ stored has. is.other stored (before stored has);
+    caps = λ stored has. is.caps stored (before stored has);
+  }
+
+  pub grows_from : (o : ℕ) (lc : ListCall) (values news : List Value) (class : ℕ) → Grows o lc values news class v → Grows o lc values news class u
+  grows_from o lc values news class is = record {
+    write = write_from o lc reply.Done values news is.write;
+    takes = λ stored has. is.takes stored (before stored has);
+    table = λ stored has. is.table stored (before stored has);
+  }
+
+-- where it knows the same contents
+module _ (v u : View) (same_known : (p : ℕ) → known p u ≡ known p v) (same_shape : u.shape ≡ v.shape) (same_locks : (p : ℕ) → has_lock p v.log ≡ true → has_lock p u.log ≡ true) where
+  pub has_before : (stored : StoredWorld) → MayHave u stored → MayHave v stored
+  has_before stored has = record {
+    agrees = λ p low mine. has.agrees p (subst (λ (z : Shape). p < containers_in z) (sym same_shape) low) (same_locks p mine) ∙ same_known p;
+    containers = has.containers ∙ ap containers_in same_shape;
+    kinds = has.kinds ∙ ap (λ (z : Shape). z.kinds) same_shape;
+    order = has.order;
+    words = has.words;
+  }
+
+  pub write_on : (o : ℕ) (lc : ListCall) (said : Reply) (values news : List Value) → IsListWrite o lc said values news v → IsListWrite o lc said values news u
+  write_on = write_from v u has_before same_locks
+
+  pub grows_on : (o : ℕ) (lc : ListCall) (values news : List Value) (class : ℕ) → Grows o lc values news class v → Grows o lc values news class u
+  grows_on = grows_from v u has_before same_locks
+
+-- ---- a write that leaves the list's table
 
 module _ (k : Shape) (o : ℕ) (table : Table) (v s u : View) (f : ℕ) (may : MayWriteList k o v) (begun : s ≡ noted (StartWrite o f) v) (puts : OnlyPut o s u) where
   same_known : (p : ℕ) → known p u ≡ known p v
@@ -36,35 +79,32 @@ module _ (k : Shape) (o : ℕ) (table : Table) (v s u : View) (f : ℕ) (may : M
   same_shape : u.shape ≡ v.shape
   same_shape = puts.work.pass.shape ∙ ap (λ (z : View). z.shape) begun
 
-  has_before : (stored : StoredWorld) → MayHave u stored → MayHave v stored
-  has_before stored has = record {
-    agrees = λ p low mine. has.agrees p (subst (λ (z : Shape). p < containers_in z) (sym same_shape) low) (puts.work.pass.locks p ∙ (ap (λ (z : View). has_lock p z.log) begun ∙ mine)) ∙ same_known p;
-    containers = has.containers ∙ ap containers_in same_shape;
-    kinds = has.kinds ∙ ap (λ (z : Shape). z.kinds) same_shape;
-    order = has.order;
-    words = has.words;
-  }
+  same_locks : (p : ℕ) → has_lock p u.log ≡ has_lock p v.log
+  same_locks p = puts.work.pass.locks p ∙ ap (λ (z : View). has_lock p z.log) begun
+
+  locks_on : (p : ℕ) → has_lock p v.log ≡ true → has_lock p u.log ≡ true
+  locks_on p mine = same_locks p ∙ mine
 
   pub still_changes : (lc : ListCall) (said : Reply) (values news : List Value) → Changes o lc said values news v → Changes o lc said values news u
   still_changes lc said values news call_is = record {
-    changing = call_is.changing;
-    raises = call_is.raises;
-    cursor = call_is.cursor;
-    fits = call_is.fits;
-    locks = λ p e. puts.work.pass.locks p ∙ (ap (λ (z : View). has_lock p z.log) begun ∙ call_is.locks p e);
-    answered = λ stored has. call_is.answered stored (has_before stored has);
-    other = λ stored has. call_is.other stored (has_before stored has);
-    caps = λ stored has. call_is.caps stored (has_before stored has);
-    table = λ stored has. call_is.table stored (has_before stored has);
+    write = write_on v u same_known same_shape locks_on o lc said values news call_is.write;
+    table = λ stored has. call_is.table stored (has_before v u same_known same_shape locks_on stored has);
   }
 
   pub finishing : (first past : ℕ) (lc : ListCall) (called : Call) (said : Reply) (values news : List Value) → called ≡ call.List o lc → Changes o lc said values news v → (known o v).content ≡ content.List values → (known o v).table ≡ record { class = Some (class_of (name_of table)); fill = 0 } → WritesList k o table u → u.shape ≡ k → IsChanging (class_of (name_of table)) values news first past (held o u).table → IsBlock (held o u).block (Some (class_of (name_of table))) (length news) 0 0
       → MayFinish o table called said first past u
   finishing first past lc called said values news is call_is is_list kept list shape changing head =
+      let none : owes u.log ≡ 0 = puts.work.owes ∙ (ap (λ (z : View). owes z.log) begun ∙ may.owes) in
+      let low : o < containers_in v.shape = subst (λ (z : Shape). o < containers_in z) (sym shape ∙ same_shape) may.container in
       subst (λ (z : Call). MayFinish o table z said first past u) (sym is)
-      (may_finish k o table first past lc said values news u list shape (ap (λ (z : Kept). z.content) (same_known o) ∙ is_list) (ap (λ (z : Kept). z.table) (same_known o) ∙ kept) (still_changes lc said values news call_is) changing
+      (may_finish k o table first past lc said values news u list shape (ap (λ (z : Kept). z.content) (same_known o) ∙ is_list)
+      (write_on v u same_known same_shape locks_on o lc said values news call_is.write)
+      (λ stored has.
+      let old = has_before v u same_known same_shape locks_on stored has in
+      call_is.table stored old ∙ (ap (λ (z : Kept). z.table) (old.agrees o low may.locked) ∙ kept))
+      (λ stored class has e. absurd (omega (arith, e, none)))
+      changing
       (subst (λ (n : ℕ). 0 < n) (sym (puts.work.left ∙ ap (λ (z : View). z.left) begun)) may.left)
-      (puts.work.owes ∙ (ap (λ (z : View). owes z.log) begun ∙ may.owes))
       (puts.work.emptied o ∙ (ap (λ (z : View). has_emptied o z.log) begun ∙ hit o false (has_emptied o v.log)))
       head)
 

@@ -1,9 +1,9 @@
 -- What calls do to a list, and what a pass is to have that makes one.
-use Rattle.std.specs.Prelude.{◌≡◌, ◌⊎◌, ℕ, suc, ◌<◌, ◌≤◌, true, false, List, length, IfSome, None}
+use Rattle.std.specs.Prelude.{◌≡◌, ◌⊎◌, ℕ, suc, ◌<◌, nat_lt, true, false, List, length, IfSome, Some, None}
 use Rattle.ft_model.specs.declared.call.Call.{Call}
 use Rattle.ft_model.specs.declared.call.Call.TheVariants as call
 use Rattle.ft_model.specs.declared.call.ListCall.{ListCall}
-use Rattle.ft_model.specs.declared.call.ListCall.TheVariants as list
+use Rattle.ft_model.specs.declared.call.TableChange.TheVariants as change
 use Rattle.ft_model.specs.declared.content.Content.{Content}
 use Rattle.ft_model.specs.declared.content.Content.TheVariants as content
 use Rattle.ft_model.specs.declared.data.Value.{Value}
@@ -12,8 +12,9 @@ use Rattle.ft_model.specs.declared.reply.Reply.{Reply}
 use Rattle.ft_model.specs.declared.reply.Reply.TheVariants as reply
 use Rattle.ft_model.specs.declared.script.Kind.TheVariants as kind
 use Rattle.ft_model.specs.Answers.{answer_list, puts, shows, is_raised}
-use Rattle.ft_model.specs.Calls.{is_changing_list, other_list, cursor_of_list}
-use Rattle.ft_model.specs.Tables.{StoredWorld, table_at, would_pass, after_stored}
+use Rattle.ft_model.specs.Calls.{is_changing_list, other_list, cursor_of_list, list_change}
+use Rattle.ft_model.specs.Classes.{most_items}
+use Rattle.ft_model.specs.Tables.{StoredWorld, table_at, takes_in, would_pass, after_stored}
 use Rattle.ft_model.specs.Worlds.{no_hands, IsOfKind}
 use Rattle.ft_trace.specs.declared.Shape.{Shape}
 use Rattle.ft_trace.specs.declared.View.{View}
@@ -27,12 +28,9 @@ use Rattle.ft_trace.specs.Holds.{held, known}
 use Rattle.ft_bank.specs.declared.table.Table.{Table}
 use Rattle.ft_bank.specs.Tables.{name_of, IsTableIn}
 use Rattle.ft_bank.specs.Answered.{Answered}
-use Rattle.ft_bank.specs.Whole.{OnlyLoaded, Wrote}
+use Rattle.ft_bank.specs.Whole.{Wrote}
 use Rattle.ft_bank.specs.Writes.{MayHave}
 use Rattle.ft_section.specs.declared.answers.Stamp.{Stamp}
-use Rattle.ft_list.specs.declared.locked.Appended.{Appended}
-use Rattle.ft_list.specs.declared.locked.Appended.TheVariants as appended
-use Rattle.ft_list.specs.Items.{items_of}
 
 -- The pass may write the list o: it has its lock, and its words stand for what the pass knows of it; no version is odd there,
 -- the pass has lowered no count of a class that it hasn't raised again, and it has a call left. (profile)
@@ -50,10 +48,10 @@ pub record HasTable (k : Shape) (o : ℕ) (table : Table) (v : View) : Type 0 wh
   pub table_in : IsTableIn k table
   pub root : root_in (held o v) ≡ suc (name_of table)
 
--- A call is a write of the list o that leaves its table: the plain containers reply so to it, where the list has these
--- values, and it has `news` then, whatever else the bank has that agrees with what the pass knows; the pass has the locks of
--- the containers that it names, and no container passes its greatest length. (Python manual, Mutable Sequence Types)
-pub record Changes (o : ℕ) (lc : ListCall) (said : Reply) (values news : List Value) (v : View) : Type 0 where
+-- A call is a write of the list o: the plain containers reply so to it, where the list has these values, and it has `news`
+-- then, whatever else the bank has that agrees with what the pass knows; the pass has the locks of the containers that it
+-- names, and no container passes its greatest length. (Python manual, Mutable Sequence Types)
+pub record IsListWrite (o : ℕ) (lc : ListCall) (said : Reply) (values news : List Value) (v : View) : Type 0 where
   pub changing : is_changing_list lc ≡ true
   pub raises : is_raised said ≡ false
   pub cursor : cursor_of_list lc ≡ None
@@ -64,8 +62,35 @@ pub record Changes (o : ℕ) (lc : ListCall) (said : Reply) (values news : List 
   pub other : (stored : StoredWorld) → MayHave v stored
       → IfSome (other_list lc) (λ p. IsOfKind stored.world kind.List p)
   pub caps : (stored : StoredWorld) → MayHave v stored → would_pass stored.world (call.List o lc) ≡ false
+
+-- and it leaves the list's table
+pub record Changes (o : ℕ) (lc : ListCall) (said : Reply) (values news : List Value) (v : View) : Type 0 where
+  pub write : IsListWrite o lc said values news v
   pub table : (stored : StoredWorld) → MayHave v stored
       → table_at (after_stored stored (call.List o lc)).tables o ≡ table_at stored.tables o
+
+-- or the list takes a table of this class for it
+pub record Grows (o : ℕ) (lc : ListCall) (values news : List Value) (class : ℕ) (v : View) : Type 0 where
+  pub write : IsListWrite o lc reply.Done values news v
+  pub takes : (stored : StoredWorld) → MayHave v stored → takes_in stored (call.List o lc) ≡ Some class
+  pub table : (stored : StoredWorld) → MayHave v stored
+      → table_at (after_stored stored (call.List o lc)).tables o ≡ record { class = Some class; fill = 0 }
+
+-- A call adds to the list o: where the list has these values, the plain containers reply that it is done, and the list has
+-- `news` then, whatever else the bank has that agrees with what the pass knows; the pass has the locks of the containers
+-- that it names, and no other one is longer then than the largest table holds. (Python manual, Mutable Sequence Types)
+pub record Adds (o : ℕ) (lc : ListCall) (values news : List Value) (v : View) : Type 0 where
+  pub changing : is_changing_list lc ≡ true
+  pub grows : list_change lc ≡ change.Grows
+  pub cursor : cursor_of_list lc ≡ None
+  pub fits : FitsListCall lc
+  pub locks : HasLocksOf (call.List o lc) v.log
+  pub answered : (stored : StoredWorld) → MayHave v stored
+      → answer_list stored.world no_hands o values lc ≡ puts stored.world no_hands o (content.List news) reply.Done
+  pub other : (stored : StoredWorld) → MayHave v stored
+      → IfSome (other_list lc) (λ p. IsOfKind stored.world kind.List p)
+  pub caps : (stored : StoredWorld) → MayHave v stored
+      → would_pass stored.world (call.List o lc) ≡ nat_lt most_items (length news)
 
 -- The plain containers raise this to the call, where the list has these values, and leave all as it is. (Python manual,
 -- Built-in Exceptions)
@@ -80,10 +105,3 @@ abbrev pub Made : Call → Reply → Stamp → View → View → Type 0
 Made called said stamp v w =
     ((stamp.wrote ≡ true) × Wrote called said stamp.number v w)
     ⊎ ((stamp.wrote ≡ false) × Answered called said stamp.number v w)
-
--- An append under the lock was made, as one whole write; or the list has as many items as its table has room for, and the
--- pass only loaded words. (profile)
-abbrev pub IsAppended : ℕ → ℕ → Value → View → View → Appended → Type 0
-IsAppended o room value v w (appended.Made stamp) =
-    (stamp.wrote ≡ true) × Wrote (call.List o (list.Append value)) reply.Done stamp.number v w
-IsAppended o room value v w appended.Full = OnlyLoaded v w × (room ≤ length (items_of o v))

@@ -3,13 +3,17 @@
 //! A list's items lie in its table, each at its index: a version, the kind and the payload of a value.
 //! A pass with the lock of a list writes it in one order: it makes the list's version odd, makes odd the
 //! versions of just the items that it changes, puts their words and the list's length, raises the
-//! counter, which is the write, and makes the versions even again.
+//! counter, which is the write, and makes the versions even again. A list that gets another table has it filled
+//! before that, and put into its root once its version is odd.
 #![tactic(auto)]
 
+mod adding;
 mod bare;
+mod clearing;
 mod copies;
 mod gets;
 mod glances;
+mod growth;
 mod indexing;
 mod items;
 mod lens;
@@ -24,11 +28,13 @@ mod tries;
 mod turning;
 mod writes;
 
+pub use crate::adding::{append_by, insert_by, try_append, try_insert};
+pub use crate::clearing::{clear_by, try_clear};
 pub use crate::gets::look_item;
 pub use crate::glances::{look_eq, look_has, look_items};
 pub use crate::indexing::{look_get, try_get};
 pub use crate::lens::{look_len, try_len};
-pub use crate::locked::{Appended, append_locked, del_locked, set_locked};
+pub use crate::locked::{del_locked, set_locked};
 pub use crate::pairs::try_eq;
 pub use crate::reads::read_named;
 pub use crate::removals::{pop_locked, remove_locked};

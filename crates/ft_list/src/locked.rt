@@ -8,7 +8,6 @@ ghost use Rattle.ft_layout.specs.declared.slot.Stored.TheVariants.{Plain};
 ghost use Rattle.ft_layout.specs.Words.{FitsStored};
 ghost use Rattle.ft_model.specs.declared.reply.Reply.TheVariants as reply;
 ghost use Rattle.ft_model.specs.declared.reply.Raise.TheVariants as raise;
-ghost use Rattle.ft_model.specs.Classes.{list_items};
 ghost use Rattle.ft_model.specs.Lists.{index_in};
 ghost use Rattle.ft_trace.specs.declared.Act.TheVariants.{ReadBlock};
 ghost use Rattle.ft_bank.specs.Answered.{Answered};
@@ -16,12 +15,12 @@ ghost use Rattle.ft_bank.specs.Passes.{shape_of, view, IsPassOf};
 ghost use Rattle.ft_bank.specs.Sections.{stack_of};
 ghost use Rattle.ft_bank.specs.Whole.{OnlyLoaded};
 ghost use Rattle.ft_list.specs.Items.{items_of};
-ghost use Rattle.ft_list.specs.Calls.{MayWriteList, HasTable, Raises, IsAppended};
+ghost use Rattle.ft_list.specs.Calls.{MayWriteList, HasTable, Raises};
 ghost use Rattle.ft_search.specs.Calls.{MadeAs};
 
-use crate::writes::{insert_item, remove_item, set_item};
+use crate::writes::{remove_item, set_item};
 use ft_bank::{Bank, Pass, Table};
-use ft_layout::{block_word, list_items};
+use ft_layout::block_word;
 use ft_model::{Call, ListCall, Raise, Reply, Value};
 use ft_search::table_named;
 use ft_section::{Object, Stamp};
@@ -190,54 +189,4 @@ pub(crate) fn value_fits(value: Value)
             let _number = sym.0;
         }
     }
-}
-
-/// What an append comes to, under the lock.
-#[derive(Clone, Copy, Debug, PartialEq, Eq)]
-pub enum Appended {
-    /// The write was made, with this stamp.
-    Made(Stamp),
-    /// The list's table has no room for one more item; nothing was done.
-    Full,
-}
-
-/// `l.append(v)`, under the lock, by a caller that knows the list's table.
-pub fn append_locked(
-    bank: &Bank,
-    pass: &mut Pass,
-    l: Object,
-    table: Table,
-    value: Value,
-) -> Appended
-    requires pass { IsPassOf bank.now pass.old }
-    requires may { MayWriteList (shape_of bank.now) l (view pass.old) }
-    requires table { HasTable (shape_of bank.now) l table (view pass.old) }
-    ensures pass { IsPassOf bank.now pass.new }
-    ensures stack { stack_of pass.new ≡ stack_of pass.old }
-    ensures made { IsAppended l (list_items table.class) value (view pass.old) (view pass.new) result }
-{
-    let count = count_of(bank, pass, l);
-    if count >= list_items(table.class) {
-        return Appended::Full;
-    }
-    value_fits(value);
-    let called = Call::List {
-        container: l,
-        call: ListCall::Append { value },
-    };
-    let number = insert_item(
-        bank,
-        pass,
-        l,
-        table,
-        count,
-        count,
-        value,
-        &called,
-        &Reply::Done,
-    );
-    Appended::Made(Stamp {
-        number,
-        wrote: true,
-    })
 }

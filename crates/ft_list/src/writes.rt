@@ -80,7 +80,7 @@ pub(crate) fn set_item(
 }
 
 /// Puts a value at a place, and each item from there on at the next one.
-fn shift_up(
+pub(crate) fn shift_up(
     bank: &Bank,
     pass: &mut Pass,
     o: u32,

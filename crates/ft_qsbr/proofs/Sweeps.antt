@@ -22,7 +22,7 @@ use Rattle.ft_bank.specs.declared.pass.Pass.{Pass}
 use Rattle.ft_bank.specs.Passes.{view}
 use Rattle.ft_bank.proofs.Freeing.{all_then, but_same, but_then}
 use Rattle.ft_bank.proofs.Tables.{named}
-use Rattle.ft_qsbr.specs.Collecting.{IsPast, given, given_next}
+use Rattle.ft_qsbr.specs.Collecting.{IsPast, AreGivings, given, given_next}
 use Rattle.ft_qsbr.specs.Sweeping.{bit_index, Gave, HasSeen, Swept}
 
 -- ---- bits
@@ -196,11 +196,19 @@ module _ (k : Shape) (least : Option ℕ) (q : Table) (v w : View) (shape : v.sh
 -- ---- how many
 
 pub gave_none : (p : Pass) → Gave 0 p p
-gave_none p = ([], (refl, refl, refl), refl)
+gave_none p = ([], (refl, refl, refl), refl, tt)
 
 pub gave_then : (m n : ℕ) (p q r : Pass) → Gave m p q → Gave n q r → Gave (m + n) p r
 gave_then m n p q r a b = (
   b.0 ++ a.0,
   (b.1.0 ∙ a.1.0, all_then b.0 a.0 (view p) (view q) (view r) b.1.1 a.1.1, b.1.2 ∙ a.1.2),
   (let s = given_then b.0 a.0 in let x = a.2 in let y = b.2 in omega (arith, s, x, y)),
+  givings_then b.0 a.0 b.3 a.3,
 )
+  where
+    givings_then : (xs ys : List Act) → AreGivings xs → AreGivings ys → AreGivings (xs ++ ys)
+    givings_then [] ys x y = y
+    givings_then (ReadHeader t g ∷ xs) ys x y = givings_then xs ys x y
+    givings_then (GiveTable t ∷ xs) ys x y = givings_then xs ys x y
+    givings_then (RaiseCount c n ∷ xs) ys x y = givings_then xs ys x y
+    givings_then (a ∷ xs) ys x y = absurd x

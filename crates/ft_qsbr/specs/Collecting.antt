@@ -1,7 +1,7 @@
 -- What a collection of retired tables does. (profile)
 use Rattle.std.specs.Prelude.{◌≡◌, ◌⊎◌, ℕ, suc, ◌+◌, ◌≤◌, true, false, Option, Some, None, List, [], ◌∷◌, ◌++◌, length}
 use Rattle.ft_trace.specs.declared.Act.{Act}
-use Rattle.ft_trace.specs.declared.Act.TheVariants.{GiveTable, ReadAnnounced}
+use Rattle.ft_trace.specs.declared.Act.TheVariants.{GiveTable, RaiseCount, ReadAnnounced, ReadHeader}
 use Rattle.ft_trace.specs.declared.View.{View}
 use Rattle.ft_trace.specs.Addresses.{IsTable}
 use Rattle.ft_trace.specs.Acts.{flight, goal, has_goal, owes, stage}
@@ -40,6 +40,18 @@ abbrev pub given : List Act → ℕ
 given [] = 0
 given (a ∷ l) = given_next a (given l)
 
+-- each of these is a load of a goal or a step of a giving
+abbrev pub AreGivings : List Act → Type 0
+AreGivings [] = Unit {0}
+AreGivings (ReadHeader t g ∷ l) = AreGivings l
+AreGivings (GiveTable t ∷ l) = AreGivings l
+AreGivings (RaiseCount c n ∷ l) = AreGivings l
+AreGivings (act ∷ l) = ⊥
+
+-- a table is the pass's as it was, or was given back
+abbrev pub StaysOrGoes : View → View → ℕ → Type 0
+StaysOrGoes v w t = (stage t w.log ≡ stage t v.log) ⊎ (stage t w.log ≡ 0)
+
 -- A collection loads the number of each pass once, this pass's own too. Then it gives back just those of the tables
 -- that the pass kept retired whose goal all these numbers are past; the others it keeps, with their goals. It leaves
 -- all else as it was.
@@ -49,6 +61,7 @@ pub record Collected (v w : View) (freed : ℕ) : Type 0 where
   pub acts : List Act
   pub did : w ≡ noted_all (acts ++ loads_of numbers) v
   pub count : given acts ≡ freed
+  pub givings : AreGivings acts
   pub free : (t : ℕ) → IsTable v.shape t → has_goal t v.log ≡ true → AllPast (goal t v.log) numbers → stage t w.log ≡ 0
   pub kept : (t : ℕ) → IsTable v.shape t → has_goal t v.log ≡ true → (AllPast (goal t v.log) numbers → ⊥)
       → (has_goal t w.log ≡ true) × (goal t w.log ≡ goal t v.log)

@@ -7,7 +7,7 @@ use Rattle.ft_trace.specs.Acts.{clear, flight, goal, has_goal, owes, stage}
 use Rattle.ft_bank.specs.declared.pass.Pass.{Pass}
 use Rattle.ft_bank.specs.Series.{DidAll}
 use Rattle.ft_bank.specs.Takings.{KeepsBut}
-use Rattle.ft_qsbr.specs.Collecting.{given, IsPast}
+use Rattle.ft_qsbr.specs.Collecting.{given, AreGivings, IsPast}
 
 -- where the bit of a table is among the bits of all
 abbrev pub bit_index : ℕ → ℕ
@@ -35,6 +35,6 @@ pub record Swept (least : Option ℕ) (from to : ℕ) (v w : View) : Type 0 wher
   pub owes : owes v.log ≡ 0 → owes w.log ≡ 0
   pub keeps : KeepsBut (λ t. has_goal t v.log ≡ false) v w
 
--- the pass has done steps that gave back this many tables, and nothing else
+-- the pass has loaded goals and given back this many tables, and done nothing else
 abbrev pub Gave : ℕ → Pass → Pass → Type 0
-Gave count p q = (acts : List Act) × DidAll acts p q × (given acts ≡ count)
+Gave count p q = (acts : List Act) × DidAll acts p q × (given acts ≡ count) × AreGivings acts

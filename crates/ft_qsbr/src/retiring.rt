@@ -6,6 +6,7 @@ ghost use Rattle.ft_bank.specs.Passes.{shape_of, view, IsPassOf};
 ghost use Rattle.ft_bank.specs.Series.{DidAll};
 ghost use Rattle.ft_bank.specs.Tables.{name_of, IsTableIn};
 ghost use Rattle.ft_bank.specs.Takings.{KeepsHeld, NotTable};
+ghost use Rattle.ft_bank.specs.Whole.{SamePass};
 
 use ft_bank::{Bank, Pass, Table};
 
@@ -24,6 +25,7 @@ pub fn retire(bank: &Bank, pass: &mut Pass, table: Table)
     ensures retired { (stage (name_of table) (view pass.new).log ≡ 4) × (has_goal (name_of table) (view pass.new).log ≡ true) }
     ensures debt { debt (view pass.new).log + 1 ≡ debt (view pass.old).log }
     ensures announces { announces (view pass.new).log ≡ announces (view pass.old).log }
+    ensures same { SamePass (view pass.old) (view pass.new) }
     ensures keeps { KeepsHeld (NotTable table) (view pass.old) (view pass.new) }
 {
     let goal = bank.retire(pass, table);

@@ -10,7 +10,8 @@ ghost use Rattle.ft_bank.specs.Sections.{stack_of};
 ghost use Rattle.ft_bank.specs.Series.{noted_all};
 ghost use Rattle.ft_bank.specs.Takings.{HasTook, IsTaking, KeepsBut, StaysIn};
 ghost use Rattle.ft_bank.specs.declared.takings.Took.TheVariants.{AllTaken};
-ghost use Rattle.ft_qsbr.specs.Collecting.{Collected};
+ghost use Rattle.ft_bank.specs.Whole.{SamePass};
+ghost use Rattle.ft_qsbr.specs.Collecting.{Collected, StaysOrGoes};
 
 use crate::collecting::collect;
 use ft_bank::{Bank, Pass, Took};
@@ -30,6 +31,8 @@ pub fn take(bank: &Bank, pass: &mut Pass, class: u32) -> Took
         (rest : List Act) × ((view pass.new).log ≡ ReadCount class 0 ∷ rest) × (owes rest ≡ 0) }
     ensures idle { flight (view pass.new).log ≡ 0 }
     ensures sections { stack_of pass.new ≡ stack_of pass.old }
+    ensures same { SamePass (view pass.old) (view pass.new) }
+    ensures hands { (t : ℕ) → StaysIn result t → StaysOrGoes (view pass.old) (view pass.new) t }
     ensures keeps { KeepsBut (λ t. (has_goal t (view pass.old).log ≡ false) × StaysIn result t)
         (view pass.old) (view pass.new) }
 {

@@ -26,6 +26,7 @@ use Rattle.ft_section.proofs.Making.{making_stays}
 abbrev pub LeavesSections : Call → Type 0
 LeavesSections called = (n : ℕ) (l : List Act) (sections : List Begun) → begun_by called n l sections ≡ sections
 
+-- loads leave a pass that is in the midst of no write and no taking
 pub still_loaded : (v u : View) → OnlyLoaded v u → IsStill v → IsStill u
 still_loaded v u o s =
     record {
@@ -42,14 +43,21 @@ still_loaded v u o s =
 still_answered : (called : Call) (said : Reply) (n : ℕ) (u : View) → IsStill u → IsStill (noted (Answer called said n) u)
 still_answered called said n u s = record { even = s.even; hands = s.hands; used = s.used; owes = s.owes; flight = s.flight; stands = s.stands }
 
+-- what the entry of a call that isn't a write leaves
+pub still_read : (called : Call) (said : Reply) (n : ℕ) (v w : View) → Answered called said n v w → IsStill v → IsStill w
+still_read called said n v w a s = subst IsStill (sym a.answered) (still_answered called said n a.before (still_loaded v a.before a.loaded s))
+
+pub sections_read : (called : Call) (said : Reply) (n : ℕ) (v w : View) → LeavesSections called → Answered called said n v w → (w.shape ≡ v.shape) × ((o : ℕ) → has_lock o w.log ≡ has_lock o v.log) × (begun w.log ≡ begun v.log)
+sections_read called said n v w leaves a = (
+  ap (λ z. z.shape) a.answered ∙ a.loaded.work.pass.shape,
+  (λ o. ap (λ z. has_lock o z.log) a.answered ∙ a.loaded.work.pass.locks o),
+  ap (λ z. begun z.log) a.answered ∙ (leaves n a.before.log (begun a.before.log) ∙ a.loaded.work.pass.begun),
+)
+
 pub making_read : (b : Bank) (p q : Pass) (called : Call) (said : Reply) (n : ℕ) → LeavesSections called → IsMaking b p → IsPassOf b q → stack_of q ≡ stack_of p → Answered called said n (view p) (view q) → IsMaking b q
 making_read b p q called said n leaves m pass stack a =
-    let v = view p in
-    let still : IsStill (view q) = subst IsStill (sym a.answered) (still_answered called said n a.before (still_loaded v a.before a.loaded m.inside.1.still)) in
-    let shape : (view q).shape ≡ v.shape = ap (λ z. z.shape) a.answered ∙ a.loaded.work.pass.shape in
-    let locks : (o : ℕ) → has_lock o (view q).log ≡ has_lock o v.log = λ o. ap (λ z. has_lock o z.log) a.answered ∙ a.loaded.work.pass.locks o in
-    let sections : begun (view q).log ≡ begun v.log = ap (λ z. begun z.log) a.answered ∙ (leaves n a.before.log (begun a.before.log) ∙ a.loaded.work.pass.begun) in
-    making_stays b p q m pass stack shape locks sections still
+    let r = sections_read called said n (view p) (view q) leaves a in
+    making_stays b p q m pass stack r.0 r.1 r.2 (still_read called said n (view p) (view q) a m.inside.1.still)
 
 -- what such a pass knows of a container whose lock it has
 pub making_stands : (b : Bank) (p : Pass) (texts : List ℕ) (o : ℕ) → IsMaking b p → (view p).shape.texts ≡ texts → o < containers_in (view p).shape → has_lock o (view p).log ≡ true → Stands texts (held o (view p)) (known o (view p))

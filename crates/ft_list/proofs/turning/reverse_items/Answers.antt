@@ -51,7 +51,7 @@ returns-clause-wrote c =
     let d = c.begin.ensures.did in
     let e = c.turn.ensures in
     let call_is = c.requires.call in
-    list_wrote k a.o a.table v s u d.0 c.requires.may d.1.1 e.only call_is.0 a.called.now a.said.now c.finish.result (view c.finish.new.pass) call_is.1 call_is.2.changing c.finish.ensures.ends (e.list.root ∙ sym c.requires.table.root)
+    list_wrote k a.o a.table v s u d.0 c.requires.may d.1.1 e.only call_is.0 a.called.now a.said.now c.finish.result (view c.finish.new.pass) call_is.1 call_is.2.write.changing c.finish.ensures.ends (e.list.root ∙ sym c.requires.table.root)
 
 pub returns-clause-root : goal.returns-clause-root
 returns-clause-root c =
@@ -63,4 +63,4 @@ returns-clause-root c =
     let d = c.begin.ensures.did in
     let e = c.turn.ensures in
     let call_is = c.requires.call in
-    root_wrote k a.o a.table v s u d.0 c.requires.may d.1.1 e.only call_is.0 a.called.now a.said.now c.finish.result (view c.finish.new.pass) call_is.1 call_is.2.changing c.finish.ensures.ends (e.list.root ∙ sym c.requires.table.root)
+    root_wrote k a.o a.table v s u d.0 c.requires.may d.1.1 e.only call_is.0 a.called.now a.said.now c.finish.result (view c.finish.new.pass) call_is.1 call_is.2.write.changing c.finish.ensures.ends (e.list.root ∙ sym c.requires.table.root)

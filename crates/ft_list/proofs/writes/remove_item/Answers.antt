@@ -66,7 +66,7 @@ returns-clause-wrote c =
     let e = c.shift_down.ensures in
     let last = put_by (PutBlock a.o 1 (a.count - 1)) y u a.o tt c.put_block.ensures.did.1 c.put_block.ensures.keeps in
     let call_is = c.requires.call in
-    list_wrote k a.o a.table v s u d.0 c.requires.may d.1.1 (put_then s y u a.o e.only last) call_is.0 a.called.now a.said.now c.finish.result (view c.finish.new.pass) call_is.1 call_is.2.changing c.finish.ensures.ends
+    list_wrote k a.o a.table v s u d.0 c.requires.may d.1.1 (put_then s y u a.o e.only last) call_is.0 a.called.now a.said.now c.finish.result (view c.finish.new.pass) call_is.1 call_is.2.write.changing c.finish.ensures.ends
     ((root_stays _ _ _ _ (omega arith) c.put_block.ensures.held) ∙ (e.list.root ∙ sym c.requires.table.root))
 
 pub returns-clause-root : goal.returns-clause-root
@@ -81,5 +81,5 @@ returns-clause-root c =
     let e = c.shift_down.ensures in
     let last = put_by (PutBlock a.o 1 (a.count - 1)) y u a.o tt c.put_block.ensures.did.1 c.put_block.ensures.keeps in
     let call_is = c.requires.call in
-    root_wrote k a.o a.table v s u d.0 c.requires.may d.1.1 (put_then s y u a.o e.only last) call_is.0 a.called.now a.said.now c.finish.result (view c.finish.new.pass) call_is.1 call_is.2.changing c.finish.ensures.ends
+    root_wrote k a.o a.table v s u d.0 c.requires.may d.1.1 (put_then s y u a.o e.only last) call_is.0 a.called.now a.said.now c.finish.result (view c.finish.new.pass) call_is.1 call_is.2.write.changing c.finish.ensures.ends
     ((root_stays _ _ _ _ (omega arith) c.put_block.ensures.held) ∙ (e.list.root ∙ sym c.requires.table.root))

@@ -21,7 +21,7 @@ pub returns-clause-collected : goal.returns-clause-collected
 returns-clause-collected c =
     let d = c.least_announced-least.ensures.did in
     let e = c.sweep_all.ensures.gave in
-    collection (view c.args.pass.now) (view c.least_announced-least.new.pass) (view c.sweep_all.new.pass) d.0 c.least_announced-least.result e.0 c.sweep_all.result c.requires.idle (d.1 ∙ sym (ap (λ (z : Shape). z.passes) c.requires.pass.1)) d.2.1 c.least_announced-least.ensures.keeps d.3 e.1.1 e.2 c.sweep_all.ensures.swept
+    collection (view c.args.pass.now) (view c.least_announced-least.new.pass) (view c.sweep_all.new.pass) d.0 c.least_announced-least.result e.0 c.sweep_all.result c.requires.idle (d.1 ∙ sym (ap (λ (z : Shape). z.passes) c.requires.pass.1)) d.2.1 c.least_announced-least.ensures.keeps d.3 e.1.1 e.2 e.3 c.sweep_all.ensures.swept
 
 pub returns-clause-sections : goal.returns-clause-sections
 returns-clause-sections c = c.sweep_all.ensures.gave.1.2 ∙ c.least_announced-least.ensures.did.2.2

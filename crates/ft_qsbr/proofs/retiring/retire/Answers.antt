@@ -7,6 +7,7 @@ use Rattle.ft_bank.specs.Passes.{view}
 use Rattle.ft_bank.specs.Tables.{name_of}
 use Rattle.ft_bank.specs.Takings.{Each, NotTable}
 use Rattle.ft_bank.proofs.Freeing.{held_then}
+use Rattle.ft_qsbr.proofs.Passing.{retirement_same}
 use Rattle.ft_qsbr.proofs.retiring.retire.Goals as ask
 
 pub put_goal-requires-clause-retired : ask.put_goal-requires-clause-retired
@@ -58,3 +59,9 @@ returns-clause-announces c = c.put_goal.ensures.keeps.announces ∙ c.retire-goa
 
 pub returns-clause-keeps : ask.returns-clause-keeps
 returns-clause-keeps c = held_then (NotTable c.args.table) Each _ _ _ c.retire-goal.ensures.keeps c.put_goal.ensures.keeps.held (λ t of. tt)
+
+pub returns-clause-same : ask.returns-clause-same
+returns-clause-same c =
+    let t = name_of c.args.table in
+    let d = returns-clause-did c in
+    retirement_same t d.0 (d.0 + 1) (view c.args.pass.now) (view c.put_goal.new.pass) d.1.1

@@ -12,7 +12,7 @@ use Rattle.ft_qsbr.proofs.Sweeps.{kept_one, given_one}
 use Rattle.ft_qsbr.proofs.sweeping.give_past.Goals as ask
 
 pub returns-then-not-is_past-clause-gave : ask.returns-then-not-is_past-clause-gave
-returns-then-not-is_past-clause-gave c = (ReadHeader (name_of c.args.table) c.goal-goal.result ∷ [], c.goal-goal.ensures.did, refl)
+returns-then-not-is_past-clause-gave c = (ReadHeader (name_of c.args.table) c.goal-goal.result ∷ [], c.goal-goal.ensures.did, refl, tt)
 
 pub returns-then-not-is_past-clause-swept : ask.returns-then-not-is_past-clause-swept
 returns-then-not-is_past-clause-swept c =
@@ -36,6 +36,7 @@ returns-clause-gave c =
       RaiseCount c.args.table.class e.0 ∷ GiveTable t ∷ ReadHeader t c.goal-goal.result ∷ [],
       (e.1.0 ∙ d.0, e.1.1 ∙ ap (λ (u : View). noted (RaiseCount c.args.table.class e.0) (noted (GiveTable t) u)) d.1, e.1.2 ∙ d.2),
       refl,
+      tt,
     )
 
 pub returns-clause-swept : ask.returns-clause-swept

@@ -1,12 +1,16 @@
-use Rattle.std.proofs.Common.{◌≡◌, ℕ, false, List, ap, ◌∙◌, subst}
+use Rattle.std.proofs.Common.{◌≡◌, ◌≤◌, le_trans, ℕ, false, List, ◌++◌, sym, ap, ◌∙◌, subst, inl, inr, ⊎_elim}
 use Rattle.ft_trace.specs.declared.Act.{Act}
 use Rattle.ft_trace.specs.declared.View.{View}
-use Rattle.ft_trace.specs.Acts.{has_goal}
+use Rattle.ft_trace.specs.Acts.{has_goal, seen_writes, stage}
+use Rattle.ft_trace.specs.Hands.{cursor_in}
+use Rattle.ft_trace.specs.Sections.{begun}
 use Rattle.ft_bank.specs.declared.takings.Took.{Took}
 use Rattle.ft_bank.specs.Passes.{view}
 use Rattle.ft_bank.specs.Series.{noted_all}
 use Rattle.ft_bank.specs.Takings.{IsTaking, StaysIn}
 use Rattle.ft_bank.proofs.Freeing.{but_same, but_then}
+use Rattle.ft_qsbr.specs.Collecting.{StaysOrGoes, loads_of}
+use Rattle.ft_qsbr.proofs.Passing.{begun_stays, cursors_stay, learnt_stays, seen_stays, collection_leaves, given_or_kept, taking_leaves, same_by}
 use Rattle.ft_qsbr.proofs.taking.take.Goals as goal
 
 pub take_table-requires-clause-idle : goal.take_table-requires-clause-idle
@@ -37,3 +41,31 @@ returns-clause-keeps c =
     but_then F (StaysIn c.take_table.result) v (view c.collect.new.pass) (view c.take_table.new.pass)
     (but_then F (λ t. has_goal t v.log ≡ false) v v (view c.collect.new.pass) (but_same F v) c.collect.ensures.collected.keeps (λ t f. f.0))
     c.take_table.ensures.keeps (λ t f. f.1)
+
+pub returns-clause-same : goal.returns-clause-same
+returns-clause-same c =
+    let v = view c.args.pass.now in
+    let m = view c.collect.new.pass in
+    let w = view c.take_table.new.pass in
+    let x = c.collect.ensures.collected in
+    let d = c.take_table.ensures.did in
+    let F : ℕ → Type 0 = λ t. (has_goal t v.log ≡ false) × StaysIn c.take_table.result t in
+    let sections : begun w.log ≡ begun v.log =
+    ap (λ (u : View). begun u.log) d.1.1 ∙ (begun_stays d.0 m (taking_leaves c.args.class c.take_table.result d.0 d.2)
+    ∙ (ap (λ (u : View). begun u.log) x.did ∙ begun_stays (x.acts ++ loads_of x.numbers) v (collection_leaves x.acts x.numbers x.givings))) in
+    let learnt : w.learnt ≡ v.learnt = ap (λ (u : View). u.learnt) d.1.1 ∙ (learnt_stays d.0 m ∙ (ap (λ (u : View). u.learnt) x.did ∙ learnt_stays (x.acts ++ loads_of x.numbers) v)) in
+    let cursors : (n : ℕ) → cursor_in n w.log ≡ cursor_in n v.log =
+    λ n. ap (λ (u : View). cursor_in n u.log) d.1.1 ∙ (cursors_stay d.0 m n (taking_leaves c.args.class c.take_table.result d.0 d.2)
+    ∙ (ap (λ (u : View). cursor_in n u.log) x.did ∙ cursors_stay (x.acts ++ loads_of x.numbers) v n (collection_leaves x.acts x.numbers x.givings))) in
+    let first : seen_writes v ≤ seen_writes m = subst (λ (u : View). seen_writes v ≤ seen_writes u) (sym x.did) (seen_stays (x.acts ++ loads_of x.numbers) v) in
+    let then : seen_writes m ≤ seen_writes w = subst (λ (u : View). seen_writes m ≤ seen_writes u) (sym d.1.1) (seen_stays d.0 m) in
+    same_by F v w (returns-clause-keeps c) (c.take_table.ensures.idle ∙ sym c.requires.idle) sections cursors learnt (le_trans first then)
+
+pub returns-clause-hands : goal.returns-clause-hands
+returns-clause-hands c t stays =
+    let v = view c.args.pass.now in
+    let m = view c.collect.new.pass in
+    let x = c.collect.ensures.collected in
+    let e = c.take_table.ensures.keeps.held.stages t stays in
+    let g : StaysOrGoes v m t = subst (λ (u : View). StaysOrGoes v u t) (sym x.did) (given_or_kept x.acts x.numbers v t x.givings) in
+    ⊎_elim (λ (y : stage t m.log ≡ stage t v.log). inl (e ∙ y)) (λ (y : stage t m.log ≡ 0). inr (e ∙ y)) g

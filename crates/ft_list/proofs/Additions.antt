@@ -1,0 +1,157 @@
+-- What a call that adds one item to a list does, by the table that the list has.
+use Rattle.std.proofs.Common.{◌≡◌, ◌≢◌, ℕ, suc, ◌+◌, ◌<◌, ◌≤◌, Bool, true, false, List, length, Option, Some, None, refl, sym, ap, ◌∙◌, subst, arith, le-ltb, lt-ltb}
+use Rattle.std.specs.Prelude.{nat_lt, IfSome, IfNone}
+use Rattle.std.specs.List.{insert}
+use Rattle.std.proofs.lemmas.List.Edits.{length-insert}
+use Rattle.ft_model.specs.declared.call.Call.{Call}
+use Rattle.ft_model.specs.declared.call.Call.TheVariants as call
+use Rattle.ft_model.specs.declared.call.ListCall.{ListCall}
+use Rattle.ft_model.specs.declared.content.Content.TheVariants as content
+use Rattle.ft_model.specs.declared.data.Value.{Value}
+use Rattle.ft_model.specs.declared.reply.Reply.TheVariants as reply
+use Rattle.ft_model.specs.Classes.{list_class, list_items, most_items}
+use Rattle.ft_model.specs.Tables.{StoredWorld, CanLackMemory, list_takes, takes_in, would_pass}
+use Rattle.ft_model.specs.Worlds.{list_of}
+use Rattle.ft_model.proofs.ClassRooms.{list_fits}
+use Rattle.ft_trace.specs.declared.Shape.{Shape}
+use Rattle.ft_trace.specs.declared.View.{View}
+use Rattle.ft_trace.specs.Acts.{owes, stage}
+use Rattle.ft_trace.specs.Addresses.{containers_in, class_of, slots}
+use Rattle.ft_trace.specs.Worlds.{Kept}
+use Rattle.ft_trace.specs.Holds.{known}
+use Rattle.ft_trace.specs.Traces.{Possible}
+use Rattle.ft_bank.specs.declared.table.Table.{Table}
+use Rattle.ft_bank.specs.Tables.{name_of, root_for, IsTableIn}
+use Rattle.ft_bank.specs.Writes.{MayHave}
+use Rattle.ft_bank.specs.Takings.{KeepsBut}
+use Rattle.ft_bank.specs.Whole.{OnlyLoaded, SamePass}
+use Rattle.ft_bank.proofs.Whole.{work_knows}
+use Rattle.ft_growth.specs.declared.adding.Added.{Added}
+use Rattle.ft_growth.specs.Adding.{IsAdded}
+use Rattle.ft_bank.proofs.Tables.{class_is}
+use Rattle.ft_list.specs.Items.{items_of}
+use Rattle.ft_list.specs.Calls.{Adds, Changes, Grows}
+use Rattle.ft_list.specs.Growing.{AddsItems, KnowsList, MayAdd, MayGrow, use_of}
+use Rattle.ft_list.proofs.CallFacts.{adds_changes, adds_grows, lacks_table, passes_most}
+use Rattle.ft_list.proofs.Growing.{knows_content, knows_on}
+use Rattle.ft_list.proofs.Looking.{slots_are}
+use Rattle.ft_list.proofs.Wanted.{list_use, wanted_some}
+use Rattle.ft_list.proofs.Whole.{grows_from}
+
+module _ (k : Shape) (o : ℕ) (old : Option Table) (v : View) (list : KnowsList k o old v) (shape : v.shape ≡ k) (possible : ∥ Possible v ∥₁) (lc : ListCall) (place count : ℕ) (value : Value) (adds : Adds o lc (items_of o v) (insert (items_of o v) place value) v) (count_is : count ≡ length (items_of o v)) (inside : place ≤ count) where
+  abbrev values : List Value
+  values = items_of o v
+
+  abbrev news : List Value
+  news = insert values place value
+
+  long : length news ≡ count + 1
+  long = length-insert values place value (omega (arith, inside, count_is)) ∙ ap (λ (n : ℕ). n + 1) (sym count_is)
+
+  low : o < containers_in v.shape
+  low = subst (λ (z : Shape). o < containers_in z) (sym shape) list.container
+
+  is_list : (known o v).content ≡ content.List values
+  is_list = knows_content k o old v shape possible list
+
+  few_is : count < most_items → nat_lt most_items (length news) ≡ false
+  few_is few = let n = long in le-ltb most_items (length news) (omega (arith, n, few))
+
+  wanted_is : list_takes (known o v).table (length news) ≡ list_takes (use_of old) (count + 1)
+  wanted_is = λ d. list_takes (list_use k o old v list is_list d) (long d)
+
+  pub room_changes : count < most_items → list_takes (use_of old) (count + 1) ≡ None → Changes o lc reply.Done values news v
+  room_changes few none = adds_changes o lc values news v low list.locked is_list adds (few_is few) (wanted_is ∙ none)
+
+  pub taken_grows : (class : ℕ) → count < most_items → list_takes (use_of old) (count + 1) ≡ Some class → Grows o lc values news class v
+  taken_grows class few is = adds_grows o lc values news v low list.locked is_list adds class (few_is few) (wanted_is ∙ is)
+
+  pub no_table_lacks : (class : ℕ) → count < most_items → list_takes (use_of old) (count + 1) ≡ Some class → (stored : StoredWorld) → MayHave v stored → CanLackMemory stored.world (call.List o lc) × (would_pass stored.world (call.List o lc) ≡ false) × (takes_in stored (call.List o lc) ≡ Some class)
+  no_table_lacks class few is stored has = lacks_table o lc values news v low list.locked is_list adds stored has class (few_is few) (wanted_is ∙ is)
+
+  pub over_passes : most_items ≤ count → (stored : StoredWorld) → MayHave v stored → CanLackMemory stored.world (call.List o lc) × (would_pass stored.world (call.List o lc) ≡ true)
+  over_passes more stored has = let n = long in passes_most o lc values news v low list.locked is_list adds stored has (lt-ltb most_items (length news) (omega (arith, n, more)))
+
+-- ---- the table that is taken
+
+module _ (k : Shape) (old : Option Table) (table : Table) (class count : ℕ) (few : count < most_items) (wanted : list_takes (use_of old) (count + 1) ≡ Some class) (table_in : IsTableIn k table) (of_class : table.class ≡ class) where
+  is_wanted : (list_class (count + 1) ≡ class) × ((t : Table) → old ≡ Some t → list_items t.class < count + 1)
+  is_wanted = wanted_some old (count + 1) class wanted
+
+  holds : count + 1 ≤ list_items class
+  holds = subst (λ (c : ℕ). count + 1 ≤ list_items c) is_wanted.0 (list_fits (count + 1) (omega (arith, few))).1
+
+  pub taken_room : count < slots (class_of (name_of table))
+  taken_room =
+      let s = slots_are k table table_in in
+      let h = holds in
+      let same : list_items table.class ≡ list_items class = ap list_items of_class in
+      omega (arith, s, h, same)
+
+  -- it is another one than the list has
+  pub taken_other : (t : Table) → old ≡ Some t → IsTableIn k t → name_of t ≢ name_of table
+  taken_other t is t_in e =
+      let c : t.class ≡ class = sym (class_is t t_in.2) ∙ (ap class_of e ∙ (class_is table table_in.2 ∙ of_class)) in
+      let same : list_items t.class ≡ list_items class = ap list_items c in
+      let less = is_wanted.1 t is in
+      let h = holds in
+      omega (arith, same, less, h)
+
+  pub taken_root : ((t : Table) → old ≡ Some t → IsTableIn k t) → root_for old ≢ suc (name_of table)
+  taken_root tables e = at old refl e
+    where
+      at : (any : Option Table) → old ≡ any → root_for any ≡ suc (name_of table) → ⊥
+      at None is e = omega (arith, e)
+      at (Some t) is e = taken_other t is (tables t is) (omega (arith, e))
+
+-- ---- the root that was read
+
+pub root_named : (result : Option Table) (root : ℕ) → IfSome result (λ t. root ≡ suc (name_of t)) → IfNone result (root ≡ 0) → root ≡ root_for result
+root_named None root some_one none = none
+root_named (Some t) root some_one none = some_one
+
+-- ---- after a taking
+
+module _ (F : ℕ → Type 0) (v u : View) (same : SamePass v u) (keeps : KeepsBut F v u) where
+  -- what the bank may have then, it may have had before
+  pub tried_has : (stored : StoredWorld) → MayHave u stored → MayHave v stored
+  tried_has stored has = record {
+    agrees = λ p low mine. has.agrees p (subst (λ (z : Shape). p < containers_in z) (sym same.shape) low) (same.locks p ∙ mine) ∙ (keeps.held.words p low mine).1;
+    containers = has.containers ∙ ap containers_in same.shape;
+    kinds = has.kinds ∙ ap (λ (z : Shape). z.kinds) same.shape;
+    order = has.order;
+    words = has.words;
+  }
+
+  pub tried_grows : (o : ℕ) (lc : ListCall) (before news : List Value) (class : ℕ) → Grows o lc before news class v → Grows o lc before news class u
+  tried_grows o lc before news class is = grows_from v u tried_has (λ p mine. same.locks p ∙ mine) o lc before news class is
+
+  pub tried_knows : (k : Shape) (o : ℕ) (old : Option Table) → v.shape ≡ k → KnowsList k o old v → KnowsList k o old u
+  tried_knows k o old shape list =
+      let w = keeps.held.words o (subst (λ (z : Shape). o < containers_in z) (sym shape) list.container) list.locked in
+      knows_on k o old v u w.0 w.1 (same.locks o) (same.writes o) list
+
+  pub tried_items : (k : Shape) (o : ℕ) (old : Option Table) → v.shape ≡ k → KnowsList k o old v → items_of o u ≡ items_of o v
+  tried_items k o old shape list = ap (λ (z : Kept). list_of z.content) (keeps.held.words o (subst (λ (z : Shape). o < containers_in z) (sym shape) list.container) list.locked).1
+
+  -- it may put the table into the root
+  pub tried_may : (k : Shape) (o : ℕ) (old : Option Table) (table : Table) (class : ℕ) → v.shape ≡ k → MayAdd k o old v → IsTableIn k table → table.class ≡ class → stage (name_of table) u.log ≡ 1 → owes u.log ≡ suc class → MayGrow k o old table u
+  tried_may k o old table class shape may table_in of_class fresh owed = record {
+    list = tried_knows k o old shape may.list;
+    used = keeps.held.used ∙ may.used;
+    owed = owed ∙ ap suc (sym (class_is table table_in.2 ∙ of_class));
+    fresh = fresh;
+    table_in = table_in;
+    left = subst (λ (n : ℕ). 0 < n) (sym keeps.held.left) may.left;
+  }
+
+-- ---- what the call comes to, seen from before its loads
+
+pub adds_items : (k : Shape) (o : ℕ) (old : Option Table) (v u w : View) (count : ℕ) (called : Call) (what : Added) → OnlyLoaded v u → KnowsList k o old u → u.shape ≡ k → ∥ Possible u ∥₁ → count ≡ length (items_of o v) → IsAdded k (list_takes (use_of old) (count + 1)) (nat_lt most_items (count + 1)) called reply.Done u w what → AddsItems k o called 1 v w what
+adds_items k o old v u w count called what loaded list shape possible count_is is =
+    let same : known o u ≡ known o v = work_knows v u o loaded.work in
+    let table = list_use k o old u list (knows_content k o old u shape possible list) in
+    let takes : list_takes (use_of old) (count + 1) ≡ list_takes (known o v).table (length (items_of o v) + 1) =
+    λ d. list_takes ((sym table ∙ ap (λ (z : Kept). z.table) same) d) (count_is d + 1) in
+    let over : nat_lt most_items (count + 1) ≡ nat_lt most_items (length (items_of o v) + 1) = ap (λ (n : ℕ). nat_lt most_items (n + 1)) count_is in
+    (u, loaded, subst (λ (z : Option ℕ × Bool). IsAdded k z.0 z.1 called reply.Done u w what) (λ d. (takes d, over d)) is)

@@ -1,0 +1,228 @@
+-- A clear of a list: that it may be committed, and what the list and its words are then.
+use Rattle.std.proofs.Common.{◌≡◌, ◌≢◌, ℕ, zero, suc, ◌<◌, ◌≤◌, true, false, true≢false, List, [], ◌∷◌, length, Option, Some, None, refl, sym, ap, ◌∙◌, subst, inr, arith, length-set, get_or-set_same, get_or-set_other}
+use Rattle.std.specs.Prelude.{is_some, slice_index, slice_set}
+use Rattle.ft_model.specs.declared.call.Call.{Call}
+use Rattle.ft_model.specs.declared.call.Call.TheVariants as call
+use Rattle.ft_model.specs.declared.call.ListCall.TheVariants as list
+use Rattle.ft_model.specs.declared.content.Content.TheVariants as content
+use Rattle.ft_model.specs.declared.data.Value.{Value}
+use Rattle.ft_model.specs.declared.reply.Reply.TheVariants as reply
+use Rattle.ft_model.specs.declared.script.Kind.{Kind}
+use Rattle.ft_model.specs.Tables.{TableUse, no_table}
+use Rattle.ft_layout.specs.Containers.{IsRoot, IsBlock}
+use Rattle.ft_trace.specs.declared.Act.TheVariants.{Commit, PutBlock, PutRoot, StartWrite, StopWrite}
+use Rattle.ft_trace.specs.declared.Snap.{Snap}
+use Rattle.ft_trace.specs.declared.Shape.{Shape}
+use Rattle.ft_trace.specs.declared.View.{View}
+use Rattle.ft_trace.specs.Acts.{has_lock, is_writing, owes, noted, seen_writes, used}
+use Rattle.ft_trace.specs.Addresses.{containers_in, class_of}
+use Rattle.ft_trace.specs.Holds.{held, known}
+use Rattle.ft_trace.specs.Kinds.{rows, version_at}
+use Rattle.ft_trace.specs.Openings.{Shut}
+use Rattle.ft_trace.specs.Traces.{Possible}
+use Rattle.ft_trace.specs.Words.{Picture, root_in, Stands}
+use Rattle.ft_trace.specs.Worlds.{Kept, kept_at, kind_in}
+use Rattle.ft_trace.proofs.Cases.{hit}
+use Rattle.ft_trace.proofs.Known.{declared_at}
+use Rattle.ft_trace.proofs.Naming.{named_locked}
+use Rattle.ft_bank.specs.declared.table.Table.{Table}
+use Rattle.ft_bank.specs.Whole.{OnlyPut, Wrote}
+use Rattle.ft_bank.specs.Writes.{Committed, IsShut, KeepsUnwritten, MayCommit, MayHave, MayPutRoot, with_block, with_root}
+use Rattle.ft_bank.proofs.Whole.{plain_write, put_by, put_same, work_knows, write_ends}
+use Rattle.ft_growth.proofs.Rooting.{rooted_write}
+use Rattle.ft_list.specs.Items.{items_of}
+use Rattle.ft_list.specs.Growing.{KnowsList, MayAdd}
+use Rattle.ft_list.proofs.Commits.{content_after, in_tables, in_world, list_there}
+use Rattle.ft_list.proofs.Growing.{knows_content, knows_shut, list_bare, list_head}
+use Rattle.ft_list.proofs.Wanted.{list_use}
+
+-- the call
+abbrev pub clear_of : ℕ → Call
+clear_of o = call.List o list.Clear
+
+-- what it leaves
+abbrev pub empty_kept : Kept
+empty_kept = record { content = content.List []; table = no_table }
+
+module _ (o : ℕ) (values : List Value) (u : View) (low : o < containers_in u.shape) (mine : has_lock o u.log ≡ true) (is_list : (known o u).content ≡ content.List values) where
+  -- a pass that writes a list whose root names no table may commit it
+  pub may_clear : is_writing o u.log ≡ true → 0 < u.left → owes u.log ≡ 0 → root_in (held o u) ≡ 0 → MayCommit u (clear_of o) reply.Done
+  may_clear odd left none bare = record {
+    write = refl;
+    container = low;
+    odd = odd;
+    left = left;
+    words = tt;
+    locks = named_locked o None u.log mine tt;
+    reply_is = λ stored has. inr refl;
+    declared = λ stored has. record {
+      one = declared_at stored.world o (content.List values) (in_world o list.Clear reply.Done values [] u low mine is_list stored has) (list_there o list.Clear reply.Done values [] u low mine is_list stored has);
+      both = tt;
+      room = tt;
+    };
+    fits = λ stored has. refl;
+    clear = λ stored t has names. absurd (omega (arith, bare, names));
+    takes = λ stored class has e. absurd (omega (arith, e, none));
+    empties = λ e. refl;
+  }
+
+  -- the list is empty then, and has no table
+  pub clear_kept : (c : View) → Committed u c (clear_of o) → known o c ≡ empty_kept
+  clear_kept c committed =
+      let stored = committed.found in
+      let has = committed.has in
+      let left = content_after o list.Clear reply.Done values [] u low mine is_list stored has refl in
+      let table = get_or-set_same stored.tables o no_table no_table (in_tables o list.Clear reply.Done values [] u low mine is_list stored has) in
+      committed.left o ∙ (λ d. record { content = left d; table = table d })
+
+-- the words of an empty list without a table
+pub bare_stands : (texts : List ℕ) (words : Picture) (kept : Kept) → kept ≡ empty_kept → IsBlock words.block None 0 0 0 → Stands texts words kept
+bare_stands texts words kept is head = subst (Stands texts words) (sym is) (record { head = head; table = refl }, refl)
+
+-- a block whose root names no table, and that counts nothing
+pub with_no_root : (b : List ℕ) (class : Option ℕ) (count : ℕ) → IsBlock b class count 0 0 → IsBlock (slice_set (slice_set b 0 0) 1 0) None 0 0 0
+with_no_root b class count h =
+    let size_is = h.size in
+    let one = slice_set b 0 0 in
+    let long = length-set b 0 0 in
+    let first : slice_index (slice_set one 1 0) 0 ≡ 0 = get_or-set_other one 1 0 0 0 (λ e. absurd (omega (arith, e))) ∙ get_or-set_same b 0 0 0 (omega (arith, size_is)) in
+    let other : (i : ℕ) → i ≢ 0 → i ≢ 1 → slice_index (slice_set one 1 0) i ≡ slice_index b i = λ i a c. get_or-set_other one 1 i 0 0 c ∙ get_or-set_other b 0 i 0 0 a in
+    record {
+      size = length-set one 1 0 ∙ (long ∙ h.size);
+      root = subst (λ (r : ℕ). IsRoot r None) (sym first) refl;
+      count_is = get_or-set_same one 1 0 0 (omega (arith, size_is, long));
+      fill_is = other 2 (λ e. absurd (omega (arith, e))) (λ e. absurd (omega (arith, e))) ∙ h.fill_is;
+      next_is = other 3 (λ e. absurd (omega (arith, e))) (λ e. absurd (omega (arith, e))) ∙ h.next_is;
+      spare = (
+        other 4 (λ e. absurd (omega (arith, e))) (λ e. absurd (omega (arith, e))) ∙ h.spare.0,
+        other 5 (λ e. absurd (omega (arith, e))) (λ e. absurd (omega (arith, e))) ∙ h.spare.1,
+      );
+    }
+
+-- its root may become 0
+pub may_put_none : (k : Shape) (o : ℕ) (old : Option Table) (v : View) (f : ℕ) → v.shape ≡ k → ∥ Possible v ∥₁ → KnowsList k o old v → used v.log ≡ false → MayPutRoot (noted (StartWrite o f) v) o None
+may_put_none k o old v f shape possible list free = record {
+  odd = hit o true (is_writing o v.log);
+  fresh = λ t e. absurd (true≢false (ap is_some (sym e)));
+  sound = λ t e. absurd (true≢false (ap is_some (sym e)));
+  young = λ t p e. absurd (true≢false (ap is_some (sym e)));
+  shut = knows_shut k o old v shape possible list;
+  spare = λ some_one. free;
+  early = λ e. hit o false _;
+}
+
+-- ---- the whole write of a list that has a table
+
+module _ (k : Shape) (o : ℕ) (table : Table) (v s r u : View) (f : ℕ) (may : MayAdd k o (Some table) v) (shape : v.shape ≡ k) (possible : ∥ Possible v ∥₁) (started : s ≡ noted (StartWrite o f) v) (rooted : r ≡ noted (PutRoot o 0 (root_in (held o s))) s) (root_held : held o r ≡ with_root (held o s) None s) (keeps : KeepsUnwritten s r) (counted : u ≡ noted (PutBlock o 1 0) r) (count_held : held o u ≡ with_block (held o r) 1 0) (keeps_too : KeepsUnwritten r u) where
+  both_rooted : r ≡ noted (PutRoot o 0 (root_in (held o v))) (noted (StartWrite o f) v)
+  both_rooted = rooted ∙ ap (λ (z : View). noted (PutRoot o 0 (root_in (held o z))) z) started
+
+  puts : OnlyPut o r u
+  puts = put_by (PutBlock o 1 0) r u o tt counted keeps_too
+
+  known_then : (p : ℕ) → known p u ≡ known p v
+  known_then p = work_knows r u p puts.work ∙ ap (λ (z : View). known p z) both_rooted
+
+  is_list : (known o v).content ≡ content.List (items_of o v)
+  is_list = knows_content k o (Some table) v shape possible may.list
+
+  low_then : o < containers_in u.shape
+  low_then = subst (λ (z : Shape). o < containers_in z) (sym (puts.work.pass.shape ∙ (ap (λ (z : View). z.shape) both_rooted ∙ shape))) may.list.container
+
+  mine_then : has_lock o u.log ≡ true
+  mine_then = puts.work.pass.locks o ∙ (ap (λ (z : View). has_lock o z.log) both_rooted ∙ may.list.locked)
+
+  list_then : (known o u).content ≡ content.List (items_of o v)
+  list_then = ap (λ (z : Kept). z.content) (known_then o) ∙ is_list
+
+  -- its block
+  head_then : IsBlock (held o u).block None 0 0 0
+  head_then =
+      subst (λ (x : Picture). IsBlock x.block None 0 0 0) (sym (count_held ∙ ap (λ (x : Picture). with_block x 1 0) root_held))
+      (subst (λ (z : View). IsBlock (with_block (with_root (held o z) None z) 1 0).block None 0 0 0) (sym started)
+      (with_no_root (held o v).block (known o v).table.class (length (items_of o v)) (list_head k.texts v o is_list may.list.stands)))
+
+  pub root_then : root_in (held o u) ≡ 0
+  root_then = head_then.root
+
+  pub clear_may_commit : MayCommit u (clear_of o) reply.Done
+  clear_may_commit =
+      may_clear o (items_of o v) u low_then mine_then list_then
+      (puts.work.pass.writes o ∙ (ap (λ (z : View). is_writing o z.log) both_rooted ∙ hit o true (is_writing o v.log)))
+      (subst (λ (n : ℕ). 0 < n) (sym (puts.work.left ∙ ap (λ (z : View). z.left) both_rooted)) may.left)
+      (puts.work.owes ∙ (ap (λ (z : View). owes z.log) both_rooted ∙ may.owes))
+      root_then
+
+  -- after the commit
+  module _ (number g : ℕ) (snap : Snap) (c w : View) (made : c ≡ noted (Commit (clear_of o) reply.Done number snap) u) (committed : Committed u c (clear_of o)) where
+    held_on : held o c ≡ held o u
+    held_on = ap (λ (z : View). held o z) made
+
+    pub clear_stands : (texts : List ℕ) → Stands texts (held o c) (known o c)
+    clear_stands texts =
+        bare_stands texts (held o c) (known o c) (clear_kept o (items_of o v) u low_then mine_then list_then c committed) (subst (λ (x : Picture). IsBlock x.block None 0 0 0) (sym held_on) head_then)
+
+    pub clear_root : root_in (held o c) ≡ 0
+    clear_root = ap root_in held_on ∙ root_then
+
+    pub clear_shut : IsShut o c
+    clear_shut t names = let none = clear_root in absurd (omega (arith, none, names))
+
+    pub clear_wrote : seen_writes u ≤ number → w ≡ noted (StopWrite o g) c → Wrote (clear_of o) reply.Done number v w
+    clear_wrote seen stopped =
+        let some_old : root_in (held o v) ≢ 0 = λ e. let n = may.list.root in omega (arith, e, n) in
+        rooted_write (clear_of o) reply.Done number f 0 v r u w both_rooted may.list.even some_old (subst (λ (z : View). KeepsUnwritten z r) started keeps) puts root_then
+        (write_ends (clear_of o) reply.Done number g snap u c c w seen made committed clear_may_commit.left (put_same c o) (ap root_in held_on) (clear_stands u.shape.texts) stopped)
+
+-- ---- the whole write of a list that has none
+
+module _ (k : Shape) (o : ℕ) (v s : View) (f : ℕ) (may : MayAdd k o None v) (shape : v.shape ≡ k) (possible : ∥ Possible v ∥₁) (started : s ≡ noted (StartWrite o f) v) where
+  bare_list : (known o v).content ≡ content.List (items_of o v)
+  bare_list = knows_content k o None v shape possible may.list
+
+  bare_low : o < containers_in s.shape
+  bare_low = subst (λ (z : Shape). o < containers_in z) (sym (ap (λ (z : View). z.shape) started ∙ shape)) may.list.container
+
+  bare_mine : has_lock o s.log ≡ true
+  bare_mine = ap (λ (z : View). has_lock o z.log) started ∙ may.list.locked
+
+  bare_then : (known o s).content ≡ content.List (items_of o v)
+  bare_then = ap (λ (z : View). (known o z).content) started ∙ bare_list
+
+  bare_head : IsBlock (held o s).block None 0 0 0
+  bare_head =
+      subst (λ (z : View). IsBlock (held o z).block None 0 0 0) (sym started)
+      (subst (λ (x : Option ℕ × ℕ). IsBlock (held o v).block x.0 x.1 0 0)
+      (λ d. (ap (λ (t : TableUse). t.class) (list_use k o None v may.list bare_list) d, list_bare k o v may.list bare_list d))
+      (list_head k.texts v o bare_list may.list.stands))
+
+  pub bare_root : root_in (held o s) ≡ 0
+  bare_root = bare_head.root
+
+  pub bare_may_commit : MayCommit s (clear_of o) reply.Done
+  bare_may_commit =
+      may_clear o (items_of o v) s bare_low bare_mine bare_then
+      (ap (λ (z : View). is_writing o z.log) started ∙ hit o true (is_writing o v.log))
+      (subst (λ (n : ℕ). 0 < n) (sym (ap (λ (z : View). z.left) started)) may.left)
+      (ap (λ (z : View). owes z.log) started ∙ may.owes)
+      bare_root
+
+  module _ (number g : ℕ) (snap : Snap) (c w : View) (made : c ≡ noted (Commit (clear_of o) reply.Done number snap) s) (committed : Committed s c (clear_of o)) where
+    bare_on : held o c ≡ held o s
+    bare_on = ap (λ (z : View). held o z) made
+
+    pub bare_clear_stands : (texts : List ℕ) → Stands texts (held o c) (known o c)
+    bare_clear_stands texts =
+        bare_stands texts (held o c) (known o c) (clear_kept o (items_of o v) s bare_low bare_mine bare_then c committed) (subst (λ (x : Picture). IsBlock x.block None 0 0 0) (sym bare_on) bare_head)
+
+    pub bare_clear_root : root_in (held o c) ≡ 0
+    bare_clear_root = ap root_in bare_on ∙ bare_root
+
+    pub bare_clear_shut : IsShut o c
+    bare_clear_shut t names = let none = bare_clear_root in absurd (omega (arith, none, names))
+
+    pub bare_clear_wrote : seen_writes s ≤ number → w ≡ noted (StopWrite o g) c → Wrote (clear_of o) reply.Done number v w
+    bare_clear_wrote seen stopped =
+        plain_write (clear_of o) reply.Done number f v s s w started may.list.even (put_same s o)
+        (write_ends (clear_of o) reply.Done number g snap s c c w seen made committed bare_may_commit.left (put_same c o) (ap root_in bare_on) (bare_clear_stands s.shape.texts) stopped)
+        (ap (λ (z : View). root_in (held o z)) started)

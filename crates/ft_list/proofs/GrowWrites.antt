@@ -1,0 +1,78 @@
+-- A whole write in which a list gets another table.
+use Rattle.std.proofs.Common.{◌≡◌, ◌≢◌, ℕ, suc, ◌<◌, Bool, true, false, List, length, Option, Some, refl, sym, ap, ◌∙◌, subst, arith, ne_eqb}
+use Rattle.std.specs.Prelude.{if◌then◌else◌, ◌==◌, None}
+use Rattle.std.specs.Option.{unwrap_or}
+use Rattle.ft_model.specs.declared.call.Call.{Call}
+use Rattle.ft_model.specs.declared.call.Call.TheVariants as call
+use Rattle.ft_model.specs.declared.call.ListCall.{ListCall}
+use Rattle.ft_model.specs.declared.content.Content.TheVariants as content
+use Rattle.ft_model.specs.declared.data.Value.{Value}
+use Rattle.ft_model.specs.declared.reply.Reply.{Reply}
+use Rattle.ft_model.specs.declared.reply.Reply.TheVariants as reply
+use Rattle.ft_model.specs.Calls.{is_changing_list}
+use Rattle.ft_model.specs.Tables.{takes_in}
+use Rattle.ft_layout.specs.Containers.{IsBlock}
+use Rattle.ft_trace.specs.declared.Act.TheVariants.{StartWrite, PutRoot}
+use Rattle.ft_trace.specs.declared.Shape.{Shape}
+use Rattle.ft_trace.specs.declared.View.{View}
+use Rattle.ft_trace.specs.Addresses.{containers_in, class_of}
+use Rattle.ft_trace.specs.Acts.{has_lock, is_writing, has_emptied, owes, noted}
+use Rattle.ft_trace.specs.Worlds.{Kept, changes}
+use Rattle.ft_trace.specs.Words.{root_in}
+use Rattle.ft_trace.specs.Holds.{held, known}
+use Rattle.ft_trace.proofs.Cases.{hit}
+use Rattle.ft_bank.specs.declared.table.Table.{Table}
+use Rattle.ft_bank.specs.Tables.{name_of}
+use Rattle.ft_bank.specs.Writes.{KeepsUnwritten}
+use Rattle.ft_bank.specs.Whole.{OnlyPut, EndsWrite, Wrote}
+use Rattle.ft_bank.proofs.Whole.{work_knows}
+use Rattle.ft_growth.specs.Adding.{OnlyFilled}
+use Rattle.ft_growth.proofs.Rooting.{rooted_write, filled_wrote}
+use Rattle.ft_list.specs.Items.{WritesList, IsChanging, MayFinish}
+use Rattle.ft_list.specs.Calls.{Grows}
+use Rattle.ft_list.specs.Growing.{MayGrow}
+use Rattle.ft_list.proofs.Commits.{may_finish}
+use Rattle.ft_list.proofs.Whole.{grows_on, write_on, has_before}
+
+-- a write of the list o changes it
+pub list_changes : (o : ℕ) (lc : ListCall) (called : Call) → called ≡ call.List o lc → is_changing_list lc ≡ true → changes called ≡ o
+list_changes o lc called is changing = ap changes is ∙ ap (λ (b : Bool). unwrap_or (if b then Some o else None) 0) changing
+
+module _ (k : Shape) (o : ℕ) (old : Option Table) (table : Table) (v r u : View) (f : ℕ) (may : MayGrow k o old table v) (is : r ≡ noted (PutRoot o (suc (name_of table)) (root_in (held o v))) (noted (StartWrite o f) v)) (puts : OnlyPut o r u) where
+  known_then : (p : ℕ) → known p u ≡ known p v
+  known_then p = work_knows r u p puts.work ∙ ap (λ (z : View). known p z) is
+
+  shape_then : u.shape ≡ v.shape
+  shape_then = puts.work.pass.shape ∙ ap (λ (z : View). z.shape) is
+
+  locks_then : (p : ℕ) → has_lock p v.log ≡ true → has_lock p u.log ≡ true
+  locks_then p mine = puts.work.pass.locks p ∙ (ap (λ (z : View). has_lock p z.log) is ∙ mine)
+
+  not_emptied : has_emptied o u.log ≡ false
+  not_emptied =
+      let after : has_emptied o r.log ≡ (suc (name_of table) == 0) = ap (λ (z : View). has_emptied o z.log) is ∙ hit o (suc (name_of table) == 0) _ in
+      puts.work.emptied o ∙ (after ∙ ne_eqb (suc (name_of table)) 0 (λ e. absurd (omega (arith, e))))
+
+  pub grow_finishing : (first past : ℕ) (lc : ListCall) (called : Call) (values news : List Value) → called ≡ call.List o lc → Grows o lc values news (class_of (name_of table)) v → (known o v).content ≡ content.List values → WritesList k o table u → u.shape ≡ k → IsChanging (class_of (name_of table)) values news first past (held o u).table → IsBlock (held o u).block (Some (class_of (name_of table))) (length news) 0 0
+      → MayFinish o table called reply.Done first past u
+  grow_finishing first past lc called values news names grows is_list list shape changing head =
+      let class = class_of (name_of table) in
+      let g = grows_on v u known_then shape_then locks_then o lc values news class grows in
+      let owed : owes u.log ≡ suc class = puts.work.owes ∙ (ap (λ (z : View). owes z.log) is ∙ may.owed) in
+      subst (λ (z : Call). MayFinish o table z reply.Done first past u) (sym names)
+      (may_finish k o table first past lc reply.Done values news u list shape (ap (λ (z : Kept). z.content) (known_then o) ∙ is_list)
+      g.write g.table
+      (λ stored c has e. let same : class ≡ c = omega (arith, e, owed) in g.takes stored has ∙ ap (λ (n : ℕ). Some n) same)
+      changing
+      (subst (λ (n : ℕ). 0 < n) (sym (puts.work.left ∙ ap (λ (z : View). z.left) is)) may.left)
+      not_emptied
+      head)
+
+  pub grow_wrote : (lc : ListCall) (called : Call) (number : ℕ) (before w : View) → called ≡ call.List o lc → is_changing_list lc ≡ true → OnlyFilled before v → root_in (held o v) ≡ root_in (held o before) → root_in (held o v) ≢ suc (name_of table) → KeepsUnwritten (noted (StartWrite o f) v) r → root_in (held o u) ≡ suc (name_of table) → EndsWrite called reply.Done number u w → Wrote called reply.Done number before w
+  grow_wrote lc called number before w names changing only same new keeps root ends =
+      let at = list_changes o lc called names changing in
+      filled_wrote called reply.Done number before v w only
+      (subst (λ (n : ℕ). root_in (held n v) ≡ root_in (held n before)) (sym at) same)
+      (subst (λ (n : ℕ). r ≡ noted (PutRoot n (suc (name_of table)) (root_in (held n v))) (noted (StartWrite n f) v) → is_writing n v.log ≡ false → root_in (held n v) ≢ suc (name_of table) → KeepsUnwritten (noted (StartWrite n f) v) r → OnlyPut n r u → root_in (held n u) ≡ suc (name_of table) → EndsWrite called reply.Done number u w → Wrote called reply.Done number v w) at
+      (rooted_write called reply.Done number f (suc (name_of table)) v r u w)
+      is may.list.even new keeps puts root ends)

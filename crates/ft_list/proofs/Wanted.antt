@@ -1,0 +1,78 @@
+-- Which table a list takes for its items, by the table that it has.
+use Rattle.std.proofs.Common.{◌≡◌, ◌≢◌, ℕ, zero, suc, ◌+◌, ◌*◌, ◌<◌, ◌≤◌, Bool, true, false, true≢false, List, [], ◌∷◌, length, Option, Some, None, refl, sym, ap, ◌∙◌, subst, arith, ltb-true, ltb-false, lt-ltb}
+use Rattle.std.specs.Prelude.{◌&&◌, nat_lt, is_some, slice_index, if◌then◌else◌}
+use Rattle.std.specs.Option.{option_map_or, unwrap_or}
+use Rattle.ft_model.specs.declared.content.Content.{Content}
+use Rattle.ft_model.specs.declared.content.Content.TheVariants as content
+use Rattle.ft_model.specs.declared.data.Value.{Value}
+use Rattle.ft_model.specs.Classes.{IsClass, list_class, list_items}
+use Rattle.ft_model.specs.Tables.{TableUse, no_table, list_takes, outgrows_list}
+use Rattle.ft_layout.specs.Containers.{IsListWords, StandsAs}
+use Rattle.ft_trace.specs.declared.Shape.{Shape}
+use Rattle.ft_trace.specs.declared.View.{View}
+use Rattle.ft_trace.specs.Addresses.{class_of}
+use Rattle.ft_trace.specs.Holds.{held, known}
+use Rattle.ft_trace.specs.Words.{root_in}
+use Rattle.ft_bank.specs.declared.table.Table.{Table}
+use Rattle.ft_bank.specs.Tables.{name_of, root_for}
+use Rattle.ft_bank.proofs.Tables.{class_is}
+use Rattle.ft_list.specs.Items.{items_of}
+use Rattle.ft_list.specs.Growing.{KnowsList, use_of}
+use Rattle.ft_list.proofs.Lists.{list_known}
+
+pub some_is : {A : Type 0} (any a b : A) → Some a ≡ Some b → a ≡ b
+some_is {A = A} any a b e = ap (λ (z : Option A). unwrap_or z any) e
+
+some_none : {A B : Type 0} (a : A) → Some a ≡ None → B
+some_none a e = absurd (true≢false (ap is_some e))
+
+if_some : (b : Bool) (x c : ℕ) → (if b then Some x else None) ≡ Some c → (b ≡ true) × (x ≡ c)
+if_some true x c e = (refl, some_is 0 x c e)
+if_some false x c e = some_none c (sym e)
+
+if_none : (b : Bool) (x : ℕ) → (if b then Some x else None) ≡ None → b ≡ false
+if_none true x e = some_none x e
+if_none false x e = refl
+
+and_true : (a b : Bool) → (a && b) ≡ true → b ≡ true
+and_true true b e = e
+and_true false b e = absurd (true≢false (sym e))
+
+true_and : (a b : Bool) → a ≡ true → (a && b) ≡ false → b ≡ false
+true_and true b one e = e
+true_and false b one e = absurd (true≢false (sym one))
+
+-- where it takes one
+pub wanted_some : (old : Option Table) (n class : ℕ) → list_takes (use_of old) n ≡ Some class → (list_class n ≡ class) × ((t : Table) → old ≡ Some t → list_items t.class < n)
+wanted_some None n class is = ((if_some (outgrows_list no_table n) (list_class n) class is).1, (λ t e. some_none t (sym e)))
+wanted_some (Some q) n class is =
+    let x = if_some (outgrows_list (use_of (Some q)) n) (list_class n) class is in (
+      x.1,
+      (λ t e.
+          let same : q ≡ t = some_is q q t e in
+          subst (λ (z : Table). list_items z.class < n) same (ltb-true (list_items q.class) n (and_true (nat_lt 0 n) (nat_lt (list_items q.class) n) x.0))),
+    )
+
+-- where it takes none, and has items
+pub wanted_none : (old : Option Table) (n : ℕ) → 0 < n → list_takes (use_of old) n ≡ None → (t : Table) × (old ≡ Some t) × (n ≤ list_items t.class)
+wanted_none None n some_one is =
+    let x = if_none (outgrows_list no_table n) (list_class n) is in
+    absurd (true≢false (true_and (nat_lt 0 n) true (lt-ltb 0 n some_one) x))
+wanted_none (Some q) n some_one is =
+    let x = if_none (outgrows_list (use_of (Some q)) n) (list_class n) is in
+    (q, refl, ltb-false (list_items q.class) n (true_and (nat_lt 0 n) (nat_lt (list_items q.class) n) (lt-ltb 0 n some_one) x))
+
+-- ---- the table that it has
+
+no_class : (block words : List ℕ) (class : Option ℕ) (values : List Value) → IsListWords block words class values → slice_index block 0 ≡ 0 → class ≡ None
+no_class block words None values says none = refl
+no_class block words (Some class) values says none = absurd (let r = says.head.root.1.2 in omega (arith, none, r))
+
+pub list_use : (k : Shape) (o : ℕ) (old : Option Table) (v : View) → KnowsList k o old v → (known o v).content ≡ content.List (items_of o v) → (known o v).table ≡ use_of old
+list_use k o None v list is =
+    let says : IsListWords (held o v).block (0 ∷ 0 ∷ (held o v).table) (known o v).table.class (items_of o v) × ((known o v).table.fill ≡ 0) = subst (λ (z : Content). StandsAs k.texts (held o v).block (0 ∷ 0 ∷ (held o v).table) (known o v).table z) is list.stands in
+    let none = no_class (held o v).block (0 ∷ 0 ∷ (held o v).table) (known o v).table.class (items_of o v) says.0 list.root in
+    λ d. record { class = none d; fill = says.1 d }
+list_use k o (Some t) v list is =
+    (list_known k.texts v o (name_of t) is list.stands list.root).1
+    ∙ ap (λ (n : ℕ). record { class = Some n; fill = 0 }) (class_is t (list.table_in t refl).2)

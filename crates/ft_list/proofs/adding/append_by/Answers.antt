@@ -1,0 +1,49 @@
+use Rattle.std.proofs.Common.{◌≡◌, ◌<◌, ℕ, ◌+◌, Bool, length, Option, refl, sym, ap, ◌∙◌, subst}
+use Rattle.std.specs.Prelude.{nat_lt}
+use Rattle.std.specs.List.{insert}
+use Rattle.ft_model.specs.declared.call.Call.TheVariants as call
+use Rattle.ft_model.specs.declared.call.ListCall.TheVariants as list
+use Rattle.ft_model.specs.declared.reply.Reply.TheVariants as reply
+use Rattle.ft_model.specs.Classes.{most_items}
+use Rattle.ft_model.specs.Tables.{list_takes}
+use Rattle.ft_model.specs.Worlds.{list_of}
+use Rattle.ft_trace.specs.declared.Shape.{Shape}
+use Rattle.ft_trace.specs.declared.View.{View}
+use Rattle.ft_trace.specs.Addresses.{containers_in}
+use Rattle.ft_trace.specs.Holds.{known}
+use Rattle.ft_trace.specs.Worlds.{Kept}
+use Rattle.ft_bank.specs.Passes.{shape_of, view}
+use Rattle.ft_bank.specs.Whole.{OnlyLoaded}
+use Rattle.ft_bank.proofs.Whole.{loaded_then, work_knows}
+use Rattle.ft_growth.specs.Adding.{IsAdded}
+use Rattle.ft_list.specs.Calls.{Adds}
+use Rattle.ft_list.specs.Items.{items_of}
+use Rattle.ft_list.specs.Growing.{use_of}
+use Rattle.ft_list.proofs.CallFacts.{append_adds}
+use Rattle.ft_list.proofs.Growing.{knows_content}
+use Rattle.ft_list.proofs.Additions.{adds_items}
+use Rattle.ft_list.proofs.adding.append_by.Goals as goal
+
+pub add_at-requires-clause-call : goal.add_at-requires-clause-call
+add_at-requires-clause-call c =
+    let a = c.args in
+    let k = shape_of a.bank.now in
+    let u = view c.root_table-old.new.pass in
+    let e = c.root_table-old.ensures in
+    let values = items_of a.l u in
+    let low : a.l < containers_in u.shape = subst (λ (z : Shape). a.l < containers_in z) (sym e.pass.1) e.list.container in
+    let count : length values ≡ c.count_of-count.result = ap (λ (z : Kept). length (list_of z.content)) (work_knows (view c.count_of-count.new.pass) u a.l e.only.work) ∙ (ap length c.count_of-count.ensures.items ∙ sym c.count_of-count.ensures.count) in (
+      list.Append a.value,
+      refl,
+      subst (λ (n : ℕ). Adds a.l (list.Append a.value) values (insert values n a.value) u) count
+          (append_adds a.l a.value values u low e.list.locked (knows_content k a.l c.root_table-old.result u e.pass.1 c.root_table-old.new.pass.possible e.list) c.value_fits.ensures),
+    )
+
+pub returns-clause-added : goal.returns-clause-added
+returns-clause-added c =
+    let a = c.args in
+    let x = view c.count_of-count.new.pass in
+    let u = view c.root_table-old.new.pass in
+    let e = c.root_table-old.ensures in
+    adds_items (shape_of a.bank.now) a.l c.root_table-old.result (view a.pass.now) u (view c.add_at.new.pass) c.count_of-count.result (call.List a.l (list.Append a.value)) c.add_at.result
+    (loaded_then (view a.pass.now) x u c.count_of-count.ensures.only e.only) e.list e.pass.1 c.root_table-old.new.pass.possible c.count_of-count.ensures.count c.add_at.ensures.added

@@ -1,0 +1,58 @@
+use Rattle.std.proofs.Common.{◌≡◌, ◌<◌, ℕ, ℤ, length, refl, sym, ap, ◌∙◌, subst}
+use mir.Syntax.{w64}
+use mir.Val.{to_z, of_z}
+use Rattle.std.proofs.Math.Facts.{to_z-of_z}
+use Rattle.ft_model.specs.Lists.{clamped_in}
+use Rattle.ft_list.specs.Growing.{AddsItems}
+use Rattle.std.specs.Prelude.{nat_lt}
+use Rattle.std.specs.List.{insert}
+use Rattle.ft_model.specs.declared.call.Call.TheVariants as call
+use Rattle.ft_model.specs.declared.call.ListCall.TheVariants as list
+use Rattle.ft_model.specs.declared.reply.Reply.TheVariants as reply
+use Rattle.ft_model.specs.Classes.{most_items}
+use Rattle.ft_model.specs.Tables.{list_takes}
+use Rattle.ft_model.specs.Worlds.{list_of}
+use Rattle.ft_trace.specs.declared.Shape.{Shape}
+use Rattle.ft_trace.specs.declared.View.{View}
+use Rattle.ft_trace.specs.Addresses.{containers_in}
+use Rattle.ft_trace.specs.Holds.{known}
+use Rattle.ft_trace.specs.Worlds.{Kept}
+use Rattle.ft_bank.specs.Passes.{shape_of, view}
+use Rattle.ft_bank.specs.Whole.{OnlyLoaded}
+use Rattle.ft_bank.proofs.Whole.{loaded_then, work_knows}
+use Rattle.ft_growth.specs.Adding.{IsAdded}
+use Rattle.ft_list.specs.Calls.{Adds}
+use Rattle.ft_list.specs.Items.{items_of}
+use Rattle.ft_list.specs.Growing.{use_of}
+use Rattle.ft_list.proofs.CallFacts.{insert_adds}
+use Rattle.ft_list.proofs.Growing.{knows_content}
+use Rattle.ft_list.proofs.Additions.{adds_items}
+use Rattle.ft_list.proofs.adding.insert_by.Goals as goal
+
+pub add_at-requires-clause-call : goal.add_at-requires-clause-call
+add_at-requires-clause-call c =
+    let a = c.args in
+    let k = shape_of a.bank.now in
+    let u = view c.root_table-old.new.pass in
+    let e = c.root_table-old.ensures in
+    let values = items_of a.l u in
+    let z = to_z w64 (of_z w64 a.index) in
+    let low : a.l < containers_in u.shape = subst (λ (x : Shape). a.l < containers_in x) (sym e.pass.1) e.list.container in
+    let count : length values ≡ c.count_of-count.result = ap (λ (x : Kept). length (list_of x.content)) (work_knows (view c.count_of-count.new.pass) u a.l e.only.work) ∙ (ap length c.count_of-count.ensures.items ∙ sym c.count_of-count.ensures.count) in
+    let place : clamped_in (length values) z ≡ c.clamped-place.result = ap (λ (n : ℕ). clamped_in n z) count ∙ sym c.clamped-place.ensures.place in (
+      list.Insert z a.value,
+      refl,
+      subst (λ (n : ℕ). Adds a.l (list.Insert z a.value) values (insert values n a.value) u) place
+          (insert_adds a.l z a.value values u low e.list.locked (knows_content k a.l c.root_table-old.result u e.pass.1 c.root_table-old.new.pass.possible e.list) c.value_fits.ensures),
+    )
+
+pub returns-clause-added : goal.returns-clause-added
+returns-clause-added c =
+    let a = c.args in
+    let k = shape_of a.bank.now in
+    let x = view c.count_of-count.new.pass in
+    let u = view c.root_table-old.new.pass in
+    let e = c.root_table-old.ensures in
+    subst (λ (i : ℤ). AddsItems k a.l (call.List a.l (list.Insert i a.value)) 1 (view a.pass.now) (view c.add_at.new.pass) c.add_at.result) (to_z-of_z {w = w64} {z = a.index} c.ranges.index)
+    (adds_items k a.l c.root_table-old.result (view a.pass.now) u (view c.add_at.new.pass) c.count_of-count.result (call.List a.l (list.Insert (to_z w64 (of_z w64 a.index)) a.value)) c.add_at.result
+    (loaded_then (view a.pass.now) x u c.count_of-count.ensures.only e.only) e.list e.pass.1 c.root_table-old.new.pass.possible c.count_of-count.ensures.count c.add_at.ensures.added)

@@ -1,0 +1,46 @@
+use Rattle.std.proofs.Common.{◌≡◌, ℕ, ◌<◌, suc, refl, sym, ap, ◌∙◌, subst, arith}
+use Rattle.ft_model.specs.declared.reply.Reply.TheVariants as reply
+use Rattle.ft_trace.specs.Holds.{held}
+use Rattle.ft_trace.specs.Words.{root_in}
+use Rattle.ft_bank.specs.Passes.{view}
+use Rattle.ft_bank.specs.Tables.{name_of, root_for}
+use Rattle.ft_growth.specs.Adding.{Retires}
+use Rattle.ft_growth.proofs.Rooting.{taken_out}
+use Rattle.ft_list.proofs.Emptying.{clear_of}
+use Rattle.ft_list.proofs.clearing.clear_by.Goals as goal
+
+pub clear_list-number-requires-clause-may : goal.clear_list-number-requires-clause-may
+clear_list-number-requires-clause-may c =
+    let w = c.root_table-old.ensures.only.work in
+    record {
+      list = c.root_table-old.ensures.list;
+      used = w.used ∙ c.requires.used;
+      owes = w.owes ∙ c.requires.may.owes;
+      idle = w.pass.flight ∙ c.requires.idle;
+      left = subst (λ (n : ℕ). 0 < n) (sym w.left) c.requires.may.left;
+    }
+
+pub retire_old-requires-clause-out : goal.retire_old-requires-clause-out
+retire_old-requires-clause-out c t is =
+    let a = c.args in
+    let list = c.root_table-old.ensures.list in
+    let e = c.clear_list-number.ensures in
+    let out = taken_out (clear_of a.l) reply.Done c.clear_list-number.result (name_of t) 0 (view c.root_table-old.new.pass) (view c.clear_list-number.new.pass) e.wrote (list.root ∙ ap root_for is) e.root (λ same. absurd (omega (arith, same))) in
+    (list.table_in t is, out.0, out.1)
+
+pub returns-clause-cleared : goal.returns-clause-cleared
+returns-clause-cleared c =
+    let list = c.root_table-old.ensures.list in
+    let e = c.clear_list-number.ensures in (
+      refl,
+      (
+        view c.root_table-old.new.pass,
+        c.root_table-old.ensures.only,
+        record {
+          done = view c.clear_list-number.new.pass;
+          wrote = e.wrote;
+          root = e.root;
+          retired = subst (λ (n : ℕ). Retires n (view c.clear_list-number.new.pass) (view c.retire_old.new.pass)) (sym list.root) c.retire_old.ensures.retired;
+        },
+      ),
+    )

@@ -1,0 +1,13 @@
+use Rattle.std.proofs.Common.{refl}
+use Rattle.ft_model.specs.declared.call.Call.TheVariants as call
+use Rattle.ft_model.specs.declared.call.ListCall.TheVariants as list
+use Rattle.ft_model.specs.declared.reply.Reply.TheVariants as reply
+use Rattle.ft_growth.proofs.Staying.{making_given}
+use Rattle.ft_list.proofs.clearing.try_clear.Goals as goal
+
+pub let_go-requires : goal.let_go-requires
+let_go-requires c =
+    let a = c.args in
+    let e = c.clear_by-stamp.ensures in
+    let x = e.cleared.1 in
+    making_given a.bank.now c.take_for.new.pass c.clear_by-stamp.new.pass c.in-Have.ensures.making e.pass e.stack x.0 x.1 (call.List a.l list.Clear) reply.Done c.clear_by-stamp.result.number x.2

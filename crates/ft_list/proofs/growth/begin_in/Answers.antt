@@ -1,0 +1,48 @@
+use Rattle.std.proofs.Common.{ℕ, suc, length, Some, sym, subst}
+use Rattle.ft_layout.specs.Containers.{IsBlock}
+use Rattle.ft_trace.specs.declared.Act.TheVariants.{StartWrite}
+use Rattle.ft_trace.specs.declared.View.{View}
+use Rattle.ft_trace.specs.Acts.{noted}
+use Rattle.ft_trace.specs.Addresses.{class_of}
+use Rattle.ft_trace.specs.Holds.{in_hand}
+use Rattle.ft_trace.specs.Words.{Picture}
+use Rattle.ft_bank.specs.Passes.{shape_of, view}
+use Rattle.ft_bank.specs.Tables.{name_of}
+use Rattle.ft_bank.specs.Writes.{MayPutRoot, with_root}
+use Rattle.ft_list.specs.Items.{IsPutting, items_of, stored_at}
+use Rattle.ft_list.proofs.Cares.{table_class}
+use Rattle.ft_list.proofs.Filling.{filled_putting}
+use Rattle.ft_list.proofs.Growing.{grow_content, may_root, list_head, with_other_root}
+use Rattle.ft_trace.specs.Holds.{held, known}
+use Rattle.ft_list.proofs.growth.begin_in.Goals as goal
+
+pub put_root-requires-clause-may : goal.put_root-requires-clause-may
+put_root-requires-clause-may c =
+    let a = c.args in
+    subst (λ (u : View). MayPutRoot u a.o (Some a.table)) (sym c.start_write.ensures.1)
+    (may_root (shape_of a.bank.now) a.o a.old a.table (view a.pass.now) c.requires.may c.requires.pass.1 a.pass.now.possible c.requires.filled c.requires.room c.start_write.result)
+
+pub returns-clause-putting : goal.returns-clause-putting
+returns-clause-putting c first past =
+    let a = c.args in
+    let v = view a.pass.now in
+    let class = class_of (name_of a.table) in
+    subst (λ (x : Picture). IsPutting class (items_of a.o v) first past (stored_at (items_of a.o v)) x.table) (sym c.put_root.ensures.held)
+    (subst (λ (u : View). IsPutting class (items_of a.o v) first past (stored_at (items_of a.o v)) (in_hand (name_of a.table) u)) (sym c.start_write.ensures.1)
+    (filled_putting class (table_class (shape_of a.bank.now) a.table c.requires.may.table_in) (items_of a.o v) (in_hand (name_of a.table) v) c.requires.filled first past))
+
+pub returns-clause-content : goal.returns-clause-content
+returns-clause-content c =
+    let a = c.args in
+    grow_content (shape_of a.bank.now) a.o a.old a.table (view a.pass.now) c.requires.may c.requires.pass.1 a.pass.now.possible
+
+pub returns-clause-head : goal.returns-clause-head
+returns-clause-head c =
+    let a = c.args in
+    let k = shape_of a.bank.now in
+    let v = view a.pass.now in
+    let class = class_of (name_of a.table) in
+    let head = with_other_root (held a.o v).block (known a.o v).table.class k a.table (length (items_of a.o v))
+    (list_head k.texts v a.o (grow_content k a.o a.old a.table v c.requires.may c.requires.pass.1 a.pass.now.possible) c.requires.may.list.stands) c.requires.may.table_in in
+    subst (λ (x : Picture). IsBlock x.block (Some class) (length (items_of a.o v)) 0 0) (sym c.put_root.ensures.held)
+    (subst (λ (u : View). IsBlock (with_root (held a.o u) (Some a.table) u).block (Some class) (length (items_of a.o v)) 0 0) (sym c.start_write.ensures.1) head)

@@ -1,0 +1,183 @@
+//! Lists that get another table, under the lock. The new table is filled with what the list has before the
+//! list's version is made odd; then it is put into the root, and the write goes on in it like any other. So who
+//! looks without the lock finds the same items in either table until the counter is raised.
+ghost use Rattle.std.specs.Prelude.{◌≡◌, ◌≢◌, ℕ, suc, ◌+◌, ◌<◌, ◌≤◌, [], ◌∷◌, true, Some, length};
+ghost use Rattle.std.specs.List.{insert};
+ghost use Rattle.ft_model.specs.declared.call.Call.TheVariants as call;
+ghost use Rattle.ft_model.specs.declared.call.ListCall.{ListCall};
+ghost use Rattle.ft_model.specs.declared.content.Content.TheVariants as content;
+ghost use Rattle.ft_model.specs.declared.reply.Reply.TheVariants as reply;
+ghost use Rattle.ft_layout.specs.declared.slot.Stored.TheVariants.{Plain};
+ghost use Rattle.ft_layout.specs.Containers.{IsBlock};
+ghost use Rattle.ft_layout.specs.Words.{FitsStored, IsStored};
+ghost use Rattle.ft_trace.specs.declared.Act.TheVariants.{StartWrite, PutRoot};
+ghost use Rattle.ft_trace.specs.Acts.{has_lock, noted, stage};
+ghost use Rattle.ft_trace.specs.Addresses.{containers_in, class_of, slots};
+ghost use Rattle.ft_trace.specs.Holds.{held, known, in_hand};
+ghost use Rattle.ft_trace.specs.Words.{item_of, root_in};
+ghost use Rattle.ft_bank.specs.Passes.{shape_of, view, IsPassOf};
+ghost use Rattle.ft_bank.specs.Sections.{stack_of};
+ghost use Rattle.ft_bank.specs.Series.{DidAll};
+ghost use Rattle.ft_bank.specs.Tables.{name_of, IsTableIn};
+ghost use Rattle.ft_bank.specs.Whole.{OnlyLoaded, Wrote};
+ghost use Rattle.ft_bank.specs.Writes.{KeepsUnwritten};
+ghost use Rattle.ft_growth.specs.Adding.{OnlyFilled};
+ghost use Rattle.ft_list.specs.Items.{WritesList, IsPutting, items_of, stored_at};
+ghost use Rattle.ft_list.specs.Calls.{Grows};
+ghost use Rattle.ft_list.specs.Growing.{KnowsList, MayGrow, IsFilled, with_item};
+
+use crate::items::{finish, word_at};
+use crate::locked::LENGTH;
+use crate::writes::shift_up;
+use ft_bank::{Bank, Pass, Table};
+use ft_layout::{Stored, item_of, item_word, list_items, stored_kind_of, stored_payload_of};
+use ft_model::{Call, Reply, Value};
+
+/// The last word of an item, which says nothing and is 0.
+const SPARE: u64 = item_word::VALUE + 1;
+
+/// What an item of a list's table stores, whose lock the pass has.
+fn read_stored(bank: &Bank, pass: &mut Pass, o: u32, table: Table, place: u64) -> Stored
+    requires pass { IsPassOf bank.now pass.old }
+    requires container { o < containers_in (shape_of bank.now) }
+    requires locked { has_lock o (view pass.old).log ≡ true }
+    requires table { IsTableIn (shape_of bank.now) table }
+    requires root { root_in (held o (view pass.old)) ≡ suc (name_of table) }
+    requires place { place < slots (class_of (name_of table)) }
+    ensures pass { IsPassOf bank.now pass.new }
+    ensures stack { stack_of pass.new ≡ stack_of pass.old }
+    ensures only { OnlyLoaded (view pass.old) (view pass.new) }
+    ensures stored { (stored : Stored) →
+        IsStored (item_of (held o (view pass.old)).table place 1) (item_of (held o (view pass.old)).table place 2) stored →
+        result ≡ stored }
+{
+    let _ = o;
+    let kind = bank.read_table(pass, table, word_at(place, item_word::VALUE_KIND));
+    let payload = bank.read_table(pass, table, word_at(place, item_word::VALUE));
+    item_of(&[0, kind, payload, 0]).unwrap_or(Stored::Empty)
+}
+
+/// What a list has at a place, of that many items: nothing past them.
+fn old_item(
+    bank: &Bank,
+    pass: &mut Pass,
+    o: u32,
+    old: Option<Table>,
+    place: u64,
+    count: u64,
+) -> Stored
+    requires pass { IsPassOf bank.now pass.old }
+    requires list { KnowsList (shape_of bank.now) o old (view pass.old) }
+    requires count { count ≡ length (items_of o (view pass.old)) }
+    ensures pass { IsPassOf bank.now pass.new }
+    ensures stack { stack_of pass.new ≡ stack_of pass.old }
+    ensures only { OnlyLoaded (view pass.old) (view pass.new) }
+    ensures stored { result ≡ stored_at (items_of o (view pass.old)) place }
+    ensures fits { FitsStored result }
+{
+    if place >= count {
+        return Stored::Empty;
+    }
+    match old {
+        Some(table) => read_stored(bank, pass, o, table, place),
+        None => unreachable!(),
+    }
+}
+
+/// Has an item store this in a table that is fresh in hand, with version 0.
+fn fill_item(bank: &Bank, pass: &mut Pass, table: Table, place: u64, stored: Stored)
+    requires pass { IsPassOf bank.now pass.old }
+    requires table { IsTableIn (shape_of bank.now) table }
+    requires fresh { stage (name_of table) (view pass.old).log ≡ 1 }
+    requires place { place < slots (class_of (name_of table)) }
+    requires fits { FitsStored stored }
+    ensures pass { IsPassOf bank.now pass.new }
+    ensures stack { stack_of pass.new ≡ stack_of pass.old }
+    ensures filled { OnlyFilled (view pass.old) (view pass.new) }
+    ensures words { in_hand (name_of table) (view pass.new) ≡
+        with_item (in_hand (name_of table) (view pass.old)) place stored }
+{
+    let kind = stored_kind_of(stored);
+    let payload = stored_payload_of(stored);
+    bank.put_fresh(pass, table, word_at(place, item_word::VERSION), 0);
+    bank.put_fresh(pass, table, word_at(place, item_word::VALUE_KIND), kind);
+    bank.put_fresh(pass, table, word_at(place, item_word::VALUE), payload);
+    bank.put_fresh(pass, table, word_at(place, SPARE), 0);
+}
+
+/// Fills a table that is fresh in hand with what a list has, of that many items: each is copied once, and
+/// nothing is stored past them.
+fn fill(bank: &Bank, pass: &mut Pass, o: u32, old: Option<Table>, table: Table, count: u64)
+    requires pass { IsPassOf bank.now pass.old }
+    requires list { KnowsList (shape_of bank.now) o old (view pass.old) }
+    requires table { IsTableIn (shape_of bank.now) table }
+    requires fresh { stage (name_of table) (view pass.old).log ≡ 1 }
+    requires count { count ≡ length (items_of o (view pass.old)) }
+    ensures pass { IsPassOf bank.now pass.new }
+    ensures stack { stack_of pass.new ≡ stack_of pass.old }
+    ensures only { OnlyFilled (view pass.old) (view pass.new) }
+    ensures filled { IsFilled (class_of (name_of table)) (items_of o (view pass.old))
+        (slots (class_of (name_of table))) (in_hand (name_of table) (view pass.new)) }
+{
+    for place in 0..list_items(table.class) {
+        let stored = old_item(bank, pass, o, old, place, count);
+        fill_item(bank, pass, table, place, stored);
+    }
+}
+
+/// Makes the version of a list odd and puts a table into its root that has what the list has.
+fn begin_in(bank: &Bank, pass: &mut Pass, o: u32, old: Option<Table>, table: Table)
+    requires pass { IsPassOf bank.now pass.old }
+    requires may { MayGrow (shape_of bank.now) o old table (view pass.old) }
+    requires filled { IsFilled (class_of (name_of table)) (items_of o (view pass.old))
+        (slots (class_of (name_of table))) (in_hand (name_of table) (view pass.old)) }
+    requires room { length (items_of o (view pass.old)) ≤ slots (class_of (name_of table)) }
+    ensures pass { IsPassOf bank.now pass.new }
+    ensures did { (f : ℕ) × DidAll
+        (PutRoot o (suc (name_of table)) (root_in (held o (view pass.old))) ∷ StartWrite o f ∷ []) pass.old pass.new
+        × KeepsUnwritten (noted (StartWrite o f) (view pass.old)) (view pass.new) }
+    ensures list { WritesList (shape_of bank.now) o table (view pass.new) }
+    ensures putting { (first past : ℕ) →
+        IsPutting (class_of (name_of table)) (items_of o (view pass.old)) first past
+        (stored_at (items_of o (view pass.old))) (held o (view pass.new)).table }
+    ensures content { (known o (view pass.old)).content ≡ content.List (items_of o (view pass.old)) }
+    ensures head { IsBlock (held o (view pass.new)).block (Some (class_of (name_of table)))
+        (length (items_of o (view pass.old))) 0 0 }
+{
+    let _ = old;
+    bank.start_write(pass, o);
+    bank.put_root(pass, o, Some(table));
+}
+
+/// Inserts a value at a place of a list, which gets this table, as the write of this call. Answers the number
+/// of the write.
+pub(crate) fn insert_in(
+    bank: &Bank,
+    pass: &mut Pass,
+    o: u32,
+    old: Option<Table>,
+    table: Table,
+    place: u64,
+    count: u64,
+    value: Value,
+    called: &Call,
+) -> u64
+    requires pass { IsPassOf bank.now pass.old }
+    requires may { MayGrow (shape_of bank.now) o old table (view pass.old) }
+    requires other { root_in (held o (view pass.old)) ≢ suc (name_of table) }
+    requires count { count ≡ length (items_of o (view pass.old)) }
+    requires place { (place ≤ count) × (count < slots (class_of (name_of table))) }
+    requires value { FitsStored (Plain value) }
+    requires call { (lc : ListCall) × (called.now ≡ call.List o lc) × Grows o lc (items_of o (view pass.old))
+        (insert (items_of o (view pass.old)) place value) (class_of (name_of table)) (view pass.old) }
+    ensures pass { IsPassOf bank.now pass.new }
+    ensures stack { stack_of pass.new ≡ stack_of pass.old }
+    ensures wrote { Wrote called.now reply.Done result (view pass.old) (view pass.new) }
+    ensures root { root_in (held o (view pass.new)) ≡ suc (name_of table) }
+{
+    fill(bank, pass, o, old, table, count);
+    begin_in(bank, pass, o, old, table);
+    shift_up(bank, pass, o, table, place, count, value);
+    bank.put_block(pass, o, LENGTH, count + 1);
+    finish(bank, pass, o, table, called, &Reply::Done, place, count + 1)
+}

@@ -1,9 +1,9 @@
 //! The tool over streams in memory. The expected texts are worked out by hand, but for those of the
 //! last ten runs: they are what a second model of the turns gives, written apart from this one.
 
-use ft_runner::{Fault, NoGate, Report, run_program, run_still, run_tool};
 use ft_io::{MemSink, MemSource};
 use ft_model::Rule;
+use ft_runner::{Fault, NoGate, Report, run_program, run_still, run_tool};
 use ft_script::{parse, print_entry, print_world};
 use ft_turns::run_turns;
 use std::alloc::{AllocError, Global};
@@ -343,6 +343,58 @@ fn what_is_no_command_or_no_script_is_refused(rt: HostRuntime) -> Result<(), Fai
     Ok(())
 }
 
+/// The script of one call, which is a `discard` by the numbers of the generator.
+const MADE: &str =
+    "heap 4096\ntables 12 16\ndict d\nlist l\nset s\nthread A\ndiscard s 346\nthread B\nthread C\nthread D\n";
+
+const SUMMARY: &str = "calls 1\nwrites 1\nKeyError 0\nIndexError 0\nMemoryError 0\nd 0\nl 0\ns 0\n";
+
+#[test]
+fn scripts_are_made(rt: HostRuntime) -> Result<(), Fail> {
+    for (command, put, start) in [
+        ("make 1", MADE, "heap 40"),
+        ("make -- 1", MADE, "heap 40"),
+        ("make 1 --", MADE, "heap 40"),
+        ("make 1 turns", SUMMARY, "calls 1"),
+        ("make -- 1 turns", SUMMARY, "calls 1"),
+        ("make 1 -- turns", SUMMARY, "calls 1"),
+        ("make 1 turns --", SUMMARY, "calls 1"),
+    ] {
+        // The source isn't asked, and so doesn't fail.
+        let made = Case {
+            command,
+            take_fails: 1,
+            put,
+            entries: 0,
+            ..EXAMPLE
+        };
+        check(&rt, &made)?;
+        let cut = Case {
+            most: 7,
+            put_fails: 2,
+            status: 4,
+            fault: Fault::Write,
+            put: start,
+            reported: "ftpy: write fault\n",
+            ..made
+        };
+        check(&rt, &cut)?;
+    }
+    Ok(())
+}
+
+#[test]
+fn twenty_thousand_calls_are_run(rt: HostRuntime) -> Result<(), Fail> {
+    let alloc = rt.alloc();
+    let summary = call_still(alloc, "make 20000 turns", Vec::new(alloc))?;
+    assert_eq!(rt; summary.status, 0);
+    assert!(rt; summary.put.starts_with(b"calls 20000\nwrites "));
+    assert_eq!(rt; count_of(&summary.put, b'\n'), 8);
+    let again = call_still(alloc, "make 20000 turns", Vec::new(alloc))?;
+    assert_eq!(rt; again.put.as_slice(), summary.put.as_slice());
+    Ok(())
+}
+
 // The lines of entries and contents that are printed one by one are those that the tool writes.
 #[test]
 fn lines_are_printed_one_by_one(rt: HostRuntime) -> Result<(), Fail> {
@@ -659,6 +711,36 @@ fn more_than_is_taken_is_too_long(rt: HostRuntime) -> Result<(), Fail> {
         input[..3].copy_from_slice(b"---");
         assert_eq!(rt; call_still(alloc, "check", input)?.status, status);
     }
+    Ok(())
+}
+
+/// Checks an input of which each call gives 2,113 bytes, up to a call that fails: 4,194,305 bytes are
+/// 1,985 such pieces.
+fn status_in_pieces(alloc: Global, input: Vec<u8>, fails: u64) -> Result<u8, Fail> {
+    let words = words_of(alloc, "check")?;
+    let mut source = MemSource::new(input, 2_113, vec![in alloc; fails]?);
+    let mut sink = MemSink::new(alloc, 100, 100, Vec::new(alloc))?;
+    let mut errors = MemSink::new(alloc, 100, 100, Vec::new(alloc))?;
+    let report: Option<Report> = run_still(alloc, &words, &mut source, &mut sink, &mut errors);
+    Ok(report.ok_or("no report")?.status)
+}
+
+#[test]
+fn no_more_is_asked_for_than_can_be_taken(rt: HostRuntime) -> Result<(), Fail> {
+    let alloc = rt.alloc();
+    // One byte more than a script may have, and no line that can still become `---`.
+    let comment = vec![in alloc; b'#'; 4_194_305]?;
+    assert_eq!(rt; status_in_pieces(alloc, comment, 1_986)?, 6);
+    // Such a line begins at the last place that it may.
+    for (last, fails, status) in [(b'-', 1_986, 3), (b'-', 0, 6), (b'+', 1_986, 6)] {
+        let mut input = vec![in alloc; b'#'; 4_194_303]?;
+        input.push(b'\n')?;
+        input.push(last)?;
+        assert_eq!(rt; status_in_pieces(alloc, input, fails)?, status);
+    }
+    let mut input = vec![in alloc; b'#'; 4_194_303]?;
+    input.extend_from_slice(b"\n---")?;
+    assert_eq!(rt; status_in_pieces(alloc, input, 0)?, 0);
     Ok(())
 }
 

@@ -1,5 +1,6 @@
 -- What calls that take a key out of a dict leave of it and reply.
-use Rattle.std.proofs.Common.{◌≡◌, ◌≢◌, ℕ, ◌<◌, Bool, true, false, List, [], ◌∷◌, find, Option, Some, None, refl, sym, ap, ◌∙◌, subst, inr}
+use Rattle.std.proofs.lemmas.List.{length-map}
+use Rattle.std.proofs.Common.{◌≡◌, ◌≢◌, ℕ, ◌+◌, ◌<◌, Bool, true, false, List, [], ◌∷◌, ◌++◌, length, find, Option, Some, None, refl, sym, ap, ◌∙◌, subst, inr}
 use Rattle.std.specs.Prelude.{option_map, is_some, if◌then◌else◌}
 use Rattle.std.specs.Option.{option_map_or}
 use Rattle.ft_model.specs.declared.call.Call.TheVariants as call
@@ -13,7 +14,7 @@ use Rattle.ft_model.specs.declared.reply.Reply.{Reply}
 use Rattle.ft_model.specs.declared.reply.Reply.TheVariants as reply
 use Rattle.ft_model.specs.declared.reply.Raise.TheVariants as raise
 use Rattle.ft_model.specs.Answers.{puts, shows}
-use Rattle.ft_model.specs.Contents.{DictContent, dict_get, dict_del, has_key, is_at}
+use Rattle.ft_model.specs.Contents.{DictContent, dict_get, dict_del, dict_set, has_key, is_at, with_value}
 use Rattle.ft_model.specs.Tables.{StoredWorld}
 use Rattle.ft_model.specs.Worlds.{no_hands}
 use Rattle.ft_layout.specs.Words.{FitsKey}
@@ -32,10 +33,10 @@ use Rattle.ft_trace.proofs.SameKeys.{any_found}
 use Rattle.ft_bank.specs.Writes.{MayHave}
 use Rattle.ft_search.specs.Calls.{IsShownBy}
 use Rattle.ft_search.specs.Held.{IsHeldAt}
-use Rattle.ft_search.specs.Writing.{Leaves, MayWriteEntries, without_key}
+use Rattle.ft_search.specs.Writing.{Leaves, MayWriteEntries, with_value_at, without_key}
 use Rattle.ft_search.proofs.Holding.{dict_known}
 use Rattle.ft_dict.specs.Locked.{HasValue}
-use Rattle.ft_dict.proofs.Leaving.{dict_is, each_fits, leaves_stay, replies, shows_puts}
+use Rattle.ft_dict.proofs.Leaving.{dict_is, each_fits, leaves_same, leaves_stay, replies, shows_puts}
 use Rattle.ft_dict.proofs.Reading.{got, not_found, some_words}
 
 -- a pass that may write a dict knows that it is one
@@ -115,3 +116,34 @@ module _ (d : ℕ) (v : View) (pairs : DictContent) (low : d < containers_in v.s
           (ap (λ (z : Option Value). option_map_or (λ value. puts stored.world no_hands d (content.Dict (dict_del pairs key)) (reply.Value value)) z (shows stored.world no_hands (reply.Raised raise.NoKey))) (not_found pairs.pairs key missing)) refl;
       cause = λ stored log n. refl;
     }
+
+-- ---- calls that put a value at a key that is there
+
+module _ (d : ℕ) (v : View) (pairs : DictContent) (low : d < containers_in v.shape) (mine : has_lock d v.log ≡ true) (is_dict : (known d v).content ≡ content.Dict pairs) (key : Key) (fits : FitsKey key) where
+  set_same : (value : Value) → has_key pairs.pairs key ≡ true → ((dict_set pairs key value).next ≡ pairs.next) × (length (dict_set pairs key value).pairs ≡ length pairs.pairs)
+  set_same value there =
+      let other : DictContent = record { next = pairs.next + 1; pairs = pairs.pairs ++ record { serial = pairs.next; key = key; value = value } ∷ [] } in
+      let same : DictContent = record { next = pairs.next; pairs = with_value pairs.pairs key value } in (
+        ap (λ (b : Bool). (if b then same else other).next) there,
+        ap (λ (b : Bool). length (if b then same else other).pairs) there ∙ length-map pairs.pairs _,
+      )
+
+  pub set_leaves : (value : Value) (kind payload : ℕ) → FitsValue value → IsHeldAt (known d v).content key (Some (kind, payload)) → Leaves d (call.Dict d (dict.Set key value)) reply.Done (record { content = with_value_at (known d v).content key value; table = (known d v).table }) v
+  set_leaves value kind payload fit held =
+      let h = subst (λ (z : Content). IsHeldAt z key (Some (kind, payload))) is_dict held in
+      let same : record { content = content.Dict (dict_set pairs key value); table = (known d v).table } ≡ record { content = with_value_at (known d v).content key value; table = (known d v).table } = λ i. record { content = with_value_at (sym is_dict i) key value; table = (known d v).table } in
+      subst (λ (z : Kept). Leaves d (call.Dict d (dict.Set key value)) reply.Done z v) same
+      (leaves_same d v pairs (dict_set pairs key value) (dict.Set key value) reply.Done low mine is_dict refl refl refl refl refl (fits, fit)
+      (λ stored has. let s = set_same value (has_there d v pairs low mine is_dict key fits kind payload h stored has) in (s.0, s.1, refl)))
+
+  pub setdefault_leaves : (default value : Value) → FitsValue default → HasValue (known d v).content key (Some value) → Leaves d (call.Dict d (dict.SetDefault key default)) (reply.Value value) (known d v) v
+  setdefault_leaves default value fit h =
+      let same : record { content = content.Dict pairs; table = (known d v).table } ≡ known d v = λ i. record { content = sym is_dict i; table = (known d v).table } in
+      subst (λ (z : Kept). Leaves d (call.Dict d (dict.SetDefault key default)) (reply.Value value) z v) same
+      (leaves_same d v pairs pairs (dict.SetDefault key default) (reply.Value value) low mine is_dict refl refl refl refl refl (fits, fit)
+      (λ stored has. (
+        refl,
+        refl,
+        ap (λ (z : Option Value). option_map_or (λ value. shows stored.world no_hands (reply.Value value)) z (puts stored.world no_hands d (content.Dict (dict_set pairs key default)) (reply.Value default))) (value_there d v pairs low mine is_dict key fits value h stored has)
+            ∙ shows_puts d v pairs low mine is_dict stored has (reply.Value value),
+      )))

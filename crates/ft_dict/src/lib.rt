@@ -13,9 +13,11 @@ mod pops;
 #[cfg(test)]
 mod tests;
 mod tries;
+mod values;
 
 pub use crate::deletes::{del_locked, pop_locked, popd_locked};
 pub use crate::lens::{look_len, try_len};
 pub use crate::looks::{look_get, look_getd, look_has};
 pub use crate::pops::{try_del, try_pop, try_popd};
 pub use crate::tries::{try_get, try_getd, try_has};
+pub use crate::values::{set_present, setdefault_present};

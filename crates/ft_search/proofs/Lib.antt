@@ -16,3 +16,4 @@ pub mod Endings
 pub mod Laws
 pub mod Spotting
 pub mod Calling
+pub mod Values

@@ -4,9 +4,10 @@ use Rattle.ft_model.specs.declared.call.Call.{Call}
 use Rattle.ft_model.specs.declared.content.Content.{Content}
 use Rattle.ft_model.specs.declared.content.Content.TheVariants as content
 use Rattle.ft_model.specs.declared.data.Key.{Key}
+use Rattle.ft_model.specs.declared.data.Value.{Value}
 use Rattle.ft_model.specs.declared.reply.Reply.{Reply}
 use Rattle.ft_model.specs.Answers.{is_write}
-use Rattle.ft_model.specs.Contents.{dict_del, set_discard}
+use Rattle.ft_model.specs.Contents.{dict_del, dict_set, set_discard}
 use Rattle.ft_model.specs.Tables.{StoredWorld, after_stored, would_pass}
 use Rattle.ft_model.specs.Worlds.{no_hands, IsDeclared}
 use Rattle.ft_layout.specs.Words.{FitsKey}
@@ -106,3 +107,9 @@ pub record MayFinish (o : ℕ) (table : Table) (place : ℕ) (called : Call) (sa
 abbrev pub deletion : ℕ → ℕ → Key → Picture → List Put
 deletion t place key x =
     to_block 1 (slice_index x.block 1 - 1) ∷ delete_puts (slots (class_of t)) x.table place key
+
+-- what a dict has once a value is at a key (Python manual, Mapping Types); nothing else has values at keys
+abbrev pub with_value_at : Content → Key → Value → Content
+with_value_at (content.Dict dict) key value = content.Dict (dict_set dict key value)
+with_value_at (content.Set set) key value = content.Set set
+with_value_at (content.List values) key value = content.List values

@@ -15,6 +15,7 @@ mod reading;
 mod rounds;
 mod spots;
 mod tables;
+mod valuing;
 mod words;
 
 pub use crate::answering::{answer_made, written};
@@ -26,4 +27,5 @@ pub use crate::look::look_up;
 pub use crate::looks::{Looked, answer_held, answer_look};
 pub use crate::spots::{Spot, seek_key};
 pub use crate::tables::{mask_of, table_named};
+pub use crate::valuing::set_entry;
 pub use crate::words::TableWords;

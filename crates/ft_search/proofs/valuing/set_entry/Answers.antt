@@ -1,0 +1,94 @@
+use Rattle.std.proofs.Common.{◌≡◌, ◌<◌, ℕ, List, Bool, true, false, sym, ap, ◌∙◌, subst}
+use Rattle.std.specs.Prelude.{slice_index}
+use Rattle.ft_model.specs.declared.script.Kind.{Kind}
+use Rattle.ft_trace.specs.declared.Act.TheVariants.{StartWrite}
+use Rattle.ft_trace.specs.declared.Shape.{Shape}
+use Rattle.ft_trace.specs.declared.View.{View}
+use Rattle.ft_trace.specs.Acts.{has_lock, is_writing, has_committed, noted}
+use Rattle.ft_trace.specs.Holds.{held, known}
+use Rattle.ft_trace.specs.Words.{root_in, entry_of}
+use Rattle.ft_trace.specs.Worlds.{Kept, kind_in}
+use Rattle.ft_trace.specs.Writes.{MayPuts, with_puts}
+use Rattle.ft_trace.proofs.Cases.{hit}
+use Rattle.ft_bank.specs.Passes.{shape_of, view}
+use Rattle.ft_bank.specs.Tables.{name_of}
+use Rattle.ft_trace.specs.Addresses.{class_of, slots}
+use Rattle.ft_trace.specs.EntryWrites.{value_puts}
+use Rattle.ft_search.specs.Writing.{WritesEntries, with_value_at}
+use Rattle.ft_search.proofs.Changing.{Changing, kind_is}
+use Rattle.ft_search.proofs.Values.{ValueLaws, values_known}
+use Rattle.ft_search.proofs.Endings.{entry_finishes, whole_root, whole_write, writes_begun}
+use Rattle.ft_search.proofs.valuing.set_entry.Goals as goal
+use Rattle.ft_search.proofs.valuing.set_entry.Goals.{After-start_write}
+
+laws_here : After-start_write → ValueLaws
+laws_here c =
+    let laws = c.versions_change_nothing.ensures in
+    record {
+      versions = λ walk room texts mask used words place version within table. laws.entries walk room texts mask used words _ within (laws.entry mask words place version) table;
+      first = c.used_entries_follow_a_dict.ensures.first;
+      lives = c.used_entries_follow_a_dict.ensures.live;
+      follow = c.words_follow_a_dict.ensures.changed;
+    }
+
+change : (c : After-start_write) → Changing (shape_of c.args.bank.now).texts (name_of c.args.table) (held c.args.d (view c.args.pass.now)) (known c.args.d (view c.args.pass.now)) c.args.place (value_puts (slots (class_of (name_of c.args.table))) (held c.args.d (view c.args.pass.now)).table c.args.place c.args.value)
+    (record { content = with_value_at (known c.args.d (view c.args.pass.now)).content c.args.key c.args.value; table = (known c.args.d (view c.args.pass.now)).table })
+change c = values_known (laws_here c) (shape_of c.args.bank.now) c.args.d c.args.table (view c.args.pass.now) c.requires.pass.1 c.args.pass.now.possible c.requires.may c.requires.dict c.requires.table c.args.place c.args.key c.args.value c.requires.value c.requires.entry
+
+pub put_value-requires-clause-writes : goal.put_value-requires-clause-writes
+put_value-requires-clause-writes c =
+    let a = c.args in
+    writes_begun (shape_of a.bank.now) a.d a.table (view a.pass.now) (view c.start_write.new.pass) c.start_write.result c.start_write.ensures.1 c.requires.may c.requires.table
+
+pub put_value-requires-clause-place : goal.put_value-requires-clause-place
+put_value-requires-clause-place c = c.requires.entry.low
+
+pub put_value-requires-clause-early : goal.put_value-requires-clause-early
+put_value-requires-clause-early c =
+    let a = c.args in
+    ap (λ (z : View). has_committed a.d z.log) c.start_write.ensures.1 ∙ hit a.d false (has_committed a.d (view a.pass.now).log)
+
+pub put_value-requires-clause-old_kind : goal.put_value-requires-clause-old_kind
+put_value-requires-clause-old_kind c =
+    let a = c.args in
+    c.requires.old_kind ∙ sym (ap (λ (z : View). entry_of (slots (class_of (name_of a.table))) (held a.d z).table a.place 4) c.start_write.ensures.1)
+
+pub put_value-requires-clause-old_payload : goal.put_value-requires-clause-old_payload
+put_value-requires-clause-old_payload c =
+    let a = c.args in
+    c.requires.old_payload ∙ sym (ap (λ (z : View). entry_of (slots (class_of (name_of a.table))) (held a.d z).table a.place 5) c.start_write.ensures.1)
+
+pub put_value-requires-clause-may : goal.put_value-requires-clause-may
+put_value-requires-clause-may c =
+    let a = c.args in
+    let k = shape_of a.bank.now in
+    let v = view a.pass.now in
+    let kind_eq = kind_is k v a.d c.requires.pass.1 a.pass.now.possible c.requires.may.locked in
+    let puts = (change (goal.at.put_value-requires-clause-may c).After-start_write).puts in
+    subst (λ (z : View). MayPuts (kind_in k.kinds a.d) (name_of a.table) (known a.d z).content false (held a.d z) (value_puts (slots (class_of (name_of a.table))) (held a.d z).table a.place a.value)) (sym c.start_write.ensures.1)
+    (subst (λ (z : Kind). MayPuts z (name_of a.table) (known a.d v).content false (held a.d v) (value_puts (slots (class_of (name_of a.table))) (held a.d v).table a.place a.value)) kind_eq puts)
+
+pub finish_entry-requires-clause-place : goal.finish_entry-requires-clause-place
+finish_entry-requires-clause-place c = c.requires.entry.low
+
+pub finish_entry-requires-clause-may : goal.finish_entry-requires-clause-may
+finish_entry-requires-clause-may c =
+    let a = c.args in
+    let k = shape_of a.bank.now in
+    let v = view a.pass.now in
+    let e = c.put_value.ensures in
+    let d = change (goal.at.finish_entry-requires-clause-may c).After-start_write in
+    let before : held a.d (view c.start_write.new.pass) ≡ held a.d v = ap (held a.d) c.start_write.ensures.1 in
+    entry_finishes k a.d a.table v (view c.start_write.new.pass) (view c.put_value.new.pass) c.start_write.result c.requires.may c.requires.pass.1 c.start_write.ensures.1 e.only a.place (value_puts (slots (class_of (name_of a.table))) (held a.d v).table a.place a.value) _ d
+    (kind_is k v a.d c.requires.pass.1 a.pass.now.possible c.requires.may.locked)
+    (e.words ∙ (λ i. with_puts (before i) (value_puts (slots (class_of (name_of a.table))) (before i).table a.place a.value))) e.writes.root a.called.now a.said.now c.requires.leaves
+
+pub returns-clause-wrote : goal.returns-clause-wrote
+returns-clause-wrote c =
+    let a = c.args in
+    whole_write a.d (view a.pass.now) (view c.start_write.new.pass) (view c.put_value.new.pass) c.start_write.result c.start_write.ensures.1 c.put_value.ensures.only a.called.now a.said.now c.finish_entry.result (view c.finish_entry.new.pass) c.requires.leaves.changed c.requires.may.even c.finish_entry.ensures.ends (c.put_value.ensures.writes.root ∙ sym c.requires.table.root)
+
+pub returns-clause-root : goal.returns-clause-root
+returns-clause-root c =
+    let a = c.args in
+    whole_root a.d (view a.pass.now) (view c.start_write.new.pass) (view c.put_value.new.pass) c.start_write.result c.start_write.ensures.1 c.put_value.ensures.only a.called.now a.said.now c.finish_entry.result (view c.finish_entry.new.pass) c.requires.leaves.changed c.finish_entry.ensures.ends (c.put_value.ensures.writes.root ∙ sym c.requires.table.root)

@@ -1,0 +1,152 @@
+//! Another value is put at a key of a dict whose lock the pass has, as one whole write: the version of the
+//! key's entry is odd while its two words change.
+ghost use Rattle.std.specs.Prelude.{◌≡◌, ◌<◌, false};
+ghost use Rattle.ft_layout.specs.declared.slot.Stored.TheVariants.{Plain};
+ghost use Rattle.ft_layout.specs.Words.{FitsStored};
+ghost use Rattle.ft_model.specs.declared.script.Kind.TheVariants as kind;
+ghost use Rattle.ft_trace.specs.Acts.{has_committed};
+ghost use Rattle.ft_trace.specs.Addresses.{class_of, slots};
+ghost use Rattle.ft_trace.specs.EntryWrites.{value_puts};
+ghost use Rattle.ft_trace.specs.Holds.{held, known};
+ghost use Rattle.ft_trace.specs.Kinds.{rows};
+ghost use Rattle.ft_trace.specs.Words.{entry_at, entry_of, root_in};
+ghost use Rattle.ft_trace.specs.Worlds.{kind_in};
+ghost use Rattle.ft_trace.specs.Writes.{MayPuts, with_puts};
+ghost use Rattle.ft_bank.specs.Passes.{shape_of, view, IsPassOf};
+ghost use Rattle.ft_bank.specs.Sections.{stack_of};
+ghost use Rattle.ft_bank.specs.Tables.{name_of};
+ghost use Rattle.ft_bank.specs.Whole.{OnlyPut, Wrote};
+ghost use Rattle.ft_bank.specs.Writes.{IsCareful, with_table};
+ghost use Rattle.ft_search.specs.Writing.{HasTable, IsEntryOf, Leaves, MayWriteEntries, WritesEntries, with_value_at};
+
+use crate::entries::{put_entry, raise_version};
+use crate::finishing::finish_entry;
+use ft_bank::{Bank, Pass, Table};
+use ft_layout::{
+    Stored, entry_word, stored_kind_of, stored_payload_of, used_entries_follow_a_dict,
+    versions_change_nothing, words_follow_a_dict,
+};
+use ft_model::{Call, Key, Reply, Value};
+
+/// Puts a word of an entry, where it isn't there.
+fn put_other(
+    bank: &Bank,
+    pass: &mut Pass,
+    o: u32,
+    table: Table,
+    place: u64,
+    word: u64,
+    found: u64,
+    value: u64,
+)
+    requires pass { IsPassOf bank.now pass.old }
+    requires writes { WritesEntries (shape_of bank.now) o table (view pass.old) }
+    requires place { place < rows (kind_in (shape_of bank.now).kinds o) (class_of (name_of table)) }
+    requires word { word < 8 }
+    requires found { found ≡ entry_of (slots (class_of (name_of table))) (held o (view pass.old)).table place word }
+    requires care { IsCareful (view pass.old) o (name_of table) (entry_at (slots (class_of (name_of table))) place word)
+        value }
+    ensures pass { IsPassOf bank.now pass.new }
+    ensures stack { stack_of pass.new ≡ stack_of pass.old }
+    ensures writes { WritesEntries (shape_of bank.now) o table (view pass.new) }
+    ensures only { OnlyPut o (view pass.old) (view pass.new) }
+    ensures words { held o (view pass.new)
+        ≡ with_table (held o (view pass.old)) (entry_at (slots (class_of (name_of table))) place word) value }
+{
+    if found != value {
+        put_entry(bank, pass, o, table, place, word, value);
+    }
+}
+
+/// Puts a value into the entry at a place, whose words were read, before the commit.
+fn put_value(
+    bank: &Bank,
+    pass: &mut Pass,
+    o: u32,
+    table: Table,
+    place: u64,
+    value: Value,
+    old: (u64, u64),
+)
+    requires pass { IsPassOf bank.now pass.old }
+    requires writes { WritesEntries (shape_of bank.now) o table (view pass.old) }
+    requires place { place < rows (kind_in (shape_of bank.now).kinds o) (class_of (name_of table)) }
+    requires early { has_committed o (view pass.old).log ≡ false }
+    requires old_kind { old.0 ≡ entry_of (slots (class_of (name_of table))) (held o (view pass.old)).table place 4 }
+    requires old_payload { old.1 ≡ entry_of (slots (class_of (name_of table))) (held o (view pass.old)).table place 5 }
+    requires may { MayPuts (kind_in (shape_of bank.now).kinds o) (name_of table) (known o (view pass.old)).content false
+        (held o (view pass.old))
+        (value_puts (slots (class_of (name_of table))) (held o (view pass.old)).table place value) }
+    ensures pass { IsPassOf bank.now pass.new }
+    ensures stack { stack_of pass.new ≡ stack_of pass.old }
+    ensures writes { WritesEntries (shape_of bank.now) o table (view pass.new) }
+    ensures only { OnlyPut o (view pass.old) (view pass.new) }
+    ensures words { held o (view pass.new) ≡ with_puts (held o (view pass.old))
+        (value_puts (slots (class_of (name_of table))) (held o (view pass.old)).table place value) }
+{
+    let stored = Stored::Plain(value);
+    let kind_word = stored_kind_of(stored);
+    let payload = stored_payload_of(stored);
+    raise_version(bank, pass, o, table, place);
+    put_other(
+        bank,
+        pass,
+        o,
+        table,
+        place,
+        entry_word::VALUE_KIND,
+        old.0,
+        kind_word,
+    );
+    put_other(
+        bank,
+        pass,
+        o,
+        table,
+        place,
+        entry_word::VALUE,
+        old.1,
+        payload,
+    );
+}
+
+/// Puts a value at a key that is there, as the write of this call: in the entry at a place, whose words were
+/// read. Answers the number of the write.
+pub fn set_entry(
+    bank: &Bank,
+    pass: &mut Pass,
+    d: u32,
+    table: Table,
+    place: u64,
+    key: Key,
+    value: Value,
+    old: (u64, u64),
+    called: &Call,
+    said: &Reply,
+) -> u64
+    requires pass { IsPassOf bank.now pass.old }
+    requires may { MayWriteEntries (shape_of bank.now) d (view pass.old) }
+    requires dict { kind_in (shape_of bank.now).kinds d ≡ kind.Dict }
+    requires table { HasTable (shape_of bank.now) d table (view pass.old) }
+    requires entry { IsEntryOf (shape_of bank.now) d table place key (view pass.old) }
+    requires old_kind { old.0 ≡ entry_of (slots (class_of (name_of table))) (held d (view pass.old)).table place 4 }
+    requires old_payload { old.1 ≡ entry_of (slots (class_of (name_of table))) (held d (view pass.old)).table place 5 }
+    requires value { FitsStored (Plain value) }
+    requires leaves { Leaves d called.now said.now (record {
+      content = with_value_at (known d (view pass.old)).content key value;
+      table = (known d (view pass.old)).table;
+    })
+        (view pass.old) }
+    ensures pass { IsPassOf bank.now pass.new }
+    ensures stack { stack_of pass.new ≡ stack_of pass.old }
+    ensures wrote { Wrote called.now said.now result (view pass.old) (view pass.new) }
+    ensures root { root_in (held d (view pass.new)) ≡ root_in (held d (view pass.old)) }
+{
+    let _ = key;
+    versions_change_nothing();
+    used_entries_follow_a_dict();
+    words_follow_a_dict();
+    bank.start_write(pass, d);
+    put_value(bank, pass, d, table, place, value, old);
+    finish_entry(bank, pass, d, table, place, called, said)
+}

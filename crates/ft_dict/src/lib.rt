@@ -10,8 +10,6 @@ mod lens;
 mod locked;
 mod looks;
 mod pops;
-#[cfg(test)]
-mod tests;
 mod tries;
 mod values;
 

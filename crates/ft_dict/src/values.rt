@@ -8,7 +8,7 @@ ghost use Rattle.ft_trace.specs.Worlds.{kind_in};
 ghost use Rattle.ft_bank.specs.Keys.{IsKeyIn};
 ghost use Rattle.ft_bank.specs.Passes.{shape_of, view, IsPassOf};
 ghost use Rattle.ft_bank.specs.Sections.{stack_of};
-ghost use Rattle.ft_dict.specs.Present.{IsPresent};
+ghost use Rattle.ft_search.specs.Calls.{IsPresent};
 ghost use Rattle.ft_search.specs.Writing.{MayWriteEntries};
 
 use crate::deletes::{value_at, value_fits};

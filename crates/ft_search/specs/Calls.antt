@@ -1,6 +1,7 @@
 -- What a call answers that is made under the locks of its containers and leaves each of them its table.
-use Rattle.std.specs.Prelude.{◌≡◌, ◌⊎◌, ℕ, true, false, List, None}
+use Rattle.std.specs.Prelude.{◌≡◌, ◌⊎◌, ℕ, true, false, List, Option, Some, None}
 use Rattle.ft_model.specs.declared.call.Call.{Call}
+use Rattle.ft_model.specs.declared.data.Key.{Key}
 use Rattle.ft_model.specs.declared.reply.Reply.{Reply}
 use Rattle.ft_model.specs.Answers.{is_write}
 use Rattle.ft_model.specs.Calls.{moved_cursor}
@@ -10,9 +11,10 @@ use Rattle.ft_trace.specs.declared.Act.{Act}
 use Rattle.ft_trace.specs.declared.View.{View}
 use Rattle.ft_trace.specs.Acts.{stage, debt}
 use Rattle.ft_trace.specs.Causes.{HasCause}
+use Rattle.ft_trace.specs.Holds.{known}
 use Rattle.ft_trace.specs.Worlds.{reply_in}
 use Rattle.ft_bank.specs.Answered.{Answered}
-use Rattle.ft_bank.specs.Whole.{Wrote}
+use Rattle.ft_bank.specs.Whole.{OnlyLoaded, Wrote}
 use Rattle.ft_bank.specs.Writes.{MayHave}
 use Rattle.ft_section.specs.declared.answers.Objects.{Objects}
 use Rattle.ft_section.specs.declared.answers.Stamp.{Stamp}
@@ -20,6 +22,7 @@ use Rattle.ft_section.specs.declared.answers.Step.{Step}
 use Rattle.ft_section.specs.declared.answers.Step.TheVariants as step
 use Rattle.ft_section.specs.Locking.{OnlyLocked, FoundOwner}
 use Rattle.ft_section.specs.Takings.{IsOf}
+use Rattle.ft_search.specs.Held.{IsHeldAt}
 
 -- the plain containers reply so to the call, whatever the bank has that agrees with what the pass knows (Python manual,
 -- Built-in Types)
@@ -65,3 +68,9 @@ IsMadeOf objects called v w (step.Done said stamp) = MadeUnderLocks called said 
 IsMadeOf objects called v w (step.NotYet p q) = OnlyLocked v w × IsOf p objects × FoundOwner p q v w
 IsMadeOf objects called v w (step.Moved a b) = ⊥
 IsMadeOf objects called v w step.NoMemory = ⊥
+
+-- The key was there, and the call that puts something at it was made as a write; or it isn't there, and the pass only loaded
+-- words. (profile)
+abbrev pub IsPresent : ℕ → Key → Call → View → View → Option (Reply × Stamp) → Type 0
+IsPresent o key called v w (Some made) = (made.1.wrote ≡ true) × MadeAs called made.0 made.1 v w
+IsPresent o key called v w None = OnlyLoaded v w × IsHeldAt (known o v).content key None

@@ -1,6 +1,7 @@
 -- What calls on a set leave of it, in the words of the plain containers.
-use Rattle.std.proofs.Common.{◌≡◌, ◌≢◌, ℕ, zero, suc, ◌+◌, ◌-◌, ◌<◌, ◌≤◌, Bool, true, false, List, [], ◌∷◌, length, filter, Option, Some, None, refl, sym, ap, ◌∙◌, subst, inr, arith, get_or-set_same}
-use Rattle.std.specs.Prelude.{◌&&◌, ◌||◌, not, cond, IfSome, slice_index_or, slice_set, if◌then◌else◌}
+use Rattle.std.proofs.Common.{◌≡◌, ◌≢◌, ℕ, zero, suc, ◌+◌, ◌-◌, ◌<◌, ◌≤◌, Bool, true, false, List, [], ◌∷◌, ◌++◌, length, filter, Option, Some, None, refl, sym, ap, ◌∙◌, subst, inr, arith, get_or-set_same}
+use Rattle.std.proofs.lemmas.Bool.{le-ltb}
+use Rattle.std.specs.Prelude.{◌&&◌, ◌||◌, map, not, cond, IfSome, slice_index_or, slice_set, if◌then◌else◌}
 use Rattle.std.specs.List.{list_any}
 use Rattle.std.specs.Option.{unwrap_or}
 use Rattle.ft_model.specs.declared.call.Call.{Call}
@@ -18,10 +19,13 @@ use Rattle.ft_model.specs.declared.reply.Reply.TheVariants as reply
 use Rattle.ft_model.specs.declared.reply.Raise.TheVariants as raise
 use Rattle.ft_model.specs.declared.script.Kind.TheVariants as kind
 use Rattle.ft_model.specs.Answers.{Answer, answer, answer_set, puts, shows, after_write, is_raised}
-use Rattle.ft_model.specs.Calls.{is_changing_set, other_set, cursor_of_set, set_change, adds}
+use Rattle.ft_model.specs.Calls.{is_changing_set, other_set, cursor_of_set, set_change, adds, one_or_two}
+use Rattle.ft_model.specs.Changes.{HasTableFor, IsTableOf}
+use Rattle.ft_model.specs.Classes.{set_class, set_entries, most_elements}
+use Rattle.ft_layout.proofs.Powers.{slots_range}
 use Rattle.ft_model.specs.Contents.{SetContent, empty_set, has_element, set_discard}
 use Rattle.ft_model.specs.Keys.{same_key}
-use Rattle.ft_model.specs.Tables.{StoredWorld, no_table, takes_in, table_at, change_leaves, grown_table, passes_cap, would_pass, after_stored}
+use Rattle.ft_model.specs.Tables.{StoredWorld, TableUse, no_table, takes_in, table_at, change_takes, change_leaves, set_takes, outgrows_set, grown_table, passes_cap, would_pass, after_stored}
 use Rattle.ft_model.specs.Worlds.{set_of, set_at, named_in, no_hands, IsOfKind, IsDeclared}
 use Rattle.ft_layout.specs.Words.{FitsKey}
 use Rattle.ft_trace.specs.declared.Shape.{Shape}
@@ -69,6 +73,9 @@ module _ (s : ℕ) (v : View) (elements : SetContent) (low : s < containers_in v
 
   many : s < length world
   many = subst (λ (n : ℕ). s < n) (sym has.containers) low
+
+  many_tables : s < length stored.tables
+  many_tables = subst (λ (n : ℕ). s < n) (sym (has.order.as_many ∙ has.containers)) low
 
   set_is : set_at world s ≡ elements
   set_is = ap set_of (at_any world s (content.Set empty_set) (content.List []) many ∙ there)
@@ -161,3 +168,87 @@ module _ (s : ℕ) (v : View) (elements : SetContent) (low : s < containers_in v
           (ap (λ (b : Bool). if b then puts stored.world no_hands s (content.Set (set_discard elements key)) reply.Done else shows stored.world no_hands (reply.Raised raise.NoKey)) missing) refl;
       cause = λ stored log n. refl;
     }
+
+-- ---- a call that may grow, and draws no serial
+
+table_short : (n : ℕ) (class : Option ℕ) (fill : ℕ) → HasTableFor n class fill set_entries → n ≤ most_elements
+table_short n None fill h = let z = h.0 in omega (arith, z)
+table_short n (Some c) fill h = let a = h.1 in let b = h.2 in let r = (slots_range c h.0).1 in omega (arith, a, b, r)
+
+module _ (s : ℕ) (v : View) (elements news : SetContent) (sc : SetCall) (said : Reply) (low : s < containers_in v.shape) (mine : has_lock s v.log ≡ true) (is_set : (known s v).content ≡ content.Set elements) (other : other_set sc ≡ None) (grows : set_change sc ≡ change.Grows) (draws : news.next ≡ elements.next) (count : length news.elements ≡ length elements.elements) (stored : StoredWorld) (has : MayHave v stored)
+    (answered : answer_set stored.world no_hands s elements sc ≡ puts stored.world no_hands s (content.Set news) said) where
+  abbrev called : Call
+  called = call.Set s sc
+
+  abbrev after : List Content
+  after = after_write stored.world called
+
+  abbrev T : TableUse
+  T = table_at stored.tables s
+
+  left_now : (e : Content) → slice_index_or after s e ≡ content.Set news
+  left_now = left_at s v elements low mine is_set stored has sc said news answered
+
+  none_drawn : (set_at after s).next - (set_at stored.world s).next ≡ 0
+  none_drawn =
+      let a : (set_at after s).next ≡ news.next = ap (λ (z : Content). (set_of z).next) (left_now (content.Set empty_set)) in
+      let e : (set_at stored.world s).next ≡ elements.next = ap (λ (z : SetContent). z.next) (set_is s v elements low mine is_set stored has) in
+      omega (arith, a, e, draws)
+
+  takes_none : takes_in stored called ≡ None
+  takes_none =
+      ap (λ (z : TableChange). change_takes z (set_takes T (set_at stored.world s) (set_at after s)) None) grows
+      ∙ ap (λ (z : ℕ). if outgrows_set T z then Some (set_class (length (set_at after s).elements)) else None) none_drawn
+
+  pub same_kept : kept_at (after_stored stored called) s ≡ record { content = content.Set news; table = (known s v).table }
+  same_kept =
+      let drawn = (set_at after s).next - (set_at stored.world s).next in
+      let many_elements = length (set_at after s).elements in
+      let fill_is : T.fill + drawn ≡ T.fill = let e = none_drawn in omega (arith, e) in
+      let c = left_now (content.List []) in
+      let t : table_at (after_stored stored called).tables s ≡ (known s v).table =
+      ap (λ (z : TableChange). table_at (change_leaves stored.tables s z (grown_table T (takes_in stored called) drawn many_elements) no_table) s) grows
+      ∙ (get_or-set_same stored.tables s (grown_table T (takes_in stored called) drawn many_elements) no_table (many_tables s v elements low mine is_set stored has)
+      ∙ (ap (λ (z : Option ℕ). grown_table T z drawn many_elements) takes_none
+      ∙ ((λ i. record { class = T.class; fill = fill_is i }) ∙ table_is s v elements low mine is_set stored has))) in
+      λ i. record { content = c i; table = t i }
+
+  few : length news.elements ≤ most_elements
+  few =
+      let each : HasTableFor (length elements.elements) T.class T.fill set_entries = subst (λ (z : Content). IsTableOf z T) (there s v elements low mine is_set stored has) (has.order.each s) in
+      let low_count = table_short (length elements.elements) T.class T.fill each in
+      subst (λ (z : ℕ). z ≤ most_elements) (sym count) low_count
+
+  pub passes_not : would_pass stored.world called ≡ false
+  passes_not =
+      (λ i. adds (grows i) && list_any passes_cap (map (λ place. slice_index_or after place (content.List [])) (one_or_two s (other i))))
+      ∙ (ap (λ (z : Content). passes_cap z || false) (left_now (content.List [])) ∙ ap (λ (z : Bool). z || false) (le-ltb most_elements (length news.elements) few))
+
+pub leaves_same : (s : ℕ) (v : View) (elements news : SetContent) (sc : SetCall) (said : Reply) → s < containers_in v.shape → has_lock s v.log ≡ true → (known s v).content ≡ content.Set elements → is_changing_set sc ≡ true → is_raised said ≡ false → other_set sc ≡ None → cursor_of_set sc ≡ None → set_change sc ≡ change.Grows → FitsSetCall sc
+    → ((stored : StoredWorld) → MayHave v stored → (news.next ≡ elements.next) × (length news.elements ≡ length elements.elements) × (answer_set stored.world no_hands s elements sc ≡ puts stored.world no_hands s (content.Set news) said))
+    → Leaves s (call.Set s sc) said (record { content = content.Set news; table = (known s v).table }) v
+leaves_same s v elements news sc said low mine is_set changing quiet other cursor grows fits all = record {
+  write = (λ i. changing i && not (quiet i));
+  changed = (λ i. unwrap_or (if changing i then Some s else None) 0);
+  words = fits;
+  locks = named_locked s (other_set sc) v.log mine (subst (λ (z : Option ℕ). IfSome z (λ q. has_lock q v.log ≡ true)) (sym other) tt);
+  replied = λ stored has. replies s v elements low mine is_set stored has sc said (puts stored.world no_hands s (content.Set news) said) (all stored has).2 refl;
+  declared = λ stored has. declared s v elements low mine is_set stored has sc said other cursor;
+  fits = λ stored has. let a = all stored has in passes_not s v elements news sc said low mine is_set other grows a.0 a.1 stored has a.2;
+  left_is = λ stored has. let a = all stored has in same_kept s v elements news sc said low mine is_set other grows a.0 a.1 stored has a.2;
+}
+
+-- s.add(k) where the element is there
+module _ (s : ℕ) (v : View) (elements : SetContent) (low : s < containers_in v.shape) (mine : has_lock s v.log ≡ true) (is_set : (known s v).content ≡ content.Set elements) (key : Key) (fits : FitsKey key) where
+  pub add_leaves : (kind payload : ℕ) → IsHeldAt (known s v).content key (Some (kind, payload)) → Leaves s (call.Set s (set.Add key)) reply.Done (known s v) v
+  add_leaves kind payload held =
+      let h = subst (λ (z : Content). IsHeldAt z key (Some (kind, payload))) is_set held in
+      let grown : SetContent = record { next = elements.next + 1; elements = elements.elements ++ record { serial = elements.next; key = key } ∷ [] } in
+      let same : record { content = content.Set elements; table = (known s v).table } ≡ known s v = λ i. record { content = sym is_set i; table = (known s v).table } in
+      subst (λ (z : Kept). Leaves s (call.Set s (set.Add key)) reply.Done z v) same
+      (leaves_same s v elements elements (set.Add key) reply.Done low mine is_set refl refl refl refl refl fits
+      (λ stored has. (
+        refl,
+        refl,
+        ap (λ (b : Bool). puts stored.world no_hands s (content.Set (if b then elements else grown)) reply.Done) (has_there s v elements low mine is_set key fits kind payload h stored has),
+      )))

@@ -5,6 +5,7 @@
 //! entry to the pass at most, and that this entry has the reply of the plain set at its stamp.
 #![tactic(auto)]
 
+mod adds;
 mod deletes;
 mod lens;
 mod locked;
@@ -12,6 +13,7 @@ mod looks;
 mod pops;
 mod tries;
 
+pub use crate::adds::add_present;
 pub use crate::deletes::{discard_locked, remove_locked};
 pub use crate::lens::{look_len, try_len};
 pub use crate::looks::look_has;

@@ -1,0 +1,62 @@
+//! A small bank with a dict and a set, and its passes, for the tests.
+ghost use Rattle.std.specs.Prelude.{◌≡◌, [], ◌∷◌, ◌<◌, true, IfOk, IfSome};
+ghost use Rattle.ft_model.specs.declared.script.Kind.TheVariants.{Dict, Set};
+ghost use Rattle.ft_trace.specs.Acts.{announces};
+ghost use Rattle.ft_bank.specs.Openings.{IsOpening, AreOpening};
+ghost use Rattle.ft_bank.specs.Passes.{view, IsPassOf};
+
+use ft_bank::{Bank, Pass, Shape};
+use ft_model::Kind;
+use std::alloc::{AllocError, Global};
+
+/// Container 0 is a dict and container 1 a set, for three passes with ten calls each.
+///
+/// # Errors
+///
+/// An `AllocError` where memory runs out.
+pub fn small(alloc: Global) -> Result<Shape, AllocError>
+    ensures { IfOk result (λ s. (s.kinds.items ≡ Dict ∷ Set ∷ []) × (s.passes ≡ 3) × (s.calls ≡ 10)) }
+{
+    Ok(Shape {
+        kinds: vec![in alloc; Kind::Dict, Kind::Set]?,
+        texts: Vec::new(alloc),
+        tables: vec![in alloc; 1u32; 14]?,
+        heap: 64,
+        passes: 3,
+        calls: 10,
+    })
+}
+
+/// The three passes of a bank, or `None` where it has fewer.
+pub fn three(bank: &Bank, passes: Vec<Pass>) -> Option<(Pass, Pass, Pass)>
+    requires { AreOpening bank.now 0 passes.items }
+    ensures { IfSome result (λ p. IsOpening bank.now 0 p.0 × IsOpening bank.now 1 p.1 × IsOpening bank.now 2 p.2) }
+{
+    let _ = bank;
+    let mut each = passes.into_iter();
+    let Some(first) = each.next() else {
+        return None;
+    };
+    let Some(second) = each.next() else {
+        return None;
+    };
+    let Some(third) = each.next() else {
+        return None;
+    };
+    Some((first, second, third))
+}
+
+/// Has a pass announce that it is online; `false` where the write number is 0, which it never is.
+pub fn go_online(bank: &Bank, pass: &mut Pass) -> bool
+    requires pass { IsPassOf bank.now pass.old }
+    ensures pass { IsPassOf bank.now pass.new }
+    ensures online { result ≡ true → 0 < announces (view pass.new).log }
+    ensures left { (view pass.new).left ≡ (view pass.old).left }
+{
+    let number = bank.write_number(pass);
+    if number == 0 {
+        return false;
+    }
+    bank.announce(pass, number);
+    true
+}

@@ -383,13 +383,17 @@ fn scripts_are_made(rt: HostRuntime) -> Result<(), Fail> {
     Ok(())
 }
 
+/// What CPython's own dict, list and set come to, where the four threads of this made script make a call
+/// each in turn.
+const TWENTY_THOUSAND: &str =
+    "calls 20000\nwrites 11036\nKeyError 3026\nIndexError 435\nMemoryError 0\nd 500\nl 2513\ns 468\n";
+
 #[test]
 fn twenty_thousand_calls_are_run(rt: HostRuntime) -> Result<(), Fail> {
     let alloc = rt.alloc();
     let summary = call_still(alloc, "make 20000 turns", Vec::new(alloc))?;
     assert_eq!(rt; summary.status, 0);
-    assert!(rt; summary.put.starts_with(b"calls 20000\nwrites "));
-    assert_eq!(rt; count_of(&summary.put, b'\n'), 8);
+    assert_eq!(rt; summary.put.as_slice(), TWENTY_THOUSAND.as_bytes());
     let again = call_still(alloc, "make 20000 turns", Vec::new(alloc))?;
     assert_eq!(rt; again.put.as_slice(), summary.put.as_slice());
     Ok(())

@@ -155,7 +155,7 @@ fn time_takings<R: Clock>(
 }
 
 /// The times of all kinds of steps; nothing where memory ran out.
-pub fn measure<R: Clock>(rt: &R, alloc: Global, rounds: u32) -> io::Result<Option<Times>> {
+pub(crate) fn measure<R: Clock>(rt: &R, alloc: Global, rounds: u32) -> io::Result<Option<Times>> {
     let Some(Ready { bank, mut pass }) = make_ready(alloc, rounds)? else {
         return Ok(None);
     };

@@ -88,8 +88,8 @@ pub record IsFilled (class : ℕ) (values : List Value) (past : ℕ) (words : Li
 abbrev pub AddsItems : Shape → ℕ → Call → ℕ → View → View → Added → Type 0
 AddsItems k o called n v w what =
     (u : View) × OnlyLoaded v u
-    × IsAdded k (list_takes (known o v).table (length (items_of o v) + n)) (nat_lt most_items (length (items_of o v) + n))
-    called reply.Done u w what
+    × IsAdded k (list_takes (known o v).table (length (items_of o v) + n))
+    (nat_lt most_items (length (items_of o v) + n)) called reply.Done u w what
 
 -- A clear of the list o was made under the lock, after loads, as one whole write that left it no table; the table that it had
 -- is retired. (Python manual, Mutable Sequence Types)

@@ -15,7 +15,7 @@ use ft_section::new_passes_are_ready;
 use std::test::Fail;
 
 /// What an append of an integer replies.
-fn append(bank: &Bank, pass: &mut Pass, l: u32, value: i64) -> Result<Reply, Fail>
+pub(crate) fn append(bank: &Bank, pass: &mut Pass, l: u32, value: i64) -> Result<Reply, Fail>
     requires may { MayTry bank.now pass.old (One l) }
     requires container { l < containers_in (shape_of bank.now) }
     requires list { kind_in (shape_of bank.now).kinds l ≡ kind.List }
@@ -39,7 +39,7 @@ fn get(bank: &Bank, pass: &mut Pass, l: u32, index: i64) -> Result<Reply, Fail>
 }
 
 /// Appends the integers below that number, in order.
-fn fill_list(bank: &Bank, pass: &mut Pass, l: u32, count: u32) -> Result<(), Fail>
+pub(crate) fn fill_list(bank: &Bank, pass: &mut Pass, l: u32, count: u32) -> Result<(), Fail>
     requires may { MayTry bank.now pass.old (One l) }
     requires container { l < containers_in (shape_of bank.now) }
     requires list { kind_in (shape_of bank.now).kinds l ≡ kind.List }

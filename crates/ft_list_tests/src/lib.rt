@@ -7,4 +7,6 @@ mod banks;
 #[cfg(test)]
 mod growing;
 #[cfg(test)]
+mod looking;
+#[cfg(test)]
 mod without_items;

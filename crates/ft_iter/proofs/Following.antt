@@ -78,7 +78,7 @@ module _ (mask : ℕ) (words : List ℕ) (fill : ℕ) (way : Way) (texts : List 
       (λ (less : i < j). let r = table.rising i j any less (omega (arith, small, filled)) in omega (arith, r))
       (λ more. let same : i ≡ j = omega (arith, more, low) in subst (λ (z : ℕ). (slice_index_or used i any).serial ≤ (slice_index_or used z any).serial) same (omega arith))
 
-  -- from the first place behind the last serial
+  -- from the first place after the last serial
   module _ (last from : ℕ) (low : from ≤ fill) (first : IsFirstAfter mask words fill last from) where
     before : (q : ℕ) (any : UsedEntry) → q < from → is_after (Some last) (slice_index_or used q any).serial ≡ false
     before q any below =
@@ -89,14 +89,14 @@ module _ (mask : ℕ) (words : List ℕ) (fill : ℕ) (way : Way) (texts : List 
         let r = rising q p any (omega (arith, below)) (omega (arith, below, low)) in
         le-ltb last (slice_index_or used q any).serial (omega (arith, most, e, r))
 
-    behind : (q : ℕ) (any : UsedEntry) → from ≤ q → q < fill → is_after (Some last) (slice_index_or used q any).serial ≡ true
-    behind q any more small =
+    later : (q : ℕ) (any : UsedEntry) → from ≤ q → q < fill → is_after (Some last) (slice_index_or used q any).serial ≡ true
+    later q any more small =
         let least = first.1 (omega (arith, more, small)) in
         let e = (entry from any (omega (arith, more, small))).1 in
         let r = rising from q any more small in
         lt-ltb last (slice_index_or used q any).serial (omega (arith, least, e, r))
 
-  -- what is found, by the places behind which nothing is to be passed over
+  -- what is found, by the places after which nothing is to be passed over
   pub follows : (last : Option ℕ) (from : ℕ) (place : Option ℕ) → ((q : ℕ) (any : UsedEntry) → q < from → is_after last (slice_index_or used q any).serial ≡ false)
       → ((q : ℕ) (any : UsedEntry) → from ≤ q → q < fill → is_after last (slice_index_or used q any).serial ≡ true) → IsFirstThere mask words from fill place → FindsNext used last place
   follows last from (Some place) early late first = (
@@ -110,7 +110,7 @@ module _ (mask : ℕ) (words : List ℕ) (fill : ℕ) (way : Way) (texts : List 
 
 pub seeks-after : (mask : ℕ) (words : List ℕ) (fill last from : ℕ) (place : Option ℕ) → from ≤ fill → IsFirstAfter mask words fill last from → IsFirstThere mask words from fill place → Seeks mask words fill (Some last) place
 seeks-after mask words fill last from place low first there way texts used table filled =
-    follows mask words fill way texts used table filled (Some last) from place (before mask words fill way texts used table filled last from low first) (behind mask words fill way texts used table filled last from low first) there
+    follows mask words fill way texts used table filled (Some last) from place (before mask words fill way texts used table filled last from low first) (later mask words fill way texts used table filled last from low first) there
 
 pub seeks-first : (mask : ℕ) (words : List ℕ) (fill : ℕ) (place : Option ℕ) → IsFirstThere mask words 0 fill place → Seeks mask words fill None place
 seeks-first mask words fill place there way texts used table filled =

@@ -1,5 +1,5 @@
 //! The entry of a table that follows a serial. The used entries of a table stand in the order of their serials,
-//! the deleted ones too: so the first one behind a serial is found by halving, and from it on the first
+//! the deleted ones too: so the first one after a serial is found by halving, and from it on the first
 //! one is taken that is there.
 ghost use Rattle.std.specs.Prelude.{◌≡◌, ℕ, ◌+◌, ◌<◌, ◌≤◌, true, false, IfSome};
 ghost use Rattle.ft_layout.specs.Tables.{dict_room};
@@ -19,7 +19,7 @@ fn says_there(kind: u64) -> bool
 }
 
 /// The half between two bounds that is left: the one up to the middle where its serial is greater, and else
-/// the one behind it.
+/// the one after it.
 fn half(low: u64, middle: u64, high: u64, is_greater: bool) -> (u64, u64)
     requires { (low ≤ middle) × (middle < high) }
     ensures lower { is_greater ≡ true → (result.0 ≡ low) × (result.1 ≡ middle) }

@@ -29,7 +29,7 @@ use Rattle.ft_bank.specs.Writes.{MayHave, Committed, MayCommit, MayPutRoot, IsCa
 
 -- the bank's calls are few enough for its words
 abbrev pub AreFew : View → Type 0
-AreFew v = v.shape.passes * v.shape.calls < 2 ^ 62
+AreFew v = v.shape.passes * v.shape.calls < 2 ^ 46
 
 -- what is stored is a world that the pass may expect
 pub has_now : (v : View) → Sure v (λ es. MayHave v (stored_newest v.shape.kinds (history es)))

@@ -84,7 +84,7 @@ announce_ready v j p x own some_one may es id knows small =
 pub announced_ready : (v : View) (j p : ℕ) → p < v.shape.passes → Ready v j (λ n. ReadAnnounced (p + 1) n)
 announced_ready v j p low es id knows small = let m = (fits v.shape es knows.0).passes in (refl, (omega (arith, low), omega arith, omega (arith, low, m)))
 
-pub retire_ready : (v : View) (j t : ℕ) → v.shape.passes * v.shape.calls < 2 ^ 62 → IsTable v.shape t → stage t v.log ≡ 3 → 0 < debt v.log → Ready v j (λ n. Retire t n)
+pub retire_ready : (v : View) (j t : ℕ) → v.shape.passes * v.shape.calls < 2 ^ 46 → IsTable v.shape t → stage t v.log ≡ 3 → 0 < debt v.log → Ready v j (λ n. Retire t n)
 retire_ready v j t few table out owes es id knows small =
     let f = fits v.shape es knows.0 in
     let r = goals_room v.shape es f.some_pass knows.0 in

@@ -1,7 +1,9 @@
 -- What a pass's log shows is the reply of the plain containers, in every trace in which the pass knows this.
-use Rattle.std.proofs.Common.{◌≡◌, ◌≢◌, ◌⊎◌, ⊎_elim, inl, inr, ℕ, pos, ◌<◌, Bool, true, false, true≢false, List, [], ◌∷◌, ◌++◌, Option, Some, None, refl, sym, ap, ◌∙◌, subst}
+use Rattle.std.proofs.Common.{◌≡◌, ◌≢◌, ◌⊎◌, ⊎_elim, inl, inr, ℕ, pos, ◌+◌, ◌^◌, ◌<◌, Bool, true, false, true≢false, List, [], ◌∷◌, ◌++◌, Option, Some, None, refl, sym, ap, ◌∙◌, subst, arith}
 use Rattle.std.specs.Prelude.{◌&&◌, is_some}
 use Rattle.std.specs.Option.{unwrap_or}
+use Rattle.std.proofs.Math.Bridge.{le_prop}
+use Rattle.std.proofs.Math.Logic.{∥∥₁_elim}
 use mathlib.Core.Option.{some}
 use lib.ListN.{get_elem?}
 use Rattle.ft_model.specs.declared.call.Call.{Call}
@@ -19,7 +21,7 @@ use Rattle.ft_model.specs.Answers.{after_write, is_memory, is_write}
 use Rattle.ft_model.specs.Calls.{is_changing, can_add, moved_cursor}
 use Rattle.ft_model.specs.Histories.{IsReplied}
 use Rattle.std.specs.List.{list_any}
-use Rattle.ft_model.specs.Worlds.{named_in}
+use Rattle.ft_model.specs.Worlds.{named_in, serial_of}
 use Rattle.ft_model.specs.Tables.{passes_cap, StoredWorld, stored_newest, would_pass}
 use Rattle.ft_layout.specs.declared.slot.Stored.TheVariants.{Empty, Plain}
 use Rattle.ft_layout.specs.Words.{IsStored}
@@ -30,19 +32,23 @@ use Rattle.ft_trace.specs.declared.Shape.{Shape}
 use Rattle.ft_trace.specs.declared.View.{View}
 use Rattle.ft_trace.specs.Acts.{has_lock, past}
 use Rattle.ft_trace.specs.Causes.{AreOfOneCall, HasCause}
-use Rattle.ft_trace.specs.Worlds.{kind_in, kept, first_writes, reply_in}
+use Rattle.ft_trace.specs.Worlds.{Kept, kind_in, kept, first_writes, reply_in}
 use Rattle.ft_trace.specs.Addresses.{containers_in}
-use Rattle.ft_trace.specs.Traces.{Event, Valid, Knows, run, history, Sure}
+use Rattle.ft_trace.specs.Holds.{known}
+use Rattle.ft_trace.specs.Traces.{Event, Valid, Knows, run, history, Possible, Sure}
 use Rattle.ft_trace.specs.LookReplies.{key_reply, item_reply, stored_at, DictReplies}
 use Rattle.ft_trace.proofs.LookReplies.{dict_hits_are_replied, set_hits_are_replied, misses_are_replied, items_are_replied, past_items_are_replied}
 use Rattle.ft_trace.proofs.Cursors.{adds_no_cursor}
+use Rattle.ft_trace.proofs.Held.{content_known}
 use Rattle.ft_trace.proofs.Moments.{was}
 use Rattle.ft_trace.proofs.Optimistic.{looked_at, looked_at_both}
+use Rattle.ft_trace.proofs.Rooms.{counter_room}
+use Rattle.ft_trace.proofs.Rule as rule
 use Rattle.ft_trace.proofs.Replying.{never_writes, memory_replied}
 use Rattle.ft_trace.proofs.Sizes.{sized}
 use Rattle.ft_trace.proofs.Spots.{stamp_then}
 use Rattle.ft_bank.specs.Reads.{IsShown}
-use Rattle.ft_bank.specs.Shown.{MayAsk, KeyIsShown, DictHitsAreShown, ValuesAreRead, SetHitsAreShown, MissesAreShown, ItemsAreShown, ItemsAreRead, PastItemsAreShown, LooksAreShown, LooksAtBothAreShown, KeepLocks, LoadedUnderLocks, RepliesUnderLocksAreShown, CursorsUnderLocksAreShown, MemoryErrorsAreShown, OversAreShown}
+use Rattle.ft_bank.specs.Shown.{MayAsk, KeyIsShown, DictHitsAreShown, ValuesAreRead, SetHitsAreShown, MissesAreShown, ItemsAreShown, ItemsAreRead, PastItemsAreShown, LooksAreShown, LooksAtBothAreShown, KeepLocks, LoadedUnderLocks, RepliesUnderLocksAreShown, CursorsUnderLocksAreShown, MemoryErrorsAreShown, OversAreShown, SerialsHaveRoom}
 use Rattle.ft_bank.specs.Writes.{MayHave}
 use Rattle.ft_bank.proofs.Readying.{has_now}
 
@@ -264,3 +270,17 @@ overs_are_shown v call n l right =
     (λ stored has.
     let r = right stored has in
     (memory_replied (reply.Raised raise.Over) refl call r.0.adds (reply_in stored call), r))
+
+-- ---- serials
+
+pub serials_have_room : SerialsHaveRoom
+serials_have_room v o possible few mine =
+    ∥∥₁_elim {P = serial_of (known o v).content + 2 ^ 16 < 2 ^ 63} possible le_prop
+    (λ (x : Possible v).
+    let k = v.shape in
+    let es = x.0 in
+    let same = ap (λ (z : Kept). serial_of z.content) (content_known v o mine es x.1 x.2) in
+    let next = rule.next_serials_are_low k es x.2.0 o in
+    let count = counter_room k es x.2.0 in
+    let room : serial_of (known o v).content + 2 ^ 16 < 2 ^ 63 = omega (arith, same, next, count, few) in
+    room)

@@ -1,6 +1,6 @@
 -- What a pass's log has to show for the entry of a call that isn't a write: laws whose conclusion is the condition of
 -- `Bank::answer`.
-use Rattle.std.specs.Prelude.{◌≡◌, ◌≢◌, ◌⊎◌, ℕ, pos, ◌<◌, ◌≤◌, true, false, List, [], ◌∷◌, ◌++◌, Option, Some, None, is_some}
+use Rattle.std.specs.Prelude.{◌≡◌, ◌≢◌, ◌⊎◌, ℕ, pos, ◌+◌, ◌*◌, ◌^◌, ◌<◌, ◌≤◌, true, false, List, [], ◌∷◌, ◌++◌, Option, Some, None, is_some}
 use Rattle.std.specs.Option.{unwrap_or}
 use Rattle.ft_model.specs.declared.call.Call.{Call}
 use Rattle.ft_model.specs.declared.call.Call.TheVariants as call
@@ -18,14 +18,17 @@ use Rattle.ft_model.specs.Answers.{is_memory, is_write}
 use Rattle.ft_model.specs.Calls.{can_add, moved_cursor}
 use Rattle.ft_model.specs.Histories.{IsReplied}
 use Rattle.ft_model.specs.Tables.{StoredWorld, CanLackMemory, takes_in, would_pass}
+use Rattle.ft_model.specs.Worlds.{serial_of}
 use Rattle.ft_layout.specs.declared.slot.Stored.TheVariants.{Empty, Plain}
 use Rattle.ft_layout.specs.Words.{FitsKey, IsStored}
 use Rattle.ft_trace.specs.declared.Act.{Act}
 use Rattle.ft_trace.specs.declared.Act.TheVariants.{ReadCounter, Lock, Unlock, TakeTable}
 use Rattle.ft_trace.specs.declared.View.{View}
+use Rattle.ft_trace.specs.Acts.{has_lock}
 use Rattle.ft_trace.specs.Addresses.{containers_in, class_of, slots}
 use Rattle.ft_trace.specs.Causes.{AreOfOneCall, Loaded, FoundEmpty, HasCause}
 use Rattle.ft_trace.specs.Hands.{cursor_in, MovesCursor}
+use Rattle.ft_trace.specs.Holds.{known}
 use Rattle.ft_trace.specs.Finding.{Hit, Bare, ItemHit, ItemPast}
 use Rattle.ft_trace.specs.Kinds.{rows}
 use Rattle.ft_trace.specs.LookReplies.{IsValueRead, IsItemRead, IsAbsent, key_reply, item_reply}
@@ -180,3 +183,11 @@ OversAreShown =
     → ((stored : StoredWorld) → MayHave v stored
     → CanLackMemory stored.world call × (would_pass stored.world call ≡ true))
     → IsShown v call (reply.Raised raise.Over) n
+
+-- ---- serials
+
+-- The next serial of a container whose lock the pass has is low: as many more as the largest table has slots can be drawn.
+abbrev pub SerialsHaveRoom : Type 0
+SerialsHaveRoom =
+    (v : View) (o : ℕ) → ∥ Possible v ∥₁ → v.shape.passes * v.shape.calls < 2 ^ 46 → has_lock o v.log ≡ true
+    → serial_of (known o v).content + 2 ^ 16 < 2 ^ 63

@@ -32,7 +32,7 @@ pub struct Bank {
     ghost bare: { table.shared.table_id.slots ≡ 0 },
     ghost fits: { IsShape shape },
     ghost low: { extent (plan shape) < 2 ^ 33 },
-    ghost few: { shape.passes * shape.calls < 2 ^ 62 },
+    ghost few: { shape.passes * shape.calls < 2 ^ 46 },
     ghost starting: { starts.items ≡ starts_from (plan shape) 3 14 },
     ghost sizing: { sizes.items ≡ sizes_from 3 14 },
 }

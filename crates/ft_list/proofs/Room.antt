@@ -15,7 +15,7 @@ use Rattle.ft_trace.proofs.Held.{table_known}
 use Rattle.ft_trace.proofs.Lows.{lows}
 use Rattle.ft_trace.proofs.Rooms.{counter_room}
 
-pub version_room : (v : View) (o t p : ℕ) → ∥ Possible v ∥₁ → o < containers_in v.shape → has_lock o v.log ≡ true → root_in (held o v) ≡ suc t → p < rows (kind_in v.shape.kinds o) (class_of t) → v.shape.passes * v.shape.calls < 2 ^ 62 → slice_index (held o v).table (version_at (kind_in v.shape.kinds o) (class_of t) p) < 2 ^ 63
+pub version_room : (v : View) (o t p : ℕ) → ∥ Possible v ∥₁ → o < containers_in v.shape → has_lock o v.log ≡ true → root_in (held o v) ≡ suc t → p < rows (kind_in v.shape.kinds o) (class_of t) → v.shape.passes * v.shape.calls < 2 ^ 46 → slice_index (held o v).table (version_at (kind_in v.shape.kinds o) (class_of t) p) < 2 ^ 63
 version_room v o t p possible low mine names row few =
     ∥∥₁_elim {P = slice_index (held o v).table (version_at (kind_in v.shape.kinds o) (class_of t) p) < 2 ^ 63} possible le_prop
     (λ (x : Possible v).

@@ -70,7 +70,7 @@ writes_loaded k o table a v w load is writes =
     writes_on k o table v w (loaded_put v w o l) (ap root_in (loaded_held v w o l)) writes
 
 -- a version has room for one more write
-version_room : (v : View) (o t p : ℕ) → ∥ Possible v ∥₁ → o < containers_in v.shape → has_lock o v.log ≡ true → root_in (held o v) ≡ suc t → p < rows (kind_in v.shape.kinds o) (class_of t) → v.shape.passes * v.shape.calls < 2 ^ 62 → slice_index (held o v).table (version_at (kind_in v.shape.kinds o) (class_of t) p) < 2 ^ 63
+version_room : (v : View) (o t p : ℕ) → ∥ Possible v ∥₁ → o < containers_in v.shape → has_lock o v.log ≡ true → root_in (held o v) ≡ suc t → p < rows (kind_in v.shape.kinds o) (class_of t) → v.shape.passes * v.shape.calls < 2 ^ 46 → slice_index (held o v).table (version_at (kind_in v.shape.kinds o) (class_of t) p) < 2 ^ 63
 version_room v o t p possible low mine names row few =
     ∥∥₁_elim {P = slice_index (held o v).table (version_at (kind_in v.shape.kinds o) (class_of t) p) < 2 ^ 63} possible le_prop
     (λ (x : Possible v).
@@ -87,12 +87,12 @@ keyed_version kind.Dict keyed c p = refl
 keyed_version kind.Set keyed c p = refl
 keyed_version kind.List keyed c p = absurd keyed
 
-pub entry_room : (k : Shape) (o : ℕ) (table : Table) (v : View) → WritesEntries k o table v → v.shape ≡ k → ∥ Possible v ∥₁ → k.passes * k.calls < 2 ^ 62 → (place : ℕ) → place < rows (kind_in k.kinds o) (class_of (name_of table)) → entry_of (slots (class_of (name_of table))) (held o v).table place 0 < 2 ^ 63
+pub entry_room : (k : Shape) (o : ℕ) (table : Table) (v : View) → WritesEntries k o table v → v.shape ≡ k → ∥ Possible v ∥₁ → k.passes * k.calls < 2 ^ 46 → (place : ℕ) → place < rows (kind_in k.kinds o) (class_of (name_of table)) → entry_of (slots (class_of (name_of table))) (held o v).table place 0 < 2 ^ 63
 entry_room k o table v writes shape possible few place low =
     let t = name_of table in
     let here : o < containers_in v.shape = subst (λ (z : Shape). o < containers_in z) (sym shape) writes.container in
     let row : place < rows (kind_in v.shape.kinds o) (class_of t) = subst (λ (z : Shape). place < rows (kind_in z.kinds o) (class_of t)) (sym shape) low in
-    let calls : v.shape.passes * v.shape.calls < 2 ^ 62 = subst (λ (z : Shape). z.passes * z.calls < 2 ^ 62) (sym shape) few in
+    let calls : v.shape.passes * v.shape.calls < 2 ^ 46 = subst (λ (z : Shape). z.passes * z.calls < 2 ^ 46) (sym shape) few in
     let keyed : IsKeyed (kind_in v.shape.kinds o) = subst (λ (z : Shape). IsKeyed (kind_in z.kinds o)) (sym shape) writes.keyed in
     subst (λ (z : ℕ). slice_index (held o v).table z < 2 ^ 63) (keyed_version (kind_in v.shape.kinds o) keyed (class_of t) place) (version_room v o t place possible here writes.locked writes.root row calls)
 

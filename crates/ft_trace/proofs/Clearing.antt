@@ -70,7 +70,7 @@ held_shut v o q low p mine quiet names =
     subst (Shut (version_at (kind_in v.shape.kinds o) (class_of q)) (rows (kind_in v.shape.kinds o) (class_of q))) (sym w.0) (holder_shut v.shape p.0 p.2.0 o low p.1 v p.2.1 mine quiet q w.1)
 
 -- start, root 0, length 0, commit, stop, unlock
-module _ (v : View) (o : ℕ) (values : List Value) (live : IsAwake v) (possible : Possible v) (small : v.shape.passes * v.shape.calls < 2 ^ 62) (low : o < containers_in v.shape) (mine : has_lock o v.log ≡ true) (quiet : is_writing o v.log ≡ false) (spare : used v.log ≡ false) (none : owes v.log ≡ 0) (room : 0 < v.left) (is_list : (known o v).content ≡ content.List values) where
+module _ (v : View) (o : ℕ) (values : List Value) (live : IsAwake v) (possible : Possible v) (small : v.shape.passes * v.shape.calls < 2 ^ 46) (low : o < containers_in v.shape) (mine : has_lock o v.log ≡ true) (quiet : is_writing o v.log ≡ false) (spare : used v.log ≡ false) (none : owes v.log ≡ 0) (room : 0 < v.left) (is_list : (known o v).content ≡ content.List values) where
   abbrev k : Shape
   k = v.shape
 

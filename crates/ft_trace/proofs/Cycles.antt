@@ -11,7 +11,7 @@ use Rattle.ft_trace.proofs.Announcing.{heard}
 use Rattle.ft_trace.proofs.Budgets.{goals_room}
 use Rattle.ft_trace.proofs.Nexts.{next_possible}
 
-module _ (v : View) (t : ℕ) (first : v.number ≡ 1) (possible : Possible v) (one : v.shape.passes ≡ 1) (token : 0 < v.tokens) (small : v.shape.passes * v.shape.calls < 2 ^ 62) (table : IsTable v.shape t) (three : stage t v.log ≡ 3) (owed : 0 < debt v.log) (idle : flight v.log ≡ 0) where
+module _ (v : View) (t : ℕ) (first : v.number ≡ 1) (possible : Possible v) (one : v.shape.passes ≡ 1) (token : 0 < v.tokens) (small : v.shape.passes * v.shape.calls < 2 ^ 46) (table : IsTable v.shape t) (three : stage t v.log ≡ 3) (owed : 0 < debt v.log) (idle : flight v.log ≡ 0) where
   abbrev k : Shape
   k = v.shape
 

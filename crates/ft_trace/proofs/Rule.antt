@@ -10,7 +10,7 @@ use Rattle.ft_trace.proofs.Moments.{valid_rest}
 use Rattle.ft_trace.specs.Entries.{is_number}
 use Rattle.ft_trace.specs.Words.{picture}
 use Rattle.ft_trace.specs.Traces.{run, history}
-use Rattle.ft_trace.specs.Laws.{StoredTablesAreInOrder, WordsLieApart, PairsAreUnderTheirKeys, ElementsAreUnderTheirKeys, OnePassIsAlone, StampsRise, MemoryErrorsAreEarned, LocksNameHolders, VersionsAreOddInWrites, EvenTablesAreShut, NumbersAreOnce, EntriesAreRight, OneHasAllEntries, EvenWordsStand, ZeroRootsHaveNothing, HoldersKnow, TablesAreSomewhere, TablesAreInOnePlace, CountsStand, TablesAreOwed, EmptyClassesAreEarned, AnnouncedNumbersAreLow, FoundTablesAreKept, GivenUpTablesRest, TablesAreSound, TableWordsStay, HitsAreRight, MissesAreRight, BareRootsAreRight, ItemsAreRight, ListsFitTheirTables, LooksAreRight, LooksAtBothAreRight, ChangedRootsAreNew, NumbersHaveRoom}
+use Rattle.ft_trace.specs.Laws.{StoredTablesAreInOrder, WordsLieApart, PairsAreUnderTheirKeys, ElementsAreUnderTheirKeys, OnePassIsAlone, StampsRise, MemoryErrorsAreEarned, LocksNameHolders, VersionsAreOddInWrites, EvenTablesAreShut, NumbersAreOnce, EntriesAreRight, OneHasAllEntries, EvenWordsStand, ZeroRootsHaveNothing, HoldersKnow, TablesAreSomewhere, TablesAreInOnePlace, CountsStand, TablesAreOwed, EmptyClassesAreEarned, AnnouncedNumbersAreLow, FoundTablesAreKept, GivenUpTablesRest, TablesAreSound, TableWordsStay, HitsAreRight, MissesAreRight, BareRootsAreRight, ItemsAreRight, ListsFitTheirTables, LooksAreRight, LooksAtBothAreRight, ChangedRootsAreNew, NumbersHaveRoom, NextSerialsAreLow}
 use Rattle.ft_trace.proofs.Locks.{names, holder, one_holder}
 use Rattle.ft_trace.proofs.Versions.{versioned, writer_has, writing_is_odd}
 use Rattle.ft_trace.proofs.Contents.{counted, tab, stands}
@@ -46,6 +46,7 @@ use Rattle.ft_trace.proofs.ItemHits as items
 use Rattle.ft_trace.proofs.Optimistic.{looked_at_both, bare_at, looked_at}
 use Rattle.ft_trace.proofs.Anew.{is_new}
 use Rattle.ft_trace.proofs.Rooms.{counter_room, version_room}
+use Rattle.ft_trace.proofs.Serials.{next_low}
 use Rattle.ft_trace.proofs.Budgets.{goals_room, some_part}
 use Rattle.std.proofs.Common.{eqb, ◌+◌, ◌%◌}
 use Rattle.ft_trace.specs.Acts.{debt}
@@ -171,6 +172,9 @@ changed_roots_are_new = is_new
 
 pub numbers_have_room : NumbersHaveRoom
 numbers_have_room k es valid = (counter_room k es valid, goals_room k es (fits k es valid).some_pass valid, λ o low. version_room k es valid o low)
+
+pub next_serials_are_low : NextSerialsAreLow
+next_serials_are_low k es valid o = let low = next_low k es valid o in let count = counted k es valid in omega (arith, low, count)
 
 pub lists_may_be_cleared : ListsMayBeCleared
 lists_may_be_cleared v o values m is = clear_possible v o values m.live m.possible m.few m.low m.mine m.quiet m.spare m.none m.room is

@@ -19,7 +19,7 @@ use Rattle.ft_trace.specs.Traces.{Possible, IsAwake}
 pub record MayWrite (v : View) (o : ℕ) : Type 0 where
   pub live : IsAwake v
   pub possible : Possible v
-  pub few : v.shape.passes * v.shape.calls < 2 ^ 62
+  pub few : v.shape.passes * v.shape.calls < 2 ^ 46
   pub low : o < containers_in v.shape
   pub mine : has_lock o v.log ≡ true
   pub quiet : is_writing o v.log ≡ false

@@ -1,5 +1,5 @@
 -- The parts of the bank's rule: what holds of each valid trace, and so between any two steps of any passes.
-use Rattle.std.specs.Prelude.{◌≡◌, ◌≢◌, ◌⊎◌, ℕ, suc, ◌+◌, ◌-◌, ◌*◌, ◌%◌, ◌<◌, ◌≤◌, true, cond, nat_lt, List, [], ◌∷◌, ◌++◌, length, slice_index, false, Option}
+use Rattle.std.specs.Prelude.{◌≡◌, ◌≢◌, ◌⊎◌, ℕ, suc, ◌+◌, ◌-◌, ◌*◌, ◌^◌, ◌%◌, ◌<◌, ◌≤◌, true, cond, nat_lt, List, [], ◌∷◌, ◌++◌, length, slice_index, false, Option}
 use mathlib.Core.Option.{some}
 use lib.ListN.{get_elem?}
 use Rattle.ft_model.specs.declared.call.Call.{Call}
@@ -12,7 +12,7 @@ use Rattle.ft_model.specs.declared.content.Element.{Element}
 use Rattle.ft_model.specs.declared.content.Content.TheVariants as content
 use Rattle.ft_model.specs.Contents.{DictContent, SetContent}
 use Rattle.ft_model.specs.Classes.{IsClass}
-use Rattle.ft_model.specs.Worlds.{list_of}
+use Rattle.ft_model.specs.Worlds.{list_of, serial_of}
 use Rattle.ft_model.specs.Tables.{stored_newest, takes_newest, passes_cap}
 use Rattle.ft_model.specs.Changes.{AreTablesInOrder}
 use Rattle.ft_layout.specs.Starts.{HasWord}
@@ -326,6 +326,12 @@ NumbersHaveRoom =
     → (word k es counter ≤ k.passes * k.calls)
     × (word k es write_number ≤ 1 + k.passes * k.calls + k.passes)
     × ((o : ℕ) → o < containers_in k → word k es (version_of o) ≤ 2 * (k.passes * k.calls) + 1)
+
+-- the next serial of a container is at most the slots of the largest table for each write
+abbrev pub NextSerialsAreLow : Type 0
+NextSerialsAreLow =
+    (k : Shape) (es : List Event) → Valid k es → (o : ℕ)
+    → serial_of (kept k.kinds (history es) o).content ≤ 2 ^ 16 * word k es counter
 
 -- ---- what contents say
 

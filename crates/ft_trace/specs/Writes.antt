@@ -132,7 +132,7 @@ after_write_of v o t write start number s stop =
 pub record MayBegin (v : View) (o : ℕ) : Type 0 where
   pub live : IsAwake v
   pub possible : Possible v
-  pub few : v.shape.passes * v.shape.calls < 2 ^ 62
+  pub few : v.shape.passes * v.shape.calls < 2 ^ 46
   pub low : o < containers_in v.shape
   pub mine : has_lock o v.log ≡ true
   pub quiet : is_writing o v.log ≡ false

@@ -10,7 +10,7 @@ use Rattle.ft_bank.proofs.bank.Bank.commit.Goals as goal
 pub commit_as-requires-clause-ready : goal.commit_as-requires-clause-ready
 commit_as-requires-clause-ready c =
     let v = view c.args.pass.now in
-    let few : v.shape.passes * v.shape.calls < 2 ^ 62 = subst (λ (z : Shape). z.passes * z.calls < 2 ^ 62) (sym c.requires.pass.1) c.args.self.now.few in
+    let few : v.shape.passes * v.shape.calls < 2 ^ 46 = subst (λ (z : Shape). z.passes * z.calls < 2 ^ 46) (sym c.requires.pass.1) c.args.self.now.few in
     commit_ready v c.args.call.now c.args.reply.now few c.requires.may
 
 pub returns-clause-committed : goal.returns-clause-committed

@@ -15,7 +15,7 @@ pub overflow_add-pass : goal.overflow_add-pass
 overflow_add-pass c =
     let v = view c.args.pass.now in
     let d = c.settle_as.ensures.view in
-    let few : v.shape.passes * v.shape.calls < 2 ^ 62 = subst (λ (z : Shape). z.passes * z.calls < 2 ^ 62) (sym c.requires.passes.0.1) c.args.self.now.few in
+    let few : v.shape.passes * v.shape.calls < 2 ^ 46 = subst (λ (z : Shape). z.passes * z.calls < 2 ^ 46) (sym c.requires.passes.0.1) c.args.self.now.few in
     omega (arith, left_low (both v (view c.args.other)) (ReadCounter d.0) d.2, few, c.args.pass.now.leaves, c.args.other.leaves)
 
 pub invariant_of-pass : goal.invariant_of-pass

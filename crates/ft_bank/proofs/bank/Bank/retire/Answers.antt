@@ -17,6 +17,6 @@ pub add_as-requires-clause-ready : goal.add_as-requires-clause-ready
 add_as-requires-clause-ready c =
     let v = view c.args.pass.now in
     let t = name_of c.args.table in
-    let few : v.shape.passes * v.shape.calls < 2 ^ 62 = subst (λ (z : Shape). z.passes * z.calls < 2 ^ 62) (sym c.requires.pass.1) c.args.self.now.few in
+    let few : v.shape.passes * v.shape.calls < 2 ^ 46 = subst (λ (z : Shape). z.passes * z.calls < 2 ^ 46) (sym c.requires.pass.1) c.args.self.now.few in
     let table : IsTable v.shape t = subst (λ (z : Shape). IsTable z t) (sym c.requires.pass.1) (named (shape_of c.args.self.now) c.args.table c.requires.table) in
     subst (λ (z : ℕ). Ready v 1 (λ n. Retire z n)) (sym c.name-name.ensures) (retire_ready v 1 t few table c.requires.out c.requires.debt)

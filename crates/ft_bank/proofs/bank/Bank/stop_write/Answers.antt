@@ -10,7 +10,7 @@ use Rattle.ft_bank.proofs.bank.Bank.stop_write.Goals as goal
 pub add_as-requires-clause-ready : goal.add_as-requires-clause-ready
 add_as-requires-clause-ready c =
     let v = view c.args.pass.now in
-    let few : v.shape.passes * v.shape.calls < 2 ^ 62 = subst (λ (z : Shape). z.passes * z.calls < 2 ^ 62) (sym c.requires.pass.1) c.args.self.now.few in
+    let few : v.shape.passes * v.shape.calls < 2 ^ 46 = subst (λ (z : Shape). z.passes * z.calls < 2 ^ 46) (sym c.requires.pass.1) c.args.self.now.few in
     let low : c.args.o < containers_in v.shape = subst (λ (z : Shape). c.args.o < containers_in z) (sym c.requires.pass.1) c.requires.container in
     let stands : Stands v.shape.texts (held c.args.o v) (known c.args.o v) = subst (λ (z : Shape). Stands z.texts (held c.args.o v) (known c.args.o v)) (sym c.requires.pass.1) c.requires.stands in
     stop_ready v _ c.args.o few low c.requires.odd c.requires.committed stands c.requires.shut

@@ -28,7 +28,7 @@ use Rattle.ft_trace.specs.OwnOrder.{number_after as own_after, is_write_of, afte
 use Rattle.ft_trace.specs.Sections.{is_among}
 use Rattle.ft_trace.proofs.Cases.{hit}
 use Rattle.ft_trace.proofs.Totals.{total-append}
-use Rattle.ft_trace.specs.OwnCursors.{entry_of}
+use Rattle.ft_trace.specs.OwnCursors.{entry_of, AsksWithin}
 use Rattle.ft_closing.specs.Numbering.{IsFor, AreReplied, IsKeptOf, AreKeptFrom, EntriesAreNumbered}
 use Rattle.ft_closing.proofs.Parts.{at_split, all_parts, all_at, turned, all_back, any_back}
 
@@ -122,7 +122,7 @@ module _ (k : Shape) (script : ScriptParts) (calls : List Call) (for_it : IsFor 
 
   -- ---- one pass
 
-  module _ (thread : ℕ) (mine : List NamedEntry) (own : List Entry) (kept : IsKeptOf script thread mine own) (replied : (room : ℕ) → AreReplied k.kinds calls room own) (stand : All (StandsInOrder k calls) own) (ordered : AreInOwnOrder (IsWriteIn calls) own) where
+  module _ (thread : ℕ) (mine : List NamedEntry) (own : List Entry) (kept : IsKeptOf thread mine own) (asks : All (AsksWithin (cursors_of script thread)) mine) (replied : (room : ℕ) → AreReplied k.kinds calls room own) (stand : All (StandsInOrder k calls) own) (ordered : AreInOwnOrder (IsWriteIn calls) own) where
     own_is : own ≡ reverse (map entry_of mine)
     own_is = sym (reverse-reverse own) ∙ ap reverse (sym kept.same)
 
@@ -147,7 +147,7 @@ module _ (k : Shape) (script : ScriptParts) (calls : List Call) (for_it : IsFor 
         let f = own_at (IsWriteIn calls) newer (entry_of entry) older (subst (AreInOwnOrder (IsWriteIn calls)) cut ordered) in
         let named : entry.thread ≡ thread = all_at (λ e. e.thread ≡ thread) mine place entry at kept.own in
         right_after (take place mine) entry s f
-        (subst (λ (z : ℕ). IsReplied entry.call entry.reply (answer (world_by k.kinds (take entry.stamp calls)) (hands_by k.kinds calls (cursors_of script z) (take place mine)) entry.call).reply) (sym named) (replied (cursors_of script thread) mine kept.same kept.asks place entry at))
+        (subst (λ (z : ℕ). IsReplied entry.call entry.reply (answer (world_by k.kinds (take entry.stamp calls)) (hands_by k.kinds calls (cursors_of script z) (take place mine)) entry.call).reply) (sym named) (replied (cursors_of script thread) mine kept.same asks place entry at))
         (kept.counted place entry at)
 
     pub numbered_thread : IsNumberedThread storage.Tables script calls thread mine
@@ -161,19 +161,19 @@ module _ (k : Shape) (script : ScriptParts) (calls : List Call) (for_it : IsFor 
 
   -- ---- all passes
 
-  numbered_from : (first : ℕ) (kept : List (List NamedEntry)) (lists : List (List Entry)) → AreKeptFrom script first kept lists → All (λ own. (room : ℕ) → AreReplied k.kinds calls room own) lists → All (StandsInOrder k calls) (flat_map (λ own. own) lists) → All (AreInOwnOrder (IsWriteIn calls)) lists → (i : ℕ) (mine : List NamedEntry) → slice_get kept i ≡ Some mine → IsNumberedThread storage.Tables script calls (first + i) mine
-  numbered_from first [] lists are replied stand ordered i mine at = absurd (cc)
-  numbered_from first (m ∷ kept) [] are replied stand ordered i mine at = absurd are
-  numbered_from first (m ∷ kept) (own ∷ lists) are replied stand ordered zero mine at =
+  numbered_from : (first : ℕ) (kept : List (List NamedEntry)) (lists : List (List Entry)) → AreKeptFrom first kept lists → ((i : ℕ) (mine : List NamedEntry) → slice_get kept i ≡ Some mine → All (AsksWithin (cursors_of script (first + i))) mine) → All (λ own. (room : ℕ) → AreReplied k.kinds calls room own) lists → All (StandsInOrder k calls) (flat_map (λ own. own) lists) → All (AreInOwnOrder (IsWriteIn calls)) lists → (i : ℕ) (mine : List NamedEntry) → slice_get kept i ≡ Some mine → IsNumberedThread storage.Tables script calls (first + i) mine
+  numbered_from first [] lists are asks replied stand ordered i mine at = absurd (cc)
+  numbered_from first (m ∷ kept) [] are asks replied stand ordered i mine at = absurd are
+  numbered_from first (m ∷ kept) (own ∷ lists) are asks replied stand ordered zero mine at =
       let same : m ≡ mine = cc in
       let here : first ≡ first + 0 = omega arith in
       let s = (all_parts (StandsInOrder k calls) own (flat_map (λ l. l) lists) stand).0 in
       let o = All-head (AreInOwnOrder (IsWriteIn calls)) own lists ordered in
-      subst (λ (z : ℕ × List NamedEntry). IsNumberedThread storage.Tables script calls z.0 z.1) (λ d. (here d, same d)) (numbered_thread first m own are.0 (All-head (λ l. (room : ℕ) → AreReplied k.kinds calls room l) own lists replied) s o)
-  numbered_from first (m ∷ kept) (own ∷ lists) are replied stand ordered (suc i) mine at =
+      subst (λ (z : ℕ × List NamedEntry). IsNumberedThread storage.Tables script calls z.0 z.1) (λ d. (here d, same d)) (numbered_thread first m own are.0 (subst (λ (z : ℕ). All (AsksWithin (cursors_of script z)) m) (sym here) (asks zero m refl)) (All-head (λ l. (room : ℕ) → AreReplied k.kinds calls room l) own lists replied) s o)
+  numbered_from first (m ∷ kept) (own ∷ lists) are asks replied stand ordered (suc i) mine at =
       let next : suc first + i ≡ first + suc i = omega arith in
       subst (λ (z : ℕ). IsNumberedThread storage.Tables script calls z mine) next
-      (numbered_from (suc first) kept lists are.1 (All-tail (λ l. (room : ℕ) → AreReplied k.kinds calls room l) own lists replied) (all_parts (StandsInOrder k calls) own (flat_map (λ l. l) lists) stand).1 (All-tail (AreInOwnOrder (IsWriteIn calls)) own lists ordered) i mine at)
+      (numbered_from (suc first) kept lists are.1 (λ j other here. subst (λ (z : ℕ). All (AsksWithin (cursors_of script z)) other) (let e : first + suc j ≡ suc first + j = omega arith in e) (asks (suc j) other here)) (All-tail (λ l. (room : ℕ) → AreReplied k.kinds calls room l) own lists replied) (all_parts (StandsInOrder k calls) own (flat_map (λ l. l) lists) stand).1 (All-tail (AreInOwnOrder (IsWriteIn calls)) own lists ordered) i mine at)
 
 -- ---- how many are the write of a number
 
@@ -189,23 +189,23 @@ count_own n (m ∷ mine) =
     let d : number_of n (entry_of m) ≡ count_of n m = refl in
     omega (arith, a, b, c, d)
 
-count_all : (script : ScriptParts) (n first : ℕ) (kept : List (List NamedEntry)) (lists : List (List Entry)) → AreKeptFrom script first kept lists → total (number_of n) (flat_map (λ own. own) lists) ≡ sum_by (count_of n) (flat_map (λ mine. mine) kept)
-count_all script n first [] [] are = refl
-count_all script n first [] (own ∷ lists) are = absurd are
-count_all script n first (m ∷ kept) [] are = absurd are
-count_all script n first (m ∷ kept) (own ∷ lists) are =
+count_all : (n first : ℕ) (kept : List (List NamedEntry)) (lists : List (List Entry)) → AreKeptFrom first kept lists → total (number_of n) (flat_map (λ own. own) lists) ≡ sum_by (count_of n) (flat_map (λ mine. mine) kept)
+count_all n first [] [] are = refl
+count_all n first [] (own ∷ lists) are = absurd are
+count_all n first (m ∷ kept) [] are = absurd are
+count_all n first (m ∷ kept) (own ∷ lists) are =
     let own_is : own ≡ reverse (map entry_of m) = sym (reverse-reverse own) ∙ ap reverse (sym are.0.same) in
     let a = total-append (number_of n) own (flat_map (λ l. l) lists) in
     let b = ap (total (number_of n)) own_is ∙ count_own n m in
-    let c = count_all script n (suc first) kept lists are.1 in
+    let c = count_all n (suc first) kept lists are.1 in
     let d = sum_by-append (count_of n) m (flat_map (λ mine. mine) kept) in
     omega (arith, a, b, c, d)
 
 pub entries_are_numbered : EntriesAreNumbered
-entries_are_numbered k script calls lists kept for_it in_order ordered replied are count = record {
+entries_are_numbered k script calls lists kept for_it in_order ordered replied are asks count = record {
   count = count;
   threads = λ thread mine at.
       let same : 0 + thread ≡ thread = omega arith in
-      subst (λ (z : ℕ). IsNumberedThread storage.Tables script calls z mine) same (numbered_from k script calls for_it 0 kept lists are replied in_order.each ordered thread mine at);
-  once = λ number low. sym (count_all script number 0 kept lists are) ∙ in_order.once number low;
+      subst (λ (z : ℕ). IsNumberedThread storage.Tables script calls z mine) same (numbered_from k script calls for_it 0 kept lists are (λ j other here. subst (λ (z : ℕ). All (AsksWithin (cursors_of script z)) other) (let e : j ≡ 0 + j = omega arith in e) (asks j other here)) replied in_order.each ordered thread mine at);
+  once = λ number low. sym (count_all number 0 kept lists are) ∙ in_order.once number low;
 }

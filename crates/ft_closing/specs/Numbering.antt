@@ -1,5 +1,5 @@
 -- What callers keep of the entries of their passes, and what they have then of the entries of all.
-use Rattle.std.specs.Prelude.{◌≡◌, ℕ, suc, All, List, [], ◌∷◌, length, map, reverse, take}
+use Rattle.std.specs.Prelude.{◌≡◌, ℕ, suc, All, List, [], ◌∷◌, length, map, reverse, take, Some, slice_get}
 use Rattle.std.specs.List.{flat_map, range_with_len}
 use Rattle.ft_model.specs.declared.call.Call.{Call}
 use Rattle.ft_model.specs.declared.entry.Entry.{Entry as NamedEntry}
@@ -32,22 +32,26 @@ AreReplied kinds calls room own =
     (answer (world_by kinds (take e.stamp calls)) (hands_by kinds calls room (take place mine)) e.call).reply)
 
 -- A caller kept the entries of its pass, the oldest first, with its thread and an index, which counts from 1. An `end`
--- says how many of its entries in the section waited. Each cursor is one of the thread's in the script. (profile)
-pub record IsKeptOf (script : ScriptParts) (thread : ℕ) (mine : List NamedEntry) (entries : List Entry) : Type 0 where
+-- says how many of its entries in the section waited. (profile)
+pub record IsKeptOf (thread : ℕ) (mine : List NamedEntry) (entries : List Entry) : Type 0 where
   pub same : map entry_of mine ≡ reverse entries
   pub own : All (λ entry. entry.thread ≡ thread) mine
   pub indexes : map (λ entry. entry.index) mine ≡ range_with_len 1 (length mine)
   pub counted : EachAt mine (λ place entry. IfEndsBegin (begins_of (take place mine)) entry.call
       (λ begun. IsCountedAs (marks_since entry.thread (take place mine) begun) entry.reply))
-  pub asks : All (AsksWithin (cursors_of script thread)) mine
 
 -- each caller did, from this thread on, beside the entries of the passes in the same order (profile)
-abbrev pub AreKeptFrom : ScriptParts → ℕ → List (List NamedEntry) → List (List Entry) → Type 0
-AreKeptFrom script thread [] [] = Unit {0}
-AreKeptFrom script thread [] (own ∷ lists) = ⊥
-AreKeptFrom script thread (mine ∷ kept) [] = ⊥
-AreKeptFrom script thread (mine ∷ kept) (own ∷ lists) =
-    IsKeptOf script thread mine own × AreKeptFrom script (suc thread) kept lists
+abbrev pub AreKeptFrom : ℕ → List (List NamedEntry) → List (List Entry) → Type 0
+AreKeptFrom thread [] [] = Unit {0}
+AreKeptFrom thread [] (own ∷ lists) = ⊥
+AreKeptFrom thread (mine ∷ kept) [] = ⊥
+AreKeptFrom thread (mine ∷ kept) (own ∷ lists) = IsKeptOf thread mine own × AreKeptFrom (suc thread) kept lists
+
+-- each cursor that a thread's entries ask is one of the thread's in the script
+abbrev pub AskOwnCursors : ScriptParts → List (List NamedEntry) → Type 0
+AskOwnCursors script kept =
+    (thread : ℕ) (mine : List NamedEntry) → slice_get kept thread ≡ Some mine
+    → All (AsksWithin (cursors_of script thread)) mine
 
 -- entries of passes beside the writes in their order, and in the order of each pass, with replies by the hands that
 -- each pass had, are numbered entries of the script
@@ -56,5 +60,5 @@ EntriesAreNumbered =
     (k : Shape) (script : ScriptParts) (calls : List Call) (lists : List (List Entry)) (kept : List (List NamedEntry))
     → IsFor script k → AreInOrder k calls (flat_map (λ own. own) lists) → All (AreInOwnOrder (IsWriteIn calls)) lists
     → All (λ own. (room : ℕ) → AreReplied k.kinds calls room own) lists
-    → AreKeptFrom script 0 kept lists → length kept ≡ length script.threads
+    → AreKeptFrom 0 kept lists → AskOwnCursors script kept → length kept ≡ length script.threads
     → AreNumberedLists storage.Tables script calls kept

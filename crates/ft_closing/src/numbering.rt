@@ -10,7 +10,7 @@ ghost use Rattle.ft_model.specs.declared.script.ScriptParts.{ScriptParts};
 ghost use Rattle.ft_model.specs.Histories.{history_cmp};
 ghost use Rattle.ft_model.specs.Numbers.{AreDone, AreNumberedLists, IsHistoryOf};
 ghost use Rattle.ft_bank.specs.Closings.{shape_in, lists_in};
-ghost use Rattle.ft_closing.specs.Numbering.{EntriesAreNumbered, IsFor, AreKeptFrom};
+ghost use Rattle.ft_closing.specs.Numbering.{AskOwnCursors, EntriesAreNumbered, IsFor, AreKeptFrom};
 
 use ft_bank::Closed;
 
@@ -24,7 +24,7 @@ pub fn entries_are_numbered()
 /// passes were taken in in the order of the threads.
 pub fn closed_entries_are_numbered(closed: &Closed)
     ensures { (script : ScriptParts) (kept : List (List Entry)) → IsFor script (shape_in closed.now) →
-        AreKeptFrom script 0 kept (lists_in closed.now) → length kept ≡ length script.threads →
+        AreKeptFrom 0 kept (lists_in closed.now) → AskOwnCursors script kept → length kept ≡ length script.threads →
         ∥ ((calls : List Call) × AreNumberedLists storage.Tables script calls kept) ∥₁ }
 {
     let _ = closed;
@@ -34,7 +34,8 @@ pub fn closed_entries_are_numbered(closed: &Closed)
 /// made all its calls and its marks are right.
 pub fn closed_entries_are_legal(closed: &Closed)
     ensures { (script : ScriptParts) (kept : List (List Entry)) (history : List Entry) →
-        IsFor script (shape_in closed.now) → AreKeptFrom script 0 kept (lists_in closed.now) →
+        IsFor script (shape_in closed.now) → AreKeptFrom 0 kept (lists_in closed.now) →
+        AskOwnCursors script kept →
         length kept ≡ length script.threads →
         ((calls : List Call) → AreNumberedLists storage.Tables script calls kept → AreDone script calls kept) →
         IsPermutation (flat_map (λ mine. mine) kept) history → IsSorted history_cmp history →

@@ -11,3 +11,4 @@ pub mod Droppings
 pub mod Ends
 pub mod Entering
 pub mod Fresh
+pub mod Tries

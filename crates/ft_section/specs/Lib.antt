@@ -3,3 +3,4 @@ pub mod Ready
 pub mod Locking
 pub mod Answers
 pub mod Sectioning
+pub mod Trying

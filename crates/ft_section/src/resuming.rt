@@ -5,7 +5,7 @@ ghost use Rattle.ft_bank.specs.Passes.{view};
 ghost use Rattle.ft_bank.specs.Sections.{stack_of, taken_in, nothing_taken};
 ghost use Rattle.ft_section.specs.Answers.{IfBack, IfStillWaits};
 ghost use Rattle.ft_section.specs.Locking.{OnlyLocked, FoundOwner, TakenUp, with_own, waiting};
-ghost use Rattle.ft_section.specs.Ready.{IsReady, MayResume};
+ghost use Rattle.ft_section.specs.Ready.{HasTop, IsReady, MayResume};
 
 use crate::answers::Resumed;
 use crate::calls::wait;
@@ -40,6 +40,7 @@ pub fn resume(bank: &Bank, pass: &mut Pass) -> Resumed
     ensures needed { IfStillWaits result (λ o q. (outer : List OpenSection) × (top : OpenSection) ×
         ((stack_of pass.old).sections ≡ outer ++ top ∷ []) × ((o ≡ top.locks.lower) ⊎ (o ≡ top.locks.upper))) }
     ensures found { IfStillWaits result (λ o q. FoundOwner o q (view pass.old) (view pass.new)) }
+    ensures lacked { IfStillWaits result (λ o q. HasTop pass.old → ⊥) }
     ensures may { IfStillWaits result (λ o q. MayResume bank.now pass.new) }
     ensures waiting { IfStillWaits result (λ o q. stack_of pass.new ≡ waiting (with_own (stack_of pass.old) (stack_of pass.new).own) q) }
 {

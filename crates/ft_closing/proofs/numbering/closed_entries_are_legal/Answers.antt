@@ -6,6 +6,6 @@ use Rattle.ft_history.proofs.ThreadLists.{numbered_of_lists}
 use Rattle.ft_closing.proofs.numbering.closed_entries_are_legal.Goals as goal
 
 pub returns : goal.returns
-returns c script kept history for_it are count done same sorted =
-    ∥∥₁_map (c.closed_entries_are_numbered.ensures script kept for_it are count)
+returns c script kept history for_it are asks count done same sorted =
+    ∥∥₁_map (c.closed_entries_are_numbered.ensures script kept for_it are asks count)
     (λ x. (x.0, history_by_numbers storage.Tables script x.0 (flat_map (λ mine. mine) kept) history (numbered_of_lists storage.Tables script x.0 kept x.1 (done x.0 x.1)) same sorted))

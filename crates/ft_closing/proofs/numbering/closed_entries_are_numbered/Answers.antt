@@ -13,7 +13,7 @@ use Rattle.ft_closing.proofs.Replies.{all_replied}
 use Rattle.ft_closing.proofs.numbering.closed_entries_are_numbered.Goals as goal
 
 pub returns : goal.returns
-returns c script kept for_it are count =
+returns c script kept for_it are asks count =
     let b = c.args.closed.now in
     let v = b.pass.seat.me.0 in
     let all : v.parts ≡ v.shape.passes = b.all ∙ sym (ap (λ (z : Shape). z.passes) b.of) in
@@ -22,4 +22,4 @@ returns c script kept for_it are count =
     let earned = entries_are_earned v.shape x.0 x.2.0 x.1 v x.2.1 in
     let in_order = numbered_entries_are_in_order v.shape (history x.0) (all_entries v) numbered earned in
     let own = (own_entries_are_in_order v.shape x.0 x.2.0 x.1 v x.2.1).1 in
-    (reverse (history x.0), entries_are_numbered v.shape script (reverse (history x.0)) (all_lists v) kept (subst (IsFor script) (sym b.of) for_it) in_order own (all_replied v.shape x.0 x.2.0 x.1 v x.2.1) are count))
+    (reverse (history x.0), entries_are_numbered v.shape script (reverse (history x.0)) (all_lists v) kept (subst (IsFor script) (sym b.of) for_it) in_order own (all_replied v.shape x.0 x.2.0 x.1 v x.2.1) are asks count))

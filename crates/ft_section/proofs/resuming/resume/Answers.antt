@@ -107,6 +107,13 @@ pub returns-in-Err-clause-found : goal.returns-in-Err-clause-found
 returns-in-Err-clause-found c =
     found_then (view c.args.pass.now) (view c.take_both.new.pass) (view c.wait.new.pass) c.in-Err.o c.in-Err.owner c.in-Err.ensures.found.1 c.wait.ensures.locked
 
+pub returns-in-Err-clause-lacked : goal.returns-in-Err-clause-lacked
+returns-in-Err-clause-lacked c has =
+    let v = view c.args.pass.now in
+    let top = c.in-Some.top in
+    let both = has c.pop.new.self top (sym (c.copied-sections.ensures ∙ c.sections.ensures) ∙ c.pop.ensures.some top c.in-Some.is) in
+    ⊎_elim (λ (x : has_lock top.locks.lower v.log ≡ false). true≢false (sym both.0 ∙ x)) (λ (x : has_lock top.locks.upper v.log ≡ false). true≢false (sym both.1 ∙ x)) c.in-Err.ensures.lacked
+
 pub returns-in-Err-clause-may : goal.returns-in-Err-clause-may
 returns-in-Err-clause-may c =
     let q = c.take_both.new.pass in

@@ -3,7 +3,7 @@ use Rattle.std.specs.Prelude.{◌≡◌, ℕ, suc, ◌<◌, true, List, ◌∷�
 use Rattle.ft_layout.specs.Containers.{class_mask}
 use Rattle.ft_trace.specs.declared.Act.{Act}
 use Rattle.ft_trace.specs.declared.Act.TheVariants.{ReadTable, PutTable}
-use Rattle.ft_trace.specs.Addresses.{containers_in, class_of, slots}
+use Rattle.ft_trace.specs.Addresses.{containers_in, class_of, size, slots}
 use Rattle.ft_trace.specs.Acts.{has_lock, is_writing}
 use Rattle.ft_trace.specs.Words.{entry_at, root_in}
 use Rattle.ft_trace.specs.Holds.{held, known}
@@ -29,6 +29,14 @@ pub record CanLoad (s : TableWords) : Type 0 where
   pub container : s.o < containers_in (shape_of s.bank.now)
   pub table : IsTableIn (shape_of s.bank.now) s.table
   pub mask : s.mask ≡ class_mask s.table.class
+
+-- the word of a load is one of the table t; there is no old table
+abbrev pub IsInside : ℕ → Access → Type 0
+IsInside t (Index slot value) = slot < size (class_of t)
+IsInside t (Entry place word value) = entry_at (slots (class_of t)) place word < size (class_of t)
+IsInside t (PutIndex slot value) = Unit {0}
+IsInside t (PutEntry place word value) = Unit {0}
+IsInside t (OldEntry place word value) = ⊥
 
 -- the same bank, pass, container and table
 pub record SamePlace (s t : TableWords) : Type 0 where
@@ -58,10 +66,15 @@ MayMake s (PutEntry place word value) =
     IsCareful (view s.pass.now) s.o (name_of s.table) (entry_at (slots (class_of (name_of s.table))) place word) value
 MayMake s access = Unit {0}
 
--- The call was one step of the bank. Where the pass knows the words, they answered it, and have what it put.
+-- The call was one step of the bank. Where the pass knows the words, they answered it, and have what it put; so did those of
+-- each container whose lock the pass has and whose root names the table.
 pub record Made (s : TableWords) (access : Access) (t : TableWords) : Type 0 where
   pub same : SamePlace s t
+  pub inside : IsInside (name_of s.table) access
   pub did : Did (act_of s.o (name_of s.table) access) s.pass.now t.pass.now
+  pub others : (c : ℕ) → c < containers_in (shape_of s.bank.now) → has_lock c (view s.pass.now).log ≡ true
+      → root_in (held c (view s.pass.now)) ≡ suc (name_of s.table)
+      → Tells s.mask access (0 ∷ 0 ∷ (held c (view s.pass.now)).table)
   pub tells : KnowsWords s → Tells s.mask access (known_words s)
   pub left : KnowsWords s → KnowsWords t × (known_words t ≡ put_by s.mask access (known_words s))
       × ((held s.o (view t.pass.now)).block ≡ (held s.o (view s.pass.now)).block)

@@ -1,6 +1,7 @@
-use Rattle.std.proofs.Common.{ℕ, ◌+◌, ◌*◌, refl, sym, ◌∙◌, subst}
+use Rattle.std.proofs.Common.{ℕ, ◌+◌, ◌*◌, ◌<◌, refl, sym, ◌∙◌, subst}
 use Rattle.ft_bank.specs.Passes.{shape_of, view, Did}
 use Rattle.ft_bank.specs.Tables.{name_of}
+use Rattle.ft_trace.specs.Addresses.{class_of, size}
 use Rattle.ft_trace.specs.Holds.{held}
 use Rattle.ft_trace.specs.declared.Act.TheVariants.{ReadTable}
 use Rattle.ft_search.proofs.Places.{entry_in, entry_is}
@@ -21,7 +22,13 @@ returns-clause-gave c =
     let e = entry_is (shape_of s.bank.now) s.table s.mask c.args.place c.args.word c.requires.can.table c.requires.can.mask in
     record {
       same = record { bank = refl; pass = refl; o = refl; table = refl; mask = refl };
+      inside = subst (λ (i : ℕ). i < size (class_of t)) e
+          (entry_in (shape_of s.bank.now) s.table s.mask c.args.place c.args.word c.requires.can.table c.requires.can.mask
+          c.requires.place.0 c.requires.place.1);
       did = subst (λ (i : ℕ). Did (ReadTable t i f) s.pass.now c.read_table.new.pass) e c.read_table.ensures.did;
+      others = λ o low mine names.
+          c.read_table.ensures.held o low mine names
+          ∙ sym (entry_after_header (held o (view s.pass.now)).table s.mask c.args.place c.args.word);
       tells = λ k.
           c.read_table.ensures.held s.o c.requires.can.container k.0 k.1
           ∙ sym (entry_after_header (held s.o (view s.pass.now)).table s.mask c.args.place c.args.word);

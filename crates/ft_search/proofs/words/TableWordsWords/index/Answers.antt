@@ -16,7 +16,10 @@ returns-clause-gave c =
     let s = c.args.self.now in
     record {
       same = record { bank = refl; pass = refl; o = refl; table = refl; mask = refl };
+      inside = slot_in (shape_of s.bank.now) s.table s.mask c.args.slot c.requires.can.table c.requires.can.mask c.requires.slot;
       did = c.read_table.ensures.did;
+      others = λ o low mine names.
+          c.read_table.ensures.held o low mine names ∙ sym (after_header (held o (view s.pass.now)).table c.args.slot);
       tells = λ k.
           c.read_table.ensures.held s.o c.requires.can.container k.0 k.1
           ∙ sym (after_header (held s.o (view s.pass.now)).table c.args.slot);

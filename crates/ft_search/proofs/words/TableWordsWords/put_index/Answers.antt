@@ -21,7 +21,9 @@ returns-clause-gave c =
     let t = name_of s.table in
     record {
       same = record { bank = refl; pass = refl; o = refl; table = refl; mask = refl };
+      inside = tt;
       did = c.put_table.ensures.did;
+      others = λ o low mine names. tt;
       tells = λ k. tt;
       left = λ k.
           put_leaves (view s.pass.now) (view c.put_table.new.pass) s.o t c.args.slot c.args.value

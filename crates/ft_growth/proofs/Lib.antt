@@ -1,3 +1,4 @@
 pub mod Answering
+pub mod Cursors
 pub mod Rooting
 pub mod Staying

@@ -99,7 +99,7 @@ module _ (k : Shape) (class : ℕ) (r : Took) (v w : View) (s : IsStill v) (trie
 -- ---- retirements
 
 -- what the retirement of the table that a root named leaves
-retired_same : (root : ℕ) (v w : View) → Retires root v w → SamePass v w
+pub retired_same : (root : ℕ) (v w : View) → Retires root v w → SamePass v w
 retired_same zero v w is = subst (SamePass v) (sym is) (same_pass v)
 retired_same (suc t) v w is =
     subst (SamePass v) (sym is.1)

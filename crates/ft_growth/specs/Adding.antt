@@ -9,6 +9,7 @@ use Rattle.ft_trace.specs.declared.Act.TheVariants.{PutHeader, Retire}
 use Rattle.ft_trace.specs.declared.Shape.{Shape}
 use Rattle.ft_trace.specs.declared.View.{View}
 use Rattle.ft_trace.specs.Acts.{flight, has_goal, noted}
+use Rattle.ft_trace.specs.Hands.{cursor_in}
 use Rattle.ft_trace.specs.Holds.{held}
 use Rattle.ft_trace.specs.Words.{root_in}
 use Rattle.ft_trace.specs.Worlds.{changes}
@@ -56,6 +57,10 @@ pub record OnlyFilled (v w : View) : Type 0 where
 abbrev pub Retires : ℕ → View → View → Type 0
 Retires zero v w = w ≡ v
 Retires (suc t) v w = (n : ℕ) × (w ≡ noted (PutHeader t (n + 1)) (noted (Retire t n) v))
+
+-- The pass has the cursors that it had, so that its walks go on after the call. (Python manual, Iterator Types)
+abbrev pub KeepsCursors : View → View → Type 0
+KeepsCursors v w = (number : ℕ) → cursor_in number w.log ≡ cursor_in number v.log
 
 -- ---- the call
 

@@ -1,13 +1,16 @@
 -- The bits of retired tables after a step of their pass.
 use Rattle.std.proofs.Common.{◌≡◌, ◌≢◌, ◌⊎◌, ℕ, ◌+◌, ◌-◌, ◌*◌, ◌/◌, ◌%◌, ◌^◌, ◌<◌, ◌≤◌, Bool, true, false, true≢false, List, [], length, refl, sym, ap, ◌∙◌, subst, inl, inr, ⊎_elim, arith, length-set, get_or-set_same, get_or-set_other}
-use Rattle.std.specs.Prelude.{slice_index, slice_set, replicate}
+use Rattle.std.specs.Prelude.{bit_or, cond, max, slice_index, slice_set, replicate}
+use Rattle.std.proofs.lemmas.Nat.Bits.{bit_at_or}
+use Rattle.std.proofs.Math.Logic.{∥∥₁_elim}
+use Rattle.std.proofs.Math.Nat.{le-max_left, le-max_right, max-le, ℕ_set}
 use mathlib.Core.Logic.{dite}
 use native.Mathlib.Decide.{ℕ_discrete}
 use Rattle.ft_model.specs.Classes.{IsClass}
-use Rattle.ft_trace.specs.declared.Act.TheVariants.{GiveTable, PutHeader}
-use Rattle.ft_trace.specs.Addresses.{free_word_of, free_bit_of, tables_in}
+use Rattle.ft_trace.specs.declared.Act.TheVariants.{GiveTable, PutHeader, ReadCounter}
+use Rattle.ft_trace.specs.Addresses.{IsTable, free_word_of, free_bit_of, tables_in}
 use Rattle.ft_trace.proofs.Addresses.{fw_low, bt_low, same_bit}
-use Rattle.ft_trace.proofs.Bits.{off_same, off_else, on_same, on_else}
+use Rattle.ft_trace.proofs.Bits.{bit_small, off_same, off_else, on_same, on_else}
 use Rattle.ft_trace.proofs.Cases.{miss, here as here_as}
 use Rattle.ft_bank.proofs.Freeing.{word_is, bit_is}
 use Rattle.ft_bank.proofs.Tables.{named}
@@ -16,11 +19,14 @@ use native.Mathlib.Nat.{zero-div}
 use Rattle.ft_trace.specs.declared.Act.{Act}
 use Rattle.ft_trace.specs.declared.Shape.{Shape}
 use Rattle.ft_trace.specs.declared.View.{View}
-use Rattle.ft_trace.specs.Acts.{has_goal, has_goal_next, noted}
+use Rattle.ft_trace.specs.Acts.{stage, goal, has_goal, has_goal_next, is_handed, hands_over, noted, both}
+use Rattle.ft_trace.specs.Traces.{Possible}
+use Rattle.ft_trace.proofs.HandedOver.{either_way, where_true, where_false, handed_is, goal_of, is_there}
+use Rattle.ft_trace.proofs.Headers.{goals_stand}
 use Rattle.ft_trace.specs.Bits.{bit, bit_on, bit_off}
 use Rattle.ft_bank.specs.declared.table.Table.{Table}
 use Rattle.ft_bank.specs.Tables.{name_of, IsTableIn}
-use Rattle.ft_bank.specs.Retired.{AreRetired, table_of_bit}
+use Rattle.ft_bank.specs.Retired.{AreRetired, TakesOver, table_of_bit}
 
 -- the same tables are retired
 pub retired_same : (words : List ℕ) (v w : View) → w.shape ≡ v.shape → ((t : ℕ) → has_goal t w.log ≡ has_goal t v.log) → AreRetired words v → AreRetired words w
@@ -167,3 +173,74 @@ module _ (words : List ℕ) (v w : View) (t : Table) (table : IsTableIn v.shape 
         ap (bit (free_bit_of (name_of q))) (at_word x (free_word_of (name_of q)) e) ∙ (on_else fb (free_bit_of (name_of q)) (slice_index words fw) (bt_low (name_of t)) far ∙ (ap (λ (i : ℕ). bit (free_bit_of (name_of q)) (slice_index words i)) (sym e) ∙ o)))
         (λ far. ap (bit (free_bit_of (name_of q))) (at_else x (free_word_of (name_of q)) far) ∙ o));
   }
+
+-- ---- after a join
+
+-- a note has no tables
+pub retired_noted : (words : List ℕ) (v w : View) → w.log ≡ [] → AreRetired words v → AreRetired words (both v w)
+retired_noted words v w none old = retired_same words v (both v w) refl (λ t. ap (λ (l : List Act). cond (is_handed t (hands_over l)) true (has_goal t v.log)) none) old
+
+or_bit : (b x y : ℕ) → bit b (bit_or x y) ≡ max (bit b x) (bit b y)
+unfolding bit
+or_bit b x y = bit_at_or x y b
+
+-- a bit of one of two words
+one_of : (b x y : ℕ) → bit b (bit_or x y) ≡ 1 → (bit b x ≡ 1) ⊎ (bit b y ≡ 1)
+one_of b x y one =
+    let small = bit_small b x in
+    let low = bit_small b y in
+    dite (ℕ_discrete (bit b x) 1) (λ (e : bit b x ≡ 1). inl e)
+    (λ ne.
+    dite (ℕ_discrete (bit b y) 1) (λ (e : bit b y ≡ 1). inr e)
+    (λ far.
+    let none : max (bit b x) (bit b y) ≤ 0 = max-le (omega (arith, small, ne)) (omega (arith, low, far)) in
+    let is = or_bit b x y in
+    absurd (omega (arith, none, is, one))))
+
+in_first : (b x y : ℕ) → bit b x ≡ 1 → bit b (bit_or x y) ≡ 1
+in_first b x y one = let is = or_bit b x y in let up = le-max_left (bit b x) (bit b y) in let small = bit_small b (bit_or x y) in omega (arith, is, up, small, one)
+
+in_second : (b x y : ℕ) → bit b y ≡ 1 → bit b (bit_or x y) ≡ 1
+in_second b x y one = let is = or_bit b x y in let up = le-max_right (bit b x) (bit b y) in let small = bit_small b (bit_or x y) in omega (arith, is, up, small, one)
+
+-- the tables of which the goal stands in the header are retired
+pub retired_stage : (w : View) → ∥ Possible w ∥₁ → (t : ℕ) → IsTable w.shape t → has_goal t w.log ≡ true → stage t w.log ≡ 4
+retired_stage w possible t table has = ∥∥₁_elim possible (ℕ_set (stage t w.log) 4) (λ p. (goals_stand w.shape p.0 p.2.0 t table p.1 w p.2.1 has).0)
+
+pub takes_over : (v w : View) → w.shape ≡ v.shape → ∥ Possible w ∥₁ → TakesOver v w (both v w)
+takes_over v w shape possible = record {
+  theirs = λ t table has.
+      let four = retired_stage w possible t (subst (λ (z : Shape). IsTable z t) (sym shape) table) has in
+      let there = is_there t w.log four has in
+      (where_true (is_handed t (hands_over w.log)) true (has_goal t v.log) there, goal_of t w.log (goal t v.log) there);
+  own = λ t has.
+      either_way (is_handed t (hands_over w.log)) (λ there. where_true (is_handed t (hands_over w.log)) true (has_goal t v.log) there)
+      (λ none. where_false (is_handed t (hands_over w.log)) true (has_goal t v.log) none ∙ has);
+}
+
+pub has_taken_over : (v w u : View) (n : ℕ) → u ≡ noted (ReadCounter n) (both v w) → w.shape ≡ v.shape → ∥ Possible w ∥₁ → TakesOver v w u
+has_taken_over v w u n is shape possible =
+    let o = takes_over v w shape possible in
+    subst (TakesOver v w) (sym is) (record { theirs = o.theirs; own = o.own })
+
+pub retired_both : (words more now : List ℕ) (v w : View) → w.shape ≡ v.shape → ∥ Possible w ∥₁ → length now ≡ 224 → ((n : ℕ) → n < 224 → slice_index now n ≡ bit_or (slice_index words n) (slice_index more n)) → AreRetired words v → AreRetired more w → AreRetired now (both v w)
+retired_both words more now v w shape possible long merged old other =
+    let over = takes_over v w shape possible in record {
+      long = long;
+      some = λ n b low small one.
+          let t = table_of_bit n b in
+          ⊎_elim
+          (λ x. let o = old.some n b low small x in (o.0, over.own (name_of t) o.1))
+          (λ y.
+          let o = other.some n b low small y in
+          let table = subst (λ (z : Shape). IsTableIn z t) shape o.0 in
+          (table, (over.theirs (name_of t) (named v.shape t table) o.1).0))
+          (one_of b (slice_index words n) (slice_index more n) (sym (ap (bit b) (merged n low)) ∙ one));
+      all = λ t table has.
+          let fw = free_word_of (name_of t) in
+          let fb = free_bit_of (name_of t) in
+          let is = ap (bit fb) (merged fw (fw_low v.shape (name_of t) (named v.shape t table))) in
+          either_way (is_handed (name_of t) (hands_over w.log))
+          (λ there. is ∙ in_second fb (slice_index words fw) (slice_index more fw) (other.all t (subst (λ (z : Shape). IsTableIn z t) (sym shape) table) (handed_is (name_of t) w.log there).1))
+          (λ none. is ∙ in_first fb (slice_index words fw) (slice_index more fw) (old.all t table (sym (where_false (is_handed (name_of t) (hands_over w.log)) true (has_goal (name_of t) v.log) none) ∙ has)));
+    }

@@ -6,7 +6,7 @@ use Rattle.std.proofs.Math.Nat.{le-max_left, le-max_right, max-zero, max-le}
 use Rattle.std.proofs.Math.Logic.{∥∥₁_elim}
 use Rattle.ft_trace.specs.declared.View.{View}
 use Rattle.ft_trace.specs.declared.Act.{Act}
-use Rattle.ft_trace.specs.declared.Act.TheVariants.{ReadCounter, Commit, Answer}
+use Rattle.ft_trace.specs.declared.Act.TheVariants.{ReadCounter, Commit, Answer, TookOver}
 use Rattle.ft_trace.specs.declared.Snap.{Snap}
 use Rattle.ft_trace.specs.Reading.{Among}
 use Rattle.ft_model.specs.declared.call.Call.{Call}
@@ -43,7 +43,7 @@ knowing_is n m v = λ i. record {
   parts = add_none v.parts i;
   left = add_none v.left i;
   shape = v.shape;
-  log = ReadCounter m ∷ v.log;
+  log = ReadCounter m ∷ (TookOver [] ∷ v.log);
   entries = v.entries;
   lists = append-nil v.lists i;
   tokens = add_none v.tokens i;

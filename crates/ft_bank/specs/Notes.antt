@@ -1,5 +1,6 @@
 -- What passes have seen of each other's writes, and notes of it.
-use Rattle.std.specs.Prelude.{◌≡◌, ℕ, max}
+use Rattle.std.specs.Prelude.{◌≡◌, ℕ, max, [], ◌∷◌}
+use Rattle.ft_trace.specs.declared.Act.TheVariants.{TookOver}
 use Rattle.ft_trace.specs.declared.View.{View}
 use Rattle.ft_trace.specs.Acts.{shown}
 use Rattle.ft_bank.specs.Passes.{view}
@@ -21,6 +22,6 @@ says n = n.seat.me.0.learnt
 abbrev pub IsNoteOf : Bank → Note → Type 0
 IsNoteOf b n = n.seat.table_id ≡ b.table.shared.table_id
 
--- what the pass knows once it has learnt that there are this many writes
+-- what the pass knows once it has learnt that there are this many writes; from a note it takes over no table
 abbrev pub knowing : ℕ → View → View
-knowing n v = record v { learnt = max v.learnt n }
+knowing n v = record v { log = TookOver [] ∷ v.log; learnt = max v.learnt n }

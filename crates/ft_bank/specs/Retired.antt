@@ -3,8 +3,8 @@ use Rattle.std.specs.Prelude.{◌≡◌, ℕ, ◌+◌, ◌*◌, ◌/◌, ◌%◌
 use Rattle.ft_trace.specs.declared.Act.{Act}
 use Rattle.ft_trace.specs.declared.Snap.{Snap}
 use Rattle.ft_trace.specs.declared.View.{View}
-use Rattle.ft_trace.specs.Addresses.{free_word_of, free_bit_of}
-use Rattle.ft_trace.specs.Acts.{has_goal, has_goal_next}
+use Rattle.ft_trace.specs.Addresses.{IsTable, free_word_of, free_bit_of}
+use Rattle.ft_trace.specs.Acts.{goal, has_goal, has_goal_next}
 use Rattle.ft_trace.specs.Bits.{bit}
 use Rattle.ft_bank.specs.declared.table.Table.{Table}
 use Rattle.ft_bank.specs.Tables.{name_of, IsTableIn}
@@ -21,6 +21,12 @@ pub record AreRetired (words : List ℕ) (v : View) : Type 0 where
       → IsTableIn v.shape (table_of_bit w b) × (has_goal (name_of (table_of_bit w b)) v.log ≡ true)
   pub all : (t : Table) → IsTableIn v.shape t → has_goal (name_of t) v.log ≡ true
       → bit (free_bit_of (name_of t)) (slice_index words (free_word_of (name_of t))) ≡ 1
+
+-- The tables of the bank that the other pass kept retired are this pass's then, with their goals, and it keeps its own.
+pub record TakesOver (v other w : View) : Type 0 where
+  pub theirs : (t : ℕ) → IsTable v.shape t → has_goal t other.log ≡ true
+      → (has_goal t w.log ≡ true) × (goal t w.log ≡ goal t other.log)
+  pub own : (t : ℕ) → has_goal t v.log ≡ true → has_goal t w.log ≡ true
 
 -- the action puts no goal into a header, and gives no table back
 abbrev pub LeavesRetired : (ℕ → Snap → Act) → Type 0

@@ -1,6 +1,6 @@
 //! The bank: the table of its words with its shape. It is made with all its passes, and passes take others
 //! in.
-ghost use Rattle.std.specs.Prelude.{◌≡◌, ◌<◌, ◌^◌, ◌*◌, [], length, IfOk, ℕ};
+ghost use Rattle.std.specs.Prelude.{◌≡◌, ◌+◌, ◌<◌, ◌^◌, ◌*◌, [], length, IfOk, ℕ};
 ghost use Rattle.ft_trace.specs.declared.Act.TheVariants.{ReadCounter};
 ghost use Rattle.ft_trace.specs.Addresses.{extent};
 ghost use Rattle.ft_trace.specs.Acts.{starter, maker, made, both, noted, all_lists};
@@ -11,7 +11,7 @@ ghost use Rattle.ft_bank.specs.Tables.{starts_from, sizes_from};
 use crate::closed::Closed;
 use crate::opening::{class_sizes, class_starts, opening_words};
 use crate::pass::Pass;
-use crate::retired::RETIRED;
+use crate::retired::{RETIRED, merge};
 use crate::rule::{Law, Shares};
 use crate::sections::{Sections, Taking};
 use crate::shape::{MakeFault, Shape};
@@ -39,7 +39,8 @@ pub struct Bank {
 
 impl Bank {
     ghost use Rattle.ft_bank.specs.Passes.{shape_of, view, IsPassOf};
-    ghost use Rattle.ft_bank.specs.Closings.{shape_in, lists_in};
+    ghost use Rattle.ft_bank.specs.Closings.{shape_in, lists_in, entries_in};
+    ghost use Rattle.ft_bank.specs.Retired.{TakesOver};
     ghost use Rattle.ft_bank.specs.Sections.{stack_of, no_sections};
 
     /// A bank of this shape, and its first pass, which stands for all passes.
@@ -102,8 +103,9 @@ impl Bank {
     }
 
     /// Takes in another pass, which has no lock, no open section and no table in hand, is offline and has
-    /// no pass to make: the first one keeps its entries, in a list beside its own. The counter is loaded, so the first
-    /// pass has then seen all that the other had.
+    /// no pass to make: the first one keeps its entries, in a list beside its own, and takes over the tables that it
+    /// kept retired, with their goals, so that collections of the first give them back. The counter is loaded, so the
+    /// first pass has then seen all that the other had.
     pub fn join(&self, pass: &mut Pass, other: Pass)
         requires passes { IsPassOf self.now pass.old × IsPassOf self.now other }
         requires last { (view other).next ≡ 0 }
@@ -112,6 +114,7 @@ impl Bank {
         ensures pass { IsPassOf self.now pass.new }
         ensures sections { stack_of pass.new ≡ stack_of pass.old }
         ensures view { (n : ℕ) × (view pass.new ≡ noted (ReadCounter n) (both (view pass.old) (view other))) }
+        ensures tables { TakesOver (view pass.old) (view other) (view pass.new) }
     {
         let Pass {
             number: _,
@@ -120,14 +123,16 @@ impl Bank {
             sections: _,
             own: _,
             mark: _,
-            retired: _,
+            retired,
             seat,
         } = other;
         self.settle_as::<Brand>(&mut pass.seat, seat);
+        merge(&mut pass.retired, &retired);
         pass.left += left;
     }
 
-    /// Closes the bank, by a pass that has taken in all others and is free of locks, sections and tables.
+    /// Closes the bank, by a pass that has taken in all others and is free of locks, sections and tables. Each call that
+    /// was made has one entry in the closed bank: of the calls that the passes had, those are left that have none.
     pub fn close(self, pass: Pass) -> Closed
         requires pass { IsPassOf self pass }
         requires free { IsFree (view pass) }
@@ -135,6 +140,7 @@ impl Bank {
         requires all { (view pass).parts ≡ (shape_of self).passes }
         ensures shape { shape_in result ≡ shape_of self }
         ensures lists { lists_in result ≡ all_lists (view pass) }
+        ensures count { length (entries_in result) + (view pass).left ≡ (shape_of self).passes * (shape_of self).calls }
     {
         let Bank {
             table: _,

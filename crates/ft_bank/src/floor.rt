@@ -5,10 +5,12 @@ ghost use Rattle.ft_trace.specs.declared.Act.TheVariants.{ReadCounter, TakeFloor
 ghost use Rattle.ft_trace.specs.declared.Snap.{Snap};
 ghost use Rattle.ft_trace.specs.Acts.{noted, both, sender, note, floor_words};
 ghost use Rattle.ft_trace.specs.Traces.{IsFree};
+ghost use Rattle.ft_bank.specs.Retired.{TakesOver};
 ghost use Rattle.ft_bank.specs.Floors.{rests, carried, IsRestingOf, AreTokensOf, stack_at_rest};
 
 use crate::bank::Bank;
 use crate::pass::Pass;
+use crate::retired::merge;
 use crate::rule::{Floor, Gives, Keeps, Shares};
 use crate::tokens::{Resting, Tokens};
 use std::marker::Brand;
@@ -115,6 +117,7 @@ impl Bank {
         ensures pass { IsPassOf self.now pass.new }
         ensures sections { stack_of pass.new ≡ stack_of pass.old }
         ensures view { (n : ℕ) × (view pass.new ≡ noted (ReadCounter n) (both (view pass.old) (rests other))) }
+        ensures tables { TakesOver (view pass.old) (rests other) (view pass.new) }
     {
         let Resting {
             number: _,
@@ -123,10 +126,11 @@ impl Bank {
             sections: _,
             own: _,
             mark: _,
-            retired: _,
+            retired,
             seat,
         } = other;
         self.settle_as::<Brand>(&mut pass.seat, seat);
+        merge(&mut pass.retired, &retired);
         pass.left += left;
     }
 }

@@ -1,6 +1,6 @@
 //! The bits of the tables that a pass keeps retired, for the steps that retire a table and give it back:
 //! a bit for each, in words like the bank's free words.
-ghost use Rattle.std.specs.Prelude.{◌≡◌, ◌<◌, slice_index, slice_set};
+ghost use Rattle.std.specs.Prelude.{◌≡◌, ◌<◌, ℕ, length, bit_or, slice_index, slice_set};
 ghost use Rattle.ft_model.specs.Classes.{IsClass};
 ghost use Rattle.ft_trace.specs.Addresses.{free_word_of, free_bit_of};
 ghost use Rattle.ft_trace.specs.Bits.{bit_on, bit_off};
@@ -44,4 +44,14 @@ pub(crate) fn clear_bit(words: &mut [u64; RETIRED], table: Table)
         (bit_off (free_bit_of (name_of table)) (slice_index words.old (free_word_of (name_of table)))) }
 {
     words[word_of(table)] &= !(1 << (table.number % BITS));
+}
+
+/// Sets each bit that is set in the others.
+pub(crate) fn merge(words: &mut [u64; RETIRED], others: &[u64; RETIRED])
+    ensures long { length words.new ≡ 224 }
+    ensures merged { (n : ℕ) → n < 224 → slice_index words.new n ≡ bit_or (slice_index words.old n) (slice_index others.now n) }
+{
+    for place in 0..RETIRED {
+        words[place] |= others[place];
+    }
 }

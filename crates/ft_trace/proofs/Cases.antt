@@ -4,7 +4,7 @@ use mathlib.Core.Logic.{dite}
 use native.Mathlib.Decide.{ℕ_discrete}
 use Rattle.ft_model.specs.declared.call.Call.{Call}
 use Rattle.ft_trace.specs.declared.Act.{Act}
-use Rattle.ft_trace.specs.declared.Act.TheVariants.{Lock, Unlock, StartWrite, PutBlock, PutRoot, PutTable, PutFresh, PutHeader, ReadHeader, StopWrite, Version, ReadBlock, ReadRoot, ReadTable, LowerCount, RaiseCount, ReadCount, ReadFree, TakeTable, GiveTable, Announce, ReadAnnounced}
+use Rattle.ft_trace.specs.declared.Act.TheVariants.{Lock, Unlock, StartWrite, PutBlock, PutRoot, PutTable, PutFresh, PutHeader, ReadHeader, StopWrite, Version, ReadBlock, ReadRoot, ReadTable, LowerCount, RaiseCount, ReadCount, ReadFree, TakeTable, GiveTable, Announce, ReadAnnounced, TookOver}
 use Rattle.ft_trace.specs.declared.Shape.{Shape}
 use Rattle.ft_trace.specs.declared.View.{View}
 use Rattle.ft_trace.specs.Addresses.{Inside}
@@ -55,4 +55,5 @@ inside k m cs v (TakeTable t f s) may = fw_low k t may.0
 inside k m cs v (GiveTable t) may = fw_low k t may.0
 inside k m cs v (Announce p x) may = (may.3, may.4)
 inside k m cs v (ReadAnnounced p f) may = (may.1, may.2)
+inside k m cs v (TookOver tables) may = absurd may
 inside k m cs v act may = tt

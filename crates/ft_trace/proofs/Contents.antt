@@ -8,7 +8,7 @@ use lib.ListN.{get_elem?}
 use Rattle.ft_trace.specs.declared.Shape.{Shape}
 use Rattle.ft_trace.specs.declared.View.{View}
 use Rattle.ft_trace.specs.declared.Act.{Act}
-use Rattle.ft_trace.specs.declared.Act.TheVariants.{StartWrite, PutBlock, PutRoot, PutTable, PutFresh, Commit, StopWrite, ReadBlock, ReadRoot, ReadTable, ReadCounter, Answer, AnswerCursor, TakeFloor}
+use Rattle.ft_trace.specs.declared.Act.TheVariants.{StartWrite, PutBlock, PutRoot, PutTable, PutFresh, Commit, StopWrite, ReadBlock, ReadRoot, ReadTable, ReadCounter, Answer, AnswerCursor, TakeFloor, TookOver}
 use Rattle.ft_trace.specs.Addresses.{Word, counter, block, cell, Inside, containers_in}
 use Rattle.ft_trace.specs.Acts.{is_writing, noted}
 use Rattle.ft_model.specs.declared.script.Kind.{Kind}
@@ -40,6 +40,7 @@ counts k es id v old (ReadCounter f) may = loaded k es id v (ReadCounter f) (λ 
 counts k es id v old (TakeFloor f s) may = loaded k es id v (TakeFloor f s) (λ n. refl) counter ∙ old
 counts k es id v old (Answer c x n) may = loaded k es id v (Answer c x n) (λ n. refl) counter ∙ old
 counts k es id v old (AnswerCursor c x n m had left) may = loaded k es id v (AnswerCursor c x n m had left) (λ n. refl) counter ∙ old
+counts k es id v old (TookOver hs) may = absurd may
 counts k es id v old act may = stays k es id v act may counter tt (λ e. absurd (cc)) ∙ old
 
 pub counted : (k : Shape) (es : List Event) → Valid k es → count k es ≡ length (history es)

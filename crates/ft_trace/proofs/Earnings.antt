@@ -53,7 +53,7 @@ cause_earned k es valid id v at called (reply.Raised (raise.Memory class)) n cau
     let f = cause.3 in
     let w = was k es valid id v at f.newer (ReadCounter n) (f.mid ++ ReadCount class 0 ∷ f.rest) f.is in
     let z = was k w.older w.valid id w.view w.at f.mid (ReadCount class 0) f.rest w.log in
-    (cause.0, cause.1, cause.2, z.may, empty_earned k es valid id v at class n z.may f)
+    (cause.0, cause.1, cause.2, z.may tt, empty_earned k es valid id v at class n (z.may tt) f)
 cause_earned k es valid id v at called (reply.Raised raise.Over) n cause = cause
 cause_earned k es valid id v at called (reply.Raised raise.Heap) n cause = absurd cause
 cause_earned k es valid id v at called reply.Kept n cause = cause.0

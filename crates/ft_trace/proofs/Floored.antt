@@ -9,7 +9,7 @@ use lib.Seq.{set-get_or}
 use Rattle.ft_trace.specs.declared.Shape.{Shape}
 use Rattle.ft_trace.specs.declared.View.{View}
 use Rattle.ft_trace.specs.declared.Act.{Act}
-use Rattle.ft_trace.specs.declared.Act.TheVariants.{TakeFloor}
+use Rattle.ft_trace.specs.declared.Act.TheVariants.{TakeFloor, TookOver}
 use Rattle.ft_trace.specs.Addresses.{at, counter}
 use Rattle.ft_trace.specs.Acts.{place, word_after, noted, starter, maker, made, both, spent, sender, note, floor_words, floor_known, has_floor_next, Reports}
 use Rattle.ft_trace.specs.Floors.{TokensAreAll, AllTokensAreAlone, FloorStands, FoundAsKnown, FloorTells}
@@ -48,6 +48,7 @@ module _ (k : Shape) (es : List Event) (id : ℕ) (v : View) where
   -- the pass that acts
   own : (a : Act) → Own a
   own (TakeFloor f s) may old has = (may.0, ap (λ (z : _). z.words) may.1 ∙ sym (set-get_or (run k es).words (at k counter) 0))
+  own (TookOver hs) may old has = absurd may
   own act may old has =
       let before = old has in
       (before.0, ap (λ (ws : List ℕ). slice_set ws (at k (place act)) (word_after v.number act (slice_index ws (at k (place act))))) before.1)
@@ -152,6 +153,7 @@ Tells k j u = u.has_floor ≡ true → FoundAsKnown k u.number u.log
 module _ (k : Shape) (es : List Event) (id : ℕ) (v : View) where
   tells_own : (a : Act) → Reports a (word k es (place a)) → (v.has_floor ≡ true → floor_words k v.number v.log ≡ (run k es).words) → Tells k id v → has_floor_next a v.has_floor ≡ true → FoundAsKnown k v.number (a ∷ v.log)
   tells_own (TakeFloor f s) found words old has = tt
+  tells_own (TookOver hs) found words old has = old has
   tells_own act found words old has = (subst (λ (ws : List ℕ). Reports act (slice_index ws (at k (place act)))) (sym (words has)) found, old has)
 
 by_given : (b c : Bool) → cond b c false ≡ true → c ≡ true

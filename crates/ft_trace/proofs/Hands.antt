@@ -1,5 +1,5 @@
 -- A table that is neither free nor current is in a hand, and the write number never falls.
-use Rattle.std.proofs.Common.{◌≡◌, ◌≢◌, ℕ, suc, eqb, ◌+◌, ◌-◌, ◌%◌, ◌≤◌, cond, List, [], ◌∷◌, ◌++◌, set, refl, sym, ap, ⊎_elim, ◌∙◌, arith, le_refl, le_trans}
+use Rattle.std.proofs.Common.{◌≡◌, ◌≢◌, ℕ, suc, eqb, ◌+◌, ◌-◌, ◌%◌, ◌≤◌, cond, false, List, [], ◌∷◌, ◌++◌, set, refl, sym, ap, ⊎_elim, ◌∙◌, arith, le_refl, le_trans}
 use mathlib.Core.Option.{some, some-injective}
 use mathlib.Core.Logic.{dite}
 use native.Mathlib.Decide.{ℕ_discrete}
@@ -10,12 +10,13 @@ use Rattle.ft_trace.specs.declared.Act.{Act}
 use Rattle.ft_trace.specs.declared.Act.TheVariants.{TakeTable, GiveTable, PutRoot, Retire, Announce}
 use Rattle.ft_trace.specs.Bits.{bit}
 use Rattle.ft_trace.specs.Addresses.{write_number, IsTable, free_bit_of}
-use Rattle.ft_trace.specs.Acts.{stage, stage_next, noted, maker, made, both, spent, sender, note}
-use Rattle.ft_trace.specs.Ages.{aged, age, gone_to, whose}
+use Rattle.ft_trace.specs.Acts.{stage, stage_next, is_handed, hands_over, noted, maker, made, both, spent, sender, note}
+use Rattle.ft_trace.specs.Ages.{aged, age, gone_to, keeper}
 use Rattle.ft_trace.specs.Traces.{Event, did, forked, joined, sent, run, word, history, May, Valid}
 use Rattle.ft_trace.proofs.Sizes.{set_at}
 use Rattle.atomic_table.proofs.Lists.{set_else, at_longer}
-use Rattle.ft_trace.proofs.Cases.{hit, miss, here}
+use Rattle.ft_trace.proofs.Cases.{hit, miss, here, not_true}
+use Rattle.ft_trace.proofs.HandedOver.{where_false, handed_is}
 use Rattle.ft_trace.proofs.Words.{stays, moves}
 use Rattle.ft_trace.proofs.Versions.{one_up}
 use Rattle.ft_trace.proofs.Announcing.{on_write_number}
@@ -23,14 +24,14 @@ use Rattle.ft_trace.proofs.Places.{on_table, placed}
 
 pub record Kept (k : Shape) (es : List Event) (t : ℕ) : Type 0 where
   pub by : View
-  pub at : get_elem? (run k es).views (whose es t) ≡ some by
+  pub at : get_elem? (run k es).views (keeper es t) ≡ some by
   pub has : stage t by.log ≡ age es t % 5
 
 pub handed : (k : Shape) (es : List Event) → Valid k es → (t : ℕ) → IsTable k t → age es t % 5 ≢ 0 → age es t % 5 ≢ 2 → age es t % 5 ≢ 4 → Kept k es t
 handed k [] valid t table free current out = absurd (free refl)
 handed k (did id v a ∷ es) valid t table free current out =
     let g = age es t in
-    let w = whose es t in
+    let w = keeper es t in
     let n = stage t v.log in
     let its = placed k es valid.0 t table in
     let F : Act → Type 0 = λ b. Valid k (did id v b ∷ es) → aged b t g % 5 ≢ 0 → aged b t g % 5 ≢ 2 → aged b t g % 5 ≢ 4 → Kept k (did id v b ∷ es) t in
@@ -72,34 +73,40 @@ handed k (did id v a ∷ es) valid t table free current out =
     a valid.1.2 valid.1.3 valid free current out
 handed k (forked id v ∷ es) valid t table free current out =
     let old = handed k es valid.0 t table free current out in
-    dite (ℕ_discrete (whose es t) id)
-    (λ (e : whose es t ≡ id).
+    dite (ℕ_discrete (keeper es t) id)
+    (λ (e : keeper es t ≡ id).
     let same : old.by ≡ v = some-injective old.by v (sym old.at ∙ (ap (get_elem? (run k es).views) e ∙ valid.1.0)) in
-    let there : get_elem? (set (run k es).views id (maker v)) (whose es t) ≡ some (maker v) = ap (get_elem? (set (run k es).views id (maker v))) e ∙ set_at (run k es).views id v (maker v) valid.1.0 in
-    record { by = maker v; at = at_longer (set (run k es).views id (maker v)) (made v ∷ []) (whose es t) (maker v) there; has = ap (λ (z : View). stage t z.log) (sym same) ∙ old.has })
-    (λ ne. record { by = old.by; at = at_longer (set (run k es).views id (maker v)) (made v ∷ []) (whose es t) old.by (set_else (run k es).views id (whose es t) (maker v) ne ∙ old.at); has = old.has })
+    let there : get_elem? (set (run k es).views id (maker v)) (keeper es t) ≡ some (maker v) = ap (get_elem? (set (run k es).views id (maker v))) e ∙ set_at (run k es).views id v (maker v) valid.1.0 in
+    record { by = maker v; at = at_longer (set (run k es).views id (maker v)) (made v ∷ []) (keeper es t) (maker v) there; has = ap (λ (z : View). stage t z.log) (sym same) ∙ old.has })
+    (λ ne. record { by = old.by; at = at_longer (set (run k es).views id (maker v)) (made v ∷ []) (keeper es t) old.by (set_else (run k es).views id (keeper es t) (maker v) ne ∙ old.at); has = old.has })
 handed k (sent id v given ∷ es) valid t table free current out =
     let old = handed k es valid.0 t table free current out in
-    dite (ℕ_discrete (whose es t) id)
-    (λ (e : whose es t ≡ id).
+    dite (ℕ_discrete (keeper es t) id)
+    (λ (e : keeper es t ≡ id).
     let same : old.by ≡ v = some-injective old.by v (sym old.at ∙ (ap (get_elem? (run k es).views) e ∙ valid.1.0)) in
-    let there : get_elem? (set (run k es).views id (sender given v)) (whose es t) ≡ some (sender given v) = ap (get_elem? (set (run k es).views id (sender given v))) e ∙ set_at (run k es).views id v (sender given v) valid.1.0 in
-    record { by = sender given v; at = at_longer (set (run k es).views id (sender given v)) (note given v ∷ []) (whose es t) (sender given v) there; has = ap (λ (z : View). stage t z.log) (sym same) ∙ old.has })
-    (λ ne. record { by = old.by; at = at_longer (set (run k es).views id (sender given v)) (note given v ∷ []) (whose es t) old.by (set_else (run k es).views id (whose es t) (sender given v) ne ∙ old.at); has = old.has })
+    let there : get_elem? (set (run k es).views id (sender given v)) (keeper es t) ≡ some (sender given v) = ap (get_elem? (set (run k es).views id (sender given v))) e ∙ set_at (run k es).views id v (sender given v) valid.1.0 in
+    record { by = sender given v; at = at_longer (set (run k es).views id (sender given v)) (note given v ∷ []) (keeper es t) (sender given v) there; has = ap (λ (z : View). stage t z.log) (sym same) ∙ old.has })
+    (λ ne. record { by = old.by; at = at_longer (set (run k es).views id (sender given v)) (note given v ∷ []) (keeper es t) old.by (set_else (run k es).views id (keeper es t) (sender given v) ne ∙ old.at); has = old.has })
 handed k (joined id v other w ∷ es) valid t table free current out =
     let old = handed k es valid.0 t table free current out in
     let one = (run k es).views in
     let next = set one id (both v w) in
-    let apart : whose es t ≢ other = λ e.
+    let b = is_handed t (hands_over w.log) in
+    let none : b ≡ false = not_true b (λ there.
+    let four = (handed_is t w.log there).0 in
+    let h = ((placed k es valid.0 t table).hands other w valid.1.2 (λ z. absurd (omega (arith, z, four)))).0 in
+    absurd (out (h ∙ four))) in
+    let stay : keeper (joined id v other w ∷ es) t ≡ keeper es t = where_false b id (keeper es t) none in
+    let apart : keeper es t ≢ other = λ e.
     let same : old.by ≡ w = some-injective old.by w (sym old.at ∙ (ap (get_elem? one) e ∙ valid.1.2)) in
     let mine : age es t % 5 ≡ stage t w.log = sym old.has ∙ ap (λ (z : View). stage t z.log) same in
     ⊎_elim (λ (z : stage t w.log ≡ 0). free (mine ∙ z)) (λ (z : stage t w.log ≡ 4). out (mine ∙ z)) (valid.1.5.1 t) in
-    dite (ℕ_discrete (whose es t) id)
-    (λ (e : whose es t ≡ id).
+    dite (ℕ_discrete (keeper es t) id)
+    (λ (e : keeper es t ≡ id).
     let same : old.by ≡ v = some-injective old.by v (sym old.at ∙ (ap (get_elem? one) e ∙ valid.1.0)) in
-    let there : get_elem? next (whose es t) ≡ some (both v w) = ap (get_elem? next) e ∙ set_at one id v (both v w) valid.1.0 in
-    record { by = both v w; at = set_else next other (whose es t) spent apart ∙ there; has = ap (λ (z : View). stage t z.log) (sym same) ∙ old.has })
-    (λ ne. record { by = old.by; at = set_else next other (whose es t) spent apart ∙ (set_else one id (whose es t) (both v w) ne ∙ old.at); has = old.has })
+    let there : get_elem? next (keeper es t) ≡ some (both v w) = ap (get_elem? next) e ∙ set_at one id v (both v w) valid.1.0 in
+    record { by = both v w; at = ap (get_elem? (set next other spent)) stay ∙ (set_else next other (keeper es t) spent apart ∙ there); has = where_false b 4 (stage t v.log) none ∙ (ap (λ (z : View). stage t z.log) (sym same) ∙ old.has) })
+    (λ ne. record { by = old.by; at = ap (get_elem? (set next other spent)) stay ∙ (set_else next other (keeper es t) spent apart ∙ (set_else one id (keeper es t) (both v w) ne ∙ old.at)); has = old.has })
 
 pub goals_one : (k : Shape) (es : List Event) (e : Event) → Valid k (e ∷ es) → word k es write_number ≤ word k (e ∷ es) write_number
 goals_one k es (did id v a) valid =

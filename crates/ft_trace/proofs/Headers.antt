@@ -5,16 +5,17 @@ use mathlib.Core.Logic.{dite}
 use native.Mathlib.Decide.{ℕ_discrete}
 use lib.ListN.{get_elem?}
 use Rattle.ft_trace.specs.declared.Act.{Act}
-use Rattle.ft_trace.specs.declared.Act.TheVariants.{PutRoot, PutHeader, ReadHeader, TakeTable, GiveTable, Retire}
+use Rattle.ft_trace.specs.declared.Act.TheVariants.{PutRoot, PutHeader, ReadHeader, TakeTable, GiveTable, Retire, TookOver}
 use Rattle.ft_trace.specs.declared.Shape.{Shape}
 use Rattle.ft_trace.specs.declared.View.{View}
 use Rattle.ft_trace.specs.Addresses.{header, IsTable, free_bit_of}
 use Rattle.ft_trace.specs.Bits.{bit}
-use Rattle.ft_trace.specs.Acts.{place, stage, stage_next, goal, goal_next, has_goal, has_goal_next, noted, starter, maker, made, both, spent, sender, note}
+use Rattle.ft_trace.specs.Acts.{place, stage, stage_next, goal, goal_next, has_goal, has_goal_next, is_handed, hands_over, noted, starter, maker, made, both, spent, sender, note}
 use Rattle.ft_trace.specs.Traces.{Event, did, forked, joined, sent, run, word, history, May, Valid}
 use Rattle.ft_trace.proofs.Sizes.{set_views, one_more, one_view}
 use Rattle.ft_trace.proofs.Cases.{same_or, hit, miss, off}
 use Rattle.ft_trace.proofs.Words.{stays, moves, loaded}
+use Rattle.ft_trace.proofs.HandedOver.{either_way, where_true, where_false, handed_is, goal_of, no_goal}
 use Rattle.ft_trace.proofs.Places.{placed}
 
 abbrev Header : Shape → List Event → ℕ → ℕ → View → Type 0
@@ -54,6 +55,7 @@ module _ (k : Shape) (es : List Event) (id : ℕ) (v : View) (t : ℕ) (table : 
       absurd (omega (arith, a, b, four)))
       (λ far. (miss r (suc t) 0 (cond (eqb past (suc t)) 3 n) ne ∙ (miss past (suc t) 3 n far ∙ h.0), still (PutRoot o r past) may (λ e. absurd (cc)) ∙ h.1)))
   own (ReadHeader p f) = λ may s. let h = old id v at s in (h.0, loaded k es id v (ReadHeader p f) (λ n. refl) (header t) ∙ h.1)
+  own (TookOver hs) = λ may s. absurd may
   own act = λ may s. let h = old id v at s in (h.0, still act may (λ e. absurd (cc)) ∙ h.1)
 
   theirs : (a : Act) → May k (run k es) (history es) v a → (j : ℕ) (u : View) → j ≢ id → get_elem? (run k es).views j ≡ some u → Header k (did id v a ∷ es) t j u
@@ -84,4 +86,12 @@ goals_stand k (sent id v given ∷ es) valid t table =
     one_more (Header k es t) _ (note given v) (λ e. off e) (set_views (Header k es t) _ id (sender given v) (old id v valid.1.0) (λ j u _ e. old j u e))
 goals_stand k (joined id v other w ∷ es) valid t table =
     let old = goals_stand k es valid.0 t table in
-    set_views (Header k es t) _ other spent (λ e. off e) (λ j u _. set_views (Header k es t) _ id (both v w) (old id v valid.1.0) (λ j u _ e. old j u e) j u)
+    let b = is_handed t (hands_over w.log) in
+    let n = stage t v.log in
+    let mine : Header k es t id (both v w) = λ s.
+    either_way b
+    (λ there. (where_true b 4 n there, (old other w valid.1.2 (handed_is t w.log there).1).1 ∙ sym (goal_of t w.log (goal t v.log) there)))
+    (λ none.
+    let h = old id v valid.1.0 (sym (where_false b true (has_goal t v.log) none) ∙ s) in
+    (where_false b 4 n none ∙ h.0, h.1 ∙ sym (no_goal t (hands_over w.log) (goal t v.log) none))) in
+    set_views (Header k es t) _ other spent (λ e. off e) (λ j u _. set_views (Header k es t) _ id (both v w) mine (λ j u _ e. old j u e) j u)

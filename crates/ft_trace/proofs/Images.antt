@@ -10,9 +10,9 @@ use Rattle.ft_trace.specs.declared.Snap.{Snap}
 use Rattle.ft_trace.specs.declared.Shape.{Shape}
 use Rattle.ft_trace.specs.declared.View.{View}
 use Rattle.ft_trace.specs.declared.Act.{Act}
-use Rattle.ft_trace.specs.declared.Act.TheVariants.{Lock, Unlock, PutBlock, PutRoot, PutTable, PutFresh, Commit, ReadBlock, ReadRoot, ReadTable, TakeTable, GiveTable, Retire}
+use Rattle.ft_trace.specs.declared.Act.TheVariants.{Lock, Unlock, PutBlock, PutRoot, PutTable, PutFresh, Commit, ReadBlock, ReadRoot, ReadTable, TakeTable, GiveTable, Retire, TookOver}
 use Rattle.ft_trace.specs.Addresses.{Word, counter, write_number, announced_of, bits, count_of_class, lock_of, version_of, block, header, cell, Inside, at, extent}
-use Rattle.ft_trace.specs.Acts.{place, word_after, has_lock, is_writing, stage, stage_next, mem, past, starter, noted, maker, made, both, spent, sender, note}
+use Rattle.ft_trace.specs.Acts.{place, word_after, has_lock, is_writing, stage, stage_next, is_handed, hands_over, mem, past, starter, noted, maker, made, both, spent, sender, note}
 use Rattle.ft_trace.specs.Worlds.{kept}
 use Rattle.ft_trace.specs.Addresses.{containers_in}
 use Rattle.ft_trace.specs.Traces.{Event, did, forked, joined, sent, run, word, history, snap, May, Valid}
@@ -22,6 +22,7 @@ use Rattle.ft_trace.proofs.Addresses.{at_low}
 use Rattle.ft_trace.proofs.Words.{wide, stays, moves, loaded}
 use Rattle.ft_trace.proofs.Locks.{one_holder}
 use Rattle.ft_trace.proofs.Versions.{writer_has}
+use Rattle.ft_trace.proofs.HandedOver.{fresh_before}
 use Rattle.ft_trace.proofs.Places.{root, placed}
 use Rattle.ft_trace.proofs.Contents.{alters, content_by}
 
@@ -235,6 +236,7 @@ own k es id v valid here_ old (PutFresh t i x) may =
     (same_back k es id v (PutFresh t i x) (λ o. refl) (λ t. refl) (λ o low. stays k es id v (PutFresh t i x) may (block o 0) (low, omega arith) (λ e. absurd (cc))))
 own k es id v valid here_ old (PutRoot p r was) may =
     stored k es id v (PutRoot p r was) r valid may old (may.0, omega arith) refl refl refl refl (λ o. refl) (old.wide (inl (p, writer_has k es valid p id v here_ may.1))) (root_back k es id v p r was may)
+own k es id v valid here_ old (TookOver hs) may = absurd may
 own k es id v valid here_ old act may = calm k es id v act old refl refl refl (λ o m. m) (λ t m. m) (apart k es id v act may (λ d. d))
 
 -- a lock is that of an container of the bank
@@ -276,6 +278,17 @@ nothing k es u e =
     never (version_of o) mine = absurd mine
     never (header t) mine = absurd mine
 
+-- what a pass has to itself after it took in another it had before
+owner_before : (v w : View) → Owner (both v w) → Owner v
+owner_before v w (inl o) = inl o
+owner_before v w (inr f) = inr (f.0, fresh_before f.0 (hands_over w.log) (stage f.0 v.log) f.1)
+
+owns_before : (k : Shape) (es : List Event) (v w : View) (x : Word) → Owns k es (both v w) x → Owns k es v x
+owns_before k es v w (block o i) owns = owns
+owns_before k es v w (cell t i) (inl one) = inl (fresh_before t (hands_over w.log) (stage t v.log) one)
+owns_before k es v w (cell t i) (inr current) = inr current
+owns_before k es v w x owns = owns
+
 pub imaged : (k : Shape) (es : List Event) → Valid k es → (j : ℕ) (u : View) → get_elem? (run k es).views j ≡ some u → Imaged k es u
 imaged k [] valid = one_view (λ j u. Imaged k [] u) (starter k) (nothing k [] (starter k) refl)
 imaged k (did id v a ∷ es) valid =
@@ -295,4 +308,4 @@ imaged k (joined id v third w ∷ es) valid =
     let old = imaged k es valid.0 in
     let P : ℕ → View → Type 0 = λ j u. Imaged k (joined id v third w ∷ es) u in
     set_views P _ third spent (nothing k (joined id v third w ∷ es) spent refl)
-    (λ j u _. set_views P _ id (both v w) (let h = old id v valid.1.0 in record { wide = h.wide; words = h.words; content = h.content }) (λ j u _ e. let h = old j u e in record { wide = h.wide; words = h.words; content = h.content }) j u)
+    (λ j u _. set_views P _ id (both v w) (let h = old id v valid.1.0 in record { wide = λ o. h.wide (owner_before v w o); words = λ x low o. h.words x low (owns_before k es v w x o); content = h.content }) (λ j u _ e. let h = old j u e in record { wide = h.wide; words = h.words; content = h.content }) j u)

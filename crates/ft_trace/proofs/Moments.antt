@@ -7,8 +7,8 @@ use lib.ListN.{get_elem?}
 use Rattle.ft_trace.specs.declared.Shape.{Shape}
 use Rattle.ft_trace.specs.declared.View.{View}
 use Rattle.ft_trace.specs.declared.Act.{Act}
-use Rattle.ft_trace.specs.declared.Act.TheVariants.{ReadRoot, Announce}
-use Rattle.ft_trace.specs.Acts.{place, Reports, reads, reads_next, starter, noted, maker, made, both, spent, sender, note}
+use Rattle.ft_trace.specs.declared.Act.TheVariants.{ReadRoot, Announce, TookOver}
+use Rattle.ft_trace.specs.Acts.{place, Reports, reads, reads_next, hands_over, starter, noted, maker, made, both, spent, sender, note}
 use Rattle.ft_trace.specs.Ages.{age, seen, seen_next}
 use Rattle.ft_trace.specs.Finding.{Online}
 use Rattle.ft_trace.specs.Traces.{Event, did, forked, joined, sent, run, word, history, May, Valid}
@@ -41,7 +41,12 @@ pub still_reads : (t : ℕ) (xs rest : List Act) → Online xs → reads t rest 
 still_reads t [] rest on r = r
 still_reads t (x ∷ xs) rest on r = (reads_on t x xs on (reads t (xs ++ rest)) (still_reads t xs rest (reads_on t x xs on true refl).1 r)).0
 
--- the pass at seat j did a when its log was rest. The trace at that moment is `older`
+-- an action that is a step of the pass's own
+abbrev pub IsStep : Act → Type 0
+IsStep (TookOver tables) = ⊥
+IsStep act = Unit {0}
+
+-- The pass at seat j did a when its log was rest, or took tables over at a join. The trace at that moment is `older`.
 pub record Was (k : Shape) (es : List Event) (j : ℕ) (xs : List Act) (a : Act) (rest : List Act) : Type 0 where
   pub newer : List Event
   pub older : List Event
@@ -52,7 +57,7 @@ pub record Was (k : Shape) (es : List Event) (j : ℕ) (xs : List Act) (a : Act)
   pub log : view.log ≡ rest
   pub tells : Reports a (word k older (place a))
   pub live : view.number ≢ 0
-  pub may : May k (run k older) (history older) view a
+  pub may : IsStep a → May k (run k older) (history older) view a
   -- what it had found in roots by then, and when, is the same where it has announced nothing since
   pub seen : Online (xs ++ a ∷ []) → (t : ℕ) → reads t rest ≡ true → seen older j t ≡ seen es j t
 
@@ -96,8 +101,30 @@ by_front : (k : Shape) (es : List Event) (id : ℕ) (v : View) (b : Act) → Val
 by_front k es id v b valid before [] a rest e =
     let same : b ≡ a = cc in
     let log : v.log ≡ rest = cc in
-    subst (λ (z : Act). Was k (did id v b ∷ es) id [] z rest) same (record { newer = did id v b ∷ []; older = es; view = v; split = refl; valid = valid.0; at = valid.1.0; log = log; tells = valid.1.2; live = valid.1.1; may = valid.1.3; seen = λ on t r. seen_own id v b es t (ap (reads t) log ∙ r) })
+    subst (λ (z : Act). Was k (did id v b ∷ es) id [] z rest) same (record { newer = did id v b ∷ []; older = es; view = v; split = refl; valid = valid.0; at = valid.1.0; log = log; tells = valid.1.2; live = valid.1.1; may = λ _. valid.1.3; seen = λ on t r. seen_own id v b es t (ap (reads t) log ∙ r) })
 by_front k es id v b valid before (x ∷ xs) a rest e = own_next k es id v b x xs a rest (cc) (cc) (before xs a rest (cc))
+
+-- what a join adds to the log
+by_join : (k : Shape) (es : List Event) (id : ℕ) (v : View) (other : ℕ) (w : View) → Valid k (joined id v other w ∷ es) → Each k es id v → Each k (joined id v other w ∷ es) id (both v w)
+by_join k es id v other w valid before [] a rest e =
+    let same : TookOver (hands_over w.log) ≡ a = cc in
+    let log : v.log ≡ rest = cc in
+    subst (λ (z : Act). Was k (joined id v other w ∷ es) id [] z rest) same (record { newer = joined id v other w ∷ []; older = es; view = v; split = refl; valid = valid.0; at = valid.1.0; log = log; tells = tt; live = valid.1.3; may = λ no. absurd no; seen = λ on t r. refl })
+by_join k es id v other w valid before (x ∷ xs) a rest e =
+    let was = before xs a rest (cc) in
+    record {
+      newer = joined id v other w ∷ was.newer;
+      older = was.older;
+      view = was.view;
+      split = ap (λ (l : List Event). joined id v other w ∷ l) was.split;
+      valid = was.valid;
+      at = was.at;
+      log = was.log;
+      tells = was.tells;
+      live = was.live;
+      may = was.may;
+      seen = λ on t r. was.seen (online_rest x (xs ++ a ∷ []) on) t r;
+    }
 
 -- each action in a log was done
 pub was : (k : Shape) (es : List Event) → Valid k es → (j : ℕ) (u : View) → get_elem? (run k es).views j ≡ some u → (xs : List Act) (a : Act) (rest : List Act) → u.log ≡ xs ++ a ∷ rest → Was k es j xs a rest
@@ -118,7 +145,7 @@ was k (sent id v given ∷ es) valid =
 was k (joined id v other w ∷ es) valid =
     let old = was k es valid.0 in
     set_views (Each k (joined id v other w ∷ es)) _ other spent (no_log k (joined id v other w ∷ es) other)
-    (λ j u _. set_views (Each k (joined id v other w ∷ es)) _ id (both v w) (λ xs a rest is. later k es (joined id v other w) id xs a rest (λ t. refl) (old id v valid.1.0 xs a rest is)) (λ j u _ e xs a rest is. later k es (joined id v other w) j xs a rest (λ t. refl) (old j u e xs a rest is)) j u)
+    (λ j u _. set_views (Each k (joined id v other w ∷ es)) _ id (both v w) (by_join k es id v other w valid (old id v valid.1.0)) (λ j u _ e xs a rest is. later k es (joined id v other w) j xs a rest (λ t. refl) (old j u e xs a rest is)) j u)
 
 -- the rest of a valid trace is valid
 pub valid_rest : (k : Shape) (newer older : List Event) → Valid k (newer ++ older) → Valid k older

@@ -189,8 +189,8 @@ module _ (k : Shape) (es : List Event) (valid : Valid k es) (j : ℕ) (u : View)
       let found : f ≡ count k w.older = w.tells in
       let then_ = (stamp_then k w.older es w.valid valid (record { newer = w.newer; is = w.split }) f found).1 in
       let world : (stored_newest k.kinds (history w.older)).world ≡ world_at f = ap (λ (cs : List Call). (stored_newest k.kinds cs).world) (sym then_) ∙ (ap (λ (z : StoredWorld). z.world) (stored_in_order k.kinds f (history es)) ∙ stored_world k.kinds (take f calls)) in
-      let none : moved_cursor c ≡ None = writes_no_cursor c r w.may.0 in
-      let replied : IsReplied c r (answer (world_at f) no_hands c).reply = subst (λ (z : List Content). IsReplied c r (answer z no_hands c).reply) world w.may.4 in
+      let none : moved_cursor c ≡ None = writes_no_cursor c r (w.may tt).0 in
+      let replied : IsReplied c r (answer (world_at f) no_hands c).reply = subst (λ (z : List Content). IsReplied c r (answer z no_hands c).reply) world (w.may tt).4 in
       more l (Commit c r f s ∷ l) x mine g
       (plain_next (reverse mine) x l (Commit c r f s ∷ l) g (ap (λ (z : Entry). moved_cursor z.call) e ∙ none) (λ n. refl)
       (subst (λ (z : Entry). IsReplied z.call z.reply (answer (world_at z.stamp) no_hands z.call).reply) (sym e) replied))
@@ -200,9 +200,9 @@ module _ (k : Shape) (es : List Event) (valid : Valid k es) (j : ℕ) (u : View)
       let e : entry_of x ≡ record { call = c; reply = r; stamp = n; wrote = false } = cc in
       let rest : map entry_of mine ≡ own_entries l = cc in
       let g = before mine rest (All-tail (AsksWithin room) x mine within) in
-      let replied : IsReplied c r (answer (world_at n) no_hands c).reply = subst (λ (z : List Content). IsReplied c r (answer z no_hands c).reply) (world_then w.newer w.older w.split w.valid n w.may.1) w.may.2 in
+      let replied : IsReplied c r (answer (world_at n) no_hands c).reply = subst (λ (z : List Content). IsReplied c r (answer z no_hands c).reply) (world_then w.newer w.older w.split w.valid n (w.may tt).1) (w.may tt).2 in
       more l (Answered c r n ∷ l) x mine g
-      (plain_next (reverse mine) x l (Answered c r n ∷ l) g (ap (λ (z : Entry). moved_cursor z.call) e ∙ w.may.6) (λ q. refl)
+      (plain_next (reverse mine) x l (Answered c r n ∷ l) g (ap (λ (z : Entry). moved_cursor z.call) e ∙ (w.may tt).6) (λ q. refl)
       (subst (λ (z : Entry). IsReplied z.call z.reply (answer (world_at z.stamp) no_hands z.call).reply) (sym e) replied))
   step newer (AnswerCursor c r n m had left) l is before [] own within = absurd (cc)
   step newer (AnswerCursor c r n m had left) l is before (x ∷ mine) own within =
@@ -210,10 +210,10 @@ module _ (k : Shape) (es : List Event) (valid : Valid k es) (j : ℕ) (u : View)
       let e : entry_of x ≡ record { call = c; reply = r; stamp = n; wrote = false } = cc in
       let rest : map entry_of mine ≡ own_entries l = cc in
       let g = before mine rest (All-tail (AsksWithin room) x mine within) in
-      let moves_it : MovesCursor (world_at n) c m had r left = subst (λ (z : List Content). MovesCursor z c m had r left) (world_then w.newer w.older w.split w.valid n w.may.1) w.may.2 in
-      let moved : moved_cursor x.call ≡ Some m = ap (λ (z : Entry). moved_cursor z.call) e ∙ w.may.0 in
+      let moves_it : MovesCursor (world_at n) c m had r left = subst (λ (z : List Content). MovesCursor z c m had r left) (world_then w.newer w.older w.split w.valid n (w.may tt).1) (w.may tt).2 in
+      let moved : moved_cursor x.call ≡ Some m = ap (λ (z : Entry). moved_cursor z.call) e ∙ (w.may tt).0 in
       let low : m < room = subst (λ (z : Option ℕ). IfSome z (λ q. q < room)) moved (All-head (AsksWithin room) x mine within) in
-      let next = moved_next (reverse mine) x l m had left g low moved (w.may.4 ∙ ap (cursor_in m) w.log)
+      let next = moved_next (reverse mine) x l m had left g low moved ((w.may tt).4 ∙ ap (cursor_in m) w.log)
       (subst (λ (z : Entry). MovesCursor (world_at z.stamp) z.call m had z.reply left) (sym e) moves_it) in
       more l (AnswerCursor c r n m had left ∷ l) x mine g
       (subst (λ (z : Entry). Next (reverse mine) x (AnswerCursor z.call z.reply z.stamp m had left ∷ l)) e next)

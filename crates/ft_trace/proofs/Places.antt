@@ -8,17 +8,18 @@ use Rattle.ft_trace.specs.declared.Snap.{Snap}
 use Rattle.ft_trace.specs.declared.Shape.{Shape}
 use Rattle.ft_trace.specs.declared.View.{View}
 use Rattle.ft_trace.specs.declared.Act.{Act}
-use Rattle.ft_trace.specs.declared.Act.TheVariants.{PutBlock, PutRoot, ReadBlock, ReadRoot, ReadFree, TakeTable, GiveTable, Retire}
+use Rattle.ft_trace.specs.declared.Act.TheVariants.{PutBlock, PutRoot, ReadBlock, ReadRoot, ReadFree, TakeTable, GiveTable, Retire, TookOver}
 use Rattle.ft_trace.specs.Bits.{bit}
 use Rattle.ft_trace.specs.Addresses.{Word, bits, block, IsTable, free_word_of, free_bit_of, containers_in}
-use Rattle.ft_trace.specs.Acts.{place, word_after, Reports, stage, stage_next, starter, noted, maker, made, both, spent, sender, note}
+use Rattle.ft_trace.specs.Acts.{place, word_after, Reports, stage, stage_next, is_handed, hands_over, starter, noted, maker, made, both, spent, sender, note}
 use Rattle.ft_trace.specs.Traces.{Event, did, forked, joined, sent, run, word, history, May, Valid}
-use Rattle.ft_trace.specs.Ages.{aged, age, gone_to, whose}
+use Rattle.ft_trace.specs.Ages.{aged, age, gone_to, whose, keeper}
 use Rattle.ft_trace.proofs.Sizes.{set_views, one_more, one_view}
 use Rattle.ft_trace.proofs.Bits.{off_same, on_same, off_else, on_else, bit_small}
 use Rattle.ft_trace.proofs.Addresses.{fw_low, bt_low, same_bit, bit_first, block_first}
 use Rattle.ft_trace.proofs.Cases.{hit, miss, here, same_or}
 use Rattle.ft_trace.proofs.Words.{stays, moves, loaded}
+use Rattle.ft_trace.proofs.HandedOver.{either_way, where_true, where_false, handed_is}
 
 abbrev pub root : Shape → List Event → ℕ → ℕ
 root k es o = word k es (block o 0)
@@ -129,6 +130,7 @@ module _ (k : Shape) (es : List Event) (id : ℕ) (v : View) (t : ℕ) (table : 
     on_table (ReadBlock p i f) = λ found may. other (ReadBlock p i f) (calm_by (ReadBlock p i f) (λ n. refl) (λ g. refl) (λ w. refl) (bit_stays (ReadBlock p i f) may (λ e. absurd (cc))) (λ o low. loaded k es id v (ReadBlock p i f) (λ n. refl) (block o 0)))
     on_table (ReadRoot p f) = λ found may. other (ReadRoot p f) (calm_by (ReadRoot p f) (λ n. refl) (λ g. refl) (λ w. refl) (bit_stays (ReadRoot p f) may (λ e. absurd (cc))) (λ o low. loaded k es id v (ReadRoot p f) (λ n. refl) (block o 0)))
     on_table (ReadFree w f) = λ found may. other (ReadFree w f) (calm_by (ReadFree w f) (λ n. refl) (λ g. refl) (λ w. refl) (ap (bit (free_bit_of t)) (loaded k es id v (ReadFree w f) (λ n. refl) (bits (free_word_of t)))) (no_root (ReadFree w f) may (λ o e. absurd (cc))))
+    on_table (TookOver hs) = λ found may. absurd may
     on_table act = λ found may. other act (calm_by act (λ n. refl) (λ g. refl) (λ w. refl) (bit_stays act may (λ e. absurd (cc))) (no_root act may (λ o e. absurd (cc))))
 
 -- no pass has a table that is current
@@ -145,6 +147,9 @@ stage_by t (PutRoot o r old) n ne =
     (λ far z.
     dite (ℕ_discrete old (suc t)) (λ (e : old ≡ suc t). let x : 3 ≡ 2 = sym (miss r (suc t) 0 (cond (eqb old (suc t)) 3 n) far ∙ here old (suc t) 3 n e) ∙ z in absurd (omega (arith, x)))
     (λ off. ne (sym (miss r (suc t) 0 (cond (eqb old (suc t)) 3 n) far ∙ miss old (suc t) 3 n off) ∙ z)))
+stage_by t (TookOver hs) n ne =
+    either_way (is_handed t hs) (λ there z. let x : 4 ≡ 2 = sym (where_true (is_handed t hs) 4 n there) ∙ z in absurd (omega (arith, x)))
+    (λ none z. ne (sym (where_false (is_handed t hs) 4 n none) ∙ z))
 stage_by t act n ne = ne
 
 pub not_current : (t : ℕ) (l : List Act) → stage t l ≢ 2
@@ -154,12 +159,12 @@ not_current t (a ∷ l) = stage_by t a (stage t l) (not_current t l)
 pub record Placed (k : Shape) (es : List Event) (t : ℕ) : Type 0 where
   pub free_is : bit (free_bit_of t) (word k es (bits (free_word_of t))) ≡ 1 → age es t % 5 ≡ 0
   pub is_free : age es t % 5 ≡ 0 → bit (free_bit_of t) (word k es (bits (free_word_of t))) ≡ 1
-  pub hands : (j : ℕ) (u : View) → get_elem? (run k es).views j ≡ some u → stage t u.log ≢ 0 → (age es t % 5 ≡ stage t u.log) × (whose es t ≡ j)
+  pub hands : (j : ℕ) (u : View) → get_elem? (run k es).views j ≡ some u → stage t u.log ≢ 0 → (age es t % 5 ≡ stage t u.log) × (keeper es t ≡ j)
   pub roots : (o : ℕ) → o < containers_in k → root k es o ≡ suc t → (age es t % 5 ≡ 2) × (whose es t ≡ o)
   pub current : age es t % 5 ≡ 2 → (whose es t < containers_in k) × (root k es (whose es t) ≡ suc t)
 
 abbrev Hand : List Event → ℕ → ℕ → View → Type 0
-Hand es t j u = stage t u.log ≢ 0 → (age es t % 5 ≡ stage t u.log) × (whose es t ≡ j)
+Hand es t j u = stage t u.log ≢ 0 → (age es t % 5 ≡ stage t u.log) × (keeper es t ≡ j)
 
 pub placed : (k : Shape) (es : List Event) → Valid k es → (t : ℕ) → IsTable k t → Placed k es t
 placed k [] valid t table = record {
@@ -173,6 +178,7 @@ placed k (did id v a ∷ es) valid t table =
     let old = placed k es valid.0 t table in
     let g = age es t in
     let w = whose es t in
+    let y = keeper es t in
     let n = stage t v.log in
     let F : Act → Type 0 = λ b. Valid k (did id v b ∷ es) → Placed k (did id v b ∷ es) t in
     on_table k es id v t table F
@@ -180,7 +186,7 @@ placed k (did id v a ∷ es) valid t table =
     let A : Act = TakeTable t f s in
     let was : g % 5 ≡ 0 = old.free_is (ap (bit (free_bit_of t)) (sym ok.1.2) ∙ one) in
     let now : aged A t g ≡ g + 1 = hit t (cond (eqb (bit (free_bit_of t) f) 1) (g + 1) g) g ∙ here (bit (free_bit_of t) f) 1 (g + 1) g one in
-    let whom : gone_to id A t w ≡ id = hit t (cond (eqb (bit (free_bit_of t) f) 1) id w) w ∙ here (bit (free_bit_of t) f) 1 id w one in
+    let whom : gone_to id A t y ≡ id = hit t (cond (eqb (bit (free_bit_of t) f) 1) id y) y ∙ here (bit (free_bit_of t) f) 1 id y one in
     let mine : stage_next t A n ≡ 1 = hit t (cond (eqb (bit (free_bit_of t) f) 1) 1 n) n ∙ here (bit (free_bit_of t) f) 1 1 n one in
     record {
       free_is = λ b. absurd (let z : bit (free_bit_of t) (word k (did id v A ∷ es) (bits (free_word_of t))) ≡ 0 = ap (bit (free_bit_of t)) (moves k es id v A ok.1.3) ∙ off_same (free_bit_of t) (word k es (bits (free_word_of t))) (bt_low t) in omega (arith, z, b));
@@ -230,7 +236,7 @@ placed k (did id v a ∷ es) valid t table =
     let p = old.roots o may.0 (sym may.2) in
     let was = p.0 in
     let now : aged A t g ≡ g + 1 = miss r (suc t) (g + 1) (cond (eqb (suc t) (suc t)) (g + 1) g) ne ∙ hit (suc t) (g + 1) g in
-    let whom : gone_to id A t w ≡ id = miss r (suc t) o (cond (eqb (suc t) (suc t)) id w) ne ∙ hit (suc t) id w in
+    let whom : gone_to id A t y ≡ id = miss r (suc t) o (cond (eqb (suc t) (suc t)) id y) ne ∙ hit (suc t) id y in
     let mine : stage_next t A n ≡ 3 = miss r (suc t) 0 (cond (eqb (suc t) (suc t)) 3 n) ne ∙ hit (suc t) 3 n in
     let stay : word k (did id v A ∷ es) (bits (free_word_of t)) ≡ word k es (bits (free_word_of t)) = stays k es id v A may (bits (free_word_of t)) (fw_low k t table) (λ e. absurd (cc)) in
     record {
@@ -261,12 +267,13 @@ placed k (did id v a ∷ es) valid t table =
     (λ b c ok.
     let gs = c.age g in
     let ws = c.whose w in
+    let ys = c.whose y in
     record {
       free_is = λ e. ap (λ (z : ℕ). z % 5) gs ∙ old.free_is (sym c.free ∙ e);
       is_free = λ e. c.free ∙ old.is_free (ap (λ (z : ℕ). z % 5) (sym gs) ∙ e);
       hands = set_views (Hand (did id v b ∷ es) t) _ id (noted b v)
-          (λ some_one. let h = old.hands id v ok.1.0 (λ z. some_one (c.stage n ∙ z)) in (ap (λ (z : ℕ). z % 5) gs ∙ (h.0 ∙ sym (c.stage n)), ws ∙ h.1))
-          (λ j u _ e some_one. let h = old.hands j u e some_one in (ap (λ (z : ℕ). z % 5) gs ∙ h.0, ws ∙ h.1));
+          (λ some_one. let h = old.hands id v ok.1.0 (λ z. some_one (c.stage n ∙ z)) in (ap (λ (z : ℕ). z % 5) gs ∙ (h.0 ∙ sym (c.stage n)), ys ∙ h.1))
+          (λ j u _ e some_one. let h = old.hands j u e some_one in (ap (λ (z : ℕ). z % 5) gs ∙ h.0, ys ∙ h.1));
       roots = λ o low e. let h = old.roots o low (c.roots o low e) in (ap (λ (z : ℕ). z % 5) gs ∙ h.0, ws ∙ h.1);
       current = λ e.
           let h = old.current (ap (λ (z : ℕ). z % 5) (sym gs) ∙ e) in
@@ -281,4 +288,30 @@ placed k (sent id v given ∷ es) valid t table =
     record { free_is = old.free_is; is_free = old.is_free; hands = one_more (Hand es t) _ (note given v) (λ no. absurd (no refl)) (set_views (Hand es t) _ id (sender given v) (old.hands id v valid.1.0) (λ j u _ e. old.hands j u e)); roots = old.roots; current = old.current }
 placed k (joined id v other w ∷ es) valid t table =
     let old = placed k es valid.0 t table in
-    record { free_is = old.free_is; is_free = old.is_free; hands = set_views (Hand es t) _ other spent (λ no. absurd (no refl)) (λ j u _. set_views (Hand es t) _ id (both v w) (old.hands id v valid.1.0) (λ j u _ e. old.hands j u e) j u); roots = old.roots; current = old.current }
+    let now = joined id v other w ∷ es in
+    let b = is_handed t (hands_over w.log) in
+    let n = stage t v.log in
+    let mine : Hand now t id (both v w) =
+    either_way b
+    (λ there _.
+    let four = (handed_is t w.log there).0 in
+    let h = (old.hands other w valid.1.2 (λ z. absurd (omega (arith, z, four)))).0 in
+    (h ∙ (four ∙ sym (where_true b 4 n there)), where_true b id (keeper es t) there))
+    (λ none some_one.
+    let h = old.hands id v valid.1.0 (λ z. some_one (where_false b 4 n none ∙ z)) in
+    (h.0 ∙ sym (where_false b 4 n none), where_false b id (keeper es t) none ∙ h.1)) in
+    let theirs : (j : ℕ) (u : View) → j ≢ other → get_elem? (run k es).views j ≡ some u → Hand now t j u = λ j u apart e some_one.
+    let h = old.hands j u e some_one in
+    either_way b
+    (λ there.
+    let four = (handed_is t w.log there).0 in
+    absurd (apart (sym h.1 ∙ (old.hands other w valid.1.2 (λ z. absurd (omega (arith, z, four)))).1)))
+    (λ none. (h.0, where_false b id (keeper es t) none ∙ h.1)) in
+    record {
+      free_is = old.free_is;
+      is_free = old.is_free;
+      hands = set_views (Hand now t) _ other spent (λ no. absurd (no refl))
+          (λ j u apart e. set_views (λ i z. i ≢ other → Hand now t i z) _ id (both v w) (λ _. mine) (λ i z _ at far. theirs i z far at) j u e apart);
+      roots = old.roots;
+      current = old.current;
+    }

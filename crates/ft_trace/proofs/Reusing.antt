@@ -8,15 +8,17 @@ use lib.ListN.{get_elem?}
 use Rattle.ft_trace.specs.declared.Shape.{Shape}
 use Rattle.ft_trace.specs.declared.View.{View}
 use Rattle.ft_trace.specs.declared.Act.{Act}
-use Rattle.ft_trace.specs.declared.Act.TheVariants.{TakeTable, GiveTable, PutRoot, Retire, ReadAnnounced, ReadRoot, Announce}
+use Rattle.ft_trace.specs.declared.Handed.{Handed}
+use Rattle.ft_trace.specs.declared.Act.TheVariants.{TakeTable, GiveTable, PutRoot, Retire, ReadAnnounced, ReadRoot, Announce, TookOver}
 use Rattle.ft_trace.specs.Bits.{bit}
 use Rattle.ft_trace.specs.Addresses.{write_number, announced_of, bits, IsTable, free_word_of, free_bit_of}
-use Rattle.ft_trace.specs.Acts.{stage, stage_next, goal, goal_next, announces, reads, reads_next, clear, clear_next, starter, noted, maker, made, both, spent, sender, note}
+use Rattle.ft_trace.specs.Acts.{stage, stage_next, goal, goal_next, announces, reads, reads_next, clear, clear_next, is_handed, hands_over, starter, noted, maker, made, both, spent, sender, note}
 use Rattle.ft_trace.specs.Ages.{aged, age, all_acts}
 use Rattle.ft_trace.specs.Traces.{Event, did, forked, joined, sent, run, word, Valid}
 use Rattle.ft_trace.proofs.Sizes.{set_views, one_more, one_view}
 use Rattle.ft_trace.proofs.Cases.{hit, miss, here, off, same_or}
 use Rattle.ft_trace.proofs.Announcing.{heard, fits}
+use Rattle.ft_trace.proofs.HandedOver.{either_way, where_true, where_false, handed_is, goal_of, no_goal}
 use Rattle.ft_trace.proofs.Places.{on_table, placed}
 
 -- what the action is to the goal of t and to those who have passed it
@@ -39,13 +41,14 @@ one : (b : Bool) (x n : ℕ) → x ≢ 4 → cond b x n ≡ 4 → n ≡ 4
 one true x n ne e = absurd (ne e)
 one false x n ne e = e
 
-on_goal : (t : ℕ) (F : Act → Type 0) → ((f : ℕ) → F (Retire t f)) → ((q f : ℕ) → F (ReadAnnounced q f)) → ((a : Act) → Mild t a → F a) → (a : Act) → F a
-on_goal t F retire hear other (Retire p f) = same_or (λ (z : ℕ). F (Retire z f)) p t (retire f) (λ ne. other (Retire p f) (record { stage = λ n e. sym (miss p t 4 n ne) ∙ e; goal = λ g. miss p t (f + 1) g ne; clear = λ q g b. miss p t false b ne }))
-on_goal t F retire hear other (ReadAnnounced q f) = hear q f
-on_goal t F retire hear other (TakeTable p f s) = other (TakeTable p f s) (record { stage = λ n e. three (eqb p t) (eqb (bit (free_bit_of t) f) 1) 1 n (λ z. absurd (omega (arith, z))) e; goal = λ g. refl; clear = λ p g b. refl })
-on_goal t F retire hear other (GiveTable p) = other (GiveTable p) (record { stage = λ n e. one (eqb p t) 0 n (λ z. absurd (omega (arith, z))) e; goal = λ g. refl; clear = λ p g b. refl })
-on_goal t F retire hear other (PutRoot o r old) = other (PutRoot o r old) (record { stage = λ n e. two (eqb r (suc t)) (eqb old (suc t)) 0 3 n (λ z. absurd (omega (arith, z))) (λ z. absurd (omega (arith, z))) e; goal = λ g. refl; clear = λ p g b. refl })
-on_goal t F retire hear other act = other act (record { stage = λ n e. e; goal = λ g. refl; clear = λ p g b. refl })
+on_goal : (t : ℕ) (F : Act → Type 0) → ((f : ℕ) → F (Retire t f)) → ((q f : ℕ) → F (ReadAnnounced q f)) → ((hs : List Handed) → F (TookOver hs)) → ((a : Act) → Mild t a → F a) → (a : Act) → F a
+on_goal t F retire hear took other (Retire p f) = same_or (λ (z : ℕ). F (Retire z f)) p t (retire f) (λ ne. other (Retire p f) (record { stage = λ n e. sym (miss p t 4 n ne) ∙ e; goal = λ g. miss p t (f + 1) g ne; clear = λ q g b. miss p t false b ne }))
+on_goal t F retire hear took other (ReadAnnounced q f) = hear q f
+on_goal t F retire hear took other (TakeTable p f s) = other (TakeTable p f s) (record { stage = λ n e. three (eqb p t) (eqb (bit (free_bit_of t) f) 1) 1 n (λ z. absurd (omega (arith, z))) e; goal = λ g. refl; clear = λ p g b. refl })
+on_goal t F retire hear took other (GiveTable p) = other (GiveTable p) (record { stage = λ n e. one (eqb p t) 0 n (λ z. absurd (omega (arith, z))) e; goal = λ g. refl; clear = λ p g b. refl })
+on_goal t F retire hear took other (PutRoot o r old) = other (PutRoot o r old) (record { stage = λ n e. two (eqb r (suc t)) (eqb old (suc t)) 0 3 n (λ z. absurd (omega (arith, z))) (λ z. absurd (omega (arith, z))) e; goal = λ g. refl; clear = λ p g b. refl })
+on_goal t F retire hear took other (TookOver hs) = took hs
+on_goal t F retire hear took other act = other act (record { stage = λ n e. e; goal = λ g. refl; clear = λ p g b. refl })
 
 -- what the log of the pass that has retired t says of it stands in the log of all
 pub record Linked (t : ℕ) (es : List Event) (u : View) : Type 0 where
@@ -91,6 +94,7 @@ linked k (did id v a ∷ es) valid t table =
       clear_is = λ z p x. subst (λ (y : ℕ). clear_next t p y (ReadAnnounced q f) (clear t p G) ≡ true) (sym (m.goal_is z)) (more (eqb q p) (eqb f 0) (ltb f (goal t v.log)) (clear t p v.log) (clear t p G) (m.clear_is z p) x);
     })
     (λ j u ne e. let o = old j u e in record { goal_is = o.goal_is; clear_is = λ z p x. raise (eqb q p) (eqb f 0) (ltb f (goal t G)) (clear t p G) (o.clear_is z p x) }))
+    (λ hs ok. absurd ok.1.3)
     (λ b c ok.
     set_views (λ j u. Linked t (did id v b ∷ es) u) _ id (noted b v)
     (record {
@@ -110,8 +114,21 @@ linked k (sent id v given ∷ es) valid t table =
 linked k (joined id v other w ∷ es) valid t table =
     let old = linked k es valid.0 t table in
     let m = old id v valid.1.0 in
-    set_views (λ j u. Linked t (joined id v other w ∷ es) u) _ other spent (none_yet t (joined id v other w ∷ es) spent refl)
-    (λ j u _. set_views (λ j u. Linked t (joined id v other w ∷ es) u) _ id (both v w) (record { goal_is = m.goal_is; clear_is = m.clear_is }) (λ j u _ e. let o = old j u e in record { goal_is = o.goal_is; clear_is = o.clear_is }) j u)
+    let o = old other w valid.1.2 in
+    let now = joined id v other w ∷ es in
+    let b = is_handed t (hands_over w.log) in
+    let n = stage t v.log in
+    let was : b ≡ false → stage t (both v w).log ≡ 4 → n ≡ 4 = λ none z. sym (where_false b 4 n none) ∙ z in
+    let mine : Linked t now (both v w) = record {
+      goal_is = λ z.
+          either_way b (λ there. o.goal_is (handed_is t w.log there).0 ∙ sym (goal_of t w.log (goal t v.log) there))
+          (λ none. m.goal_is (was none z) ∙ sym (no_goal t (hands_over w.log) (goal t v.log) none));
+      clear_is = λ z p x.
+          either_way b (λ there. off (sym (where_true b false (clear t p v.log) there) ∙ x))
+          (λ none. m.clear_is (was none z) p (sym (where_false b false (clear t p v.log) none) ∙ x));
+    } in
+    set_views (λ j u. Linked t now u) _ other spent (none_yet t now spent refl)
+    (λ j u _. set_views (λ j u. Linked t now u) _ id (both v w) mine (λ j u _ e. let l = old j u e in record { goal_is = l.goal_is; clear_is = l.clear_is }) j u)
 
 -- r: the pass has found t in a root since it announced a
 pub record Safe (k : Shape) (t : ℕ) (G : List Act) (g : ℕ) (r : Bool) (a number : ℕ) : Type 0 where
@@ -180,6 +197,7 @@ safe_calm k es id v t table old (Retire q f) same ok =
     subst (λ (z : ℕ). Safe k t (A ∷ G) z (reads t u.log) (announces u.log) u.number) (sym same)
     (record { read_is = λ r. let h = o.read_is r in (h.0, (λ four. let x = h.1 four in omega (arith, x, gl)), h.2, h.3, h.4); clear_is = λ four c r. o.clear_is four (sym (cl u.number) ∙ c) r }) in
     set_views (λ j u. SafeAt k t (did id v A ∷ es) u) _ id (noted A v) (lift id v ok.1.0) (λ j u _ e. lift j u e)
+safe_calm k es id v t table old (TookOver hs) same ok = absurd ok.1.3
 safe_calm k es id v t table old act same ok =
     let lift : (j : ℕ) (u : View) → get_elem? (run k es).views j ≡ some u → Safe k t (act ∷ all_acts es) (aged act t (age es t)) (reads t u.log) (announces u.log) u.number = λ j u e.
     let o = old j u e in

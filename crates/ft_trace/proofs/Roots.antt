@@ -3,10 +3,10 @@ use Rattle.std.proofs.Common.{◌≡◌, ◌≢◌, ◌⊎◌, inl, inr, ⊎_eli
 use mathlib.Core.Option.{some}
 use lib.ListN.{get_elem?}
 use Rattle.ft_trace.specs.declared.Act.{Act}
-use Rattle.ft_trace.specs.declared.Act.TheVariants.{StartWrite, StopWrite, PutRoot, PutBlock, ReadBlock, ReadRoot, Commit}
+use Rattle.ft_trace.specs.declared.Act.TheVariants.{StartWrite, StopWrite, PutRoot, PutBlock, ReadBlock, ReadRoot, Commit, TookOver}
 use Rattle.ft_trace.specs.declared.Shape.{Shape}
 use Rattle.ft_trace.specs.declared.View.{View}
-use Rattle.ft_trace.specs.Acts.{is_writing, is_writing_next, has_emptied, has_emptied_next, noted, starter, maker, made, note, sender, both, spent}
+use Rattle.ft_trace.specs.Acts.{is_writing, is_writing_next, has_emptied, has_emptied_next, noted, starter, maker, made, note, sender, both, spent, hands_over}
 use Rattle.ft_trace.specs.Addresses.{block, containers_in}
 use Rattle.ft_trace.specs.Roots.{OfOneWrite, BeganBare, ZeroRootsHaveCauses, RetiredTablesAreApart}
 use Rattle.ft_trace.specs.Traces.{Event, did, forked, sent, joined, run, history, May, Valid}
@@ -46,6 +46,13 @@ began_later k es e o j log b = record { newer = e ∷ b.newer; older = b.older; 
 
 cause_later : (k : Shape) (es : List Event) (e : Event) (o j : ℕ) (u : View) → root k (e ∷ es) o ≡ root k es o → Cause k es o j u → Cause k (e ∷ es) o j u
 cause_later k es e o j u same old writes none = ⊎_elim (λ z. inl z) (λ b. inr (began_later k es e o j u.log b)) (old writes (sym same ∙ none))
+
+-- who takes in another pass goes on with its own write
+cause_joined : (k : Shape) (es : List Event) (id : ℕ) (v : View) (other : ℕ) (w : View) (o : ℕ) → Cause k es o id v → Cause k (joined id v other w ∷ es) o id (both v w)
+cause_joined k es id v other w o old writes none =
+    ⊎_elim (λ z. inl z)
+    (λ b. inr (record { newer = joined id v other w ∷ b.newer; older = b.older; view = b.view; found = b.found; split = ap (λ (l : List Event). joined id v other w ∷ l) b.split; own = TookOver (hands_over w.log) ∷ b.own; is = ap (λ (l : List Act). TookOver (hands_over w.log) ∷ l) b.is; one = b.one; nothing = b.nothing }))
+    (old writes none)
 
 pub causes : (k : Shape) (es : List Event) → Valid k es → (o : ℕ) → o < containers_in k → (j : ℕ) (u : View) → get_elem? (run k es).views j ≡ some u → Cause k es o j u
 causes k [] valid o low = one_view (λ j u. Cause k [] o j u) (starter k) (λ no. off no)
@@ -95,14 +102,14 @@ causes k (sent id v given ∷ es) valid o low =
 causes k (joined id v other w ∷ es) valid o low =
     let old = causes k es valid.0 o low in
     let P : ℕ → View → Type 0 = λ j u. Cause k (joined id v other w ∷ es) o j u in
-    set_views P _ other spent (λ no. off no) (λ j u _. set_views P _ id (both v w) (cause_later k es (joined id v other w) o id v refl (old id v valid.1.0)) (λ j u _ e. cause_later k es (joined id v other w) o j u refl (old j u e)) j u)
+    set_views P _ other spent (λ no. off no) (λ j u _. set_views P _ id (both v w) (cause_joined k es id v other w o (old id v valid.1.0)) (λ j u _ e. cause_later k es (joined id v other w) o j u refl (old j u e)) j u)
 
 pub zero_roots_have_causes : ZeroRootsHaveCauses
 zero_roots_have_causes k es valid o low j u at = (
   causes k es valid o low j u at,
   λ newer rest c r f s is same emptied.
       let w = was k es valid j u at newer (Commit c r f s) rest is in
-      w.may.10 (subst (λ (z : ℕ). has_emptied z w.view.log ≡ true) (sym same) (ap (has_emptied o) w.log ∙ emptied)),
+      (w.may tt).10 (subst (λ (z : ℕ). has_emptied z w.view.log ≡ true) (sym same) (ap (has_emptied o) w.log ∙ emptied)),
 )
 
 pub retired_tables_are_apart : RetiredTablesAreApart

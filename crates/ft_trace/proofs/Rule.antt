@@ -5,12 +5,12 @@ use native.Mathlib.Decide.{ℕ_discrete}
 use Rattle.ft_trace.specs.Acts.{stage}
 use Rattle.std.specs.Prelude.{cond, nat_lt}
 use Rattle.ft_trace.specs.declared.View.{View}
-use Rattle.ft_trace.specs.Ages.{age, whose}
+use Rattle.ft_trace.specs.Ages.{age, whose, keeper}
 use Rattle.ft_trace.proofs.Moments.{valid_rest}
 use Rattle.ft_trace.specs.Entries.{is_number}
 use Rattle.ft_trace.specs.Words.{picture}
 use Rattle.ft_trace.specs.Traces.{run, history}
-use Rattle.ft_trace.specs.Laws.{StoredTablesAreInOrder, WordsLieApart, PairsAreUnderTheirKeys, ElementsAreUnderTheirKeys, OnePassIsAlone, StampsRise, MemoryErrorsAreEarned, LocksNameHolders, VersionsAreOddInWrites, EvenTablesAreShut, NumbersAreOnce, EntriesAreRight, OneHasAllEntries, EvenWordsStand, ZeroRootsHaveNothing, HoldersKnow, TablesAreSomewhere, TablesAreInOnePlace, CountsStand, TablesAreOwed, EmptyClassesAreEarned, AnnouncedNumbersAreLow, FoundTablesAreKept, GivenUpTablesRest, TablesAreSound, TableWordsStay, HitsAreRight, MissesAreRight, BareRootsAreRight, ItemsAreRight, ListsFitTheirTables, LooksAreRight, LooksAtBothAreRight, ChangedRootsAreNew, NumbersHaveRoom, NextSerialsAreLow}
+use Rattle.ft_trace.specs.Laws.{StoredTablesAreInOrder, WordsLieApart, PairsAreUnderTheirKeys, ElementsAreUnderTheirKeys, OnePassIsAlone, StampsRise, MemoryErrorsAreEarned, LocksNameHolders, VersionsAreOddInWrites, EvenTablesAreShut, NumbersAreOnce, EntriesAreRight, OneHasAllEntries, EvenWordsStand, ZeroRootsHaveNothing, HoldersKnow, TablesAreSomewhere, TablesAreInOnePlace, CountsStand, TablesAreOwed, EmptyClassesAreEarned, AnnouncedNumbersAreLow, FoundTablesAreKept, GivenUpTablesRest, TablesAreSound, TableWordsStay, HitsAreRight, MissesAreRight, BareRootsAreRight, ItemsAreRight, ListsFitTheirTables, LooksAreRight, LooksAtBothAreRight, ChangedRootsAreNew, NumbersHaveRoom, NextSerialsAreLow, CallsAreCounted}
 use Rattle.ft_trace.proofs.Locks.{names, holder, one_holder}
 use Rattle.ft_trace.proofs.Versions.{versioned, writer_has, writing_is_odd}
 use Rattle.ft_trace.proofs.Contents.{counted, tab, stands}
@@ -47,6 +47,7 @@ use Rattle.ft_trace.proofs.Optimistic.{looked_at_both, bare_at, looked_at}
 use Rattle.ft_trace.proofs.Anew.{is_new}
 use Rattle.ft_trace.proofs.Rooms.{counter_room, version_room}
 use Rattle.ft_trace.proofs.Serials.{next_low}
+use Rattle.ft_trace.proofs.Counted.{all_counted}
 use Rattle.ft_trace.proofs.Budgets.{goals_room, some_part}
 use Rattle.std.proofs.Common.{eqb, ◌+◌, ◌%◌}
 use Rattle.ft_trace.specs.Acts.{debt}
@@ -82,6 +83,9 @@ memory_errors_are_earned = empty_earned
 pub one_pass_has_all_entries : OneHasAllEntries
 one_pass_has_all_entries k es valid j u at all = closes k es valid (fits k es valid).some_pass j u at all
 
+pub calls_are_counted : CallsAreCounted
+calls_are_counted k es valid j u at all = all_counted k es valid (fits k es valid).some_pass j u at all
+
 pub words_stand_while_versions_are_even : EvenWordsStand
 words_stand_while_versions_are_even = stands
 
@@ -97,7 +101,7 @@ tables_are_somewhere k es valid t table =
     dite (ℕ_discrete (age es t % 5) 0) (λ z. inl (p.is_free z))
     (λ free. dite (ℕ_discrete (age es t % 5) 2) (λ two. let c = p.current two in inr (inl (whose es t, c.0, c.1)))
     (λ other. dite (ℕ_discrete (age es t % 5) 4) (λ four. inr (inr (inr four)))
-    (λ out. let h = handed k es valid t table free other out in inr (inr (inl (whose es t, h.by, h.at, λ z. free (sym h.has ∙ z)))))))
+    (λ out. let h = handed k es valid t table free other out in inr (inr (inl (keeper es t, h.by, h.at, λ z. free (sym h.has ∙ z)))))))
 
 pub tables_are_in_one_place : TablesAreInOnePlace
 tables_are_in_one_place k es valid t table =

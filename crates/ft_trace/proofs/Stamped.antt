@@ -93,14 +93,14 @@ commit_rises k es valid j u at newer rest c r f s is =
 pub answer_rises : (k : Shape) (es : List Event) → Valid k es → (j : ℕ) (u : View) → get_elem? (run k es).views j ≡ some u → (newer rest : List Act) (c : Call) (r : Reply) (n : ℕ) → u.log ≡ newer ++ Answer c r n ∷ rest → least_stamp rest ≤ n
 answer_rises k es valid j u at newer rest c r n is =
     let w = was k es valid j u at newer (Answer c r n) rest is in
-    let up = loaded_up k w.older w.valid j w.view w.at n w.may.3 in
+    let up = loaded_up k w.older w.valid j w.view w.at n (w.may tt).3 in
     let same : least_stamp w.view.log ≡ least_stamp rest = ap least_stamp w.log in
     omega (arith, up, same)
 
 pub moved_rises : (k : Shape) (es : List Event) → Valid k es → (j : ℕ) (u : View) → get_elem? (run k es).views j ≡ some u → (newer rest : List Act) (c : Call) (r : Reply) (n number : ℕ) (had : Option Cursor) (left : Cursor) → u.log ≡ newer ++ AnswerCursor c r n number had left ∷ rest → least_stamp rest ≤ n
 moved_rises k es valid j u at newer rest c r n number had left is =
     let w = was k es valid j u at newer (AnswerCursor c r n number had left) rest is in
-    let up = loaded_up k w.older w.valid j w.view w.at n w.may.3 in
+    let up = loaded_up k w.older w.valid j w.view w.at n (w.may tt).3 in
     let same : least_stamp w.view.log ≡ least_stamp rest = ap least_stamp w.log in
     omega (arith, up, same)
 

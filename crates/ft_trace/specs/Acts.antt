@@ -1,10 +1,11 @@
 -- What one action reads and writes, and what the actions of a pass say of it.
-use Rattle.std.specs.Prelude.{◌≡◌, ℕ, suc, max, ◌+◌, ◌-◌, ◌*◌, ◌^◌, ◌%◌, ◌==◌, nat_lt, Bool, true, false, cond, List, [], ◌∷◌, ◌++◌, slice_index, slice_set}
+use Rattle.std.specs.Prelude.{◌≡◌, ℕ, suc, max, ◌+◌, ◌-◌, ◌*◌, ◌^◌, ◌%◌, ◌==◌, nat_lt, Bool, true, false, cond, List, [], ◌∷◌, ◌++◌, map, slice_index, slice_set}
 use Rattle.std.specs.List.{flat_map}
 use prog.Atomic.{either}
 use Rattle.ft_trace.specs.declared.Act.{Act}
-use Rattle.ft_trace.specs.declared.Act.TheVariants.{Lock, Unlock, StartWrite, PutBlock, PutRoot, PutTable, PutFresh, PutHeader, ReadHeader, Commit, StopWrite, Version, ReadBlock, ReadRoot, ReadTable, ReadCounter, Answer, AnswerCursor, LowerCount, RaiseCount, ReadCount, ReadFree, TakeTable, GiveTable, Retire, Announce, ReadAnnounced, WriteNumber, TakeFloor}
+use Rattle.ft_trace.specs.declared.Act.TheVariants.{Lock, Unlock, StartWrite, PutBlock, PutRoot, PutTable, PutFresh, PutHeader, ReadHeader, Commit, StopWrite, Version, ReadBlock, ReadRoot, ReadTable, ReadCounter, Answer, AnswerCursor, LowerCount, RaiseCount, ReadCount, ReadFree, TakeTable, GiveTable, Retire, Announce, ReadAnnounced, WriteNumber, TakeFloor, TookOver}
 use Rattle.ft_trace.specs.declared.Entry.{Entry}
+use Rattle.ft_trace.specs.declared.Handed.{Handed}
 use Rattle.ft_trace.specs.declared.Shape.{Shape}
 use Rattle.ft_model.specs.declared.call.Call.{Call}
 use Rattle.ft_trace.specs.declared.View.{View}
@@ -42,6 +43,7 @@ place (Announce p x) = announced_of p
 place (ReadAnnounced p f) = announced_of p
 place (WriteNumber f) = write_number
 place (TakeFloor f s) = counter
+place (TookOver tables) = counter
 
 -- what the word becomes, by the pass of this number, where n was there
 abbrev pub word_after : ℕ → Act → ℕ → ℕ
@@ -126,12 +128,22 @@ abbrev pub has_emptied : ℕ → List Act → Bool
 has_emptied o [] = false
 has_emptied o (a ∷ l) = has_emptied_next o a (has_emptied o l)
 
+-- the table is among these, and its goal is this one there, or else g
+abbrev pub is_handed : ℕ → List Handed → Bool
+is_handed t [] = false
+is_handed t (one ∷ more) = cond (one.table == t) true (is_handed t more)
+
+abbrev pub handed_goal : ℕ → List Handed → ℕ → ℕ
+handed_goal t [] g = g
+handed_goal t (one ∷ more) g = cond (one.table == t) one.goal (handed_goal t more g)
+
 -- the pass has the table t: 1 fresh, 3 taken out of a root, 4 retired, and 0 where it has it not
 abbrev pub stage_next : ℕ → Act → ℕ → ℕ
 stage_next t (TakeTable p f s) n = cond (p == t) (cond (bit (free_bit_of t) f == 1) 1 n) n
 stage_next t (GiveTable p) n = cond (p == t) 0 n
 stage_next t (PutRoot o r old) n = cond (r == suc t) 0 (cond (old == suc t) 3 n)
 stage_next t (Retire p f) n = cond (p == t) 4 n
+stage_next t (TookOver tables) n = cond (is_handed t tables) 4 n
 stage_next t act n = n
 
 abbrev pub stage : ℕ → List Act → ℕ
@@ -141,6 +153,7 @@ stage t (a ∷ l) = stage_next t a (stage t l)
 -- the number that all must have announced before t is given back
 abbrev pub goal_next : ℕ → Act → ℕ → ℕ
 goal_next t (Retire p f) g = cond (p == t) (f + 1) g
+goal_next t (TookOver tables) g = handed_goal t tables g
 goal_next t act g = g
 
 abbrev pub goal : ℕ → List Act → ℕ
@@ -151,11 +164,34 @@ goal t (a ∷ l) = goal_next t a (goal t l)
 abbrev pub has_goal_next : ℕ → Act → Bool → Bool
 has_goal_next t (PutHeader p x) b = cond (p == t) true b
 has_goal_next t (GiveTable p) b = cond (p == t) false b
+has_goal_next t (TookOver tables) b = cond (is_handed t tables) true b
 has_goal_next t act b = b
 
 abbrev pub has_goal : ℕ → List Act → Bool
 has_goal t [] = false
 has_goal t (a ∷ l) = has_goal_next t a (has_goal t l)
+
+-- the tables whose goals the pass has put into their headers or that it took over, also such as it has given back since
+abbrev pub put_tables_next : Act → List ℕ → List ℕ
+put_tables_next (PutHeader t x) ts = t ∷ ts
+put_tables_next (TookOver tables) ts = map (λ one. one.table) tables ++ ts
+put_tables_next act ts = ts
+
+abbrev pub put_tables : List Act → List ℕ
+put_tables [] = []
+put_tables (a ∷ l) = put_tables_next a (put_tables l)
+
+-- the pass keeps t retired, and the goal of t stands in its header
+abbrev pub keeps_retired : ℕ → List Act → Bool
+keeps_retired t l = cond (stage t l == 4) (has_goal t l) false
+
+abbrev pub kept_of : List Act → List ℕ → List Handed
+kept_of l [] = []
+kept_of l (t ∷ ts) = cond (keeps_retired t l) (record { table = t; goal = goal t l } ∷ kept_of l ts) (kept_of l ts)
+
+-- the tables that a pass hands over when another takes it in, with their goals
+abbrev pub hands_over : List Act → List Handed
+hands_over l = kept_of l (put_tables l)
 
 -- what the pass announces, 0 for offline
 abbrev pub announces_next : Act → ℕ → ℕ
@@ -179,6 +215,7 @@ reads t (a ∷ l) = reads_next t a (reads t l)
 -- since it retired t the pass has found that the pass p stood at 0 or at the goal
 abbrev pub clear_next : ℕ → ℕ → ℕ → Act → Bool → Bool
 clear_next t p g (Retire q f) b = cond (q == t) false b
+clear_next t p g (TookOver tables) b = cond (is_handed t tables) false b
 clear_next t p g (ReadAnnounced q f) b = cond (q == p) (cond (f == 0) true (cond (nat_lt f g) b true)) b
 clear_next t p g act b = b
 
@@ -266,6 +303,7 @@ has_floor_next act b = b
 -- the words of the bank by the log of the pass with this number, right while no other pass may act
 abbrev pub floor_words_next : Shape → ℕ → Act → List ℕ → List ℕ
 floor_words_next k number (TakeFloor f s) ws = s.words
+floor_words_next k number (TookOver tables) ws = ws
 floor_words_next k number act ws =
     slice_set ws (at k (place act)) (word_after number act (slice_index ws (at k (place act))))
 
@@ -356,7 +394,8 @@ all_entries v = flat_map (λ l. l) (all_lists v)
 abbrev pub lists_of : View → List (List Entry)
 lists_of w = cond (w.number == 0) w.lists (all_lists w)
 
--- what two passes know, in the first one's place, and the second afterwards
+-- What two passes know, in the first one's place, and the second afterwards. The first one takes over the tables that
+-- the second keeps retired; a note has none.
 abbrev pub both : View → View → View
 both v w =
     record {
@@ -365,7 +404,7 @@ both v w =
       parts = v.parts + w.parts;
       left = v.left + w.left;
       shape = v.shape;
-      log = v.log;
+      log = TookOver (hands_over w.log) ∷ v.log;
       entries = v.entries;
       lists = v.lists ++ lists_of w;
       tokens = v.tokens + w.tokens;

@@ -1,7 +1,7 @@
 -- The floor: one pass has all tokens, so no other may take a step, and the words are those that its log gives.
 use Rattle.std.specs.Prelude.{◌≡◌, ◌≢◌, ℕ, true, List, [], ◌∷◌, slice_index}
 use Rattle.ft_trace.specs.declared.Act.{Act}
-use Rattle.ft_trace.specs.declared.Act.TheVariants.{TakeFloor}
+use Rattle.ft_trace.specs.declared.Act.TheVariants.{TakeFloor, TookOver}
 use Rattle.ft_trace.specs.declared.Shape.{Shape}
 use Rattle.ft_trace.specs.declared.View.{View}
 use Rattle.ft_trace.specs.Addresses.{at}
@@ -30,6 +30,7 @@ FloorStands =
 
 abbrev pub FoundNext : Shape → ℕ → Act → List Act → Type 0 → Type 0
 FoundNext k number (TakeFloor f s) l before = Unit {0}
+FoundNext k number (TookOver tables) l before = before
 FoundNext k number act l before = Reports act (slice_index (floor_words k number l) (at k (place act))) × before
 
 -- since the pass took the floor each action has found what its word had, as the log before it gives the words

@@ -115,6 +115,12 @@ OneHasAllEntries =
     (k : Shape) (es : List Event) → Valid k es → (j : ℕ) (u : View) → HasView k es j u → u.parts ≡ k.passes
     → Numbered k.kinds (history es) (all_entries u)
 
+-- it has one entry for each call that no pass has left
+abbrev pub CallsAreCounted : Type 0
+CallsAreCounted =
+    (k : Shape) (es : List Event) → Valid k es → (j : ℕ) (u : View) → HasView k es j u → u.parts ≡ k.passes
+    → length (all_entries u) + u.left ≡ k.passes * k.calls
+
 -- ---- what words stand for
 
 -- while the version is even the words stand for the content at the counter, with its class and fill

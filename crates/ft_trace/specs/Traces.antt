@@ -13,7 +13,7 @@ use Rattle.ft_model.specs.Worlds.{no_hands, IsDeclared}
 use Rattle.ft_model.specs.Tables.{stored_newest, takes_in, would_pass}
 use Rattle.ft_model.specs.Classes.{IsClass}
 use Rattle.ft_trace.specs.declared.Act.{Act}
-use Rattle.ft_trace.specs.declared.Act.TheVariants.{Lock, Unlock, StartWrite, PutBlock, PutRoot, PutTable, PutFresh, PutHeader, ReadHeader, Commit, StopWrite, Version, ReadBlock, ReadRoot, ReadTable, ReadCounter, Answer, AnswerCursor, LowerCount, RaiseCount, ReadCount, ReadFree, TakeTable, GiveTable, Retire, Announce, ReadAnnounced, WriteNumber, TakeFloor}
+use Rattle.ft_trace.specs.declared.Act.TheVariants.{Lock, Unlock, StartWrite, PutBlock, PutRoot, PutTable, PutFresh, PutHeader, ReadHeader, Commit, StopWrite, Version, ReadBlock, ReadRoot, ReadTable, ReadCounter, Answer, AnswerCursor, LowerCount, RaiseCount, ReadCount, ReadFree, TakeTable, GiveTable, Retire, Announce, ReadAnnounced, WriteNumber, TakeFloor, TookOver}
 use Rattle.ft_trace.specs.declared.Shape.{Shape}
 use Rattle.ft_trace.specs.declared.Snap.{Snap}
 use Rattle.ft_trace.specs.declared.View.{View}
@@ -231,6 +231,8 @@ May k m cs v (ReadAnnounced p f) = (p ≤ k.passes) × (0 < p) × (p ≤ 64)
 May k m cs v (WriteNumber f) = Unit {0}
 -- it has all tokens, so no other pass may do anything
 May k m cs v (TakeFloor f s) = (v.tokens ≡ k.passes) × (s ≡ snap m cs)
+-- this is part of a join alone
+May k m cs v (TookOver tables) = ⊥
 
 -- there are at most 64 passes and 1,024 tables of a class
 pub record Fits (k : Shape) : Type 0 where
@@ -238,8 +240,8 @@ pub record Fits (k : Shape) : Type 0 where
   pub passes : k.passes ≤ 64
   pub tables : (c : ℕ) → IsClass c → tables_in k c ≤ 1024
 
--- The pass is offline and has no lock. It has no table but such as it retired, which stay retired for good. It has
--- committed what it began, and is in the midst of no taking or giving.
+-- The pass is offline and has no lock. It has no table but such as it retired, which who takes it in takes over, where
+-- their goals stand in their headers. It has committed what it began, and is in the midst of no taking or giving.
 abbrev pub IsFree : View → Type 0
 IsFree v =
     ((o : ℕ) → has_lock o v.log ≡ false)

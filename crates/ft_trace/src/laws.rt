@@ -15,7 +15,7 @@ ghost use Rattle.ft_trace.specs.SetWrites.{ElementsMayBeAdded, ElementsMayBeDisc
 ghost use Rattle.ft_trace.specs.GrowWrites.{DictsMayGrow};
 ghost use Rattle.ft_trace.specs.SetGrowWrites.{SetsMayGrow};
 ghost use Rattle.ft_trace.specs.ListGrowWrites.{ListsMayGrow};
-ghost use Rattle.ft_trace.specs.Laws.{ContentsFit, StoredTablesAreInOrder, WordsLieApart, PairsAreUnderTheirKeys, ElementsAreUnderTheirKeys, OnePassIsAlone, StampsRise, MemoryErrorsAreEarned, LocksNameHolders, VersionsAreOddInWrites, EvenTablesAreShut, NumbersAreOnce, EntriesAreRight, OneHasAllEntries, EvenWordsStand, ZeroRootsHaveNothing, HoldersKnow, TablesAreSomewhere, TablesAreInOnePlace, CountsStand, TablesAreOwed, EmptyClassesAreEarned, AnnouncedNumbersAreLow, FoundTablesAreKept, GoalsStand, GivenUpTablesRest, TablesAreSound, TableWordsStay, HitsAreRight, MissesAreRight, BareRootsAreRight, ItemsAreRight, ListsFitTheirTables, LooksAreRight, LooksAtBothAreRight, ChangedRootsAreNew, NumbersHaveRoom, NextSerialsAreLow};
+ghost use Rattle.ft_trace.specs.Laws.{ContentsFit, StoredTablesAreInOrder, WordsLieApart, PairsAreUnderTheirKeys, ElementsAreUnderTheirKeys, OnePassIsAlone, StampsRise, MemoryErrorsAreEarned, LocksNameHolders, VersionsAreOddInWrites, EvenTablesAreShut, NumbersAreOnce, EntriesAreRight, OneHasAllEntries, EvenWordsStand, ZeroRootsHaveNothing, HoldersKnow, TablesAreSomewhere, TablesAreInOnePlace, CountsStand, TablesAreOwed, EmptyClassesAreEarned, AnnouncedNumbersAreLow, FoundTablesAreKept, GoalsStand, GivenUpTablesRest, TablesAreSound, TableWordsStay, HitsAreRight, MissesAreRight, BareRootsAreRight, ItemsAreRight, ListsFitTheirTables, LooksAreRight, LooksAtBothAreRight, ChangedRootsAreNew, NumbersHaveRoom, NextSerialsAreLow, CallsAreCounted};
 
 use ft_layout::{
     puts_change_one_item, used_entries_follow_a_dict, used_entries_follow_a_set,
@@ -84,6 +84,12 @@ pub fn numbered_entries_are_in_order()
 /// A pass that stands for all passes has an entry for each write, and each of its entries is right.
 pub fn one_pass_has_all_entries()
     ensures { OneHasAllEntries }
+{}
+
+/// A pass that stands for all passes has one entry for each call that was made: of the calls of all passes those
+/// are left that have none.
+pub fn calls_are_counted()
+    ensures { CallsAreCounted }
 {}
 
 /// While the version of a container is even, its words stand for its content after all writes so far,

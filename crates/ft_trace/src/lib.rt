@@ -102,6 +102,17 @@ pub enum Act {
     WriteNumber(u64),
     /// Loads the counter and keeps what stands in the bank, by a pass that has all tokens.
     TakeFloor(u64, Snap),
+    /// No step of its own: what the pass got when it took in another, the tables that the other kept
+    /// retired.
+    TookOver(LinkedList<Handed>),
+}
+
+/// A retired table that goes from one pass to another.
+pub struct Handed {
+    /// The table.
+    pub table: u64,
+    /// Its goal: the number that all must have announced before it is given back.
+    pub goal: u64,
 }
 
 /// A call with its reply and its stamp.

@@ -5,7 +5,7 @@ use Rattle.ft_trace.specs.Acts.{both}
 use Rattle.ft_trace.specs.Traces.{Possible}
 use Rattle.ft_bank.specs.Passes.{view}
 use Rattle.ft_bank.proofs.Allowed.{acted_possible}
-use Rattle.ft_bank.proofs.Retiring.{retired_by, retired_same}
+use Rattle.ft_bank.proofs.Retiring.{retired_by, retired_noted}
 use Rattle.ft_bank.proofs.Seen.{load_settles}
 use Rattle.ft_bank.proofs.bank.Bank.gather.Goals as goal
 
@@ -23,6 +23,6 @@ invariant_of-pass c =
       leaves = omega (arith, p.leaves, none, ap (λ (v : View). v.left) e);
       awake = (let token = p.awake in omega (arith, token, ap (λ (v : View). v.tokens) e));
       settled = load_settles (both v w) d.0 _ e d.2;
-      retiring = retired_by _ (both v w) _ (ReadCounter d.0) e (λ t b. refl) (retired_same _ v (both v w) refl (λ t. refl) p.retiring);
+      retiring = retired_by _ (both v w) _ (ReadCounter d.0) e (λ t b. refl) (retired_noted _ v w (ap (λ (u : View). u.log) c.args.tokens.blank) p.retiring);
       possible = ∣ subst Possible (sym e) (acted_possible (both v w) (ReadCounter d.0) d.2) ∣₁;
     }

@@ -8,7 +8,7 @@ use Rattle.ft_bank.specs.Passes.{view}
 use Rattle.ft_bank.specs.Floors.{rests}
 use Rattle.ft_bank.proofs.Allowed.{acted_possible}
 use Rattle.ft_bank.proofs.Knowing.{left_low}
-use Rattle.ft_bank.proofs.Retiring.{retired_by, retired_same}
+use Rattle.ft_bank.proofs.Retiring.{retired_by, retired_both, has_taken_over}
 use Rattle.ft_bank.proofs.Seen.{load_settles}
 use Rattle.ft_bank.proofs.bank.Bank.join_resting.Goals as goal
 
@@ -32,6 +32,11 @@ invariant_of-pass c =
       leaves = (λ j. p.leaves j + c.args.other.leaves j) ∙ sym (ap (λ (v : View). v.left) e);
       awake = (let token = p.awake in omega (arith, token, ap (λ (v : View). v.tokens) e));
       settled = load_settles (both v w) d.0 _ e d.2;
-      retiring = retired_by _ (both v w) _ (ReadCounter d.0) e (λ t b. refl) (retired_same _ v (both v w) refl (λ t. refl) p.retiring);
+      retiring = retired_by _ (both v w) _ (ReadCounter d.0) e (λ t b. refl) (retired_both p.retired c.args.other.retired _ v w (c.requires.other.1 ∙ sym c.requires.pass.1) c.args.other.possible c.merge.ensures.long c.merge.ensures.merged p.retiring c.args.other.retiring);
       possible = ∣ subst Possible (sym e) (acted_possible (both v w) (ReadCounter d.0) d.2) ∣₁;
     }
+
+pub returns-clause-tables : goal.returns-clause-tables
+returns-clause-tables c =
+    let d = c.settle_as.ensures.view in
+    has_taken_over (view c.args.pass.now) (rests c.args.other) _ d.0 d.1 (c.requires.other.1 ∙ sym c.requires.pass.1) c.args.other.possible

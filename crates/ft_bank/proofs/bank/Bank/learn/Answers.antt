@@ -7,7 +7,7 @@ use Rattle.ft_trace.specs.Traces.{Possible, IsFree}
 use Rattle.ft_bank.specs.Passes.{view}
 use Rattle.ft_bank.proofs.Allowed.{acted_possible, alive, token_kept}
 use Rattle.ft_bank.proofs.Seen.{load_sees, load_settles, knowing_is, slip_free, taken_in}
-use Rattle.ft_bank.proofs.Retiring.{retired_by, retired_same}
+use Rattle.ft_bank.proofs.Retiring.{retired_by, retired_noted}
 use Rattle.ft_bank.proofs.bank.Bank.learn.Goals as goal
 
 pub settle_as-requires-clause-live : goal.settle_as-requires-clause-live
@@ -33,7 +33,7 @@ invariant_of-pass c =
       leaves = p.leaves ∙ sym (ap (λ (v : View). v.left) k);
       awake = token_kept _ _ (ap (λ (v : View). v.tokens) k) p.awake;
       settled = load_settles (both v w) d.0 _ e d.2;
-      retiring = retired_by _ (both v w) _ (ReadCounter d.0) e (λ t b. refl) (retired_same _ v (both v w) refl (λ t. refl) p.retiring);
+      retiring = retired_by _ (both v w) _ (ReadCounter d.0) e (λ t b. refl) (retired_noted _ v w (ap (λ (u : View). u.log) c.args.note.blank) p.retiring);
       possible = ∣ subst Possible (sym e) (acted_possible (both v w) (ReadCounter d.0) d.2) ∣₁;
     }
 

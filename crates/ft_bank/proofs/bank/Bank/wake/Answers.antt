@@ -10,7 +10,7 @@ use Rattle.ft_bank.specs.Passes.{shape_of}
 use Rattle.ft_bank.specs.Shapes.{plan}
 use Rattle.ft_bank.specs.Rules.{Acted}
 use Rattle.ft_bank.proofs.Allowed.{acted_possible, glues, kept}
-use Rattle.ft_bank.proofs.Retiring.{retired_by, retired_same}
+use Rattle.ft_bank.proofs.Retiring.{retired_by, retired_noted}
 use Rattle.ft_bank.proofs.Floors.{tokens_free, floor_settles, floor_brought}
 use Rattle.ft_bank.proofs.bank.Bank.wake.Goals as goal
 
@@ -60,7 +60,7 @@ invariant_of-result c =
       leaves = omega (arith, r.leaves, none, ap (λ (v : View). v.left) same);
       awake = omega (arith, token, ap (λ (v : View). v.tokens) same);
       settled = floor_settles b n snap _ same acted;
-      retiring = retired_by _ b _ (TakeFloor n snap) same (λ t b. refl) (retired_same _ r.seat.me.0 b refl (λ t. refl) r.retiring);
+      retiring = retired_by _ b _ (TakeFloor n snap) same (λ t b. refl) (retired_noted _ r.seat.me.0 t.seat.me.0 (ap (λ (u : View). u.log) t.blank) r.retiring);
       possible = ∣ subst Possible (sym same) (acted_possible b (TakeFloor n snap) acted) ∣₁;
     }
 

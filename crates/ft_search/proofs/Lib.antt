@@ -1,5 +1,5 @@
-mod Places
-mod Knowing
+pub mod Places
+pub mod Knowing
 pub mod Running
 mod Walking
 mod Closing

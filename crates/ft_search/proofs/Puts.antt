@@ -82,7 +82,7 @@ version_room v o t p possible low mine names row few =
     let low : slice_index (held o v).table (version_at (kind_in k.kinds o) (class_of t) p) < 2 ^ 63 = omega (arith, high, count, same, few) in
     low)
 
-keyed_version : (kind : Kind) → IsKeyed kind → (c p : ℕ) → version_at kind c p ≡ entry_at (slots c) p 0
+pub keyed_version : (kind : Kind) → IsKeyed kind → (c p : ℕ) → version_at kind c p ≡ entry_at (slots c) p 0
 keyed_version kind.Dict keyed c p = refl
 keyed_version kind.Set keyed c p = refl
 keyed_version kind.List keyed c p = absurd keyed

@@ -12,6 +12,7 @@ use Rattle.ft_keys.specs.declared.words.Access.TheVariants.{Index, Entry, PutInd
 use Rattle.ft_keys.specs.Accesses.{Tells, put_by}
 use Rattle.ft_bank.specs.Passes.{shape_of, view, IsPassOf, Did}
 use Rattle.ft_bank.specs.Tables.{name_of, IsTableIn}
+use Rattle.ft_bank.specs.Whole.{OnlyPut}
 use Rattle.ft_bank.specs.Writes.{IsCareful}
 use Rattle.ft_search.specs.declared.words.TableWords.{TableWords}
 
@@ -79,3 +80,4 @@ pub record Made (s : TableWords) (access : Access) (t : TableWords) : Type 0 whe
   pub left : KnowsWords s → KnowsWords t × (known_words t ≡ put_by s.mask access (known_words s))
       × ((held s.o (view t.pass.now)).block ≡ (held s.o (view s.pass.now)).block)
       × (known s.o (view t.pass.now) ≡ known s.o (view s.pass.now))
+  pub only : OnlyPut s.o (view s.pass.now) (view t.pass.now)

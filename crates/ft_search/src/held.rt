@@ -101,7 +101,7 @@ impl<'a> TableWords<'a> {
 
 /// Looks for a key in the table of a container whose lock the pass has: where the search ended, and the
 /// words of the value that is there.
-pub(crate) fn read_in(
+pub fn read_in(
     bank: &Bank,
     pass: &mut Pass,
     o: u32,

@@ -20,8 +20,9 @@ mod words;
 
 pub use crate::answering::{answer_made, written};
 pub use crate::deleting::delete_entry;
-pub use crate::finishing::write_nothing;
-pub use crate::held::read_key;
+pub use crate::entries::raise_version;
+pub use crate::finishing::{finish_entry, write_nothing};
+pub use crate::held::{read_in, read_key};
 pub use crate::lens::{look_len, try_len};
 pub use crate::look::look_up;
 pub use crate::looks::{Looked, answer_held, answer_look};

@@ -4,6 +4,7 @@ use Rattle.ft_bank.specs.Tables.{name_of}
 use Rattle.ft_trace.specs.Addresses.{class_of, size}
 use Rattle.ft_trace.specs.Holds.{held}
 use Rattle.ft_trace.specs.declared.Act.TheVariants.{ReadTable}
+use Rattle.ft_bank.proofs.Whole.{loaded_by, loaded_put}
 use Rattle.ft_search.proofs.Places.{entry_in, entry_is}
 use Rattle.ft_search.proofs.Knowing.{entry_after_header, loaded_leaves}
 use Rattle.ft_search.proofs.words.TableWordsWords.entry.Goals as goal
@@ -35,4 +36,5 @@ returns-clause-gave c =
       left = λ k.
           loaded_leaves (view s.pass.now) (view c.read_table.new.pass) s.o t
           (8 * c.args.place + c.args.word + s.mask + 1) f c.read_table.ensures.did.1 k;
+      only = loaded_put (view s.pass.now) (view c.read_table.new.pass) s.o (loaded_by (ReadTable t (8 * c.args.place + c.args.word + s.mask + 1) f) (view s.pass.now) (view c.read_table.new.pass) tt c.read_table.ensures.did.1);
     }

@@ -2,6 +2,8 @@ use Rattle.std.proofs.Common.{refl, sym, ◌∙◌}
 use Rattle.ft_bank.specs.Passes.{shape_of, view}
 use Rattle.ft_bank.specs.Tables.{name_of}
 use Rattle.ft_trace.specs.Holds.{held}
+use Rattle.ft_bank.proofs.Whole.{loaded_by, loaded_put}
+use Rattle.ft_trace.specs.declared.Act.TheVariants.{ReadTable}
 use Rattle.ft_search.proofs.Places.{slot_in}
 use Rattle.ft_search.proofs.Knowing.{after_header, loaded_leaves}
 use Rattle.ft_search.proofs.words.TableWordsWords.index.Goals as goal
@@ -26,4 +28,5 @@ returns-clause-gave c =
       left = λ k.
           loaded_leaves (view s.pass.now) (view c.read_table.new.pass) s.o (name_of s.table) c.args.slot c.read_table.result
           c.read_table.ensures.did.1 k;
+      only = loaded_put (view s.pass.now) (view c.read_table.new.pass) s.o (loaded_by (ReadTable (name_of s.table) c.args.slot c.read_table.result) (view s.pass.now) (view c.read_table.new.pass) tt c.read_table.ensures.did.1);
     }

@@ -7,6 +7,7 @@ use Rattle.ft_trace.specs.Holds.{held}
 use Rattle.ft_trace.specs.declared.Act.TheVariants.{PutTable}
 use Rattle.ft_layout.specs.Tables.{entry_at}
 use Rattle.ft_search.specs.Words.{known_words}
+use Rattle.ft_bank.proofs.Whole.{put_by}
 use Rattle.ft_search.proofs.Places.{entry_in, entry_is}
 use Rattle.ft_search.proofs.Knowing.{put_entry_after_header, put_leaves}
 use Rattle.ft_search.proofs.words.TableWordsWords.put_entry.Goals as goal
@@ -42,4 +43,5 @@ returns-clause-gave c =
           c.args.value (slice_set (known_words s) (entry_at s.mask c.args.place c.args.word) c.args.value)
           c.put_table.ensures.did.1 c.put_table.ensures.held
           (put_entry_after_header (held s.o (view s.pass.now)).table s.mask c.args.place c.args.word c.args.value) k;
+      only = put_by (PutTable s.o t (8 * c.args.place + c.args.word + s.mask + 1) c.args.value) (view s.pass.now) (view c.put_table.new.pass) s.o tt c.put_table.ensures.did.1 c.put_table.ensures.keeps;
     }

@@ -5,6 +5,8 @@ use Rattle.ft_bank.specs.Tables.{name_of}
 use Rattle.ft_trace.specs.Holds.{held}
 use Rattle.ft_layout.specs.Tables.{index_at}
 use Rattle.ft_search.specs.Words.{known_words}
+use Rattle.ft_bank.proofs.Whole.{put_by}
+use Rattle.ft_trace.specs.declared.Act.TheVariants.{PutTable}
 use Rattle.ft_search.proofs.Places.{slot_in}
 use Rattle.ft_search.proofs.Knowing.{put_after_header, put_leaves}
 use Rattle.ft_search.proofs.words.TableWordsWords.put_index.Goals as goal
@@ -29,4 +31,5 @@ returns-clause-gave c =
           put_leaves (view s.pass.now) (view c.put_table.new.pass) s.o t c.args.slot c.args.value
           (slice_set (known_words s) (index_at c.args.slot) c.args.value) c.put_table.ensures.did.1
           c.put_table.ensures.held (put_after_header (held s.o (view s.pass.now)).table c.args.slot c.args.value) k;
+      only = put_by (PutTable s.o t c.args.slot c.args.value) (view s.pass.now) (view c.put_table.new.pass) s.o tt c.put_table.ensures.did.1 c.put_table.ensures.keeps;
     }

@@ -1,8 +1,6 @@
--- What a call that adds one item to a list does, by the table that the list has.
+-- What a call that adds items to a list does, by the table that the list has.
 use Rattle.std.proofs.Common.{◌≡◌, ◌≢◌, ℕ, suc, ◌+◌, ◌<◌, ◌≤◌, Bool, true, false, List, length, Option, Some, None, refl, sym, ap, ◌∙◌, subst, arith, le-ltb, lt-ltb}
 use Rattle.std.specs.Prelude.{nat_lt, IfSome, IfNone}
-use Rattle.std.specs.List.{insert}
-use Rattle.std.proofs.lemmas.List.Edits.{length-insert}
 use Rattle.ft_model.specs.declared.call.Call.{Call}
 use Rattle.ft_model.specs.declared.call.Call.TheVariants as call
 use Rattle.ft_model.specs.declared.call.ListCall.{ListCall}
@@ -31,22 +29,20 @@ use Rattle.ft_growth.specs.Adding.{IsAdded}
 use Rattle.ft_bank.proofs.Tables.{class_is}
 use Rattle.ft_list.specs.Items.{items_of}
 use Rattle.ft_list.specs.Calls.{Adds, Changes, Grows}
-use Rattle.ft_list.specs.Growing.{AddsItems, KnowsList, MayAdd, MayGrow, use_of}
+use Rattle.ft_list.specs.Growing.{AddsItems}
+use Rattle.ft_list.specs.Internal.Growing.{KnowsList, MayAdd, MayGrow, use_of}
 use Rattle.ft_list.proofs.CallFacts.{adds_changes, adds_grows, lacks_table, passes_most}
+use Rattle.ft_list.specs.declared.addition.Addition.{Addition}
+use Rattle.ft_list.specs.Internal.Additions.{with_added, KnowsItems, IsAddition}
+use Rattle.ft_list.proofs.Extending.{addition_on, news_on}
 use Rattle.ft_list.proofs.Growing.{knows_content, knows_on}
 use Rattle.ft_list.proofs.Looking.{slots_are}
 use Rattle.ft_list.proofs.Wanted.{list_use, wanted_some}
 use Rattle.ft_list.proofs.Whole.{grows_from}
 
-module _ (k : Shape) (o : ℕ) (old : Option Table) (v : View) (list : KnowsList k o old v) (shape : v.shape ≡ k) (possible : ∥ Possible v ∥₁) (lc : ListCall) (place count : ℕ) (value : Value) (adds : Adds o lc (items_of o v) (insert (items_of o v) place value) v) (count_is : count ≡ length (items_of o v)) (inside : place ≤ count) where
+module _ (k : Shape) (o : ℕ) (old : Option Table) (v : View) (list : KnowsList k o old v) (shape : v.shape ≡ k) (possible : ∥ Possible v ∥₁) (lc : ListCall) (total : ℕ) (news : List Value) (adds : Adds o lc (items_of o v) news v) (long : length news ≡ total) where
   abbrev values : List Value
   values = items_of o v
-
-  abbrev news : List Value
-  news = insert values place value
-
-  long : length news ≡ count + 1
-  long = length-insert values place value (omega (arith, inside, count_is)) ∙ ap (λ (n : ℕ). n + 1) (sym count_is)
 
   low : o < containers_in v.shape
   low = subst (λ (z : Shape). o < containers_in z) (sym shape) list.container
@@ -54,34 +50,38 @@ module _ (k : Shape) (o : ℕ) (old : Option Table) (v : View) (list : KnowsList
   is_list : (known o v).content ≡ content.List values
   is_list = knows_content k o old v shape possible list
 
-  few_is : count < most_items → nat_lt most_items (length news) ≡ false
+  few_is : total ≤ most_items → nat_lt most_items (length news) ≡ false
   few_is few = let n = long in le-ltb most_items (length news) (omega (arith, n, few))
 
-  wanted_is : list_takes (known o v).table (length news) ≡ list_takes (use_of old) (count + 1)
+  wanted_is : list_takes (known o v).table (length news) ≡ list_takes (use_of old) total
   wanted_is = λ d. list_takes (list_use k o old v list is_list d) (long d)
 
-  pub room_changes : count < most_items → list_takes (use_of old) (count + 1) ≡ None → Changes o lc reply.Done values news v
+  pub room_changes : total ≤ most_items → list_takes (use_of old) total ≡ None → Changes o lc reply.Done values news v
   room_changes few none = adds_changes o lc values news v low list.locked is_list adds (few_is few) (wanted_is ∙ none)
 
-  pub taken_grows : (class : ℕ) → count < most_items → list_takes (use_of old) (count + 1) ≡ Some class → Grows o lc values news class v
+  pub taken_grows : (class : ℕ) → total ≤ most_items → list_takes (use_of old) total ≡ Some class → Grows o lc values news class v
   taken_grows class few is = adds_grows o lc values news v low list.locked is_list adds class (few_is few) (wanted_is ∙ is)
 
-  pub no_table_lacks : (class : ℕ) → count < most_items → list_takes (use_of old) (count + 1) ≡ Some class → (stored : StoredWorld) → MayHave v stored → CanLackMemory stored.world (call.List o lc) × (would_pass stored.world (call.List o lc) ≡ false) × (takes_in stored (call.List o lc) ≡ Some class)
+  pub no_table_lacks : (class : ℕ) → total ≤ most_items → list_takes (use_of old) total ≡ Some class → (stored : StoredWorld) → MayHave v stored → CanLackMemory stored.world (call.List o lc) × (would_pass stored.world (call.List o lc) ≡ false) × (takes_in stored (call.List o lc) ≡ Some class)
   no_table_lacks class few is stored has = lacks_table o lc values news v low list.locked is_list adds stored has class (few_is few) (wanted_is ∙ is)
 
-  pub over_passes : most_items ≤ count → (stored : StoredWorld) → MayHave v stored → CanLackMemory stored.world (call.List o lc) × (would_pass stored.world (call.List o lc) ≡ true)
+  pub over_passes : most_items < total → (stored : StoredWorld) → MayHave v stored → CanLackMemory stored.world (call.List o lc) × (would_pass stored.world (call.List o lc) ≡ true)
   over_passes more stored has = let n = long in passes_most o lc values news v low list.locked is_list adds stored has (lt-ltb most_items (length news) (omega (arith, n, more)))
+
+-- what a pass knows of a list with its table
+pub knows_of : (k : Shape) (o : ℕ) (old : Option Table) (v : View) → KnowsList k o old v → KnowsItems k o v
+knows_of k o old v list = record { container = list.container; kind = list.kind; locked = list.locked; even = list.even; stands = list.stands }
 
 -- ---- the table that is taken
 
-module _ (k : Shape) (old : Option Table) (table : Table) (class count : ℕ) (few : count < most_items) (wanted : list_takes (use_of old) (count + 1) ≡ Some class) (table_in : IsTableIn k table) (of_class : table.class ≡ class) where
-  is_wanted : (list_class (count + 1) ≡ class) × ((t : Table) → old ≡ Some t → list_items t.class < count + 1)
-  is_wanted = wanted_some old (count + 1) class wanted
+module _ (k : Shape) (old : Option Table) (table : Table) (class total : ℕ) (few : total ≤ most_items) (wanted : list_takes (use_of old) total ≡ Some class) (table_in : IsTableIn k table) (of_class : table.class ≡ class) where
+  is_wanted : (list_class total ≡ class) × ((t : Table) → old ≡ Some t → list_items t.class < total)
+  is_wanted = wanted_some old total class wanted
 
-  holds : count + 1 ≤ list_items class
-  holds = subst (λ (c : ℕ). count + 1 ≤ list_items c) is_wanted.0 (list_fits (count + 1) (omega (arith, few))).1
+  holds : total ≤ list_items class
+  holds = subst (λ (c : ℕ). total ≤ list_items c) is_wanted.0 (list_fits total few).1
 
-  pub taken_room : count < slots (class_of (name_of table))
+  pub taken_room : total ≤ slots (class_of (name_of table))
   taken_room =
       let s = slots_are k table table_in in
       let h = holds in
@@ -131,6 +131,13 @@ module _ (F : ℕ → Type 0) (v u : View) (same : SamePass v u) (keeps : KeepsB
       let w = keeps.held.words o (subst (λ (z : Shape). o < containers_in z) (sym shape) list.container) list.locked in
       knows_on k o old v u w.0 w.1 (same.locks o) (same.writes o) list
 
+  pub tried_addition : (k : Shape) (count : ℕ) (addition : Addition) → v.shape ≡ k → IsAddition k count addition v → IsAddition k count addition u
+  tried_addition k count addition shape is = addition_on k count addition v u
+      (λ p list. let w = keeps.held.words p (subst (λ (z : Shape). p < containers_in z) (sym shape) list.container) list.locked in (w.0, w.1, same.locks p, same.writes p)) is
+
+  pub tried_news : (k : Shape) (count : ℕ) (addition : Addition) → v.shape ≡ k → IsAddition k count addition v → (values : List Value) → with_added addition u values ≡ with_added addition v values
+  tried_news k count addition shape is values = news_on k count addition v u (λ p list. (keeps.held.words p (subst (λ (z : Shape). p < containers_in z) (sym shape) list.container) list.locked).1) is values
+
   pub tried_items : (k : Shape) (o : ℕ) (old : Option Table) → v.shape ≡ k → KnowsList k o old v → items_of o u ≡ items_of o v
   tried_items k o old shape list = ap (λ (z : Kept). list_of z.content) (keeps.held.words o (subst (λ (z : Shape). o < containers_in z) (sym shape) list.container) list.locked).1
 
@@ -147,11 +154,11 @@ module _ (F : ℕ → Type 0) (v u : View) (same : SamePass v u) (keeps : KeepsB
 
 -- ---- what the call comes to, seen from before its loads
 
-pub adds_items : (k : Shape) (o : ℕ) (old : Option Table) (v u w : View) (count : ℕ) (called : Call) (what : Added) → OnlyLoaded v u → KnowsList k o old u → u.shape ≡ k → ∥ Possible u ∥₁ → count ≡ length (items_of o v) → IsAdded k (list_takes (use_of old) (count + 1)) (nat_lt most_items (count + 1)) called reply.Done u w what → AddsItems k o called 1 v w what
-adds_items k o old v u w count called what loaded list shape possible count_is is =
+pub adds_items : (k : Shape) (o n : ℕ) (old : Option Table) (v u w : View) (total : ℕ) (called : Call) (what : Added) → OnlyLoaded v u → KnowsList k o old u → u.shape ≡ k → ∥ Possible u ∥₁ → total ≡ length (items_of o v) + n → IsAdded k (list_takes (use_of old) total) (nat_lt most_items total) called reply.Done u w what → AddsItems k o called n v w what
+adds_items k o n old v u w total called what loaded list shape possible total_is is =
     let same : known o u ≡ known o v = work_knows v u o loaded.work in
     let table = list_use k o old u list (knows_content k o old u shape possible list) in
-    let takes : list_takes (use_of old) (count + 1) ≡ list_takes (known o v).table (length (items_of o v) + 1) =
-    λ d. list_takes ((sym table ∙ ap (λ (z : Kept). z.table) same) d) (count_is d + 1) in
-    let over : nat_lt most_items (count + 1) ≡ nat_lt most_items (length (items_of o v) + 1) = ap (λ (n : ℕ). nat_lt most_items (n + 1)) count_is in
+    let takes : list_takes (use_of old) total ≡ list_takes (known o v).table (length (items_of o v) + n) =
+    λ d. list_takes ((sym table ∙ ap (λ (z : Kept). z.table) same) d) (total_is d) in
+    let over : nat_lt most_items total ≡ nat_lt most_items (length (items_of o v) + n) = ap (λ (z : ℕ). nat_lt most_items z) total_is in
     (u, loaded, subst (λ (z : Option ℕ × Bool). IsAdded k z.0 z.1 called reply.Done u w what) (λ d. (takes d, over d)) is)

@@ -1,10 +1,10 @@
 -- What each call on a list changes, in the words of the plain containers.
-use Rattle.std.proofs.Common.{◌≡◌, ℕ, ◌+◌, ◌<◌, ◌≤◌, ℤ, Bool, true, false, List, [], length, Option, Some, None, refl, sym, ap, ◌∙◌, subst, arith, get_or-set_same}
+use Rattle.std.proofs.Common.{◌≡◌, ◌≢◌, ℕ, ◌+◌, ◌<◌, ◌≤◌, ℤ, Bool, true, false, List, [], ◌∷◌, ◌++◌, length, Option, Some, None, refl, sym, ap, ◌∙◌, subst, inl, inr, arith, eq-eqb, ne_eqb, get_or-set_same, get_or-set_other}
 use Rattle.std.specs.Prelude.{map, reverse, ◌&&◌, ◌||◌, nat_lt, IfSome, slice_index_or, slice_set, negsuc, if◌then◌else◌}
 use Rattle.std.specs.List.{insert, remove, list_any}
 use Rattle.std.specs.Option.{unwrap_or, option_map_or}
-use Rattle.std.proofs.lemmas.Bool.{le-ltb}
-use Rattle.std.proofs.lemmas.List.Edits.{insert_end, length-insert}
+use Rattle.std.proofs.lemmas.Bool.{cases_eq, le-ltb}
+use Rattle.std.proofs.lemmas.List.Edits.{insert_end}
 use Rattle.ft_model.specs.declared.call.Call.TheVariants as call
 use Rattle.ft_model.specs.declared.call.ListCall.{ListCall}
 use Rattle.ft_model.specs.declared.call.ListCall.TheVariants as list
@@ -20,13 +20,12 @@ use Rattle.ft_model.specs.declared.reply.Raise.TheVariants as raise
 use Rattle.ft_model.specs.declared.script.Kind.TheVariants as kind
 use Rattle.ft_model.specs.Answers.{Answer as Given, answer, answer_list, puts, shows, after_write, is_raised}
 use Rattle.ft_model.specs.Calls.{is_changing_list, other_list, cursor_of_list, list_change, adds, one_or_two}
-use Rattle.ft_model.specs.Classes.{IsClass, list_items, list_class, most_items}
+use Rattle.ft_model.specs.Classes.{most_items}
 use Rattle.ft_model.specs.Lists.{clamped_in, index_in, index_of}
 use Rattle.ft_model.specs.Tables.{StoredWorld, CanLackMemory, no_table, takes_in, table_at, change_leaves, change_takes, list_takes, grown_table, passes_cap, would_pass, after_stored}
 use Rattle.ft_model.specs.Worlds.{list_of, list_at, named_in, no_hands, IsOfKind}
-use Rattle.ft_layout.proofs.Powers.{slots_range}
 use Rattle.ft_trace.specs.declared.View.{View}
-use Rattle.ft_trace.specs.Addresses.{containers_in, slots}
+use Rattle.ft_trace.specs.Addresses.{containers_in}
 use Rattle.ft_trace.specs.Acts.{has_lock}
 use Rattle.ft_trace.specs.FitCalls.{FitsListCall}
 use Rattle.ft_trace.specs.Worlds.{Kept}
@@ -34,7 +33,8 @@ use Rattle.ft_trace.proofs.Naming.{named_locked}
 use Rattle.ft_trace.specs.Holds.{known}
 use Rattle.ft_bank.specs.Writes.{MayHave}
 use Rattle.ft_list.specs.Calls.{IsListWrite, Changes, Grows, Adds}
-use Rattle.ft_list.proofs.Commits.{answer_is, content_after, in_tables, table_stays}
+use Rattle.ft_trace.proofs.Known.{declared_at}
+use Rattle.ft_list.proofs.Commits.{answer_is, content_after, in_tables, in_world, list_is, list_there, table_stays}
 
 -- a call that stores no more than before
 pub changes_stay : (o : ℕ) (lc : ListCall) (said : Reply) (values news : List Value) (v : View) → o < containers_in v.shape → has_lock o v.log ≡ true → (known o v).content ≡ content.List values → is_changing_list lc ≡ true → is_raised said ≡ false → cursor_of_list lc ≡ None → other_list lc ≡ None → list_change lc ≡ change.Stays → FitsListCall lc
@@ -118,6 +118,43 @@ append_adds o value values v low mine is_list fits =
 pub insert_adds : (o : ℕ) (index : ℤ) (value : Value) (values : List Value) (v : View) → o < containers_in v.shape → has_lock o v.log ≡ true → (known o v).content ≡ content.List values → FitsListCall (list.Insert index value) → Adds o (list.Insert index value) values (insert values (clamped_in (length values) index) value) v
 insert_adds o index value values v low mine is_list fits =
     adds_alone o (list.Insert index value) values (insert values (clamped_in (length values) index) value) v low mine is_list refl refl refl refl fits (λ world. refl)
+
+-- l.extend(m)
+module _ (o m : ℕ) (values others : List Value) (v : View) (low : o < containers_in v.shape) (high : m < containers_in v.shape) (mine : has_lock o v.log ≡ true) (theirs : has_lock m v.log ≡ true) (is_list : (known o v).content ≡ content.List values) (is_other : (known m v).content ≡ content.List others) (few : length others ≤ most_items) where
+  abbrev joined : List Value
+  joined = values ++ others
+
+  module _ (stored : StoredWorld) (has : MayHave v stored) where
+    extended : answer_list stored.world no_hands o values (list.Extend m) ≡ puts stored.world no_hands o (content.List joined) reply.Done
+    extended = ap (λ (l : List Value). puts stored.world no_hands o (content.List (values ++ l)) reply.Done) (list_is m (list.Extend o) reply.Done others others v high theirs is_other stored has)
+
+    -- the other list is no longer than before
+    other_short : o ≢ m → passes_cap (slice_index_or (after_write stored.world (call.List o (list.Extend m))) m (content.List [])) ≡ false
+    other_short ne =
+        ap (λ (z : Given). passes_cap (slice_index_or z.world m (content.List []))) (answer_is o (list.Extend m) reply.Done values joined v low mine is_list stored has extended)
+        ∙ (ap passes_cap (get_or-set_other stored.world o m (content.List joined) (content.List []) (λ e. ne (sym e)) ∙ list_there m (list.Extend o) reply.Done others others v high theirs is_other stored has)
+        ∙ le-ltb most_items (length others) few)
+
+    caps_so : would_pass stored.world (call.List o (list.Extend m)) ≡ nat_lt most_items (length joined)
+    caps_so =
+        let left = after_write stored.world (call.List o (list.Extend m)) in
+        let here = ap passes_cap (content_after o (list.Extend m) reply.Done values joined v low mine is_list stored has extended) in
+        elim (cases_eq o m) [
+          | inl e ↦ (λ d. list_any passes_cap (map (λ place. slice_index_or left place (content.List [])) (if eq-eqb o m e d then o ∷ [] else o ∷ m ∷ []))) ∙ (ap (λ (b : Bool). b || false) here ∙ or_false (nat_lt most_items (length joined)))
+          | inr ne ↦ (λ d. list_any passes_cap (map (λ place. slice_index_or left place (content.List [])) (if ne_eqb o m ne d then o ∷ [] else o ∷ m ∷ []))) ∙ ((λ d. here d || (other_short ne d || false)) ∙ or_false (nat_lt most_items (length joined)))
+        ]
+
+  pub extend_adds : Adds o (list.Extend m) values joined v
+  extend_adds = record {
+    changing = refl;
+    grows = refl;
+    cursor = refl;
+    fits = tt;
+    locks = named_locked o (Some m) v.log mine theirs;
+    answered = extended;
+    other = λ stored has. declared_at stored.world m (content.List others) (in_world m (list.Extend o) reply.Done others others v high theirs is_other stored has) (list_there m (list.Extend o) reply.Done others others v high theirs is_other stored has);
+    caps = caps_so;
+  }
 
 -- what such a call takes, and what it leaves
 module _ (o : ℕ) (lc : ListCall) (values news : List Value) (v : View) (low : o < containers_in v.shape) (mine : has_lock o v.log ≡ true) (is_list : (known o v).content ≡ content.List values) (call_is : Adds o lc values news v) where

@@ -1,5 +1,5 @@
 -- A clear of a list: that it may be committed, and what the list and its words are then.
-use Rattle.std.proofs.Common.{◌≡◌, ◌≢◌, ℕ, zero, suc, ◌<◌, ◌≤◌, true, false, true≢false, List, [], ◌∷◌, length, Option, Some, None, refl, sym, ap, ◌∙◌, subst, inr, arith, length-set, get_or-set_same, get_or-set_other}
+use Rattle.std.proofs.Common.{◌≡◌, ◌≢◌, ℕ, ◌<◌, ◌≤◌, true, false, true≢false, List, [], length, Option, Some, None, refl, sym, ap, ◌∙◌, subst, inr, arith, length-set, get_or-set_same, get_or-set_other}
 use Rattle.std.specs.Prelude.{is_some, slice_index, slice_set}
 use Rattle.ft_model.specs.declared.call.Call.{Call}
 use Rattle.ft_model.specs.declared.call.Call.TheVariants as call
@@ -7,32 +7,31 @@ use Rattle.ft_model.specs.declared.call.ListCall.TheVariants as list
 use Rattle.ft_model.specs.declared.content.Content.TheVariants as content
 use Rattle.ft_model.specs.declared.data.Value.{Value}
 use Rattle.ft_model.specs.declared.reply.Reply.TheVariants as reply
-use Rattle.ft_model.specs.declared.script.Kind.{Kind}
-use Rattle.ft_model.specs.Tables.{TableUse, no_table}
+use Rattle.ft_model.specs.Tables.{no_table}
 use Rattle.ft_layout.specs.Containers.{IsRoot, IsBlock}
 use Rattle.ft_trace.specs.declared.Act.TheVariants.{Commit, PutBlock, PutRoot, StartWrite, StopWrite}
 use Rattle.ft_trace.specs.declared.Snap.{Snap}
 use Rattle.ft_trace.specs.declared.Shape.{Shape}
 use Rattle.ft_trace.specs.declared.View.{View}
 use Rattle.ft_trace.specs.Acts.{has_lock, is_writing, owes, noted, seen_writes, used}
-use Rattle.ft_trace.specs.Addresses.{containers_in, class_of}
+use Rattle.ft_trace.specs.Addresses.{containers_in}
 use Rattle.ft_trace.specs.Holds.{held, known}
-use Rattle.ft_trace.specs.Kinds.{rows, version_at}
-use Rattle.ft_trace.specs.Openings.{Shut}
 use Rattle.ft_trace.specs.Traces.{Possible}
 use Rattle.ft_trace.specs.Words.{Picture, root_in, Stands}
-use Rattle.ft_trace.specs.Worlds.{Kept, kept_at, kind_in}
+use Rattle.ft_trace.specs.Worlds.{Kept}
 use Rattle.ft_trace.proofs.Cases.{hit}
 use Rattle.ft_trace.proofs.Known.{declared_at}
 use Rattle.ft_trace.proofs.Naming.{named_locked}
 use Rattle.ft_bank.specs.declared.table.Table.{Table}
 use Rattle.ft_bank.specs.Whole.{OnlyPut, Wrote}
-use Rattle.ft_bank.specs.Writes.{Committed, IsShut, KeepsUnwritten, MayCommit, MayHave, MayPutRoot, with_block, with_root}
-use Rattle.ft_bank.proofs.Whole.{plain_write, put_by, put_same, work_knows, write_ends}
+use Rattle.ft_bank.specs.Writes.{Committed, IsShut, KeepsUnwritten, MayCommit, MayPutRoot, with_block, with_root}
+use Rattle.ft_bank.proofs.Whole.{put_by, put_same, work_knows, write_ends}
 use Rattle.ft_growth.proofs.Rooting.{rooted_write}
+use Rattle.ft_search.specs.Writing.{Leaves}
 use Rattle.ft_list.specs.Items.{items_of}
-use Rattle.ft_list.specs.Growing.{KnowsList, MayAdd}
+use Rattle.ft_list.specs.Internal.Growing.{KnowsList, MayAdd}
 use Rattle.ft_list.proofs.Commits.{content_after, in_tables, in_world, list_there}
+use Rattle.ft_list.proofs.Extending.{none_alike}
 use Rattle.ft_list.proofs.Growing.{knows_content, knows_shut, list_bare, list_head}
 use Rattle.ft_list.proofs.Wanted.{list_use}
 
@@ -174,55 +173,30 @@ module _ (k : Shape) (o : ℕ) (table : Table) (v s r u : View) (f : ℕ) (may :
         rooted_write (clear_of o) reply.Done number f 0 v r u w both_rooted may.list.even some_old (subst (λ (z : View). KeepsUnwritten z r) started keeps) puts root_then
         (write_ends (clear_of o) reply.Done number g snap u c c w seen made committed clear_may_commit.left (put_same c o) (ap root_in held_on) (clear_stands u.shape.texts) stopped)
 
--- ---- the whole write of a list that has none
+-- ---- a list that has none is as it was
 
-module _ (k : Shape) (o : ℕ) (v s : View) (f : ℕ) (may : MayAdd k o None v) (shape : v.shape ≡ k) (possible : ∥ Possible v ∥₁) (started : s ≡ noted (StartWrite o f) v) where
-  bare_list : (known o v).content ≡ content.List (items_of o v)
-  bare_list = knows_content k o None v shape possible may.list
-
-  bare_low : o < containers_in s.shape
-  bare_low = subst (λ (z : Shape). o < containers_in z) (sym (ap (λ (z : View). z.shape) started ∙ shape)) may.list.container
-
-  bare_mine : has_lock o s.log ≡ true
-  bare_mine = ap (λ (z : View). has_lock o z.log) started ∙ may.list.locked
-
-  bare_then : (known o s).content ≡ content.List (items_of o v)
-  bare_then = ap (λ (z : View). (known o z).content) started ∙ bare_list
-
-  bare_head : IsBlock (held o s).block None 0 0 0
-  bare_head =
-      subst (λ (z : View). IsBlock (held o z).block None 0 0 0) (sym started)
-      (subst (λ (x : Option ℕ × ℕ). IsBlock (held o v).block x.0 x.1 0 0)
-      (λ d. (ap (λ (t : TableUse). t.class) (list_use k o None v may.list bare_list) d, list_bare k o v may.list bare_list d))
-      (list_head k.texts v o bare_list may.list.stands))
-
-  pub bare_root : root_in (held o s) ≡ 0
-  bare_root = bare_head.root
-
-  pub bare_may_commit : MayCommit s (clear_of o) reply.Done
-  bare_may_commit =
-      may_clear o (items_of o v) s bare_low bare_mine bare_then
-      (ap (λ (z : View). is_writing o z.log) started ∙ hit o true (is_writing o v.log))
-      (subst (λ (n : ℕ). 0 < n) (sym (ap (λ (z : View). z.left) started)) may.left)
-      (ap (λ (z : View). owes z.log) started ∙ may.owes)
-      bare_root
-
-  module _ (number g : ℕ) (snap : Snap) (c w : View) (made : c ≡ noted (Commit (clear_of o) reply.Done number snap) s) (committed : Committed s c (clear_of o)) where
-    bare_on : held o c ≡ held o s
-    bare_on = ap (λ (z : View). held o z) made
-
-    pub bare_clear_stands : (texts : List ℕ) → Stands texts (held o c) (known o c)
-    bare_clear_stands texts =
-        bare_stands texts (held o c) (known o c) (clear_kept o (items_of o v) s bare_low bare_mine bare_then c committed) (subst (λ (x : Picture). IsBlock x.block None 0 0 0) (sym bare_on) bare_head)
-
-    pub bare_clear_root : root_in (held o c) ≡ 0
-    bare_clear_root = ap root_in bare_on ∙ bare_root
-
-    pub bare_clear_shut : IsShut o c
-    bare_clear_shut t names = let none = bare_clear_root in absurd (omega (arith, none, names))
-
-    pub bare_clear_wrote : seen_writes s ≤ number → w ≡ noted (StopWrite o g) c → Wrote (clear_of o) reply.Done number v w
-    bare_clear_wrote seen stopped =
-        plain_write (clear_of o) reply.Done number f v s s w started may.list.even (put_same s o)
-        (write_ends (clear_of o) reply.Done number g snap s c c w seen made committed bare_may_commit.left (put_same c o) (ap root_in bare_on) (bare_clear_stands s.shape.texts) stopped)
-        (ap (λ (z : View). root_in (held o z)) started)
+pub bare_leaves : (k : Shape) (o : ℕ) (v : View) → MayAdd k o None v → v.shape ≡ k → ∥ Possible v ∥₁ → Leaves o (clear_of o) reply.Done (known o v) v
+bare_leaves k o v may shape possible =
+    let knows = may.list in
+    let low : o < containers_in v.shape = subst (λ (z : Shape). o < containers_in z) (sym shape) knows.container in
+    let is_list = knows_content k o None v shape possible knows in
+    let values = items_of o v in
+    let empty : [] ≡ values = none_alike [] values refl (list_bare k o v knows is_list) in
+    let no_use = list_use k o None v knows is_list in
+    record {
+      write = refl;
+      changed = refl;
+      words = tt;
+      locks = named_locked o None v.log knows.locked tt;
+      replied = λ stored has. refl;
+      declared = λ stored has. record {
+        one = declared_at stored.world o (content.List values) (in_world o list.Clear reply.Done values [] v low knows.locked is_list stored has) (list_there o list.Clear reply.Done values [] v low knows.locked is_list stored has);
+        both = tt;
+        room = tt;
+      };
+      fits = λ stored has. refl;
+      left_is = λ stored has.
+          let left = content_after o list.Clear reply.Done values [] v low knows.locked is_list stored has refl in
+          let table = get_or-set_same stored.tables o no_table no_table (in_tables o list.Clear reply.Done values [] v low knows.locked is_list stored has) in
+          (λ d. record { content = (left ∙ (ap content.List empty ∙ sym is_list)) d; table = (table ∙ sym no_use) d });
+    }

@@ -1,20 +1,20 @@
 -- The words of a table that is filled with what a list has.
-use Rattle.std.proofs.Common.{◌≡◌, ◌≢◌, ◌⊎◌, ℕ, suc, ◌+◌, ◌%◌, ◌<◌, ◌≤◌, List, [], ◌∷◌, length, refl, sym, ap, ◌∙◌, subst, inl, inr, arith, length-set, get_or-set_same, get_or-set_other}
-use Rattle.std.specs.Prelude.{slice_index, slice_set}
+use Rattle.std.proofs.Common.{◌≡◌, ◌≢◌, ℕ, ◌+◌, ◌<◌, ◌≤◌, List, [], ◌∷◌, length, sym, ap, ◌∙◌, subst, inl, inr, arith, length-set, get_or-set_same, get_or-set_other}
+use Rattle.std.specs.Prelude.{slice_set}
 use Rattle.std.proofs.lemmas.Bool.{cases_eq}
 use Rattle.ft_model.specs.declared.data.Value.{Value}
 use Rattle.ft_model.specs.Classes.{IsClass}
 use Rattle.ft_layout.specs.declared.slot.Stored.{Stored}
 use Rattle.ft_layout.specs.Words.{FitsStored, IsStored, stored_kind, stored_payload}
 use Rattle.ft_layout.specs.Containers.{class_mask}
-use Rattle.ft_layout.specs.Tables.{dict_room, table_length}
+use Rattle.ft_layout.specs.Tables.{table_length}
 use Rattle.ft_layout.proofs.FieldLaws.{sizes_of_class}
 use Rattle.ft_trace.specs.Addresses.{slots, places, size}
 use Rattle.ft_trace.specs.Words.{item_at, item_of}
 use Rattle.ft_trace.specs.Items.{ItemSound, words_at, said_at}
 use Rattle.ft_trace.proofs.ByKind.{items_fit}
-use Rattle.ft_list.specs.Items.{IsPutting, stored_at, words_for}
-use Rattle.ft_list.specs.Growing.{IsFilled, with_item}
+use Rattle.ft_list.specs.Items.{IsPutting, stored_at}
+use Rattle.ft_list.specs.Internal.Growing.{IsFilled, with_item}
 use Rattle.ft_list.proofs.Putting.{words_stored}
 
 -- ---- one item

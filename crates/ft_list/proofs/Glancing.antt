@@ -1,5 +1,5 @@
 -- From what loads between two loads of a list's version show to what a call may answer.
-use Rattle.std.proofs.Common.{◌≡◌, ◌≢◌, ◌≤◌, ℕ, ◌<◌, Bool, List, [], ◌∷◌, ◌++◌, refl, sym, ap, ◌∙◌, subst, inr, append_assoc}
+use Rattle.std.proofs.Common.{◌≡◌, ◌≢◌, ◌≤◌, ℕ, ◌<◌, Bool, List, [], ◌∷◌, ◌++◌, length, refl, sym, ap, ◌∙◌, subst, inr, append_assoc}
 use Rattle.ft_model.specs.declared.call.Call.{Call}
 use Rattle.ft_model.specs.declared.call.Call.TheVariants as call
 use Rattle.ft_model.specs.declared.call.ListCall.{ListCall}
@@ -34,7 +34,7 @@ use Rattle.ft_search.proofs.Lengths.{IsPlain, between_own}
 use Rattle.ft_search.proofs.Rounding.{looks_append, looks_load}
 use Rattle.ft_search.proofs.Running.{did_log}
 use Rattle.ft_list.specs.declared.glances.Window.{Window}
-use Rattle.ft_list.specs.Glances.{HasMoved, WasStill, SawItems, SawBoth}
+use Rattle.ft_list.specs.Glances.{HasMoved, LoadedSome, WasStill, SawItems, SawBoth}
 use Rattle.ft_list.proofs.Indexes.{agrees_newer, agrees_older}
 
 module _ (k : Shape) (o : ℕ) (holds : List Value → Type 0) (w : Window) (p q : Pass) (saw : SawItems k o holds w p q) where
@@ -55,6 +55,16 @@ module _ (k : Shape) (o : ℕ) (holds : List Value → Type 0) (w : Window) (p q
 
   pub saw_loaded : OnlyLoaded (view p) (view q)
   saw_loaded = subst (OnlyLoaded (view p)) (sym saw.2.1) (looks_load acts (view p) looks)
+
+  -- where that is so of lists with one item at least alone
+  pub saw_some : ((items : List Value) → holds items → 0 < length items) → LoadedSome k o (view p) (view q)
+  saw_some some = (
+    Version o w.closed ∷ (ReadCounter w.number ∷ []),
+    part,
+    Version o w.opened ∷ [],
+    own ∙ ap (λ (l : List Act). Version o w.closed ∷ (ReadCounter w.number ∷ l)) (append_assoc part (Version o w.opened ∷ []) (view p).log),
+    (λ x agrees kept is stands. some (list_of kept.content) (saw.3 x agrees kept is stands)),
+  )
 
   pub saw_stopped : HasMoved w → IsStopped o w.opened w.closed (view p) (view q)
   saw_stopped moved = record {

@@ -1,5 +1,5 @@
 -- A whole write in which a list gets another table.
-use Rattle.std.proofs.Common.{◌≡◌, ◌≢◌, ℕ, suc, ◌<◌, Bool, true, false, List, length, Option, Some, refl, sym, ap, ◌∙◌, subst, arith, ne_eqb}
+use Rattle.std.proofs.Common.{◌≡◌, ◌≢◌, ℕ, suc, ◌<◌, Bool, true, false, List, length, Option, Some, sym, ap, ◌∙◌, subst, arith, ne_eqb}
 use Rattle.std.specs.Prelude.{if◌then◌else◌, ◌==◌, None}
 use Rattle.std.specs.Option.{unwrap_or}
 use Rattle.ft_model.specs.declared.call.Call.{Call}
@@ -7,15 +7,13 @@ use Rattle.ft_model.specs.declared.call.Call.TheVariants as call
 use Rattle.ft_model.specs.declared.call.ListCall.{ListCall}
 use Rattle.ft_model.specs.declared.content.Content.TheVariants as content
 use Rattle.ft_model.specs.declared.data.Value.{Value}
-use Rattle.ft_model.specs.declared.reply.Reply.{Reply}
 use Rattle.ft_model.specs.declared.reply.Reply.TheVariants as reply
 use Rattle.ft_model.specs.Calls.{is_changing_list}
-use Rattle.ft_model.specs.Tables.{takes_in}
 use Rattle.ft_layout.specs.Containers.{IsBlock}
 use Rattle.ft_trace.specs.declared.Act.TheVariants.{StartWrite, PutRoot}
 use Rattle.ft_trace.specs.declared.Shape.{Shape}
 use Rattle.ft_trace.specs.declared.View.{View}
-use Rattle.ft_trace.specs.Addresses.{containers_in, class_of}
+use Rattle.ft_trace.specs.Addresses.{class_of}
 use Rattle.ft_trace.specs.Acts.{has_lock, is_writing, has_emptied, owes, noted}
 use Rattle.ft_trace.specs.Worlds.{Kept, changes}
 use Rattle.ft_trace.specs.Words.{root_in}
@@ -30,9 +28,9 @@ use Rattle.ft_growth.specs.Adding.{OnlyFilled}
 use Rattle.ft_growth.proofs.Rooting.{rooted_write, filled_wrote}
 use Rattle.ft_list.specs.Items.{WritesList, IsChanging, MayFinish}
 use Rattle.ft_list.specs.Calls.{Grows}
-use Rattle.ft_list.specs.Growing.{MayGrow}
+use Rattle.ft_list.specs.Internal.Growing.{MayGrow}
 use Rattle.ft_list.proofs.Commits.{may_finish}
-use Rattle.ft_list.proofs.Whole.{grows_on, write_on, has_before}
+use Rattle.ft_list.proofs.Whole.{grows_on}
 
 -- a write of the list o changes it
 pub list_changes : (o : ℕ) (lc : ListCall) (called : Call) → called ≡ call.List o lc → is_changing_list lc ≡ true → changes called ≡ o

@@ -1,5 +1,5 @@
 -- Lists that get another table: that the root may be put, and what the words of the list are then.
-use Rattle.std.proofs.Common.{◌≡◌, ◌≢◌, ℕ, zero, suc, ◌+◌, ◌*◌, ◌%◌, ◌<◌, ◌≤◌, Bool, true, false, true≢false, List, [], ◌∷◌, length, Option, Some, None, refl, sym, ap, ◌∙◌, subst, inl, inr, arith, length-set, get_or-set_same, get_or-set_other}
+use Rattle.std.proofs.Common.{◌≡◌, ◌≢◌, ℕ, suc, ◌<◌, ◌≤◌, true, true≢false, List, ◌∷◌, length, Option, Some, None, refl, sym, ap, ◌∙◌, subst, inl, inr, arith, length-set, get_or-set_same, get_or-set_other}
 use Rattle.std.specs.Prelude.{is_some, slice_index, slice_index_or, slice_set}
 use Rattle.std.proofs.lemmas.Bool.{cases_eq}
 use Rattle.std.specs.Option.{unwrap_or}
@@ -16,7 +16,7 @@ use Rattle.ft_trace.specs.declared.Act.TheVariants.{StartWrite}
 use Rattle.ft_trace.specs.declared.Shape.{Shape}
 use Rattle.ft_trace.specs.declared.View.{View}
 use Rattle.ft_trace.specs.Acts.{has_lock, is_writing, mem, noted, stage}
-use Rattle.ft_trace.specs.Addresses.{containers_in, class_of, slots, size}
+use Rattle.ft_trace.specs.Addresses.{containers_in, class_of, slots}
 use Rattle.ft_trace.specs.Holds.{held, known, in_hand}
 use Rattle.ft_trace.specs.Kinds.{rows, version_at, SoundAs}
 use Rattle.ft_trace.specs.Openings.{Shut}
@@ -25,13 +25,13 @@ use Rattle.ft_trace.specs.Words.{Picture, root_in, Stands, item_of, table_of}
 use Rattle.ft_trace.specs.Worlds.{Kept, kind_in}
 use Rattle.ft_trace.proofs.Cases.{hit}
 use Rattle.ft_bank.specs.declared.table.Table.{Table}
-use Rattle.ft_bank.specs.Tables.{name_of, root_for, IsTableIn}
+use Rattle.ft_bank.specs.Tables.{name_of, IsTableIn}
 use Rattle.ft_bank.specs.Writes.{MayPutRoot}
 use Rattle.ft_bank.proofs.Tables.{class_is}
 use Rattle.ft_bank.specs.Whole.{OnlyLoaded}
 use Rattle.ft_growth.specs.Adding.{OnlyFilled}
 use Rattle.ft_list.specs.Items.{items_of, stored_at}
-use Rattle.ft_list.specs.Growing.{KnowsList, MayGrow, IsFilled}
+use Rattle.ft_list.specs.Internal.Growing.{KnowsList, MayGrow, IsFilled}
 use Rattle.ft_list.proofs.Cares.{table_class}
 use Rattle.ft_list.proofs.Filling.{filled_sound}
 use Rattle.ft_list.proofs.Lists.{list_content, list_known, list_rooted, list_shut}

@@ -10,7 +10,6 @@ pub mod Looking
 pub mod CallFacts
 pub mod Asking
 pub mod Raising
-pub mod Loaded
 pub mod Indexes
 pub mod Values
 pub mod Trying
@@ -26,3 +25,4 @@ pub mod Growing
 pub mod GrowWrites
 pub mod Additions
 pub mod Emptying
+pub mod Extending

@@ -1,6 +1,8 @@
 -- Loops over the items of a list, step by step, and what they show in the end.
-use Rattle.std.proofs.Common.{◌≡◌, ℕ, ◌<◌, ◌≤◌, ℤ, Bool, true, List, ◌++◌, length, take, Option, Some, None, refl, sym, ap, ◌∙◌, inr, arith}
-use Rattle.std.specs.Prelude.{slice_index, slice_index_or, is_some, pos, negsuc, Result, Ok, Err, IfOk}
+use Rattle.std.proofs.Common.{◌≡◌, ℕ, ◌<◌, ◌≤◌, ℤ, Bool, true, List, [], ◌++◌, length, take, Option, Some, None, refl, sym, ap, ◌∙◌, subst, inr, arith}
+use Rattle.std.specs.Prelude.{slice_index, slice_index_or, is_some, pos, negsuc, Result}
+use Rattle.std.specs.Global.{Vec}
+use Rattle.std.specs.declared.alloc.AllocError.{AllocError}
 use Rattle.std.proofs.Math.Nat.{min-le_right}
 use Rattle.std.specs.Option.{option_map_or}
 use Rattle.ft_model.specs.declared.call.Call.TheVariants as call
@@ -8,6 +10,8 @@ use Rattle.ft_model.specs.declared.call.ListCall.TheVariants as list
 use Rattle.ft_model.specs.declared.content.Content.{Content}
 use Rattle.ft_model.specs.declared.content.Content.TheVariants as content
 use Rattle.ft_model.specs.declared.reply.Raise.TheVariants as raise
+use Rattle.ft_model.specs.declared.call.Call.{Call}
+use Rattle.ft_model.specs.declared.reply.Reply.{Reply}
 use Rattle.ft_model.specs.declared.reply.Reply.TheVariants as reply
 use Rattle.ft_model.specs.Answers.{shows}
 use Rattle.ft_model.specs.declared.data.Value.{Value}
@@ -27,6 +31,7 @@ use Rattle.ft_search.proofs.Running.{did_log}
 use Rattle.ft_list.specs.Calls.{MayWriteList}
 use Rattle.ft_list.specs.Items.{items_of}
 use Rattle.ft_list.specs.Indexes.{Reads, IsItemAt}
+use Rattle.ft_list.specs.Copies.{AreCopied, TakesMemory}
 use Rattle.ft_list.specs.Scans.{IsOfItems}
 use Rattle.ft_search.specs.Calls.{IsReplyTo}
 use Rattle.ft_list.proofs.Trying.{reply_of_list}
@@ -109,10 +114,20 @@ has_plain o value truth = record { reads = refl; cursor = refl; adds = refl; mem
 
 -- ---- copies
 
--- a value of a result, where there is one, is such
-pub if_ok : {X E : Type 0} (P Q : X → Type 0) (r : Result X E) → ((x : X) → P x → Q x) → IfOk r P → IfOk r Q
-if_ok P Q (Ok x) f p = f x p
-if_ok P Q (Err e) f p = tt
+-- a copy of these values is one of values that are the same
+pub copied_same : (xs ys : List Value) (made : Result (Vec Value) AllocError) → xs ≡ ys → AreCopied made xs → AreCopied made ys
+copied_same xs ys made same copied = subst (AreCopied made) same copied
+
+-- where there was no memory for the reply, it has a value
+module _ (called : Call) (v : View) (values : List Value) (replied : IsReplyTo called (reply.List values) v) (some : 0 < length values) where
+  pub takes_memory : TakesMemory called v
+  takes_memory stored has none =
+      let n : length values ≡ 0 = ap (λ (r : Reply). length (values_in r)) (sym (replied stored has) ∙ none) in
+      omega (arith, n, some)
+    where
+      values_in : Reply → List Value
+      values_in (reply.List items) = items
+      values_in other = []
 
 -- before the first load of a call
 pub nothing_read : (k : Shape) (o : ℕ) (holds : List Value → Type 0) (p : Pass) → ((items : List Value) → holds items) → Reads k o (IsOfItems k holds) p p

@@ -1,6 +1,6 @@
 -- Calls under locks: what a pass in the midst of a call may do with a list, and that it is in the midst of its call still
 -- once it has.
-use Rattle.std.proofs.Common.{◌≡◌, ℕ, ◌<◌, ◌≤◌, Bool, true, false, List, ◌∷◌, ◌++◌, Some, None, refl, sym, ap, ◌∙◌, subst, inl, inr}
+use Rattle.std.proofs.Common.{◌≡◌, ℕ, ◌<◌, ◌≤◌, Bool, true, false, List, ◌∷◌, ◌++◌, Some, None, refl, sym, ap, ◌∙◌, subst, inr}
 use Rattle.std.specs.Prelude.{◌&&◌, not, if◌then◌else◌, Result, Ok, Err}
 use Rattle.std.specs.declared.alloc.AllocError.{AllocError}
 use Rattle.std.specs.Option.{unwrap_or}
@@ -17,30 +17,29 @@ use Rattle.ft_model.specs.Answers.{Answer as Given}
 use Rattle.ft_model.specs.Tables.{StoredWorld}
 use Rattle.ft_model.specs.Worlds.{no_hands}
 use Rattle.ft_trace.specs.declared.Act.{Act}
-use Rattle.ft_trace.specs.declared.Act.TheVariants.{Answer, PutRoot, ReadCounter}
+use Rattle.ft_trace.specs.declared.Act.TheVariants.{Answer, ReadCounter}
 use Rattle.ft_trace.specs.declared.Shape.{Shape}
 use Rattle.ft_trace.specs.declared.View.{View}
-use Rattle.ft_trace.specs.Acts.{has_lock, stage, stage_next, debt, debt_next, noted, shown}
+use Rattle.ft_trace.specs.Acts.{has_lock, stage, debt, noted, shown}
 use Rattle.ft_trace.specs.Addresses.{containers_in}
 use Rattle.ft_trace.specs.Holds.{held, known}
 use Rattle.ft_trace.specs.Traces.{Possible}
 use Rattle.ft_trace.specs.Words.{root_in}
 use Rattle.ft_trace.specs.Worlds.{kind_in, changes, reply_in}
-use Rattle.ft_trace.proofs.Cases.{here}
 use Rattle.ft_bank.specs.declared.bank.Bank.{Bank}
 use Rattle.ft_bank.specs.declared.pass.Pass.{Pass}
 use Rattle.ft_bank.specs.Answered.{Answered}
 use Rattle.ft_bank.specs.Passes.{shape_of, view, IsPassOf}
 use Rattle.ft_bank.specs.Reads.{IsShown}
 use Rattle.ft_bank.specs.Sections.{stack_of}
-use Rattle.ft_bank.specs.Whole.{OnlyLoaded, Wrote, hand_after, debt_after}
+use Rattle.ft_bank.specs.Whole.{OnlyLoaded, Wrote}
 use Rattle.ft_bank.specs.Writes.{MayHave}
-use Rattle.ft_bank.proofs.Whole.{loaded_by, loaded_then, work_knows}
+use Rattle.ft_bank.proofs.Whole.{loaded_by, loaded_held, loaded_then, work_knows}
 use Rattle.ft_section.specs.declared.answers.Stamp.{Stamp}
 use Rattle.ft_section.specs.Ready.{IsMaking}
 use Rattle.ft_section.proofs.Making.{making_stays}
 use Rattle.ft_search.proofs.Asking.{held_shown, answered_locked}
-use Rattle.ft_search.proofs.Calling.{has_loaded, making_made}
+use Rattle.ft_search.proofs.Calling.{loaded_answered, loaded_wrote, making_made, replied_loaded, wrote_as as written}
 use Rattle.ft_search.proofs.Lengths.{IsPlain}
 use Rattle.ft_search.proofs.Trying.{LeavesSections, still_loaded, making_stands}
 use Rattle.ft_list.specs.Calls.{MayWriteList, Changes, Raises}
@@ -49,7 +48,7 @@ use Rattle.ft_search.specs.Calls.{IsReplyTo, KeepsTables, MadeAs}
 use Rattle.ft_list.specs.Copies.{IsCopied}
 use Rattle.ft_list.proofs.Commits.{list_is}
 use Rattle.ft_list.proofs.Lists.{content_of}
-use Rattle.ft_list.proofs.Loaded.{loaded_wrote, loaded_answered}
+use Rattle.ft_list.proofs.Whole.{has_before}
 use Rattle.ft_list.proofs.Raising.{raised, and_false}
 
 -- ---- before the call
@@ -69,9 +68,6 @@ may_write b p o m low is mine left =
 
 -- ---- the reply
 
-pub reply_loaded : (called : Call) (said : Reply) (v u : View) → OnlyLoaded v u → IsReplyTo called said u → IsReplyTo called said v
-reply_loaded called said v u l replied stored has = replied stored (has_loaded v u l stored has)
-
 module _ (o : ℕ) (lc : ListCall) (said : Reply) (values : List Value) (v : View) (low : o < containers_in v.shape) (mine : has_lock o v.log ≡ true) (is_list : (known o v).content ≡ content.List values) where
   -- it is that of the plain list with the items that the pass knows
   pub reply_of_list : ((stored : StoredWorld) → MayHave v stored → (answer_list stored.world no_hands o values lc).reply ≡ said) → IsReplyTo (call.List o lc) said v
@@ -85,40 +81,13 @@ module _ (o : ℕ) (lc : ListCall) (said : Reply) (values : List Value) (v : Vie
 
 -- ---- tables in hand
 
-hand_stays : (o old root t stands : ℕ) → old ≡ root → hand_after o old root t stands ≡ stands
-hand_stays o old root t stands e = here old root stands (stage_next t (PutRoot o root old) stands) e
-
-debt_stays : (o old root n : ℕ) → old ≡ root → debt_after o old root n ≡ n
-debt_stays o old root n e = here old root n (debt_next (PutRoot o root old) n) e
-
-pub tables_wrote : (called : Call) (said : Reply) (n : ℕ) (v w : View) → Wrote called said n v w → root_in (held (changes called) w) ≡ root_in (held (changes called) v) → KeepsTables v w
-tables_wrote called said n v w x root =
-    let old = root_in (held (changes called) v) in
-    let new = root_in (held (changes called) w) in
-    record {
-      hands = λ t. x.hands t ∙ hand_stays (changes called) old new t (stage t v.log) (sym root);
-      debt = x.debt ∙ debt_stays (changes called) old new (debt v.log) (sym root);
-    }
-
 pub tables_answered : (called : Call) (said : Reply) (n : ℕ) (v w : View) → Answered called said n v w → KeepsTables v w
 tables_answered called said n v w x = record {
   hands = λ t. ap (λ (z : View). stage t z.log) x.answered ∙ x.loaded.work.hands t;
   debt = ap (λ (z : View). debt z.log) x.answered ∙ x.loaded.work.debt;
 }
 
-pub tables_loaded : (v u w : View) → OnlyLoaded v u → KeepsTables u w → KeepsTables v w
-tables_loaded v u w l x = record { hands = λ t. x.hands t ∙ l.work.hands t; debt = x.debt ∙ l.work.debt }
-
 -- ---- the call as one made
-
--- as a write, after loads
-pub made_write : (called : Call) (said : Reply) (n : ℕ) (v u w : View) → OnlyLoaded v u → IsReplyTo called said u → is_write called said ≡ true → Wrote called said n u w → root_in (held (changes called) w) ≡ root_in (held (changes called) u) → MadeAs called said (record { number = n; wrote = true }) v w
-made_write called said n v u w l replied write x root = record {
-  made = inl (refl, loaded_wrote called said n v u w l x);
-  replied = reply_loaded called said v u l replied;
-  wrote = sym write;
-  tables = tables_loaded v u w l (tables_wrote called said n u w x root);
-}
 
 -- as a call that isn't one
 pub made_read : (called : Call) (said : Reply) (stamp : Stamp) (v w : View) → IsReplyTo called said v → is_write called said ≡ false → stamp.wrote ≡ false → Answered called said stamp.number v w → MadeAs called said stamp v w
@@ -143,14 +112,16 @@ module _ (k : Shape) (o : ℕ) (lc : ListCall) (said : Reply) (v u w : View) (sh
   pub wrote_as : (n : ℕ) (news : List Value) → Changes o lc said (items_of o u) news u → Wrote called said n u w → root_in (held o w) ≡ root_in (held o u) → MadeAs called said (record { number = n; wrote = true }) v w
   wrote_as n news c x root =
       let at : o ≡ changes called = sym (ap (λ (b : Bool). unwrap_or (if b then Some o else None) 0) c.write.changing) in
-      made_write called said n v u w loaded (reply_changes o lc said (items_of o u) u inside may.locked is_list news c) (λ d. c.write.changing d && not (c.write.raises d)) x
-      (subst (λ (p : ℕ). root_in (held p w) ≡ root_in (held p u)) at root)
+      written called said n v w (λ d. c.write.changing d && not (c.write.raises d))
+      (replied_loaded v u loaded called said (reply_changes o lc said (items_of o u) u inside may.locked is_list news c))
+      (loaded_wrote v u loaded called said n w x)
+      (subst (λ (p : ℕ). root_in (held p w) ≡ root_in (held p v)) at (root ∙ ap root_in (loaded_held v u o loaded)))
 
   pub raised_as : (stamp : Stamp) (part : List Act) → u.log ≡ part ++ v.log → Raises o lc said (items_of o u) → stamp.wrote ≡ false → Answered called said stamp.number u w → MadeAs called said stamp v w
   raised_as stamp part log r wrote x =
-      made_read called said stamp v w (reply_loaded called said v u loaded (reply_raises o lc said (items_of o u) u inside may.locked is_list r))
+      made_read called said stamp v w (replied_loaded v u loaded called said (reply_raises o lc said (items_of o u) u inside may.locked is_list r))
       (ap (λ (b : Bool). is_changing_list lc && not b) (raised said r.raises) ∙ and_false (is_changing_list lc)) wrote
-      (loaded_answered called said stamp.number v u w loaded part log x)
+      (loaded_answered v u loaded called said stamp.number w part log x)
 
 -- ---- after the call
 
@@ -161,28 +132,17 @@ making_loaded b p q m pass stack l = making_stays b p q m pass stack l.work.pass
 -- a call that takes memory
 pub making_copied : (b : Bank) (p q : Pass) (asked : Call) (copied : Result (Reply × Stamp) AllocError) → LeavesSections asked → IsMaking b p → IsPassOf b q → stack_of q ≡ stack_of p → IsCopied asked (view p) (view q) copied → IsMaking b q
 making_copied b p q asked (Ok made) leaves m pass stack x = making_made b p q asked made.0 made.1 leaves m pass stack x
-making_copied b p q asked (Err e) leaves m pass stack x = making_loaded b p q m pass stack x
+making_copied b p q asked (Err e) leaves m pass stack x = making_loaded b p q m pass stack x.0
 
 -- ---- calls that read, with the stamp that is loaded under the lock
-
--- what the bank may have after loads it might have before
-pub had_loaded : (v u : View) (stored : StoredWorld) → OnlyLoaded v u → MayHave u stored → MayHave v stored
-had_loaded v u stored l has =
-    let s = l.work.pass.shape in
-    record {
-      agrees = λ p low mine. has.agrees p (subst (λ (k : Shape). p < containers_in k) (sym s) low) (l.work.pass.locks p ∙ mine) ∙ work_knows v u p l.work;
-      containers = has.containers ∙ ap containers_in s;
-      kinds = has.kinds ∙ ap (λ (k : Shape). k.kinds) s;
-      order = has.order;
-      words = has.words;
-    }
 
 module _ (called : Call) (said : Reply) (plain : IsPlain called said) (v u : View) (loaded : OnlyLoaded v u) (replied : IsReplyTo called said v) where
   pub read_shown : (n : ℕ) → 0 < v.left → IsShown (noted (ReadCounter n) u) called said n
   read_shown n left =
       let both = loaded_then v u (noted (ReadCounter n) u) loaded (loaded_by (ReadCounter n) u (noted (ReadCounter n) u) tt refl) in
+      let had = has_before v (noted (ReadCounter n) u) (λ p. work_knows v (noted (ReadCounter n) u) p both.work) both.work.pass.shape (λ p mine. both.work.pass.locks p ∙ mine) in
       held_shown v u n loaded left called said plain.reads plain.cursor
-      (λ stored has. plain.replied (reply_in stored called) (sym (replied stored (had_loaded v (noted (ReadCounter n) u) stored both has))))
+      (λ stored has. plain.replied (reply_in stored called) (sym (replied stored (had stored has))))
       (λ stored. plain.cause stored (ReadCounter n ∷ u.log) n)
 
   pub read_made : (z : View) (given reply : Reply) (stamp : Stamp) (part : List Act) → u.log ≡ part ++ v.log → z ≡ noted (Answer called given stamp.number) (noted (ReadCounter stamp.number) u) → given ≡ said → reply ≡ given → stamp.wrote ≡ false → v.learnt ≤ shown v.log → ∥ Possible z ∥₁ → MadeAs called reply stamp v z

@@ -1,23 +1,21 @@
 -- Which table a list takes for its items, by the table that it has.
-use Rattle.std.proofs.Common.{◌≡◌, ◌≢◌, ℕ, zero, suc, ◌+◌, ◌*◌, ◌<◌, ◌≤◌, Bool, true, false, true≢false, List, [], ◌∷◌, length, Option, Some, None, refl, sym, ap, ◌∙◌, subst, arith, ltb-true, ltb-false, lt-ltb}
+use Rattle.std.proofs.Common.{◌≡◌, ℕ, zero, suc, ◌<◌, ◌≤◌, Bool, true, false, true≢false, List, ◌∷◌, Option, Some, None, refl, sym, ap, ◌∙◌, subst, arith, ltb-true, ltb-false, lt-ltb}
 use Rattle.std.specs.Prelude.{◌&&◌, nat_lt, is_some, slice_index, if◌then◌else◌}
-use Rattle.std.specs.Option.{option_map_or, unwrap_or}
+use Rattle.std.specs.Option.{unwrap_or}
 use Rattle.ft_model.specs.declared.content.Content.{Content}
 use Rattle.ft_model.specs.declared.content.Content.TheVariants as content
 use Rattle.ft_model.specs.declared.data.Value.{Value}
-use Rattle.ft_model.specs.Classes.{IsClass, list_class, list_items}
-use Rattle.ft_model.specs.Tables.{TableUse, no_table, list_takes, outgrows_list}
+use Rattle.ft_model.specs.Classes.{list_class, list_items}
+use Rattle.ft_model.specs.Tables.{no_table, list_takes, outgrows_list}
 use Rattle.ft_layout.specs.Containers.{IsListWords, StandsAs}
 use Rattle.ft_trace.specs.declared.Shape.{Shape}
 use Rattle.ft_trace.specs.declared.View.{View}
-use Rattle.ft_trace.specs.Addresses.{class_of}
 use Rattle.ft_trace.specs.Holds.{held, known}
-use Rattle.ft_trace.specs.Words.{root_in}
 use Rattle.ft_bank.specs.declared.table.Table.{Table}
-use Rattle.ft_bank.specs.Tables.{name_of, root_for}
+use Rattle.ft_bank.specs.Tables.{name_of}
 use Rattle.ft_bank.proofs.Tables.{class_is}
 use Rattle.ft_list.specs.Items.{items_of}
-use Rattle.ft_list.specs.Growing.{KnowsList, use_of}
+use Rattle.ft_list.specs.Internal.Growing.{KnowsList, use_of}
 use Rattle.ft_list.proofs.Lists.{list_known}
 
 pub some_is : {A : Type 0} (any a b : A) → Some a ≡ Some b → a ≡ b
@@ -61,6 +59,17 @@ wanted_none None n some_one is =
 wanted_none (Some q) n some_one is =
     let x = if_none (outgrows_list (use_of (Some q)) n) (list_class n) is in
     (q, refl, ltb-false (list_items q.class) n (true_and (nat_lt 0 n) (nat_lt (list_items q.class) n) (lt-ltb 0 n some_one) x))
+
+-- the table that it has then holds them, if it has one, and else it has none
+pub wanted_room : (t : Table) (n : ℕ) → list_takes (use_of (Some t)) n ≡ None → n ≤ list_items t.class
+wanted_room t zero is = omega arith
+wanted_room t (suc n) is =
+    let x = wanted_none (Some t) (suc n) (omega arith) is in
+    subst (λ (z : Table). suc n ≤ list_items z.class) (sym (some_is t t x.0 x.1)) x.2
+
+pub wanted_bare : (n : ℕ) → list_takes (use_of None) n ≡ None → n ≡ 0
+wanted_bare zero is = refl
+wanted_bare (suc n) is = let x = wanted_none None (suc n) (omega arith) is in some_none x.0 (sym x.1)
 
 -- ---- the table that it has
 

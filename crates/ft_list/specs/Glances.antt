@@ -1,5 +1,5 @@
 -- What loads between two loads of a list's version show, and what a call answers by them. (profile)
-use Rattle.std.specs.Prelude.{◌≡◌, ◌≢◌, ◌⊎◌, ℕ, ◌%◌, false, List, [], ◌∷◌, ◌++◌}
+use Rattle.std.specs.Prelude.{◌≡◌, ◌≢◌, ◌⊎◌, ℕ, ◌%◌, ◌<◌, false, List, [], ◌∷◌, ◌++◌, length}
 use Rattle.ft_model.specs.declared.call.Call.{Call}
 use Rattle.ft_model.specs.declared.data.Value.{Value}
 use Rattle.ft_trace.specs.declared.Act.{Act}
@@ -45,10 +45,17 @@ SawBoth k o m holds w u p q =
     ++ Version m u.opened ∷ (Version o w.opened ∷ []))))) p q
     × ((x y : Picture) → Agrees k o part x → Agrees k m part y → AreOfItems k holds x y)
 
+-- among what the pass loaded since then are words of the list that only a list with one item at least answers so
+abbrev pub LoadedSome : Shape → ℕ → View → View → Type 0
+LoadedSome k o v w =
+    (newer part older : List Act) × (w.log ≡ newer ++ (part ++ (older ++ v.log)))
+    × ((x : Picture) → Agrees k o part x → IsOfItems k (λ items. 0 < length items) x)
+
 -- What a call answers that copies a list between two loads of its version. It gave a reply, which is the one that its entry
--- has, with a stamp that it loaded; or it was contended; or there was no memory, and the pass only loaded words.
-abbrev pub IsCopyGlanceOf : ℕ → Call → View → View → Look → Type 0
-IsCopyGlanceOf o called v w (look.Done said stamp) =
+-- has, with a stamp that it loaded; or it was contended; or there was no memory for the items, of which it loaded some, and
+-- the pass only loaded words.
+abbrev pub IsCopyGlanceOf : Shape → ℕ → Call → View → View → Look → Type 0
+IsCopyGlanceOf k o called v w (look.Done said stamp) =
     Answered called said stamp.number v w × (stamp.wrote ≡ false)
-IsCopyGlanceOf o called v w (look.Contended a b) = IsStopped o a b v w
-IsCopyGlanceOf o called v w look.NoMemory = OnlyLoaded v w
+IsCopyGlanceOf k o called v w (look.Contended a b) = IsStopped o a b v w
+IsCopyGlanceOf k o called v w look.NoMemory = OnlyLoaded v w × LoadedSome k o v w

@@ -1,25 +1,14 @@
--- Lists that get another table: what a pass is to have and to know for that, and the words of the new table.
-use Rattle.std.specs.Prelude.{◌≡◌, ◌≢◌, ℕ, suc, ◌+◌, ◌<◌, true, false, nat_lt, List, length, Option, Some, None, slice_set}
-use Rattle.std.specs.List.{insert}
+-- What calls come to that give a list another table, or none.
+use Rattle.std.specs.Prelude.{◌≡◌, ℕ, ◌+◌, true, nat_lt, length}
 use Rattle.ft_model.specs.declared.call.Call.{Call}
 use Rattle.ft_model.specs.declared.call.Call.TheVariants as call
 use Rattle.ft_model.specs.declared.call.ListCall.TheVariants as list
-use Rattle.ft_model.specs.declared.data.Value.{Value}
 use Rattle.ft_model.specs.declared.reply.Reply.TheVariants as reply
-use Rattle.ft_model.specs.declared.script.Kind.TheVariants as kind
 use Rattle.ft_model.specs.Classes.{most_items}
-use Rattle.ft_model.specs.Tables.{TableUse, no_table, list_takes}
-use Rattle.ft_layout.specs.declared.slot.Stored.{Stored}
-use Rattle.ft_layout.specs.Words.{IsStored, stored_kind, stored_payload}
+use Rattle.ft_model.specs.Tables.{list_takes}
 use Rattle.ft_trace.specs.declared.Shape.{Shape}
 use Rattle.ft_trace.specs.declared.View.{View}
-use Rattle.ft_trace.specs.Acts.{has_lock, is_writing, owes, stage, used, flight}
-use Rattle.ft_trace.specs.Addresses.{containers_in, class_of, size}
-use Rattle.ft_trace.specs.Holds.{held, known}
-use Rattle.ft_trace.specs.Words.{root_in, Stands, item_at, item_of}
-use Rattle.ft_trace.specs.Worlds.{kind_in}
-use Rattle.ft_bank.specs.declared.table.Table.{Table}
-use Rattle.ft_bank.specs.Tables.{name_of, root_for, IsTableIn}
+use Rattle.ft_trace.specs.Holds.{known}
 use Rattle.ft_bank.specs.Whole.{OnlyLoaded}
 use Rattle.ft_growth.specs.declared.adding.Added.{Added}
 use Rattle.ft_section.specs.declared.answers.Objects.TheVariants.{One}
@@ -29,58 +18,7 @@ use Rattle.ft_section.specs.declared.answers.Step.TheVariants as step
 use Rattle.ft_section.specs.Locking.{OnlyLocked, FoundOwner}
 use Rattle.ft_section.specs.Takings.{IsOf}
 use Rattle.ft_growth.specs.Adding.{GaveUp, IsAdded, UnderLocks}
-use Rattle.ft_list.specs.Items.{items_of, stored_at}
-
--- what a list has that has this table, or none
-abbrev pub use_of : Option Table → TableUse
-use_of None = no_table
-use_of (Some t) = record { class = Some t.class; fill = 0 }
-
--- The pass has the lock of the list o, whose root names this table or none; no version is odd there, and its words stand for
--- what the pass knows of it. (profile)
-pub record KnowsList (k : Shape) (o : ℕ) (old : Option Table) (v : View) : Type 0 where
-  pub container : o < containers_in k
-  pub kind : kind_in k.kinds o ≡ kind.List
-  pub locked : has_lock o v.log ≡ true
-  pub even : is_writing o v.log ≡ false
-  pub stands : Stands k.texts (held o v) (known o v)
-  pub table_in : (t : Table) → old ≡ Some t → IsTableIn k t
-  pub root : root_in (held o v) ≡ root_for old
-
--- Besides it is in the midst of no taking or giving of a table, and of no other write that took a table out of a root; it has
--- lowered no count of a class that it hasn't raised again, and it has a call left. (profile)
-pub record MayAdd (k : Shape) (o : ℕ) (old : Option Table) (v : View) : Type 0 where
-  pub list : KnowsList k o old v
-  pub used : used v.log ≡ false
-  pub owes : owes v.log ≡ 0
-  pub idle : flight v.log ≡ 0
-  pub left : 0 < v.left
-
--- Or it has taken this table, which is fresh in its hand, and has raised no count since. (profile)
-pub record MayGrow (k : Shape) (o : ℕ) (old : Option Table) (table : Table) (v : View) : Type 0 where
-  pub list : KnowsList k o old v
-  pub used : used v.log ≡ false
-  pub owed : owes v.log ≡ suc (class_of (name_of table))
-  pub fresh : stage (name_of table) v.log ≡ 1
-  pub table_in : IsTableIn k table
-  pub left : 0 < v.left
-
--- the words of a table once an item stores this, with version 0
-abbrev pub with_item : List ℕ → ℕ → Stored → List ℕ
-with_item words place stored =
-    slice_set
-    (slice_set
-    (slice_set (slice_set words (item_at place 0) 0) (item_at place 1) (stored_kind stored))
-    (item_at place 2) (stored_payload stored))
-    (item_at place 3) 0
-
--- The words of a table of this class, of which the items before this place store what a list has there, with version 0.
--- (profile)
-pub record IsFilled (class : ℕ) (values : List Value) (past : ℕ) (words : List ℕ) : Type 0 where
-  pub long : length words ≡ size class
-  pub version : (p : ℕ) → p < past → item_of words p 0 ≡ 0
-  pub items : (p : ℕ) → p < past → IsStored (item_of words p 1) (item_of words p 2) (stored_at values p)
-  pub spare : (p : ℕ) → p < past → item_of words p 3 ≡ 0
+use Rattle.ft_list.specs.Items.{items_of}
 
 -- What a call that adds n items to the list o comes to under the lock, which the plain list replies is done: after loads, by
 -- the class of the table that the list takes for its items and n more, if it takes one, and by whether these are more than
@@ -90,6 +28,10 @@ AddsItems k o called n v w what =
     (u : View) × OnlyLoaded v u
     × IsAdded k (list_takes (known o v).table (length (items_of o v) + n))
     (nat_lt most_items (length (items_of o v) + n)) called reply.Done u w what
+
+-- What `o.extend(m)` comes to under the locks of both: it adds as many items as m has. (Python manual, Mutable Sequence Types)
+abbrev pub ExtendsBy : Shape → ℕ → ℕ → View → View → Added → Type 0
+ExtendsBy k o m v w what = AddsItems k o (call.List o (list.Extend m)) (length (items_of m v)) v w what
 
 -- A clear of the list o was made under the lock, after loads, as one whole write that left it no table; the table that it had
 -- is retired. (Python manual, Mutable Sequence Types)

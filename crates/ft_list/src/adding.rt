@@ -1,7 +1,6 @@
-//! Calls that add items to a list: under the lock, and their tries. A list whose table has no room for them, or
+//! Calls that add items to a list: under the locks, and their tries. A list whose table has no room for them, or
 //! that has none, gets another one.
-ghost use Rattle.std.specs.Prelude.{◌≡◌, ◌≢◌, ℕ, ◌+◌, ◌<◌, ◌≤◌, nat_lt, false, length, Option, Some, None, IfSome};
-ghost use Rattle.std.specs.List.{insert};
+ghost use Rattle.std.specs.Prelude.{◌≡◌, ℕ, ◌+◌, ◌<◌, ◌≤◌, nat_lt, false, length, Option, Some, None, IfSome};
 ghost use Rattle.ft_model.specs.declared.call.Call.TheVariants as call;
 ghost use Rattle.ft_model.specs.declared.call.ListCall.{ListCall};
 ghost use Rattle.ft_model.specs.declared.call.ListCall.TheVariants as list;
@@ -10,8 +9,6 @@ ghost use Rattle.ft_model.specs.declared.script.Kind.TheVariants as kind;
 ghost use Rattle.ft_model.specs.Classes.{IsClass, most_items};
 ghost use Rattle.ft_model.specs.Lists.{clamped_in};
 ghost use Rattle.ft_model.specs.Tables.{list_takes};
-ghost use Rattle.ft_layout.specs.declared.slot.Stored.TheVariants.{Plain};
-ghost use Rattle.ft_layout.specs.Words.{FitsStored};
 ghost use Rattle.ft_trace.specs.Acts.{flight, used};
 ghost use Rattle.ft_trace.specs.Addresses.{containers_in};
 ghost use Rattle.ft_trace.specs.Holds.{known};
@@ -20,21 +17,24 @@ ghost use Rattle.ft_bank.specs.declared.table.Table.{Table};
 ghost use Rattle.ft_bank.specs.Passes.{shape_of, view, IsPassOf};
 ghost use Rattle.ft_bank.specs.Sections.{stack_of};
 ghost use Rattle.ft_bank.specs.Whole.{OnlyLoaded};
-ghost use Rattle.ft_section.specs.declared.answers.Objects.TheVariants.{One};
+ghost use Rattle.ft_section.specs.declared.answers.Objects.TheVariants.{One, Two};
 ghost use Rattle.ft_section.specs.Ready.{MayTry};
-ghost use Rattle.ft_growth.specs.Adding.{IsAdded, IsTryOf};
+ghost use Rattle.ft_growth.specs.Adding.{IsAdded, IsTryOf, KeepsCursors};
 ghost use Rattle.ft_list.specs.Items.{items_of};
 ghost use Rattle.ft_list.specs.Calls.{MayWriteList, Adds};
-ghost use Rattle.ft_list.specs.Growing.{KnowsList, MayAdd, AddsItems, use_of};
+ghost use Rattle.ft_list.specs.Growing.{AddsItems, ExtendsBy};
+ghost use Rattle.ft_list.specs.Internal.Growing.{KnowsList, MayAdd, use_of};
+ghost use Rattle.ft_list.specs.Internal.Additions.{count_in, with_added, IsAddition};
 
-use crate::growth::insert_in;
-use crate::locked::{count_of, value_fits};
-use crate::writes::insert_item;
+use crate::addition::{Addition, added_count};
+use crate::bare::write_nothing;
+use crate::growth::add_in;
+use crate::locked::{count_of, table_at_root, value_fits};
+use crate::writes::add_items;
 use ft_bank::{Bank, Pass, Table, Took};
 use ft_growth::{Added, answer_no_table, answer_over, retire_old, step_of};
 use ft_model::{Call, KeptTable, ListCall, MOST_ITEMS, Reply, Value, taken_by_list};
 use ft_qsbr::take;
-use ft_search::table_named;
 use ft_section::{Got, Object, Objects, Stamp, Step, let_go, take_for};
 
 /// The class of the table that a list takes for that many items, which has this one or none.
@@ -59,79 +59,70 @@ pub(crate) fn root_table(bank: &Bank, pass: &mut Pass, l: Object) -> Option<Tabl
     ensures only { OnlyLoaded (view pass.old) (view pass.new) }
     ensures list { KnowsList (shape_of bank.now) l result (view pass.new) }
 {
-    let root = bank.read_block(pass, l, 0);
-    table_named(root)
+    table_at_root(bank, pass, l)
 }
 
-/// Inserts a value at a place of a list whose table has room for it, as the write of this call.
-fn insert_in_room(
+/// Adds to a list of so many items whose table has room, or that has none and needs none, as the write of this call.
+fn add_in_room(
     bank: &Bank,
     pass: &mut Pass,
     l: Object,
     old: Option<Table>,
-    place: u64,
+    addition: Addition,
     count: u64,
-    value: Value,
     called: &Call,
 ) -> Added
     requires pass { IsPassOf bank.now pass.old }
     requires may { MayAdd (shape_of bank.now) l old (view pass.old) }
+    requires addition { IsAddition (shape_of bank.now) count addition (view pass.old) }
     requires count { count ≡ length (items_of l (view pass.old)) }
-    requires few { count < most_items }
-    requires place { place ≤ count }
-    requires value { FitsStored (Plain value) }
+    requires few { count + count_in addition ≤ most_items }
     requires call { (lc : ListCall) × (called.now ≡ call.List l lc) × Adds l lc (items_of l (view pass.old))
-        (insert (items_of l (view pass.old)) place value) (view pass.old) }
-    requires room { list_takes (use_of old) (count + 1) ≡ None }
+        (with_added addition (view pass.old) (items_of l (view pass.old))) (view pass.old) }
+    requires room { list_takes (use_of old) (count + count_in addition) ≡ None }
     ensures pass { IsPassOf bank.now pass.new }
     ensures stack { stack_of pass.new ≡ stack_of pass.old }
     ensures added { IsAdded (shape_of bank.now) None false called.now reply.Done (view pass.old) (view pass.new) result }
 {
     match old {
         Some(table) => {
-            let number = insert_item(
-                bank,
-                pass,
-                l,
-                table,
-                place,
-                count,
-                value,
-                called,
-                &Reply::Done,
-            );
+            let number = add_items(bank, pass, l, table, addition, count, called);
             Added::Made(Stamp {
                 number,
                 wrote: true,
             })
         }
-        None => unreachable!(),
+        None => {
+            let number = write_nothing(bank, pass, l, called, &Reply::Done);
+            Added::Made(Stamp {
+                number,
+                wrote: true,
+            })
+        }
     }
 }
 
-/// Takes a table of a class for a list and inserts a value at a place there, as the write of this call; the
+/// Takes a table of a class for a list of so many items and adds to it there, as the write of this call; the
 /// table that the list had is retired.
-fn insert_in_taken(
+fn add_in_taken(
     bank: &Bank,
     pass: &mut Pass,
     l: Object,
     old: Option<Table>,
     class: u32,
-    place: u64,
+    addition: Addition,
     count: u64,
-    value: Value,
     called: &Call,
 ) -> Added
     requires pass { IsPassOf bank.now pass.old }
     requires may { MayAdd (shape_of bank.now) l old (view pass.old) }
+    requires addition { IsAddition (shape_of bank.now) count addition (view pass.old) }
     requires count { count ≡ length (items_of l (view pass.old)) }
-    requires few { count < most_items }
-    requires place { place ≤ count }
-    requires value { FitsStored (Plain value) }
+    requires few { count + count_in addition ≤ most_items }
     requires call { (lc : ListCall) × (called.now ≡ call.List l lc) × Adds l lc (items_of l (view pass.old))
-        (insert (items_of l (view pass.old)) place value) (view pass.old) }
+        (with_added addition (view pass.old) (items_of l (view pass.old))) (view pass.old) }
     requires class { IsClass class }
-    requires takes { list_takes (use_of old) (count + 1) ≡ Some class }
+    requires takes { list_takes (use_of old) (count + count_in addition) ≡ Some class }
     ensures pass { IsPassOf bank.now pass.new }
     ensures stack { stack_of pass.new ≡ stack_of pass.old }
     ensures added { IsAdded (shape_of bank.now) (Some class) false called.now reply.Done (view pass.old) (view pass.new)
@@ -139,7 +130,7 @@ fn insert_in_taken(
 {
     match take(bank, pass, class) {
         Took::Taken(table) => {
-            let number = insert_in(bank, pass, l, old, table, place, count, value, called);
+            let number = add_in(bank, pass, l, old, table, addition, count, called);
             retire_old(bank, pass, old);
             Added::Made(Stamp {
                 number,
@@ -151,35 +142,34 @@ fn insert_in_taken(
     }
 }
 
-/// Adds a value at a place of a list, as the write of this call.
-fn add_at(
+/// Adds to a list of so many items, as the write of this call.
+fn add_to(
     bank: &Bank,
     pass: &mut Pass,
     l: Object,
     old: Option<Table>,
-    place: u64,
+    addition: Addition,
     count: u64,
-    value: Value,
     called: &Call,
 ) -> Added
     requires pass { IsPassOf bank.now pass.old }
     requires may { MayAdd (shape_of bank.now) l old (view pass.old) }
+    requires addition { IsAddition (shape_of bank.now) count addition (view pass.old) }
     requires count { count ≡ length (items_of l (view pass.old)) }
-    requires place { place ≤ count }
-    requires value { FitsStored (Plain value) }
     requires call { (lc : ListCall) × (called.now ≡ call.List l lc) × Adds l lc (items_of l (view pass.old))
-        (insert (items_of l (view pass.old)) place value) (view pass.old) }
+        (with_added addition (view pass.old) (items_of l (view pass.old))) (view pass.old) }
     ensures pass { IsPassOf bank.now pass.new }
     ensures stack { stack_of pass.new ≡ stack_of pass.old }
-    ensures added { IsAdded (shape_of bank.now) (list_takes (use_of old) (count + 1)) (nat_lt most_items (count + 1))
-        called.now reply.Done (view pass.old) (view pass.new) result }
+    ensures added { IsAdded (shape_of bank.now) (list_takes (use_of old) (count + count_in addition))
+        (nat_lt most_items (count + count_in addition)) called.now reply.Done (view pass.old) (view pass.new) result }
 {
-    if count >= MOST_ITEMS as u64 {
+    let total = count + added_count(addition);
+    if total > MOST_ITEMS as u64 {
         return Added::Over(answer_over(bank, pass, called));
     }
-    match class_wanted(old, count + 1) {
-        Some(class) => { insert_in_taken(bank, pass, l, old, class, place, count, value, called) }
-        None => insert_in_room(bank, pass, l, old, place, count, value, called),
+    match class_wanted(old, total) {
+        Some(class) => add_in_taken(bank, pass, l, old, class, addition, count, called),
+        None => add_in_room(bank, pass, l, old, addition, count, called),
     }
 }
 
@@ -198,6 +188,7 @@ pub fn append_by(bank: &Bank, pass: &mut Pass, l: Object, value: Value) -> Added
     ensures stack { stack_of pass.new ≡ stack_of pass.old }
     ensures added { AddsItems (shape_of bank.now) l (call.List l (list.Append value)) 1 (view pass.old) (view pass.new)
         result }
+    ensures cursors { KeepsCursors (view pass.old) (view pass.new) }
 {
     value_fits(value);
     let called = Call::List {
@@ -206,7 +197,11 @@ pub fn append_by(bank: &Bank, pass: &mut Pass, l: Object, value: Value) -> Added
     };
     let count = count_of(bank, pass, l);
     let old = root_table(bank, pass, l);
-    add_at(bank, pass, l, old, count, count, value, &called)
+    let addition = Addition::One {
+        place: count,
+        value,
+    };
+    add_to(bank, pass, l, old, addition, count, &called)
 }
 
 /// The place before which an index inserts among that many items: a negative one counts from the end, and one
@@ -235,6 +230,7 @@ pub fn insert_by(bank: &Bank, pass: &mut Pass, l: Object, index: i64, value: Val
     ensures stack { stack_of pass.new ≡ stack_of pass.old }
     ensures added { AddsItems (shape_of bank.now) l (call.List l (list.Insert index value)) 1 (view pass.old)
         (view pass.new) result }
+    ensures cursors { KeepsCursors (view pass.old) (view pass.new) }
 {
     value_fits(value);
     let called = Call::List {
@@ -244,7 +240,40 @@ pub fn insert_by(bank: &Bank, pass: &mut Pass, l: Object, index: i64, value: Val
     let count = count_of(bank, pass, l);
     let old = root_table(bank, pass, l);
     let place = clamped(count, index);
-    add_at(bank, pass, l, old, place, count, value, &called)
+    let addition = Addition::One { place, value };
+    add_to(bank, pass, l, old, addition, count, &called)
+}
+
+/// `l.extend(m)`, by a pass that has the locks of both lists (Python manual, Mutable Sequence Types). All items are
+/// added, or none; a list that is named twice is read as it was before.
+///
+/// # Errors
+///
+/// As those of `append_by`, for the new length.
+pub fn extend_by(bank: &Bank, pass: &mut Pass, l: Object, m: Object) -> Added
+    requires pass { IsPassOf bank.now pass.old }
+    requires may { MayWriteList (shape_of bank.now) l (view pass.old) }
+    requires other { MayWriteList (shape_of bank.now) m (view pass.old) }
+    requires used { used (view pass.old).log ≡ false }
+    requires idle { flight (view pass.old).log ≡ 0 }
+    ensures pass { IsPassOf bank.now pass.new }
+    ensures stack { stack_of pass.new ≡ stack_of pass.old }
+    ensures added { AddsItems (shape_of bank.now) l (call.List l (list.Extend m)) (length (items_of m (view pass.old)))
+        (view pass.old) (view pass.new) result }
+    ensures cursors { KeepsCursors (view pass.old) (view pass.new) }
+{
+    let called = Call::List {
+        container: l,
+        call: ListCall::Extend { other: m },
+    };
+    let count = count_of(bank, pass, l);
+    let more = count_of(bank, pass, m);
+    let old = root_table(bank, pass, l);
+    let addition = Addition::All {
+        other: m,
+        count: more,
+    };
+    add_to(bank, pass, l, old, addition, count, &called)
 }
 
 /// `l.append(v)` under the lock (Python manual, Mutable Sequence Types): it replies that it is done, or raises a
@@ -254,6 +283,7 @@ pub fn insert_by(bank: &Bank, pass: &mut Pass, l: Object, index: i64, value: Val
 ///
 /// `NotYet` where a step of the call found another pass with the lock of the list; `Moved` where two steps of it
 /// found a word of the free tables of one class changed. The same call comes next. It never answers `NoMemory`.
+/// Whatever it answers, the pass has the cursors that it had.
 pub fn try_append(bank: &Bank, pass: &mut Pass, l: Object, value: Value) -> Step
     requires may { MayTry bank.now pass.old (One l) }
     requires container { l < containers_in (shape_of bank.now) }
@@ -262,6 +292,7 @@ pub fn try_append(bank: &Bank, pass: &mut Pass, l: Object, value: Value) -> Step
     ensures may { MayTry bank.now pass.new (One l) }
     ensures tried { IsTryOf (One l) (AddsItems (shape_of bank.now) l (call.List l (list.Append value)) 1) reply.Done
         (view pass.old) (view pass.new) result }
+    ensures cursors { KeepsCursors (view pass.old) (view pass.new) }
 {
     match take_for(bank, pass, Objects::One(l)) {
         Got::Have => {
@@ -287,10 +318,40 @@ pub fn try_insert(bank: &Bank, pass: &mut Pass, l: Object, index: i64, value: Va
     ensures may { MayTry bank.now pass.new (One l) }
     ensures tried { IsTryOf (One l) (AddsItems (shape_of bank.now) l (call.List l (list.Insert index value)) 1) reply.Done
         (view pass.old) (view pass.new) result }
+    ensures cursors { KeepsCursors (view pass.old) (view pass.new) }
 {
     match take_for(bank, pass, Objects::One(l)) {
         Got::Have => {
             let added = insert_by(bank, pass, l, index, value);
+            let_go(bank, pass);
+            step_of(added, Reply::Done)
+        }
+        Got::NotYet(container, owner) => Step::NotYet(container, owner),
+    }
+}
+
+/// `l.extend(m)` under the locks of both lists, the lower one taken first; a list named twice counts once, and is read
+/// as it was before (Python manual, Mutable Sequence Types). It replies that it is done, or raises a MemoryError, and
+/// then no item is added.
+///
+/// # Errors
+///
+/// As those of `try_append`, for the locks of both.
+pub fn try_extend(bank: &Bank, pass: &mut Pass, l: Object, m: Object) -> Step
+    requires may { MayTry bank.now pass.old (Two l m) }
+    requires container { l < containers_in (shape_of bank.now) }
+    requires other { m < containers_in (shape_of bank.now) }
+    requires list { kind_in (shape_of bank.now).kinds l ≡ kind.List }
+    requires other_list { kind_in (shape_of bank.now).kinds m ≡ kind.List }
+    requires left { 0 < (view pass.old).left }
+    ensures may { MayTry bank.now pass.new (Two l m) }
+    ensures tried { IsTryOf (Two l m) (ExtendsBy (shape_of bank.now) l m) reply.Done (view pass.old) (view pass.new)
+        result }
+    ensures cursors { KeepsCursors (view pass.old) (view pass.new) }
+{
+    match take_for(bank, pass, Objects::Two(l, m)) {
+        Got::Have => {
+            let added = extend_by(bank, pass, l, m);
             let_go(bank, pass);
             step_of(added, Reply::Done)
         }

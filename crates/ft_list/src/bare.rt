@@ -1,14 +1,12 @@
 //! Whole writes of lists that have no table, and so no item: no word of theirs is put but the version.
 ghost use Rattle.std.specs.Prelude.{◌≡◌};
-ghost use Rattle.ft_model.specs.declared.call.Call.TheVariants as call;
-ghost use Rattle.ft_model.specs.declared.call.ListCall.{ListCall};
-ghost use Rattle.ft_trace.specs.Holds.{held};
+ghost use Rattle.ft_trace.specs.Holds.{held, known};
 ghost use Rattle.ft_trace.specs.Words.{root_in};
 ghost use Rattle.ft_bank.specs.Passes.{shape_of, view, IsPassOf};
 ghost use Rattle.ft_bank.specs.Sections.{stack_of};
 ghost use Rattle.ft_bank.specs.Whole.{Wrote};
-ghost use Rattle.ft_list.specs.Calls.{MayWriteList, Changes};
-ghost use Rattle.ft_list.specs.Items.{items_of};
+ghost use Rattle.ft_search.specs.Writing.{Leaves};
+ghost use Rattle.ft_list.specs.Calls.{MayWriteList};
 
 use ft_bank::{Bank, Pass};
 use ft_model::{Call, Reply};
@@ -25,8 +23,7 @@ pub(crate) fn write_nothing(
     requires pass { IsPassOf bank.now pass.old }
     requires may { MayWriteList (shape_of bank.now) o (view pass.old) }
     requires bare { root_in (held o (view pass.old)) ≡ 0 }
-    requires call { (lc : ListCall) × (called.now ≡ call.List o lc) × Changes o lc said.now
-        (items_of o (view pass.old)) (items_of o (view pass.old)) (view pass.old) }
+    requires leaves { Leaves o called.now said.now (known o (view pass.old)) (view pass.old) }
     ensures pass { IsPassOf bank.now pass.new }
     ensures stack { stack_of pass.new ≡ stack_of pass.old }
     ensures wrote { Wrote called.now said.now result (view pass.old) (view pass.new) }

@@ -15,10 +15,13 @@ ghost use Rattle.ft_bank.specs.Sections.{stack_of};
 ghost use Rattle.ft_bank.specs.Whole.{Wrote};
 ghost use Rattle.ft_section.specs.declared.answers.Objects.TheVariants.{One};
 ghost use Rattle.ft_section.specs.Ready.{MayTry};
+ghost use Rattle.ft_growth.specs.Adding.{KeepsCursors};
 ghost use Rattle.ft_list.specs.Calls.{MayWriteList};
-ghost use Rattle.ft_list.specs.Growing.{MayAdd, IsCleared, IsClearOf};
+ghost use Rattle.ft_list.specs.Growing.{IsCleared, IsClearOf};
+ghost use Rattle.ft_list.specs.Internal.Growing.{MayAdd};
 
 use crate::adding::root_table;
+use crate::bare::write_nothing;
 use crate::locked::LENGTH;
 use ft_bank::{Bank, Pass, Table};
 use ft_growth::retire_old;
@@ -55,22 +58,6 @@ fn clear_table(bank: &Bank, pass: &mut Pass, l: Object, table: Table) -> u64
     number
 }
 
-/// Clears a list that has no table, as the write of the call. Answers the number of the write.
-fn clear_bare(bank: &Bank, pass: &mut Pass, l: Object) -> u64
-    requires pass { IsPassOf bank.now pass.old }
-    requires may { MayAdd (shape_of bank.now) l None (view pass.old) }
-    ensures pass { IsPassOf bank.now pass.new }
-    ensures stack { stack_of pass.new ≡ stack_of pass.old }
-    ensures wrote { Wrote (call.List l list.Clear) reply.Done result (view pass.old) (view pass.new) }
-    ensures root { root_in (held l (view pass.new)) ≡ 0 }
-{
-    let called = clear_call(l);
-    bank.start_write(pass, l);
-    let number = bank.commit(pass, &called, &Reply::Done);
-    bank.stop_write(pass, l);
-    number
-}
-
 /// Clears a list, as the write of the call. Answers the number of the write.
 fn clear_list(bank: &Bank, pass: &mut Pass, l: Object, old: Option<Table>) -> u64
     requires pass { IsPassOf bank.now pass.old }
@@ -82,7 +69,7 @@ fn clear_list(bank: &Bank, pass: &mut Pass, l: Object, old: Option<Table>) -> u6
 {
     match old {
         Some(table) => clear_table(bank, pass, l, table),
-        None => clear_bare(bank, pass, l),
+        None => write_nothing(bank, pass, l, &clear_call(l), &Reply::Done),
     }
 }
 
@@ -96,6 +83,7 @@ pub fn clear_by(bank: &Bank, pass: &mut Pass, l: Object) -> Stamp
     ensures pass { IsPassOf bank.now pass.new }
     ensures stack { stack_of pass.new ≡ stack_of pass.old }
     ensures cleared { IsCleared l result (view pass.old) (view pass.new) }
+    ensures cursors { KeepsCursors (view pass.old) (view pass.new) }
 {
     let old = root_table(bank, pass, l);
     let number = clear_list(bank, pass, l, old);
@@ -119,6 +107,7 @@ pub fn try_clear(bank: &Bank, pass: &mut Pass, l: Object) -> Step
     requires left { 0 < (view pass.old).left }
     ensures may { MayTry bank.now pass.new (One l) }
     ensures tried { IsClearOf l (view pass.old) (view pass.new) result }
+    ensures cursors { KeepsCursors (view pass.old) (view pass.new) }
 {
     match take_for(bank, pass, Objects::One(l)) {
         Got::Have => {

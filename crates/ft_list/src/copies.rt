@@ -1,5 +1,5 @@
 //! Copies of items, which take memory: `l[i:j]` and all items of a list.
-ghost use Rattle.std.specs.Prelude.{◌≡◌, ◌≤◌, ◌<◌, drop, take, length, IfOk};
+ghost use Rattle.std.specs.Prelude.{◌≡◌, ◌≤◌, ◌<◌, drop, take, length};
 ghost use Rattle.ft_model.specs.declared.call.Call.TheVariants as call;
 ghost use Rattle.ft_model.specs.declared.call.ListCall.TheVariants as list;
 ghost use Rattle.ft_model.specs.Lists.{clamped_in, list_slice};
@@ -9,7 +9,7 @@ ghost use Rattle.ft_bank.specs.Sections.{stack_of};
 ghost use Rattle.ft_list.specs.Calls.{MayWriteList};
 ghost use Rattle.ft_list.specs.Indexes.{Reads};
 ghost use Rattle.ft_list.specs.Scans.{IsOfItems};
-ghost use Rattle.ft_list.specs.Copies.{IsCopied};
+ghost use Rattle.ft_list.specs.Copies.{AreCopied, IsCopied};
 
 use crate::locked::LENGTH;
 use crate::reads::read_item;
@@ -30,7 +30,8 @@ fn clamp(count: u64, index: i64) -> u64
     }
 }
 
-/// The items from one place on and before another. An `Err` says that memory ran out.
+/// The items from one place on and before another. An `Err` says that there was no memory for them; none are copied
+/// without any.
 fn copy_part(
     bank: &Bank,
     pass: &mut Pass,
@@ -43,7 +44,7 @@ fn copy_part(
     requires container { l < containers_in (shape_of bank.now) }
     ensures pass { IsPassOf bank.now pass.new }
     ensures reads { Reads (shape_of bank.now) l (IsOfItems (shape_of bank.now) (λ items. past ≤ length items →
-        IfOk result (λ part. part.items ≡ drop first (take past items)))) pass.old pass.new }
+        AreCopied result (drop first (take past items)))) pass.old pass.new }
 {
     let mut part = Vec::new(alloc);
     for place in first..past {
@@ -66,7 +67,7 @@ fn copy_slice(
     requires container { l < containers_in (shape_of bank.now) }
     ensures pass { IsPassOf bank.now pass.new }
     ensures reads { Reads (shape_of bank.now) l (IsOfItems (shape_of bank.now) (λ items.
-        IfOk result (λ part. part.items ≡ list_slice items start end))) pass.old pass.new }
+        AreCopied result (list_slice items start end))) pass.old pass.new }
 {
     let count = bank.read_block(pass, l, LENGTH);
     copy_part(bank, pass, alloc, l, clamp(count, start), clamp(count, end))
@@ -82,8 +83,8 @@ pub(crate) fn copy_items(
     requires pass { IsPassOf bank.now pass.old }
     requires container { l < containers_in (shape_of bank.now) }
     ensures pass { IsPassOf bank.now pass.new }
-    ensures reads { Reads (shape_of bank.now) l (IsOfItems (shape_of bank.now) (λ items.
-        IfOk result (λ copy. copy.items ≡ items))) pass.old pass.new }
+    ensures reads { Reads (shape_of bank.now) l (IsOfItems (shape_of bank.now) (AreCopied result)) pass.old
+        pass.new }
 {
     let count = bank.read_block(pass, l, LENGTH);
     copy_part(bank, pass, alloc, l, 0, count)

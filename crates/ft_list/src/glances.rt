@@ -2,7 +2,7 @@
 //!
 //! The version of each list that the call names is loaded before its words and after them. Where it was even
 //! and stayed the same, no write of that list came between.
-ghost use Rattle.std.specs.Prelude.{◌≡◌, ◌<◌, true, false, IfOk};
+ghost use Rattle.std.specs.Prelude.{◌≡◌, ◌<◌, true, false};
 ghost use Rattle.ft_model.specs.declared.call.Call.TheVariants as call;
 ghost use Rattle.ft_model.specs.declared.call.ListCall.TheVariants as list;
 ghost use Rattle.ft_model.specs.declared.script.Kind.TheVariants as kind;
@@ -12,6 +12,7 @@ ghost use Rattle.ft_trace.specs.Worlds.{kind_in};
 ghost use Rattle.ft_bank.specs.Passes.{shape_of, view, IsPassOf};
 ghost use Rattle.ft_bank.specs.Sections.{stack_of};
 ghost use Rattle.ft_search.specs.Lengths.{IsGlanceOf};
+ghost use Rattle.ft_list.specs.Copies.{AreCopied};
 ghost use Rattle.ft_list.specs.Glances.{HasMoved, WasStill, SawItems, SawBoth, IsCopyGlanceOf};
 ghost use Rattle.ft_list.specs.Pairs.{IsGlanceOfBoth};
 
@@ -76,8 +77,7 @@ fn copy_between(
     requires pass { IsPassOf bank.now pass.old }
     requires container { l < containers_in (shape_of bank.now) }
     ensures pass { IsPassOf bank.now pass.new }
-    ensures saw { SawItems (shape_of bank.now) l (λ items. IfOk result.0 (λ copy. copy.items ≡ items)) result.1
-        pass.old pass.new }
+    ensures saw { SawItems (shape_of bank.now) l (AreCopied result.0) result.1 pass.old pass.new }
 {
     let opened = bank.seq(pass, l);
     let copy = copy_items(bank, pass, alloc, l);
@@ -130,7 +130,7 @@ pub fn look_has(bank: &Bank, pass: &mut Pass, l: Object, value: Value) -> Look
 /// # Errors
 ///
 /// `Contended` where two loads of the version of the list gave an odd number or two different ones;
-/// `NoMemory` where memory for the copy ran out. The pass only loaded words then.
+/// `NoMemory` where there was no memory for the items, of which it loaded some. The pass only loaded words then.
 pub fn look_items(bank: &Bank, pass: &mut Pass, alloc: Global, l: Object) -> Look
     requires pass { IsPassOf bank.now pass.old }
     requires container { l < containers_in (shape_of bank.now) }
@@ -138,7 +138,7 @@ pub fn look_items(bank: &Bank, pass: &mut Pass, alloc: Global, l: Object) -> Loo
     requires left { 0 < (view pass.old).left }
     ensures pass { IsPassOf bank.now pass.new }
     ensures sections { stack_of pass.new ≡ stack_of pass.old }
-    ensures looked { IsCopyGlanceOf l (call.List l list.Items) (view pass.old) (view pass.new) result }
+    ensures looked { IsCopyGlanceOf (shape_of bank.now) l (call.List l list.Items) (view pass.old) (view pass.new) result }
 {
     let (copy, window) = copy_between(bank, pass, alloc, l);
     if window.has_moved() {

@@ -1,20 +1,18 @@
 //! Lists that get another table, under the lock. The new table is filled with what the list has before the
 //! list's version is made odd; then it is put into the root, and the write goes on in it like any other. So who
 //! looks without the lock finds the same items in either table until the counter is raised.
-ghost use Rattle.std.specs.Prelude.{◌≡◌, ◌≢◌, ℕ, suc, ◌+◌, ◌<◌, ◌≤◌, [], ◌∷◌, true, Some, length};
-ghost use Rattle.std.specs.List.{insert};
+ghost use Rattle.std.specs.Prelude.{◌≡◌, ◌≢◌, ℕ, suc, ◌+◌, ◌<◌, ◌≤◌, [], ◌∷◌, Some, length};
 ghost use Rattle.ft_model.specs.declared.call.Call.TheVariants as call;
 ghost use Rattle.ft_model.specs.declared.call.ListCall.{ListCall};
 ghost use Rattle.ft_model.specs.declared.content.Content.TheVariants as content;
 ghost use Rattle.ft_model.specs.declared.reply.Reply.TheVariants as reply;
-ghost use Rattle.ft_layout.specs.declared.slot.Stored.TheVariants.{Plain};
 ghost use Rattle.ft_layout.specs.Containers.{IsBlock};
-ghost use Rattle.ft_layout.specs.Words.{FitsStored, IsStored};
+ghost use Rattle.ft_layout.specs.Words.{FitsStored};
 ghost use Rattle.ft_trace.specs.declared.Act.TheVariants.{StartWrite, PutRoot};
-ghost use Rattle.ft_trace.specs.Acts.{has_lock, noted, stage};
-ghost use Rattle.ft_trace.specs.Addresses.{containers_in, class_of, slots};
+ghost use Rattle.ft_trace.specs.Acts.{noted, stage};
+ghost use Rattle.ft_trace.specs.Addresses.{class_of, slots};
 ghost use Rattle.ft_trace.specs.Holds.{held, known, in_hand};
-ghost use Rattle.ft_trace.specs.Words.{item_of, root_in};
+ghost use Rattle.ft_trace.specs.Words.{root_in};
 ghost use Rattle.ft_bank.specs.Passes.{shape_of, view, IsPassOf};
 ghost use Rattle.ft_bank.specs.Sections.{stack_of};
 ghost use Rattle.ft_bank.specs.Series.{DidAll};
@@ -24,38 +22,19 @@ ghost use Rattle.ft_bank.specs.Writes.{KeepsUnwritten};
 ghost use Rattle.ft_growth.specs.Adding.{OnlyFilled};
 ghost use Rattle.ft_list.specs.Items.{WritesList, IsPutting, items_of, stored_at};
 ghost use Rattle.ft_list.specs.Calls.{Grows};
-ghost use Rattle.ft_list.specs.Growing.{KnowsList, MayGrow, IsFilled, with_item};
+ghost use Rattle.ft_list.specs.Internal.Growing.{KnowsList, MayGrow, IsFilled, with_item};
+ghost use Rattle.ft_list.specs.Internal.Additions.{count_in, with_added, IsAddition};
 
+use crate::addition::{Addition, added_count, first_place, put_added};
 use crate::items::{finish, word_at};
 use crate::locked::LENGTH;
-use crate::writes::shift_up;
+use crate::reads::read_stored;
 use ft_bank::{Bank, Pass, Table};
-use ft_layout::{Stored, item_of, item_word, list_items, stored_kind_of, stored_payload_of};
-use ft_model::{Call, Reply, Value};
+use ft_layout::{Stored, item_word, list_items, stored_kind_of, stored_payload_of};
+use ft_model::{Call, Reply};
 
 /// The last word of an item, which says nothing and is 0.
 const SPARE: u64 = item_word::VALUE + 1;
-
-/// What an item of a list's table stores, whose lock the pass has.
-fn read_stored(bank: &Bank, pass: &mut Pass, o: u32, table: Table, place: u64) -> Stored
-    requires pass { IsPassOf bank.now pass.old }
-    requires container { o < containers_in (shape_of bank.now) }
-    requires locked { has_lock o (view pass.old).log ≡ true }
-    requires table { IsTableIn (shape_of bank.now) table }
-    requires root { root_in (held o (view pass.old)) ≡ suc (name_of table) }
-    requires place { place < slots (class_of (name_of table)) }
-    ensures pass { IsPassOf bank.now pass.new }
-    ensures stack { stack_of pass.new ≡ stack_of pass.old }
-    ensures only { OnlyLoaded (view pass.old) (view pass.new) }
-    ensures stored { (stored : Stored) →
-        IsStored (item_of (held o (view pass.old)).table place 1) (item_of (held o (view pass.old)).table place 2) stored →
-        result ≡ stored }
-{
-    let _ = o;
-    let kind = bank.read_table(pass, table, word_at(place, item_word::VALUE_KIND));
-    let payload = bank.read_table(pass, table, word_at(place, item_word::VALUE));
-    item_of(&[0, kind, payload, 0]).unwrap_or(Stored::Empty)
-}
 
 /// What a list has at a place, of that many items: nothing past them.
 fn old_item(
@@ -149,27 +128,26 @@ fn begin_in(bank: &Bank, pass: &mut Pass, o: u32, old: Option<Table>, table: Tab
     bank.put_root(pass, o, Some(table));
 }
 
-/// Inserts a value at a place of a list, which gets this table, as the write of this call. Answers the number
-/// of the write.
-pub(crate) fn insert_in(
+/// Adds to a list of so many items, which gets this table, as the write of this call. Answers the number of the
+/// write.
+pub(crate) fn add_in(
     bank: &Bank,
     pass: &mut Pass,
     o: u32,
     old: Option<Table>,
     table: Table,
-    place: u64,
+    addition: Addition,
     count: u64,
-    value: Value,
     called: &Call,
 ) -> u64
     requires pass { IsPassOf bank.now pass.old }
     requires may { MayGrow (shape_of bank.now) o old table (view pass.old) }
     requires other { root_in (held o (view pass.old)) ≢ suc (name_of table) }
+    requires addition { IsAddition (shape_of bank.now) count addition (view pass.old) }
     requires count { count ≡ length (items_of o (view pass.old)) }
-    requires place { (place ≤ count) × (count < slots (class_of (name_of table))) }
-    requires value { FitsStored (Plain value) }
+    requires room { count + count_in addition ≤ slots (class_of (name_of table)) }
     requires call { (lc : ListCall) × (called.now ≡ call.List o lc) × Grows o lc (items_of o (view pass.old))
-        (insert (items_of o (view pass.old)) place value) (class_of (name_of table)) (view pass.old) }
+        (with_added addition (view pass.old) (items_of o (view pass.old))) (class_of (name_of table)) (view pass.old) }
     ensures pass { IsPassOf bank.now pass.new }
     ensures stack { stack_of pass.new ≡ stack_of pass.old }
     ensures wrote { Wrote called.now reply.Done result (view pass.old) (view pass.new) }
@@ -177,7 +155,17 @@ pub(crate) fn insert_in(
 {
     fill(bank, pass, o, old, table, count);
     begin_in(bank, pass, o, old, table);
-    shift_up(bank, pass, o, table, place, count, value);
-    bank.put_block(pass, o, LENGTH, count + 1);
-    finish(bank, pass, o, table, called, &Reply::Done, place, count + 1)
+    put_added(bank, pass, o, table, addition, count);
+    let past = count + added_count(addition);
+    bank.put_block(pass, o, LENGTH, past);
+    finish(
+        bank,
+        pass,
+        o,
+        table,
+        called,
+        &Reply::Done,
+        first_place(addition, count),
+        past,
+    )
 }

@@ -8,6 +8,7 @@
 #![tactic(auto)]
 
 mod adding;
+mod addition;
 mod bare;
 mod clearing;
 mod copies;
@@ -28,7 +29,7 @@ mod tries;
 mod turning;
 mod writes;
 
-pub use crate::adding::{append_by, insert_by, try_append, try_insert};
+pub use crate::adding::{append_by, extend_by, insert_by, try_append, try_extend, try_insert};
 pub use crate::clearing::{clear_by, try_clear};
 pub use crate::gets::look_item;
 pub use crate::glances::{look_eq, look_has, look_items};

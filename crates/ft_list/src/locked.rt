@@ -10,9 +10,15 @@ ghost use Rattle.ft_model.specs.declared.reply.Reply.TheVariants as reply;
 ghost use Rattle.ft_model.specs.declared.reply.Raise.TheVariants as raise;
 ghost use Rattle.ft_model.specs.Lists.{index_in};
 ghost use Rattle.ft_trace.specs.declared.Act.TheVariants.{ReadBlock};
+ghost use Rattle.ft_trace.specs.Acts.{has_lock};
+ghost use Rattle.ft_trace.specs.Addresses.{containers_in};
+ghost use Rattle.ft_trace.specs.Holds.{held};
+ghost use Rattle.ft_trace.specs.Words.{root_in};
+ghost use Rattle.ft_bank.specs.declared.table.Table.{Table};
 ghost use Rattle.ft_bank.specs.Answered.{Answered};
 ghost use Rattle.ft_bank.specs.Passes.{shape_of, view, IsPassOf};
 ghost use Rattle.ft_bank.specs.Sections.{stack_of};
+ghost use Rattle.ft_bank.specs.Tables.{root_for, IsTableIn};
 ghost use Rattle.ft_bank.specs.Whole.{OnlyLoaded};
 ghost use Rattle.ft_list.specs.Items.{items_of};
 ghost use Rattle.ft_list.specs.Calls.{MayWriteList, HasTable, Raises};
@@ -54,6 +60,21 @@ pub(crate) fn count_of(bank: &Bank, pass: &mut Pass, l: Object) -> u64
     ensures log { (n : ℕ) × ((view pass.new).log ≡ ReadBlock l 1 n ∷ (view pass.old).log) }
 {
     bank.read_block(pass, l, LENGTH)
+}
+
+/// The table that the root of a list names, or none.
+pub(crate) fn table_at_root(bank: &Bank, pass: &mut Pass, l: Object) -> Option<Table>
+    requires pass { IsPassOf bank.now pass.old }
+    requires container { l < containers_in (shape_of bank.now) }
+    requires locked { has_lock l (view pass.old).log ≡ true }
+    ensures pass { IsPassOf bank.now pass.new }
+    ensures stack { stack_of pass.new ≡ stack_of pass.old }
+    ensures only { OnlyLoaded (view pass.old) (view pass.new) }
+    ensures table { (t : Table) → result ≡ Some t → IsTableIn (shape_of bank.now) t }
+    ensures root { root_in (held l (view pass.old)) ≡ root_for result }
+{
+    let root = bank.read_block(pass, l, 0);
+    table_named(root)
 }
 
 /// The table of a list that isn't empty.

@@ -1,16 +1,23 @@
 //! Reads of an item that an index names: by a pass without the list's lock, whose loads show it where no
 //! write came between them, and by one with the lock.
-ghost use Rattle.std.specs.Prelude.{◌≡◌, ◌<◌};
+ghost use Rattle.std.specs.Prelude.{◌≡◌, ◌<◌, suc, true};
+ghost use Rattle.ft_layout.specs.declared.slot.Stored.{Stored};
+ghost use Rattle.ft_layout.specs.Words.{IsStored};
+ghost use Rattle.ft_trace.specs.Acts.{has_lock};
 ghost use Rattle.ft_trace.specs.Addresses.{containers_in, class_of, slots};
+ghost use Rattle.ft_trace.specs.Holds.{held};
+ghost use Rattle.ft_trace.specs.Words.{item_of, root_in};
 ghost use Rattle.ft_bank.specs.Passes.{shape_of, view, IsPassOf};
+ghost use Rattle.ft_bank.specs.Sections.{stack_of};
 ghost use Rattle.ft_bank.specs.Tables.{name_of, IsTableIn};
+ghost use Rattle.ft_bank.specs.Whole.{OnlyLoaded};
 ghost use Rattle.ft_list.specs.Indexes.{Reads, IsValueIn, IsItemAt, IsItemNamed};
 
 use crate::gets::found_of;
 use crate::items::word_at;
 use crate::locked::{LENGTH, place_in};
 use ft_bank::{Bank, Pass, Table};
-use ft_layout::{item_word, list_items};
+use ft_layout::{Stored, item_of, item_word, list_items};
 use ft_model::Value;
 use ft_search::table_named;
 use ft_section::Object;
@@ -31,6 +38,27 @@ fn read_value(bank: &Bank, pass: &mut Pass, l: Object, table: Table, place: u64)
         Some(found) => found,
         None => None,
     }
+}
+
+/// What an item of a list's table stores, whose lock the pass has.
+pub(crate) fn read_stored(bank: &Bank, pass: &mut Pass, o: u32, table: Table, place: u64) -> Stored
+    requires pass { IsPassOf bank.now pass.old }
+    requires container { o < containers_in (shape_of bank.now) }
+    requires locked { has_lock o (view pass.old).log ≡ true }
+    requires table { IsTableIn (shape_of bank.now) table }
+    requires root { root_in (held o (view pass.old)) ≡ suc (name_of table) }
+    requires place { place < slots (class_of (name_of table)) }
+    ensures pass { IsPassOf bank.now pass.new }
+    ensures stack { stack_of pass.new ≡ stack_of pass.old }
+    ensures only { OnlyLoaded (view pass.old) (view pass.new) }
+    ensures stored { (stored : Stored) →
+        IsStored (item_of (held o (view pass.old)).table place 1) (item_of (held o (view pass.old)).table place 2) stored →
+        result ≡ stored }
+{
+    let _ = o;
+    let kind = bank.read_table(pass, table, word_at(place, item_word::VALUE_KIND));
+    let payload = bank.read_table(pass, table, word_at(place, item_word::VALUE));
+    item_of(&[0, kind, payload, 0]).unwrap_or(Stored::Empty)
 }
 
 /// Reads the item at a place of a list. `None` where the table that the root names has no such place, or the

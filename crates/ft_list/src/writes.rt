@@ -6,6 +6,7 @@ ghost use Rattle.ft_model.specs.declared.call.Call.TheVariants as call;
 ghost use Rattle.ft_model.specs.declared.call.ListCall.{ListCall};
 ghost use Rattle.ft_model.specs.declared.content.Content.TheVariants as content;
 ghost use Rattle.ft_model.specs.declared.data.Value.{Value};
+ghost use Rattle.ft_model.specs.declared.reply.Reply.TheVariants as reply;
 ghost use Rattle.ft_layout.specs.declared.slot.Stored.{Stored};
 ghost use Rattle.ft_layout.specs.declared.slot.Stored.TheVariants.{Empty, Plain};
 ghost use Rattle.ft_layout.specs.Containers.{IsBlock};
@@ -21,7 +22,9 @@ ghost use Rattle.ft_bank.specs.Tables.{name_of};
 ghost use Rattle.ft_bank.specs.Whole.{OnlyLoaded, OnlyPut, Wrote};
 ghost use Rattle.ft_list.specs.Items.{WritesList, IsPutting, IsMoving, items_of, stored_at};
 ghost use Rattle.ft_list.specs.Calls.{MayWriteList, HasTable, Changes};
+ghost use Rattle.ft_list.specs.Internal.Additions.{count_in, with_added, IsAddition};
 
+use crate::addition::{Addition, added_count, first_place, put_added};
 use crate::items::{finish, item, put_item};
 use ft_bank::{Bank, Pass, Table};
 use ft_layout::{Stored, block_word};
@@ -114,36 +117,44 @@ pub(crate) fn shift_up(
     }
 }
 
-/// Inserts a value at a place of a list whose table has room for it, as the write of this call: each item
-/// from there on goes one place up. Answers the number of the write.
-pub(crate) fn insert_item(
+/// Adds to a list of so many items whose table has room, as the write of this call. Answers the number of the
+/// write.
+pub(crate) fn add_items(
     bank: &Bank,
     pass: &mut Pass,
     o: u32,
     table: Table,
-    place: u64,
+    addition: Addition,
     count: u64,
-    value: Value,
     called: &Call,
-    said: &Reply,
 ) -> u64
     requires pass { IsPassOf bank.now pass.old }
     requires may { MayWriteList (shape_of bank.now) o (view pass.old) }
     requires table { HasTable (shape_of bank.now) o table (view pass.old) }
+    requires addition { IsAddition (shape_of bank.now) count addition (view pass.old) }
     requires count { count ≡ length (items_of o (view pass.old)) }
-    requires place { (place ≤ count) × (count < slots (class_of (name_of table))) }
-    requires value { FitsStored (Plain value) }
-    requires call { (lc : ListCall) × (called.now ≡ call.List o lc) × Changes o lc said.now
-        (items_of o (view pass.old)) (insert (items_of o (view pass.old)) place value) (view pass.old) }
+    requires room { count + count_in addition ≤ slots (class_of (name_of table)) }
+    requires call { (lc : ListCall) × (called.now ≡ call.List o lc) × Changes o lc reply.Done
+        (items_of o (view pass.old)) (with_added addition (view pass.old) (items_of o (view pass.old))) (view pass.old) }
     ensures pass { IsPassOf bank.now pass.new }
     ensures stack { stack_of pass.new ≡ stack_of pass.old }
-    ensures wrote { Wrote called.now said.now result (view pass.old) (view pass.new) }
+    ensures wrote { Wrote called.now reply.Done result (view pass.old) (view pass.new) }
     ensures root { root_in (held o (view pass.new)) ≡ root_in (held o (view pass.old)) }
 {
     begin(bank, pass, o, table);
-    shift_up(bank, pass, o, table, place, count, value);
-    bank.put_block(pass, o, LENGTH, count + 1);
-    finish(bank, pass, o, table, called, said, place, count + 1)
+    put_added(bank, pass, o, table, addition, count);
+    let past = count + added_count(addition);
+    bank.put_block(pass, o, LENGTH, past);
+    finish(
+        bank,
+        pass,
+        o,
+        table,
+        called,
+        &Reply::Done,
+        first_place(addition, count),
+        past,
+    )
 }
 
 /// Takes out the item at a place: each item after it goes one place down, and nothing is stored where the

@@ -1,31 +1,24 @@
-use Rattle.std.proofs.Common.{◌≡◌, ◌<◌, ℕ, ◌+◌, Bool, length, Option, refl, sym, ap, ◌∙◌, subst}
-use Rattle.std.specs.Prelude.{nat_lt}
+use Rattle.std.proofs.Common.{◌≡◌, ◌<◌, ℕ, ◌+◌, length, refl, sym, ap, ◌∙◌, subst}
 use Rattle.std.specs.List.{insert}
 use Rattle.ft_model.specs.declared.call.Call.TheVariants as call
 use Rattle.ft_model.specs.declared.call.ListCall.TheVariants as list
 use Rattle.ft_model.specs.declared.reply.Reply.TheVariants as reply
-use Rattle.ft_model.specs.Classes.{most_items}
-use Rattle.ft_model.specs.Tables.{list_takes}
 use Rattle.ft_model.specs.Worlds.{list_of}
 use Rattle.ft_trace.specs.declared.Shape.{Shape}
-use Rattle.ft_trace.specs.declared.View.{View}
 use Rattle.ft_trace.specs.Addresses.{containers_in}
-use Rattle.ft_trace.specs.Holds.{known}
 use Rattle.ft_trace.specs.Worlds.{Kept}
 use Rattle.ft_bank.specs.Passes.{shape_of, view}
-use Rattle.ft_bank.specs.Whole.{OnlyLoaded}
 use Rattle.ft_bank.proofs.Whole.{loaded_then, work_knows}
-use Rattle.ft_growth.specs.Adding.{IsAdded}
+use Rattle.ft_growth.proofs.Cursors.{added_cursors}
 use Rattle.ft_list.specs.Calls.{Adds}
 use Rattle.ft_list.specs.Items.{items_of}
-use Rattle.ft_list.specs.Growing.{use_of}
 use Rattle.ft_list.proofs.CallFacts.{append_adds}
 use Rattle.ft_list.proofs.Growing.{knows_content}
 use Rattle.ft_list.proofs.Additions.{adds_items}
 use Rattle.ft_list.proofs.adding.append_by.Goals as goal
 
-pub add_at-requires-clause-call : goal.add_at-requires-clause-call
-add_at-requires-clause-call c =
+pub add_to-requires-clause-call : goal.add_to-requires-clause-call
+add_to-requires-clause-call c =
     let a = c.args in
     let k = shape_of a.bank.now in
     let u = view c.root_table-old.new.pass in
@@ -45,5 +38,11 @@ returns-clause-added c =
     let x = view c.count_of-count.new.pass in
     let u = view c.root_table-old.new.pass in
     let e = c.root_table-old.ensures in
-    adds_items (shape_of a.bank.now) a.l c.root_table-old.result (view a.pass.now) u (view c.add_at.new.pass) c.count_of-count.result (call.List a.l (list.Append a.value)) c.add_at.result
-    (loaded_then (view a.pass.now) x u c.count_of-count.ensures.only e.only) e.list e.pass.1 c.root_table-old.new.pass.possible c.count_of-count.ensures.count c.add_at.ensures.added
+    adds_items (shape_of a.bank.now) a.l 1 c.root_table-old.result (view a.pass.now) u (view c.add_to.new.pass) (c.count_of-count.result + 1) (call.List a.l (list.Append a.value)) c.add_to.result
+    (loaded_then (view a.pass.now) x u c.count_of-count.ensures.only e.only) e.list e.pass.1 c.root_table-old.new.pass.possible (ap (λ (n : ℕ). n + 1) c.count_of-count.ensures.count) c.add_to.ensures.added
+
+pub returns-clause-cursors : goal.returns-clause-cursors
+returns-clause-cursors c number =
+    let e = c.root_table-old.ensures in
+    added_cursors (shape_of c.args.bank.now) _ _ _ reply.Done (view c.root_table-old.new.pass) (view c.add_to.new.pass) c.add_to.result c.add_to.ensures.added number
+    ∙ (e.only.work.pass.cursors number ∙ c.count_of-count.ensures.only.work.pass.cursors number)

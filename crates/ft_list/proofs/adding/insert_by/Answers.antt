@@ -1,36 +1,29 @@
-use Rattle.std.proofs.Common.{◌≡◌, ◌<◌, ℕ, ℤ, length, refl, sym, ap, ◌∙◌, subst}
+use Rattle.std.proofs.Common.{◌≡◌, ◌<◌, ℕ, ◌+◌, ℤ, length, refl, sym, ap, ◌∙◌, subst}
 use mir.Syntax.{w64}
 use mir.Val.{to_z, of_z}
 use Rattle.std.proofs.Math.Facts.{to_z-of_z}
 use Rattle.ft_model.specs.Lists.{clamped_in}
 use Rattle.ft_list.specs.Growing.{AddsItems}
-use Rattle.std.specs.Prelude.{nat_lt}
 use Rattle.std.specs.List.{insert}
 use Rattle.ft_model.specs.declared.call.Call.TheVariants as call
 use Rattle.ft_model.specs.declared.call.ListCall.TheVariants as list
 use Rattle.ft_model.specs.declared.reply.Reply.TheVariants as reply
-use Rattle.ft_model.specs.Classes.{most_items}
-use Rattle.ft_model.specs.Tables.{list_takes}
 use Rattle.ft_model.specs.Worlds.{list_of}
 use Rattle.ft_trace.specs.declared.Shape.{Shape}
-use Rattle.ft_trace.specs.declared.View.{View}
 use Rattle.ft_trace.specs.Addresses.{containers_in}
-use Rattle.ft_trace.specs.Holds.{known}
 use Rattle.ft_trace.specs.Worlds.{Kept}
 use Rattle.ft_bank.specs.Passes.{shape_of, view}
-use Rattle.ft_bank.specs.Whole.{OnlyLoaded}
 use Rattle.ft_bank.proofs.Whole.{loaded_then, work_knows}
-use Rattle.ft_growth.specs.Adding.{IsAdded}
+use Rattle.ft_growth.proofs.Cursors.{added_cursors}
 use Rattle.ft_list.specs.Calls.{Adds}
 use Rattle.ft_list.specs.Items.{items_of}
-use Rattle.ft_list.specs.Growing.{use_of}
 use Rattle.ft_list.proofs.CallFacts.{insert_adds}
 use Rattle.ft_list.proofs.Growing.{knows_content}
 use Rattle.ft_list.proofs.Additions.{adds_items}
 use Rattle.ft_list.proofs.adding.insert_by.Goals as goal
 
-pub add_at-requires-clause-call : goal.add_at-requires-clause-call
-add_at-requires-clause-call c =
+pub add_to-requires-clause-call : goal.add_to-requires-clause-call
+add_to-requires-clause-call c =
     let a = c.args in
     let k = shape_of a.bank.now in
     let u = view c.root_table-old.new.pass in
@@ -53,6 +46,12 @@ returns-clause-added c =
     let x = view c.count_of-count.new.pass in
     let u = view c.root_table-old.new.pass in
     let e = c.root_table-old.ensures in
-    subst (λ (i : ℤ). AddsItems k a.l (call.List a.l (list.Insert i a.value)) 1 (view a.pass.now) (view c.add_at.new.pass) c.add_at.result) (to_z-of_z {w = w64} {z = a.index} c.ranges.index)
-    (adds_items k a.l c.root_table-old.result (view a.pass.now) u (view c.add_at.new.pass) c.count_of-count.result (call.List a.l (list.Insert (to_z w64 (of_z w64 a.index)) a.value)) c.add_at.result
-    (loaded_then (view a.pass.now) x u c.count_of-count.ensures.only e.only) e.list e.pass.1 c.root_table-old.new.pass.possible c.count_of-count.ensures.count c.add_at.ensures.added)
+    subst (λ (i : ℤ). AddsItems k a.l (call.List a.l (list.Insert i a.value)) 1 (view a.pass.now) (view c.add_to.new.pass) c.add_to.result) (to_z-of_z {w = w64} {z = a.index} c.ranges.index)
+    (adds_items k a.l 1 c.root_table-old.result (view a.pass.now) u (view c.add_to.new.pass) (c.count_of-count.result + 1) (call.List a.l (list.Insert (to_z w64 (of_z w64 a.index)) a.value)) c.add_to.result
+    (loaded_then (view a.pass.now) x u c.count_of-count.ensures.only e.only) e.list e.pass.1 c.root_table-old.new.pass.possible (ap (λ (n : ℕ). n + 1) c.count_of-count.ensures.count) c.add_to.ensures.added)
+
+pub returns-clause-cursors : goal.returns-clause-cursors
+returns-clause-cursors c number =
+    let e = c.root_table-old.ensures in
+    added_cursors (shape_of c.args.bank.now) _ _ _ reply.Done (view c.root_table-old.new.pass) (view c.add_to.new.pass) c.add_to.result c.add_to.ensures.added number
+    ∙ (e.only.work.pass.cursors number ∙ c.count_of-count.ensures.only.work.pass.cursors number)

@@ -1,29 +1,23 @@
-use Rattle.std.proofs.Common.{◌≡◌, Option, Some, refl, sym, ap, ◌∙◌, subst}
-use Rattle.std.specs.Prelude.{IfSome}
-use Rattle.ft_trace.specs.declared.Act.TheVariants.{ReadBlock}
+use Rattle.std.proofs.Common.{ap, ◌∙◌}
 use Rattle.ft_trace.specs.Words.{root_in}
-use Rattle.ft_bank.specs.declared.table.Table.{Table}
 use Rattle.ft_bank.specs.Passes.{shape_of, view}
-use Rattle.ft_bank.specs.Tables.{IsTableIn}
-use Rattle.ft_bank.proofs.Whole.{loaded_by, loaded_held}
-use Rattle.ft_list.proofs.Additions.{root_named}
+use Rattle.ft_bank.proofs.Whole.{loaded_held}
 use Rattle.ft_list.proofs.Lists.{may_loaded}
 use Rattle.ft_list.proofs.adding.root_table.Goals as goal
 
 pub returns-clause-list : goal.returns-clause-list
 returns-clause-list c =
     let a = c.args in
-    let k = shape_of a.bank.now in
-    let e = c.read_block-root.ensures in
-    let t = c.table_named.ensures in
-    let is = loaded_by (ReadBlock a.l 0 c.read_block-root.result) (view a.pass.now) (view c.read_block-root.new.pass) tt e.did.1 in
-    let may = may_loaded k a.l (view a.pass.now) (view c.read_block-root.new.pass) is c.requires.may in
+    let v = view a.pass.now in
+    let w = view c.table_at_root.new.pass in
+    let e = c.table_at_root.ensures in
+    let may = may_loaded (shape_of a.bank.now) a.l v w e.only c.requires.may in
     record {
       container = may.container;
       kind = may.kind;
       locked = may.locked;
       even = may.even;
       stands = may.stands;
-      table_in = λ table found. subst (λ (z : Option Table). IfSome z (λ q. IsTableIn k q)) found (t.in_bank k (λ q x. e.table q refl x));
-      root = ap root_in (loaded_held (view a.pass.now) (view c.read_block-root.new.pass) a.l is) ∙ (sym (e.held c.requires.may.locked) ∙ root_named c.table_named.result c.read_block-root.result t.named (t.none k (λ q x. e.table q refl x)));
+      table_in = e.table;
+      root = ap root_in (loaded_held v w a.l e.only) ∙ e.root;
     }

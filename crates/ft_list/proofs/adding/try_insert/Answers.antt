@@ -1,4 +1,4 @@
-use Rattle.std.proofs.Common.{ℤ, refl, sym, subst}
+use Rattle.std.proofs.Common.{ℤ, refl, sym, ◌∙◌, subst}
 use mir.Syntax.{w64}
 use mir.Val.{to_z, of_z}
 use Rattle.ft_model.specs.declared.call.Call.TheVariants as call
@@ -32,3 +32,6 @@ returns-in-Have-clause-tried c =
     subst (λ (s : Step). IsTryOf (One a.l) F reply.Done v w s) (sym c.step_of.ensures)
     (tried_as (One a.l) F reply.Done v w what
     (record { before = view c.take_for.new.pass; took = c.in-Have.ensures.locked; locks = c.in-Have.ensures.has.0; after = view c.insert_by-added.new.pass; did = added; gone = c.let_go.ensures.locked }))
+
+pub returns-in-Have-clause-cursors : goal.returns-in-Have-clause-cursors
+returns-in-Have-clause-cursors c number = c.let_go.ensures.locked.cursors number ∙ (c.insert_by-added.ensures.cursors number ∙ c.in-Have.ensures.locked.cursors number)

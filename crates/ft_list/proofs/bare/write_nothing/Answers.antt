@@ -1,26 +1,38 @@
+use Rattle.std.proofs.Common.{ap, ◌∙◌}
+use Rattle.ft_trace.specs.declared.View.{View}
+use Rattle.ft_trace.specs.Holds.{held}
+use Rattle.ft_trace.specs.Words.{root_in}
 use Rattle.ft_bank.specs.Passes.{shape_of, view}
-use Rattle.ft_list.proofs.Nothing.{may_commit_begun, stands_then, nothing_wrote}
+use Rattle.ft_list.proofs.Nothing.{nothing_commits, nothing_stands, nothing_shut, nothing_wrote}
 use Rattle.ft_list.proofs.bare.write_nothing.Goals as goal
 
 pub commit-number-requires-clause-may : goal.commit-number-requires-clause-may
 commit-number-requires-clause-may c =
     let a = c.args in
-    let x = c.requires.call in
-    may_commit_begun (shape_of a.bank.now) a.o x.0 a.said.now (view a.pass.now) (view c.start_write.new.pass) c.start_write.result c.requires.pass.1 a.pass.now.possible c.requires.may c.start_write.ensures.1 c.requires.bare x.2 a.called.now x.1
+    nothing_commits (shape_of a.bank.now) a.o (view a.pass.now) (view c.start_write.new.pass) c.start_write.result c.requires.may c.requires.pass.1 c.start_write.ensures.1 c.requires.bare a.called.now a.said.now c.requires.leaves
 
 pub stop_write-requires-clause-stands : goal.stop_write-requires-clause-stands
 stop_write-requires-clause-stands c =
     let a = c.args in
-    let x = c.requires.call in
     let d = c.commit-number.ensures in
-    let w = view c.commit-number.new.pass in
-    stands_then (shape_of a.bank.now) a.o x.0 a.said.now (view a.pass.now) (view c.start_write.new.pass) c.start_write.result c.requires.pass.1 a.pass.now.possible c.requires.may c.start_write.ensures.1 c.requires.bare x.2 a.called.now x.1
-    c.commit-number.result 0 d.did.0 w w d.did.1.1 d.committed
+    nothing_stands (shape_of a.bank.now) a.o (view a.pass.now) (view c.start_write.new.pass) c.start_write.result c.requires.may c.requires.pass.1 c.start_write.ensures.1 c.requires.bare a.called.now a.said.now c.requires.leaves
+    c.commit-number.result d.did.0 (view c.commit-number.new.pass) d.did.1.1 d.committed
+
+pub stop_write-requires-clause-shut : goal.stop_write-requires-clause-shut
+stop_write-requires-clause-shut c =
+    let a = c.args in
+    let d = c.commit-number.ensures in
+    nothing_shut (shape_of a.bank.now) a.o (view a.pass.now) (view c.start_write.new.pass) c.start_write.result c.requires.may c.requires.pass.1 c.start_write.ensures.1 c.requires.bare a.called.now a.said.now c.requires.leaves
+    c.commit-number.result d.did.0 (view c.commit-number.new.pass) d.did.1.1 d.committed
 
 pub returns-clause-wrote : goal.returns-clause-wrote
 returns-clause-wrote c =
     let a = c.args in
-    let x = c.requires.call in
     let d = c.commit-number.ensures in
-    nothing_wrote (shape_of a.bank.now) a.o x.0 a.said.now (view a.pass.now) (view c.start_write.new.pass) c.start_write.result c.requires.pass.1 a.pass.now.possible c.requires.may c.start_write.ensures.1 c.requires.bare x.2 a.called.now x.1
-    c.commit-number.result c.stop_write.result d.did.0 (view c.commit-number.new.pass) (view c.stop_write.new.pass) d.did.1.1 d.committed d.seen c.stop_write.ensures.1
+    nothing_wrote (shape_of a.bank.now) a.o (view a.pass.now) (view c.start_write.new.pass) c.start_write.result c.requires.may c.requires.pass.1 c.start_write.ensures.1 c.requires.bare a.called.now a.said.now c.requires.leaves
+    c.commit-number.result d.did.0 (view c.commit-number.new.pass) d.did.1.1 d.committed c.stop_write.result (view c.stop_write.new.pass) d.seen c.stop_write.ensures.1
+
+pub returns-clause-root : goal.returns-clause-root
+returns-clause-root c =
+    let root = λ (v : View). root_in (held c.args.o v) in
+    ap root c.stop_write.ensures.1 ∙ (ap root c.commit-number.ensures.did.1.1 ∙ ap root c.start_write.ensures.1)

@@ -1,10 +1,9 @@
-use Rattle.std.proofs.Common.{◌≡◌, ℕ, ◌<◌, suc, refl, sym, ap, ◌∙◌, subst, arith}
+use Rattle.std.proofs.Common.{ℕ, ◌<◌, refl, sym, ap, ◌∙◌, subst, arith}
 use Rattle.ft_model.specs.declared.reply.Reply.TheVariants as reply
-use Rattle.ft_trace.specs.Holds.{held}
-use Rattle.ft_trace.specs.Words.{root_in}
 use Rattle.ft_bank.specs.Passes.{view}
 use Rattle.ft_bank.specs.Tables.{name_of, root_for}
 use Rattle.ft_growth.specs.Adding.{Retires}
+use Rattle.ft_growth.proofs.Cursors.{given_cursors}
 use Rattle.ft_growth.proofs.Rooting.{taken_out}
 use Rattle.ft_list.proofs.Emptying.{clear_of}
 use Rattle.ft_list.proofs.clearing.clear_by.Goals as goal
@@ -44,3 +43,8 @@ returns-clause-cleared c =
         },
       ),
     )
+
+pub returns-clause-cursors : goal.returns-clause-cursors
+returns-clause-cursors c number =
+    let gave = (returns-clause-cleared c).1 in
+    given_cursors (clear_of c.args.l) reply.Done c.clear_list-number.result gave.0 (view c.retire_old.new.pass) gave.2 number ∙ gave.1.work.pass.cursors number

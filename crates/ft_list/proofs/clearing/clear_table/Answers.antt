@@ -1,4 +1,4 @@
-use Rattle.std.proofs.Common.{ℕ, None, Some, refl, sym, ap, ◌∙◌, subst}
+use Rattle.std.proofs.Common.{None, Some, sym, ap, ◌∙◌, subst}
 use Rattle.ft_model.specs.declared.call.Call.{Call}
 use Rattle.ft_model.specs.declared.reply.Reply.TheVariants as reply
 use Rattle.ft_trace.specs.declared.Act.TheVariants.{Commit}

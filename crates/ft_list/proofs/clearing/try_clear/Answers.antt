@@ -1,4 +1,4 @@
-use Rattle.std.proofs.Common.{refl}
+use Rattle.std.proofs.Common.{◌∙◌}
 use Rattle.ft_model.specs.declared.call.Call.TheVariants as call
 use Rattle.ft_model.specs.declared.call.ListCall.TheVariants as list
 use Rattle.ft_model.specs.declared.reply.Reply.TheVariants as reply
@@ -11,3 +11,6 @@ let_go-requires c =
     let e = c.clear_by-stamp.ensures in
     let x = e.cleared.1 in
     making_given a.bank.now c.take_for.new.pass c.clear_by-stamp.new.pass c.in-Have.ensures.making e.pass e.stack x.0 x.1 (call.List a.l list.Clear) reply.Done c.clear_by-stamp.result.number x.2
+
+pub returns-in-Have-clause-cursors : goal.returns-in-Have-clause-cursors
+returns-in-Have-clause-cursors c number = c.let_go.ensures.locked.cursors number ∙ (c.clear_by-stamp.ensures.cursors number ∙ c.in-Have.ensures.locked.cursors number)

@@ -1,5 +1,4 @@
-use Rattle.std.proofs.Common.{◌≡◌, ◌<◌, ℤ, refl, sym, ◌∙◌, subst}
-use Rattle.std.specs.Prelude.{IfOk}
+use Rattle.std.proofs.Common.{◌≡◌, ◌<◌, ℤ, length, refl, sym, ◌∙◌, subst}
 use mir.Syntax.{w64}
 use mir.Val.{to_z, of_z}
 use Rattle.std.proofs.Math.Facts.{to_z-of_z}
@@ -12,11 +11,11 @@ use Rattle.ft_trace.specs.Addresses.{containers_in}
 use Rattle.ft_bank.specs.Passes.{shape_of, view}
 use Rattle.ft_list.specs.Items.{items_of}
 use Rattle.ft_search.specs.Calls.{IsReplyTo, MadeAs}
-use Rattle.ft_list.specs.Copies.{IsCopied}
+use Rattle.ft_list.specs.Copies.{AreCopied, IsCopied, TakesMemory}
 use Rattle.ft_list.proofs.Lists.{content_of}
-use Rattle.ft_list.proofs.Scanning.{items_hold, scan_loaded, scan_log, slice_replied, slice_plain}
+use Rattle.ft_list.proofs.Scanning.{items_hold, scan_loaded, scan_log, slice_replied, slice_plain, takes_memory}
 use Rattle.ft_list.proofs.Trying.{read_shown, read_made}
-use Rattle.std.proofs.lemmas.Result.{err_from_is_err_and}
+use Rattle.std.proofs.lemmas.Result.{err_from_is_err_and, IfErr-at_err}
 use Rattle.ft_list.proofs.copies.slice_locked.Goals as goal
 
 pub answer_held-requires-clause-shown : goal.answer_held-requires-clause-shown
@@ -35,13 +34,13 @@ answer_held-requires-clause-shown c n =
     let values = items_of a.l (view p) in
     let said = reply.List c.from_vec.result in
     let called = call.List a.l (list.Slice x y) in
-    let held = items_hold k a.l (λ items. IfOk made (λ copy. copy.items ≡ list_slice items x y)) p q r shape may in
-    let here = subst (λ z. IfOk z (λ copy. copy.items ≡ list_slice values x y)) c.in_ok-part.was held in
+    let held = items_hold k a.l (λ items. AreCopied made (list_slice items x y)) p q r shape may in
+    let here = (subst (λ z. AreCopied z (list_slice values x y)) c.in_ok-part.was held).0 in
     let is = c.from_vec.ensures ∙ here in
     let low = subst (λ (z : Shape). a.l < containers_in z) (sym shape) may.container in
     let replied : IsReplyTo called said (view p) = slice_replied a.l values (view p) low may.locked (content_of k a.l (view p) shape p.possible may) x y c.from_vec.result is in
     let plain = slice_plain a.l x y c.from_vec.result in
-    let loaded = scan_loaded k a.l (λ items. IfOk made (λ copy. copy.items ≡ list_slice items x y)) p q r shape may in
+    let loaded = scan_loaded k a.l (λ items. AreCopied made (list_slice items x y)) p q r shape may in
     read_shown called said plain (view p) (view q) loaded replied n may.left
 
 pub returns-in_err-part-clause-copied : goal.returns-in_err-part-clause-copied
@@ -56,8 +55,16 @@ returns-in_err-part-clause-copied c =
     let shape = c.requires.pass.1 in
     let x = to_z w64 (of_z w64 a.start) in
     let y = to_z w64 (of_z w64 a.end) in
+    let ranges : (x ≡ a.start) × (y ≡ a.end) = (to_z-of_z {w = w64} {z = a.start} c.ranges.start, to_z-of_z {w = w64} {z = a.end} c.ranges.end) in
+    let values = items_of a.l (view p) in
+    let part = list_slice values x y in
     let failed = err_from_is_err_and c.from_residual.result c.from_residual.ensures.1 in
-    subst (λ z. IsCopied (call.List a.l (list.Slice a.start a.end)) (view p) (view q) z) (sym failed.1) (scan_loaded k a.l (λ items. IfOk made (λ copy. copy.items ≡ list_slice items x y)) p q r shape may)
+    let some = IfErr-at_err (λ e. 0 < length part) c.in_err-part.was (items_hold k a.l (λ items. AreCopied made (list_slice items x y)) p q r shape may).1 in
+    let low = subst (λ (z : Shape). a.l < containers_in z) (sym shape) may.container in
+    let replied = slice_replied a.l values (view p) low may.locked (content_of k a.l (view p) shape p.possible may) x y part refl in
+    let takes = takes_memory (call.List a.l (list.Slice x y)) (view p) part replied some in
+    subst (λ z. IsCopied (call.List a.l (list.Slice a.start a.end)) (view p) (view q) z) (sym failed.1)
+    (scan_loaded k a.l (λ items. AreCopied made (list_slice items x y)) p q r shape may, subst (λ (i : ℤ × ℤ). TakesMemory (call.List a.l (list.Slice i.0 i.1)) (view p)) (λ d. (ranges.0 d, ranges.1 d)) takes)
 
 pub returns-clause-copied : goal.returns-clause-copied
 returns-clause-copied c =
@@ -75,15 +82,15 @@ returns-clause-copied c =
     let values = items_of a.l (view p) in
     let said = reply.List c.from_vec.result in
     let called = call.List a.l (list.Slice x y) in
-    let held = items_hold k a.l (λ items. IfOk made (λ copy. copy.items ≡ list_slice items x y)) p q r shape may in
-    let here = subst (λ z. IfOk z (λ copy. copy.items ≡ list_slice values x y)) c.in_ok-part.was held in
+    let held = items_hold k a.l (λ items. AreCopied made (list_slice items x y)) p q r shape may in
+    let here = (subst (λ z. AreCopied z (list_slice values x y)) c.in_ok-part.was held).0 in
     let is = c.from_vec.ensures ∙ here in
     let low = subst (λ (z : Shape). a.l < containers_in z) (sym shape) may.container in
     let replied : IsReplyTo called said (view p) = slice_replied a.l values (view p) low may.locked (content_of k a.l (view p) shape p.possible may) x y c.from_vec.result is in
     let plain = slice_plain a.l x y c.from_vec.result in
-    let loaded = scan_loaded k a.l (λ items. IfOk made (λ copy. copy.items ≡ list_slice items x y)) p q r shape may in
+    let loaded = scan_loaded k a.l (λ items. AreCopied made (list_slice items x y)) p q r shape may in
     let e = c.answer_held.ensures in
     let z = view c.answer_held.new.pass in
     subst (λ (i : ℤ × ℤ). MadeAs (call.List a.l (list.Slice i.0 i.1)) c.answer_held.result.0 c.answer_held.result.1 (view p) z) (λ d. (ranges.0 d, ranges.1 d))
     (read_made called said plain (view p) (view q) loaded replied z said c.answer_held.result.0 c.answer_held.result.1 r.0
-    (scan_log k a.l (λ items. IfOk made (λ copy. copy.items ≡ list_slice items x y)) p q r shape may) e.did.1 refl e.said.0 e.said.1 p.settled c.answer_held.new.pass.possible)
+    (scan_log k a.l (λ items. AreCopied made (list_slice items x y)) p q r shape may) e.did.1 refl e.said.0 e.said.1 p.settled c.answer_held.new.pass.possible)

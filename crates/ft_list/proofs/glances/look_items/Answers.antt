@@ -1,11 +1,12 @@
-use Rattle.std.proofs.Common.{◌≡◌, refl, sym, ap, ◌∙◌, subst}
-use Rattle.std.specs.Prelude.{IfOk}
+use Rattle.std.proofs.Common.{◌≡◌, ◌<◌, length, refl, sym, ap, ◌∙◌, subst}
+use Rattle.std.proofs.lemmas.Result.{IfErr-at_err}
 use Rattle.ft_model.specs.declared.call.Call.TheVariants as call
 use Rattle.ft_model.specs.declared.call.ListCall.TheVariants as list
 use Rattle.ft_model.specs.declared.reply.Reply.TheVariants as reply
 use Rattle.ft_bank.specs.Passes.{shape_of, view}
+use Rattle.ft_list.specs.Copies.{AreCopied}
 use Rattle.ft_list.specs.Glances.{IsCopyGlanceOf}
-use Rattle.ft_list.proofs.Glancing.{saw_loaded, saw_stopped, saw_answered, saw_shown}
+use Rattle.ft_list.proofs.Glancing.{saw_loaded, saw_some, saw_stopped, saw_answered, saw_shown}
 use Rattle.ft_list.proofs.Scanning.{items_plain}
 use Rattle.ft_list.proofs.glances.look_items.Goals as goal
 
@@ -15,9 +16,9 @@ answer_look-requires-clause-shown c =
     let k = shape_of a.bank.now in
     let b = c.copy_between-copy in
     let copied = c.from_vec.result in
-    saw_shown k a.l (λ items. IfOk b.result.0 (λ copy. copy.items ≡ items)) b.result.1 a.pass.now b.new.pass b.ensures.saw list.Items (reply.List copied) (items_plain a.l copied) (λ e. absurd (cc))
+    saw_shown k a.l (AreCopied b.result.0) b.result.1 a.pass.now b.new.pass b.ensures.saw list.Items (reply.List copied) (items_plain a.l copied) (λ e. absurd (cc))
     (λ world items is.
-    let here : c.in-Ok.items.items ≡ items = subst (λ r. IfOk r (λ copy. copy.items ≡ items)) c.in-Ok.is is in
+    let here : c.in-Ok.items.items ≡ items = (subst (λ r. AreCopied r items) c.in-Ok.is is).0 in
     ap reply.List (sym here ∙ sym c.from_vec.ensures))
     (c.has_moved.ensures.still c.if-has_moved.false) b.ensures.pass.1 c.requires.container c.requires.list c.requires.left
 
@@ -25,7 +26,7 @@ pub returns-then-has_moved-clause-looked : goal.returns-then-has_moved-clause-lo
 returns-then-has_moved-clause-looked c =
     let a = c.args in
     let b = c.copy_between-copy in
-    saw_stopped (shape_of a.bank.now) a.l (λ items. IfOk b.result.0 (λ copy. copy.items ≡ items)) b.result.1 a.pass.now b.new.pass b.ensures.saw (c.has_moved.ensures.moved c.if-has_moved.true)
+    saw_stopped (shape_of a.bank.now) a.l (AreCopied b.result.0) b.result.1 a.pass.now b.new.pass b.ensures.saw (c.has_moved.ensures.moved c.if-has_moved.true)
 
 pub returns-in-Ok-clause-looked : goal.returns-in-Ok-clause-looked
 returns-in-Ok-clause-looked c =
@@ -35,11 +36,14 @@ returns-in-Ok-clause-looked c =
     let said = reply.List c.from_vec.result in
     let v = view a.pass.now in
     let z = view c.answer_look.new.pass in
-    subst (λ r. IsCopyGlanceOf a.l called v z r) (sym c.answer_look.ensures.done)
-    (saw_answered (shape_of a.bank.now) a.l (λ items. IfOk b.result.0 (λ copy. copy.items ≡ items)) b.result.1 a.pass.now b.new.pass b.ensures.saw called said said z c.answer_look.ensures.did.1 refl a.pass.now.settled c.answer_look.new.pass.possible, refl)
+    subst (λ r. IsCopyGlanceOf (shape_of a.bank.now) a.l called v z r) (sym c.answer_look.ensures.done)
+    (saw_answered (shape_of a.bank.now) a.l (AreCopied b.result.0) b.result.1 a.pass.now b.new.pass b.ensures.saw called said said z c.answer_look.ensures.did.1 refl a.pass.now.settled c.answer_look.new.pass.possible, refl)
 
 pub returns-in-Err-clause-looked : goal.returns-in-Err-clause-looked
 returns-in-Err-clause-looked c =
     let a = c.args in
     let b = c.copy_between-copy in
-    saw_loaded (shape_of a.bank.now) a.l (λ items. IfOk b.result.0 (λ copy. copy.items ≡ items)) b.result.1 a.pass.now b.new.pass b.ensures.saw
+    let k = shape_of a.bank.now in (
+      saw_loaded k a.l (AreCopied b.result.0) b.result.1 a.pass.now b.new.pass b.ensures.saw,
+      saw_some k a.l (AreCopied b.result.0) b.result.1 a.pass.now b.new.pass b.ensures.saw (λ items copied. IfErr-at_err (λ e. 0 < length items) c.in-Err.is copied.1),
+    )

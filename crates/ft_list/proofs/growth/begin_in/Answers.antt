@@ -1,8 +1,6 @@
-use Rattle.std.proofs.Common.{ℕ, suc, length, Some, sym, subst}
+use Rattle.std.proofs.Common.{length, Some, sym, subst}
 use Rattle.ft_layout.specs.Containers.{IsBlock}
-use Rattle.ft_trace.specs.declared.Act.TheVariants.{StartWrite}
 use Rattle.ft_trace.specs.declared.View.{View}
-use Rattle.ft_trace.specs.Acts.{noted}
 use Rattle.ft_trace.specs.Addresses.{class_of}
 use Rattle.ft_trace.specs.Holds.{in_hand}
 use Rattle.ft_trace.specs.Words.{Picture}

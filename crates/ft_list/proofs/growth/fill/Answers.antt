@@ -1,7 +1,6 @@
 use Rattle.std.proofs.Common.{◌≡◌, ◌<◌, ℕ, ◌+◌, List, length, refl, sym, ap, ◌∙◌, subst, arith}
 use Rattle.ft_model.specs.declared.data.Value.{Value}
 use Rattle.ft_model.specs.Worlds.{list_of}
-use Rattle.ft_trace.specs.declared.View.{View}
 use Rattle.ft_trace.specs.Acts.{mem}
 use Rattle.ft_trace.specs.Addresses.{class_of, slots}
 use Rattle.ft_trace.specs.Worlds.{Kept}
@@ -12,7 +11,7 @@ use Rattle.ft_bank.specs.Tables.{name_of}
 use Rattle.ft_bank.proofs.Whole.{work_knows}
 use Rattle.ft_growth.proofs.Rooting.{filled_same, filled_then, loaded_filled}
 use Rattle.ft_list.specs.Items.{items_of, stored_at}
-use Rattle.ft_list.specs.Growing.{IsFilled}
+use Rattle.ft_list.specs.Internal.Growing.{IsFilled}
 use Rattle.ft_list.proofs.Cares.{table_class}
 use Rattle.ft_list.proofs.Filling.{filled_none, filled_next}
 use Rattle.ft_list.proofs.Growing.{hand_loaded, knows_filled}

@@ -6,7 +6,7 @@ use Rattle.ft_bank.specs.Sections.{stack_of}
 use Rattle.ft_bank.specs.Tables.{name_of}
 use Rattle.ft_growth.specs.Adding.{OnlyFilled}
 use Rattle.ft_list.specs.Items.{items_of}
-use Rattle.ft_list.specs.Growing.{IsFilled}
+use Rattle.ft_list.specs.Internal.Growing.{IsFilled}
 use Rattle.ft_list.proofs.growth.fill.Given as goal
 
 abbrev pub invariant-loop-place : goal.invariant-loop-place

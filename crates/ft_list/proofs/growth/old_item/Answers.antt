@@ -1,11 +1,10 @@
-use Rattle.std.proofs.Common.{◌≡◌, ◌<◌, length, Option, Some, sym, ap, ◌∙◌, subst, arith}
+use Rattle.std.proofs.Common.{Option, sym, subst, arith}
 use Rattle.ft_layout.specs.Words.{FitsStored}
 use Rattle.ft_bank.specs.declared.table.Table.{Table}
 use Rattle.ft_bank.specs.Passes.{shape_of, view}
-use Rattle.ft_list.specs.Growing.{KnowsList}
+use Rattle.ft_list.specs.Internal.Growing.{KnowsList}
 use Rattle.ft_list.specs.Items.{items_of, stored_at}
-use Rattle.ft_list.proofs.Growing.{knows_content, list_bare, list_stores}
-use Rattle.ft_list.proofs.Putting.{stored_none}
+use Rattle.ft_list.proofs.Growing.{knows_content, list_stores}
 use Rattle.ft_list.proofs.growth.old_item.Goals as goal
 
 pub read_stored-requires-clause-place : goal.read_stored-requires-clause-place

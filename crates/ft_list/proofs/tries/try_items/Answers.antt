@@ -40,7 +40,8 @@ returns-in-Err-clause-made c = record {
   before = view c.take_for.new.pass;
   after = view c.items_locked-copied.new.pass;
   took = c.in-Have.ensures.locked;
-  loaded = subst (λ r. IsCopied (call.List c.args.l list.Items) (view c.take_for.new.pass) (view c.items_locked-copied.new.pass) r) c.in-Err.is (c.items_locked-copied.ensures.copied);
+  loaded = (subst (λ r. IsCopied (call.List c.args.l list.Items) (view c.take_for.new.pass) (view c.items_locked-copied.new.pass) r) c.in-Err.is (c.items_locked-copied.ensures.copied)).0;
+  takes = (subst (λ r. IsCopied (call.List c.args.l list.Items) (view c.take_for.new.pass) (view c.items_locked-copied.new.pass) r) c.in-Err.is (c.items_locked-copied.ensures.copied)).1;
   gone = c.let_go.ensures.locked;
 }
 

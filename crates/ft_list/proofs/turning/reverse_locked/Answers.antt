@@ -16,6 +16,7 @@ use Rattle.ft_list.specs.Items.{items_of}
 use Rattle.ft_list.proofs.CallFacts.{reverse_changes}
 use Rattle.ft_list.proofs.Indexes.{no_items}
 use Rattle.ft_list.proofs.Lists.{content_of, items_loaded, may_loaded}
+use Rattle.ft_list.proofs.Nothing.{leaves_same}
 use Rattle.ft_list.proofs.Trying.{wrote_as}
 use Rattle.ft_list.proofs.Turned.{reversed_none}
 use Rattle.ft_list.proofs.turning.reverse_locked.Goals as goal
@@ -140,8 +141,8 @@ write_nothing-number-requires-clause-bare c =
     let stays = subst (λ (z : List Value). Changes a.l list.Reverse reply.Done values z t) same turned in
     none
 
-pub write_nothing-number-requires-clause-call : goal.write_nothing-number-requires-clause-call
-write_nothing-number-requires-clause-call c =
+pub write_nothing-number-requires-clause-leaves : goal.write_nothing-number-requires-clause-leaves
+write_nothing-number-requires-clause-leaves c =
     let a = c.args in
     let k = shape_of a.bank.now in
     let v = view a.pass.now in
@@ -160,7 +161,7 @@ write_nothing-number-requires-clause-call c =
     let none : root_in (held a.l t) ≡ 0 = ap root_in (loaded_held u t a.l only) ∙ (sym (f.held e.may.locked) ∙ c.in-None.ensures.none k (λ n x. f.table n refl x)) in
     let same : reverse values ≡ values = reversed_none values (no_items k.texts (held a.l t) (known a.l t) none may.stands) in
     let stays = subst (λ (z : List Value). Changes a.l list.Reverse reply.Done values z t) same turned in
-    (list.Reverse, refl, stays)
+    leaves_same a.l list.Reverse reply.Done values t low may.locked is_list stays
 
 pub returns-in-Some-clause-made : goal.returns-in-Some-clause-made
 returns-in-Some-clause-made c =

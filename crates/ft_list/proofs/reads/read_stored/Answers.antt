@@ -3,7 +3,7 @@ use Rattle.ft_trace.specs.Addresses.{class_of, size}
 use Rattle.ft_bank.specs.Passes.{shape_of}
 use Rattle.ft_bank.specs.Tables.{name_of}
 use Rattle.ft_list.proofs.Cares.{few_slots, inside}
-use Rattle.ft_list.proofs.growth.read_stored.Goals as goal
+use Rattle.ft_list.proofs.reads.read_stored.Goals as goal
 
 pub word_at-requires-clause-place : goal.word_at-requires-clause-place
 word_at-requires-clause-place c = let f = few_slots (shape_of c.args.bank.now) c.args.table c.requires.table in let low = c.requires.place in omega (arith, f, low)

@@ -1,0 +1,258 @@
+-- What is added to a list that a pass writes: the items of a list are read from its table while they are put.
+use Rattle.std.proofs.Common.{◌≡◌, ◌≢◌, ℕ, zero, suc, ◌+◌, ◌<◌, ◌≤◌, List, [], ◌∷◌, ◌++◌, length, refl, sym, ap, ◌∙◌, subst, arith, inl, inr}
+use Rattle.std.specs.Prelude.{Some, slice_set}
+use Rattle.std.proofs.lemmas.Bool.{cases_eq}
+use Rattle.std.proofs.lemmas.List.{get_or_append_left, get_or-append-add, length-append}
+use Rattle.std.proofs.lemmas.List.Edits.{length-insert}
+use Rattle.ft_model.specs.declared.content.Content.TheVariants as content
+use Rattle.ft_model.specs.declared.data.Value.{Value}
+use Rattle.ft_model.specs.declared.data.Value.TheVariants as value
+use Rattle.ft_model.specs.Classes.{IsClass}
+use Rattle.ft_model.specs.Worlds.{list_of}
+use Rattle.ft_layout.specs.declared.slot.Stored.{Stored}
+use Rattle.ft_layout.specs.declared.slot.Stored.TheVariants.{Plain}
+use Rattle.ft_layout.specs.Containers.{IsBlock}
+use Rattle.ft_layout.specs.Words.{IsStored}
+use Rattle.ft_layout.proofs.Powers.{slots_range}
+use Rattle.ft_trace.specs.declared.Shape.{Shape}
+use Rattle.ft_trace.specs.declared.View.{View}
+use Rattle.ft_trace.specs.Acts.{has_lock, is_writing}
+use Rattle.ft_trace.specs.Addresses.{containers_in, class_of, slots}
+use Rattle.ft_trace.specs.Holds.{held, known}
+use Rattle.ft_trace.specs.Traces.{Possible}
+use Rattle.ft_trace.specs.Words.{Picture, root_in, Stands, item_of}
+use Rattle.ft_trace.specs.Worlds.{Kept, kind_in}
+use Rattle.ft_bank.specs.declared.table.Table.{Table}
+use Rattle.ft_bank.specs.Tables.{name_of}
+use Rattle.ft_bank.specs.Whole.{OnlyLoaded, OnlyPut}
+use Rattle.ft_bank.specs.Writes.{with_block}
+use Rattle.ft_bank.proofs.Whole.{loaded_held, work_knows}
+use Rattle.ft_list.specs.declared.addition.Addition.{Addition}
+use Rattle.ft_list.specs.declared.addition.Addition.TheVariants.{One, All}
+use Rattle.ft_list.specs.Calls.{MayWriteList}
+use Rattle.ft_list.specs.Items.{WritesList, IsChanging, IsMoving, IsPutting, items_of, stored_at}
+use Rattle.ft_list.specs.Internal.Additions.{count_in, first_in, with_added, KnowsItems, IsAddition, IsAdditionTo, GivesItems}
+use Rattle.ft_list.proofs.Lists.{list_content, list_known, list_rooted}
+use Rattle.ft_list.proofs.Finishing.{with_count}
+use Rattle.ft_list.proofs.Putting.{at_words, list_few, moving_ends, stored_none, stored_some}
+
+-- ---- what two lists store, one after the other
+
+pub append_low : (xs ys : List Value) (p : ℕ) → p < length xs → stored_at xs p ≡ stored_at (xs ++ ys) p
+append_low xs ys p low =
+    let e = length-append xs ys in
+    stored_some xs p value.Nothing low
+    ∙ (ap Plain (sym (get_or_append_left xs ys value.Nothing p low)) ∙ sym (stored_some (xs ++ ys) p value.Nothing (omega (arith, e, low))))
+
+pub append_high : (xs ys : List Value) (p : ℕ) → p < length ys → stored_at ys p ≡ stored_at (xs ++ ys) (length xs + p)
+append_high xs ys p low =
+    let e = length-append xs ys in
+    stored_some ys p value.Nothing low
+    ∙ (ap Plain (sym (get_or-append-add xs ys p value.Nothing)) ∙ sym (stored_some (xs ++ ys) (length xs + p) value.Nothing (omega (arith, e, low))))
+
+pub none_alike : (xs ys : List Value) → length xs ≡ 0 → length ys ≡ 0 → xs ≡ ys
+none_alike [] [] one other = refl
+none_alike [] (y ∷ ys) one other = absurd (omega (arith, other))
+none_alike (x ∷ xs) ys one other = absurd (omega (arith, one))
+
+-- ---- a list whose lock the pass has
+
+class_few : (class : ℕ) → IsClass class → slots class ≤ 65536
+unfolding slots
+class_few class is = (slots_range class is).1
+
+module _ (k : Shape) (m : ℕ) (v : View) (list : KnowsItems k m v) (shape : v.shape ≡ k) (possible : ∥ Possible v ∥₁) where
+  pub knows_list : (known m v).content ≡ content.List (items_of m v)
+  knows_list = list_content v m possible list.locked (ap (λ (z : Shape). kind_in z.kinds m) shape ∙ list.kind)
+
+  room_at : (t : ℕ) → root_in (held m v) ≡ suc t → (length (items_of m v) ≤ slots (class_of t)) × (length (items_of m v) ≤ 65536)
+  room_at t names =
+      let says = (list_known k.texts v m t knows_list list.stands names).0 in
+      let is_class = says.head.root.1.0 in
+      let few = list_few (class_of t) is_class (items_of m v) (0 ∷ 0 ∷ (held m v).table) says.table in
+      let most = class_few (class_of t) is_class in
+      (few, omega (arith, few, most))
+
+  stored_there : (t p : ℕ) → root_in (held m v) ≡ suc t → p < length (items_of m v) → (p < slots (class_of t)) × IsStored (item_of (held m v).table p 1) (item_of (held m v).table p 2) (stored_at (items_of m v) p)
+  stored_there t p names low =
+      let says = (list_known k.texts v m t knows_list list.stands names).0 in
+      let few = (room_at t names).0 in (
+        omega (arith, few, low),
+        subst (λ (z : Stored). IsStored (item_of (held m v).table p 1) (item_of (held m v).table p 2) z) (sym (stored_some (items_of m v) p value.Nothing low))
+            (at_words (held m v).table p _ (says.table.items p value.Nothing low)),
+      )
+
+  bare_there : root_in (held m v) ≡ 0 → length (items_of m v) ≡ 0
+  bare_there none = elim (cases_eq (length (items_of m v)) 0) [ inl e ↦ e | inr ne ↦ absurd (list_rooted k.texts v m knows_list list.stands ne none) ]
+
+  pub knows_few : length (items_of m v) ≤ 65536
+  knows_few = at (root_in (held m v)) refl
+    where
+      at : (root : ℕ) → root_in (held m v) ≡ root → length (items_of m v) ≤ 65536
+      at zero none = let e = bare_there none in omega (arith, e)
+      at (suc t) names = (room_at t names).1
+
+  pub knows_gives : (o : ℕ) → GivesItems k o m v
+  knows_gives o = record { container = list.container; locked = list.locked; quiet = λ ne. list.even; stores = stored_there; bare = bare_there }
+
+pub knows_from : (k : Shape) (o : ℕ) (v : View) → MayWriteList k o v → KnowsItems k o v
+knows_from k o v may = record { container = may.container; kind = may.kind; locked = may.locked; even = may.even; stands = may.stands }
+
+pub knows_then : (k : Shape) (o : ℕ) (v w : View) → held o w ≡ held o v → known o w ≡ known o v → has_lock o w.log ≡ has_lock o v.log → is_writing o w.log ≡ is_writing o v.log → KnowsItems k o v → KnowsItems k o w
+knows_then k o v w same_words same_content lock writes list = record {
+  container = list.container;
+  kind = list.kind;
+  locked = lock ∙ list.locked;
+  even = writes ∙ list.even;
+  stands = subst (λ (x : Picture × Kept). Stands k.texts x.0 x.1) (λ d. (sym same_words d, sym same_content d)) list.stands;
+}
+
+-- ---- an addition
+
+pub added_on : (addition : Addition) (v w : View) → ((p : ℕ) → known p w ≡ known p v) → (values : List Value) → with_added addition w values ≡ with_added addition v values
+added_on (One place value) v w same values = refl
+added_on (All other more) v w same values = ap (λ (x : Kept). values ++ list_of x.content) (same other)
+
+-- or of those whose items it adds
+pub news_on : (k : Shape) (count : ℕ) (addition : Addition) (v w : View) → ((p : ℕ) → KnowsItems k p v → known p w ≡ known p v) → IsAddition k count addition v → (values : List Value) → with_added addition w values ≡ with_added addition v values
+news_on k count (One place value) v w same is values = refl
+news_on k count (All other more) v w same is values = ap (λ (x : Kept). values ++ list_of x.content) (same other is.1)
+
+pub added_long : (k : Shape) (count : ℕ) (addition : Addition) (v : View) (values : List Value) → IsAddition k count addition v → count ≡ length values → length (with_added addition v values) ≡ count + count_in addition
+added_long k count (One place value) v values is long =
+    let low = is.0 in
+    length-insert values place value (omega (arith, low, long)) ∙ ap (λ (n : ℕ). n + 1) (sym long)
+added_long k count (All other more) v values is long = length-append values (items_of other v) ∙ (λ d. sym long d + sym is.0 d)
+
+-- the first item that changes is one of the list's, or comes after them
+pub first_low : (k : Shape) (count : ℕ) (addition : Addition) (v : View) → IsAddition k count addition v → first_in addition count ≤ count
+first_low k count (One place value) v is = is.0
+first_low k count (All other more) v is = omega arith
+
+pub added_few : (k : Shape) (count : ℕ) (addition : Addition) (v : View) → v.shape ≡ k → ∥ Possible v ∥₁ → IsAddition k count addition v → count_in addition ≤ 65536
+added_few k count (One place value) v shape possible is = omega arith
+added_few k count (All other more) v shape possible is = let f = knows_few k other v is.1 shape possible in let e = is.0 in omega (arith, e, f)
+
+-- where the pass knows the same of each list that it doesn't write
+pub addition_on : (k : Shape) (count : ℕ) (addition : Addition) (v w : View) → ((p : ℕ) → KnowsItems k p v → (held p w ≡ held p v) × (known p w ≡ known p v) × (has_lock p w.log ≡ has_lock p v.log) × (is_writing p w.log ≡ is_writing p v.log)) → IsAddition k count addition v → IsAddition k count addition w
+addition_on k count (One place value) v w same is = is
+addition_on k count (All other more) v w same is =
+    let x = same other is.1 in
+    (is.0 ∙ ap (λ (z : Kept). length (list_of z.content)) (sym x.1), knows_then k other v w x.0 x.1 x.2 x.3 is.1)
+
+pub addition_loaded : (k : Shape) (count : ℕ) (addition : Addition) (v w : View) → OnlyLoaded v w → IsAddition k count addition v → IsAddition k count addition w
+addition_loaded k count addition v w l is = addition_on k count addition v w (λ p list. (loaded_held v w p l, work_knows v w p l.work, l.work.pass.locks p, l.work.pass.writes p)) is
+
+-- ---- once the pass writes the list o, whose table has its items
+
+module _ (k : Shape) (o : ℕ) (table : Table) (v s : View) (list : WritesList k o table s) (first past : ℕ)
+    (putting : IsPutting (class_of (name_of table)) (items_of o v) first past (stored_at (items_of o v)) (held o s).table)
+    (few : length (items_of o v) ≤ slots (class_of (name_of table)))
+    (known_same : (p : ℕ) → known p s ≡ known p v)
+    (shape : s.shape ≡ k) (possible : ∥ Possible s ∥₁)
+    (others : (p : ℕ) → p ≢ o → KnowsItems k p v → (held p s ≡ held p v) × (has_lock p s.log ≡ has_lock p v.log) × (is_writing p s.log ≡ is_writing p v.log)) where
+  abbrev class : ℕ
+  class = class_of (name_of table)
+
+  items_same : (p : ℕ) → items_of p s ≡ items_of p v
+  items_same p = ap (λ (z : Kept). list_of z.content) (known_same p)
+
+  gives_itself : GivesItems k o o s
+  gives_itself = record {
+    container = list.container;
+    locked = list.locked;
+    quiet = λ ne. absurd (ne refl);
+    stores = λ t p names low.
+        let same : name_of table ≡ t = let e : suc (name_of table) ≡ suc t = sym list.root ∙ names in omega (arith, e) in
+        let items = items_same o in
+        let long : length (items_of o s) ≡ length (items_of o v) = ap length items in
+        let less : p < slots class = omega (arith, low, long, few) in (
+          subst (λ (n : ℕ). p < slots (class_of n)) same less,
+          subst (λ (l : List Value). IsStored (item_of (held o s).table p 1) (item_of (held o s).table p 2) (stored_at l p)) (sym items) (putting.items p less),
+        );
+    bare = λ none. absurd (let r = list.root in omega (arith, r, none));
+  }
+
+  gives_other : (m : ℕ) → KnowsItems k m v → GivesItems k o m s
+  gives_other m is = elim (cases_eq m o) [
+    | inl e ↦ subst (λ (q : ℕ). GivesItems k o q s) (sym e) gives_itself
+    | inr ne ↦ (let x = others m ne is in knows_gives k m s (knows_then k m v s x.0 (known_same m) x.1 x.2 is) shape possible o)
+  ]
+
+  pub addition_begun : (count : ℕ) (addition : Addition) → IsAddition k count addition v → IsAdditionTo k o count addition s
+  addition_begun count (One place value) is = is
+  addition_begun count (All other more) is = (is.0 ∙ ap length (sym (items_same other)), gives_other other is.1)
+
+pub gives_loaded : (k : Shape) (o m : ℕ) (v w : View) → OnlyLoaded v w → GivesItems k o m v → GivesItems k o m w
+gives_loaded k o m v w l gives =
+    let h = loaded_held v w m l in
+    let c : known m w ≡ known m v = work_knows v w m l.work in
+    let long : length (items_of m w) ≡ length (items_of m v) = ap (λ (z : Kept). length (list_of z.content)) c in
+    record {
+      container = gives.container;
+      locked = l.work.pass.locks m ∙ gives.locked;
+      quiet = λ ne. l.work.pass.writes m ∙ gives.quiet ne;
+      stores = λ t p names low.
+          let x = gives.stores t p (sym (ap root_in h) ∙ names) (omega (arith, low, long)) in (
+            x.0,
+            subst (λ (z : Picture × Kept). IsStored (item_of z.0.table p 1) (item_of z.0.table p 2) (stored_at (list_of z.1.content) p)) (λ d. (sym h d, sym c d)) x.1,
+          );
+      bare = λ none. long ∙ gives.bare (sym (ap root_in h) ∙ none);
+    }
+
+-- ---- while the items are put
+
+module _ (k : Shape) (o m : ℕ) (table : Table) (v w : View) (shape : v.shape ≡ k) (only : OnlyPut o v w) (before : WritesList k o table v) (after : WritesList k o table w) (gives : GivesItems k o m v) where
+  there : m < containers_in v.shape
+  there = subst (λ (z : Shape). m < containers_in z) (sym shape) gives.container
+
+  held_same : m ≢ o → held m w ≡ held m v
+  held_same ne = only.others m there ne gives.locked (gives.quiet ne)
+
+  pub root_put : root_in (held m w) ≡ root_in (held m v)
+  root_put = elim (cases_eq m o) [
+    | inl e ↦ (subst (λ (q : ℕ). root_in (held q w) ≡ root_in (held q v)) (sym e) (after.root ∙ sym before.root))
+    | inr ne ↦ ap root_in (held_same ne)
+  ]
+
+  pub gives_put : (values others : List Value) (first past at : ℕ) → IsMoving (class_of (name_of table)) values (values ++ others) first past at (held o w).table → items_of o v ≡ values → length values ≤ at → length values ≤ slots (class_of (name_of table)) → GivesItems k o m w
+  gives_put values others first past at moving items done few = record {
+    container = gives.container;
+    locked = only.work.pass.locks m ∙ gives.locked;
+    quiet = λ ne. only.work.pass.writes m ∙ gives.quiet ne;
+    stores = elim (cases_eq m o) [
+      | inl e ↦ subst (λ (q : ℕ). (t p : ℕ) → root_in (held q w) ≡ suc t → p < length (items_of q w) → (p < slots (class_of t)) × IsStored (item_of (held q w).table p 1) (item_of (held q w).table p 2) (stored_at (items_of q w) p)) (sym e)
+          (λ t p names low.
+          let same : name_of table ≡ t = let x : suc (name_of table) ≡ suc t = sym after.root ∙ names in omega (arith, x) in
+          let all : items_of o w ≡ values = ap (λ (z : Kept). list_of z.content) (work_knows v w o only.work) ∙ items in
+          let long : length (items_of o w) ≡ length values = ap length all in
+          let less : p < slots (class_of (name_of table)) = omega (arith, low, long, few) in (
+            subst (λ (n : ℕ). p < slots (class_of n)) same less,
+            subst (λ (z : Stored). IsStored (item_of (held o w).table p 1) (item_of (held o w).table p 2) z)
+                (moving.done p (omega (arith, low, long, done)) ∙ (sym (append_low values others p (omega (arith, low, long))) ∙ ap (λ (l : List Value). stored_at l p) (sym all)))
+                (moving.putting.items p less),
+          ))
+      | inr ne ↦ λ t p names low.
+          let h = held_same ne in
+          let c : known m w ≡ known m v = work_knows v w m only.work in
+          let long : length (items_of m w) ≡ length (items_of m v) = ap (λ (z : Kept). length (list_of z.content)) c in
+          let x = gives.stores t p (sym (ap root_in h) ∙ names) (omega (arith, low, long)) in (
+            x.0,
+            subst (λ (z : Picture × Kept). IsStored (item_of z.0.table p 1) (item_of z.0.table p 2) (stored_at (list_of z.1.content) p)) (λ d. (sym h d, sym c d)) x.1,
+          )
+    ];
+    bare = λ none. ap (λ (z : Kept). length (list_of z.content)) (work_knows v w m only.work) ∙ gives.bare (sym root_put ∙ none);
+  }
+
+-- ---- once they are put, and then the length
+
+module _ (class : ℕ) (is_class : IsClass class) (values news : List Value) (first total : ℕ) (put said : Picture) (moving : IsMoving class values news first total total put.table) (is : said ≡ with_block put 1 total) (short : length values ≤ total) (long : length news ≡ total) (room : total ≤ slots class) where
+  pub added_changing : IsChanging class values news first total said.table
+  added_changing =
+      moving_ends class is_class values news first total total said.table (subst (λ (w : Picture). IsMoving class values news first total total w.table) (sym is) moving) (omega (arith, long, room))
+      (λ p more. stored_none values p (omega (arith, more, short)) ∙ sym (stored_none news p (omega (arith, more, long))))
+
+  pub added_head : IsBlock put.block (Some class) (length values) 0 0 → IsBlock said.block (Some class) (length news) 0 0
+  added_head head =
+      subst (λ (w : Picture). IsBlock w.block (Some class) (length news) 0 0) (sym is)
+      (subst (λ (n : ℕ). IsBlock (slice_set put.block 1 total) (Some class) n 0 0) (sym long) (with_count put.block (Some class) (length values) total head))

@@ -1,0 +1,37 @@
+use Rattle.std.proofs.Common.{◌≡◌, ◌+◌, true, sym, subst, arith}
+use Rattle.ft_model.specs.declared.call.Call.{Call}
+use Rattle.ft_model.specs.Tables.{CanLackMemory, would_pass}
+use Rattle.ft_bank.specs.Passes.{shape_of, view}
+use Rattle.ft_list.specs.Items.{items_of}
+use Rattle.ft_list.specs.Internal.Additions.{count_in, with_added}
+use Rattle.ft_list.proofs.Additions.{knows_of, over_passes}
+use Rattle.ft_list.proofs.Extending.{added_few, added_long, knows_few}
+use Rattle.ft_list.proofs.adding.add_to.Goals as goal
+
+pub overflow_add-total : goal.overflow_add-total
+overflow_add-total c =
+    let a = c.args in
+    let k = shape_of a.bank.now in
+    let v = view a.pass.now in
+    let f = knows_few k a.l v (knows_of k a.l a.old v c.requires.may.list) c.requires.pass.1 a.pass.now.possible in
+    let g = added_few k a.count a.addition v c.requires.pass.1 a.pass.now.possible c.requires.addition in
+    let n = c.requires.count in
+    let e = c.added_count.ensures in
+    omega (arith, f, g, n, e)
+
+pub class_wanted-requires : goal.class_wanted-requires
+class_wanted-requires c = record { table = λ t is. (c.requires.may.list.table_in t is).0 }
+
+pub answer_over-requires-clause-over : goal.answer_over-requires-clause-over
+answer_over-requires-clause-over c stored has =
+    let a = c.args in
+    let k = shape_of a.bank.now in
+    let v = view a.pass.now in
+    let r = c.requires.call in
+    let values = items_of a.l v in
+    let news = with_added a.addition v values in
+    let total = a.count + count_in a.addition in
+    let e = c.added_count.ensures in
+    let past = c.if-total.true in
+    subst (λ (z : Call). CanLackMemory stored.world z × (would_pass stored.world z ≡ true)) (sym r.1)
+    (over_passes k a.l a.old v c.requires.may.list c.requires.pass.1 a.pass.now.possible r.0 total news r.2 (added_long k a.count a.addition v values c.requires.addition c.requires.count) (omega (arith, e, past)) stored has)

@@ -1,0 +1,92 @@
+use Rattle.std.proofs.Common.{◌≡◌, ◌<◌, ℕ, ◌+◌, length, refl, sym, ap, ◌∙◌, subst}
+use Rattle.ft_model.specs.declared.call.Call.TheVariants as call
+use Rattle.ft_model.specs.declared.call.ListCall.TheVariants as list
+use Rattle.ft_model.specs.declared.reply.Reply.TheVariants as reply
+use Rattle.ft_trace.specs.declared.Shape.{Shape}
+use Rattle.ft_trace.specs.Addresses.{containers_in}
+use Rattle.ft_bank.specs.Passes.{shape_of, view}
+use Rattle.ft_bank.proofs.Whole.{loaded_then}
+use Rattle.ft_growth.proofs.Cursors.{added_cursors}
+use Rattle.ft_list.specs.Items.{items_of}
+use Rattle.ft_list.proofs.Additions.{adds_items}
+use Rattle.ft_list.proofs.CallFacts.{extend_adds}
+use Rattle.ft_list.proofs.Extending.{knows_few, knows_from, knows_list}
+use Rattle.ft_list.proofs.Growing.{knows_content}
+use Rattle.ft_list.proofs.Lists.{items_loaded, may_loaded}
+use Rattle.ft_list.proofs.adding.extend_by.Goals as goal
+
+pub count_of-more-requires-clause-may : goal.count_of-more-requires-clause-may
+count_of-more-requires-clause-may c =
+    let a = c.args in
+    may_loaded (shape_of a.bank.now) a.m (view a.pass.now) (view c.count_of-count.new.pass) c.count_of-count.ensures.only c.requires.other
+
+pub root_table-old-requires-clause-may : goal.root_table-old-requires-clause-may
+root_table-old-requires-clause-may c =
+    let a = c.args in
+    may_loaded (shape_of a.bank.now) a.l (view c.count_of-count.new.pass) (view c.count_of-more.new.pass) c.count_of-more.ensures.only c.count_of-count.ensures.may
+
+pub add_to-requires-clause-may : goal.add_to-requires-clause-may
+add_to-requires-clause-may c =
+    let a = c.args in
+    let l = loaded_then (view a.pass.now) (view c.count_of-count.new.pass) (view c.root_table-old.new.pass) c.count_of-count.ensures.only (loaded_then (view c.count_of-count.new.pass) (view c.count_of-more.new.pass) (view c.root_table-old.new.pass) c.count_of-more.ensures.only c.root_table-old.ensures.only) in
+    record {
+      list = c.root_table-old.ensures.list;
+      used = l.work.used ∙ c.requires.used;
+      owes = l.work.owes ∙ c.requires.may.owes;
+      idle = l.work.pass.flight ∙ c.requires.idle;
+      left = subst (λ (n : ℕ). 0 < n) (sym l.work.left) c.requires.may.left;
+    }
+
+pub add_to-requires-clause-addition : goal.add_to-requires-clause-addition
+add_to-requires-clause-addition c =
+    let a = c.args in
+    let k = shape_of a.bank.now in
+    let x = view c.count_of-count.new.pass in
+    let y = view c.count_of-more.new.pass in
+    let u = view c.root_table-old.new.pass in
+    let e = c.count_of-more.ensures in
+    (e.count ∙ sym (ap length (items_loaded a.m y u c.root_table-old.ensures.only ∙ items_loaded a.m x y e.only)), knows_from k a.m u (may_loaded k a.m y u c.root_table-old.ensures.only e.may))
+
+pub add_to-requires-clause-count : goal.add_to-requires-clause-count
+add_to-requires-clause-count c =
+    let a = c.args in
+    let v = view a.pass.now in
+    let x = view c.count_of-count.new.pass in
+    let y = view c.count_of-more.new.pass in
+    let u = view c.root_table-old.new.pass in
+    c.count_of-count.ensures.count ∙ sym (ap length (items_loaded a.l y u c.root_table-old.ensures.only ∙ (items_loaded a.l x y c.count_of-more.ensures.only ∙ items_loaded a.l v x c.count_of-count.ensures.only)))
+
+pub add_to-requires-clause-call : goal.add_to-requires-clause-call
+add_to-requires-clause-call c =
+    let a = c.args in
+    let k = shape_of a.bank.now in
+    let y = view c.count_of-more.new.pass in
+    let u = view c.root_table-old.new.pass in
+    let e = c.root_table-old.ensures in
+    let shape : u.shape ≡ k = e.pass.1 in
+    let possible = c.root_table-old.new.pass.possible in
+    let other = knows_from k a.m u (may_loaded k a.m y u e.only c.count_of-more.ensures.may) in
+    let inside : (p : ℕ) → p < containers_in k → p < containers_in u.shape = λ p low. subst (λ (z : Shape). p < containers_in z) (sym shape) low in (
+      list.Extend a.m,
+      refl,
+      extend_adds a.l a.m (items_of a.l u) (items_of a.m u) u (inside a.l e.list.container) (inside a.m other.container) e.list.locked other.locked (knows_content k a.l c.root_table-old.result u shape possible e.list) (knows_list k a.m u other shape possible) (knows_few k a.m u other shape possible),
+    )
+
+pub returns-clause-added : goal.returns-clause-added
+returns-clause-added c =
+    let a = c.args in
+    let v = view a.pass.now in
+    let x = view c.count_of-count.new.pass in
+    let y = view c.count_of-more.new.pass in
+    let u = view c.root_table-old.new.pass in
+    let e = c.root_table-old.ensures in
+    let f = c.count_of-more.ensures in
+    let more : c.count_of-more.result ≡ length (items_of a.m v) = f.count ∙ ap length (items_loaded a.m v x c.count_of-count.ensures.only) in
+    adds_items (shape_of a.bank.now) a.l (length (items_of a.m v)) c.root_table-old.result v u (view c.add_to.new.pass) (c.count_of-count.result + c.count_of-more.result) (call.List a.l (list.Extend a.m)) c.add_to.result
+    (loaded_then v x u c.count_of-count.ensures.only (loaded_then x y u f.only e.only)) e.list e.pass.1 c.root_table-old.new.pass.possible (λ d. c.count_of-count.ensures.count d + more d) c.add_to.ensures.added
+
+pub returns-clause-cursors : goal.returns-clause-cursors
+returns-clause-cursors c number =
+    let e = c.root_table-old.ensures in
+    added_cursors (shape_of c.args.bank.now) _ _ _ reply.Done (view c.root_table-old.new.pass) (view c.add_to.new.pass) c.add_to.result c.add_to.ensures.added number
+    ∙ (e.only.work.pass.cursors number ∙ (c.count_of-more.ensures.only.work.pass.cursors number ∙ c.count_of-count.ensures.only.work.pass.cursors number))

@@ -1,0 +1,31 @@
+use Rattle.std.proofs.Common.{ℕ, ◌<◌, refl, sym, ◌∙◌, subst}
+use Rattle.ft_model.specs.declared.call.Call.TheVariants as call
+use Rattle.ft_model.specs.declared.call.ListCall.TheVariants as list
+use Rattle.ft_bank.specs.Passes.{shape_of, view}
+use Rattle.ft_growth.proofs.Staying.{making_added}
+use Rattle.ft_list.proofs.Both.{has_each, are_in}
+use Rattle.ft_list.proofs.Trying.{may_write}
+use Rattle.ft_list.proofs.adding.try_extend.Goals as goal
+
+pub take_for-requires-clause-containers : goal.take_for-requires-clause-containers
+take_for-requires-clause-containers c = are_in (shape_of c.args.bank.now) c.args.l c.args.m c.requires.container c.requires.other
+
+pub extend_by-added-requires-clause-may : goal.extend_by-added-requires-clause-may
+extend_by-added-requires-clause-may c =
+    may_write c.args.bank.now c.take_for.new.pass c.args.l c.in-Have.ensures.making c.requires.container c.requires.list (has_each (view c.take_for.new.pass) c.args.l c.args.m c.in-Have.ensures.has.0).0
+    (subst (λ (n : ℕ). 0 < n) (sym c.in-Have.ensures.locked.left) c.requires.left)
+
+pub extend_by-added-requires-clause-other : goal.extend_by-added-requires-clause-other
+extend_by-added-requires-clause-other c =
+    may_write c.args.bank.now c.take_for.new.pass c.args.m c.in-Have.ensures.making c.requires.other c.requires.other_list (has_each (view c.take_for.new.pass) c.args.l c.args.m c.in-Have.ensures.has.0).1
+    (subst (λ (n : ℕ). 0 < n) (sym c.in-Have.ensures.locked.left) c.requires.left)
+
+pub let_go-requires : goal.let_go-requires
+let_go-requires c =
+    let a = c.args in
+    let e = c.extend_by-added.ensures in
+    let x = e.added in
+    making_added a.bank.now c.take_for.new.pass c.extend_by-added.new.pass c.in-Have.ensures.making e.pass e.stack x.0 x.1 _ _ _ (call.List a.l (list.Extend a.m)) _ c.extend_by-added.result (λ n l sections. refl) x.2
+
+pub returns-in-Have-clause-cursors : goal.returns-in-Have-clause-cursors
+returns-in-Have-clause-cursors c number = c.let_go.ensures.locked.cursors number ∙ (c.extend_by-added.ensures.cursors number ∙ c.in-Have.ensures.locked.cursors number)

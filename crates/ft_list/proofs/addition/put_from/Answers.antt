@@ -1,0 +1,118 @@
+use Rattle.std.proofs.Common.{◌≡◌, ℕ, ◌+◌, List, ◌++◌, length, refl, sym, ap, ◌∙◌, subst, arith}
+use Rattle.ft_model.specs.declared.data.Value.{Value}
+use Rattle.ft_model.specs.Worlds.{list_of}
+use Rattle.ft_trace.specs.Addresses.{class_of}
+use Rattle.ft_trace.specs.Holds.{held}
+use Rattle.ft_trace.specs.Words.{Picture, root_in}
+use Rattle.ft_trace.specs.Worlds.{Kept}
+use Rattle.ft_bank.specs.Passes.{shape_of, view}
+use Rattle.ft_bank.specs.Tables.{name_of}
+use Rattle.ft_bank.proofs.Whole.{put_same, put_then, loaded_held, loaded_put, work_knows}
+use Rattle.ft_list.specs.Items.{IsMoving, items_of, stored_at}
+use Rattle.ft_list.proofs.Cares.{table_class, few_slots, writes_on}
+use Rattle.ft_list.proofs.Extending.{append_low, append_high, gives_put, root_put}
+use Rattle.ft_list.proofs.Putting.{moving_starts, moving_next}
+use Rattle.ft_list.proofs.addition.put_from.Goals as goal
+
+pub loop-place-init : goal.loop-place-init
+loop-place-init c =
+    let a = c.args in
+    let v = view a.pass.now in
+    let values = items_of a.o v in
+    let others = items_of a.m v in
+    let class = class_of (name_of a.table) in
+    let n = c.requires.count in
+    let start = moving_starts class (table_class (shape_of a.bank.now) a.table c.requires.list.table_in) values (values ++ others) a.count (a.count + a.more) (a.count + 0) (held a.o v).table c.requires.before (λ p less. append_low values others p (omega (arith, less, n))) in
+    record {
+      pass = c.requires.pass;
+      stack = refl;
+      list = c.requires.list;
+      early = c.requires.early;
+      only = put_same v a.o;
+      block = refl;
+      gives = c.requires.gives;
+      root = c.requires.root;
+      moving = start;
+    }
+
+pub given_item-stored-requires-clause-place : goal.given_item-stored-requires-clause-place
+given_item-stored-requires-clause-place c =
+    let a = c.args in
+    let test = c.loop-place-test.true in
+    let n = c.requires.more in
+    let long : length (items_of a.m (view c.loop-place.pass)) ≡ length (items_of a.m (view a.pass.now)) = ap (λ (z : Kept). length (list_of z.content)) (work_knows (view a.pass.now) (view c.loop-place.pass) a.m c.loop-place.invariant.only.work) in
+    omega (arith, test, n, long)
+
+pub overflow_add-count : goal.overflow_add-count
+overflow_add-count c =
+    let f = few_slots (shape_of c.args.bank.now) c.args.table c.requires.list.table_in in
+    let r = c.requires.room in
+    let test = c.loop-place-test.true in
+    omega (arith, f, r, test)
+
+pub put_item-requires-clause-place : goal.put_item-requires-clause-place
+put_item-requires-clause-place c =
+    let r = c.requires.room in
+    let test = c.loop-place-test.true in
+    omega (arith, r, test)
+
+pub put_item-requires-clause-list : goal.put_item-requires-clause-list
+put_item-requires-clause-list c =
+    let a = c.args in
+    let x = view c.loop-place.pass in
+    let y = view c.given_item-stored.new.pass in
+    let l = c.given_item-stored.ensures.only in
+    writes_on (shape_of a.bank.now) a.o a.table x y (loaded_put x y a.o l) (ap root_in (loaded_held x y a.o l)) c.loop-place.invariant.list
+
+pub put_item-requires-clause-early : goal.put_item-requires-clause-early
+put_item-requires-clause-early c = c.given_item-stored.ensures.only.work.committed c.args.o ∙ c.loop-place.invariant.early
+
+pub loop-place-preserved : goal.loop-place-preserved
+loop-place-preserved c =
+    let a = c.args in
+    let k = shape_of a.bank.now in
+    let v = view a.pass.now in
+    let x = view c.loop-place.pass in
+    let y = view c.given_item-stored.new.pass in
+    let z = view c.put_item.new.pass in
+    let place = c.loop-place.place in
+    let i = c.loop-place.invariant in
+    let f = c.given_item-stored.ensures in
+    let e = c.put_item.ensures in
+    let values = items_of a.o v in
+    let others = items_of a.m v in
+    let class = class_of (name_of a.table) in
+    let is_class = table_class k a.table c.requires.list.table_in in
+    let test = c.loop-place-test.true in
+    let n = c.requires.count in
+    let m = c.requires.more in
+    let r = c.requires.room in
+    let loaded = loaded_put x y a.o f.only in
+    let both = put_then x y z a.o loaded e.only in
+    let same : held a.o y ≡ held a.o x = loaded_held x y a.o f.only in
+    let known : (p : ℕ) → items_of p x ≡ items_of p v = λ p. ap (λ (q : Kept). list_of q.content) (work_knows v x p i.only.work) in
+    let stored : c.given_item-stored.result ≡ stored_at (values ++ others) (a.count + place) =
+    f.stored ∙ (ap (λ (l : List Value). stored_at l place) (known a.m) ∙ (append_high values others place (omega (arith, test, m)) ∙ ap (λ (q : ℕ). stored_at (values ++ others) (q + place)) (sym n))) in
+    let before : IsMoving class values (values ++ others) a.count (a.count + a.more) (a.count + place) (held a.o y).table =
+    subst (λ (w : Picture). IsMoving class values (values ++ others) a.count (a.count + a.more) (a.count + place) w.table) (sym same) i.moving in
+    let moved = moving_next class is_class values (values ++ others) a.count (a.count + a.more) (a.count + place) (held a.o y) (held a.o z) c.given_item-stored.result before e.puts f.fits stored (omega arith) (omega (arith, test)) in
+    let next : a.count + place + 1 ≡ a.count + (place + 1) = omega arith in
+    let moving = subst (λ (q : ℕ). IsMoving class values (values ++ others) a.count (a.count + a.more) q (held a.o z).table) next moved in
+    record {
+      pass = e.pass;
+      stack = e.stack ∙ (f.stack ∙ i.stack);
+      list = e.list;
+      early = e.only.work.committed a.o ∙ (f.only.work.committed a.o ∙ i.early);
+      only = put_then v x z a.o i.only both;
+      block = e.block ∙ (ap (λ (w : Picture). w.block) same ∙ i.block);
+      gives = gives_put k a.o a.m a.table x z i.pass.1 both i.list e.list i.gives values others a.count (a.count + a.more) (a.count + (place + 1)) moving (known a.o) (omega (arith, n)) (omega (arith, n, r));
+      root = root_put k a.o a.m a.table x z i.pass.1 both i.list e.list i.gives ∙ i.root;
+      moving = moving;
+    }
+
+pub returns-clause-moved : goal.returns-clause-moved
+returns-clause-moved c =
+    let a = c.args in
+    let v = view a.pass.now in
+    let at : c.loop-place.place ≡ a.more = let t = c.loop-place-test.false in let e = c.loop-place.auto.place-end in omega (arith, t, e) in
+    subst (λ (n : ℕ). IsMoving (class_of (name_of a.table)) (items_of a.o v) (items_of a.o v ++ items_of a.m v) a.count (a.count + a.more) (a.count + n) (held a.o (view c.loop-place.pass)).table) at c.loop-place.invariant.moving

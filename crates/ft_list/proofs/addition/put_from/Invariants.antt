@@ -1,0 +1,26 @@
+use Rattle.std.proofs.Common.{◌≡◌, ◌+◌, ◌++◌, false}
+use Rattle.ft_trace.specs.Acts.{has_committed}
+use Rattle.ft_trace.specs.Addresses.{class_of}
+use Rattle.ft_trace.specs.Holds.{held}
+use Rattle.ft_trace.specs.Words.{root_in}
+use Rattle.ft_bank.specs.Passes.{shape_of, view, IsPassOf}
+use Rattle.ft_bank.specs.Sections.{stack_of}
+use Rattle.ft_bank.specs.Tables.{name_of, root_for}
+use Rattle.ft_bank.specs.Whole.{OnlyPut}
+use Rattle.ft_list.specs.Items.{WritesList, IsMoving, items_of}
+use Rattle.ft_list.specs.Internal.Additions.{GivesItems}
+use Rattle.ft_list.proofs.addition.put_from.Given as goal
+
+abbrev pub invariant-loop-place : goal.invariant-loop-place
+invariant-loop-place l =
+    record {
+      pass : IsPassOf l.bank l.pass;
+      stack : stack_of l.pass ≡ stack_of l.initial.pass;
+      list : WritesList (shape_of l.bank) l.o l.table (view l.pass);
+      early : has_committed l.o (view l.pass).log ≡ false;
+      only : OnlyPut l.o (view l.initial.pass) (view l.pass);
+      block : (held l.o (view l.pass)).block ≡ (held l.o (view l.initial.pass)).block;
+      gives : GivesItems (shape_of l.bank) l.o l.m (view l.pass);
+      root : root_in (held l.m (view l.pass)) ≡ root_for l.from;
+      moving : IsMoving (class_of (name_of l.table)) (items_of l.o (view l.initial.pass)) (items_of l.o (view l.initial.pass) ++ items_of l.m (view l.initial.pass)) l.count (l.count + l.more) (l.count + l.place) (held l.o (view l.pass)).table;
+    }

@@ -1,0 +1,24 @@
+use Rattle.std.proofs.Common.{Option, sym, ap, ◌∙◌, subst}
+use Rattle.ft_model.specs.declared.call.Call.{Call}
+use Rattle.ft_model.specs.declared.reply.Reply.TheVariants as reply
+use Rattle.ft_trace.specs.Holds.{known}
+use Rattle.ft_bank.specs.declared.table.Table.{Table}
+use Rattle.ft_bank.specs.Passes.{shape_of, view}
+use Rattle.ft_bank.specs.Tables.{root_for}
+use Rattle.ft_search.specs.Writing.{Leaves}
+use Rattle.ft_list.specs.Internal.Growing.{MayAdd}
+use Rattle.ft_list.proofs.Emptying.{bare_leaves}
+use Rattle.ft_list.proofs.clearing.clear_list.Goals as goal
+
+pub write_nothing-requires-clause-bare : goal.write_nothing-requires-clause-bare
+write_nothing-requires-clause-bare c = c.requires.may.list.root ∙ ap root_for c.in-None.is
+
+pub write_nothing-requires-clause-leaves : goal.write_nothing-requires-clause-leaves
+write_nothing-requires-clause-leaves c =
+    let a = c.args in
+    let v = view a.pass.now in
+    let may = subst (λ (z : Option Table). MayAdd (shape_of a.bank.now) a.l z v) c.in-None.is c.requires.may in
+    subst (λ (z : Call). Leaves a.l z reply.Done (known a.l v) v) (sym c.clear_call.ensures) (bare_leaves (shape_of a.bank.now) a.l v may c.requires.pass.1 a.pass.now.possible)
+
+pub returns-in-None-clause-root : goal.returns-in-None-clause-root
+returns-in-None-clause-root c = c.write_nothing.ensures.root ∙ (c.requires.may.list.root ∙ ap root_for c.in-None.is)

@@ -1,0 +1,20 @@
+use Rattle.std.proofs.Common.{Option, refl, sym, ◌∙◌, subst}
+use Rattle.std.specs.Prelude.{IfSome}
+use Rattle.ft_bank.specs.declared.table.Table.{Table}
+use Rattle.ft_bank.specs.Passes.{shape_of}
+use Rattle.ft_bank.specs.Tables.{IsTableIn}
+use Rattle.ft_list.proofs.Additions.{root_named}
+use Rattle.ft_list.proofs.locked.table_at_root.Goals as goal
+
+pub returns-clause-table : goal.returns-clause-table
+returns-clause-table c table found =
+    let k = shape_of c.args.bank.now in
+    let e = c.read_block-root.ensures in
+    subst (λ (z : Option Table). IfSome z (λ q. IsTableIn k q)) found (c.table_named.ensures.in_bank k (λ q x. e.table q refl x))
+
+pub returns-clause-root : goal.returns-clause-root
+returns-clause-root c =
+    let k = shape_of c.args.bank.now in
+    let e = c.read_block-root.ensures in
+    let t = c.table_named.ensures in
+    sym (e.held c.requires.locked) ∙ root_named c.table_named.result c.read_block-root.result t.named (t.none k (λ q x. e.table q refl x))

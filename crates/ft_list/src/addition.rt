@@ -1,0 +1,167 @@
+//! What calls add to a list that a pass writes, in a table that has room for it: a value at a place, or all items
+//! of a list, which may be the one that is written.
+ghost use Rattle.std.specs.Prelude.{◌≡◌, ℕ, ◌+◌, ◌<◌, ◌≤◌, ◌++◌, false, length, Option, Some};
+ghost use Rattle.ft_layout.specs.Words.{FitsStored};
+ghost use Rattle.ft_trace.specs.Acts.{has_committed};
+ghost use Rattle.ft_trace.specs.Addresses.{class_of, slots};
+ghost use Rattle.ft_trace.specs.Holds.{held};
+ghost use Rattle.ft_trace.specs.Words.{root_in};
+ghost use Rattle.ft_bank.specs.declared.table.Table.{Table};
+ghost use Rattle.ft_bank.specs.Passes.{shape_of, view, IsPassOf};
+ghost use Rattle.ft_bank.specs.Sections.{stack_of};
+ghost use Rattle.ft_bank.specs.Tables.{name_of, root_for, IsTableIn};
+ghost use Rattle.ft_bank.specs.Whole.{OnlyLoaded, OnlyPut};
+ghost use Rattle.ft_list.specs.Items.{WritesList, IsPutting, IsMoving, items_of, stored_at};
+ghost use Rattle.ft_list.specs.Internal.Additions.{count_in, first_in, with_added, GivesItems, IsAdditionTo};
+
+use crate::items::put_item;
+use crate::locked::table_at_root;
+use crate::reads::read_stored;
+use crate::writes::shift_up;
+use ft_bank::{Bank, Pass, Table};
+use ft_layout::Stored;
+use ft_model::Value;
+
+/// What a call adds to a list.
+#[derive(Clone, Copy)]
+pub(crate) enum Addition {
+    /// A value, before the item at a place.
+    One { place: u64, value: Value },
+    /// All items of another list or of the same one, of which there are so many, after the last item.
+    All { other: u32, count: u64 },
+}
+
+/// How many items are added.
+pub(crate) fn added_count(addition: Addition) -> u64
+    ensures { result ≡ count_in addition }
+{
+    match addition {
+        Addition::One { .. } => 1,
+        Addition::All { count, .. } => count,
+    }
+}
+
+/// The first place, of so many, whose item changes.
+pub(crate) fn first_place(addition: Addition, count: u64) -> u64
+    ensures { result ≡ first_in addition count }
+{
+    match addition {
+        Addition::One { place, .. } => place,
+        Addition::All { .. } => count,
+    }
+}
+
+/// What an item of a list stores whose items are added to a list.
+fn given_item(bank: &Bank, pass: &mut Pass, m: u32, table: Option<Table>, place: u64) -> Stored
+    requires pass { IsPassOf bank.now pass.old }
+    requires gives { (o : ℕ) × GivesItems (shape_of bank.now) o m (view pass.old) }
+    requires table { (t : Table) → table ≡ Some t → IsTableIn (shape_of bank.now) t }
+    requires root { root_in (held m (view pass.old)) ≡ root_for table }
+    requires place { place < length (items_of m (view pass.old)) }
+    ensures pass { IsPassOf bank.now pass.new }
+    ensures stack { stack_of pass.new ≡ stack_of pass.old }
+    ensures only { OnlyLoaded (view pass.old) (view pass.new) }
+    ensures stored { result ≡ stored_at (items_of m (view pass.old)) place }
+    ensures fits { FitsStored result }
+{
+    match table {
+        Some(table) => read_stored(bank, pass, m, table, place),
+        None => unreachable!(),
+    }
+}
+
+/// Puts the items of a list one by one after those of the list that the pass writes, which had so many. Each is
+/// read from the table of its list just before it is put.
+fn put_from(
+    bank: &Bank,
+    pass: &mut Pass,
+    o: u32,
+    table: Table,
+    m: u32,
+    from: Option<Table>,
+    count: u64,
+    more: u64,
+)
+    requires pass { IsPassOf bank.now pass.old }
+    requires list { WritesList (shape_of bank.now) o table (view pass.old) }
+    requires early { has_committed o (view pass.old).log ≡ false }
+    requires gives { GivesItems (shape_of bank.now) o m (view pass.old) }
+    requires from { (t : Table) → from ≡ Some t → IsTableIn (shape_of bank.now) t }
+    requires root { root_in (held m (view pass.old)) ≡ root_for from }
+    requires count { count ≡ length (items_of o (view pass.old)) }
+    requires more { more ≡ length (items_of m (view pass.old)) }
+    requires room { count + more ≤ slots (class_of (name_of table)) }
+    requires before { IsPutting (class_of (name_of table)) (items_of o (view pass.old)) count (count + more)
+        (stored_at (items_of o (view pass.old))) (held o (view pass.old)).table }
+    ensures pass { IsPassOf bank.now pass.new }
+    ensures stack { stack_of pass.new ≡ stack_of pass.old }
+    ensures list { WritesList (shape_of bank.now) o table (view pass.new) }
+    ensures only { OnlyPut o (view pass.old) (view pass.new) }
+    ensures block { (held o (view pass.new)).block ≡ (held o (view pass.old)).block }
+    ensures moved { IsMoving (class_of (name_of table)) (items_of o (view pass.old))
+        (items_of o (view pass.old) ++ items_of m (view pass.old)) count (count + more) (count + more)
+        (held o (view pass.new)).table }
+{
+    for place in 0..more {
+        let stored = given_item(bank, pass, m, from, place);
+        put_item(bank, pass, o, table, count + place, stored);
+    }
+}
+
+/// Puts all items of a list after those of the list that the pass writes, which had so many.
+fn put_items(bank: &Bank, pass: &mut Pass, o: u32, table: Table, m: u32, count: u64, more: u64)
+    requires pass { IsPassOf bank.now pass.old }
+    requires list { WritesList (shape_of bank.now) o table (view pass.old) }
+    requires early { has_committed o (view pass.old).log ≡ false }
+    requires gives { GivesItems (shape_of bank.now) o m (view pass.old) }
+    requires count { count ≡ length (items_of o (view pass.old)) }
+    requires more { more ≡ length (items_of m (view pass.old)) }
+    requires room { count + more ≤ slots (class_of (name_of table)) }
+    requires before { IsPutting (class_of (name_of table)) (items_of o (view pass.old)) count (count + more)
+        (stored_at (items_of o (view pass.old))) (held o (view pass.old)).table }
+    ensures pass { IsPassOf bank.now pass.new }
+    ensures stack { stack_of pass.new ≡ stack_of pass.old }
+    ensures list { WritesList (shape_of bank.now) o table (view pass.new) }
+    ensures only { OnlyPut o (view pass.old) (view pass.new) }
+    ensures block { (held o (view pass.new)).block ≡ (held o (view pass.old)).block }
+    ensures moved { IsMoving (class_of (name_of table)) (items_of o (view pass.old))
+        (items_of o (view pass.old) ++ items_of m (view pass.old)) count (count + more) (count + more)
+        (held o (view pass.new)).table }
+{
+    let from = table_at_root(bank, pass, m);
+    put_from(bank, pass, o, table, m, from, count, more);
+}
+
+/// Puts what is added to the list that the pass writes, which had so many items, and the items after it.
+pub(crate) fn put_added(
+    bank: &Bank,
+    pass: &mut Pass,
+    o: u32,
+    table: Table,
+    addition: Addition,
+    count: u64,
+)
+    requires pass { IsPassOf bank.now pass.old }
+    requires list { WritesList (shape_of bank.now) o table (view pass.old) }
+    requires early { has_committed o (view pass.old).log ≡ false }
+    requires addition { IsAdditionTo (shape_of bank.now) o count addition (view pass.old) }
+    requires count { count ≡ length (items_of o (view pass.old)) }
+    requires room { count + count_in addition ≤ slots (class_of (name_of table)) }
+    requires before { IsPutting (class_of (name_of table)) (items_of o (view pass.old)) (first_in addition count)
+        (count + count_in addition) (stored_at (items_of o (view pass.old))) (held o (view pass.old)).table }
+    ensures pass { IsPassOf bank.now pass.new }
+    ensures stack { stack_of pass.new ≡ stack_of pass.old }
+    ensures list { WritesList (shape_of bank.now) o table (view pass.new) }
+    ensures only { OnlyPut o (view pass.old) (view pass.new) }
+    ensures block { (held o (view pass.new)).block ≡ (held o (view pass.old)).block }
+    ensures moved { IsMoving (class_of (name_of table)) (items_of o (view pass.old))
+        (with_added addition (view pass.old) (items_of o (view pass.old))) (first_in addition count)
+        (count + count_in addition) (count + count_in addition) (held o (view pass.new)).table }
+{
+    match addition {
+        Addition::One { place, value } => shift_up(bank, pass, o, table, place, count, value),
+        Addition::All { other, count: more } => {
+            put_items(bank, pass, o, table, other, count, more)
+        }
+    }
+}

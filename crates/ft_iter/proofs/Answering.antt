@@ -24,7 +24,7 @@ use Rattle.ft_trace.specs.Sections.{begun}
 use Rattle.ft_trace.specs.Traces.{Possible}
 use Rattle.ft_trace.specs.Worlds.{Kept, kind_in}
 use Rattle.ft_trace.proofs.Known.{kind_known}
-use Rattle.ft_trace.proofs.Cases.{hit}
+use Rattle.ft_trace.proofs.Cases.{hit, miss}
 use Rattle.ft_bank.specs.declared.bank.Bank.{Bank}
 use Rattle.ft_bank.specs.declared.pass.Pass.{Pass}
 use Rattle.ft_bank.specs.Answered.{AnsweredCursor}
@@ -34,9 +34,11 @@ use Rattle.ft_bank.specs.Sections.{stack_of}
 use Rattle.ft_bank.specs.Whole.{OnlyLoaded}
 use Rattle.ft_bank.proofs.Showing.{cursors_under_locks_are_shown}
 use Rattle.ft_bank.proofs.Whole.{loaded_by, loaded_then, work_knows}
+use Rattle.ft_section.specs.Locking.{OnlyLocked}
 use Rattle.ft_section.specs.Ready.{IsStill, IsMaking}
 use Rattle.ft_section.proofs.Making.{making_stays}
 use Rattle.ft_search.proofs.Trying.{still_loaded}
+use Rattle.ft_iter.specs.Cursors.{KeepsOthers}
 use Rattle.ft_iter.proofs.Moves.{Holds, holds-known}
 
 -- right of the content that the pass knows, so right of whatever the bank may have
@@ -66,6 +68,14 @@ answered-moved v u z called said n number left part loaded own is seen = record 
 -- the cursor under the number is then that one
 pub cursor-left : (v w : View) (called : Call) (said : Reply) (n number : ℕ) (left : Cursor) → AnsweredCursor called said n number left v w → cursor_in number w.log ≡ Some left
 cursor-left v w called said n number left a = ap (λ (z : View). cursor_in number z.log) a.answered ∙ hit number (Some left) (cursor_in number a.before.log)
+
+-- and those under other numbers are what they were, also where locks were taken before and let go after
+pub cursors-kept : (v u w z : View) (called : Call) (said : Reply) (n number : ℕ) (left : Cursor) → OnlyLocked v u → AnsweredCursor called said n number left u w → OnlyLocked w z → KeepsOthers number v z
+cursors-kept v u w z called said n number left took a gone other differs =
+    gone.cursors other
+    ∙ (ap (λ (x : View). cursor_in other x.log) a.answered
+    ∙ (miss number other (Some left) (cursor_in other a.before.log) (λ same. differs (sym same))
+    ∙ (a.loaded.work.pass.cursors other ∙ took.cursors other)))
 
 still-moved : (called : Call) (said : Reply) (n number : ℕ) (had : Option Cursor) (left : Cursor) (u : View) → IsStill u → IsStill (noted (AnswerCursor called said n number had left) u)
 still-moved called said n number had left u s = record { even = s.even; hands = s.hands; used = s.used; owes = s.owes; flight = s.flight; stands = s.stands }

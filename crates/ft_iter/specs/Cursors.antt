@@ -1,5 +1,5 @@
 -- What `iter` and `next` answer under the lock of the container, and the cursors that they leave.
-use Rattle.std.specs.Prelude.{◌≡◌, ℕ, Option, Some, None, false}
+use Rattle.std.specs.Prelude.{◌≡◌, ◌≢◌, ℕ, Option, Some, None, false}
 use Rattle.ft_model.specs.declared.call.Call.{Call}
 use Rattle.ft_model.specs.declared.call.Call.TheVariants as call
 use Rattle.ft_model.specs.declared.call.DictCall.TheVariants as dict
@@ -38,6 +38,10 @@ pub record MovedUnderLock (called : Call) (said : Reply) (stamp number : ℕ) (l
   pub answered : AnsweredCursor called said stamp number left before after
   pub gone : OnlyLocked after w
   pub mine : cursor_in number w.log ≡ Some left
+
+-- The pass has the cursors that it had under all other numbers. (Python manual, Iterator Types)
+abbrev pub KeepsOthers : ℕ → View → View → Type 0
+KeepsOthers number v w = (other : ℕ) → other ≢ number → cursor_in other w.log ≡ cursor_in other v.log
 
 -- a cursor goes over this container of this kind
 abbrev pub IsOver : Kind → ℕ → Cursor → Type 0

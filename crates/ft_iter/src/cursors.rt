@@ -19,7 +19,7 @@ ghost use Rattle.ft_bank.specs.Series.{DidAll};
 ghost use Rattle.ft_search.specs.Looks.{AreLooks};
 ghost use Rattle.ft_section.specs.declared.answers.Objects.TheVariants.{One};
 ghost use Rattle.ft_section.specs.Ready.{MayTry};
-ghost use Rattle.ft_iter.specs.Cursors.{step_in, iter_call, iter_cursor, IsOver, IsMoveOf};
+ghost use Rattle.ft_iter.specs.Cursors.{step_in, iter_call, iter_cursor, IsOver, IsMoveOf, KeepsOthers};
 ghost use Rattle.ft_iter.specs.Walks.{IsStep};
 
 use crate::walks::{USED, next_dict, next_list, next_set};
@@ -127,6 +127,7 @@ pub fn try_next(bank: &Bank, pass: &mut Pass, number: u32, cursor: &mut Cursor) 
     ensures may { MayTry bank.now pass.new (One (container_of cursor.old)) }
     ensures cursor { cursor_of pass.new number ≡ Some cursor.new }
     ensures moved { IsMoveOf (cursor_kind cursor.old) (container_of cursor.old) (call.Next number) number (Some cursor.old) (view pass.old) (view pass.new) result (Some cursor.new) }
+    ensures others { KeepsOthers number (view pass.old) (view pass.new) }
 {
     let container = cursor.container();
     match take_for(bank, pass, Objects::One(container)) {
@@ -235,6 +236,7 @@ pub fn try_iter(
     requires left { 0 < (view pass.old).left }
     ensures may { MayTry bank.now pass.new (One o) }
     ensures moved { IsMoveOf kind o (iter_call kind o number) number slot.old (view pass.old) (view pass.new) result slot.new }
+    ensures others { KeepsOthers number (view pass.old) (view pass.new) }
 {
     match take_for(bank, pass, Objects::One(o)) {
         Got::Have => {

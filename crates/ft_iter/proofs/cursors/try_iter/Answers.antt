@@ -5,7 +5,7 @@ use Rattle.ft_bank.specs.Passes.{shape_of, view}
 use Rattle.ft_section.specs.declared.answers.Objects.TheVariants.{One}
 use Rattle.ft_search.proofs.Trying.{making_stands}
 use Rattle.ft_iter.specs.Cursors.{iter_call}
-use Rattle.ft_iter.proofs.Answering.{cursor-left, making-moved}
+use Rattle.ft_iter.proofs.Answering.{cursor-left, cursors-kept, making-moved}
 use Rattle.ft_iter.proofs.cursors.try_iter.Goals as goal
 
 pub iter_locked-reply-requires-clause-stands : goal.iter_locked-reply-requires-clause-stands
@@ -59,3 +59,13 @@ returns-in-NotYet-clause-may c = inr c.in-NotYet.ensures.waiting.0
 
 pub returns-in-NotYet-clause-moved : goal.returns-in-NotYet-clause-moved
 returns-in-NotYet-clause-moved c = (refl, c.in-NotYet.ensures.locked, c.in-NotYet.ensures.found.0, c.in-NotYet.ensures.found.1)
+
+pub returns-in-Have-clause-others : goal.returns-in-Have-clause-others
+returns-in-Have-clause-others c =
+    let r = c.iter_locked-reply.result in
+    let a = c.iter_locked-reply.ensures.answered in
+    cursors-kept (view c.args.pass.now) (view c.take_for.new.pass) (view c.iter_locked-reply.new.pass) (view c.let_go.new.pass) (iter_call c.args.kind c.args.o c.args.number) r.0 r.1.number c.args.number a.0
+    c.in-Have.ensures.locked a.3 c.let_go.ensures.locked
+
+pub returns-in-NotYet-clause-others : goal.returns-in-NotYet-clause-others
+returns-in-NotYet-clause-others c other differs = c.in-NotYet.ensures.locked.cursors other

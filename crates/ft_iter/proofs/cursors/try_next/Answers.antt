@@ -9,7 +9,7 @@ use Rattle.ft_section.specs.declared.answers.Objects.TheVariants.{One}
 use Rattle.ft_section.specs.Ready.{IsWaiting}
 use Rattle.ft_section.specs.Takings.{IsOf}
 use Rattle.ft_search.proofs.Trying.{making_stands}
-use Rattle.ft_iter.proofs.Answering.{cursor-left, making-moved}
+use Rattle.ft_iter.proofs.Answering.{cursor-left, cursors-kept, making-moved}
 use Rattle.ft_iter.proofs.cursors.try_next.Goals as goal
 
 pub next_locked-reply-requires-clause-stands : goal.next_locked-reply-requires-clause-stands
@@ -71,3 +71,12 @@ returns-in-NotYet-clause-cursor c = c.in-NotYet.ensures.locked.cursors c.args.nu
 
 pub returns-in-NotYet-clause-moved : goal.returns-in-NotYet-clause-moved
 returns-in-NotYet-clause-moved c = (refl, c.in-NotYet.ensures.locked, subst (λ (z : ℕ). IsOf c.in-NotYet.container (One z)) c.container-container.ensures c.in-NotYet.ensures.found.0, c.in-NotYet.ensures.found.1)
+
+pub returns-in-Have-clause-others : goal.returns-in-Have-clause-others
+returns-in-Have-clause-others c =
+    let r = c.next_locked-reply.result in
+    cursors-kept (view c.args.pass.now) (view c.take_for.new.pass) (view c.next_locked-reply.new.pass) (view c.let_go.new.pass) (call.Next c.args.number) r.0 r.1.number c.args.number c.next_locked-reply.new.cursor
+    c.in-Have.ensures.locked c.next_locked-reply.ensures.answered c.let_go.ensures.locked
+
+pub returns-in-NotYet-clause-others : goal.returns-in-NotYet-clause-others
+returns-in-NotYet-clause-others c other differs = c.in-NotYet.ensures.locked.cursors other

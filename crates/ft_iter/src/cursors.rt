@@ -19,6 +19,7 @@ ghost use Rattle.ft_bank.specs.Series.{DidAll};
 ghost use Rattle.ft_search.specs.Looks.{AreLooks};
 ghost use Rattle.ft_section.specs.declared.answers.Objects.TheVariants.{One};
 ghost use Rattle.ft_section.specs.Ready.{MayTry};
+ghost use Rattle.ft_section.specs.Trying.{SectionsAfter};
 ghost use Rattle.ft_iter.specs.Cursors.{step_in, iter_call, iter_cursor, IsOver, IsMoveOf, KeepsOthers};
 ghost use Rattle.ft_iter.specs.Walks.{IsStep};
 
@@ -128,6 +129,7 @@ pub fn try_next(bank: &Bank, pass: &mut Pass, number: u32, cursor: &mut Cursor) 
     ensures cursor { cursor_of pass.new number ≡ Some cursor.new }
     ensures moved { IsMoveOf (cursor_kind cursor.old) (container_of cursor.old) (call.Next number) number (Some cursor.old) (view pass.old) (view pass.new) result (Some cursor.new) }
     ensures others { KeepsOthers number (view pass.old) (view pass.new) }
+    ensures sections { SectionsAfter bank.now (One (container_of cursor.old)) pass.old pass.new result }
 {
     let container = cursor.container();
     match take_for(bank, pass, Objects::One(container)) {
@@ -237,6 +239,7 @@ pub fn try_iter(
     ensures may { MayTry bank.now pass.new (One o) }
     ensures moved { IsMoveOf kind o (iter_call kind o number) number slot.old (view pass.old) (view pass.new) result slot.new }
     ensures others { KeepsOthers number (view pass.old) (view pass.new) }
+    ensures sections { SectionsAfter bank.now (One o) pass.old pass.new result }
 {
     match take_for(bank, pass, Objects::One(o)) {
         Got::Have => {

@@ -3,6 +3,7 @@ use Rattle.ft_trace.specs.declared.Shape.{Shape}
 use Rattle.ft_trace.specs.Addresses.{containers_in}
 use Rattle.ft_bank.specs.Passes.{shape_of, view}
 use Rattle.ft_section.specs.declared.answers.Objects.TheVariants.{One}
+use Rattle.ft_section.proofs.Tries.{let_gone}
 use Rattle.ft_search.proofs.Trying.{making_stands}
 use Rattle.ft_iter.specs.Cursors.{iter_call}
 use Rattle.ft_iter.proofs.Answering.{cursor-left, cursors-kept, making-moved}
@@ -69,3 +70,9 @@ returns-in-Have-clause-others c =
 
 pub returns-in-NotYet-clause-others : goal.returns-in-NotYet-clause-others
 returns-in-NotYet-clause-others c other differs = c.in-NotYet.ensures.locked.cursors other
+
+pub returns-in-Have-clause-sections : goal.returns-in-Have-clause-sections
+returns-in-Have-clause-sections c = let_gone c.args.bank.now c.args.pass.now c.take_for.new.pass c.iter_locked-reply.new.pass c.let_go.new.pass c.in-Have.ensures.took c.iter_locked-reply.ensures.sections c.let_go.ensures.stack c.let_go.ensures.may c.let_go.ensures.resume
+
+pub returns-in-NotYet-clause-sections : goal.returns-in-NotYet-clause-sections
+returns-in-NotYet-clause-sections c = c.in-NotYet.ensures.waiting

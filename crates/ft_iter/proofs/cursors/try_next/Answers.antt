@@ -8,6 +8,7 @@ use Rattle.ft_bank.specs.Passes.{shape_of, view}
 use Rattle.ft_section.specs.declared.answers.Objects.TheVariants.{One}
 use Rattle.ft_section.specs.Ready.{IsWaiting}
 use Rattle.ft_section.specs.Takings.{IsOf}
+use Rattle.ft_section.proofs.Tries.{let_gone}
 use Rattle.ft_search.proofs.Trying.{making_stands}
 use Rattle.ft_iter.proofs.Answering.{cursor-left, cursors-kept, making-moved}
 use Rattle.ft_iter.proofs.cursors.try_next.Goals as goal
@@ -80,3 +81,9 @@ returns-in-Have-clause-others c =
 
 pub returns-in-NotYet-clause-others : goal.returns-in-NotYet-clause-others
 returns-in-NotYet-clause-others c other differs = c.in-NotYet.ensures.locked.cursors other
+
+pub returns-in-Have-clause-sections : goal.returns-in-Have-clause-sections
+returns-in-Have-clause-sections c = let_gone c.args.bank.now c.args.pass.now c.take_for.new.pass c.next_locked-reply.new.pass c.let_go.new.pass c.in-Have.ensures.took c.next_locked-reply.ensures.sections c.let_go.ensures.stack c.let_go.ensures.may c.let_go.ensures.resume
+
+pub returns-in-NotYet-clause-sections : goal.returns-in-NotYet-clause-sections
+returns-in-NotYet-clause-sections c = (subst (λ (z : ℕ). IsWaiting c.args.bank.now c.take_for.new.pass (One z)) c.container-container.ensures c.in-NotYet.ensures.waiting.0, c.in-NotYet.ensures.waiting.1)

@@ -1,0 +1,210 @@
+-- What a pass has still that made no call on containers: it announced, collected, loaded the counter or took another in.
+use Rattle.std.proofs.Common.{◌≡◌, ◌≤◌, ◌<◌, ℕ, true, ◌++◌, refl, sym, ap, ◌∙◌, subst, inl, inr, ⊎_elim, le_refl, le_trans}
+use Rattle.std.specs.Prelude.{max}
+use Rattle.std.proofs.Math.Nat.{le-max_left, le-max_right, max-le}
+use Rattle.ft_trace.specs.declared.Act.TheVariants.{Announce, ReadCounter, WriteNumber}
+use Rattle.ft_trace.specs.declared.Shape.{Shape}
+use Rattle.ft_trace.specs.declared.View.{View}
+use Rattle.ft_trace.specs.Acts.{both, has_lock, noted, seen_writes, shown, stage}
+use Rattle.ft_trace.specs.Addresses.{containers_in}
+use Rattle.ft_trace.specs.Hands.{cursor_in}
+use Rattle.ft_trace.specs.Holds.{held, known}
+use Rattle.ft_trace.specs.Sections.{begun}
+use Rattle.ft_trace.specs.Words.{Picture, Stands}
+use Rattle.ft_trace.specs.Worlds.{Kept}
+use Rattle.ft_trace.proofs.Seeing.{seen_up}
+use Rattle.ft_bank.specs.declared.bank.Bank.{Bank}
+use Rattle.ft_bank.specs.declared.pass.Pass.{Pass}
+use Rattle.ft_bank.specs.Notes.{knowing}
+use Rattle.ft_bank.specs.Passes.{view, IsPassOf}
+use Rattle.ft_bank.specs.Sections.{Stack, stack_of}
+use Rattle.ft_qsbr.specs.Collecting.{Collected, StaysOrGoes, loads_of}
+use Rattle.ft_qsbr.proofs.Passing.{begun_stays, collection_leaves, cursors_stay, given_or_kept, seen_stays}
+use Rattle.ft_section.specs.Ready.{InCall, IsReady, IsStill}
+use Rattle.ft_section.proofs.Making.{in_call_stays}
+
+-- it has the same sections and locks, and is in the midst of nothing
+pub record IsCalm (v w : View) : Type 0 where
+  pub number : w.number ≡ v.number
+  pub next : w.next ≡ v.next
+  pub parts : w.parts ≡ v.parts
+  pub shape : w.shape ≡ v.shape
+  pub lists : w.lists ≡ v.lists
+  pub entries : w.entries ≡ v.entries
+  pub left : w.left ≡ v.left
+  pub locks : (o : ℕ) → has_lock o w.log ≡ has_lock o v.log
+  pub begun : begun w.log ≡ begun v.log
+  pub cursors : (n : ℕ) → cursor_in n w.log ≡ cursor_in n v.log
+  pub seen : seen_writes v ≤ seen_writes w
+  pub still : IsStill w
+
+pub ready_calm : (b : Bank) (p q : Pass) → IsReady b p → IsPassOf b q → stack_of q ≡ stack_of p → IsCalm (view p) (view q) → IsReady b q
+ready_calm b p q r pass stack calm =
+    record {
+      inside = (pass, subst (InCall (view q)) (sym stack) (in_call_stays (view p) (view q) (stack_of p) r.inside.1 calm.shape calm.locks calm.begun calm.still));
+      own = ap (λ (s : Stack). s.own) stack ∙ r.own;
+      mark = ap (λ (s : Stack). s.mark) stack ∙ r.mark;
+      top = λ outer top split.
+          let t = r.top outer top (sym (ap (λ (s : Stack). s.sections) stack) ∙ split) in
+          (calm.locks top.locks.lower ∙ t.0, calm.locks top.locks.upper ∙ t.1);
+    }
+
+pub calm_then : (u v w : View) → IsCalm u v → IsCalm v w → IsCalm u w
+calm_then u v w a b = record {
+  number = b.number ∙ a.number;
+  next = b.next ∙ a.next;
+  parts = b.parts ∙ a.parts;
+  shape = b.shape ∙ a.shape;
+  lists = b.lists ∙ a.lists;
+  entries = b.entries ∙ a.entries;
+  left = b.left ∙ a.left;
+  locks = λ o. b.locks o ∙ a.locks o;
+  begun = b.begun ∙ a.begun;
+  cursors = λ n. b.cursors n ∙ a.cursors n;
+  seen = le_trans a.seen b.seen;
+  still = b.still;
+}
+
+-- what stands of locks stands where the pass knows the same
+stands_by : (v w : View) → IsStill v → w.shape ≡ v.shape → ((o : ℕ) → has_lock o w.log ≡ has_lock o v.log) → ((o : ℕ) → o < containers_in v.shape → has_lock o v.log ≡ true → (held o w ≡ held o v) × (known o w ≡ known o v)) → (o : ℕ) → o < containers_in w.shape → has_lock o w.log ≡ true → Stands w.shape.texts (held o w) (known o w)
+stands_by v w s shape locks words o low has =
+    let low' : o < containers_in v.shape = subst (λ (k : Shape). o < containers_in k) shape low in
+    let had : has_lock o v.log ≡ true = sym (locks o) ∙ has in
+    let e = words o low' had in
+    subst (λ (x : Shape × Picture × Kept). Stands x.0.texts x.1 x.2) (λ d. (sym shape d, sym e.0 d, sym e.1 d)) (s.stands o low' had)
+
+-- ---- one step
+
+pub counted_calm : (v : View) (n : ℕ) → IsStill v → IsCalm v (noted (ReadCounter n) v)
+counted_calm v n s = record {
+  number = refl;
+  next = refl;
+  parts = refl;
+  shape = refl;
+  lists = refl;
+  entries = refl;
+  left = refl;
+  locks = λ o. refl;
+  begun = refl;
+  cursors = λ k. refl;
+  seen = seen_up (ReadCounter n) v;
+  still = record { even = s.even; hands = s.hands; used = s.used; owes = s.owes; flight = s.flight; stands = s.stands };
+}
+
+pub offline_calm : (v : View) (m : ℕ) → IsStill v → IsCalm v (noted (Announce m 0) v)
+offline_calm v m s = record {
+  number = refl;
+  next = refl;
+  parts = refl;
+  shape = refl;
+  lists = refl;
+  entries = refl;
+  left = refl;
+  locks = λ o. refl;
+  begun = refl;
+  cursors = λ k. refl;
+  seen = seen_up (Announce m 0) v;
+  still = record { even = s.even; hands = s.hands; used = s.used; owes = s.owes; flight = s.flight; stands = s.stands };
+}
+
+pub collected_calm : (v w : View) (freed : ℕ) → IsStill v → Collected v w freed → IsCalm v w
+collected_calm v w freed s x =
+    let keeps = x.keeps.held in
+    let leaves = collection_leaves x.acts x.numbers x.givings in
+    record {
+      number = keeps.number;
+      next = keeps.next;
+      parts = keeps.parts;
+      shape = keeps.shape;
+      lists = keeps.lists;
+      entries = keeps.entries;
+      left = keeps.left;
+      locks = keeps.locks;
+      begun = ap (λ (u : View). begun u.log) x.did ∙ begun_stays (x.acts ++ loads_of x.numbers) v leaves;
+      cursors = λ k. ap (λ (u : View). cursor_in k u.log) x.did ∙ cursors_stay (x.acts ++ loads_of x.numbers) v k leaves;
+      seen = subst (λ (u : View). seen_writes v ≤ seen_writes u) (sym x.did) (seen_stays (x.acts ++ loads_of x.numbers) v);
+      still = record {
+        even = λ o. keeps.writes o ∙ s.even o;
+        hands = λ t.
+            ⊎_elim
+            (λ (e : stage t w.log ≡ stage t v.log). ⊎_elim (λ (z : stage t v.log ≡ 0). inl (e ∙ z)) (λ (z : stage t v.log ≡ 4). inr (e ∙ z)) (s.hands t))
+            (λ (e : stage t w.log ≡ 0). inl e)
+            (subst (λ (u : View). StaysOrGoes v u t) (sym x.did) (given_or_kept x.acts x.numbers v t x.givings));
+        used = keeps.used ∙ s.used;
+        owes = x.owes s.owes;
+        flight = x.idle;
+        stands = stands_by v w s keeps.shape keeps.locks keeps.words;
+      };
+    }
+
+pub same_calm : (v : View) → IsStill v → IsCalm v v
+same_calm v s = record {
+  number = refl;
+  next = refl;
+  parts = refl;
+  shape = refl;
+  lists = refl;
+  entries = refl;
+  left = refl;
+  locks = λ o. refl;
+  begun = refl;
+  cursors = λ k. refl;
+  seen = le_refl (seen_writes v);
+  still = s;
+}
+
+-- it has learnt a note
+pub learnt_calm : (v : View) (m n : ℕ) → IsStill v → IsCalm v (noted (ReadCounter n) (knowing m v))
+learnt_calm v m n s = record {
+  number = refl;
+  next = refl;
+  parts = refl;
+  shape = refl;
+  lists = refl;
+  entries = refl;
+  left = refl;
+  locks = λ o. refl;
+  begun = refl;
+  cursors = λ k. refl;
+  seen = le_trans (max-le (le_trans (le-max_left v.learnt m) (le-max_left (max v.learnt m) (shown v.log))) (le-max_right (max v.learnt m) (shown v.log))) (seen_up (ReadCounter n) (knowing m v));
+  still = record { even = s.even; hands = s.hands; used = s.used; owes = s.owes; flight = s.flight; stands = s.stands };
+}
+
+-- it has taken another pass in: it has the same sections and locks
+pub joined_still : (v u : View) (n : ℕ) → IsStill v → IsStill (noted (ReadCounter n) (both v u))
+joined_still v u n s = record { even = s.even; hands = s.hands; used = s.used; owes = s.owes; flight = s.flight; stands = s.stands }
+
+pub ready_joined : (b : Bank) (p q : Pass) (u : View) (n : ℕ) → IsReady b p → IsPassOf b q → stack_of q ≡ stack_of p → view q ≡ noted (ReadCounter n) (both (view p) u) → IsReady b q
+ready_joined b p q u n r pass stack is =
+    let v = view p in
+    let locks : (o : ℕ) → has_lock o (view q).log ≡ has_lock o v.log = λ o. ap (λ (z : View). has_lock o z.log) is in
+    record {
+      inside = (pass, subst (InCall (view q)) (sym stack) (in_call_stays v (view q) (stack_of p) r.inside.1 (ap (λ (z : View). z.shape) is) locks (ap (λ (z : View). begun z.log) is) (subst IsStill (sym is) (joined_still v u n r.inside.1.still))));
+      own = ap (λ (s : Stack). s.own) stack ∙ r.own;
+      mark = ap (λ (s : Stack). s.mark) stack ∙ r.mark;
+      top = λ outer top split.
+          let t = r.top outer top (sym (ap (λ (s : Stack). s.sections) stack) ∙ split) in
+          (locks top.locks.lower ∙ t.0, locks top.locks.upper ∙ t.1);
+    }
+
+-- it has announced anew and collected
+enters_calm : (v : View) (n m : ℕ) → IsStill v → IsCalm v (noted (Announce m n) (noted (WriteNumber n) v))
+enters_calm v n m s = record {
+  number = refl;
+  next = refl;
+  parts = refl;
+  shape = refl;
+  lists = refl;
+  entries = refl;
+  left = refl;
+  locks = λ o. refl;
+  begun = refl;
+  cursors = λ k. refl;
+  seen = le_trans (seen_up (WriteNumber n) v) (seen_up (Announce m n) (noted (WriteNumber n) v));
+  still = record { even = s.even; hands = s.hands; used = s.used; owes = s.owes; flight = s.flight; stands = s.stands };
+}
+
+pub quiesced_calm : (v w : View) → IsStill v → (n : ℕ) × (freed : ℕ) × Collected (noted (Announce v.number n) (noted (WriteNumber n) v)) w freed → IsCalm v w
+quiesced_calm v w s (n, freed, collected) =
+    let first = enters_calm v n v.number s in
+    calm_then v (noted (Announce v.number n) (noted (WriteNumber n) v)) w first (collected_calm (noted (Announce v.number n) (noted (WriteNumber n) v)) w freed first.still collected)

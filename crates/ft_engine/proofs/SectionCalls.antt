@@ -1,0 +1,250 @@
+-- What `begin`, `end` and `quiesce` come to, as their pass has it.
+use Rattle.std.proofs.Common.{◌≡◌, ◌≤◌, ◌<◌, ◌-◌, ℕ, zero, suc, Bool, true, false, true≢false, List, [], ◌∷◌, ◌++◌, map, reverse, length, drop, refl, sym, ap, ◌∙◌, subst, arith, inl, inr, le_trans}
+use Rattle.std.specs.Prelude.{Option, Some, None, ◌⊎◌, slice_index_or, if◌then◌else◌}
+use Rattle.std.proofs.lemmas.Bool.{ne_eqb}
+use Rattle.std.proofs.lemmas.List.{map-append, reverse-append, same_from_push}
+use Rattle.ft_model.specs.declared.call.Call.{Call}
+use Rattle.ft_model.specs.declared.call.Call.TheVariants as call
+use Rattle.ft_model.specs.declared.reply.Reply.{Reply}
+use Rattle.ft_model.specs.declared.reply.Reply.TheVariants as reply
+use Rattle.ft_model.specs.Histories.{IsCountedAs}
+use Rattle.ft_trace.specs.declared.Act.TheVariants.{Answer, ReadCounter}
+use Rattle.ft_trace.specs.declared.Entry.{Entry}
+use Rattle.ft_trace.specs.declared.View.{View}
+use Rattle.ft_trace.specs.Acts.{announces, has_lock, noted, seen_writes}
+use Rattle.ft_trace.specs.Hands.{cursor_in}
+use Rattle.ft_trace.specs.Sections.{begun}
+use Rattle.ft_trace.proofs.Seeing.{seen_up}
+use Rattle.ft_bank.specs.declared.bank.Bank.{Bank}
+use Rattle.ft_bank.specs.declared.pass.Pass.{Pass}
+use Rattle.ft_bank.specs.declared.sections.OpenSection.{OpenSection}
+use Rattle.ft_bank.specs.declared.sections.Taking.{Taking}
+use Rattle.ft_bank.specs.Passes.{view, IsPassOf}
+use Rattle.ft_bank.specs.Sections.{Stack, stack_of, nothing_taken}
+use Rattle.ft_section.specs.declared.answers.Ended.{Ended}
+use Rattle.ft_section.specs.declared.answers.Ended.TheVariants as ended
+use Rattle.ft_section.specs.declared.answers.Objects.{Objects}
+use Rattle.ft_section.specs.declared.answers.Stamp.{Stamp}
+use Rattle.ft_section.specs.Answers.{stamp_of}
+use Rattle.ft_section.specs.Locking.{KeepsLocks, OnlyLocked}
+use Rattle.ft_section.specs.Ready.{InCall, IsReady, IsStill, MayResume}
+use Rattle.ft_section.specs.Sectioning.{AreNoted, answered_view, begin_of, ended_by, reply_of}
+use Rattle.ft_section.specs.Takings.{HasBoth, HasLocks}
+use Rattle.ft_section.proofs.Goings.{only_sees}
+use Rattle.ft_section.proofs.Making.{in_call_stays}
+use Rattle.ft_engine.specs.Answering.{AddsEntry, AddsNothing, HasAnswer, StaysPass}
+use Rattle.ft_engine.specs.Flights.{objects_by}
+use Rattle.ft_engine.specs.Keeping.{made_entry, marks_in}
+use Rattle.ft_engine.proofs.Marks.{last_of}
+use Rattle.ft_engine.proofs.Passing.{IsCalm, ready_calm}
+
+-- ---- locks alone
+
+pub only_stays : (v w : View) → OnlyLocked v w → StaysPass v w
+only_stays v w only = record {
+  number = only.number;
+  next = only.next;
+  parts = only.parts;
+  shape = only.shape;
+  lists = only.lists;
+  online = λ on. subst (λ (n : ℕ). 0 < n) (sym only.announced) on;
+  seen = only_sees v w only;
+}
+
+pub only_nothing : (v w : View) → OnlyLocked v w → AddsNothing v w
+only_nothing v w only = record { pass = only_stays v w only; entries = only.entries; left = only.left; cursors = only.cursors }
+
+pub stays_then : (u v w : View) → StaysPass u v → StaysPass v w → StaysPass u w
+stays_then u v w a b = record {
+  number = b.number ∙ a.number;
+  next = b.next ∙ a.next;
+  parts = b.parts ∙ a.parts;
+  shape = b.shape ∙ a.shape;
+  lists = b.lists ∙ a.lists;
+  online = λ on. b.online (a.online on);
+  seen = le_trans a.seen b.seen;
+}
+
+pub nothing_then : (u v w : View) → AddsNothing u v → AddsNothing v w → AddsNothing u w
+nothing_then u v w a b = record {
+  pass = stays_then u v w a.pass b.pass;
+  entries = b.entries ∙ a.entries;
+  left = b.left ∙ a.left;
+  cursors = λ number. b.cursors number ∙ a.cursors number;
+}
+
+-- what comes before and after the entry adds none
+pub nothing_entry : (called : Call) (said : Reply) (stamp : Stamp) (u v w z : View) → AddsNothing u v → seen_writes v ≤ stamp.number → AddsEntry called said stamp v w → AddsNothing w z → AddsEntry called said stamp u z
+nothing_entry called said stamp u v w z before seen made after = record {
+  pass = stays_then u v z before.pass (stays_then v w z made.pass after.pass);
+  entries = after.entries ∙ (made.entries ∙ ap (λ (es : List Entry). made_entry called said stamp ∷ es) before.entries);
+  left = sym before.left ∙ (made.left ∙ sym (ap suc after.left));
+  seen = le_trans before.pass.seen seen;
+  cursors = λ number other. after.cursors number ∙ (made.cursors number other ∙ before.cursors number);
+}
+
+-- ---- the entry of a section
+
+answered_pass : (called : Call) (said : Reply) (n : ℕ) (v : View) → StaysPass v (answered_view called said n v)
+answered_pass called said n v = record {
+  number = refl;
+  next = refl;
+  parts = refl;
+  shape = refl;
+  lists = refl;
+  online = λ on. on;
+  seen = le_trans (seen_up (ReadCounter n) v) (seen_up (Answer called said n) (noted (ReadCounter n) v));
+}
+
+answered_entries : (called : Call) (said : Reply) (stamp : Stamp) (v : View) → stamp.wrote ≡ false → (answered_view called said stamp.number v).entries ≡ made_entry called said stamp ∷ v.entries
+answered_entries called said stamp v read = ap (λ (b : Bool). record { call = called; reply = said; stamp = stamp.number; wrote = b } ∷ v.entries) (sym read)
+
+answered_left : (called : Call) (said : Reply) (n : ℕ) (v : View) → 0 < v.left → v.left ≡ suc (answered_view called said n v).left
+answered_left called said n v left = let e : v.left ≡ suc (v.left - 1) = omega (arith, left) in e
+
+answered_entry : (called : Call) (said : Reply) (stamp : Stamp) (v : View) → stamp.wrote ≡ false → 0 < v.left → seen_writes v ≤ stamp.number → AddsEntry called said stamp v (answered_view called said stamp.number v)
+answered_entry called said stamp v read left seen = record {
+  pass = answered_pass called said stamp.number v;
+  entries = answered_entries called said stamp v read;
+  left = answered_left called said stamp.number v left;
+  seen = seen;
+  cursors = λ number other. refl;
+}
+
+pub entry_by : (called : Call) (said : Reply) (stamp : Stamp) (v w : View) → stamp.wrote ≡ false → 0 < v.left → seen_writes v ≤ stamp.number → w ≡ answered_view called said stamp.number v → AddsEntry called said stamp v w
+entry_by called said stamp v w read left seen is = subst (AddsEntry called said stamp v) (sym is) (answered_entry called said stamp v read left seen)
+
+pub same_nothing : (v : View) → AddsNothing v v
+same_nothing v = record { pass = record { number = refl; next = refl; parts = refl; shape = refl; lists = refl; online = λ on. on; seen = omega arith }; entries = refl; left = refl; cursors = λ number. refl }
+
+-- ---- begin
+
+begin_same : (first : ℕ) (second : Option ℕ) → begin_of (objects_by first second) ≡ call.Begin first second
+begin_same first None = refl
+begin_same first (Some other) = refl
+
+push_marks : (xs : List OpenSection) (x : OpenSection) → reverse (map (λ section. section.marks) (xs ++ x ∷ [])) ≡ x.marks ∷ reverse (map (λ section. section.marks) xs)
+push_marks xs x = ap reverse (map-append (λ section. section.marks) xs (x ∷ [])) ∙ reverse-append (map (λ section. section.marks) xs) (x.marks ∷ [])
+
+abbrev pub Opens : Objects → Stack → Stack → Type 0
+Opens objects s t =
+    (own : Taking) × AreNoted objects own × (t ≡ record s { sections = s.sections ++ record { locks = own; marks = 0 } ∷ []; own = nothing_taken })
+
+abbrev pub Enters : Objects → ℕ → View → View → Type 0
+Enters objects n v w =
+    (u : View) × OnlyLocked v u × KeepsLocks v u × HasLocks u objects × (w ≡ answered_view (begin_of objects) reply.Entered n u)
+
+pub begin_answer : (b : Bank) (p q : Pass) (first : ℕ) (second : Option ℕ) (stamp : Stamp) → 0 < (view p).left → Enters (objects_by first second) stamp.number (view p) (view q) → seen_writes (view p) ≤ stamp.number → stamp.wrote ≡ false → Opens (objects_by first second) (stack_of p) (stack_of q) → MayResume b q → HasAnswer b (call.Begin first second) reply.Entered stamp p q
+begin_answer b p q first second stamp left enters seen read opens resume =
+    let v = view p in
+    let u = enters.0 in
+    let here : OpenSection = record { locks = opens.0; marks = 0 } in
+    let is : view q ≡ answered_view (call.Begin first second) reply.Entered stamp.number u =
+    enters.4 ∙ ap (λ (c : Call). answered_view c reply.Entered stamp.number u) (begin_same first second) in
+    let sections = ap (λ (s : Stack). s.sections) opens.2 in
+    let c = call.Begin first second in
+    record {
+      entry = record {
+        pass = stays_then v u (view q) (only_stays v u enters.1) (subst (StaysPass u) (sym is) (answered_pass c reply.Entered stamp.number u));
+        entries = ap (λ (z : View). z.entries) is ∙ (answered_entries c reply.Entered stamp u read ∙ ap (λ (es : List Entry). made_entry c reply.Entered stamp ∷ es) enters.1.entries);
+        left = sym enters.1.left ∙ (answered_left c reply.Entered stamp.number u (subst (λ (n : ℕ). 0 < n) (sym enters.1.left) left) ∙ sym (ap (λ (z : View). suc z.left) is));
+        seen = seen;
+        cursors = λ number other. ap (λ (z : View). cursor_in number z.log) is ∙ enters.1.cursors number;
+      };
+      resume = resume;
+      top = λ _ outer top cut.
+          let same = same_from_push (stack_of p).sections outer here top (sym sections ∙ cut) in
+          let has : HasBoth u here.locks = (subst (λ (o : ℕ). has_lock o u.log ≡ true) (sym opens.1.lower) enters.3.0, subst (λ (o : ℕ). has_lock o u.log ≡ true) (sym opens.1.upper) enters.3.1) in
+          let now : HasBoth (view q) here.locks = (ap (λ (z : View). has_lock here.locks.lower z.log) is ∙ has.0, ap (λ (z : View). has_lock here.locks.upper z.log) is ∙ has.1) in
+          subst (λ (x : OpenSection). HasBoth (view q) x.locks) same.1 now;
+      marks = ap (λ (xs : List OpenSection). reverse (map (λ section. section.marks) xs)) sections ∙ push_marks (stack_of p).sections here;
+      mark = ap (λ (s : Stack). s.mark) opens.2;
+      ends = tt;
+    }
+
+-- ---- end
+
+counted_by : (marks : ℕ) (stamp : Stamp) → IsCountedAs marks (reply_of (ended_by marks stamp))
+counted_by zero stamp = refl
+counted_by (suc n) stamp =
+    subst (λ (b : Bool). IsCountedAs (suc n) (reply_of (if b then ended.Kept stamp else ended.Suspended (suc n) stamp))) (sym (ne_eqb (suc n) 0 (λ e. absurd (omega (arith, e))))) (let one : 1 ≤ suc n = omega arith in (one, refl))
+
+abbrev pub Closes : Ended → Stack → Stack → Type 0
+Closes result s t =
+    (outer : List OpenSection) (top : OpenSection) → s.sections ≡ outer ++ top ∷ []
+    → (result ≡ ended_by top.marks (stamp_of result)) × (t ≡ record s { sections = outer })
+
+pub end_answer : (b : Bank) (p q : Pass) (result : Ended) → 0 < (view p).left → 0 < length (stack_of p).sections → OnlyLocked (answered_view call.End (reply_of result) (stamp_of result).number (view p)) (view q) → seen_writes (view p) ≤ (stamp_of result).number → (stamp_of result).wrote ≡ false → Closes result (stack_of p) (stack_of q) → MayResume b q → HasAnswer b call.End (reply_of result) (stamp_of result) p q
+end_answer b p q result left depth only seen read closes resume =
+    let v = view p in
+    let n = (stamp_of result).number in
+    let mid = answered_view call.End (reply_of result) n v in
+    let made = answered_entry call.End (reply_of result) (stamp_of result) v read left seen in
+    let r = split (last_of (stack_of p).sections) in
+    let x = closes r.0 r.1 r.2 in
+    let marks = ap (λ (xs : List OpenSection). reverse (map (λ section. section.marks) xs)) r.2 ∙ push_marks r.0 r.1 in
+    record {
+      entry = nothing_entry call.End (reply_of result) (stamp_of result) v v mid (view q) (same_nothing v) seen made (only_nothing mid (view q) only);
+      resume = resume;
+      top = λ none. absurd (true≢false (sym none));
+      marks = ap marks_in x.1 ∙ sym (ap (drop 1) marks);
+      mark = ap (λ (s : Stack). s.mark) x.1;
+      ends = subst (λ (l : List ℕ). IsCountedAs (slice_index_or l 0 0) (reply_of result)) (sym marks)
+          (subst (λ (e : Ended). IsCountedAs r.1.marks (reply_of e)) (sym x.0) (counted_by r.1.marks (stamp_of result)));
+    }
+  where
+    split : ((stack_of p).sections ≡ []) ⊎ ((outer : List OpenSection) × (top : OpenSection) × ((stack_of p).sections ≡ outer ++ top ∷ [])) → (outer : List OpenSection) × (top : OpenSection) × ((stack_of p).sections ≡ outer ++ top ∷ [])
+    split (inl none) = absurd (let e = ap length none in omega (arith, e, depth))
+    split (inr r) = r
+
+-- ---- quiesce
+
+-- a pass between two calls may take up its innermost section, which it has
+pub ready_resumes : (b : Bank) (p : Pass) → IsReady b p → MayResume b p
+ready_resumes b p r = record { inside = r.inside; own = λ outer top split. inl r.own; none = λ nil. r.own }
+
+answered_still : (called : Call) (said : Reply) (n : ℕ) (v : View) → IsStill v → IsStill (answered_view called said n v)
+answered_still called said n v s = record { even = s.even; hands = s.hands; used = s.used; owes = s.owes; flight = s.flight; stands = s.stands }
+
+pub ready_quiesced : (b : Bank) (q r : Pass) (n : ℕ) → IsReady b q → IsPassOf b r → stack_of r ≡ stack_of q → view r ≡ answered_view call.Quiesce reply.Done n (view q) → IsReady b r
+ready_quiesced b q r n ready pass stack is =
+    let v = view q in
+    let locks : (o : ℕ) → has_lock o (view r).log ≡ has_lock o v.log = λ o. ap (λ (z : View). has_lock o z.log) is in
+    record {
+      inside = (pass, subst (InCall (view r)) (sym stack) (in_call_stays v (view r) (stack_of q) ready.inside.1 (ap (λ (z : View). z.shape) is) locks (ap (λ (z : View). begun z.log) is) (subst IsStill (sym is) (answered_still call.Quiesce reply.Done n v ready.inside.1.still))));
+      own = ap (λ (s : Stack). s.own) stack ∙ ready.own;
+      mark = ap (λ (s : Stack). s.mark) stack ∙ ready.mark;
+      top = λ outer top split.
+          let t = ready.top outer top (sym (ap (λ (s : Stack). s.sections) stack) ∙ split) in
+          (locks top.locks.lower ∙ t.0, locks top.locks.upper ∙ t.1);
+    }
+
+pub quiesce_answer : (b : Bank) (p q r : Pass) (stamp : Stamp) → IsReady b p → 0 < (view p).left → IsPassOf b q → stack_of q ≡ stack_of p → IsCalm (view p) (view q) → 0 < announces (view q).log → IsPassOf b r → stack_of r ≡ stack_of q → view r ≡ answered_view call.Quiesce reply.Done stamp.number (view q) → stamp.wrote ≡ false → seen_writes (view q) ≤ stamp.number → HasAnswer b call.Quiesce reply.Done stamp p r
+quiesce_answer b p q r stamp ready left pass_q stack_q calm on pass_r stack_r is read seen =
+    let v = view p in
+    let u = view q in
+    let made = answered_entry call.Quiesce reply.Done stamp u read (subst (λ (n : ℕ). 0 < n) (sym calm.left) left) seen in
+    let stack = stack_r ∙ stack_q in
+    let now = ready_quiesced b q r stamp.number (ready_calm b p q ready pass_q stack_q calm) pass_r stack_r is in
+    record {
+      entry = record {
+        pass = record {
+          number = ap (λ (z : View). z.number) is ∙ calm.number;
+          next = ap (λ (z : View). z.next) is ∙ calm.next;
+          parts = ap (λ (z : View). z.parts) is ∙ calm.parts;
+          shape = ap (λ (z : View). z.shape) is ∙ calm.shape;
+          lists = ap (λ (z : View). z.lists) is ∙ calm.lists;
+          online = λ _. subst (λ (z : View). 0 < announces z.log) (sym is) on;
+          seen = subst (λ (z : View). seen_writes v ≤ seen_writes z) (sym is) (le_trans calm.seen made.pass.seen);
+        };
+        entries = ap (λ (z : View). z.entries) is ∙ (made.entries ∙ ap (λ (es : List Entry). made_entry call.Quiesce reply.Done stamp ∷ es) calm.entries);
+        left = sym calm.left ∙ (made.left ∙ sym (ap (λ (z : View). suc z.left) is));
+        seen = le_trans calm.seen seen;
+        cursors = λ number other. ap (λ (z : View). cursor_in number z.log) is ∙ calm.cursors number;
+      };
+      resume = ready_resumes b r now;
+      top = λ none. absurd (true≢false (sym none));
+      marks = ap marks_in stack;
+      mark = ap (λ (s : Stack). s.mark) stack;
+      ends = tt;
+    }

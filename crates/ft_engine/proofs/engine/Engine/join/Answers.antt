@@ -1,0 +1,8 @@
+use Rattle.std.proofs.Common.{refl, arith}
+use Rattle.ft_engine.proofs.KeptLists.{joined_kept}
+use Rattle.ft_engine.proofs.engine.Engine.join.Goals as goal
+
+pub returns-clause-kept : goal.returns-clause-kept
+returns-clause-kept c mine theirs are more next =
+    joined_kept c.args.caller.now (record c.args.caller.now { pass = c.join.new.pass }) c.args.other c.join.ensures.view.0 mine theirs c.join.ensures.view.1 c.join.ensures.sections refl
+    (λ none. absurd (let e = c.args.other.pass.numbered in omega (arith, e, none))) c.requires.done.idle are more next

@@ -1,0 +1,13 @@
+use Rattle.ft_section.specs.declared.answers.Ended.TheVariants as ended
+use Rattle.ft_engine.proofs.SectionCalls.{end_answer}
+use Rattle.ft_engine.proofs.section_call.end.Goals as goal
+
+pub returns-in-Kept : goal.returns-in-Kept
+returns-in-Kept c hands =
+    let e = c.in-Kept.ensures in
+    end_answer c.args.bank.now c.args.pass.now c.end.new.pass (ended.Kept c.in-Kept.stamp) c.requires.left c.requires.depth e.entry e.seen e.read e.section e.resume
+
+pub returns-in-Suspended : goal.returns-in-Suspended
+returns-in-Suspended c hands =
+    let e = c.in-Suspended.ensures in
+    end_answer c.args.bank.now c.args.pass.now c.end.new.pass (ended.Suspended c.in-Suspended.count c.in-Suspended.stamp) c.requires.left c.requires.depth e.entry e.seen e.read e.section e.resume

@@ -1,0 +1,34 @@
+use Rattle.std.proofs.Common.{◌<◌, ◌∙◌, ℕ, [], false, refl, sym, ap, subst}
+use Rattle.ft_model.specs.declared.call.Call.TheVariants as call
+use Rattle.ft_model.specs.declared.reply.Reply.TheVariants as reply
+use Rattle.ft_trace.specs.declared.Act.TheVariants.{Answer}
+use Rattle.ft_trace.specs.declared.View.{View}
+use Rattle.ft_trace.specs.Acts.{noted}
+use Rattle.ft_bank.specs.Passes.{view}
+use Rattle.ft_bank.specs.Reads.{IsShown}
+use Rattle.ft_engine.proofs.Passing.{quiesced_calm}
+use Rattle.ft_engine.proofs.SectionCalls.{quiesce_answer}
+use Rattle.ft_engine.proofs.section_call.quiesce.Goals as goal
+
+pub answer-requires-clause-shown : goal.answer-requires-clause-shown
+answer-requires-clause-shown c =
+    let v = view c.quiesce.new.pass in
+    let n = c.stamp-number.result in
+    subst (λ (w : View). IsShown w call.Quiesce reply.Done n) (sym c.stamp-number.ensures.did.1) (record {
+      read = refl;
+      left = subst (λ (k : ℕ). 0 < k) (sym (quiesced_calm (view c.args.pass.now) v c.requires.ready.inside.1.still c.quiesce.ensures.did).left) c.requires.left;
+      loaded = record { newer = []; rest = v.log; is = refl; own = tt };
+      replied = λ es id k. refl;
+      cause = λ es id k. refl;
+      no_cursor = λ es id k. refl;
+    })
+
+pub returns : goal.returns
+returns c hands =
+    let q = c.quiesce.new.pass in
+    let n = c.stamp-number.result in
+    let d = c.stamp-number.ensures.did in
+    let a = c.answer.ensures in
+    quiesce_answer c.args.bank.now c.args.pass.now q c.answer.new.pass (record { number = n; wrote = false }) c.requires.ready c.requires.left c.quiesce.ensures.pass c.quiesce.ensures.sections (quiesced_calm (view c.args.pass.now) (view q) c.requires.ready.inside.1.still c.quiesce.ensures.did) c.quiesce.ensures.online
+    (a.0 ∙ (d.0 ∙ c.quiesce.ensures.pass.0), ap (λ (z : View). z.shape) a.1 ∙ (ap (λ (z : View). z.shape) d.1 ∙ c.quiesce.ensures.pass.1)) (a.2 ∙ d.2)
+    (a.1 ∙ ap (noted (Answer call.Quiesce reply.Done n)) d.1) refl c.stamp-number.ensures.seen

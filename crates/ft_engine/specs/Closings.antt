@@ -1,0 +1,43 @@
+-- Callers that are done, and the entries of all of them.
+use Rattle.std.specs.Prelude.{◌≡◌, suc, List, [], ◌∷◌, length}
+use Rattle.ft_model.specs.declared.call.Call.{Call}
+use Rattle.ft_model.specs.declared.entry.Entry.{Entry as NamedEntry}
+use Rattle.ft_model.specs.declared.entry.Storage.TheVariants as storage
+use Rattle.ft_model.specs.declared.script.ScriptParts.{ScriptParts}
+use Rattle.ft_model.specs.Numbers.{AreDone, AreNumberedLists, IsHistoryOf}
+use Rattle.ft_trace.specs.declared.Shape.{Shape}
+use Rattle.ft_trace.specs.Acts.{announces}
+use Rattle.ft_bank.specs.Passes.{view}
+use Rattle.ft_bank.specs.Sections.{stack_of}
+use Rattle.ft_closing.specs.Numbering.{AreKeptFrom, AskOwnCursors, IsFor}
+use Rattle.ft_engine.specs.declared.caller.Caller.{Caller}
+use Rattle.ft_engine.specs.Callers.{IsIdle, taken_of, thread_of}
+use Rattle.ft_engine.specs.Keeping.{IsKept}
+
+-- the caller has made its last call: it is in no call and in no section, and is offline
+pub record IsDone (c : Caller) : Type 0 where
+  pub idle : IsIdle c
+  pub sections : (stack_of c.pass).sections ≡ []
+  pub offline : announces (view c.pass).log ≡ 0
+
+-- The first of these lists has the entries that the caller was answered, and the others those of the callers that it took in,
+-- in the order of the threads.
+abbrev pub AreKept : Caller → List (List NamedEntry) → Type 0
+AreKept c [] = ⊥
+AreKept c (mine ∷ others) = IsKept c mine × AreKeptFrom (suc (thread_of c)) others (taken_of c)
+
+-- The lists are those of the script's threads: the bank was made for it, and no thread asks a cursor that it doesn't have.
+-- (profile)
+pub record AreOfScript (script : ScriptParts) (k : Shape) (lists : List (List NamedEntry)) : Type 0 where
+  pub shape : IsFor script k
+  pub cursors : AskOwnCursors script lists
+  pub count : length lists ≡ length script.threads
+
+-- each call of the script was made, and each mark is right, by whatever writes stand beside the entries
+abbrev pub AreAllMade : ScriptParts → List (List NamedEntry) → Type 0
+AreAllMade script lists =
+    (calls : List Call) → AreNumberedLists storage.Tables script calls lists → AreDone script calls lists
+
+-- a legal history of the script, with containers on tables, in which MemoryErrors fit
+abbrev pub IsLegalFor : ScriptParts → List NamedEntry → Type 0
+IsLegalFor script history = ∥ ((calls : List Call) × IsHistoryOf storage.Tables script calls history) ∥₁

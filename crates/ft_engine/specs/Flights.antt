@@ -1,0 +1,63 @@
+-- Calls in flight: which containers they lock, and how far a pass has come with them.
+use Rattle.std.specs.Prelude.{◌≡◌, ℕ, Bool, true, false, List, Option, Some, None, option_map}
+use Rattle.ft_model.specs.declared.call.Call.{Call}
+use Rattle.ft_model.specs.declared.call.Call.TheVariants as call
+use Rattle.ft_model.specs.declared.cursor.Cursor.{Cursor}
+use Rattle.ft_model.specs.Calls.{other_dict, other_list, other_set}
+use Rattle.ft_model.specs.Worlds.{container_of, cursor_at}
+use Rattle.ft_bank.specs.declared.bank.Bank.{Bank}
+use Rattle.ft_bank.specs.declared.pass.Pass.{Pass}
+use Rattle.ft_section.specs.declared.answers.Objects.{Objects}
+use Rattle.ft_section.specs.declared.answers.Objects.TheVariants.{One, Two}
+use Rattle.ft_section.specs.Ready.{HasTop, IsInCall, IsReady, MayTry, MayResume}
+use Rattle.ft_engine.specs.declared.caller.Flight.{Flight}
+use Rattle.ft_engine.specs.declared.caller.Flight.TheVariants as flight
+
+-- one container, or two
+abbrev pub objects_by : ℕ → Option ℕ → Objects
+objects_by first None = One first
+objects_by first (Some second) = Two first second
+
+-- the containers whose locks a call of a thread with these cursors takes, if it takes any (C API, critical sections)
+abbrev pub objects_of : List (Option Cursor) → Call → Option Objects
+objects_of hands (call.Dict o dc) = Some (objects_by o (other_dict dc))
+objects_of hands (call.List o lc) = Some (objects_by o (other_list lc))
+objects_of hands (call.Set o sc) = Some (objects_by o (other_set sc))
+objects_of hands (call.Next number) = option_map (λ walker. One (container_of walker)) (cursor_at hands number)
+objects_of hands (call.Begin first second) = Some (objects_by first second)
+objects_of hands call.End = None
+objects_of hands call.Quiesce = None
+
+-- whether the call begins a section
+abbrev pub is_begin : Call → Bool
+is_begin (call.Begin first second) = true
+is_begin (call.Dict o dc) = false
+is_begin (call.List o lc) = false
+is_begin (call.Set o sc) = false
+is_begin (call.Next number) = false
+is_begin call.End = false
+is_begin call.Quiesce = false
+
+-- How far the pass has come. Between two calls it is ready for the next one. A call without an answer may be tried again, on
+-- the locks of its containers. One with an answer has the innermost section to take up again, of which a `begin` still has
+-- the locks. (C API, critical sections)
+abbrev pub IsIn : Bank → Pass → List (Option Cursor) → Flight → Type 0
+IsIn b p hands flight.Idle = IsReady b p
+IsIn b p hands (flight.Tried called) =
+    (objects : Objects) × (objects_of hands called ≡ Some objects) × MayTry b p objects
+IsIn b p hands (flight.Answered called said stamp) = MayResume b p × (is_begin called ≡ true → HasTop p)
+IsIn b p hands (flight.Refused called) = IsInCall b p
+
+-- the call in flight has its answer
+abbrev pub IsAnswered : Flight → Type 0
+IsAnswered flight.Idle = ⊥
+IsAnswered (flight.Tried called) = ⊥
+IsAnswered (flight.Answered called said stamp) = Unit {0}
+IsAnswered (flight.Refused called) = ⊥
+
+-- no call is in flight, or this one, and it wasn't refused
+abbrev pub IsNext : Flight → Call → Type 0
+IsNext flight.Idle called = Unit {0}
+IsNext (flight.Tried tried) called = tried ≡ called
+IsNext (flight.Answered answered said stamp) called = answered ≡ called
+IsNext (flight.Refused refused) called = ⊥

@@ -1,0 +1,21 @@
+-- What callers that go online or offline, or that meet, leave as it was.
+use Rattle.std.specs.Prelude.{◌≡◌, ◌≤◌}
+use Rattle.ft_trace.specs.Acts.{seen_writes}
+use Rattle.ft_bank.specs.Passes.{view}
+use Rattle.ft_bank.specs.Sections.{stack_of}
+use Rattle.ft_engine.specs.declared.caller.Caller.{Caller}
+
+-- It is the same caller, and has made no call: it has the same open sections, cursors and entries, has as many calls left, has
+-- no other call in flight, and has taken in the same callers. It has seen no fewer writes. (profile)
+pub record SameWork (c d : Caller) : Type 0 where
+  pub number : (view d.pass).number ≡ (view c.pass).number
+  pub next : (view d.pass).next ≡ (view c.pass).next
+  pub parts : (view d.pass).parts ≡ (view c.pass).parts
+  pub entries : (view d.pass).entries ≡ (view c.pass).entries
+  pub taken : (view d.pass).lists ≡ (view c.pass).lists
+  pub sections : stack_of d.pass ≡ stack_of c.pass
+  pub cursors : d.cursors.items ≡ c.cursors.items
+  pub calls : d.calls ≡ c.calls
+  pub made : d.made ≡ c.made
+  pub flight : d.flight ≡ c.flight
+  pub seen : seen_writes (view c.pass) ≤ seen_writes (view d.pass)

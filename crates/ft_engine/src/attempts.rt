@@ -1,0 +1,84 @@
+//! One try of a call: its answer is made, and then the innermost section is taken up again.
+ghost use Rattle.std.specs.Prelude.{◌≡◌, ◌<◌, List};
+ghost use Rattle.ft_model.specs.declared.entry.Entry.{Entry as NamedEntry};
+ghost use Rattle.ft_bank.specs.Passes.{view};
+ghost use Rattle.ft_bank.specs.Sections.{stack_of};
+ghost use Rattle.ft_engine.specs.Attempts.{MayAttempt, flight_after, kept_after, IsMarkOf, FoundIn, HasFoundOwner, StaysCaller};
+ghost use Rattle.ft_engine.specs.Callers.{IsCallerOf, pass_of, flight_of, thread_of};
+ghost use Rattle.ft_engine.specs.Flights.{IsAnswered, IsNext};
+ghost use Rattle.ft_engine.specs.Keeping.{IsKept};
+
+use crate::caller::{Caller, Flight};
+use crate::engine::Engine;
+use ft_model::{Call, Reply};
+use ft_section::{Object, Owner, Resumed, Stamp, resume};
+
+/// What one try of a call answers.
+#[derive(Debug, PartialEq, Eq, Drop)]
+pub enum Tried {
+    /// The call has ended: its reply, its stamp, and its mark, the thread that it waited for first.
+    Done(Reply, Stamp, Option<Owner>),
+    /// A step of the try found another thread with the lock of a container that the call needs, or that its
+    /// innermost section does. The same call comes next.
+    NotYet(Object, Owner),
+    /// Two steps of the try found a word changed from the first number to the second. The same call comes next.
+    Moved(u64, u64),
+    /// Out of memory.
+    NoMemory,
+}
+
+impl Engine {
+    /// Takes up the innermost section again, of a call that has its answer.
+    pub(crate) fn take_up(&self, caller: &mut Caller) -> Tried
+        requires caller { IsCallerOf self.now caller.old }
+        requires answered { IsAnswered caller.old.flight }
+        ensures caller { IsCallerOf self.now caller.new }
+        ensures same { StaysCaller caller.old caller.new }
+        ensures flight { (called : Call) → IsNext caller.old.flight called → flight_after called result caller.new.flight }
+        ensures kept { (called : Call) (mine : List NamedEntry) → IsNext caller.old.flight called → IsKept caller.old mine →
+            IsKept caller.new (kept_after (thread_of caller.old) called result mine) }
+        ensures mark { IsMarkOf result (stack_of caller.old.pass).mark (stack_of caller.new.pass).mark }
+        ensures found { FoundIn result (view caller.old.pass) (view caller.new.pass) }
+    {
+        match resume(&self.bank, &mut caller.pass) {
+            Resumed::Back(mark) => {
+                let flight = std::mem::replace(&mut caller.flight, Flight::Idle);
+                let Flight::Answered(_, reply, stamp) = flight else {
+                    unreachable!();
+                };
+                Tried::Done(reply, stamp, mark)
+            }
+            Resumed::NotYet(object, owner) => Tried::NotYet(object, owner),
+        }
+    }
+
+    /// One try of a call: the call first, where it has no answer yet, and then the locks of the innermost section
+    /// again. After `Done` the caller has the locks of its innermost section, and no others but those that its
+    /// open sections took.
+    ///
+    /// # Errors
+    ///
+    /// `NotYet` where a step of the try found another thread with a lock: all open sections have let their locks
+    /// go, and at most the lower one of two is kept. `Moved` where two steps of it found a word of the free tables
+    /// of a class changed. The same call comes next. `NoMemory` where memory for a copy ran out: the caller is to
+    /// give up.
+    pub fn attempt(&self, caller: &mut Caller, call: &Call) -> Tried
+        requires caller { IsCallerOf self.now caller.old }
+        requires may { MayAttempt self.now caller.old call.now }
+        ensures caller { IsCallerOf self.now caller.new }
+        ensures same { StaysCaller caller.old caller.new }
+        ensures flight { flight_after call.now result (flight_of caller.new) }
+        ensures kept { (mine : List NamedEntry) → IsKept caller.old mine →
+            IsKept caller.new (kept_after (thread_of caller.old) call.now result mine) }
+        ensures mark { IsMarkOf result (stack_of (pass_of caller.old)).mark (stack_of (pass_of caller.new)).mark }
+        ensures found { HasFoundOwner result caller.old caller.new }
+    {
+        if caller.is_answered() {
+            return self.take_up(caller);
+        }
+        match self.answer(caller, call) {
+            None => self.take_up(caller),
+            Some(tried) => tried,
+        }
+    }
+}

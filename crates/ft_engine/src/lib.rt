@@ -1,0 +1,20 @@
+//! One bank with its callers: each caller has a pass of the bank, and makes calls on containers, cursors and
+//! sections one after the other. What all of them were answered is one history.
+//!
+//! For whoever keeps the entries that each caller is answered, it keeps true that these are the entries of the
+//! caller's pass, with the caller's thread, indexes that count from 1, and marks that sections count. So once all
+//! callers are done, `close` makes of their lists one history, which is legal.
+#![tactic(auto)]
+
+mod answering;
+mod attempts;
+mod caller;
+mod closing;
+mod engine;
+mod meetings;
+mod section_call;
+mod visits;
+
+pub use crate::attempts::Tried;
+pub use crate::caller::{Caller, Flight};
+pub use crate::engine::Engine;

@@ -1,0 +1,72 @@
+//! Callers that meet: one makes a note of what it has seen, and another learns it; and one takes in another that
+//! has made its last call.
+ghost use Rattle.std.specs.Prelude.{◌≡◌, ◌≤◌, ◌+◌, ◌++◌, [], ℕ, List, length};
+ghost use Rattle.ft_model.specs.declared.entry.Entry.{Entry as NamedEntry};
+ghost use Rattle.ft_trace.specs.Acts.{announces};
+ghost use Rattle.ft_bank.specs.Notes.{says, seen, IsNoteOf};
+ghost use Rattle.ft_bank.specs.Passes.{view};
+ghost use Rattle.ft_bank.specs.Sections.{stack_of};
+ghost use Rattle.ft_engine.specs.Callers.{IsCallerOf, IsIdle, bank_of, pass_of, thread_of};
+ghost use Rattle.ft_engine.specs.Closings.{AreKept, IsDone};
+ghost use Rattle.ft_engine.specs.Keeping.{IsKept};
+ghost use Rattle.ft_engine.specs.Visits.{SameWork};
+
+use crate::caller::Caller;
+use crate::engine::Engine;
+use ft_bank::Note;
+
+impl Engine {
+    /// Makes a note of how many writes the caller has seen.
+    pub fn note(&self, caller: &mut Caller) -> Note
+        requires caller { IsCallerOf self.now caller.old }
+        requires idle { IsIdle caller.old }
+        ensures caller { IsCallerOf self.now caller.new }
+        ensures same { SameWork caller.old caller.new }
+        ensures announced { announces (view (pass_of caller.new)).log ≡ announces (view (pass_of caller.old)).log }
+        ensures kept { (mine : List NamedEntry) → IsKept caller.old mine → IsKept caller.new mine }
+        ensures note { IsNoteOf (bank_of self.now) result × (says result ≡ seen (pass_of caller.old)) }
+    {
+        self.bank.note(&mut caller.pass)
+    }
+
+    /// Learns the note of a caller of this engine: it has then seen all that the note's maker had, so each number
+    /// that its calls are answered from now on is at least that.
+    pub fn learn(&self, caller: &mut Caller, note: Note)
+        requires caller { IsCallerOf self.now caller.old }
+        requires idle { IsIdle caller.old }
+        requires note { IsNoteOf (bank_of self.now) note }
+        ensures caller { IsCallerOf self.now caller.new }
+        ensures same { SameWork caller.old caller.new }
+        ensures announced { announces (view (pass_of caller.new)).log ≡ announces (view (pass_of caller.old)).log }
+        ensures kept { (mine : List NamedEntry) → IsKept caller.old mine → IsKept caller.new mine }
+        ensures seen { (says note ≤ seen (pass_of caller.new)) × (seen (pass_of caller.old) ≤ seen (pass_of caller.new)) }
+    {
+        self.bank.learn(&mut caller.pass, note);
+    }
+
+    /// Takes in the next caller, which has made its last call: it is in no call and in no section, is offline, and
+    /// has the number that follows that of the last one that the caller took in.
+    pub fn join(&self, caller: &mut Caller, other: Caller)
+        requires caller { IsCallerOf self.now caller.old }
+        requires idle { IsIdle caller.old }
+        requires other { IsCallerOf self.now other }
+        requires done { IsDone other }
+        requires last { (view (pass_of other)).next ≡ 0 }
+        ensures caller { IsCallerOf self.now caller.new }
+        ensures idle { IsIdle caller.new }
+        ensures announced { announces (view (pass_of caller.new)).log ≡ announces (view (pass_of caller.old)).log }
+        ensures sections { stack_of (pass_of caller.new) ≡ stack_of (pass_of caller.old) }
+        ensures parts { (view (pass_of caller.new)).parts ≡ (view (pass_of caller.old)).parts + (view (pass_of other)).parts }
+        ensures kept { (mine theirs : List (List NamedEntry)) → AreKept caller.old mine → AreKept other theirs →
+            thread_of other ≡ thread_of caller.old + length mine → AreKept caller.new (mine ++ theirs) }
+    {
+        let Caller {
+            pass,
+            cursors: _,
+            calls: _,
+            made: _,
+            flight: _,
+        } = other;
+        self.bank.join(&mut caller.pass, pass);
+    }
+}

@@ -1,0 +1,37 @@
+//! Callers go online and offline. A caller may make calls only while it is online (PEP 703, QSBR).
+ghost use Rattle.std.specs.Prelude.{◌≡◌, ◌<◌, List};
+ghost use Rattle.ft_model.specs.declared.entry.Entry.{Entry as NamedEntry};
+ghost use Rattle.ft_trace.specs.Acts.{announces};
+ghost use Rattle.ft_bank.specs.Passes.{view};
+ghost use Rattle.ft_engine.specs.Callers.{IsCallerOf, IsIdle, pass_of, taken_of, thread_of};
+ghost use Rattle.ft_engine.specs.Keeping.{IsKept};
+ghost use Rattle.ft_engine.specs.Visits.{SameWork};
+
+use crate::caller::Caller;
+use crate::engine::Engine;
+
+impl Engine {
+    /// The caller goes online.
+    pub fn enter(&self, caller: &mut Caller)
+        requires caller { IsCallerOf self.now caller.old }
+        requires idle { IsIdle caller.old }
+        ensures caller { IsCallerOf self.now caller.new }
+        ensures same { SameWork caller.old caller.new }
+        ensures online { 0 < announces (view (pass_of caller.new)).log }
+        ensures kept { (mine : List NamedEntry) → IsKept caller.old mine → IsKept caller.new mine }
+    {
+        ft_qsbr::enter(&self.bank, &mut caller.pass);
+    }
+
+    /// The caller goes offline, and gives back what it retired and no other holds on to.
+    pub fn leave(&self, caller: &mut Caller)
+        requires caller { IsCallerOf self.now caller.old }
+        requires idle { IsIdle caller.old }
+        ensures caller { IsCallerOf self.now caller.new }
+        ensures same { SameWork caller.old caller.new }
+        ensures offline { announces (view (pass_of caller.new)).log ≡ 0 }
+        ensures kept { (mine : List NamedEntry) → IsKept caller.old mine → IsKept caller.new mine }
+    {
+        ft_qsbr::leave(&self.bank, &mut caller.pass);
+    }
+}

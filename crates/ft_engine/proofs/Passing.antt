@@ -1,11 +1,11 @@
 -- What a pass has still that made no call on containers: it announced, collected, loaded the counter or took another in.
-use Rattle.std.proofs.Common.{◌≡◌, ◌≤◌, ◌<◌, ℕ, true, ◌++◌, refl, sym, ap, ◌∙◌, subst, inl, inr, ⊎_elim, le_refl, le_trans}
+use Rattle.std.proofs.Common.{◌≡◌, ◌≤◌, ◌<◌, ◌⊎◌, ℕ, Bool, true, false, cond, ◌++◌, refl, sym, ap, ◌∙◌, subst, inl, inr, ⊎_elim, le_refl, le_trans}
 use Rattle.std.specs.Prelude.{max}
 use Rattle.std.proofs.Math.Nat.{le-max_left, le-max_right, max-le}
 use Rattle.ft_trace.specs.declared.Act.TheVariants.{Announce, ReadCounter, WriteNumber}
 use Rattle.ft_trace.specs.declared.Shape.{Shape}
 use Rattle.ft_trace.specs.declared.View.{View}
-use Rattle.ft_trace.specs.Acts.{both, has_lock, noted, seen_writes, shown, stage}
+use Rattle.ft_trace.specs.Acts.{both, hands_over, has_lock, is_handed, noted, seen_writes, shown, stage}
 use Rattle.ft_trace.specs.Addresses.{containers_in}
 use Rattle.ft_trace.specs.Hands.{cursor_in}
 use Rattle.ft_trace.specs.Holds.{held, known}
@@ -171,8 +171,12 @@ learnt_calm v m n s = record {
 }
 
 -- it has taken another pass in: it has the same sections and locks
+over_or_was : (b : Bool) (n : ℕ) → (n ≡ 0) ⊎ (n ≡ 4) → (cond b 4 n ≡ 0) ⊎ (cond b 4 n ≡ 4)
+over_or_was true n was = inr refl
+over_or_was false n was = was
+
 pub joined_still : (v u : View) (n : ℕ) → IsStill v → IsStill (noted (ReadCounter n) (both v u))
-joined_still v u n s = record { even = s.even; hands = s.hands; used = s.used; owes = s.owes; flight = s.flight; stands = s.stands }
+joined_still v u n s = record { even = s.even; hands = λ t. over_or_was (is_handed t (hands_over u.log)) (stage t v.log) (s.hands t); used = s.used; owes = s.owes; flight = s.flight; stands = s.stands }
 
 pub ready_joined : (b : Bank) (p q : Pass) (u : View) (n : ℕ) → IsReady b p → IsPassOf b q → stack_of q ≡ stack_of p → view q ≡ noted (ReadCounter n) (both (view p) u) → IsReady b q
 ready_joined b p q u n r pass stack is =

@@ -1,5 +1,5 @@
 -- That a call on a dict or a set may be committed whose words are put, and what holds from then on.
-use Rattle.std.proofs.Common.{◌≡◌, ◌≢◌, ℕ, suc, ◌+◌, ◌%◌, ◌<◌, ◌≤◌, true, false, true≢false, Bool, List, [], refl, sym, ap, ◌∙◌, subst, arith}
+use Rattle.std.proofs.Common.{◌≡◌, ℕ, suc, ◌+◌, ◌%◌, ◌<◌, ◌≤◌, true, false, true≢false, List, refl, sym, ap, ◌∙◌, subst, arith}
 use Rattle.std.specs.Prelude.{slice_index}
 use Rattle.std.proofs.Math.Logic.{∥∥₁_elim}
 use Rattle.std.proofs.Math.Nat.{ℕ_set}
@@ -14,9 +14,8 @@ use Rattle.ft_trace.specs.declared.Act.TheVariants.{StartWrite, Commit, StopWrit
 use Rattle.ft_trace.specs.declared.Shape.{Shape}
 use Rattle.ft_trace.specs.declared.Snap.{Snap}
 use Rattle.ft_trace.specs.declared.View.{View}
-use Rattle.ft_trace.specs.Acts.{has_lock, is_writing, has_committed, has_emptied, owes, noted, seen_writes}
+use Rattle.ft_trace.specs.Acts.{has_lock, is_writing, has_emptied, owes, noted, seen_writes}
 use Rattle.ft_trace.specs.Addresses.{containers_in, class_of, slots}
-use Rattle.ft_trace.specs.Carefuls.{Clear}
 use Rattle.ft_trace.specs.Holds.{held, known}
 use Rattle.ft_trace.specs.Kinds.{rows, version_at, CarefulAs, ClearAs, IsKeyed}
 use Rattle.ft_trace.specs.Openings.{Shut, Timely}
@@ -29,7 +28,7 @@ use Rattle.ft_trace.proofs.Clearing.{held_shut}
 use Rattle.ft_bank.specs.declared.table.Table.{Table}
 use Rattle.ft_bank.specs.Tables.{name_of}
 use Rattle.ft_bank.specs.Writes.{Committed, IsCareful, IsShut, MayCommit, MayHave}
-use Rattle.ft_bank.specs.Whole.{SameWork, OnlyPut, EndsWrite, Wrote}
+use Rattle.ft_bank.specs.Whole.{OnlyPut, EndsWrite, Wrote}
 use Rattle.ft_bank.proofs.Whole.{work_knows, put_same, plain_write, write_ends}
 use Rattle.ft_search.specs.Writing.{HasTable, Leaves, MayFinish, MayWriteEntries, WritesEntries, raised_at}
 use Rattle.ft_search.proofs.Calling.{plain_replied}

@@ -1,12 +1,10 @@
 -- Laws of tables and of what they stand for, as they are cited by the proofs of writes.
-use Rattle.std.proofs.Common.{◌≡◌, ◌≢◌, ℕ, ◌+◌, ◌-◌, ◌≤◌, ◌<◌, Bool, true, false, List, [], ◌∷◌, ◌++◌, length, find, Option, Some}
-use Rattle.std.specs.Prelude.{◌&&◌, All, IsTrue, filter, slice_set, slice_get, slice_index_or, option_map}
+use Rattle.std.proofs.Common.{◌≡◌, ℕ, ◌+◌, true, List, length, Some}
+use Rattle.std.specs.Prelude.{IsTrue, slice_set, slice_get}
 use Rattle.ft_model.specs.declared.content.DictPair.{DictPair}
 use Rattle.ft_model.specs.declared.content.Element.{Element}
-use Rattle.ft_model.specs.declared.data.Key.{Key}
-use Rattle.ft_model.specs.Contents.{DictContent, SetContent, IsDict, IsSet, dict_get, dict_del, has_element, set_add, set_discard}
-use Rattle.ft_layout.specs.Tables.{UsedEntry, is_live, deleted, IsTable}
-use Rattle.ft_layout.specs.Tables as layout
+use Rattle.ft_model.specs.Contents.{DictContent, SetContent, IsDict, IsSet, dict_del, has_element, set_add, set_discard}
+use Rattle.ft_layout.specs.Tables.{UsedEntry, is_live, deleted}
 use Rattle.ft_layout.specs.Changes.{with_deleted}
 use Rattle.ft_layout.specs.Containers.{class_mask, used_pair, used_element, AreDictEntries, AreSetEntries, IsBlock, IsDictWords, IsSetWords}
 use Rattle.ft_trace.proofs.DictWrites.{EntryVersionsChangeNothing, LiveEntriesArePairs, FirstEntriesArePairs}

@@ -17,3 +17,4 @@ pub mod Laws
 pub mod Spotting
 pub mod Calling
 pub mod Values
+mod Costing

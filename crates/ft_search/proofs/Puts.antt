@@ -1,5 +1,5 @@
 -- What a pass that writes the entries of a dict or a set keeps, and that a word of one may be put.
-use Rattle.std.proofs.Common.{◌≡◌, ℕ, suc, ◌+◌, ◌*◌, ◌/◌, ◌^◌, ◌<◌, ◌≤◌, true, Bool, List, refl, sym, ap, ◌∙◌, subst, arith}
+use Rattle.std.proofs.Common.{◌≡◌, ℕ, suc, ◌*◌, ◌^◌, ◌<◌, ◌≤◌, true, Bool, List, refl, sym, ap, ◌∙◌, subst, arith}
 use Rattle.std.specs.Prelude.{slice_index}
 use Rattle.std.proofs.Math.Bridge.{le_prop}
 use Rattle.std.proofs.Math.Logic.{∥∥₁_elim}
@@ -11,15 +11,15 @@ use Rattle.ft_layout.specs.Containers.{class_mask}
 use Rattle.ft_trace.specs.declared.Shape.{Shape}
 use Rattle.ft_trace.specs.declared.Act.{Act}
 use Rattle.ft_trace.specs.declared.View.{View}
-use Rattle.ft_trace.specs.Addresses.{containers_in, class_of, slots, places, size}
-use Rattle.ft_trace.specs.Acts.{has_lock, has_committed, noted}
+use Rattle.ft_trace.specs.Addresses.{containers_in, class_of, slots, places}
+use Rattle.ft_trace.specs.Acts.{has_lock, noted}
 use Rattle.ft_trace.specs.Worlds.{Kept, kind_in}
 use Rattle.ft_trace.specs.Words.{Picture, root_in, entry_at, entry_of}
 use Rattle.ft_trace.specs.Kinds.{rows, version_at, CarefulAs, IsKeyed}
 use Rattle.ft_trace.specs.Openings.{Timely}
-use Rattle.ft_trace.specs.Holds.{held, known}
+use Rattle.ft_trace.specs.Holds.{held}
 use Rattle.ft_trace.specs.Traces.{Possible}
-use Rattle.ft_trace.proofs.ByKind.{keyed_fit, keyed_low}
+use Rattle.ft_trace.proofs.ByKind.{keyed_fit}
 use Rattle.ft_trace.proofs.Held.{table_known}
 use Rattle.ft_trace.proofs.Lows.{lows}
 use Rattle.ft_trace.proofs.Rooms.{counter_room}
@@ -27,7 +27,7 @@ use Rattle.ft_bank.specs.declared.table.Table.{Table}
 use Rattle.ft_bank.specs.Tables.{name_of, IsTableIn}
 use Rattle.ft_bank.specs.Whole.{OnlyLoaded, OnlyPut}
 use Rattle.ft_bank.specs.Writes.{IsCareful}
-use Rattle.ft_bank.proofs.Tables.{named, class_is}
+use Rattle.ft_bank.proofs.Tables.{named}
 use Rattle.ft_bank.proofs.Whole.{IsLoad, loaded_by, loaded_put, loaded_held, work_knows}
 use Rattle.ft_search.specs.Writing.{WritesEntries}
 

@@ -1,5 +1,5 @@
 -- What another value at a key of a dict leaves of its words, and that readers aren't misled by it.
-use Rattle.std.proofs.Common.{◌≡◌, ◌≢◌, ℕ, zero, suc, ◌+◌, ◌-◌, ◌*◌, ◌%◌, ◌<◌, ◌≤◌, true, false, List, [], ◌∷◌, length, Option, Some, refl, sym, ap, ◌∙◌, subst, arith, get_or-set_same, get_or-set_other}
+use Rattle.std.proofs.Common.{◌≡◌, ◌≢◌, ℕ, zero, suc, ◌+◌, ◌*◌, ◌%◌, ◌<◌, ◌≤◌, false, List, [], ◌∷◌, length, Option, Some, refl, sym, ap, ◌∙◌, subst, arith, get_or-set_other}
 use Rattle.std.specs.Prelude.{All, slice_index, slice_set, slice_get}
 use Rattle.ft_model.specs.declared.content.Content.{Content}
 use Rattle.ft_model.specs.declared.content.Content.TheVariants as content
@@ -30,7 +30,7 @@ use Rattle.ft_trace.specs.Addresses.{class_of, slots, places, size}
 use Rattle.ft_trace.specs.Carefuls.{IsLive, said_of}
 use Rattle.ft_trace.specs.EntryWrites.{value_puts}
 use Rattle.ft_trace.specs.Holds.{held, known}
-use Rattle.ft_trace.specs.Kinds.{under, rows, version_at, CarefulAs, ClearAs, IsKeyed}
+use Rattle.ft_trace.specs.Kinds.{under, rows, version_at, CarefulAs, ClearAs}
 use Rattle.ft_trace.specs.Openings.{Shut}
 use Rattle.ft_trace.specs.Traces.{Possible}
 use Rattle.ft_trace.specs.Words.{Picture, root_in, entry_at, entry_of, walk_of, Stands}
@@ -47,7 +47,7 @@ use Rattle.ft_bank.specs.Tables.{name_of}
 use Rattle.ft_bank.specs.Whole.{OnlyPut}
 use Rattle.ft_bank.specs.Writes.{IsCareful, with_table}
 use Rattle.ft_bank.proofs.Whole.{put_then, work_knows}
-use Rattle.ft_search.specs.Writing.{HasTable, IsEntryOf, MayWriteEntries, WritesEntries, raised_at, with_value_at}
+use Rattle.ft_search.specs.Writing.{HasTable, IsEntryOf, MayWriteEntries, raised_at, with_value_at}
 use Rattle.ft_search.proofs.Changing.{Changing, kind_is, put_at, shut_known}
 use Rattle.ft_search.proofs.Puts.{table_class}
 

@@ -7,3 +7,4 @@ pub mod Lengths
 pub mod Writing
 pub mod Spots
 pub mod Calls
+pub mod Costs

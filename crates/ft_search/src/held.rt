@@ -7,6 +7,7 @@ ghost use Rattle.ft_layout.specs.Words.{FitsKey};
 ghost use Rattle.ft_keys.specs.Searches.{IsWithin, Searched};
 ghost use Rattle.ft_keys.specs.Ways.{walk_slots};
 ghost use Rattle.ft_keys.specs.declared.search.Found.TheVariants.{Was};
+ghost use Rattle.ft_keys.specs.declared.walk.Way.{Way};
 ghost use Rattle.ft_trace.specs.declared.Act.{Act};
 ghost use Rattle.ft_trace.specs.Acts.{has_lock};
 ghost use Rattle.ft_trace.specs.Addresses.{containers_in};
@@ -18,6 +19,7 @@ ghost use Rattle.ft_bank.specs.Passes.{shape_of, view, IsPassOf};
 ghost use Rattle.ft_bank.specs.Series.{DidAll};
 ghost use Rattle.ft_bank.specs.Tables.{name_of, IsTableIn};
 ghost use Rattle.ft_bank.specs.Whole.{OnlyLoaded};
+ghost use Rattle.ft_search.specs.Costs.{AreFewReads, index_reads};
 ghost use Rattle.ft_search.specs.Held.{KnowsTable, ReadsEntry, IsHeldAt};
 ghost use Rattle.ft_search.specs.Looks.{AreLooks};
 ghost use Rattle.ft_search.specs.Rounds.{kind_by};
@@ -50,7 +52,8 @@ impl<'a> TableWords<'a> {
         ensures knows { KnowsWords self.new × (known_words self.new ≡ known_words self.old) }
         ensures within { IsWithin self.old.mask result }
         ensures live { (slot place : ℕ) → result ≢ Was slot place }
-        ensures looks { (part : List Act) × AreLooks part × DidAll part self.old.pass.now self.new.pass.now }
+        ensures looks { (part : List Act) × AreLooks part × DidAll part self.old.pass.now self.new.pass.now
+            × ((way : Way) (hash : ℕ) → walk.old.left ≡ walk_slots way hash walk.old.mask → AreFewReads way part) }
         ensures searched { Searched self.old.mask (known_words self.old) key walk.old.left walk.new.left result }
     {
         let mut steps: Steps<L> = Steps::new(blank);
@@ -64,7 +67,8 @@ impl<'a> TableWords<'a> {
         requires within { IsWithin self.old.mask found }
         ensures can { CanLoad self.new }
         ensures same { SamePlace self.old self.new }
-        ensures looks { (part : List Act) × AreLooks part × DidAll part self.old.pass.now self.new.pass.now }
+        ensures looks { (part : List Act) × AreLooks part × DidAll part self.old.pass.now self.new.pass.now
+            × ((t : ℕ) → index_reads t part ≡ 0) }
         ensures reads { ReadsEntry self.old.mask (known_words self.old) found result }
     {
         match found {
@@ -86,7 +90,8 @@ impl<'a> TableWords<'a> {
         ensures can { CanLoad self.new }
         ensures same { SamePlace self.old self.new }
         ensures within { IsWithin self.old.mask result.0 }
-        ensures looks { (part : List Act) × AreLooks part × DidAll part self.old.pass.now self.new.pass.now }
+        ensures looks { (part : List Act) × AreLooks part × DidAll part self.old.pass.now self.new.pass.now
+            × AreFewReads way part }
         ensures searched { (left : List ℕ)
             × Searched self.old.mask (known_words self.old) key (walk_slots way hash self.old.mask) left result.0
             × ((slot place : ℕ) → result.0 ≢ Was slot place)
@@ -115,7 +120,7 @@ pub fn read_in(
     requires table { IsTableIn (shape_of bank.now) table }
     requires knows { KnowsTable o (name_of table) (view pass.old) }
     ensures pass { IsPassOf bank.now pass.new }
-    ensures looks { (part : List Act) × AreLooks part × DidAll part pass.old pass.new }
+    ensures looks { (part : List Act) × AreLooks part × DidAll part pass.old pass.new × AreFewReads way part }
     ensures low { hash_of (shape_of bank.now).texts key < 2 ^ 64 }
     ensures within { IsWithin (class_mask table.class) result.0 }
     ensures searched { (left : List ℕ)
@@ -137,7 +142,7 @@ pub fn read_in(
 }
 
 /// Reads the value at a key of a dict or a set whose lock the pass has: its kind and its payload, or
-/// `None` where the key isn't there.
+/// `None` where the key isn't there. It loads at most as many index words as one search may.
 pub fn read_key(bank: &Bank, pass: &mut Pass, o: u32, way: Way, key: Key) -> Option<(u64, u64)>
     requires pass { IsPassOf bank.now pass.old }
     requires container { o < containers_in (shape_of bank.now) }
@@ -148,7 +153,7 @@ pub fn read_key(bank: &Bank, pass: &mut Pass, o: u32, way: Way, key: Key) -> Opt
     ensures pass { IsPassOf bank.now pass.new }
     ensures key { FitsKey key }
     ensures keeps { OnlyLoaded (view pass.old) (view pass.new) }
-    ensures looks { (part : List Act) × AreLooks part × DidAll part pass.old pass.new }
+    ensures looks { (part : List Act) × AreLooks part × DidAll part pass.old pass.new × AreFewReads way part }
     ensures held { IsHeldAt (known o (view pass.old)).content key result }
 {
     key_fits(key);

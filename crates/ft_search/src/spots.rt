@@ -7,6 +7,7 @@ ghost use Rattle.ft_bank.specs.Passes.{shape_of, view, IsPassOf};
 ghost use Rattle.ft_bank.specs.Sections.{stack_of};
 ghost use Rattle.ft_bank.specs.Whole.{OnlyLoaded};
 ghost use Rattle.ft_trace.specs.declared.Act.{Act};
+ghost use Rattle.ft_search.specs.Costs.{AreFewReads};
 ghost use Rattle.ft_search.specs.Rounds.{kind_by};
 ghost use Rattle.ft_search.specs.Spots.{IsSpot, spot_in};
 ghost use Rattle.ft_search.specs.Writing.{MayWriteEntries};
@@ -46,7 +47,7 @@ fn spot_of(table: Table, found: Found, read: Option<(u64, u64)>) -> Spot
     }
 }
 
-/// Looks for a key of a dict or a set that the pass may write.
+/// Looks for a key of a dict or a set that the pass may write. It loads at most as many index words as one search may.
 pub fn seek_key(bank: &Bank, pass: &mut Pass, o: u32, way: Way, key: Key) -> Spot
     requires pass { IsPassOf bank.now pass.old }
     requires way { kind_in (shape_of bank.now).kinds o ≡ kind_by way }
@@ -57,7 +58,7 @@ pub fn seek_key(bank: &Bank, pass: &mut Pass, o: u32, way: Way, key: Key) -> Spo
     ensures key { FitsKey key }
     ensures may { MayWriteEntries (shape_of bank.now) o (view pass.new) }
     ensures keeps { OnlyLoaded (view pass.old) (view pass.new) }
-    ensures loads { (part : List Act) × ((view pass.new).log ≡ part ++ (view pass.old).log) }
+    ensures loads { (part : List Act) × ((view pass.new).log ≡ part ++ (view pass.old).log) × AreFewReads way part }
     ensures spot { IsSpot (shape_of bank.now) o way key (view pass.new) result }
 {
     key_fits(key);

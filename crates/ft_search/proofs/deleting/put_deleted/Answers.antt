@@ -1,8 +1,5 @@
-use Rattle.std.proofs.Common.{◌≡◌, ℕ, ◌-◌, sym, ap, ◌∙◌, subst, arith}
-use Rattle.std.specs.Prelude.{slice_index}
+use Rattle.std.proofs.Common.{◌-◌, arith}
 use Rattle.ft_trace.specs.declared.Act.TheVariants.{ReadBlock, PutBlock}
-use Rattle.ft_trace.specs.declared.View.{View}
-use Rattle.ft_trace.specs.Holds.{held}
 use Rattle.ft_bank.specs.Passes.{shape_of, view}
 use Rattle.ft_bank.specs.Whole.{OnlyLoaded, OnlyPut}
 use Rattle.ft_bank.proofs.Whole.{loaded_by, put_by}

@@ -1,11 +1,11 @@
-use Rattle.std.proofs.Common.{◌≡◌, ℕ, ◌+◌, ◌<◌, sym, ap, ◌∙◌, subst, arith}
+use Rattle.std.proofs.Common.{ℕ, ◌+◌, sym, ap, ◌∙◌, subst, arith}
 use Rattle.ft_trace.specs.Addresses.{class_of, slots}
 use Rattle.ft_trace.specs.Holds.{held}
-use Rattle.ft_trace.specs.Words.{Picture, entry_at, entry_of}
+use Rattle.ft_trace.specs.Words.{Picture, entry_at}
 use Rattle.ft_bank.specs.Passes.{shape_of, view}
 use Rattle.ft_bank.specs.Tables.{name_of}
 use Rattle.ft_bank.specs.Writes.{IsCareful, with_table}
-use Rattle.ft_bank.proofs.Whole.{work_knows, loaded_put, put_then}
+use Rattle.ft_bank.proofs.Whole.{loaded_put, put_then}
 use Rattle.ft_search.proofs.Puts.{entry_room, careful_loaded}
 use Rattle.ft_search.proofs.entries.raise_version.Goals as goal
 

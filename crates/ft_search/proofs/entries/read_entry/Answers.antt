@@ -4,13 +4,11 @@ use Rattle.ft_trace.specs.Addresses.{class_of, slots, size}
 use Rattle.ft_trace.specs.Holds.{held}
 use Rattle.ft_trace.specs.Words.{entry_at}
 use Rattle.ft_trace.specs.Worlds.{kind_in}
-use Rattle.ft_trace.specs.declared.Act.TheVariants.{ReadTable}
 use Rattle.ft_trace.proofs.ByKind.{keyed_low}
 use Rattle.ft_bank.specs.Passes.{shape_of, view}
 use Rattle.ft_bank.specs.Tables.{name_of}
-use Rattle.ft_bank.proofs.Whole.{loaded_by, loaded_held}
 use Rattle.ft_search.proofs.Places.{entry_is}
-use Rattle.ft_search.proofs.Puts.{few_mask, few_places, writes_loaded}
+use Rattle.ft_search.proofs.Puts.{few_mask, few_places}
 use Rattle.ft_search.proofs.entries.read_entry.Goals as goal
 
 pub word_at-at-requires-clause-mask : goal.word_at-at-requires-clause-mask

@@ -1,4 +1,4 @@
-use Rattle.std.proofs.Common.{◌≡◌, ◌≢◌, ℕ, suc, List, [], ◌∷◌, ◌++◌, refl, sym, ap, ◌∙◌, subst}
+use Rattle.std.proofs.Common.{◌≡◌, ◌≢◌, ℕ, suc, List, [], ◌∷◌, ◌++◌, refl, sym, ap, ◌∙◌, subst, arith}
 use Rattle.ft_layout.specs.Containers.{class_mask}
 use Rattle.ft_layout.specs.Tables.{hash_of}
 use Rattle.ft_keys.specs.Searches.{Searched}
@@ -13,6 +13,7 @@ use Rattle.ft_bank.specs.Passes.{shape_of, view}
 use Rattle.ft_bank.specs.Tables.{name_of}
 use Rattle.ft_bank.specs.Whole.{OnlyLoaded}
 use Rattle.ft_search.specs.Held.{ReadsEntry}
+use Rattle.ft_search.proofs.Costing.{few_before}
 use Rattle.ft_search.proofs.Running.{did_trans}
 use Rattle.ft_search.proofs.Rounding.{looks_append, looks_load}
 use Rattle.ft_search.proofs.Holding.{of_way, bare_held, key_held}
@@ -34,10 +35,10 @@ pub returns-in-Some-clause-looks : goal.returns-in-Some-clause-looks
 returns-in-Some-clause-looks c =
     let r = c.read_in.ensures.looks in
     let one : List Act = ReadBlock c.args.o 0 c.read_block-root.result ∷ [] in
-    (r.0 ++ one, looks_append r.0 one r.1 tt, did_trans r.0 one c.args.pass.now c.read_block-root.new.pass c.read_in.new.pass c.read_block-root.ensures.did r.2)
+    (r.0 ++ one, looks_append r.0 one r.1 tt, did_trans r.0 one c.args.pass.now c.read_block-root.new.pass c.read_in.new.pass c.read_block-root.ensures.did r.2, few_before c.args.way r.0 one r.3 (λ t. refl))
 
 pub returns-in-None-clause-looks : goal.returns-in-None-clause-looks
-returns-in-None-clause-looks c = (ReadBlock c.args.o 0 c.read_block-root.result ∷ [], tt, c.read_block-root.ensures.did)
+returns-in-None-clause-looks c = (ReadBlock c.args.o 0 c.read_block-root.result ∷ [], tt, c.read_block-root.ensures.did, λ t. omega arith)
 
 pub returns-in-None-clause-keeps : goal.returns-in-None-clause-keeps
 returns-in-None-clause-keeps c =

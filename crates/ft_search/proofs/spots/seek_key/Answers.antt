@@ -1,4 +1,4 @@
-use Rattle.std.proofs.Common.{◌≡◌, ◌≢◌, ℕ, suc, List, [], ◌∷◌, ◌++◌, refl, sym, ap, ◌∙◌, subst}
+use Rattle.std.proofs.Common.{◌≡◌, ◌≢◌, ℕ, suc, List, [], ◌∷◌, ◌++◌, refl, sym, ap, ◌∙◌, subst, arith}
 use Rattle.ft_layout.specs.Containers.{class_mask}
 use Rattle.ft_layout.specs.Tables.{hash_of}
 use Rattle.ft_keys.specs.Searches.{Searched}
@@ -18,9 +18,11 @@ use Rattle.ft_bank.specs.Tables.{name_of}
 use Rattle.ft_bank.specs.Whole.{OnlyLoaded}
 use Rattle.ft_search.specs.declared.spots.Spot.{Spot}
 use Rattle.ft_search.specs.declared.spots.Spot.TheVariants as spot
+use Rattle.ft_search.specs.Costs.{AreFewReads}
 use Rattle.ft_search.specs.Held.{ReadsEntry}
 use Rattle.ft_search.specs.Looks.{AreLooks}
 use Rattle.ft_search.specs.Spots.{IsSpot}
+use Rattle.ft_search.proofs.Costing.{few_before}
 use Rattle.ft_search.proofs.Holding.{bare_held, of_way}
 use Rattle.ft_search.proofs.Rounding.{looks_append, looks_load}
 use Rattle.ft_search.proofs.Running.{did_trans, did_log}
@@ -30,11 +32,11 @@ use Rattle.ft_search.proofs.spots.seek_key.Goals.{After-read_in-found, In-None}
 
 -- ---- where there is a table
 
-part : (c : After-read_in-found) → (l : List Act) × AreLooks l × DidAll l c.args.pass.now c.read_in-found.new.pass
+part : (c : After-read_in-found) → (l : List Act) × AreLooks l × DidAll l c.args.pass.now c.read_in-found.new.pass × AreFewReads c.args.way l
 part c =
     let r = c.read_in-found.ensures.looks in
     let one : List Act = ReadBlock c.args.o 0 c.read_block-root.result ∷ [] in
-    (r.0 ++ one, looks_append r.0 one r.1 tt, did_trans r.0 one c.args.pass.now c.read_block-root.new.pass c.read_in-found.new.pass c.read_block-root.ensures.did r.2)
+    (r.0 ++ one, looks_append r.0 one r.1 tt, did_trans r.0 one c.args.pass.now c.read_block-root.new.pass c.read_in-found.new.pass c.read_block-root.ensures.did r.2, few_before c.args.way r.0 one r.3 (λ t. refl))
 
 only : (c : After-read_in-found) → OnlyLoaded (view c.args.pass.now) (view c.read_in-found.new.pass)
 only c = let p = part c in subst (OnlyLoaded (view c.args.pass.now)) (sym p.2.1) (looks_load p.0 (view c.args.pass.now) p.1)
@@ -49,7 +51,7 @@ pub returns-in-Some-clause-keeps : goal.returns-in-Some-clause-keeps
 returns-in-Some-clause-keeps c = only (goal.at.returns-in-Some-clause-keeps c).After-read_in-found
 
 pub returns-in-Some-clause-loads : goal.returns-in-Some-clause-loads
-returns-in-Some-clause-loads c = let p = part (goal.at.returns-in-Some-clause-loads c).After-read_in-found in (p.0, did_log p.0 c.args.pass.now c.read_in-found.new.pass p.2)
+returns-in-Some-clause-loads c = let p = part (goal.at.returns-in-Some-clause-loads c).After-read_in-found in (p.0, did_log p.0 c.args.pass.now c.read_in-found.new.pass p.2, p.3)
 
 pub returns-in-Some-clause-spot : goal.returns-in-Some-clause-spot
 returns-in-Some-clause-spot c =
@@ -86,7 +88,7 @@ returns-in-None-clause-keeps c = bare_only (goal.at.returns-in-None-clause-keeps
 pub returns-in-None-clause-loads : goal.returns-in-None-clause-loads
 returns-in-None-clause-loads c =
     let one : List Act = ReadBlock c.args.o 0 c.read_block-root.result ∷ [] in
-    (one, did_log one c.args.pass.now c.read_block-root.new.pass c.read_block-root.ensures.did)
+    (one, did_log one c.args.pass.now c.read_block-root.new.pass c.read_block-root.ensures.did, λ t. omega arith)
 
 pub returns-in-None-clause-spot : goal.returns-in-None-clause-spot
 returns-in-None-clause-spot c =

@@ -1,20 +1,17 @@
-use Rattle.std.proofs.Common.{◌≡◌, ◌<◌, ℕ, List, Bool, true, false, sym, ap, ◌∙◌, subst}
-use Rattle.std.specs.Prelude.{slice_index}
+use Rattle.std.proofs.Common.{◌≡◌, false, sym, ap, ◌∙◌, subst}
 use Rattle.ft_model.specs.declared.script.Kind.{Kind}
-use Rattle.ft_trace.specs.declared.Act.TheVariants.{StartWrite}
-use Rattle.ft_trace.specs.declared.Shape.{Shape}
 use Rattle.ft_trace.specs.declared.View.{View}
-use Rattle.ft_trace.specs.Acts.{has_lock, is_writing, has_committed, noted}
+use Rattle.ft_trace.specs.Acts.{has_committed}
 use Rattle.ft_trace.specs.Holds.{held, known}
-use Rattle.ft_trace.specs.Words.{root_in, entry_of}
-use Rattle.ft_trace.specs.Worlds.{Kept, kind_in}
+use Rattle.ft_trace.specs.Words.{entry_of}
+use Rattle.ft_trace.specs.Worlds.{kind_in}
 use Rattle.ft_trace.specs.Writes.{MayPuts, with_puts}
 use Rattle.ft_trace.proofs.Cases.{hit}
 use Rattle.ft_bank.specs.Passes.{shape_of, view}
 use Rattle.ft_bank.specs.Tables.{name_of}
 use Rattle.ft_trace.specs.Addresses.{class_of, slots}
 use Rattle.ft_trace.specs.EntryWrites.{value_puts}
-use Rattle.ft_search.specs.Writing.{WritesEntries, with_value_at}
+use Rattle.ft_search.specs.Writing.{with_value_at}
 use Rattle.ft_search.proofs.Changing.{Changing, kind_is}
 use Rattle.ft_search.proofs.Values.{ValueLaws, values_known}
 use Rattle.ft_search.proofs.Endings.{entry_finishes, whole_root, whole_write, writes_begun}

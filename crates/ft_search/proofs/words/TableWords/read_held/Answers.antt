@@ -1,7 +1,9 @@
-use Rattle.std.proofs.Common.{ℕ, List, ◌++◌, ap, subst}
+use Rattle.std.proofs.Common.{ℕ, List, ◌++◌, sym, ap, ◌∙◌, subst}
 use Rattle.ft_keys.specs.Searches.{Searched}
+use Rattle.ft_keys.specs.Ways.{walk_slots}
 use Rattle.ft_search.specs.Held.{ReadsEntry}
 use Rattle.ft_search.specs.Words.{known_words}
+use Rattle.ft_search.proofs.Costing.{few_append}
 use Rattle.ft_search.proofs.Running.{did_trans}
 use Rattle.ft_search.proofs.Rounding.{looks_append}
 use Rattle.ft_search.proofs.Places.{mask_is}
@@ -19,7 +21,7 @@ returns-clause-looks c =
     let s2 = c.read_found-read.new.self in
     let a = c.seek_held-found.ensures.looks in
     let b = c.read_found-read.ensures.looks in
-    (b.0 ++ a.0, looks_append b.0 a.0 b.1 a.1, did_trans b.0 a.0 s0.pass.now s1.pass.now s2.pass.now a.2 b.2)
+    (b.0 ++ a.0, looks_append b.0 a.0 b.1 a.1, did_trans b.0 a.0 s0.pass.now s1.pass.now s2.pass.now a.2 b.2, few_append c.args.way b.0 a.0 b.3 (a.3 c.args.way c.args.hash (ap (λ z. z.left) c.new-walk.ensures ∙ (λ i. walk_slots c.args.way c.args.hash (sym (ap (λ z. z.mask) c.new-walk.ensures) i)))))
 
 pub returns-clause-searched : goal.returns-clause-searched
 returns-clause-searched c =

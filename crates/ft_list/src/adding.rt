@@ -19,6 +19,7 @@ ghost use Rattle.ft_bank.specs.Sections.{stack_of};
 ghost use Rattle.ft_bank.specs.Whole.{OnlyLoaded};
 ghost use Rattle.ft_section.specs.declared.answers.Objects.TheVariants.{One, Two};
 ghost use Rattle.ft_section.specs.Ready.{MayTry};
+ghost use Rattle.ft_section.specs.Trying.{SectionsAfter};
 ghost use Rattle.ft_growth.specs.Adding.{IsAdded, IsTryOf, KeepsCursors};
 ghost use Rattle.ft_list.specs.Items.{items_of};
 ghost use Rattle.ft_list.specs.Calls.{MayWriteList, Adds};
@@ -290,6 +291,7 @@ pub fn try_append(bank: &Bank, pass: &mut Pass, l: Object, value: Value) -> Step
     requires list { kind_in (shape_of bank.now).kinds l ≡ kind.List }
     requires left { 0 < (view pass.old).left }
     ensures may { MayTry bank.now pass.new (One l) }
+    ensures sections { SectionsAfter bank.now (One l) pass.old pass.new result }
     ensures tried { IsTryOf (One l) (AddsItems (shape_of bank.now) l (call.List l (list.Append value)) 1) reply.Done
         (view pass.old) (view pass.new) result }
     ensures cursors { KeepsCursors (view pass.old) (view pass.new) }
@@ -316,6 +318,7 @@ pub fn try_insert(bank: &Bank, pass: &mut Pass, l: Object, index: i64, value: Va
     requires list { kind_in (shape_of bank.now).kinds l ≡ kind.List }
     requires left { 0 < (view pass.old).left }
     ensures may { MayTry bank.now pass.new (One l) }
+    ensures sections { SectionsAfter bank.now (One l) pass.old pass.new result }
     ensures tried { IsTryOf (One l) (AddsItems (shape_of bank.now) l (call.List l (list.Insert index value)) 1) reply.Done
         (view pass.old) (view pass.new) result }
     ensures cursors { KeepsCursors (view pass.old) (view pass.new) }
@@ -345,6 +348,7 @@ pub fn try_extend(bank: &Bank, pass: &mut Pass, l: Object, m: Object) -> Step
     requires other_list { kind_in (shape_of bank.now).kinds m ≡ kind.List }
     requires left { 0 < (view pass.old).left }
     ensures may { MayTry bank.now pass.new (Two l m) }
+    ensures sections { SectionsAfter bank.now (Two l m) pass.old pass.new result }
     ensures tried { IsTryOf (Two l m) (ExtendsBy (shape_of bank.now) l m) reply.Done (view pass.old) (view pass.new)
         result }
     ensures cursors { KeepsCursors (view pass.old) (view pass.new) }

@@ -15,6 +15,7 @@ ghost use Rattle.ft_bank.specs.Sections.{stack_of};
 ghost use Rattle.ft_bank.specs.Whole.{Wrote};
 ghost use Rattle.ft_section.specs.declared.answers.Objects.TheVariants.{One};
 ghost use Rattle.ft_section.specs.Ready.{MayTry};
+ghost use Rattle.ft_section.specs.Trying.{SectionsAfter};
 ghost use Rattle.ft_growth.specs.Adding.{KeepsCursors};
 ghost use Rattle.ft_list.specs.Calls.{MayWriteList};
 ghost use Rattle.ft_list.specs.Growing.{IsCleared, IsClearOf};
@@ -106,6 +107,7 @@ pub fn try_clear(bank: &Bank, pass: &mut Pass, l: Object) -> Step
     requires list { kind_in (shape_of bank.now).kinds l ≡ kind.List }
     requires left { 0 < (view pass.old).left }
     ensures may { MayTry bank.now pass.new (One l) }
+    ensures sections { SectionsAfter bank.now (One l) pass.old pass.new result }
     ensures tried { IsClearOf l (view pass.old) (view pass.new) result }
     ensures cursors { KeepsCursors (view pass.old) (view pass.new) }
 {

@@ -15,6 +15,7 @@ ghost use Rattle.ft_bank.specs.Sections.{stack_of};
 ghost use Rattle.ft_bank.specs.Series.{DidAll};
 ghost use Rattle.ft_section.specs.declared.answers.Objects.TheVariants.{One};
 ghost use Rattle.ft_section.specs.Ready.{MayTry};
+ghost use Rattle.ft_section.specs.Trying.{SectionsAfter};
 ghost use Rattle.ft_search.specs.Lengths.{IsGlanceOf};
 ghost use Rattle.ft_search.specs.Looks.{AreLooks};
 ghost use Rattle.ft_search.specs.Tries.{IsReadOf};
@@ -124,6 +125,7 @@ pub fn try_get(bank: &Bank, pass: &mut Pass, l: Object, index: i64) -> Step
     requires list { kind_in (shape_of bank.now).kinds l ≡ kind.List }
     requires left { 0 < (view pass.old).left }
     ensures may { MayTry bank.now pass.new (One l) }
+    ensures sections { SectionsAfter bank.now (One l) pass.old pass.new result }
     ensures read { IsReadOf l (call.List l (list.Get index)) (view pass.old) (view pass.new) result }
 {
     match take_for(bank, pass, Objects::One(l)) {

@@ -10,6 +10,7 @@ ghost use Rattle.ft_bank.specs.Passes.{shape_of, view, IsPassOf};
 ghost use Rattle.ft_bank.specs.Sections.{stack_of};
 ghost use Rattle.ft_section.specs.declared.answers.Objects.TheVariants.{Two};
 ghost use Rattle.ft_section.specs.Ready.{MayTry};
+ghost use Rattle.ft_section.specs.Trying.{SectionsAfter};
 ghost use Rattle.ft_list.specs.Calls.{MayWriteList};
 ghost use Rattle.ft_list.specs.Pairs.{ReadsBoth, AreOfItems};
 ghost use Rattle.ft_search.specs.Calls.{MadeAs, IsMadeOf};
@@ -77,6 +78,7 @@ pub fn try_eq(bank: &Bank, pass: &mut Pass, l: Object, m: Object) -> Step
     requires other_list { kind_in (shape_of bank.now).kinds m ≡ kind.List }
     requires left { 0 < (view pass.old).left }
     ensures may { MayTry bank.now pass.new (Two l m) }
+    ensures sections { SectionsAfter bank.now (Two l m) pass.old pass.new result }
     ensures made { IsMadeOf (Two l m) (call.List l (list.Eq m)) (view pass.old) (view pass.new) result }
 {
     match take_for(bank, pass, Objects::Two(l, m)) {

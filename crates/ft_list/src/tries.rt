@@ -8,6 +8,7 @@ ghost use Rattle.ft_trace.specs.Worlds.{kind_in};
 ghost use Rattle.ft_bank.specs.Passes.{shape_of, view};
 ghost use Rattle.ft_section.specs.declared.answers.Objects.TheVariants.{One};
 ghost use Rattle.ft_section.specs.Ready.{MayTry};
+ghost use Rattle.ft_section.specs.Trying.{SectionsAfter};
 ghost use Rattle.ft_search.specs.Calls.{IsMadeOf};
 ghost use Rattle.ft_list.specs.Copies.{IsCopyOf};
 
@@ -33,6 +34,7 @@ pub fn try_set(bank: &Bank, pass: &mut Pass, l: Object, index: i64, value: Value
     requires list { kind_in (shape_of bank.now).kinds l ≡ kind.List }
     requires left { 0 < (view pass.old).left }
     ensures may { MayTry bank.now pass.new (One l) }
+    ensures sections { SectionsAfter bank.now (One l) pass.old pass.new result }
     ensures made { IsMadeOf (One l) (call.List l (list.Set index value)) (view pass.old) (view pass.new) result }
 {
     match take_for(bank, pass, Objects::One(l)) {
@@ -57,6 +59,7 @@ pub fn try_del(bank: &Bank, pass: &mut Pass, l: Object, index: i64) -> Step
     requires list { kind_in (shape_of bank.now).kinds l ≡ kind.List }
     requires left { 0 < (view pass.old).left }
     ensures may { MayTry bank.now pass.new (One l) }
+    ensures sections { SectionsAfter bank.now (One l) pass.old pass.new result }
     ensures made { IsMadeOf (One l) (call.List l (list.Del index)) (view pass.old) (view pass.new) result }
 {
     match take_for(bank, pass, Objects::One(l)) {
@@ -81,6 +84,7 @@ pub fn try_pop(bank: &Bank, pass: &mut Pass, l: Object, index: Option<i64>) -> S
     requires list { kind_in (shape_of bank.now).kinds l ≡ kind.List }
     requires left { 0 < (view pass.old).left }
     ensures may { MayTry bank.now pass.new (One l) }
+    ensures sections { SectionsAfter bank.now (One l) pass.old pass.new result }
     ensures made { IsMadeOf (One l) (call.List l (list.Pop index)) (view pass.old) (view pass.new) result }
 {
     match take_for(bank, pass, Objects::One(l)) {
@@ -105,6 +109,7 @@ pub fn try_remove(bank: &Bank, pass: &mut Pass, l: Object, value: Value) -> Step
     requires list { kind_in (shape_of bank.now).kinds l ≡ kind.List }
     requires left { 0 < (view pass.old).left }
     ensures may { MayTry bank.now pass.new (One l) }
+    ensures sections { SectionsAfter bank.now (One l) pass.old pass.new result }
     ensures made { IsMadeOf (One l) (call.List l (list.Remove value)) (view pass.old) (view pass.new) result }
 {
     match take_for(bank, pass, Objects::One(l)) {
@@ -129,6 +134,7 @@ pub fn try_index(bank: &Bank, pass: &mut Pass, l: Object, value: Value) -> Step
     requires list { kind_in (shape_of bank.now).kinds l ≡ kind.List }
     requires left { 0 < (view pass.old).left }
     ensures may { MayTry bank.now pass.new (One l) }
+    ensures sections { SectionsAfter bank.now (One l) pass.old pass.new result }
     ensures made { IsMadeOf (One l) (call.List l (list.Index value)) (view pass.old) (view pass.new) result }
 {
     match take_for(bank, pass, Objects::One(l)) {
@@ -153,6 +159,7 @@ pub fn try_count(bank: &Bank, pass: &mut Pass, l: Object, value: Value) -> Step
     requires list { kind_in (shape_of bank.now).kinds l ≡ kind.List }
     requires left { 0 < (view pass.old).left }
     ensures may { MayTry bank.now pass.new (One l) }
+    ensures sections { SectionsAfter bank.now (One l) pass.old pass.new result }
     ensures made { IsMadeOf (One l) (call.List l (list.Count value)) (view pass.old) (view pass.new) result }
 {
     match take_for(bank, pass, Objects::One(l)) {
@@ -177,6 +184,7 @@ pub fn try_has(bank: &Bank, pass: &mut Pass, l: Object, value: Value) -> Step
     requires list { kind_in (shape_of bank.now).kinds l ≡ kind.List }
     requires left { 0 < (view pass.old).left }
     ensures may { MayTry bank.now pass.new (One l) }
+    ensures sections { SectionsAfter bank.now (One l) pass.old pass.new result }
     ensures made { IsMadeOf (One l) (call.List l (list.Has value)) (view pass.old) (view pass.new) result }
 {
     match take_for(bank, pass, Objects::One(l)) {
@@ -201,6 +209,7 @@ pub fn try_reverse(bank: &Bank, pass: &mut Pass, l: Object) -> Step
     requires list { kind_in (shape_of bank.now).kinds l ≡ kind.List }
     requires left { 0 < (view pass.old).left }
     ensures may { MayTry bank.now pass.new (One l) }
+    ensures sections { SectionsAfter bank.now (One l) pass.old pass.new result }
     ensures made { IsMadeOf (One l) (call.List l list.Reverse) (view pass.old) (view pass.new) result }
 {
     match take_for(bank, pass, Objects::One(l)) {
@@ -233,6 +242,7 @@ pub fn try_slice(
     requires list { kind_in (shape_of bank.now).kinds l ≡ kind.List }
     requires left { 0 < (view pass.old).left }
     ensures may { MayTry bank.now pass.new (One l) }
+    ensures sections { SectionsAfter bank.now (One l) pass.old pass.new result }
     ensures made { IsCopyOf (One l) (call.List l (list.Slice start end)) (view pass.old) (view pass.new) result }
 {
     match take_for(bank, pass, Objects::One(l)) {
@@ -261,6 +271,7 @@ pub fn try_items(bank: &Bank, pass: &mut Pass, alloc: Global, l: Object) -> Step
     requires list { kind_in (shape_of bank.now).kinds l ≡ kind.List }
     requires left { 0 < (view pass.old).left }
     ensures may { MayTry bank.now pass.new (One l) }
+    ensures sections { SectionsAfter bank.now (One l) pass.old pass.new result }
     ensures made { IsCopyOf (One l) (call.List l list.Items) (view pass.old) (view pass.new) result }
 {
     match take_for(bank, pass, Objects::One(l)) {

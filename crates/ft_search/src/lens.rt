@@ -13,6 +13,7 @@ ghost use Rattle.ft_bank.specs.Sections.{stack_of};
 ghost use Rattle.ft_bank.specs.Series.{DidAll};
 ghost use Rattle.ft_section.specs.declared.answers.Objects.TheVariants.{One};
 ghost use Rattle.ft_section.specs.Ready.{MayTry};
+ghost use Rattle.ft_section.specs.Trying.{SectionsAfter};
 ghost use Rattle.ft_search.specs.Looks.{AreLooks};
 ghost use Rattle.ft_search.specs.Lengths.{len_of, ShowsCounted, IsGlanceOf};
 ghost use Rattle.ft_search.specs.Tries.{IsReadOf};
@@ -104,6 +105,7 @@ pub fn try_len(bank: &Bank, pass: &mut Pass, o: Object, call: &Call) -> Step
     requires call { call.now ≡ len_of (kind_in (shape_of bank.now).kinds o) o }
     requires left { 0 < (view pass.old).left }
     ensures may { MayTry bank.now pass.new (One o) }
+    ensures sections { SectionsAfter bank.now (One o) pass.old pass.new result }
     ensures read { IsReadOf o call.now (view pass.old) (view pass.new) result }
 {
     match take_for(bank, pass, Objects::One(o)) {

@@ -2,7 +2,10 @@ use Rattle.std.proofs.Common.{ℕ, ◌<◌, refl, sym, ◌∙◌, subst}
 use Rattle.ft_model.specs.declared.call.Call.TheVariants as call
 use Rattle.ft_model.specs.declared.call.ListCall.TheVariants as list
 use Rattle.ft_bank.specs.Passes.{shape_of, view}
-use Rattle.ft_growth.proofs.Staying.{making_added}
+use Rattle.ft_section.specs.declared.answers.Objects.TheVariants.{Two}
+use Rattle.ft_section.specs.Trying.{SectionsAfter}
+use Rattle.ft_section.proofs.Tries.{let_gone}
+use Rattle.ft_growth.proofs.Staying.{gone_as, making_added}
 use Rattle.ft_list.proofs.Both.{has_each, are_in}
 use Rattle.ft_list.proofs.Trying.{may_write}
 use Rattle.ft_list.proofs.adding.try_extend.Goals as goal
@@ -29,3 +32,15 @@ let_go-requires c =
 
 pub returns-in-Have-clause-cursors : goal.returns-in-Have-clause-cursors
 returns-in-Have-clause-cursors c number = c.let_go.ensures.locked.cursors number ∙ (c.extend_by-added.ensures.cursors number ∙ c.in-Have.ensures.locked.cursors number)
+
+pub returns-in-Have-clause-sections : goal.returns-in-Have-clause-sections
+returns-in-Have-clause-sections c =
+    let b = c.args.bank.now in
+    let p = c.args.pass.now in
+    let q = c.let_go.new.pass in
+    subst (SectionsAfter b (Two c.args.l c.args.m) p q) (sym c.step_of.ensures)
+    (gone_as b (Two c.args.l c.args.m) p q _ c.extend_by-added.result
+    (let_gone b p c.take_for.new.pass c.extend_by-added.new.pass q c.in-Have.ensures.took c.extend_by-added.ensures.stack c.let_go.ensures.stack c.let_go.ensures.may c.let_go.ensures.resume))
+
+pub returns-in-NotYet-clause-sections : goal.returns-in-NotYet-clause-sections
+returns-in-NotYet-clause-sections c = c.in-NotYet.ensures.waiting

@@ -9,7 +9,9 @@ use Rattle.ft_section.specs.declared.answers.Objects.TheVariants.{One}
 use Rattle.ft_section.specs.declared.answers.Step.{Step}
 use Rattle.ft_model.specs.declared.reply.Reply.TheVariants as reply
 use Rattle.ft_growth.specs.Adding.{IsTryOf}
-use Rattle.ft_growth.proofs.Staying.{making_added, tried_as}
+use Rattle.ft_section.specs.Trying.{SectionsAfter}
+use Rattle.ft_section.proofs.Tries.{let_gone}
+use Rattle.ft_growth.proofs.Staying.{gone_as, making_added, tried_as}
 use Rattle.ft_list.specs.Growing.{AddsItems}
 use Rattle.ft_list.proofs.adding.try_insert.Goals as goal
 
@@ -35,3 +37,15 @@ returns-in-Have-clause-tried c =
 
 pub returns-in-Have-clause-cursors : goal.returns-in-Have-clause-cursors
 returns-in-Have-clause-cursors c number = c.let_go.ensures.locked.cursors number ∙ (c.insert_by-added.ensures.cursors number ∙ c.in-Have.ensures.locked.cursors number)
+
+pub returns-in-Have-clause-sections : goal.returns-in-Have-clause-sections
+returns-in-Have-clause-sections c =
+    let b = c.args.bank.now in
+    let p = c.args.pass.now in
+    let q = c.let_go.new.pass in
+    subst (SectionsAfter b (One c.args.l) p q) (sym c.step_of.ensures)
+    (gone_as b (One c.args.l) p q _ c.insert_by-added.result
+    (let_gone b p c.take_for.new.pass c.insert_by-added.new.pass q c.in-Have.ensures.took c.insert_by-added.ensures.stack c.let_go.ensures.stack c.let_go.ensures.may c.let_go.ensures.resume))
+
+pub returns-in-NotYet-clause-sections : goal.returns-in-NotYet-clause-sections
+returns-in-NotYet-clause-sections c = c.in-NotYet.ensures.waiting

@@ -6,6 +6,7 @@ use Rattle.ft_section.specs.declared.answers.Objects.TheVariants.{Two}
 use Rattle.ft_list.proofs.Both.{has_each, are_in}
 use Rattle.ft_search.proofs.Calling.{making_made}
 use Rattle.ft_list.proofs.Trying.{may_write}
+use Rattle.ft_section.proofs.Tries.{let_gone}
 use Rattle.ft_list.proofs.pairs.try_eq.Goals as goal
 
 pub take_for-requires-clause-containers : goal.take_for-requires-clause-containers
@@ -46,3 +47,9 @@ returns-in-NotYet-clause-may c = inr c.in-NotYet.ensures.waiting.0
 
 pub returns-in-NotYet-clause-made : goal.returns-in-NotYet-clause-made
 returns-in-NotYet-clause-made c = (c.in-NotYet.ensures.locked, c.in-NotYet.ensures.found.0, c.in-NotYet.ensures.found.1)
+
+pub returns-in-Have-clause-sections : goal.returns-in-Have-clause-sections
+returns-in-Have-clause-sections c = let_gone c.args.bank.now c.args.pass.now c.take_for.new.pass c.eq_locked-reply.new.pass c.let_go.new.pass c.in-Have.ensures.took c.eq_locked-reply.ensures.stack c.let_go.ensures.stack c.let_go.ensures.may c.let_go.ensures.resume
+
+pub returns-in-NotYet-clause-sections : goal.returns-in-NotYet-clause-sections
+returns-in-NotYet-clause-sections c = c.in-NotYet.ensures.waiting

@@ -8,6 +8,7 @@ use Rattle.ft_bank.specs.Passes.{view}
 use Rattle.ft_section.specs.declared.answers.Objects.TheVariants.{One}
 use Rattle.ft_list.specs.Copies.{IsCopied}
 use Rattle.ft_list.proofs.Trying.{may_write, making_copied}
+use Rattle.ft_section.proofs.Tries.{let_gone}
 use Rattle.ft_list.proofs.tries.try_slice.Goals as goal
 
 pub slice_locked-copied-requires-clause-pass : goal.slice_locked-copied-requires-clause-pass
@@ -53,3 +54,12 @@ returns-in-NotYet-clause-may c = inr c.in-NotYet.ensures.waiting.0
 
 pub returns-in-NotYet-clause-made : goal.returns-in-NotYet-clause-made
 returns-in-NotYet-clause-made c = (c.in-NotYet.ensures.locked, c.in-NotYet.ensures.found.0, c.in-NotYet.ensures.found.1)
+
+pub returns-in-Ok-clause-sections : goal.returns-in-Ok-clause-sections
+returns-in-Ok-clause-sections c = let_gone c.args.bank.now c.args.pass.now c.take_for.new.pass c.slice_locked-copied.new.pass c.let_go.new.pass c.in-Have.ensures.took c.slice_locked-copied.ensures.stack c.let_go.ensures.stack c.let_go.ensures.may c.let_go.ensures.resume
+
+pub returns-in-Err-clause-sections : goal.returns-in-Err-clause-sections
+returns-in-Err-clause-sections c = let_gone c.args.bank.now c.args.pass.now c.take_for.new.pass c.slice_locked-copied.new.pass c.let_go.new.pass c.in-Have.ensures.took c.slice_locked-copied.ensures.stack c.let_go.ensures.stack c.let_go.ensures.may c.let_go.ensures.resume
+
+pub returns-in-NotYet-clause-sections : goal.returns-in-NotYet-clause-sections
+returns-in-NotYet-clause-sections c = c.in-NotYet.ensures.waiting

@@ -17,5 +17,7 @@ mod writes;
 mod writing;
 
 pub use crate::rounds::{go_round, go_round_with};
-pub use crate::workers::{Tally, take_once, work, work_in_four, work_in_two, write_once};
+pub use crate::workers::{
+    Tally, close_counted, take_once, work, work_in_four, work_in_two, write_once,
+};
 pub use crate::writes::reverse_bare;

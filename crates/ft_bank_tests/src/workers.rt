@@ -1,10 +1,11 @@
 //! A thread's work on a bank: it writes a list that has nothing, takes a table and gives it back, over and over.
-ghost use Rattle.std.specs.Prelude.{◌≡◌, ◌+◌, ◌*◌, ◌^◌, ◌<◌, ◌≤◌};
+ghost use Rattle.std.specs.Prelude.{◌≡◌, ◌+◌, ◌*◌, ◌^◌, ◌<◌, ◌≤◌, length};
+ghost use Rattle.ft_bank.specs.Closings.{IsWhole, entries_in};
 ghost use Rattle.ft_bank.specs.Passes.{shape_of, view};
 ghost use Rattle.ft_bank_tests.specs.Working.{HasWorkOf, IsListIn, IsPair, IsWorker, Worked, count_of, left_of, parts_of};
 
 use crate::writes::reverse_bare;
-use ft_bank::{Bank, Pass, Took};
+use ft_bank::{Bank, Closed, Pass, Took};
 use std::thread;
 use std::thread::Threads;
 
@@ -175,4 +176,17 @@ pub fn work_in_four<R: Threads + Sync>(
     );
     bank.join(&mut first, second);
     (first, ours.and(theirs))
+}
+
+/// Closes the bank after that many calls of all passes: the closed bank has one entry for each of them, and no other.
+pub fn close_counted(bank: Bank, pass: Pass, made: u64) -> Closed
+    requires worker { IsWorker bank pass }
+    requires all { (view pass).parts ≡ (shape_of bank).passes }
+    requires left { (view pass).left + made ≡ (shape_of bank).passes * (shape_of bank).calls }
+    ensures count { length (entries_in result) ≡ made }
+    ensures whole { IsWhole result }
+{
+    let closed = bank.close(pass);
+    closed.entries_are_whole();
+    closed
 }

@@ -5,8 +5,8 @@ ghost use Rattle.ft_model.specs.declared.script.Kind.TheVariants as kind;
 ghost use Rattle.ft_bank.specs.Openings.{IsOpening, AreOpening};
 
 use crate::steps::{small, two};
-use crate::{work_in_four, work_in_two, write_once};
-use ft_bank::{Bank, Pass, Shape};
+use crate::{close_counted, work_in_four, work_in_two, write_once};
+use ft_bank::{Bank, Pass, Shape, Took};
 use ft_model::Kind;
 use std::alloc::Global;
 use std::test::Fail;
@@ -52,14 +52,17 @@ fn a_note_tells_of_a_write(rt: HostRuntime) -> Result<(), Fail> {
     Ok(())
 }
 
-fn one_list(alloc: Global, passes: u32) -> Result<Shape, Fail>
+/// One list, three tables of each class but the least.
+fn one_list(alloc: Global, passes: u32, least: u32) -> Result<Shape, Fail>
     ensures sizes { IfOk result (λ s. (length s.kinds.items ≡ 1) × (s.passes ≡ passes) × (s.calls ≡ 2000)) }
     ensures kinds { IfOk result (λ s. s.kinds.items ≡ kind.List ∷ []) }
 {
+    let mut tables = vec![in alloc; 3u32; 14]?;
+    tables[0] = least;
     Ok(Shape {
         kinds: vec![in alloc; Kind::List]?,
         texts: Vec::new(alloc),
-        tables: vec![in alloc; 3u32; 14]?,
+        tables,
         heap: 64,
         passes,
         calls: 2_000,
@@ -69,7 +72,7 @@ fn one_list(alloc: Global, passes: u32) -> Result<Shape, Fail>
 #[test]
 fn two_threads_write_and_take_tables(rt: HostRuntime) -> Result<(), Fail> {
     let alloc = rt.alloc();
-    let shape = one_list(alloc, 2)?;
+    let shape = one_list(alloc, 2, 3)?;
     if !shape.fits() {
         return Err(Fail::from("a small shape fits"));
     }
@@ -83,8 +86,8 @@ fn two_threads_write_and_take_tables(rt: HostRuntime) -> Result<(), Fail> {
     assert_eq!(rt; tally.numbers, sum_below(tally.writes));
     assert_eq!(rt; pass.left(), 4_000 - tally.writes);
     assert!(rt; tally.writes > 0 && tally.tables > 0);
-    let closed = bank.close(pass);
-    closed.entries_are_whole();
+    // The entries of the closed bank are as many as the writes that the threads counted.
+    close_counted(bank, pass, tally.writes);
     Ok(())
 }
 
@@ -114,7 +117,7 @@ fn four(bank: &Bank, passes: Vec<Pass>) -> Result<(Pass, Pass, Pass, Pass), Fail
 #[test]
 fn four_threads_write_and_take_tables(rt: HostRuntime) -> Result<(), Fail> {
     let alloc = rt.alloc();
-    let shape = one_list(alloc, 4)?;
+    let shape = one_list(alloc, 4, 3)?;
     if !shape.fits() {
         return Err(Fail::from("a small shape fits"));
     }
@@ -127,8 +130,27 @@ fn four_threads_write_and_take_tables(rt: HostRuntime) -> Result<(), Fail> {
     assert_eq!(rt; tally.numbers, sum_below(tally.writes));
     assert_eq!(rt; pass.left(), 8_000 - tally.writes);
     assert!(rt; tally.writes > 0 && tally.tables > 0);
-    let closed = bank.close(pass);
-    closed.entries_are_whole();
+    close_counted(bank, pass, tally.writes);
+    Ok(())
+}
+
+#[test]
+fn four_threads_go_round_a_class_of_1024_tables(rt: HostRuntime) -> Result<(), Fail> {
+    let alloc = rt.alloc();
+    let shape = one_list(alloc, 4, 1_024)?;
+    if !shape.fits() {
+        return Err(Fail::from("a class may have 1,024 tables"));
+    }
+    let Ok((bank, passes)) = Bank::new(alloc, shape) else {
+        return Err(Fail::from("there is memory"));
+    };
+    let (first, second, third, fourth) = four(&bank, passes)?;
+    let (mut pass, tally) = work_in_four(&rt, &bank, (first, second), (third, fourth), 0, 256);
+    assert!(rt; 0 < tally.tables && tally.tables <= 1_024);
+    let Took::Taken(table) = bank.take_table(&mut pass, 3) else {
+        return Err(Fail::from("all tables were given back"));
+    };
+    assert_eq!(rt; table.number, 0);
     Ok(())
 }
 

@@ -5,6 +5,7 @@
 //! entry to the pass at most, and that this entry has the reply of the plain dict at its stamp.
 #![tactic(auto)]
 
+mod clears;
 mod deletes;
 mod lens;
 mod locked;
@@ -13,6 +14,7 @@ mod pops;
 mod tries;
 mod values;
 
+pub use crate::clears::{clear_by, try_clear};
 pub use crate::deletes::{del_locked, pop_locked, popd_locked};
 pub use crate::lens::{look_len, try_len};
 pub use crate::looks::{look_get, look_getd, look_has};

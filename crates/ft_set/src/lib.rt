@@ -6,6 +6,7 @@
 #![tactic(auto)]
 
 mod adds;
+mod clears;
 mod deletes;
 mod lens;
 mod locked;
@@ -14,6 +15,7 @@ mod pops;
 mod tries;
 
 pub use crate::adds::add_present;
+pub use crate::clears::{clear_by, try_clear};
 pub use crate::deletes::{discard_locked, remove_locked};
 pub use crate::lens::{look_len, try_len};
 pub use crate::looks::look_has;

@@ -1,0 +1,24 @@
+use Rattle.std.proofs.Common.{refl, sym, ◌∙◌, subst}
+use Rattle.ft_model.specs.declared.call.Call.TheVariants as call
+use Rattle.ft_model.specs.declared.call.DictCall.TheVariants as dict
+use Rattle.ft_model.specs.declared.reply.Reply.TheVariants as reply
+use Rattle.ft_trace.specs.Holds.{known}
+use Rattle.ft_bank.specs.Passes.{shape_of, view}
+use Rattle.ft_growth.proofs.Cursors.{given_cursors}
+use Rattle.ft_search.specs.Writing.{Leaves}
+use Rattle.ft_keyed.specs.Clearing.{cleared_kept}
+use Rattle.ft_dict.proofs.Leaving as left
+use Rattle.ft_dict.proofs.Deleted.{known_dict}
+use Rattle.ft_dict.proofs.clears.clear_by.Goals as goal
+
+pub clear_keyed-requires-clause-leaves : goal.clear_keyed-requires-clause-leaves
+clear_keyed-requires-clause-leaves c =
+    let a = c.args in
+    let v = view a.pass.now in
+    let p = known_dict (shape_of a.bank.now) v a.d c.requires.pass.1 a.pass.now.possible c.requires.may c.requires.dict in
+    left.clear_leaves a.d v p.0 p.2 c.requires.may.locked p.1
+
+pub returns-clause-cursors : goal.returns-clause-cursors
+returns-clause-cursors c number =
+    let x = c.clear_keyed.ensures.cleared.1 in
+    given_cursors (call.Dict c.args.d dict.Clear) reply.Done c.clear_keyed.result.number x.0 (view c.clear_keyed.new.pass) x.2 number ∙ x.1.work.pass.cursors number

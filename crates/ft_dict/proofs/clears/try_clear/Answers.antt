@@ -1,0 +1,25 @@
+use Rattle.std.proofs.Common.{ℕ, ◌<◌, refl, sym, ◌∙◌, subst}
+use Rattle.ft_model.specs.declared.call.Call.TheVariants as call
+use Rattle.ft_model.specs.declared.call.DictCall.TheVariants as dict
+use Rattle.ft_model.specs.declared.reply.Reply.TheVariants as reply
+use Rattle.ft_model.specs.declared.script.Kind.{Kind}
+use Rattle.ft_trace.specs.Kinds.{IsKeyed}
+use Rattle.ft_bank.specs.Passes.{shape_of, view}
+use Rattle.ft_growth.proofs.Staying.{making_given}
+use Rattle.ft_search.proofs.Calling.{making_may}
+use Rattle.ft_dict.proofs.clears.try_clear.Goals as goal
+
+pub clear_by-stamp-requires-clause-may : goal.clear_by-stamp-requires-clause-may
+clear_by-stamp-requires-clause-may c =
+    making_may c.args.bank.now c.take_for.new.pass (shape_of c.args.bank.now) c.args.d c.in-Have.ensures.making c.in-Have.ensures.making.inside.0.1 c.requires.container (subst (λ (z : Kind). IsKeyed z) (sym c.requires.dict) tt) c.in-Have.ensures.has.0.0
+    (subst (λ (n : ℕ). 0 < n) (sym c.in-Have.ensures.locked.left) c.requires.left)
+
+pub let_go-requires : goal.let_go-requires
+let_go-requires c =
+    let a = c.args in
+    let e = c.clear_by-stamp.ensures in
+    let x = e.cleared.1 in
+    making_given a.bank.now c.take_for.new.pass c.clear_by-stamp.new.pass c.in-Have.ensures.making e.pass e.stack x.0 x.1 (call.Dict a.d dict.Clear) reply.Done c.clear_by-stamp.result.number x.2
+
+pub returns-in-Have-clause-cursors : goal.returns-in-Have-clause-cursors
+returns-in-Have-clause-cursors c number = c.let_go.ensures.locked.cursors number ∙ (c.clear_by-stamp.ensures.cursors number ∙ c.in-Have.ensures.locked.cursors number)

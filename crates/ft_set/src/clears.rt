@@ -1,0 +1,67 @@
+//! `clear` of a set, under its lock and as a try. Its root names no table before the counter is raised, and the table
+//! that it had is retired.
+ghost use Rattle.std.specs.Prelude.{◌≡◌, ◌<◌, false};
+ghost use Rattle.ft_model.specs.declared.call.Call.TheVariants as call;
+ghost use Rattle.ft_model.specs.declared.call.SetCall.TheVariants as set;
+ghost use Rattle.ft_model.specs.declared.script.Kind.TheVariants as kind;
+ghost use Rattle.ft_trace.specs.Acts.{flight, used};
+ghost use Rattle.ft_trace.specs.Addresses.{containers_in};
+ghost use Rattle.ft_trace.specs.Worlds.{kind_in};
+ghost use Rattle.ft_bank.specs.Passes.{shape_of, view, IsPassOf};
+ghost use Rattle.ft_bank.specs.Sections.{stack_of};
+ghost use Rattle.ft_section.specs.declared.answers.Objects.TheVariants.{One};
+ghost use Rattle.ft_section.specs.Ready.{MayTry};
+ghost use Rattle.ft_section.specs.Trying.{SectionsAfter};
+ghost use Rattle.ft_growth.specs.Adding.{KeepsCursors};
+ghost use Rattle.ft_search.specs.Writing.{MayWriteEntries};
+ghost use Rattle.ft_keyed.specs.Clearing.{IsCleared, IsClearOf};
+
+use ft_bank::{Bank, Pass};
+use ft_keyed::clear_keyed;
+use ft_model::{Call, Reply, SetCall};
+use ft_section::{Got, Object, Objects, Stamp, Step, let_go, take_for};
+
+/// `s.clear()`, by a pass that has the set's lock (Python manual, Set Types): the set has no table then.
+pub fn clear_by(bank: &Bank, pass: &mut Pass, s: Object) -> Stamp
+    requires pass { IsPassOf bank.now pass.old }
+    requires may { MayWriteEntries (shape_of bank.now) s (view pass.old) }
+    requires set { kind_in (shape_of bank.now).kinds s ≡ kind.Set }
+    requires used { used (view pass.old).log ≡ false }
+    requires idle { flight (view pass.old).log ≡ 0 }
+    ensures pass { IsPassOf bank.now pass.new }
+    ensures stack { stack_of pass.new ≡ stack_of pass.old }
+    ensures cleared { IsCleared (call.Set s set.Clear) result (view pass.old) (view pass.new) }
+    ensures cursors { KeepsCursors (view pass.old) (view pass.new) }
+{
+    let called = Call::Set {
+        container: s,
+        call: SetCall::Clear,
+    };
+    clear_keyed(bank, pass, s, &called)
+}
+
+/// `s.clear()` under the lock (Python manual, Set Types).
+///
+/// # Errors
+///
+/// `NotYet` where a step of the call found another pass with the lock of the set; the same call comes next. It never
+/// answers `Moved` or `NoMemory`.
+pub fn try_clear(bank: &Bank, pass: &mut Pass, s: Object) -> Step
+    requires may { MayTry bank.now pass.old (One s) }
+    requires container { s < containers_in (shape_of bank.now) }
+    requires set { kind_in (shape_of bank.now).kinds s ≡ kind.Set }
+    requires left { 0 < (view pass.old).left }
+    ensures may { MayTry bank.now pass.new (One s) }
+    ensures tried { IsClearOf s (call.Set s set.Clear) (view pass.old) (view pass.new) result }
+    ensures sections { SectionsAfter bank.now (One s) pass.old pass.new result }
+    ensures cursors { KeepsCursors (view pass.old) (view pass.new) }
+{
+    match take_for(bank, pass, Objects::One(s)) {
+        Got::Have => {
+            let stamp = clear_by(bank, pass, s);
+            let_go(bank, pass);
+            Step::Done(Reply::Done, stamp)
+        }
+        Got::NotYet(container, owner) => Step::NotYet(container, owner),
+    }
+}

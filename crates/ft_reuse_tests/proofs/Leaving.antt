@@ -1,0 +1,55 @@
+-- What calls and goodbyes leave of a pass that is to be taken in.
+use Rattle.std.proofs.Common.{◌≡◌, ◌⊎◌, ℕ, zero, suc, false, Option, Some, None, sym, ap, ◌∙◌, subst, inl, inr, ⊎_elim}
+use Rattle.ft_model.specs.declared.call.Call.{Call}
+use Rattle.ft_model.specs.declared.reply.Reply.{Reply}
+use Rattle.ft_trace.specs.declared.Act.TheVariants.{Announce}
+use Rattle.ft_trace.specs.declared.Shape.{Shape}
+use Rattle.ft_trace.specs.declared.View.{View}
+use Rattle.ft_trace.specs.Acts.{has_lock, stage, announces, noted}
+use Rattle.ft_trace.specs.Traces.{IsFree}
+use Rattle.ft_bank.specs.Whole.{OnlyLoaded}
+use Rattle.ft_section.specs.declared.answers.Objects.{Objects}
+use Rattle.ft_section.specs.declared.answers.Step.{Step}
+use Rattle.ft_section.specs.declared.answers.Step.TheVariants as step
+use Rattle.ft_section.specs.Ready.{IsStill}
+use Rattle.ft_qsbr.specs.Collecting.{Collected, StaysOrGoes}
+use Rattle.ft_qsbr.proofs.Passing.{given_or_kept}
+use Rattle.ft_growth.specs.declared.adding.Added.{Added}
+use Rattle.ft_growth.specs.declared.adding.Added.TheVariants as added
+use Rattle.ft_growth.specs.Adding.{Retires, IsAdded, IsTryOf}
+use Rattle.ft_list.specs.Growing.{AddsItems}
+
+-- a pass that has no lock and then goes offline and collects may be taken in
+pub left_is_free : (v w : View) (freed : ℕ) → ((o : ℕ) → has_lock o v.log ≡ false) → IsStill v → Collected (noted (Announce v.number 0) v) w freed → announces w.log ≡ 0 → IsFree w
+left_is_free v w freed none still x offline = (
+  λ o. x.keeps.held.locks o ∙ none o,
+  λ t.
+      let goes : StaysOrGoes (noted (Announce v.number 0) v) w t = subst (λ (u : View). StaysOrGoes (noted (Announce v.number 0) v) u t) (sym x.did) (given_or_kept x.acts x.numbers (noted (Announce v.number 0) v) t x.givings) in
+      ⊎_elim (λ (same : stage t w.log ≡ stage t v.log). ⊎_elim (λ (z : stage t v.log ≡ 0). inl (same ∙ z)) (λ (z : stage t v.log ≡ 4). inr (same ∙ z)) (still.hands t)) (λ (gone : stage t w.log ≡ 0). inl gone) goes,
+  x.keeps.held.used ∙ still.used,
+  x.idle,
+  x.owes still.owes,
+  offline,
+)
+
+-- ---- a call keeps the number of the next pass
+
+retired_next : (root : ℕ) (v w : View) → Retires root v w → w.next ≡ v.next
+retired_next zero v w is = ap (λ (u : View). u.next) is
+retired_next (suc t) v w is = ap (λ (u : View). u.next) is.1
+
+added_next : (k : Shape) (takes : Option ℕ) (over : _) (called : Call) (said : Reply) (v w : View) (what : Added) → IsAdded k takes over called said v w what → w.next ≡ v.next
+added_next k None over called said v w (added.Made stamp) x = x.2.wrote.pass.next
+added_next k (Some class) over called said v w (added.Made stamp) x = let g = x.2 in retired_next _ g.done w g.retired ∙ (g.wrote.pass.next ∙ g.tried.same.next)
+added_next k takes over called said v w (added.NoTable class stamp) x = let a = x.3.2 in ap (λ (u : View). u.next) a.answered ∙ (a.loaded.work.pass.next ∙ x.3.1.same.next)
+added_next k takes over called said v w (added.Over stamp) x = let a = x.2 in ap (λ (u : View). u.next) a.answered ∙ a.loaded.work.pass.next
+added_next k takes over called said v w (added.Moved a b) x = x.1.2.same.next
+
+items_next : (k : Shape) (o : ℕ) (called : Call) (n : ℕ) (v w : View) (what : Added) → AddsItems k o called n v w what → w.next ≡ v.next
+items_next k o called n v w what x = added_next k _ _ called _ x.0 w what x.2 ∙ x.1.work.pass.next
+
+pub tried_next : (objects : Objects) (k : Shape) (o : ℕ) (called : Call) (n : ℕ) (said : Reply) (v w : View) (result : Step) → IsTryOf objects (AddsItems k o called n) said v w result → w.next ≡ v.next
+tried_next objects k o called n said v w (step.NotYet p q) x = x.0.next
+tried_next objects k o called n said v w step.NoMemory x = absurd x
+tried_next objects k o called n said v w (step.Done r stamp) x = let u = x.2 in u.gone.next ∙ (items_next k o called n u.before u.after x.0 u.did ∙ u.took.next)
+tried_next objects k o called n said v w (step.Moved a b) x = let u = x.2 in u.gone.next ∙ (items_next k o called n u.before u.after x.0 u.did ∙ u.took.next)

@@ -1,0 +1,8 @@
+use Rattle.ft_bank.specs.Passes.{view}
+use Rattle.ft_reuse_tests.proofs.Leaving.{left_is_free}
+use Rattle.ft_reuse_tests.proofs.joining.finish.Goals as goal
+
+pub returns-clause-free : goal.returns-clause-free
+returns-clause-free c =
+    let d = c.leave.ensures.did in
+    left_is_free (view c.drop_all.new.pass) (view c.leave.new.pass) d.0 c.drop_all.ensures.free c.drop_all.ensures.ready.inside.1.still d.1 c.leave.ensures.offline

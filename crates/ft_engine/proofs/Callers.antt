@@ -30,7 +30,7 @@ use Rattle.ft_engine.specs.declared.caller.Caller.{Caller}
 use Rattle.ft_engine.specs.declared.caller.Flight.{Flight}
 use Rattle.ft_engine.specs.declared.caller.Flight.TheVariants as flight
 use Rattle.ft_engine.specs.declared.engine.Engine.{Engine}
-use Rattle.ft_engine.specs.Answering.{AreHandsOf, HasAnswer, HasToWait, IsTryOf}
+use Rattle.ft_engine.specs.Answering.{AreHandsOf, HasAnswer, HasNone, HasToWait, IsTryOf, LeavesHands}
 use Rattle.ft_engine.specs.Callers.{AreFresh, IsCallerOf, IsFresh, thread_of}
 use Rattle.ft_engine.specs.Flights.{IsAnswered, IsIn, IsNext, is_begin, objects_of}
 use Rattle.ft_engine.specs.Keeping.{AreKeptBy, IsKept, kept_entry, pending}
@@ -213,3 +213,24 @@ pub fresh_push : (e : Engine) (room i : ℕ) (cs : List Caller) (c : Caller) →
 fresh_push e room i [] c are is = (subst (λ (n : ℕ). IsFresh e room n c) (let s : i + 0 ≡ i = omega arith in s) is, tt)
 fresh_push e room i (x ∷ cs) c are is =
     (are.0, fresh_push e room (suc i) cs c are.1 (subst (λ (n : ℕ). IsFresh e room n c) (let s : i + length (x ∷ cs) ≡ suc i + length cs = omega arith in s) is))
+
+-- cursors that stay as they are
+pub leaves_same : (result : Step) (hands : List (Option Cursor)) → LeavesHands result hands hands
+leaves_same (step.Done said stamp) hands = refl
+leaves_same (step.NotYet o owner) hands = refl
+leaves_same (step.Moved first second) hands = refl
+leaves_same step.NoMemory hands = refl
+
+-- a call that is tried again
+pub moved_caller : (e : Engine) (c d : Caller) (called : Call) (objects : Objects) → IsCallerOf e c → objects_of d.cursors.items called ≡ Some objects → HasNone e.bank c.pass d.pass → AreHandsOf (shape_of e.bank) (view d.pass) d.cursors.items → d.calls ≡ c.calls → d.made ≡ c.made → d.flight ≡ flight.Tried called → IsCallerOf e d
+moved_caller e c d called objects is names x hands calls made flies = record {
+  pass = x.gone.resume.inside.0;
+  inside = subst (IsIn e.bank d.pass d.cursors.items) (sym flies) (objects, names, x.gone.may objects);
+  made = made ∙ (is.made ∙ sym (ap length x.entry.entries));
+  calls = calls ∙ is.calls;
+  few = let a = is.few in omega (arith, a, calls, made);
+  word = let a = is.word in omega (arith, a, calls);
+  left = let a = is.left in let l = x.entry.left in omega (arith, a, l, calls, made);
+  cursors = hands.cursors;
+  over = hands.over;
+}

@@ -4,3 +4,7 @@ pub mod Passing
 pub mod SectionCalls
 pub mod Callers
 pub mod KeptLists
+pub mod Outcomes
+pub mod Looking
+pub mod ListCalls
+pub mod ListLooks

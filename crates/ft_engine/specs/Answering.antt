@@ -1,5 +1,5 @@
 -- What a call comes to once it is tried, as the pass has it then.
-use Rattle.std.specs.Prelude.{◌≡◌, ◌≢◌, ℕ, suc, ◌<◌, ◌≤◌, true, List, ◌∷◌, length, Option, Some, None, slice_index_or}
+use Rattle.std.specs.Prelude.{◌≡◌, ◌≢◌, ℕ, suc, ◌<◌, ◌≤◌, true, false, List, ◌∷◌, ◌++◌, length, Option, Some, None, slice_index_or}
 use Rattle.ft_model.specs.declared.call.Call.{Call}
 use Rattle.ft_model.specs.declared.call.Call.TheVariants as call
 use Rattle.ft_model.specs.declared.cursor.Cursor.{Cursor}
@@ -8,13 +8,18 @@ use Rattle.ft_model.specs.Calls.{moved_cursor}
 use Rattle.ft_model.specs.Histories.{IsCountedAs}
 use Rattle.ft_model.specs.Worlds.{cursor_at}
 use Rattle.ft_trace.specs.declared.Shape.{Shape}
+use Rattle.ft_trace.specs.declared.Act.{Act}
 use Rattle.ft_trace.specs.declared.View.{View}
 use Rattle.ft_trace.specs.Acts.{announces, seen_writes}
 use Rattle.ft_trace.specs.Hands.{cursor_in}
 use Rattle.ft_bank.specs.declared.bank.Bank.{Bank}
 use Rattle.ft_bank.specs.declared.pass.Pass.{Pass}
-use Rattle.ft_bank.specs.Passes.{shape_of, view}
+use Rattle.ft_bank.specs.Answered.{Answered}
+use Rattle.ft_bank.specs.Passes.{shape_of, view, DidNothing}
 use Rattle.ft_bank.specs.Sections.{stack_of}
+use Rattle.ft_bank.specs.Whole.{OnlyLoaded}
+use Rattle.ft_section.specs.declared.answers.Look.{Look}
+use Rattle.ft_section.specs.declared.answers.Look.TheVariants as look
 use Rattle.ft_section.specs.declared.answers.Objects.{Objects}
 use Rattle.ft_section.specs.declared.answers.Stamp.{Stamp}
 use Rattle.ft_section.specs.declared.answers.Step.{Step}
@@ -119,3 +124,25 @@ IsTryOf b hands called p q (step.NotYet o owner) =
 IsTryOf b hands called p q (step.Moved first second) =
     (objects : Objects) × (objects_of hands called ≡ Some objects) × HasNone b p q
 IsTryOf b hands called p q step.NoMemory = HasNone b p q
+
+-- ---- looks
+
+-- What a look at containers answers, in the words that all looks share. It gave a reply, with a stamp that it loaded; or it
+-- has only loaded words.
+abbrev pub IsLooked : Call → View → View → Look → Type 0
+IsLooked called v w (look.Done said stamp) = Answered called said stamp.number v w × (stamp.wrote ≡ false)
+IsLooked called v w (look.Contended first second) =
+    (part : List Act) × (w.log ≡ part ++ v.log) × OnlyLoaded v w
+IsLooked called v w look.NoMemory = OnlyLoaded v w
+
+-- the same of a call that is looked at, or of one that isn't
+abbrev pub Looked : Call → Pass → Pass → Option Look → Type 0
+Looked called p q (Some answer) = IsLooked called (view p) (view q) answer
+Looked called p q None = DidNothing p q
+
+-- the answer of a try that the look gives, if it gives one
+abbrev pub settled : Option Look → Option Step
+settled (Some (look.Done said stamp)) = Some (step.Done said stamp)
+settled (Some (look.Contended first second)) = None
+settled (Some look.NoMemory) = Some step.NoMemory
+settled None = None

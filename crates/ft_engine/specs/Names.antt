@@ -1,5 +1,5 @@
 -- What a call asks of the bank's containers, of the caller's cursors and of its open sections.
-use Rattle.std.specs.Prelude.{◌≡◌, ℕ, ◌<◌, List, length, Option, IfSome, is_some, true}
+use Rattle.std.specs.Prelude.{◌≡◌, ℕ, ◌<◌, List, length, Option, IfSome, None, is_some, true}
 use Rattle.ft_model.specs.declared.call.Call.{Call}
 use Rattle.ft_model.specs.declared.call.Call.TheVariants as call
 use Rattle.ft_model.specs.declared.cursor.Cursor.{Cursor}
@@ -12,19 +12,20 @@ use Rattle.ft_trace.specs.Addresses.{containers_in}
 use Rattle.ft_bank.specs.Sections.{Stack}
 use Rattle.ft_engine.specs.Callers.{IsOfKindIn}
 
--- the containers that a call on one of this kind names are of the kind, and there is room for the cursor
-pub record AreNames (k : Shape) (hands : List (Option Cursor)) (kind : Kind) (o : ℕ) (other cursor : Option ℕ)
-    : Type 0 where
-  pub one : IsOfKindIn k kind o
-  pub both : IfSome other (λ p. IsOfKindIn k kind p)
-  pub room : IfSome cursor (λ number. number < length hands)
+-- the container that a call names, and the other one, are there and of this kind
+abbrev pub AreOfKindIn : Shape → Kind → ℕ → Option ℕ → Type 0
+AreOfKindIn k kind o other = IsOfKindIn k kind o × IfSome other (λ p. IsOfKindIn k kind p)
+
+-- there is room for the cursor that a call makes
+abbrev pub HasRoomFor : List (Option Cursor) → Option ℕ → Type 0
+HasRoomFor hands cursor = IfSome cursor (λ number. number < length hands)
 
 -- the containers and cursors that a call names are there (profile)
 abbrev pub IsCallIn : Shape → List (Option Cursor) → Call → Type 0
-IsCallIn k hands (call.Dict o dc) = AreNames k hands kind.Dict o (other_dict dc) (cursor_of_dict dc)
-IsCallIn k hands (call.List o lc) = AreNames k hands kind.List o (other_list lc) (cursor_of_list lc)
-IsCallIn k hands (call.Set o sc) = AreNames k hands kind.Set o (other_set sc) (cursor_of_set sc)
-IsCallIn k hands (call.Next number) = is_some (cursor_at hands number) ≡ true
+IsCallIn k hands (call.Dict o dc) = AreOfKindIn k kind.Dict o (other_dict dc) × HasRoomFor hands (cursor_of_dict dc)
+IsCallIn k hands (call.List o lc) = AreOfKindIn k kind.List o (other_list lc) × HasRoomFor hands (cursor_of_list lc)
+IsCallIn k hands (call.Set o sc) = AreOfKindIn k kind.Set o (other_set sc) × HasRoomFor hands (cursor_of_set sc)
+IsCallIn k hands (call.Next number) = (number < length hands) × (is_some (cursor_at hands number) ≡ true)
 IsCallIn k hands (call.Begin first second) =
     (first < containers_in k) × IfSome second (λ other. other < containers_in k)
 IsCallIn k hands call.End = Unit {0}
@@ -40,10 +41,10 @@ FitsSections s (call.Set o sc) = Unit {0}
 FitsSections s (call.Next number) = Unit {0}
 FitsSections s call.Quiesce = Unit {0}
 
--- the calls that an engine makes so far
+-- the calls that an engine makes so far: those of sections, `quiesce`, and those on lists but for `iter`
 abbrev pub IsBuilt : Call → Type 0
 IsBuilt (call.Dict o dc) = ⊥
-IsBuilt (call.List o lc) = ⊥
+IsBuilt (call.List o lc) = cursor_of_list lc ≡ None
 IsBuilt (call.Set o sc) = ⊥
 IsBuilt (call.Next number) = ⊥
 IsBuilt (call.Begin first second) = Unit {0}

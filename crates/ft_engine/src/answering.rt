@@ -12,13 +12,21 @@ ghost use Rattle.ft_engine.specs.Keeping.{IsKept};
 use crate::attempts::Tried;
 use crate::caller::{Caller, Flight};
 use crate::engine::Engine;
+use crate::list_call::call_list;
 use crate::section_call::{begin, end, quiesce};
 use ft_bank::{Bank, Pass};
 use ft_model::{Call, Cursor};
 use ft_section::Step;
+use std::alloc::Global;
 
 /// One try of a call that has no answer yet, by kinds of calls.
-fn make(bank: &Bank, pass: &mut Pass, cursors: &mut Vec<Option<Cursor>>, call: &Call) -> Step
+fn make(
+    bank: &Bank,
+    pass: &mut Pass,
+    alloc: Global,
+    cursors: &mut Vec<Option<Cursor>>,
+    call: &Call,
+) -> Step
     requires may { MayMake bank.now pass.old cursors.old.items call.now }
     requires hands { AreHandsOf (shape_of bank.now) (view pass.old) cursors.old.items }
     ensures tried { IsTryOf bank.now cursors.old.items call.now pass.old pass.new result }
@@ -26,11 +34,11 @@ fn make(bank: &Bank, pass: &mut Pass, cursors: &mut Vec<Option<Cursor>>, call: &
     ensures stays { LeavesHands result cursors.old.items cursors.new.items }
 {
     match *call {
+        Call::List { container, call } => call_list(bank, pass, alloc, container, &call),
         Call::Begin { first, second } => begin(bank, pass, first, second),
         Call::End => end(bank, pass),
         Call::Quiesce => quiesce(bank, pass),
         Call::Dict { .. } => unreachable!(),
-        Call::List { .. } => unreachable!(),
         Call::Set { .. } => unreachable!(),
         Call::Next { .. } => unreachable!(),
     }
@@ -39,7 +47,7 @@ fn make(bank: &Bank, pass: &mut Pass, cursors: &mut Vec<Option<Cursor>>, call: &
 impl Engine {
     /// Makes the answer of a call. Where it is made, it answers none, and the innermost section has still to be
     /// taken up again; else what the try answers.
-    pub(crate) fn answer(&self, caller: &mut Caller, call: &Call) -> Option<Tried>
+    pub(crate) fn answer(&self, alloc: Global, caller: &mut Caller, call: &Call) -> Option<Tried>
         requires caller { IsCallerOf self.now caller.old }
         requires may { MayAttempt self.now caller.old call.now }
         requires unanswered { IsAnswered caller.old.flight → ⊥ }
@@ -55,7 +63,13 @@ impl Engine {
         ensures mark { IfSome result (λ tried. IsMarkOf tried (stack_of caller.old.pass).mark (stack_of caller.new.pass).mark) }
         ensures found { IfSome result (λ tried. FoundIn tried (view caller.old.pass) (view caller.new.pass)) }
     {
-        match make(&self.bank, &mut caller.pass, &mut caller.cursors, call) {
+        match make(
+            &self.bank,
+            &mut caller.pass,
+            alloc,
+            &mut caller.cursors,
+            call,
+        ) {
             Step::Done(reply, stamp) => {
                 caller.made += 1;
                 caller.flight = Flight::Answered(*call, reply, stamp);

@@ -12,6 +12,7 @@ use crate::caller::{Caller, Flight};
 use crate::engine::Engine;
 use ft_model::{Call, Reply};
 use ft_section::{Object, Owner, Resumed, Stamp, resume};
+use std::alloc::Global;
 
 /// What one try of a call answers.
 #[derive(Debug, PartialEq, Eq, Drop)]
@@ -52,7 +53,7 @@ impl Engine {
         }
     }
 
-    /// One try of a call: the call first, where it has no answer yet, and then the locks of the innermost section
+    /// One try of a call: the call first, a look before its locks where it may be made without them, where it has no answer yet, and then the locks of the innermost section
     /// again. After `Done` the caller has the locks of its innermost section, and no others but those that its
     /// open sections took.
     ///
@@ -62,7 +63,7 @@ impl Engine {
     /// go, and at most the lower one of two is kept. `Moved` where two steps of it found a word of the free tables
     /// of a class changed. The same call comes next. `NoMemory` where memory for a copy ran out: the caller is to
     /// give up.
-    pub fn attempt(&self, caller: &mut Caller, call: &Call) -> Tried
+    pub fn attempt(&self, alloc: Global, caller: &mut Caller, call: &Call) -> Tried
         requires caller { IsCallerOf self.now caller.old }
         requires may { MayAttempt self.now caller.old call.now }
         ensures caller { IsCallerOf self.now caller.new }
@@ -76,7 +77,7 @@ impl Engine {
         if caller.is_answered() {
             return self.take_up(caller);
         }
-        match self.answer(caller, call) {
+        match self.answer(alloc, caller, call) {
             None => self.take_up(caller),
             Some(tried) => tried,
         }

@@ -11,8 +11,10 @@ mod attempts;
 mod caller;
 mod closing;
 mod engine;
+mod list_call;
 mod meetings;
 mod section_call;
+mod settling;
 mod visits;
 
 pub use crate::attempts::Tried;

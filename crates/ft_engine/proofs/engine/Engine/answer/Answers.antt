@@ -1,6 +1,7 @@
-use Rattle.std.proofs.Common.{◌+◌, refl}
+use Rattle.std.proofs.Common.{◌+◌, ◌∙◌, ap, refl}
 use Rattle.ft_engine.specs.declared.caller.Flight.TheVariants as flight
-use Rattle.ft_engine.proofs.Callers.{answered_kept, waiting_kept}
+use Rattle.ft_engine.specs.Flights.{objects_of}
+use Rattle.ft_engine.proofs.Callers.{answered_kept, moved_caller, waiting_kept}
 use Rattle.ft_engine.proofs.engine.Engine.answer.Goals as goal
 
 pub returns-in-Done-clause-kept : goal.returns-in-Done-clause-kept
@@ -13,3 +14,9 @@ returns-in-NotYet-clause-told c mine kept =
     let old = c.args.caller.now in
     let t = c.in-NotYet.ensures.tried in
     waiting_kept c.args.self.now old (record { pass = c.make.new.pass; cursors = c.make.new.cursors; calls = old.calls; made = old.made; flight = flight.Tried c.args.call.now }) c.args.call.now t.0 c.in-NotYet.object c.in-NotYet.owner mine c.requires.caller c.requires.unanswered (c.requires.may.left c.requires.unanswered) t.2 refl kept
+
+pub returns-in-Moved-clause-caller : goal.returns-in-Moved-clause-caller
+returns-in-Moved-clause-caller c =
+    let old = c.args.caller.now in
+    let t = c.in-Moved.ensures.tried in
+    moved_caller c.args.self.now old (record { pass = c.make.new.pass; cursors = c.make.new.cursors; calls = old.calls; made = old.made; flight = flight.Tried c.args.call.now }) c.args.call.now t.0 c.requires.caller (ap (λ hands. objects_of hands c.args.call.now) c.in-Moved.ensures.stays ∙ t.1) t.2 c.in-Moved.ensures.hands refl refl refl

@@ -1,0 +1,204 @@
+-- A look comes before the try of its call: the pass may try the call after it, and what the try comes to is what both do.
+use Rattle.std.proofs.Common.{◌≡◌, ◌<◌, ◌+◌, ℕ, Bool, true, false, true≢false, List, [], ◌∷◌, ◌++◌, refl, sym, ap, ◌∙◌, subst, inl, inr, ⊎_elim, append_assoc, le_refl}
+use Rattle.std.specs.Prelude.{Option, Some, None}
+use Rattle.ft_model.specs.declared.call.Call.{Call}
+use Rattle.ft_model.specs.declared.cursor.Cursor.{Cursor}
+use Rattle.ft_model.specs.declared.reply.Reply.{Reply}
+use Rattle.ft_trace.specs.declared.Act.{Act}
+use Rattle.ft_trace.specs.declared.Act.TheVariants.{Lock}
+use Rattle.ft_trace.specs.declared.View.{View}
+use Rattle.ft_trace.specs.Acts.{has_lock}
+use Rattle.ft_trace.specs.Sections.{begun}
+use Rattle.ft_bank.specs.declared.bank.Bank.{Bank}
+use Rattle.ft_bank.specs.declared.pass.Pass.{Pass}
+use Rattle.ft_bank.specs.Passes.{view, DidNothing, IsPassOf}
+use Rattle.ft_bank.specs.Sections.{Stack, stack_of, nothing_taken}
+use Rattle.ft_bank.specs.Whole.{OnlyLoaded}
+use Rattle.ft_bank.proofs.Whole.{loaded_then, same_work}
+use Rattle.ft_section.specs.declared.answers.Look.{Look}
+use Rattle.ft_section.specs.declared.answers.Look.TheVariants as look
+use Rattle.ft_section.specs.declared.answers.Objects.{Objects}
+use Rattle.ft_section.specs.declared.answers.Stamp.{Stamp}
+use Rattle.ft_section.specs.declared.answers.Step.{Step}
+use Rattle.ft_section.specs.declared.answers.Step.TheVariants as step
+use Rattle.ft_section.specs.Locking.{FoundOwner, OnlyLocked, waiting, with_own}
+use Rattle.ft_section.specs.Ready.{AreSuspended, InCall, IsMaking, IsReady, IsStill, IsWaiting, MayTry, NotesTop}
+use Rattle.ft_section.specs.Takings.{IsOwnFor, lower_of, upper_of}
+use Rattle.ft_section.specs.Trying.{HasLetGo, SectionsAfter}
+use Rattle.ft_section.proofs.Goings.{notes_top}
+use Rattle.ft_section.proofs.Making.{in_call_stays}
+use Rattle.ft_section.proofs.Resumes.{none_some}
+use Rattle.ft_search.proofs.Trying.{LeavesSections, making_read, still_loaded}
+use Rattle.ft_engine.specs.Answering.{AddsEntry, AddsNothing, HasAnswer, HasNone, HasToWait, IsEndOf, IsTryOf, Looked, settled}
+use Rattle.ft_engine.specs.Flights.{is_begin, objects_of}
+use Rattle.ft_engine.specs.Keeping.{marks_after, marks_in}
+use Rattle.ft_engine.proofs.Outcomes.{Outcome, answered_adds, before_adds, loaded_nothing, locked_entry}
+use Rattle.ft_engine.proofs.SectionCalls.{nothing_entry, nothing_then, only_nothing, same_nothing}
+
+-- a call on containers begins and ends no section
+pub record IsPlain (called : Call) : Type 0 where
+  pub sections : LeavesSections called
+  pub begins : is_begin called ≡ false
+  pub marks : (l : List ℕ) → marks_after called l ≡ l
+  pub ends : (l : List ℕ) (said : Reply) → IsEndOf called l said
+
+some_same : (x y : Step) → Some x ≡ Some y → x ≡ y
+some_same x y e = cc
+
+-- ---- what a try comes to
+
+pub tried_of : (b : Bank) (p q : Pass) (hands : List (Option Cursor)) (called : Call) (objects : Objects) → IsPlain called → objects_of hands called ≡ Some objects → (result : Step) → SectionsAfter b objects p q result → Outcome called objects (view p) (view q) result → IsTryOf b hands called p q result
+tried_of b p q hands called objects plain names (step.Done said stamp) after came = record {
+  entry = came;
+  resume = after.resume;
+  top = λ begins. absurd (true≢false (sym begins ∙ plain.begins));
+  marks = ap marks_in after.stack ∙ sym (plain.marks (marks_in (stack_of p)));
+  mark = ap (λ (s : Stack). s.mark) after.stack;
+  ends = plain.ends (marks_in (stack_of p)) said;
+}
+tried_of b p q hands called objects plain names (step.NotYet o owner) after came = (objects, names, record { entry = only_nothing (view p) (view q) came.0; waits = after.0; stack = after.1; found = (came.1, came.2) })
+tried_of b p q hands called objects plain names (step.Moved first second) after came = (objects, names, record { entry = came; gone = after })
+tried_of b p q hands called objects plain names step.NoMemory after came = record { entry = came; gone = after }
+
+-- what was found after loads was found after what came before them
+found_before : (u v w : View) (o q : ℕ) (part : List Act) → v.log ≡ part ++ u.log → v.number ≡ u.number → FoundOwner o q v w → FoundOwner o q u w
+found_before u v w o q part log number f = record {
+  newer = f.newer;
+  snap = f.snap;
+  older = f.older ++ part;
+  is = f.is ∙ ap (λ (z : List Act). f.newer ++ Lock o (q + 1) f.snap ∷ z) (ap (λ (z : List Act). f.older ++ z) log ∙ sym (append_assoc f.older part u.log));
+  other = λ e. f.other (e ∙ sym number);
+}
+
+pub try_after : (b : Bank) (hands : List (Option Cursor)) (called : Call) (p q r : Pass) (part : List Act) (result : Step) → AddsNothing (view p) (view q) → (view q).log ≡ part ++ (view p).log → stack_of q ≡ stack_of p → IsTryOf b hands called q r result → IsTryOf b hands called p r result
+try_after b hands called p q r part (step.Done said stamp) before log stack x = record {
+  entry = before_adds called said stamp (view p) (view q) (view r) before x.entry;
+  resume = x.resume;
+  top = x.top;
+  marks = x.marks ∙ ap (λ (s : Stack). marks_after called (marks_in s)) stack;
+  mark = x.mark ∙ ap (λ (s : Stack). s.mark) stack;
+  ends = subst (λ (s : Stack). IsEndOf called (marks_in s) said) stack x.ends;
+}
+try_after b hands called p q r part (step.NotYet o owner) before log stack x = (
+  x.0,
+  x.1,
+  record {
+    entry = nothing_then (view p) (view q) (view r) before x.2.entry;
+    waits = x.2.waits;
+    stack = x.2.stack ∙ ap (λ (s : Stack). waiting (with_own s (stack_of r).own) owner) stack;
+    found = (x.2.found.0, found_before (view p) (view q) (view r) o owner part log before.pass.number x.2.found.1);
+  },
+)
+try_after b hands called p q r part (step.Moved first second) before log stack x = (
+  x.0,
+  x.1,
+  record {
+    entry = nothing_then (view p) (view q) (view r) before x.2.entry;
+    gone = record { stack = x.2.gone.stack ∙ ap (λ (s : Stack). with_own s nothing_taken) stack; may = x.2.gone.may; resume = x.2.gone.resume };
+  },
+)
+try_after b hands called p q r part step.NoMemory before log stack x = record {
+  entry = nothing_then (view p) (view q) (view r) before x.entry;
+  gone = record { stack = x.gone.stack ∙ ap (λ (s : Stack). with_own s nothing_taken) stack; may = x.gone.may; resume = x.gone.resume };
+}
+
+-- ---- what the pass is in after a look
+
+ready_making : (b : Bank) (p : Pass) → IsReady b p → IsMaking b p
+ready_making b p r = record { inside = r.inside; free = λ none. notes_top b p r; waited = λ q e. absurd (none_some q (sym r.mark ∙ e)) }
+
+waiting_making : (b : Bank) (p : Pass) (objects : Objects) → IsWaiting b p objects → IsMaking b p
+waiting_making b p objects w = record { inside = w.inside; free = λ none. absurd (none_some w.owner (sym none ∙ w.mark)); waited = λ q e. w.suspended }
+
+pub may_making : (b : Bank) (p : Pass) (objects : Objects) → MayTry b p objects → IsMaking b p
+may_making b p objects may = ⊎_elim (λ (r : IsReady b p). ready_making b p r) (λ (w : IsWaiting b p objects). waiting_making b p objects w) may
+
+module _ (b : Bank) (p q : Pass) (pass : IsPassOf b q) (stack : stack_of q ≡ stack_of p) (l : OnlyLoaded (view p) (view q)) where
+  loaded_in : InCall (view p) (stack_of p) → InCall (view q) (stack_of q)
+  loaded_in i = subst (InCall (view q)) (sym stack) (in_call_stays (view p) (view q) (stack_of p) i l.work.pass.shape l.work.pass.locks l.work.pass.begun (still_loaded (view p) (view q) l i.still))
+
+  pub loaded_making : IsMaking b p → IsMaking b q
+  loaded_making m = record {
+    inside = (pass, loaded_in m.inside.1);
+    free = λ none. subst (λ (s : Stack). NotesTop s.sections) (sym stack) (m.free (sym (ap (λ (s : Stack). s.mark) stack) ∙ none));
+    waited = λ a e. subst (λ (s : Stack). AreSuspended s.sections) (sym stack) (m.waited a (sym (ap (λ (s : Stack). s.mark) stack) ∙ e));
+  }
+
+  pub loaded_may : (objects : Objects) → MayTry b p objects → MayTry b q objects
+  loaded_may objects may =
+      ⊎_elim
+      (λ (r : IsReady b p). inl (record {
+        inside = (pass, loaded_in r.inside.1);
+        own = ap (λ (s : Stack). s.own) stack ∙ r.own;
+        mark = ap (λ (s : Stack). s.mark) stack ∙ r.mark;
+        top = λ outer top split.
+            let t = r.top outer top (sym (ap (λ (s : Stack). s.sections) stack) ∙ split) in
+            (l.work.pass.locks top.locks.lower ∙ t.0, l.work.pass.locks top.locks.upper ∙ t.1);
+      }))
+      (λ (w : IsWaiting b p objects). inr (record {
+        inside = (pass, loaded_in w.inside.1);
+        owner = w.owner;
+        mark = ap (λ (s : Stack). s.mark) stack ∙ w.mark;
+        suspended = subst (λ (s : Stack). AreSuspended s.sections) (sym stack) w.suspended;
+        own = subst (λ (s : Stack). IsOwnFor (lower_of objects) (upper_of objects) s.own) (sym stack) w.own;
+      })) may
+
+loaded_none : (p q : Pass) → DidNothing p q → OnlyLoaded (view p) (view q)
+loaded_none p q same = subst (OnlyLoaded (view p)) (sym same.1) (record { work = same_work (view p); words = refl })
+
+pub looked_making : (b : Bank) (p q : Pass) (called : Call) (objects : Objects) (found : Option Look) → IsPlain called → MayTry b p objects → IsPassOf b q → stack_of q ≡ stack_of p → Looked called p q found → IsMaking b q
+looked_making b p q called objects None plain may pass stack x = loaded_making b p q pass stack (loaded_none p q x) (may_making b p objects may)
+looked_making b p q called objects (Some (look.Done said stamp)) plain may pass stack x = making_read b p q called said stamp.number plain.sections (may_making b p objects may) pass stack x.0
+looked_making b p q called objects (Some (look.Contended first second)) plain may pass stack x = loaded_making b p q pass stack x.2 (may_making b p objects may)
+looked_making b p q called objects (Some look.NoMemory) plain may pass stack x = loaded_making b p q pass stack x (may_making b p objects may)
+
+-- it is to be made under its locks
+pub looked_loaded : (p q : Pass) (called : Call) (found : Option Look) → settled found ≡ None → Looked called p q found → (part : List Act) × ((view q).log ≡ part ++ (view p).log) × OnlyLoaded (view p) (view q)
+looked_loaded p q called None none x = ([], ap (λ (v : View). v.log) x.1, loaded_none p q x)
+looked_loaded p q called (Some (look.Done said stamp)) none x = absurd (let e : Some (step.Done said stamp) ≡ None = none in cc)
+looked_loaded p q called (Some (look.Contended first second)) none x = x
+looked_loaded p q called (Some look.NoMemory) none x = absurd (let e : Some step.NoMemory ≡ None = none in cc)
+
+after_nothing : (called : Call) (said : Reply) (stamp : Stamp) (u v w : View) → AddsEntry called said stamp u v → AddsNothing v w → AddsEntry called said stamp u w
+after_nothing called said stamp u v w made after = nothing_entry called said stamp u u v w (same_nothing u) made.seen made after
+
+-- it has its answer by the look
+pub looked_tried : (b : Bank) (p q r : Pass) (hands : List (Option Cursor)) (called : Call) (found : Option Look) (result : Step) → IsPlain called → 0 < (view p).left → settled found ≡ Some result → Looked called p q found → stack_of q ≡ stack_of p → OnlyLocked (view q) (view r) → HasLetGo b q r → IsTryOf b hands called p r result
+looked_tried b p q r hands called None result plain left is x stack gone let_go = absurd (let e : None ≡ Some result = is in cc)
+looked_tried b p q r hands called (Some (look.Contended first second)) result plain left is x stack gone let_go = absurd (let e : None ≡ Some result = is in cc)
+looked_tried b p q r hands called (Some (look.Done said stamp)) result plain left is x stack gone let_go =
+    let same : step.Done said stamp ≡ result = some_same (step.Done said stamp) result is in
+    subst (IsTryOf b hands called p r) same (record {
+      entry = after_nothing called said stamp (view p) (view q) (view r) (answered_adds called said stamp (view p) (view q) x.1 left x.0) (only_nothing (view q) (view r) gone);
+      resume = let_go.resume;
+      top = λ begins. absurd (true≢false (sym begins ∙ plain.begins));
+      marks = ap marks_in let_go.stack ∙ (ap marks_in stack ∙ sym (plain.marks (marks_in (stack_of p))));
+      mark = ap (λ (s : Stack). s.mark) let_go.stack ∙ ap (λ (s : Stack). s.mark) stack;
+      ends = plain.ends (marks_in (stack_of p)) said;
+    })
+looked_tried b p q r hands called (Some look.NoMemory) result plain left is x stack gone let_go =
+    let same : step.NoMemory ≡ result = some_same step.NoMemory result is in
+    subst (IsTryOf b hands called p r) same (record {
+      entry = nothing_then (view p) (view q) (view r) (loaded_nothing (view p) (view q) x) (only_nothing (view q) (view r) gone);
+      gone = record { stack = let_go.stack ∙ ap (λ (s : Stack). with_own s nothing_taken) stack; may = let_go.may; resume = let_go.resume };
+    })
+
+-- ---- the call under its locks comes after
+
+nothing_pass : (b : Bank) (q r : Pass) → IsPassOf b q → DidNothing q r → IsPassOf b r
+nothing_pass b q r pass same = (same.0 ∙ pass.0, ap (λ (v : View). v.shape) same.1 ∙ pass.1)
+
+pub looked_may : (b : Bank) (p q r : Pass) (called : Call) (objects : Objects) (found : Option Look) → settled found ≡ None → Looked called p q found → IsPassOf b q → stack_of q ≡ stack_of p → DidNothing q r → MayTry b p objects → MayTry b r objects
+looked_may b p q r called objects found none x pass stack same may =
+    let l = looked_loaded p q called found none x in
+    loaded_may b q r (nothing_pass b q r pass same) same.2 (loaded_none q r same) objects (loaded_may b p q pass stack l.2 objects may)
+
+pub looked_left : (p q r : Pass) (called : Call) (found : Option Look) → settled found ≡ None → Looked called p q found → DidNothing q r → 0 < (view p).left → 0 < (view r).left
+looked_left p q r called found none x same left =
+    let l = looked_loaded p q called found none x in
+    subst (λ (n : ℕ). 0 < n) (sym (ap (λ (v : View). v.left) same.1 ∙ l.2.work.left)) left
+
+pub looked_then : (b : Bank) (hands : List (Option Cursor)) (called : Call) (p q r s : Pass) (found : Option Look) (result : Step) → settled found ≡ None → Looked called p q found → stack_of q ≡ stack_of p → DidNothing q r → IsTryOf b hands called r s result → IsTryOf b hands called p s result
+looked_then b hands called p q r s found result none x stack same tried =
+    let l = looked_loaded p q called found none x in
+    try_after b hands called p r s l.0 result (subst (AddsNothing (view p)) (sym same.1) (loaded_nothing (view p) (view q) l.2)) (ap (λ (v : View). v.log) same.1 ∙ l.1) (same.2 ∙ stack) tried

@@ -1,0 +1,193 @@
+-- What the tries of calls on containers come to, in the words that all calls share.
+use Rattle.std.proofs.Common.{◌≡◌, ◌≢◌, ◌≤◌, ◌<◌, ◌+◌, ◌-◌, ℕ, zero, suc, Bool, true, false, List, [], ◌∷◌, ◌++◌, refl, sym, ap, ◌∙◌, subst, arith, inl, inr, ⊎_elim, le_trans}
+use Rattle.std.specs.Prelude.{Option, Some, None, ◌⊎◌}
+use Rattle.ft_model.specs.declared.call.Call.{Call}
+use Rattle.ft_model.specs.declared.reply.Raise.TheVariants as raise
+use Rattle.ft_model.specs.declared.reply.Reply.{Reply}
+use Rattle.ft_model.specs.declared.reply.Reply.TheVariants as reply
+use Rattle.ft_model.specs.Calls.{moved_cursor}
+use Rattle.ft_trace.specs.declared.Act.{Act}
+use Rattle.ft_trace.specs.declared.Act.TheVariants.{Answer, PutHeader, Retire}
+use Rattle.ft_trace.specs.declared.Entry.{Entry}
+use Rattle.ft_trace.specs.declared.Shape.{Shape}
+use Rattle.ft_trace.specs.declared.View.{View}
+use Rattle.ft_trace.specs.Acts.{announces, noted, seen_writes}
+use Rattle.ft_trace.specs.Hands.{cursor_in}
+use Rattle.ft_trace.proofs.Seeing.{seen_up}
+use Rattle.ft_bank.specs.declared.takings.Took.{Took}
+use Rattle.ft_bank.specs.declared.takings.Took.TheVariants as took
+use Rattle.ft_bank.specs.Answered.{Answered}
+use Rattle.ft_bank.specs.Whole.{OnlyLoaded, SamePass, Wrote}
+use Rattle.ft_section.specs.declared.answers.Objects.{Objects}
+use Rattle.ft_section.specs.declared.answers.Objects.TheVariants.{One}
+use Rattle.ft_section.specs.declared.answers.Stamp.{Stamp}
+use Rattle.ft_section.specs.declared.answers.Step.{Step}
+use Rattle.ft_section.specs.declared.answers.Step.TheVariants as step
+use Rattle.ft_section.specs.Locking.{FoundOwner, OnlyLocked}
+use Rattle.ft_section.specs.Takings.{IsOf}
+use Rattle.ft_search.specs.Calls.{IsMadeOf, MadeAs, MadeUnderLocks}
+use Rattle.ft_search.specs.Tries.{IsReadOf}
+use Rattle.ft_growth.specs.declared.adding.Added.{Added}
+use Rattle.ft_growth.specs.declared.adding.Added.TheVariants as added
+use Rattle.ft_growth.specs.Adding.{GaveUp, Grew, IsAdded, Retires, Tried, IsTryOf, UnderLocks, WroteInPlace, WroteWith, step_after}
+use Rattle.ft_engine.specs.Answering.{AddsEntry, AddsNothing, StaysPass}
+use Rattle.ft_engine.specs.Keeping.{made_entry}
+use Rattle.ft_engine.proofs.SectionCalls.{nothing_entry, nothing_then, only_nothing, same_nothing}
+
+-- what a try comes to, but for the sections
+abbrev pub Outcome : Call → Objects → View → View → Step → Type 0
+Outcome called objects v w (step.Done said stamp) = AddsEntry called said stamp v w
+Outcome called objects v w (step.NotYet o owner) = OnlyLocked v w × IsOf o objects × FoundOwner o owner v w
+Outcome called objects v w (step.Moved a b) = AddsNothing v w
+Outcome called objects v w step.NoMemory = AddsNothing v w
+
+-- ---- parts of calls
+
+stays_same : (v w : View) → SamePass v w → StaysPass v w
+stays_same v w p = record { number = p.number; next = p.next; parts = p.parts; shape = p.shape; lists = p.lists; online = λ on. subst (λ (n : ℕ). 0 < n) (sym p.announced) on; seen = p.seen }
+
+pub loaded_nothing : (v w : View) → OnlyLoaded v w → AddsNothing v w
+loaded_nothing v w l = record { pass = stays_same v w l.work.pass; entries = l.work.entries; left = l.work.left; cursors = l.work.pass.cursors }
+
+entry_as : (called : Call) (said : Reply) (stamp : Stamp) (b : Bool) → stamp.wrote ≡ b → record { call = called; reply = said; stamp = stamp.number; wrote = b } ≡ made_entry called said stamp
+entry_as called said stamp b is = ap (λ (x : Bool). record { call = called; reply = said; stamp = stamp.number; wrote = x }) (sym is)
+
+pub wrote_entry : (called : Call) (said : Reply) (stamp : Stamp) (v w : View) → stamp.wrote ≡ true → Wrote called said stamp.number v w → AddsEntry called said stamp v w
+wrote_entry called said stamp v w is x = record {
+  pass = stays_same v w x.pass;
+  entries = x.entries ∙ ap (λ (e : Entry). e ∷ v.entries) (entry_as called said stamp true is);
+  left = x.left;
+  seen = x.seen;
+  cursors = λ number other. x.pass.cursors number;
+}
+
+pub answered_adds : (called : Call) (said : Reply) (stamp : Stamp) (v w : View) → stamp.wrote ≡ false → 0 < v.left → Answered called said stamp.number v w → AddsEntry called said stamp v w
+answered_adds called said stamp v w is left x =
+    let u = x.before in
+    let l = x.loaded.work in
+    record {
+      pass = record {
+        number = ap (λ (z : View). z.number) x.answered ∙ l.pass.number;
+        next = ap (λ (z : View). z.next) x.answered ∙ l.pass.next;
+        parts = ap (λ (z : View). z.parts) x.answered ∙ l.pass.parts;
+        shape = ap (λ (z : View). z.shape) x.answered ∙ l.pass.shape;
+        lists = ap (λ (z : View). z.lists) x.answered ∙ l.pass.lists;
+        online = λ on. subst (λ (n : ℕ). 0 < n) (sym (ap (λ (z : View). announces z.log) x.answered ∙ l.pass.announced)) on;
+        seen = subst (λ (z : View). seen_writes v ≤ seen_writes z) (sym x.answered) (le_trans l.pass.seen (seen_up (Answer called said stamp.number) u));
+      };
+      entries = ap (λ (z : View). z.entries) x.answered ∙ (ap (λ (e : Entry). e ∷ u.entries) (entry_as called said stamp false is) ∙ ap (λ (es : List Entry). made_entry called said stamp ∷ es) l.entries);
+      left =
+          let a : w.left ≡ u.left - 1 = ap (λ (z : View). z.left) x.answered in
+          let b = l.left in
+          let e : v.left ≡ suc w.left = omega (arith, a, b, left) in e;
+      seen = x.seen;
+      cursors = λ number other. ap (λ (z : View). cursor_in number z.log) x.answered ∙ l.pass.cursors number;
+    }
+
+made_adds : (called : Call) (said : Reply) (stamp : Stamp) (v w : View) → 0 < v.left → MadeAs called said stamp v w → AddsEntry called said stamp v w
+made_adds called said stamp v w left m =
+    ⊎_elim (λ x. wrote_entry called said stamp v w x.0 x.1) (λ x. answered_adds called said stamp v w x.0 left x.1) m.made
+
+-- under locks
+pub locked_entry : (called : Call) (said : Reply) (stamp : Stamp) (u v w z : View) → OnlyLocked u v → AddsEntry called said stamp v w → OnlyLocked w z → AddsEntry called said stamp u z
+locked_entry called said stamp u v w z took made gone = nothing_entry called said stamp u v w z (only_nothing u v took) made.seen made (only_nothing w z gone)
+
+some_left : (v w : View) → OnlyLocked v w → 0 < v.left → 0 < w.left
+some_left v w only left = subst (λ (n : ℕ). 0 < n) (sym only.left) left
+
+pub under_locks : (called : Call) (said : Reply) (stamp : Stamp) (v w : View) → 0 < v.left → MadeUnderLocks called said stamp v w → AddsEntry called said stamp v w
+under_locks called said stamp v w left m =
+    locked_entry called said stamp v m.before m.after w m.took (made_adds called said stamp m.before m.after (some_left v m.before m.took left) m.made) m.gone
+
+-- ---- calls that take no table
+
+pub made_outcome : (objects : Objects) (called : Call) (v w : View) (result : Step) → 0 < v.left → IsMadeOf objects called v w result → Outcome called objects v w result
+made_outcome objects called v w (step.Done said stamp) left m = under_locks called said stamp v w left m
+made_outcome objects called v w (step.NotYet o owner) left m = m
+made_outcome objects called v w (step.Moved a b) left m = absurd m
+made_outcome objects called v w step.NoMemory left m = absurd m
+
+pub read_outcome : (o : ℕ) (called : Call) (v w : View) (result : Step) → 0 < v.left → IsReadOf o called v w result → Outcome called (One o) v w result
+read_outcome o called v w (step.Done said stamp) left m =
+    locked_entry called said stamp v m.0.before m.0.after w m.0.took (answered_adds called said stamp m.0.before m.0.after m.1 (some_left v m.0.before m.0.took left) m.0.answered) m.0.gone
+read_outcome o called v w (step.NotYet p owner) left m = m
+read_outcome o called v w (step.Moved a b) left m = absurd m
+read_outcome o called v w step.NoMemory left m = absurd m
+
+-- ---- calls that may take a table
+
+tried_nothing : (k : Shape) (class : ℕ) (result : Took) (v w : View) → Tried k class result v w → AddsNothing v w
+tried_nothing k class result v w t = record { pass = stays_same v w t.same; entries = t.keeps.held.entries; left = t.keeps.held.left; cursors = t.same.cursors }
+
+pub retired_nothing : (root : ℕ) (v w : View) → Retires root v w → AddsNothing v w
+retired_nothing zero v w is = subst (AddsNothing v) (sym is) (record { pass = record { number = refl; next = refl; parts = refl; shape = refl; lists = refl; online = λ on. on; seen = omega arith }; entries = refl; left = refl; cursors = λ n. refl })
+retired_nothing (suc t) v w (n, is) =
+    subst (AddsNothing v) (sym is)
+    (record {
+      pass = record { number = refl; next = refl; parts = refl; shape = refl; lists = refl; online = λ on. on; seen = le_trans (seen_up (Retire t n) v) (seen_up (PutHeader t (n + 1)) (noted (Retire t n) v)) };
+      entries = refl;
+      left = refl;
+      cursors = λ number. refl;
+    })
+
+pub before_adds : (called : Call) (said : Reply) (stamp : Stamp) (u v w : View) → AddsNothing u v → AddsEntry called said stamp v w → AddsEntry called said stamp u w
+before_adds called said stamp u v w before made = nothing_entry called said stamp u v w w before made.seen made (same_nothing w)
+
+-- a write after steps that add nothing, and before such
+write_adds : (called : Call) (said : Reply) (stamp : Stamp) (u v w z : View) → stamp.wrote ≡ true → AddsNothing u v → Wrote called said stamp.number v w → AddsNothing w z → AddsEntry called said stamp u z
+write_adds called said stamp u v w z is before x after = nothing_entry called said stamp u v w z before x.seen (wrote_entry called said stamp v w is x) after
+
+with_adds : (k : Shape) (takes : Option ℕ) (called : Call) (said : Reply) (stamp : Stamp) (v w : View) → stamp.wrote ≡ true → WroteWith k takes called said stamp.number v w → AddsEntry called said stamp v w
+with_adds k None called said stamp v w is x = wrote_entry called said stamp v w is x.wrote
+with_adds k (Some class) called said stamp v w is x =
+    write_adds called said stamp v x.taken x.done w is (tried_nothing k class (took.Taken x.table) v x.taken x.tried) x.wrote (retired_nothing _ x.done w x.retired)
+
+-- what a call under its locks comes to
+abbrev Comes : Call → View → View → Step → Type 0
+Comes called v w (step.Done said stamp) = AddsEntry called said stamp v w
+Comes called v w (step.NotYet o owner) = ⊥
+Comes called v w (step.Moved a b) = AddsNothing v w
+Comes called v w step.NoMemory = ⊥
+
+added_comes : (k : Shape) (takes : Option ℕ) (over : Bool) (called : Call) (said : Reply) (v w : View) (what : Added) → 0 < v.left → IsAdded k takes over called said v w what → Comes called v w (step_after what said)
+added_comes k takes over called said v w (added.Made stamp) left x = with_adds k takes called said stamp v w x.1 x.2
+added_comes k takes over called said v w (added.NoTable class stamp) left x =
+    let n = tried_nothing k class took.AllTaken v x.3.0 x.3.1 in
+    let made = answered_adds called (reply.Raised (raise.Memory class)) stamp x.3.0 w x.1 (subst (λ (z : ℕ). 0 < z) (sym n.left) left) x.3.2 in
+    before_adds called (reply.Raised (raise.Memory class)) stamp v x.3.0 w n made
+added_comes k takes over called said v w (added.Over stamp) left x = answered_adds called (reply.Raised raise.Over) stamp v w x.1 left x.2
+added_comes k takes over called said v w (added.Moved a b) left x = tried_nothing k x.1.0 (took.Moved a b) v w x.1.2
+
+-- the same under locks
+locked_comes : (called : Call) (objects : Objects) (u v w z : View) (result : Step) → OnlyLocked u v → Comes called v w result → OnlyLocked w z → Outcome called objects u z result
+locked_comes called objects u v w z (step.Done said stamp) took comes gone = locked_entry called said stamp u v w z took comes gone
+locked_comes called objects u v w z (step.NotYet o owner) took comes gone = absurd comes
+locked_comes called objects u v w z (step.Moved a b) took comes gone = nothing_then u v z (only_nothing u v took) (nothing_then v w z comes (only_nothing w z gone))
+locked_comes called objects u v w z step.NoMemory took comes gone = absurd comes
+
+-- a call that adds
+pub add_outcome : (objects : Objects) (F : View → View → Added → Type 0) (called : Call) (said : Reply) (v w : View) (result : Step) → ((u z : View) (what : Added) → 0 < u.left → F u z what → Comes called u z (step_after what said)) → 0 < v.left → IsTryOf objects F said v w result → Outcome called objects v w result
+add_outcome objects F called said v w (step.NotYet o owner) each left x = x
+add_outcome objects F called said v w step.NoMemory each left x = absurd x
+add_outcome objects F called said v w (step.Done r s) each left x =
+    let l = x.2 in
+    subst (Outcome called objects v w) x.1 (locked_comes called objects v l.before l.after w (step_after x.0 said) l.took (each l.before l.after x.0 (some_left v l.before l.took left) l.did) l.gone)
+add_outcome objects F called said v w (step.Moved a b) each left x =
+    let l = x.2 in
+    subst (Outcome called objects v w) x.1 (locked_comes called objects v l.before l.after w (step_after x.0 said) l.took (each l.before l.after x.0 (some_left v l.before l.took left) l.did) l.gone)
+
+-- after loads
+pub loaded_comes : (k : Shape) (takes : Option ℕ) (over : Bool) (called : Call) (said : Reply) (v u w : View) (what : Added) → 0 < v.left → OnlyLoaded v u → IsAdded k takes over called said u w what → Comes called v w (step_after what said)
+loaded_comes k takes over called said v u w what left l x =
+    let n = loaded_nothing v u l in
+    after (step_after what said) n (added_comes k takes over called said u w what (subst (λ (z : ℕ). 0 < z) (sym n.left) left) x)
+  where
+    after : (result : Step) → AddsNothing v u → Comes called u w result → Comes called v w result
+    after (step.Done r s) n comes = before_adds called r s v u w n comes
+    after (step.NotYet o owner) n comes = comes
+    after (step.Moved a b) n comes = nothing_then v u w n comes
+    after step.NoMemory n comes = comes
+
+-- a clear
+pub gave_up_adds : (called : Call) (said : Reply) (stamp : Stamp) (v u w : View) → stamp.wrote ≡ true → OnlyLoaded v u → GaveUp called said stamp.number u w → AddsEntry called said stamp v w
+gave_up_adds called said stamp v u w is l x = write_adds called said stamp v u x.done w is (loaded_nothing v u l) x.wrote (retired_nothing _ x.done w x.retired)

@@ -1,0 +1,35 @@
+use Rattle.std.proofs.Common.{◌∙◌, sym}
+use Rattle.ft_model.specs.declared.call.Call.TheVariants as call
+use Rattle.ft_model.specs.Calls.{other_list}
+use Rattle.ft_engine.specs.Flights.{objects_by}
+use Rattle.ft_engine.proofs.ListCalls.{plain_list}
+use Rattle.ft_engine.proofs.Looking.{looked_left, looked_making, looked_may, looked_then, looked_tried}
+use Rattle.ft_engine.proofs.list_call.call_list.Goals as goal
+
+pub settle-requires : goal.settle-requires
+settle-requires c =
+    let e = c.look_list-look.ensures in
+    let lc = c.args.call.now in
+    looked_making c.args.bank.now c.args.pass.now c.look_list-look.new.pass (call.List c.args.l lc) (objects_by c.args.l (other_list lc)) c.look_list-look.result (plain_list c.args.l lc) c.requires.may e.pass e.sections e.looked
+
+pub try_list-requires-clause-may : goal.try_list-requires-clause-may
+try_list-requires-clause-may c =
+    let e = c.look_list-look.ensures in
+    let lc = c.args.call.now in
+    looked_may c.args.bank.now c.args.pass.now c.look_list-look.new.pass c.settle.new.pass (call.List c.args.l lc) (objects_by c.args.l (other_list lc)) c.look_list-look.result (sym c.in-None.ensures.answer) e.looked e.pass e.sections c.in-None.ensures.none c.requires.may
+
+pub try_list-requires-clause-left : goal.try_list-requires-clause-left
+try_list-requires-clause-left c =
+    let e = c.look_list-look.ensures in
+    looked_left c.args.pass.now c.look_list-look.new.pass c.settle.new.pass (call.List c.args.l c.args.call.now) c.look_list-look.result (sym c.in-None.ensures.answer) e.looked c.in-None.ensures.none c.requires.left
+
+pub returns-in-Some : goal.returns-in-Some
+returns-in-Some c hands =
+    let e = c.look_list-look.ensures in
+    let lc = c.args.call.now in
+    looked_tried c.args.bank.now c.args.pass.now c.look_list-look.new.pass c.settle.new.pass hands (call.List c.args.l lc) c.look_list-look.result c.in-Some.step (plain_list c.args.l lc) c.requires.left (sym c.in-Some.ensures.answer) e.looked e.sections c.in-Some.ensures.locked c.in-Some.ensures.gone
+
+pub returns-in-None : goal.returns-in-None
+returns-in-None c hands =
+    let e = c.look_list-look.ensures in
+    looked_then c.args.bank.now hands (call.List c.args.l c.args.call.now) c.args.pass.now c.look_list-look.new.pass c.settle.new.pass c.try_list.new.pass c.look_list-look.result c.try_list.result (sym c.in-None.ensures.answer) e.looked e.sections c.in-None.ensures.none (c.try_list.ensures hands)

@@ -1,0 +1,103 @@
+//! Tries of calls on lists: a look without the lock, where the call may be made so, and then the call under its
+//! locks.
+ghost use Rattle.std.specs.Prelude.{◌≡◌, ◌<◌, List, Option, None, length};
+ghost use Rattle.ft_model.specs.declared.call.Call.TheVariants as calls;
+ghost use Rattle.ft_model.specs.declared.cursor.Cursor.{Cursor};
+ghost use Rattle.ft_model.specs.declared.script.Kind.TheVariants as kind;
+ghost use Rattle.ft_model.specs.Calls.{cursor_of_list, other_list};
+ghost use Rattle.ft_trace.specs.Acts.{announces};
+ghost use Rattle.ft_bank.specs.Passes.{shape_of, view, IsPassOf};
+ghost use Rattle.ft_bank.specs.Sections.{stack_of};
+ghost use Rattle.ft_section.specs.Ready.{MayTry};
+ghost use Rattle.ft_engine.specs.Answering.{IsTryOf, Looked};
+ghost use Rattle.ft_engine.specs.Flights.{objects_by};
+ghost use Rattle.ft_engine.specs.Names.{AreOfKindIn};
+
+use crate::settling::settle;
+use ft_bank::{Bank, Pass};
+use ft_list::{
+    look_eq, look_get, look_has, look_items, look_len, try_append, try_clear, try_count, try_del,
+    try_eq, try_extend, try_get, try_has, try_index, try_insert, try_items, try_len, try_pop,
+    try_remove, try_reverse, try_set, try_slice,
+};
+use ft_model::ListCall;
+use ft_section::{Look, Object, Step};
+use std::alloc::Global;
+
+/// A look at a list without its lock, where the call may be made so (PEP 703, Optimistically avoiding locking).
+pub(crate) fn look_list(
+    bank: &Bank,
+    pass: &mut Pass,
+    alloc: Global,
+    l: Object,
+    call: &ListCall,
+) -> Option<Look>
+    requires pass { IsPassOf bank.now pass.old }
+    requires names { AreOfKindIn (shape_of bank.now) kind.List l (other_list call.now) }
+    requires online { 0 < announces (view pass.old).log }
+    requires left { 0 < (view pass.old).left }
+    ensures pass { IsPassOf bank.now pass.new }
+    ensures sections { stack_of pass.new ≡ stack_of pass.old }
+    ensures looked { Looked (calls.List l call.now) pass.old pass.new result }
+{
+    match *call {
+        ListCall::Get { index } => Some(look_get(bank, pass, l, index)),
+        ListCall::Has { value } => Some(look_has(bank, pass, l, value)),
+        ListCall::Len => Some(look_len(bank, pass, l)),
+        ListCall::Items => Some(look_items(bank, pass, alloc, l)),
+        ListCall::Eq { other } => Some(look_eq(bank, pass, l, other)),
+        _ => None,
+    }
+}
+
+/// A call on a list under its locks; none that makes a cursor.
+fn try_list(bank: &Bank, pass: &mut Pass, alloc: Global, l: Object, call: &ListCall) -> Step
+    requires may { MayTry bank.now pass.old (objects_by l (other_list call.now)) }
+    requires names { AreOfKindIn (shape_of bank.now) kind.List l (other_list call.now) }
+    requires no_cursor { cursor_of_list call.now ≡ None }
+    requires left { 0 < (view pass.old).left }
+    ensures { (hands : List (Option Cursor)) → IsTryOf bank.now hands (calls.List l call.now) pass.old pass.new result }
+{
+    match *call {
+        ListCall::Append { value } => try_append(bank, pass, l, value),
+        ListCall::Insert { index, value } => try_insert(bank, pass, l, index, value),
+        ListCall::Get { index } => try_get(bank, pass, l, index),
+        ListCall::Set { index, value } => try_set(bank, pass, l, index, value),
+        ListCall::Del { index } => try_del(bank, pass, l, index),
+        ListCall::Pop { index } => try_pop(bank, pass, l, index),
+        ListCall::Remove { value } => try_remove(bank, pass, l, value),
+        ListCall::Index { value } => try_index(bank, pass, l, value),
+        ListCall::Count { value } => try_count(bank, pass, l, value),
+        ListCall::Has { value } => try_has(bank, pass, l, value),
+        ListCall::Reverse => try_reverse(bank, pass, l),
+        ListCall::Extend { other } => try_extend(bank, pass, l, other),
+        ListCall::Slice { start, end } => try_slice(bank, pass, alloc, l, start, end),
+        ListCall::Clear => try_clear(bank, pass, l),
+        ListCall::Len => try_len(bank, pass, l),
+        ListCall::Items => try_items(bank, pass, alloc, l),
+        ListCall::Eq { other } => try_eq(bank, pass, l, other),
+        ListCall::Iter { .. } => unreachable!(),
+    }
+}
+
+/// One try of a call on a list that makes no cursor.
+pub(crate) fn call_list(
+    bank: &Bank,
+    pass: &mut Pass,
+    alloc: Global,
+    l: Object,
+    call: &ListCall,
+) -> Step
+    requires may { MayTry bank.now pass.old (objects_by l (other_list call.now)) }
+    requires names { AreOfKindIn (shape_of bank.now) kind.List l (other_list call.now) }
+    requires no_cursor { cursor_of_list call.now ≡ None }
+    requires online { 0 < announces (view pass.old).log }
+    requires left { 0 < (view pass.old).left }
+    ensures { (hands : List (Option Cursor)) → IsTryOf bank.now hands (calls.List l call.now) pass.old pass.new result }
+{
+    let look = look_list(bank, pass, alloc, l, call);
+    match settle(bank, pass, look) {
+        Some(step) => step,
+        None => try_list(bank, pass, alloc, l, call),
+    }
+}

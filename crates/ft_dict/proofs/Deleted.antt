@@ -1,7 +1,7 @@
 -- What calls that take a key out of a dict leave of it and reply.
 use Rattle.std.proofs.lemmas.List.{length-map}
-use Rattle.std.proofs.Common.{◌≡◌, ◌≢◌, ℕ, ◌+◌, ◌<◌, Bool, true, false, List, [], ◌∷◌, ◌++◌, length, find, Option, Some, None, refl, sym, ap, ◌∙◌, subst, inr}
-use Rattle.std.specs.Prelude.{option_map, is_some, if◌then◌else◌}
+use Rattle.std.proofs.Common.{◌≡◌, ℕ, ◌+◌, ◌<◌, Bool, true, false, [], ◌∷◌, ◌++◌, length, Option, Some, None, refl, sym, ap, ◌∙◌, subst, inr}
+use Rattle.std.specs.Prelude.{is_some, if◌then◌else◌}
 use Rattle.std.specs.Option.{option_map_or}
 use Rattle.ft_model.specs.declared.call.Call.TheVariants as call
 use Rattle.ft_model.specs.declared.call.DictCall.TheVariants as dict
@@ -10,7 +10,6 @@ use Rattle.ft_model.specs.declared.content.Content.TheVariants as content
 use Rattle.ft_model.specs.declared.content.DictPair.{DictPair}
 use Rattle.ft_model.specs.declared.data.Key.{Key}
 use Rattle.ft_model.specs.declared.data.Value.{Value}
-use Rattle.ft_model.specs.declared.reply.Reply.{Reply}
 use Rattle.ft_model.specs.declared.reply.Reply.TheVariants as reply
 use Rattle.ft_model.specs.declared.reply.Raise.TheVariants as raise
 use Rattle.ft_model.specs.Answers.{puts, shows}
@@ -47,12 +46,12 @@ known_dict k v d shape possible may is =
 
 module _ (d : ℕ) (v : View) (pairs : DictContent) (low : d < containers_in v.shape) (mine : has_lock d v.log ≡ true) (is_dict : (known d v).content ≡ content.Dict pairs) (key : Key) (fits : FitsKey key) where
   -- a key that was found
-  has_there : (kind payload : ℕ) → IsHeldAt (content.Dict pairs) key (Some (kind, payload)) → (stored : StoredWorld) → MayHave v stored → has_key pairs.pairs key ≡ true
+  pub has_there : (kind payload : ℕ) → IsHeldAt (content.Dict pairs) key (Some (kind, payload)) → (stored : StoredWorld) → MayHave v stored → has_key pairs.pairs key ≡ true
   has_there kind payload held stored has =
       let p = looked.there pairs key fits (each_fits d v pairs low mine is_dict stored has) (some_words (under (content.Dict pairs) key) kind payload held.0 held.1) in
       any_found (is_at key) pairs.pairs ∙ ap (λ (z : Option DictPair). is_some z) p.1
 
-  value_there : (value : Value) → HasValue (known d v).content key (Some value) → (stored : StoredWorld) → MayHave v stored → dict_get pairs.pairs key ≡ Some value
+  pub value_there : (value : Value) → HasValue (known d v).content key (Some value) → (stored : StoredWorld) → MayHave v stored → dict_get pairs.pairs key ≡ Some value
   value_there value h stored has = ap (λ (z : DictContent). dict_get z.pairs key) (sym (dict_is d v pairs low mine is_dict stored has)) ∙ got v d key (Some value) low mine fits stored has (Some value) h
 
   -- what a deletion leaves, as writes of entries have it

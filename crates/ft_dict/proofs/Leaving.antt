@@ -1,5 +1,5 @@
 -- What calls on a dict leave of it, in the words of the plain containers.
-use Rattle.std.proofs.Common.{◌≡◌, ◌≢◌, ℕ, zero, suc, ◌+◌, ◌-◌, ◌<◌, ◌≤◌, Bool, true, false, List, [], ◌∷◌, length, Option, Some, None, refl, sym, ap, ◌∙◌, subst, inr, arith, get_or-set_same}
+use Rattle.std.proofs.Common.{◌≡◌, ℕ, zero, suc, ◌+◌, ◌-◌, ◌<◌, ◌≤◌, Bool, true, false, List, [], ◌∷◌, length, Option, Some, None, refl, sym, ap, ◌∙◌, subst, arith, get_or-set_same}
 use Rattle.std.specs.Prelude.{◌&&◌, ◌||◌, map, not, IfSome, slice_index_or, slice_set, if◌then◌else◌}
 use Rattle.std.proofs.lemmas.Bool.{le-ltb}
 use Rattle.std.specs.List.{list_any}
@@ -23,7 +23,6 @@ use Rattle.ft_model.specs.Contents.{DictContent, dict_clear, empty_dict}
 use Rattle.ft_model.specs.Tables.{StoredWorld, TableUse, no_table, takes_in, table_at, change_takes, change_leaves, copy_leaves, copy_takes, dict_takes, outgrows_dict, grown_table, passes_cap, would_pass, after_stored}
 use Rattle.ft_model.specs.Worlds.{dict_of, dict_at, named_in, no_hands, IsOfKind, IsDeclared}
 use Rattle.ft_layout.proofs.Powers.{slots_range}
-use Rattle.ft_trace.specs.declared.Shape.{Shape}
 use Rattle.ft_trace.specs.declared.View.{View}
 use Rattle.ft_trace.specs.Acts.{has_lock}
 use Rattle.ft_trace.specs.Addresses.{containers_in}
@@ -71,7 +70,7 @@ module _ (d : ℕ) (v : View) (pairs : DictContent) (low : d < containers_in v.s
     pub replies : (a : Answer) → answer_dict world no_hands d pairs dc ≡ a → a.reply ≡ said → reply_in stored (call.Dict d dc) ≡ said
     replies a answered is = ap (λ (z : DictContent). (answer_dict world no_hands d z dc).reply) dict_is ∙ (ap (λ (z : Answer). z.reply) answered ∙ is)
 
-    declared : other_dict dc ≡ None → cursor_of_dict dc ≡ None → IsDeclared world no_hands (call.Dict d dc)
+    pub declared : other_dict dc ≡ None → cursor_of_dict dc ≡ None → IsDeclared world no_hands (call.Dict d dc)
     declared other cursor = record {
       one = declared_at world d (content.Dict pairs) many there;
       both = subst (λ (z : Option ℕ). IfSome z (λ p. IsOfKind world kind.Dict p)) (sym other) tt;

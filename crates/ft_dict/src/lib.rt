@@ -1,5 +1,5 @@
-//! Dicts of a bank (Python manual, Mapping Types): calls that look up a key, and `len`,
-//! without the lock and with it.
+//! Dicts of a bank (Python manual, Mapping Types): calls that look up a key and `len`, without the lock and
+//! with it, and calls under it that put a value at a key or take the key away.
 //!
 //! Between any two steps of any passes it keeps true, for whoever runs calls, that each call adds one
 //! entry to the pass at most, and that this entry has the reply of the plain dict at its stamp.
@@ -20,4 +20,4 @@ pub use crate::lens::{look_len, try_len};
 pub use crate::looks::{look_get, look_getd, look_has};
 pub use crate::pops::{try_del, try_pop, try_popd};
 pub use crate::tries::{try_get, try_getd, try_has};
-pub use crate::values::{set_present, setdefault_present};
+pub use crate::values::{set_by, setdefault_by, try_set, try_setdefault};

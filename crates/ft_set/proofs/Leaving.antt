@@ -1,7 +1,7 @@
 -- What calls on a set leave of it, in the words of the plain containers.
-use Rattle.std.proofs.Common.{◌≡◌, ◌≢◌, ℕ, zero, suc, ◌+◌, ◌-◌, ◌<◌, ◌≤◌, Bool, true, false, List, [], ◌∷◌, ◌++◌, length, filter, Option, Some, None, refl, sym, ap, ◌∙◌, subst, inr, arith, get_or-set_same}
+use Rattle.std.proofs.Common.{◌≡◌, ◌≢◌, ℕ, ◌+◌, ◌-◌, ◌<◌, ◌≤◌, Bool, true, false, List, [], ◌∷◌, ◌++◌, length, filter, Option, Some, None, refl, sym, ap, ◌∙◌, subst, inr, arith, get_or-set_same}
 use Rattle.std.proofs.lemmas.Bool.{le-ltb}
-use Rattle.std.specs.Prelude.{◌&&◌, ◌||◌, map, not, cond, IfSome, slice_index_or, slice_set, if◌then◌else◌}
+use Rattle.std.specs.Prelude.{◌&&◌, ◌||◌, map, not, cond, IfSome, slice_index_or, if◌then◌else◌}
 use Rattle.std.specs.List.{list_any}
 use Rattle.std.specs.Option.{unwrap_or}
 use Rattle.ft_model.specs.declared.call.Call.{Call}
@@ -69,29 +69,29 @@ module _ (s : ℕ) (v : View) (elements : SetContent) (low : s < containers_in v
   abbrev world : List Content
   world = stored.world
 
-  there : slice_index_or world s (content.List []) ≡ content.Set elements
+  pub there : slice_index_or world s (content.List []) ≡ content.Set elements
   there = ap (λ (z : Kept). z.content) (has.agrees s low mine) ∙ is_set
 
-  many : s < length world
+  pub many : s < length world
   many = subst (λ (n : ℕ). s < n) (sym has.containers) low
 
-  many_tables : s < length stored.tables
+  pub many_tables : s < length stored.tables
   many_tables = subst (λ (n : ℕ). s < n) (sym (has.order.as_many ∙ has.containers)) low
 
-  set_is : set_at world s ≡ elements
+  pub set_is : set_at world s ≡ elements
   set_is = ap set_of (at_any world s (content.Set empty_set) (content.List []) many ∙ there)
 
   each_fits : FitsContent (content.Set elements)
   each_fits = subst FitsContent there (has.words s (content.List []) many)
 
-  table_is : table_at stored.tables s ≡ (known s v).table
+  pub table_is : table_at stored.tables s ≡ (known s v).table
   table_is = ap (λ (z : Kept). z.table) (has.agrees s low mine)
 
   module _ (sc : SetCall) (said : Reply) where
     pub replies : (a : Answer) → answer_set world no_hands s elements sc ≡ a → a.reply ≡ said → reply_in stored (call.Set s sc) ≡ said
     replies a answered is = ap (λ (z : SetContent). (answer_set world no_hands s z sc).reply) set_is ∙ (ap (λ (z : Answer). z.reply) answered ∙ is)
 
-    declared : other_set sc ≡ None → cursor_of_set sc ≡ None → IsDeclared world no_hands (call.Set s sc)
+    pub declared : other_set sc ≡ None → cursor_of_set sc ≡ None → IsDeclared world no_hands (call.Set s sc)
     declared other cursor = record {
       one = declared_at world s (content.Set elements) many there;
       both = subst (λ (z : Option ℕ). IfSome z (λ p. IsOfKind world kind.Set p)) (sym other) tt;
@@ -102,7 +102,7 @@ module _ (s : ℕ) (v : View) (elements : SetContent) (low : s < containers_in v
       answer_is : answer world no_hands (call.Set s sc) ≡ puts world no_hands s (content.Set news) said
       answer_is = ap (λ (z : SetContent). answer_set world no_hands s z sc) set_is ∙ answered
 
-      left_at : (e : Content) → slice_index_or (after_write world (call.Set s sc)) s e ≡ content.Set news
+      pub left_at : (e : Content) → slice_index_or (after_write world (call.Set s sc)) s e ≡ content.Set news
       left_at e = ap (λ (z : Answer). slice_index_or z.world s e) answer_is ∙ get_or-set_same world s (content.Set news) e many
 
       stays : set_change sc ≡ change.Stays → kept_at (after_stored stored (call.Set s sc)) s ≡ record { content = content.Set news; table = (known s v).table }
@@ -129,7 +129,7 @@ leaves_stay s v elements news sc said low mine is_set changing quiet other curso
 -- ---- calls that take an element out
 
 module _ (s : ℕ) (v : View) (elements : SetContent) (low : s < containers_in v.shape) (mine : has_lock s v.log ≡ true) (is_set : (known s v).content ≡ content.Set elements) (key : Key) (fits : FitsKey key) where
-  has_there : (kind payload : ℕ) → IsHeldAt (content.Set elements) key (Some (kind, payload)) → (stored : StoredWorld) → MayHave v stored → has_element elements.elements key ≡ true
+  pub has_there : (kind payload : ℕ) → IsHeldAt (content.Set elements) key (Some (kind, payload)) → (stored : StoredWorld) → MayHave v stored → has_element elements.elements key ≡ true
   has_there kind payload held stored has = element_there elements key fits (each_fits s v elements low mine is_set stored has) (some_words (under (content.Set elements) key) kind payload held.0 held.1)
 
   abbrev left : Kept

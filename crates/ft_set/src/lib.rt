@@ -1,5 +1,5 @@
-//! Sets of a bank (Python manual, Set Types): the call that looks up an element, and `len`,
-//! without the lock and with it.
+//! Sets of a bank (Python manual, Set Types): the call that looks up an element and `len`, without the lock and
+//! with it, and calls under it that add an element or take it away.
 //!
 //! Between any two steps of any passes it keeps true, for whoever runs calls, that each call adds one
 //! entry to the pass at most, and that this entry has the reply of the plain set at its stamp.
@@ -14,7 +14,7 @@ mod looks;
 mod pops;
 mod tries;
 
-pub use crate::adds::add_present;
+pub use crate::adds::{add_by, try_add};
 pub use crate::clears::{clear_by, try_clear};
 pub use crate::deletes::{discard_locked, remove_locked};
 pub use crate::lens::{look_len, try_len};

@@ -1,11 +1,7 @@
-use Rattle.std.proofs.Common.{◌≡◌, refl, sym, subst}
 use Rattle.ft_model.specs.declared.call.Call.TheVariants as call
 use Rattle.ft_model.specs.declared.call.DictCall.TheVariants as dict
-use Rattle.ft_model.specs.declared.reply.Reply.{Reply}
 use Rattle.ft_model.specs.declared.reply.Reply.TheVariants as reply
-use Rattle.ft_model.specs.declared.reply.Raise.TheVariants as raise
 use Rattle.ft_bank.specs.Passes.{shape_of, view}
-use Rattle.ft_search.specs.Calls.{IsShownBy}
 use Rattle.ft_trace.specs.Holds.{known}
 use Rattle.ft_search.specs.Writing.{Leaves, without_key}
 use Rattle.ft_search.proofs.Calling.{made_loaded, written_made}

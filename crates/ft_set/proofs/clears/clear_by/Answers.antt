@@ -1,12 +1,9 @@
-use Rattle.std.proofs.Common.{refl, sym, ◌∙◌, subst}
+use Rattle.std.proofs.Common.{◌∙◌}
 use Rattle.ft_model.specs.declared.call.Call.TheVariants as call
 use Rattle.ft_model.specs.declared.call.SetCall.TheVariants as set
 use Rattle.ft_model.specs.declared.reply.Reply.TheVariants as reply
-use Rattle.ft_trace.specs.Holds.{known}
 use Rattle.ft_bank.specs.Passes.{shape_of, view}
 use Rattle.ft_growth.proofs.Cursors.{given_cursors}
-use Rattle.ft_search.specs.Writing.{Leaves}
-use Rattle.ft_keyed.specs.Clearing.{cleared_kept}
 use Rattle.ft_set.proofs.Leaving as left
 use Rattle.ft_set.proofs.Leaving.{known_set}
 use Rattle.ft_set.proofs.clears.clear_by.Goals as goal

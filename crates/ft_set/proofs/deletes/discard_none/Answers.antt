@@ -1,13 +1,11 @@
-use Rattle.std.proofs.Common.{◌≡◌, [], refl, sym, subst}
+use Rattle.std.proofs.Common.{[], refl}
 use Rattle.ft_model.specs.declared.call.Call.TheVariants as call
 use Rattle.ft_model.specs.declared.call.SetCall.TheVariants as set
 use Rattle.ft_model.specs.declared.reply.Reply.TheVariants as reply
-use Rattle.ft_model.specs.declared.reply.Raise.TheVariants as raise
 use Rattle.ft_trace.specs.Holds.{known}
 use Rattle.ft_bank.specs.Passes.{shape_of, view}
-use Rattle.ft_search.specs.Calls.{IsShownBy}
-use Rattle.ft_search.specs.Writing.{Leaves, without_key}
-use Rattle.ft_search.proofs.Calling.{answer_loaded, loaded_same, made_loaded, written_made}
+use Rattle.ft_search.specs.Writing.{Leaves}
+use Rattle.ft_search.proofs.Calling.{loaded_same, written_made}
 use Rattle.ft_set.proofs.Leaving as left
 use Rattle.ft_set.proofs.deletes.discard_none.Goals as goal
 use Rattle.ft_set.proofs.deletes.discard_none.Goals.{Start}

@@ -1,4 +1,3 @@
-use Rattle.std.proofs.Common.{◌≡◌, [], refl, sym, subst}
 use Rattle.ft_model.specs.declared.call.Call.TheVariants as call
 use Rattle.ft_model.specs.declared.call.SetCall.TheVariants as set
 use Rattle.ft_model.specs.declared.reply.Reply.TheVariants as reply
@@ -7,7 +6,7 @@ use Rattle.ft_trace.specs.Holds.{known}
 use Rattle.ft_bank.specs.Passes.{shape_of, view}
 use Rattle.ft_search.specs.Calls.{IsShownBy}
 use Rattle.ft_search.specs.Writing.{Leaves, without_key}
-use Rattle.ft_search.proofs.Calling.{answer_loaded, loaded_same, made_loaded, written_made}
+use Rattle.ft_search.proofs.Calling.{answer_loaded, written_made}
 use Rattle.ft_set.proofs.Leaving as left
 use Rattle.ft_set.proofs.deletes.remove_locked.Goals as goal
 use Rattle.ft_set.proofs.deletes.remove_locked.Goals.{In-At, In-Free, In-Bare}

@@ -1,0 +1,13 @@
+pub mod Laid
+pub mod Stages
+pub mod Placed
+pub mod Finishing
+pub mod Keyed
+pub mod Copied
+pub mod Rooted
+pub mod Entering
+pub mod Wanted
+pub mod Grown
+pub mod Taken
+pub mod Present
+pub mod Cursors

@@ -1,0 +1,14 @@
+//! Calls that add keys to dicts and sets of a bank, by a pass that has the lock: a key's entry is put into the
+//! container's table where that has room, and else into another one, which gets what the container has.
+#![tactic(auto)]
+
+mod counts;
+mod filling;
+mod fresh;
+mod growth;
+mod keys;
+mod placing;
+mod room;
+
+pub use crate::counts::{Counts, read_counts};
+pub use crate::keys::add_key;

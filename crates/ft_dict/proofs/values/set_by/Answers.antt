@@ -1,0 +1,110 @@
+use Rattle.std.proofs.Common.{◌≡◌, ◌<◌, ◌*◌, ◌^◌, true, Option, Some, None, sym, ap, ◌∙◌, subst, arith}
+use Rattle.std.specs.Option.{unwrap_or}
+use Rattle.ft_model.specs.declared.call.Call.TheVariants as call
+use Rattle.ft_model.specs.declared.call.DictCall.TheVariants as dict
+use Rattle.ft_model.specs.declared.content.Content.{Content}
+use Rattle.ft_model.specs.declared.content.Content.TheVariants as content
+use Rattle.ft_model.specs.declared.reply.Reply.TheVariants as reply
+use Rattle.ft_model.specs.Contents.{DictContent}
+use Rattle.ft_model.specs.Worlds.{serial_of}
+use Rattle.ft_layout.specs.declared.slot.Stored.TheVariants.{Plain}
+use Rattle.ft_keys.specs.declared.walk.Way.TheVariants as way
+use Rattle.ft_trace.specs.declared.Shape.{Shape}
+use Rattle.ft_trace.specs.Addresses.{containers_in}
+use Rattle.ft_trace.specs.Holds.{held, known}
+use Rattle.ft_bank.specs.declared.table.Table.{Table}
+use Rattle.ft_bank.specs.Passes.{shape_of, view}
+use Rattle.ft_bank.specs.Whole.{Wrote}
+use Rattle.ft_bank.proofs.Showing.{serials_have_room}
+use Rattle.ft_section.specs.declared.answers.Stamp.{Stamp}
+use Rattle.ft_search.specs.Held.{IsHeldAt}
+use Rattle.ft_search.specs.Writing.{Leaves, with_value_at}
+use Rattle.ft_adding.specs.Growing.{AddsKey, IsFreeFor, holds}
+use Rattle.ft_adding.proofs.Keyed.{knows_here, knows_bare}
+use Rattle.ft_adding.proofs.Present.{may_add, puts_absent, puts_present}
+use Rattle.ft_dict.proofs.Deleted as deleted
+use Rattle.ft_dict.proofs.NewKeys.{set_adds}
+use Rattle.ft_dict.proofs.values.set_by.Goals as goal
+use Rattle.ft_dict.proofs.values.set_by.Goals.{After-seek_key, In-At}
+
+-- the dict, as it is known once the key was sought
+known_pairs : (c : After-seek_key) → (pairs : DictContent) × ((known c.args.d (view c.seek_key.new.pass)).content ≡ content.Dict pairs) × (c.args.d < containers_in (view c.seek_key.new.pass).shape)
+known_pairs c = deleted.known_dict (shape_of c.args.bank.now) (view c.seek_key.new.pass) c.args.d c.seek_key.ensures.pass.1 c.seek_key.new.pass.possible c.seek_key.ensures.may c.requires.dict
+
+leaves : (c : In-At) → Leaves c.args.d (call.Dict c.args.d (dict.Set c.args.key c.args.value)) (reply.Done) (record { content = with_value_at (known c.args.d (view c.seek_key.new.pass)).content c.args.key c.args.value; table = (known c.args.d (view c.seek_key.new.pass)).table }) (view c.seek_key.new.pass)
+leaves c =
+    let p = deleted.known_dict (shape_of c.args.bank.now) (view c.seek_key.new.pass) c.args.d c.seek_key.ensures.pass.1 c.seek_key.new.pass.possible c.seek_key.ensures.may c.requires.dict in
+    deleted.set_leaves c.args.d (view c.seek_key.new.pass) p.0 p.2 c.seek_key.ensures.may.locked p.1 c.args.key c.seek_key.ensures.key c.args.value c.in-At.value_kind c.in-At.payload c.value_fits.ensures c.in-At.ensures.spot.2
+
+adds : (c : After-seek_key) → IsHeldAt (known c.args.d (view c.seek_key.new.pass)).content c.args.key None → AddsKey c.args.d (call.Dict c.args.d (dict.Set c.args.key c.args.value)) reply.Done c.args.key (Plain c.args.value) (view c.seek_key.new.pass)
+adds c none =
+    let p = known_pairs c in
+    set_adds c.args.d (view c.seek_key.new.pass) p.0 p.2 c.seek_key.ensures.may.locked p.1 c.args.key c.args.value c.seek_key.ensures.key c.value_fits.ensures (subst (λ (z : Content). IsHeldAt z c.args.key None) p.1 none)
+
+serials : (c : After-seek_key) → serial_of (known c.args.d (view c.seek_key.new.pass)).content < 2 ^ 63
+serials c =
+    let room = serials_have_room (view c.seek_key.new.pass) c.args.d c.seek_key.new.pass.possible (subst (λ (k : Shape). k.passes * k.calls < 2 ^ 46) (sym c.seek_key.ensures.pass.1) c.args.bank.now.few) c.seek_key.ensures.may.locked in
+    omega (arith, room)
+
+pub set_entry-number-requires-clause-leaves : goal.set_entry-number-requires-clause-leaves
+set_entry-number-requires-clause-leaves c = leaves (goal.at.set_entry-number-requires-clause-leaves c).In-At
+
+pub returns-in-At-clause-added : goal.returns-in-At-clause-added
+returns-in-At-clause-added c =
+    let a = c.args in
+    let at = (goal.at.returns-in-At-clause-added c).In-At in
+    let p = known_pairs (goal.at.returns-in-At-clause-added c).After-seek_key in
+    let u = view c.seek_key.new.pass in
+    let n = c.set_entry-number.ensures in
+    let h = subst (λ (z : Content). IsHeldAt z a.key (Some (c.in-At.value_kind, c.in-At.payload))) p.1 c.in-At.ensures.spot.2 in
+    let there : holds (known a.d u).content a.key ≡ true = ap (λ (z : Content). holds z a.key) p.1 ∙ deleted.has_there a.d u p.0 p.2 c.seek_key.ensures.may.locked p.1 a.key c.seek_key.ensures.key c.in-At.value_kind c.in-At.payload h n.wrote.found n.wrote.has in
+    puts_present (shape_of a.bank.now) a.d a.key (call.Dict a.d (dict.Set a.key a.value)) reply.Done (view a.pass.now) u (view c.set_entry-number.new.pass) c.seek_key.ensures.keeps c.written.result (leaves at).changed there (ap (λ (z : Stamp). z.wrote) c.written.ensures) (subst (λ (z : Stamp). Wrote (call.Dict a.d (dict.Set a.key a.value)) reply.Done z.number u (view c.set_entry-number.new.pass)) (sym c.written.ensures) n.wrote) n.root
+
+-- ---- a table that has the key nowhere
+
+pub add_key-requires-clause-may : goal.add_key-requires-clause-may
+add_key-requires-clause-may c =
+    let a = c.args in
+    let e = c.seek_key.ensures in
+    may_add (shape_of a.bank.now) a.d (Some c.in-Free.table) (view a.pass.now) (view c.seek_key.new.pass) e.keeps c.requires.used c.requires.idle e.may (knows_here (shape_of a.bank.now) a.d c.in-Free.table (view c.seek_key.new.pass) e.may c.in-Free.ensures.spot.0)
+
+pub add_key-requires-clause-slot : goal.add_key-requires-clause-slot
+add_key-requires-clause-slot c t is =
+    let a = c.args in
+    subst (λ (z : Table). IsFreeFor (shape_of a.bank.now).texts way.Dict z.class a.key (held a.d (view c.seek_key.new.pass)).table c.in-Free.slot) (ap (λ (z : Option Table). unwrap_or z c.in-Free.table) is) (c.in-Free.ensures.spot.1, c.in-Free.ensures.spot.2)
+
+pub add_key-requires-clause-absent : goal.add_key-requires-clause-absent
+add_key-requires-clause-absent c = c.in-Free.ensures.spot.3
+
+pub add_key-requires-clause-serials : goal.add_key-requires-clause-serials
+add_key-requires-clause-serials c = serials (goal.at.add_key-requires-clause-serials c).After-seek_key
+
+pub add_key-requires-clause-adds : goal.add_key-requires-clause-adds
+add_key-requires-clause-adds c = adds (goal.at.add_key-requires-clause-adds c).After-seek_key c.in-Free.ensures.spot.3
+
+pub returns-in-Free-clause-added : goal.returns-in-Free-clause-added
+returns-in-Free-clause-added c =
+    let a = c.args in
+    puts_absent (shape_of a.bank.now) a.d a.key (call.Dict a.d (dict.Set a.key a.value)) reply.Done (view a.pass.now) (view c.seek_key.new.pass) (view c.add_key.new.pass) c.seek_key.ensures.keeps c.add_key.result c.in-Free.ensures.spot.3 c.add_key.ensures.added
+
+-- ---- no table
+
+pub add_key-requires-in-Bare-clause-may : goal.add_key-requires-in-Bare-clause-may
+add_key-requires-in-Bare-clause-may c =
+    let a = c.args in
+    let e = c.seek_key.ensures in
+    may_add (shape_of a.bank.now) a.d None (view a.pass.now) (view c.seek_key.new.pass) e.keeps c.requires.used c.requires.idle e.may (knows_bare (shape_of a.bank.now) a.d (view c.seek_key.new.pass) e.may c.in-Bare.ensures.spot.0)
+
+pub add_key-requires-in-Bare-clause-absent : goal.add_key-requires-in-Bare-clause-absent
+add_key-requires-in-Bare-clause-absent c = c.in-Bare.ensures.spot.1
+
+pub add_key-requires-in-Bare-clause-serials : goal.add_key-requires-in-Bare-clause-serials
+add_key-requires-in-Bare-clause-serials c = serials (goal.at.add_key-requires-in-Bare-clause-serials c).After-seek_key
+
+pub add_key-requires-in-Bare-clause-adds : goal.add_key-requires-in-Bare-clause-adds
+add_key-requires-in-Bare-clause-adds c = adds (goal.at.add_key-requires-in-Bare-clause-adds c).After-seek_key c.in-Bare.ensures.spot.1
+
+pub returns-clause-added : goal.returns-clause-added
+returns-clause-added c =
+    let a = c.args in
+    puts_absent (shape_of a.bank.now) a.d a.key (call.Dict a.d (dict.Set a.key a.value)) reply.Done (view a.pass.now) (view c.seek_key.new.pass) (view c.add_key-in-Bare.new.pass) c.seek_key.ensures.keeps c.add_key-in-Bare.result c.in-Bare.ensures.spot.1 c.add_key-in-Bare.ensures.added

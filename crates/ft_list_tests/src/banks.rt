@@ -12,7 +12,7 @@ use std::test::Fail;
 
 /// Two lists, one table of each class, two passes.
 pub(crate) fn small(alloc: Global) -> Result<Shape, Fail>
-    ensures { IfOk result (λ s. (s.kinds.items ≡ List ∷ List ∷ []) × (s.passes ≡ 2) × (s.calls ≡ 100)) }
+    ensures { IfOk result (λ s. (s.kinds.items ≡ List ∷ List ∷ []) × (s.passes ≡ 2) × (s.calls ≡ 40)) }
 {
     Ok(Shape {
         kinds: vec![in alloc; Kind::List, Kind::List]?,
@@ -20,7 +20,7 @@ pub(crate) fn small(alloc: Global) -> Result<Shape, Fail>
         tables: vec![in alloc; 1u32; 14]?,
         heap: 64,
         passes: 2,
-        calls: 100,
+        calls: 40,
     })
 }
 
@@ -53,7 +53,7 @@ pub(crate) fn some_left(pass: &Pass) -> Result<(), Fail>
     ensures { OnOk result (0 < (view pass.now).left) }
 {
     if pass.left() == 0 {
-        return Err(Fail::from("a hundred calls are left at first"));
+        return Err(Fail::from("forty calls are left at first"));
     }
     Ok(())
 }

@@ -10,7 +10,7 @@ use Rattle.ft_script.specs.declared.fault.Fault.{Fault}
 use Rattle.ft_script.specs.declared.fault.LineError.{LineError}
 use Rattle.ft_script.specs.declared.fault.LineError.TheVariants as error
 use Rattle.ft_script.specs.Internal.Candidates.{entry_of, content_of}
-use Rattle.ft_script.specs.Drafts.{Fails}
+use Rattle.ft_script.specs.Internal.Answers.{Fails}
 use Rattle.ft_script.specs.Internal.Readers.{NoEntry, NoContent, IfFault, IsLine, AddsNothing, but_feed, refused}
 use Rattle.ft_script.specs.Texts.{entry_line}
 use Rattle.ft_script.specs.Internal.Tokens.{tokens_of, before_word}

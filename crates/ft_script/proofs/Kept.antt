@@ -3,6 +3,7 @@ use Rattle.std.proofs.Common.{◌≡◌, ◌≢◌, ◌⊎◌, ℕ, ◌+◌, ◌
 use Rattle.std.specs.Prelude.{All, AllPairs, IfSome, IfOk}
 use Rattle.std.specs.List.{list_all, AllByRecursion}
 use Rattle.std.specs.Str.{IsUtf8, bytes_eq}
+use Rattle.std.specs.Str.Parse.{signed_digits_value}
 use Rattle.std.proofs.lemmas.Bool.{cases_lt, ltb-true, ltb-false}
 use Rattle.std.proofs.lemmas.List.{length-append}
 use Rattle.std.proofs.lemmas.List.Elements.{All-push}
@@ -16,12 +17,15 @@ use Rattle.ft_model.specs.Scripts.{IsKeyOf, IsValueOf, IsDeclaredAs}
 use Rattle.ft_model.specs.Keys.{as_value}
 use Rattle.ft_script.specs.declared.draft.Draft.{Draft}
 use Rattle.ft_script.specs.declared.fault.Fault.{Fault}
-use Rattle.ft_script.specs.Words.{is_string, text_of}
+use Rattle.ft_script.specs.declared.fault.Fault.TheVariants as fault
+use Rattle.ft_script.specs.Transcripts.{IsWideKey, IsWideValue}
+use Rattle.ft_script.specs.Words.{integer_of, is_integer, is_string, is_wide, text_of}
 use Rattle.ft_script.specs.Drafts.{◌>>=◌, or_fault, container_place, text_place}
-use Rattle.ft_script.specs.Arguments.{symbol_of, index_of, key_of, value_of, container_of, kind_at, is_of_kind, other_of, made_cursor_of, key_in, key_and_value_of, key_and_value_in, value_in, index_in, some_index_in, two_indices_in, index_and_value_of, index_and_value_in, other_in, made_cursor_in, cursor_in, section_in, two_containers_of, nothing_in}
+use Rattle.ft_script.specs.Arguments.{symbol_of, index_of, two_indices_of, key_of, value_of, container_of, kind_at, is_of_kind, other_of, made_cursor_of, key_in, key_and_value_of, key_and_value_in, value_in, index_in, some_index_in, two_indices_in, index_and_value_of, index_and_value_in, other_in, made_cursor_in, cursor_in, section_in, two_containers_of, nothing_in}
 use Rattle.ft_script.specs.Arguments as arguments
 use Rattle.ft_script.proofs.Growing.{key_grows}
 use Rattle.ft_script.proofs.Tables.{absent_text, differ_push, place_within}
+use Rattle.ft_script.proofs.WordLemmas.{integer_by}
 
 -- ---- what holds where a step succeeds
 
@@ -44,6 +48,20 @@ some_holds None f y P some none = none refl
 pub anything : {A : Type 0} (r : Result A Fault) → IfOk r (λ _. Unit {0})
 anything (Ok x) = tt
 anything (Err e) = tt
+
+-- ---- integers
+
+wide_by : (token : List ℕ) (form wide : Bool) (n : ℤ) → is_integer token ≡ form → is_wide (signed_digits_value 10 token) ≡ wide → integer_of token ≡ Some n → is_wide n ≡ true
+wide_by token true true n is_form is_in found =
+    let e : Some (signed_digits_value 10 token) ≡ Some n = sym (integer_by token true true is_form is_in) ∙ found in
+    let same : signed_digits_value 10 token ≡ n = cc in
+    ap is_wide (sym same) ∙ is_in
+wide_by token true false n is_form is_in found = absurd (let e : None ≡ Some n = sym (integer_by token true false is_form is_in) ∙ found in cc)
+wide_by token false wide n is_form is_in found = absurd (let e : None ≡ Some n = sym (integer_by token false wide is_form is_in) ∙ found in cc)
+
+pub index_keeps : (token : List ℕ) → IfOk (index_of token) (λ n. is_wide n ≡ true)
+unfolding index_of
+index_keeps token = or_holds fault.Number (integer_of token) (λ n. is_wide n ≡ true) (λ n found. wide_by token (is_integer token) (is_wide (signed_digits_value 10 token)) n refl refl found)
 
 -- ---- strings
 
@@ -96,27 +114,31 @@ symbol_keeps d text table textual =
     (λ _. tt)))
 
 abbrev pub Keyed : Draft → Key × Draft → Type 0
-Keyed d p = (read : StringsRead d p.1) × IsKeyOf (length read.to) p.0
+Keyed d p = (read : StringsRead d p.1) × IsKeyOf (length read.to) p.0 × IsWideKey p.0
 
 key_keeps : (d : Draft) (word : List ℕ) → IsTable d.strings → IsGoodWord word → IfOk (key_of d word) (Keyed d)
 unfolding key_of
 key_keeps d word table good =
     cond_holds (is_string word) _ _ (Keyed d)
-    (λ is. bind_holds (symbol_of d (text_of word)) _ (Symbol d) (Keyed d) (symbol_keeps d (text_of word) table (good is)) (λ symbol h. h))
-    (λ _. bind_holds (index_of word) _ (λ _. Unit {0}) (Keyed d) (anything (index_of word)) (λ n _. (no_strings d table, tt)))
+    (λ is. bind_holds (symbol_of d (text_of word)) _ (Symbol d) (Keyed d) (symbol_keeps d (text_of word) table (good is)) (λ symbol h. (h.0, h.1, tt)))
+    (λ _. bind_holds (index_of word) _ (λ n. is_wide n ≡ true) (Keyed d) (index_keeps word) (λ n wide. (no_strings d table, tt, wide)))
 
 abbrev pub Valued : Draft → Value × Draft → Type 0
-Valued d p = (read : StringsRead d p.1) × IsValueOf (length read.to) p.0
+Valued d p = (read : StringsRead d p.1) × IsValueOf (length read.to) p.0 × IsWideValue p.0
 
 value_of_key : (strings : ℕ) (k : Key) → IsKeyOf strings k → IsValueOf strings (as_value k)
 value_of_key strings (key.Int n) h = tt
 value_of_key strings (key.Text symbol) h = h
 
+wide_value_of_key : (k : Key) → IsWideKey k → IsWideValue (as_value k)
+wide_value_of_key (key.Int n) h = h
+wide_value_of_key (key.Text symbol) h = tt
+
 value_keeps : (d : Draft) (word : List ℕ) → IsTable d.strings → IsGoodWord word → IfOk (value_of d word) (Valued d)
 unfolding value_of
 value_keeps d word table good =
-    cond_holds (bytes_eq word _) _ _ (Valued d) (λ _. (no_strings d table, tt))
-    (λ _. bind_holds (key_of d word) _ (Keyed d) (Valued d) (key_keeps d word table good) (λ found h. (h.0, value_of_key (length h.0.to) found.0 h.1)))
+    cond_holds (bytes_eq word _) _ _ (Valued d) (λ _. (no_strings d table, tt, tt))
+    (λ _. bind_holds (key_of d word) _ (Keyed d) (Valued d) (key_keeps d word table good) (λ found h. (h.0, value_of_key (length h.0.to) found.0 h.1, wide_value_of_key found.0 h.2)))
 
 -- ---- containers and cursors
 
@@ -203,6 +225,7 @@ key_in_keeps d (word ∷ other ∷ words) table good = tt
 
 abbrev pub KeyedAndValued : Draft → (Key × Value) × Draft → Type 0
 KeyedAndValued d p = (read : StringsRead d p.1) × IsKeyOf (length read.to) p.0.0 × IsValueOf (length read.to) p.0.1
+    × IsWideKey p.0.0 × IsWideValue p.0.1
 
 -- strings that are read after strings
 strings_then : (d e f : Draft) (first : StringsRead d e) (second : StringsRead e f) → (both : StringsRead d f) × (both.to ≡ second.to)
@@ -221,7 +244,7 @@ key_and_value_keeps d first second table good_first good_second =
     bind_holds (value_of found.1 second) _ (Valued found.1) (KeyedAndValued d) (value_keeps found.1 second (table_after d found.1 h.0) good_second) (λ stored g.
     let both = strings_then d found.1 stored.1 h.0 g.0 in
     let between : length found.1.strings ≡ length h.0.to = ap (λ (x : Draft). length x.strings) h.0.is in
-    (both.0, key_grows (length h.0.to) (length both.0.to) found.0 (let same : length both.0.to ≡ length g.0.to = ap length both.1 in omega (arith, g.0.more)) h.1, subst (λ (l : List (List ℕ)). IsValueOf (length l) stored.0) (sym both.1) g.1)))
+    (both.0, key_grows (length h.0.to) (length both.0.to) found.0 (let same : length both.0.to ≡ length g.0.to = ap length both.1 in omega (arith, g.0.more)) h.1, subst (λ (l : List (List ℕ)). IsValueOf (length l) stored.0) (sym both.1) g.1, h.2, g.2)))
 
 pub key_and_value_in_keeps : (d : Draft) (words : List (List ℕ)) → IsTable d.strings → AreGoodWords words → IfOk (key_and_value_in d words) (KeyedAndValued d)
 unfolding key_and_value_in
@@ -237,13 +260,13 @@ value_in_keeps d (word ∷ []) table good = value_keeps d word table good.0
 value_in_keeps d (word ∷ other ∷ words) table good = tt
 
 abbrev pub Indexed : Draft → (ℤ × Value) × Draft → Type 0
-Indexed d p = (read : StringsRead d p.1) × IsValueOf (length read.to) p.0.1
+Indexed d p = (read : StringsRead d p.1) × IsValueOf (length read.to) p.0.1 × (is_wide p.0.0 ≡ true) × IsWideValue p.0.1
 
 index_and_value_keeps : (d : Draft) (first second : List ℕ) → IsTable d.strings → IsGoodWord second → IfOk (index_and_value_of d first second) (Indexed d)
 unfolding index_and_value_of
 index_and_value_keeps d first second table good =
-    bind_holds (index_of first) _ (λ _. Unit {0}) (Indexed d) (anything (index_of first)) (λ n _.
-    bind_holds (value_of d second) _ (Valued d) (Indexed d) (value_keeps d second table good) (λ stored h. h))
+    bind_holds (index_of first) _ (λ n. is_wide n ≡ true) (Indexed d) (index_keeps first) (λ n wide.
+    bind_holds (value_of d second) _ (Valued d) (Indexed d) (value_keeps d second table good) (λ stored h. (h.0, h.1, wide, h.2)))
 
 pub index_and_value_in_keeps : (d : Draft) (words : List (List ℕ)) → IsTable d.strings → AreGoodWords words → IfOk (index_and_value_in d words) (Indexed d)
 unfolding index_and_value_in
@@ -251,6 +274,34 @@ index_and_value_in_keeps d [] table good = tt
 index_and_value_in_keeps d (word ∷ []) table good = tt
 index_and_value_in_keeps d (word ∷ other ∷ []) table good = index_and_value_keeps d word other table good.1.0
 index_and_value_in_keeps d (word ∷ other ∷ third ∷ words) table good = tt
+
+pub index_in_keeps : (words : List (List ℕ)) → IfOk (index_in words) (λ n. is_wide n ≡ true)
+unfolding index_in
+index_in_keeps [] = tt
+index_in_keeps (word ∷ []) = index_keeps word
+index_in_keeps (word ∷ other ∷ words) = tt
+
+pub some_index_in_keeps : (words : List (List ℕ)) → IfOk (some_index_in words) (λ index. IfSome index (λ n. is_wide n ≡ true))
+unfolding some_index_in
+some_index_in_keeps [] = tt
+some_index_in_keeps (word ∷ []) = bind_holds (index_of word) _ (λ n. is_wide n ≡ true) (λ index. IfSome index (λ n. is_wide n ≡ true)) (index_keeps word) (λ n wide. wide)
+some_index_in_keeps (word ∷ other ∷ words) = tt
+
+abbrev AreWide : ℤ × ℤ → Type 0
+AreWide ends = (is_wide ends.0 ≡ true) × (is_wide ends.1 ≡ true)
+
+two_indices_keep : (first second : List ℕ) → IfOk (two_indices_of first second) AreWide
+unfolding two_indices_of
+two_indices_keep first second =
+    bind_holds (index_of first) _ (λ n. is_wide n ≡ true) AreWide (index_keeps first) (λ start a.
+    bind_holds (index_of second) _ (λ n. is_wide n ≡ true) AreWide (index_keeps second) (λ end b. (a, b)))
+
+pub two_indices_in_keeps : (words : List (List ℕ)) → IfOk (two_indices_in words) (λ ends. (is_wide ends.0 ≡ true) × (is_wide ends.1 ≡ true))
+unfolding two_indices_in
+two_indices_in_keeps [] = tt
+two_indices_in_keeps (word ∷ []) = tt
+two_indices_in_keeps (word ∷ other ∷ []) = two_indices_keep word other
+two_indices_in_keeps (word ∷ other ∷ third ∷ words) = tt
 
 pub other_in_keeps : (d : Draft) (kind : Kind) (words : List (List ℕ)) → IfOk (other_in d kind words) (IsDeclaredAs d.containers kind)
 unfolding other_in

@@ -16,6 +16,7 @@ use Rattle.ft_script.specs.declared.draft.Draft.{Draft}
 use Rattle.ft_script.specs.declared.fault.Fault.{Fault}
 use Rattle.ft_script.specs.Drafts.{script_of, end_thread, thread_place}
 use Rattle.ft_script.specs.Reading.{thread_line}
+use Rattle.ft_script.specs.Transcripts.{IsWideCall}
 use Rattle.ft_script.proofs.Growing.{call_grows}
 use Rattle.ft_script.proofs.Tables.{absent, differ_push}
 use Rattle.std.specs.Option.{is_some}
@@ -34,6 +35,10 @@ AllMade cursors calls = (n : ℕ) → n < length cursors → Any (λ called. cur
 
 abbrev pub calls_in : List Thread → ℕ
 calls_in threads = sum (map (λ thread. length thread.calls) threads)
+
+-- each integer of the thread's calls is of 64 bits
+abbrev pub HasWideCalls : Thread → Type 0
+HasWideCalls thread = All IsWideCall thread.calls
 
 pub record IsDraft (d : Draft) : Type 0 where
   pub few_containers : length d.containers ≤ 256
@@ -57,6 +62,8 @@ pub record IsDraft (d : Draft) : Type 0 where
   pub made : AreMade d.calls
   pub all_made : AllMade d.cursors d.calls
   pub nested : depth_after_all 0 d.calls ≡ Ok d.depth
+  pub wide : All IsWideCall d.calls
+  pub wide_threads : All HasWideCalls d.threads
 
 -- a thread stays one where the script has more
 pub thread_grows : (script larger : ScriptParts) (more : List Declaration) → larger.containers ≡ script.containers ++ more → length script.strings ≤ length larger.strings → (thread : Thread) → IsThread script thread → IsThread larger thread
@@ -140,6 +147,8 @@ ended d name h named closed =
       made = none_made;
       all_made = λ n low. absurd (omega arith);
       nested = ap (λ (n : ℕ). open_at n) (sym closed);
+      wide = All-nil IsWideCall;
+      wide_threads = All-push HasWideCalls d.threads thread h.wide_threads h.wide;
     }
 
 pub end_thread_keeps : (d : Draft) → IsDraft d → IfOk (end_thread d) IsDraft
@@ -178,6 +187,8 @@ begun d name h none new =
       made = h.made;
       all_made = h.all_made;
       nested = subst (λ (l : List Call). depth_after_all 0 l ≡ Ok 0) (sym idle.1) refl;
+      wide = h.wide;
+      wide_threads = h.wide_threads;
     }
 
 pub thread_line_keeps : (d : Draft) (words : List (List ℕ)) → IsDraft d → d.name ≡ None → IfOk (thread_line d words) IsDraft

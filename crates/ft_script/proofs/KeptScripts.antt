@@ -13,15 +13,16 @@ use Rattle.ft_script.specs.declared.draft.Draft.{Draft}
 use Rattle.ft_script.specs.declared.fault.Fault.{Fault}
 use Rattle.ft_script.specs.declared.fault.ScriptFault.{ScriptFault}
 use Rattle.ft_script.specs.Lines.{ends_thread, is_comment, lines_of, words_of}
-use Rattle.ft_script.specs.Drafts.{empty_draft, end_thread, or_fault, script_of, HasFewThreads, Leaves}
+use Rattle.ft_script.specs.Drafts.{empty_draft, end_thread, or_fault, script_of}
 use Rattle.ft_script.specs.Reading.{open_line, read_line, words_line}
 use Rattle.ft_script.specs.Scripts.{line_after, read_lines, reported_at}
+use Rattle.ft_script.specs.Transcripts.{IsWideCall}
 use Rattle.ft_script.proofs.Encoded.{AreEncoded, BeginsNoThread, begins_no_thread, line_good, lines_encoded}
 use Rattle.ft_script.proofs.Kept.{AreGoodWords, IsTable, bind_holds, cond_holds, or_holds, some_holds}
-use Rattle.ft_script.proofs.KeptDrafts.{IsDraft, calls_in, end_thread_keeps, no_names, none_made, IsNew}
+use Rattle.ft_script.proofs.KeptDrafts.{HasWideCalls, IsDraft, calls_in, end_thread_keeps, no_names, none_made, IsNew}
 use Rattle.ft_script.proofs.KeptStatements.{statement_keeps}
 use Rattle.std.proofs.lemmas.Slice.Zip.{length-zip}
-use Rattle.ft_script.specs.Faults.{reported}
+use Rattle.ft_script.specs.Internal.Answers.{HasFewThreads, Leaves, reported}
 use Rattle.ft_model.specs.declared.script.Thread.{Thread}
 use Rattle.ft_script.specs.declared.fault.LineError.{LineError}
 use Rattle.ft_script.specs.declared.fault.LineError.TheVariants as error
@@ -114,6 +115,8 @@ empty_is_draft =
       made = none_made;
       all_made = λ n low. absurd (omega arith);
       nested = refl;
+      wide = All-nil IsWideCall;
+      wide_threads = All-nil HasWideCalls;
     }
 
 abbrev IsCount : ℕ → Type 0
@@ -167,9 +170,18 @@ script_is d h =
       turns = h.turns;
     }
 
--- what the lines of a text in UTF-8 come to is a script
+-- the lines of a text in UTF-8 come to a draft that becomes a script
+read_is_draft : (bytes : List ℕ) (draft : Draft) → IsUtf8 bytes → read_lines 1 empty_draft (lines_of bytes) ≡ Ok draft → IsDraft draft
+read_is_draft bytes draft encoded read =
+    let kept : IfOk (read_lines 1 empty_draft (lines_of bytes)) IsDraft = read_lines_keep (lines_of bytes) 1 empty_draft empty_is_draft (lines_encoded bytes encoded) in
+    subst (λ (r : Result Draft ScriptFault). IfOk r IsDraft) read kept
+
+-- what they come to is a script
 pub read_is_script : (bytes : List ℕ) (draft : Draft) (parts : ScriptParts) → IsUtf8 bytes → read_lines 1 empty_draft (lines_of bytes) ≡ Ok draft → parts ≡ script_of draft → IsScript parts
 read_is_script bytes draft parts encoded read made =
-    let kept : IfOk (read_lines 1 empty_draft (lines_of bytes)) IsDraft = read_lines_keep (lines_of bytes) 1 empty_draft empty_is_draft (lines_encoded bytes encoded) in
-    let is : IsDraft draft = subst (λ (r : Result Draft ScriptFault). IfOk r IsDraft) read kept in
-    subst (λ (p : ScriptParts). IsScript p) (sym made) (script_is draft is)
+    subst (λ (p : ScriptParts). IsScript p) (sym made) (script_is draft (read_is_draft bytes draft encoded read))
+
+-- and each integer of it is of 64 bits
+pub read_is_wide : (bytes : List ℕ) (draft : Draft) (parts : ScriptParts) → IsUtf8 bytes → read_lines 1 empty_draft (lines_of bytes) ≡ Ok draft → parts ≡ script_of draft → All HasWideCalls parts.threads
+read_is_wide bytes draft parts encoded read made =
+    subst (λ (p : ScriptParts). All HasWideCalls p.threads) (sym made) (read_is_draft bytes draft encoded read).wide_threads

@@ -23,6 +23,7 @@ use Rattle.ft_script.specs.Words.{natural_of}
 use Rattle.ft_script.specs.Drafts.{or_fault, container_place, script_of, thread_place}
 use Rattle.ft_script.specs.Arguments.{index_of}
 use Rattle.ft_script.specs.Reading.{call_line, call_of, class_of, container_line, counted_call, declaration, depth_after, heap_line, is_reported, order_line, other_statement, past_limit, plain_statement, statement, tables_at, tables_line, tables_of, thread_statement, turn, turns, unordered_statement}
+use Rattle.ft_script.specs.Transcripts.{IsWideCall}
 use Rattle.ft_script.proofs.Encoded.{BeginsNoThread}
 use Rattle.ft_script.proofs.Growing.{call_grows}
 use Rattle.ft_script.proofs.Kept.{AreGoodWords, anything, bind_holds, cond_holds, or_holds}
@@ -67,6 +68,8 @@ container_added d container h form differs room =
       made = h.made;
       all_made = h.all_made;
       nested = h.nested;
+      wide = h.wide;
+      wide_threads = h.wide_threads;
     }
 
 container_line_keeps : (d : Draft) (kind : Kind) (words : List (List ℕ)) → IsDraft d → IfOk (container_line d kind words) IsDraft
@@ -113,6 +116,8 @@ tables_reported d place count h least greatest =
       made = h.made;
       all_made = h.all_made;
       nested = h.nested;
+      wide = h.wide;
+      wide_threads = h.wide_threads;
     }
 
 tables_at_keeps : (d : Draft) (place : ℕ) (count : List ℕ) → IsDraft d → IfOk (tables_at d place count) IsDraft
@@ -158,6 +163,8 @@ heap_reported d count h least greatest steps =
       made = h.made;
       all_made = h.all_made;
       nested = h.nested;
+      wide = h.wide;
+      wide_threads = h.wide_threads;
     }
 
 heap_line_keeps : (d : Draft) (words : List (List ℕ)) → IsDraft d → IfOk (heap_line d words) IsDraft
@@ -211,6 +218,8 @@ turn_added d thread h low room =
       made = h.made;
       all_made = h.all_made;
       nested = h.nested;
+      wide = h.wide;
+      wide_threads = h.wide_threads;
     }
 
 turn_keeps : (d : Draft) (name : List ℕ) → IsDraft d → IfOk (turn d name) IsDraft
@@ -304,6 +313,8 @@ call_added d e called depth h room named read deeper =
       made = made_push d.calls called h.made moved;
       all_made = λ k low. elim (read.fresh k low) [ inl old ↦ any_before (λ c. cursor_of c ≡ Some k) d.calls called (h.all_made k old) | inr made ↦ Any-push (λ c. cursor_of c ≡ Some k) d.calls called made ];
       nested = after_push 0 d.calls called d.depth depth h.nested deeper;
+      wide = All-push IsWideCall d.calls called h.wide read.wide;
+      wide_threads = h.wide_threads;
     } in
     subst (λ (x : Draft). IsDraft (record x { calls = x.calls ++ called ∷ []; called = d.called + 1; depth = depth })) (sym read.is) is
 

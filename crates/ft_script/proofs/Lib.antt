@@ -17,6 +17,7 @@ pub mod WordCuts
 pub mod WordLemmas
 pub mod TokenCuts
 pub mod TokenLists
+pub mod NoSeparator
 pub mod NumberLemmas
 pub mod ReplyLoops
 pub mod TokenTexts

@@ -1,6 +1,6 @@
 -- What is read is a script.
 use Rattle.std.proofs.Common.{◌≡◌, ℕ, zero, suc, ◌≤◌, Bool, true, false, List, length, take, Result, Ok, Err, refl, ap, subst, arith, cond}
-use Rattle.std.specs.Prelude.{is_ok, nat_lt}
+use Rattle.std.specs.Prelude.{All, is_ok, nat_lt}
 use Rattle.std.specs.Str.{is_utf8, IsUtf8}
 use Rattle.std.specs.Str.Lossy.{utf8_valid_len, valid_len_up_to}
 use Rattle.std.proofs.lemmas.Bool.{false≢true, ltb-false}
@@ -8,11 +8,13 @@ use Rattle.std.proofs.lemmas.List.{take_all}
 use Rattle.std.proofs.lemmas.Str.{IsUtf8-from_is_utf8, IsUtf8-nil}
 use Rattle.ft_model.specs.declared.script.ScriptParts.{ScriptParts}
 use Rattle.ft_model.specs.Scripts.{IsScript}
+use Rattle.ft_script.specs.declared.draft.Draft.{Draft}
 use Rattle.ft_script.specs.declared.fault.ScriptFault.{ScriptFault}
 use Rattle.ft_script.specs.Drafts.{empty_draft, script_of}
 use Rattle.ft_script.specs.Lines.{lines_of}
 use Rattle.ft_script.specs.Scripts.{read_lines, read_script}
-use Rattle.ft_script.proofs.KeptScripts.{read_is_script}
+use Rattle.ft_script.proofs.KeptDrafts.{HasWideCalls}
+use Rattle.ft_script.proofs.KeptScripts.{read_is_script, read_is_wide}
 
 -- ---- bytes whose longest front in UTF-8 is all of them
 
@@ -50,9 +52,22 @@ not_refused : (short : Bool) (found : ScriptFault) (read : Result ScriptParts Sc
 not_refused true found read script same = absurd (refused found script same)
 not_refused false found read script same = (refl, same)
 
-pub script_read : (bytes : List ℕ) (script : ScriptParts) → read_script bytes ≡ Ok script → IsScript script
+-- a text that is read is in UTF-8, and its lines come to a draft
+pub record IsRead (bytes : List ℕ) (script : ScriptParts) : Type 0 where
+  pub utf8 : IsUtf8 bytes
+  pub draft : Draft
+  pub lines : read_lines 1 empty_draft (lines_of bytes) ≡ Ok draft
+  pub parts : script ≡ script_of draft
+
+pub is_read : (bytes : List ℕ) (script : ScriptParts) → read_script bytes ≡ Ok script → IsRead bytes script
 unfolding read_script
-script_read bytes script read =
+is_read bytes script read =
     let all = not_refused (nat_lt (utf8_valid_len bytes) (length bytes)) _ (made_of script_of (read_lines 1 empty_draft (lines_of bytes))) script read in
     let is = made script_of (read_lines 1 empty_draft (lines_of bytes)) script all.1 in
-    read_is_script bytes is.0 script (encoded bytes (ltb-false _ _ all.0)) is.1 is.2
+    record { utf8 = encoded bytes (ltb-false _ _ all.0); draft = is.0; lines = is.1; parts = is.2 }
+
+pub script_read : (bytes : List ℕ) (script : ScriptParts) → read_script bytes ≡ Ok script → IsScript script
+script_read bytes script read = let is = is_read bytes script read in read_is_script bytes is.draft script is.utf8 is.lines is.parts
+
+pub script_wide : (bytes : List ℕ) (script : ScriptParts) → read_script bytes ≡ Ok script → All HasWideCalls script.threads
+script_wide bytes script read = let is = is_read bytes script read in read_is_wide bytes is.draft script is.utf8 is.lines is.parts

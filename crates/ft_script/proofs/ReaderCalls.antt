@@ -12,7 +12,8 @@ use Rattle.ft_script.specs.declared.fault.Fault.{Fault}
 use Rattle.ft_script.specs.declared.fault.LineError.{LineError}
 use Rattle.ft_script.specs.declared.fault.LineError.TheVariants as error
 use Rattle.ft_script.specs.Internal.Candidates.{only_call}
-use Rattle.ft_script.specs.Drafts.{Gives, Reads, draft_at, empty_draft}
+use Rattle.ft_script.specs.Drafts.{draft_at, empty_draft}
+use Rattle.ft_script.specs.Internal.Answers.{Gives, Reads}
 use Rattle.ft_script.specs.Internal.Readers.{IsReaderOf, IsUnchanged}
 
 gives_only : (r : Result Call LineError) (new : Draft) (given : Result (Call × Draft) Fault) → Reads r new given → Gives (λ called. called) r (only_call given)

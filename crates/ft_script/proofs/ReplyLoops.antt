@@ -9,7 +9,8 @@ use Rattle.ft_script.specs.declared.fault.Fault.{Fault}
 use Rattle.ft_script.specs.declared.fault.Fault.TheVariants as fault
 use Rattle.ft_script.specs.declared.fault.LineError.{LineError}
 use Rattle.ft_script.specs.declared.fault.LineError.TheVariants as error
-use Rattle.ft_script.specs.Drafts.{◌>>=◌, Fails}
+use Rattle.ft_script.specs.Drafts.{◌>>=◌}
+use Rattle.ft_script.specs.Internal.Answers.{Fails}
 use Rattle.ft_script.specs.Internal.Candidates.{each_of, known_pair, pairs_of}
 use Rattle.ft_script.proofs.TokenLists.{shown}
 

@@ -28,24 +28,12 @@ use Rattle.ft_script.specs.Internal.Candidates.{is_decimal, natural_in, u64_of, 
 use Rattle.ft_script.specs.Drafts.{or_fault, text_place, thread_place, container_place}
 use Rattle.ft_script.specs.Transcripts.{counts, IsWideKey, IsWideValue, IsWideReply, IsReadableReply}
 use Rattle.ft_script.specs.Words.{is_integer, is_wide, integer_of, is_string, text_of}
-use Rattle.ft_script.proofs.Kept.{bind_holds, cond_holds, or_holds, anything}
+use Rattle.ft_script.proofs.Kept.{bind_holds, cond_holds, or_holds, anything, index_keeps}
 use Rattle.ft_script.proofs.Tables.{place_within}
 use Rattle.ft_script.proofs.NumberLemmas.{natural_by}
 use Rattle.ft_script.proofs.WordLemmas.{integer_by}
 
 -- ---- numbers
-
-wide_by : (token : List ℕ) (form wide : Bool) (n : ℤ) → is_integer token ≡ form → is_wide (signed_digits_value 10 token) ≡ wide → integer_of token ≡ Some n → is_wide n ≡ true
-wide_by token true true n is_form is_in found =
-    let e : Some (signed_digits_value 10 token) ≡ Some n = sym (integer_by token true true is_form is_in) ∙ found in
-    let same : signed_digits_value 10 token ≡ n = cc in
-    ap is_wide (sym same) ∙ is_in
-wide_by token true false n is_form is_in found = absurd (let e : None ≡ Some n = sym (integer_by token true false is_form is_in) ∙ found in cc)
-wide_by token false wide n is_form is_in found = absurd (let e : None ≡ Some n = sym (integer_by token false wide is_form is_in) ∙ found in cc)
-
-index_sound : (token : List ℕ) → IfOk (index_of token) (λ n. is_wide n ≡ true)
-unfolding index_of
-index_sound token = or_holds fault.Number (integer_of token) (λ n. is_wide n ≡ true) (λ n found. wide_by token (is_integer token) (is_wide (signed_digits_value 10 token)) n refl refl found)
 
 low_by : (token : List ℕ) (form low : Bool) (n : ℕ) → is_decimal token ≡ form → ltb (digits_value 10 token) (2 ^ 64) ≡ low → natural_in token ≡ Some n → n < 2 ^ 64
 low_by token true true n is_form is_low found =
@@ -83,7 +71,7 @@ key_sound strings token =
     cond_holds (is_string token) _ _ (KeyFits strings)
     (λ _. bind_holds (or_fault fault.String (text_place strings (text_of token))) _ (λ place. place < length strings) (KeyFits strings)
     (or_holds fault.String (text_place strings (text_of token)) (λ place. place < length strings) (λ place found. place_within (λ other. bytes_eq (text_of token) other) strings place found)) (λ place low. (low, tt)))
-    (λ _. bind_holds (index_of token) _ (λ n. is_wide n ≡ true) (KeyFits strings) (index_sound token) (λ n wide. (tt, wide)))
+    (λ _. bind_holds (index_of token) _ (λ n. is_wide n ≡ true) (KeyFits strings) (index_keeps token) (λ n wide. (tt, wide)))
 
 as_value_fits : (strings : List (List ℕ)) (found : Key) → KeyFits strings found → ValueFits strings (as_value found)
 as_value_fits strings (key.Int n) h = h

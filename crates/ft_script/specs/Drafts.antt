@@ -11,8 +11,6 @@ use Rattle.ft_model.specs.declared.script.ScriptParts.{ScriptParts}
 use Rattle.ft_script.specs.declared.draft.Draft.{Draft}
 use Rattle.ft_script.specs.declared.fault.Fault.{Fault}
 use Rattle.ft_script.specs.declared.fault.Fault.TheVariants as fault
-use Rattle.ft_script.specs.declared.fault.LineError.{LineError}
-use Rattle.ft_script.specs.declared.fault.LineError.TheVariants as error
 
 -- ---- results
 
@@ -20,31 +18,6 @@ infixl 10 ◌>>=◌
 abbrev pub ◌>>=◌ : {A B : Type 0} → Result A Fault → (A → Result B Fault) → Result B Fault
 (Ok x) >>= f = f x
 (Err e) >>= f = Err e
-
--- a refusal for out of memory, or the fault that reading gives
-abbrev pub Fails : {Y : Type 0} → LineError → Result Y Fault → Type 0
-Fails error.Memory read = Unit {0}
-Fails (error.Fault found) read = read ≡ Err found
-
--- what was returned, seen by view, is what reading gives
-abbrev pub Gives : {X Y : Type 0} → (X → Y) → Result X LineError → Result Y Fault → Type 0
-Gives view (Ok x) read = read ≡ Ok (view x)
-Gives view (Err e) read = Fails e read
-
--- and the draft after it is this
-abbrev pub Reads : {X : Type 0} → Result X LineError → Draft → Result (X × Draft) Fault → Type 0
-Reads (Ok x) new read = read ≡ Ok (x, new)
-Reads (Err e) new read = Fails e read
-
--- the draft after a line is this
-abbrev pub Leaves : {X : Type 0} → Result X LineError → Draft → Result Draft Fault → Type 0
-Leaves (Ok x) new read = read ≡ Ok new
-Leaves (Err e) new read = Fails e read
-
--- the same of a line whose reading takes no memory
-abbrev pub LeavesAlways : {X : Type 0} → Result X Fault → Draft → Result Draft Fault → Type 0
-LeavesAlways (Ok x) new read = read ≡ Ok new
-LeavesAlways (Err e) new read = read ≡ Err e
 
 abbrev pub or_fault : {X : Type 0} → Fault → Option X → Result X Fault
 or_fault found None = Err found
@@ -99,10 +72,6 @@ script_of draft = record {
   heap = unwrap_or draft.heap 64;
   order = draft.order;
 }
-
--- there are no more threads than a script may have, the one whose calls stand here counted
-abbrev pub HasFewThreads : Draft → Type 0
-HasFewThreads draft = length draft.threads + (if is_some draft.name then 1 else 0) ≤ 64
 
 -- the calls of a thread end, if one's calls stand here: each `begin` has its `end`
 unfoldable pub end_thread : Draft → Result Draft Fault

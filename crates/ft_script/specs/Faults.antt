@@ -2,8 +2,6 @@
 use Rattle.std.specs.Prelude.{ℕ, ◌==◌, List, [], Option, Some, None, Result, Ok, Err, codes, if◌then◌else◌}
 use Rattle.ft_script.specs.declared.fault.Fault.{Fault}
 use Rattle.ft_script.specs.declared.fault.Fault.TheVariants as fault
-use Rattle.ft_script.specs.declared.fault.LineError.{LineError}
-use Rattle.ft_script.specs.declared.fault.LineError.TheVariants as error
 use Rattle.ft_script.specs.declared.fault.ScriptFault.{ScriptFault}
 use Rattle.ft_script.specs.declared.fault.Which.{Which}
 use Rattle.ft_script.specs.declared.fault.Which.TheVariants as which
@@ -46,12 +44,6 @@ which_of fault.OrderName = None
 -- a fault at a line
 abbrev pub fault_at : ℕ → Fault → ScriptFault
 fault_at line found = record { line = line; kind = kind_of found; which = which_of found }
-
--- a line's answer, with the line's number
-abbrev pub reported : {X : Type 0} → Result X LineError → ℕ → Result X ScriptFault
-reported (Ok x) line = Ok x
-reported (Err error.Memory) line = Err no_memory
-reported (Err (error.Fault found)) line = Err (fault_at line found)
 
 abbrev pub limit_text : Which → List ℕ
 limit_text which.Threads = codes "limit threads"

@@ -21,8 +21,6 @@ use Rattle.ft_script.specs.declared.call_words.Operation.TheVariants as of
 use Rattle.ft_script.specs.declared.draft.Draft.{Draft}
 use Rattle.ft_script.specs.declared.fault.Fault.{Fault}
 use Rattle.ft_script.specs.declared.fault.Fault.TheVariants as fault
-use Rattle.ft_script.specs.declared.fault.LineError.{LineError}
-use Rattle.ft_script.specs.declared.fault.LineError.TheVariants as error
 use Rattle.ft_script.specs.declared.fault.Which.TheVariants as which
 use Rattle.ft_script.specs.Words.{natural_of}
 use Rattle.ft_script.specs.CallWords.{call_word_of}
@@ -203,11 +201,6 @@ limit_fault fault.OrderName = fault.Limit which.Calls
 abbrev pub past_limit : Result (Call × Draft) Fault → Result Draft Fault
 past_limit (Ok read) = Err (fault.Limit which.Calls)
 past_limit (Err found) = Err (limit_fault found)
-
-abbrev pub limit_error : Result Call LineError → LineError
-limit_error (Ok read) = error.Fault (fault.Limit which.Calls)
-limit_error (Err error.Memory) = error.Memory
-limit_error (Err (error.Fault found)) = error.Fault (limit_fault found)
 
 -- the line of a call
 unfoldable pub call_line : Draft → CallWord → List (List ℕ) → Result Draft Fault

@@ -1,7 +1,7 @@
 //! Reads the words after the word of a call.
 ghost use Rattle.ft_model.specs.Names.{is_container_name};
 ghost use Rattle.ft_script.specs.Arguments.{container_of, cursor_in, cursor_of, index_and_value_in, index_and_value_of, index_in, index_of, is_of_kind, key_and_value_in, key_and_value_of, key_in, key_of, kind_at, made_cursor_in, made_cursor_of, nothing_in, other_in, other_of, same_kind, section_in, some_index_in, symbol_of, two_containers_of, two_indices_in, two_indices_of, value_in, value_of};
-ghost use Rattle.ft_script.specs.Drafts.{Gives, Reads};
+ghost use Rattle.ft_script.specs.Internal.Answers.{Gives, Reads};
 ghost use Rattle.std.specs.Prelude.{◌≡◌, Ok, map};
 
 use crate::declarations::CURSOR_LIMIT;

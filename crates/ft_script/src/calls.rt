@@ -1,6 +1,6 @@
 //! Reads the lines of calls.
-ghost use Rattle.ft_script.specs.Drafts.{Leaves, Reads};
-ghost use Rattle.ft_script.specs.Reading.{call_at, call_line, call_of, container_call, counted_call, depth_after, dict_call, limit_error, limit_fault, list_call, set_call};
+ghost use Rattle.ft_script.specs.Reading.{call_at, call_line, call_of, container_call, counted_call, depth_after, dict_call, limit_fault, list_call, set_call};
+ghost use Rattle.ft_script.specs.Internal.Answers.{Leaves, Reads, limit_error};
 ghost use Rattle.std.specs.Prelude.{◌≡◌, ◌<◌, map};
 
 use crate::arguments::{index_in, nothing_in, some_index_in, two_indices_in};

@@ -1,5 +1,6 @@
 //! What the lines above a place say.
-ghost use Rattle.ft_script.specs.Drafts.{HasFewThreads, Leaves, empty_draft, script_of, end_thread};
+ghost use Rattle.ft_script.specs.Drafts.{empty_draft, script_of, end_thread};
+ghost use Rattle.ft_script.specs.Internal.Answers.{HasFewThreads, Leaves};
 ghost use Rattle.ft_model.specs.Scripts.{default_tables};
 ghost use Rattle.std.specs.List.{zip};
 ghost use Rattle.std.specs.Option.{unwrap_or};

@@ -2,7 +2,8 @@
 ghost use Rattle.ft_script.specs.declared.fault.Fault.TheVariants as fault;
 ghost use Rattle.ft_script.specs.Internal.Candidates.{content_of, entry_of, numbered_of, only_call, stamp_of, thread_call, thread_of, waited_of};
 ghost use Rattle.ft_model.specs.Scripts.{IsScript};
-ghost use Rattle.ft_script.specs.Drafts.{Gives, container_place, draft_at, or_fault};
+ghost use Rattle.ft_script.specs.Drafts.{container_place, draft_at, or_fault};
+ghost use Rattle.ft_script.specs.Internal.Answers.{Gives};
 ghost use Rattle.ft_script.specs.Reading.{call_of};
 ghost use Rattle.ft_script.specs.Internal.Readers.{AddsNothing, IsReaderOf, IsUnchanged};
 ghost use Rattle.ft_script.specs.Internal.Tokens.{before_word};

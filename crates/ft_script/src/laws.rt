@@ -1,5 +1,5 @@
 //! What holds of every script and transcript. The functions do nothing: their contracts are the laws.
-ghost use Rattle.std.specs.Prelude.{◌≡◌, ◌<◌, ◌≤◌, ℕ, List, Ok, length};
+ghost use Rattle.std.specs.Prelude.{◌≡◌, ◌<◌, ◌≤◌, ℕ, All, List, Ok, length};
 ghost use Rattle.ft_model.specs.declared.call.Call.{Call};
 ghost use Rattle.ft_model.specs.declared.entry.Entry.{Entry};
 ghost use Rattle.ft_model.specs.declared.script.ScriptParts.{ScriptParts};
@@ -15,6 +15,12 @@ ghost use Rattle.ft_script.specs.Transcripts.{IsFirstBad, IsTranscript, IsWideCa
 /// What is read of a text is a script: it keeps the rule of names, kinds, cursors, sections and limits.
 pub fn what_is_read_is_a_script()
     ensures { (bytes : List ℕ) (script : ScriptParts) → read_script bytes ≡ Ok script → IsScript script }
+{}
+
+/// Each integer of a script that is read is of 64 bits.
+pub fn what_is_read_is_wide()
+    ensures { (bytes : List ℕ) (script : ScriptParts) → read_script bytes ≡ Ok script
+        → All (λ thread. All IsWideCall thread.calls) script.threads }
 {}
 
 /// The words of a thread's call, as they are printed, are read as that call where what it names is

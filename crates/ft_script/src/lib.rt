@@ -28,7 +28,7 @@ pub use fault::{ScriptFault, Which};
 pub use generator::make_script;
 pub use laws::{
     calls_are_read_back, made_scripts_are_read, no_transcript_is_bad, one_transcript,
-    what_is_read_is_a_script,
+    what_is_read_is_a_script, what_is_read_is_wide,
 };
 pub use parser::parse;
 pub use print::{print_entry, print_world, push_entry, push_world, push_world_line};

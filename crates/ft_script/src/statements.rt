@@ -1,5 +1,5 @@
 //! Reads the lines of a script.
-ghost use Rattle.ft_script.specs.Drafts.{HasFewThreads, Leaves, LeavesAlways};
+ghost use Rattle.ft_script.specs.Internal.Answers.{HasFewThreads, Leaves, LeavesAlways};
 ghost use Rattle.ft_script.specs.Reading.{class_of, class_place, container_line, declaration, heap_line, open_line, order_line, other_statement, read_line, statement, tables_at, tables_line, tables_of, thread_line, thread_statement, turn, turns, words_line};
 ghost use Rattle.std.specs.Prelude.{◌≡◌, ◌<◌, ◌≤◌, IfOk, IfSome, OnOk, length, map};
 

@@ -32,7 +32,7 @@ gives_rest : (before after : Stream) (came text : List ℕ) (failed : Bool) → 
 gives_rest before after came text failed gives has = rest_of after.content came text (sym has ∙ gives.content)
 
 -- and all of it, where the source has ended
-gives_all : (before after : Stream) (came text : List ℕ) (failed : Bool) → Gives before came failed after → before.content ≡ Some text → HasEnded after → came ≡ text
+pub gives_all : (before after : Stream) (came text : List ℕ) (failed : Bool) → Gives before came failed after → before.content ≡ Some text → HasEnded after → came ≡ text
 gives_all before after came text failed gives has ended =
     let there = gives_rest before after came text failed gives has in
     let none : there.0 ≡ [] = subst (λ left. IfSome left (λ rest. rest ≡ [])) there.1 ended in

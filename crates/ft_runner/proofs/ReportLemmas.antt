@@ -1,6 +1,6 @@
 -- From the parts of a call to its report.
 use Rattle.std.proofs.Common.{◌≡◌, ℕ, true, false, List, [], ◌++◌, length, Option, Some, None, Result, Ok, Err, refl, sym, ap, subst, ◌∙◌, ◌⊎◌, inl, inr, arith, if◌then◌else◌}
-use Rattle.std.specs.Prelude.{◌==◌, is_some, Vec}
+use Rattle.std.specs.Prelude.{◌==◌, is_some, All, Vec}
 use Rattle.std.specs.declared.alloc.Global.{Global}
 use Rattle.std.specs.List.{flat_map}
 use Rattle.std.proofs.lemmas.Bool.{eqb-false, le-ltb, false≢true, true≢false}
@@ -18,6 +18,7 @@ use Rattle.ft_script.specs.Scripts.{read_script}
 use Rattle.ft_runner.specs.Making.{IsSummary}
 use Rattle.ft_script.specs.Texts.{entry_line, world_text}
 use Rattle.ft_turns.specs.Orders.{IsOrderRun}
+use Rattle.ft_turns.specs.Replies.{HasShortReply}
 use Rattle.ft_history.specs.declared.verdict.Verdict.TheVariants as verdict
 use Rattle.ft_model.specs.declared.entry.Rule.{Rule}
 use Rattle.ft_runner.specs.declared.command.Subcommand.{Subcommand}
@@ -201,12 +202,12 @@ module _ (command : Subcommand) (bytes : List ℕ) where
   pub run_forgotten : (sink : Stream) → ComesTo (MeansRun command bytes) sink sink outcome.Memory
   run_forgotten sink = record { put = []; writing = Receives-none sink; means = inl refl; cause = refl }
 
-  module _ (script : ScriptParts) (history : List Entry) (world : List Content) (read : read_script bytes ≡ Ok script) (legal : IsLegal stored script history) (order : IsOrderRun stored script history) (last : world ≡ world_at script history (length (writes history))) where
+  module _ (script : ScriptParts) (history : List Entry) (world : List Content) (read : read_script bytes ≡ Ok script) (legal : IsLegal stored script history) (order : IsOrderRun stored script history) (short : All HasShortReply history) (last : world ≡ world_at script history (length (writes history))) where
     abbrev text : List ℕ
     text = flat_map (entry_line script) history ++ world_text script world
 
     history_is : IsHistoryOf command bytes history text
-    history_is = record { script = script; read = read; legal = legal; order = λ turns. order; written = ap (λ (w : List Content). flat_map (entry_line script) history ++ world_text script w) last }
+    history_is = record { script = script; read = read; legal = legal; order = λ turns. order; short = short; written = ap (λ (w : List Content). flat_map (entry_line script) history ++ world_text script w) last }
 
     pub run_written : (sink sink' : Stream) (made : Vec Entry Global) → made.items ≡ history → Receives sink text false sink' → ComesTo (MeansRun command bytes) sink sink' (outcome.Clean made)
     run_written sink sink' made is all = record { put = text; writing = all; means = subst (λ (es : List Entry). IsHistoryOf command bytes es text) (sym is) history_is; cause = refl }

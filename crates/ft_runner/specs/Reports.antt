@@ -1,5 +1,5 @@
 -- What the tool does and reports.
-use Rattle.std.specs.Prelude.{◌≡◌, ◌≢◌, ℕ, ◌==◌, Bool, true, false, nat_lt, if◌then◌else◌, ◌⊎◌, ◌≤◌, List, [], ◌++◌, length, Option, Some, None, is_none, Ok, Err, codes}
+use Rattle.std.specs.Prelude.{◌≡◌, ◌≢◌, ℕ, ◌==◌, Bool, true, false, nat_lt, if◌then◌else◌, ◌⊎◌, ◌≤◌, List, [], ◌++◌, length, Option, Some, None, is_none, All, Ok, Err, codes}
 use Rattle.std.specs.Fmt.{decimal}
 use Rattle.ft_history.specs.declared.verdict.Verdict.{Verdict}
 use Rattle.ft_history.specs.declared.verdict.Verdict.TheVariants as verdict
@@ -13,6 +13,7 @@ use Rattle.ft_script.specs.Generator.{made_text}
 use Rattle.ft_script.specs.Scripts.{read_script}
 use Rattle.ft_script.specs.Texts.{transcript}
 use Rattle.ft_turns.specs.Orders.{IsOrderRun}
+use Rattle.ft_turns.specs.Replies.{HasShortReply}
 use Rattle.ft_runner.specs.declared.command.Subcommand.{Subcommand}
 use Rattle.ft_runner.specs.declared.command.Subcommand.TheVariants as subcommand
 use Rattle.ft_runner.specs.declared.outcome.Outcome.{Outcome}
@@ -153,6 +154,8 @@ pub record IsHistoryOf (command : Subcommand) (bytes : List ℕ) (history : List
   pub read : read_script bytes ≡ Ok script
   pub legal : IsLegal stored script history
   pub order : command ≡ subcommand.Turns → IsOrderRun stored script history
+  -- no number of a reply is greater than what it counts can be
+  pub short : All HasShortReply history
   pub written : text ≡ transcript script history
 
 -- these bytes are a prefix of the text of such a history

@@ -1,8 +1,11 @@
 //! What follows of each report. The functions do nothing: their contracts are the laws, over what the
 //! source has before the call.
 ghost use Rattle.ft_history.specs.declared.verdict.Verdict.{Verdict};
+ghost use Rattle.ft_history.specs.declared.verdict.Verdict.TheVariants as verdict;
+ghost use Rattle.ft_io.specs.Streams.{added};
 ghost use Rattle.ft_model.specs.declared.entry.Entry.{Entry};
 ghost use Rattle.ft_model.specs.declared.script.ScriptParts.{ScriptParts};
+ghost use Rattle.ft_model.specs.Histories.{IsLegal};
 ghost use Rattle.ft_runner.specs.declared.command.Subcommand.{Subcommand};
 ghost use Rattle.ft_runner.specs.declared.command.Subcommand.TheVariants as subcommand;
 ghost use Rattle.ft_runner.specs.declared.report.Fault.TheVariants as fault;
@@ -10,12 +13,15 @@ ghost use Rattle.ft_runner.specs.declared.report.Report.{Report};
 ghost use Rattle.ft_runner.specs.Causes.{IsCause, IsReportOn};
 ghost use Rattle.ft_runner.specs.Checking.{IsPast, IsScriptPart, IsWithinLimits};
 ghost use Rattle.ft_runner.specs.Commands.{runs_script};
-ghost use Rattle.ft_runner.specs.Findings.{IsBadAt, IsInput, IsVerdictOn};
-ghost use Rattle.ft_runner.specs.Streams.{script_limit};
+ghost use Rattle.ft_runner.specs.Findings.{legal_line, stored, IsBadAt, IsInput, IsVerdictOn};
+ghost use Rattle.ft_runner.specs.Streams.{input_limit, script_limit};
+ghost use Rattle.ft_runner.specs.Written.{checked_text, EndsLine, IsWritten};
 ghost use Rattle.ft_runner.specs.Reports.{fault_of, refusal_of, reported_of};
 ghost use Rattle.ft_script.specs.declared.fault.ScriptFault.{ScriptFault};
 ghost use Rattle.ft_script.specs.Scripts.{read_script};
-ghost use Rattle.std.specs.Prelude.{◌≡◌, ◌<◌, ◌≤◌, ◌⊎◌, ℕ, List, Ok, Err, true, length};
+ghost use Rattle.ft_script.specs.Texts.{transcript};
+ghost use Rattle.ft_turns.specs.Replies.{HasShortReply};
+ghost use Rattle.std.specs.Prelude.{◌≡◌, ◌<◌, ◌≤◌, ◌⊎◌, ℕ, All, List, Ok, Err, true, length};
 
 /// Each report has its cause in the text: a script's first fault, the first line that is none of a
 /// transcript's, the first broken rule, or that it is too long. Memory may run out with any text.
@@ -69,4 +75,26 @@ pub fn bad_lines_are_reported()
     ensures { (text : List ℕ) (report : Report) (line : ℕ)
         → IsReportOn subcommand.Check text report → IsWithinLimits text → IsBadAt text line
         → (report.fault ≡ fault.Transcript line) ⊎ (report.fault ≡ fault.Memory) }
+{}
+
+/// A legal history's text has its reading: after a script's text and the line `---` it is the
+/// transcript of its entries and of the contents that they leave, and the verdict on it is legal. No
+/// number of a reply may be greater than what it counts can be.
+pub fn legal_histories_are_read_back()
+    ensures { (text : List ℕ) (script : ScriptParts) (history : List Entry)
+        → read_script text ≡ Ok script → EndsLine text
+        → IsLegal stored script history → All HasShortReply history
+        → (lines : List (List ℕ)) × IsInput (checked_text text (transcript script history)) script history lines
+        × IsVerdictOn script history lines verdict.Legal }
+{}
+
+/// What `turns` writes of a script's text, `check` finds legal after that text and the line `---`, and
+/// writes so, unless the whole is too long or memory runs out.
+pub fn what_is_written_is_found_legal()
+    ensures { (command : Subcommand) (text written : List ℕ) (report : Report)
+        → runs_script command ≡ true → IsWritten command text written → EndsLine text
+        → length (checked_text text written) ≤ input_limit
+        → (on : IsReportOn subcommand.Check (checked_text text written) report)
+        → ((report.fault ≡ fault.Clean) × (on.sink'.content ≡ added on.sink.content legal_line))
+        ⊎ (report.fault ≡ fault.Memory) }
 {}

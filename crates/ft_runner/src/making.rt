@@ -19,7 +19,7 @@ use itoa::Buffer;
 use std::alloc::{AllocError, Global};
 
 /// What is counted of a history.
-#[derive(Clone, Copy, Debug, PartialEq, Eq, Hash)]
+#[derive(Clone, Copy)]
 enum Counted {
     Writes,
     KeyErrors,

@@ -10,7 +10,7 @@ use ft_script::ScriptFault;
 use std::alloc::Global;
 
 /// What a command has come to.
-#[derive(Debug, Drop)]
+#[derive(Drop)]
 pub(crate) enum Outcome {
     /// All input was read and all output written: the history, which is empty where none is made.
     Clean(Vec<Entry>),

@@ -10,7 +10,7 @@ use ft_io::{Failed, Source};
 use std::alloc::{AllocError, Global};
 
 /// Why reading stopped before the end.
-#[derive(Clone, Copy, Debug, PartialEq, Eq, Hash)]
+#[derive(Clone, Copy)]
 pub(crate) enum ReadFault {
     /// The source failed.
     Failed,
@@ -21,7 +21,7 @@ pub(crate) enum ReadFault {
 }
 
 /// What `check` reads, and where the first line of it that is `---` begins.
-#[derive(Debug, Drop)]
+#[derive(Drop)]
 pub(crate) struct Input {
     pub(crate) bytes: Vec<u8>,
     pub(crate) separator: Option<usize>,

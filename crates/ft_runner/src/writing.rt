@@ -16,7 +16,7 @@ use std::alloc::{AllocError, Global};
 const FULL: usize = PIECE - 4_096;
 
 /// Why a text was not written to its end.
-#[derive(Clone, Copy, Debug, PartialEq, Eq, Hash)]
+#[derive(Clone, Copy)]
 pub(crate) enum WriteFault {
     Failed,
     Memory,

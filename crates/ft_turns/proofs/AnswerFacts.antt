@@ -1,11 +1,13 @@
 -- What every answer says and leaves.
-use Rattle.std.proofs.Common.{map, ◌≡◌, ℕ, ◌-◌, ◌<◌, Bool, true, false, not, List, [], ◌∷◌, length, get_or, Option, None, Some, refl, sym, ap, subst, ◌∙◌, inl, inr, zero, suc}
+use Rattle.std.proofs.Common.{map, ◌≡◌, ℕ, ◌-◌, ◌<◌, ◌≤◌, Bool, true, false, not, List, [], ◌∷◌, length, get_or, Option, None, Some, refl, sym, ap, subst, ◌∙◌, inl, inr, zero, suc}
 use Rattle.std.specs.Prelude.{◌⊎◌, if◌then◌else◌, All, slice_get, slice_set, slice_index_or, ◌&&◌, ◌==◌, IfSome}
 use Rattle.std.specs.Option.{option_map_or}
 use Rattle.std.proofs.lemmas.Bool.{true≢false, false≢true, cases_eq, cases_lt, eq-eqb, ne_eqb}
 use Rattle.std.proofs.lemmas.Option.{none-some, same_Some}
 use Rattle.std.proofs.lemmas.List.{length-set, get_or-set_same, get_or-set_other, get_or_past}
-use Rattle.std.proofs.lemmas.List.Elements.{All-nil, All-set}
+use Rattle.std.proofs.lemmas.List.Elements.{All-nil, All-set, All-weaker}
+use Rattle.ft_model.specs.declared.data.Key.{Key}
+use Rattle.ft_model.specs.declared.data.Key.TheVariants as key
 use Rattle.ft_model.specs.declared.data.Value.{Value}
 use Rattle.ft_model.specs.declared.call.Call.{Call}
 use Rattle.ft_model.specs.declared.call.Call.TheVariants as call
@@ -32,10 +34,13 @@ use Rattle.ft_model.specs.Cursors.{CursorStep, is_after, next_pair, dict_walk, d
 use Rattle.ft_model.specs.declared.script.Kind.{Kind}
 use Rattle.ft_model.specs.declared.script.Kind.TheVariants as kind
 use Rattle.ft_model.specs.Worlds.{IsOfKind, kind_of, cursor_kind, dict_of, list_of, set_of, dict_at, list_at, set_at, cursor_at, container_of, no_hands}
-use Rattle.ft_model.specs.Scripts.{IsValueOf, AreStringsOf, cursor_of}
+use Rattle.ft_model.specs.Keys.{as_value}
+use Rattle.ft_model.specs.Scripts.{IsKeyOf, IsValueOf, cursor_of}
 use Rattle.ft_model.specs.Parts.{IsReplyOf, IsContentOf}
 use Rattle.ft_model.specs.Answers.{Answer, shows, moves, answer_dict, answer_list, answer_set, cursor_step, answer, is_raised, is_memory, is_write}
-use Rattle.ft_turns.proofs.ContentStrings.{IsPairOf, IsElementOf, key_value, held_at, found_in}
+use Rattle.ft_turns.specs.Internal.Counting.{counted_in}
+use Rattle.ft_turns.proofs.CallFacts.{IsCallBy, is_counting}
+use Rattle.ft_turns.proofs.ContentFacts.{IsPairBy, IsElementBy, IsReplyBy, IsContentBy, GoTogether, held_at, found_in}
 use Rattle.ft_turns.proofs.AnswerForms.{Form, shown, put, made, form_dict, form_list, form_set}
 
 -- the container that the cursor goes over, where it was made
@@ -58,17 +63,23 @@ IsAsked world (call.Set container set_call) = IsOfKind world kind.Set container 
 IsAsked world other = Unit {0}
 
 -- what an answer says and leaves, whatever the call
-pub record IsPlainAnswer (n : ℕ) (world : List Content) (hands : List (Option Cursor)) (called : Call) : Type 0 where
+pub record IsPlainAnswer (K : Key → Type 0) (V : Value → Type 0) (C : ℕ → Type 0) (world : List Content) (hands : List (Option Cursor)) (called : Call) : Type 0 where
   pub memory : is_memory (answer world hands called).reply ≡ false
   pub alike : is_changing called ≡ true → (answer world hands called).world ≡ (answer world no_hands called).world
   pub quiet : is_write called (answer world hands called).reply ≡ false → (answer world hands called).world ≡ world
-  pub reply : IsReplyOf n (answer world hands called).reply
-  pub contents : All (IsContentOf n) (answer world hands called).world
+  pub reply : IsReplyBy K V C (answer world hands called).reply
+  pub contents : All (IsContentBy K V) (answer world hands called).world
   pub containers : length (answer world hands called).world ≡ length world
   pub kinds : map kind_of (answer world hands called).world ≡ map kind_of world
   pub room : length (answer world hands called).hands ≡ length hands
   pub fits : AreOver world hands → AreOver world (answer world hands called).hands
-  pub walks : (number : ℕ) → walked (answer world hands called).hands number ≡ walked_after hands (cursor_of called) (containers_of called) number
+
+-- where it is said of strings that they are among that many, and nothing of counts
+abbrev pub IsAny : ℕ → Type 0
+IsAny count = Unit {0}
+
+abbrev pub IsPlainAnswerOf : ℕ → List Content → List (Option Cursor) → Call → Type 0
+IsPlainAnswerOf n world hands called = IsPlainAnswer (IsKeyOf n) (IsValueOf n) IsAny world hands called
 
 -- ---- what is put in place of another
 
@@ -90,48 +101,48 @@ raised_memory : (said : Reply) → is_raised said ≡ false → is_memory said �
 raised_memory (reply.Raised one) h = absurd (true≢false h)
 raised_memory other h = refl
 
-module _ (world : List Content) (n : ℕ) (k : Kind) (container : ℕ) (changing : Bool) (makes_one : Option ℕ) where
-  form_memory : (f : List (Option Cursor) → Answer) (hands : List (Option Cursor)) → Form world n k container changing makes_one f → is_memory (f hands).reply ≡ false
+module _ (world : List Content) (K : Key → Type 0) (V : Value → Type 0) (C : ℕ → Type 0) (k : Kind) (container : ℕ) (changing : Bool) (makes_one : Option ℕ) where
+  form_memory : (f : List (Option Cursor) → Answer) (hands : List (Option Cursor)) → Form world K V C k container changing makes_one f → is_memory (f hands).reply ≡ false
   form_memory f hands (shown none said memory strings) = memory
   form_memory f hands (put none changes place left said done strings contents kinds there) = raised_memory said done
   form_memory f hands (made number is still cursor over kinds here) = refl
 
-  form_alike : (f : List (Option Cursor) → Answer) (hands others : List (Option Cursor)) → Form world n k container changing makes_one f → changing ≡ true → (f hands).world ≡ (f others).world
+  form_alike : (f : List (Option Cursor) → Answer) (hands others : List (Option Cursor)) → Form world K V C k container changing makes_one f → changing ≡ true → (f hands).world ≡ (f others).world
   form_alike f hands others (shown none said memory strings) changes = refl
   form_alike f hands others (put none is place left said done strings contents kinds there) changes = refl
   form_alike f hands others (made number is still cursor over kinds here) changes = refl
 
-  form_quiet : (f : List (Option Cursor) → Answer) (hands : List (Option Cursor)) → Form world n k container changing makes_one f → (changing && not (is_raised (f hands).reply)) ≡ false → (f hands).world ≡ world
+  form_quiet : (f : List (Option Cursor) → Answer) (hands : List (Option Cursor)) → Form world K V C k container changing makes_one f → (changing && not (is_raised (f hands).reply)) ≡ false → (f hands).world ≡ world
   form_quiet f hands (shown none said memory strings) reads = refl
   form_quiet f hands (put none changes place left said done strings contents kinds there) reads = absurd (true≢false (ap (λ b. true && not b) (sym done) ∙ ap (λ b. b && not (is_raised said)) (sym changes) ∙ reads))
   form_quiet f hands (made number is still cursor over kinds here) reads = refl
 
-  form_reply : (f : List (Option Cursor) → Answer) (hands : List (Option Cursor)) → Form world n k container changing makes_one f → IsReplyOf n (f hands).reply
+  form_reply : (f : List (Option Cursor) → Answer) (hands : List (Option Cursor)) → Form world K V C k container changing makes_one f → IsReplyBy K V C (f hands).reply
   form_reply f hands (shown none said memory strings) = strings
   form_reply f hands (put none changes place left said done strings contents kinds there) = strings
   form_reply f hands (made number is still cursor over kinds here) = tt
 
-  form_contents : (f : List (Option Cursor) → Answer) (hands : List (Option Cursor)) → Form world n k container changing makes_one f → All (IsContentOf n) world → All (IsContentOf n) (f hands).world
+  form_contents : (f : List (Option Cursor) → Answer) (hands : List (Option Cursor)) → Form world K V C k container changing makes_one f → All (IsContentBy K V) world → All (IsContentBy K V) (f hands).world
   form_contents f hands (shown none said memory strings) old = old
-  form_contents f hands (put none changes place left said done strings contents kinds there) old = All-set (IsContentOf n) world place left contents old
+  form_contents f hands (put none changes place left said done strings contents kinds there) old = All-set (IsContentBy K V) world place left contents old
   form_contents f hands (made number is still cursor over kinds here) old = old
 
-  form_containers : (f : List (Option Cursor) → Answer) (hands : List (Option Cursor)) → Form world n k container changing makes_one f → length (f hands).world ≡ length world
+  form_containers : (f : List (Option Cursor) → Answer) (hands : List (Option Cursor)) → Form world K V C k container changing makes_one f → length (f hands).world ≡ length world
   form_containers f hands (shown none said memory strings) = refl
   form_containers f hands (put none changes place left said done strings contents kinds there) = length-set world place left
   form_containers f hands (made number is still cursor over kinds here) = refl
 
-  form_room : (f : List (Option Cursor) → Answer) (hands : List (Option Cursor)) → Form world n k container changing makes_one f → length (f hands).hands ≡ length hands
+  form_room : (f : List (Option Cursor) → Answer) (hands : List (Option Cursor)) → Form world K V C k container changing makes_one f → length (f hands).hands ≡ length hands
   form_room f hands (shown none said memory strings) = refl
   form_room f hands (put none changes place left said done strings contents kinds there) = refl
   form_room f hands (made number is still cursor over kinds here) = length-set hands number (Some cursor)
 
-  form_kinds : (f : List (Option Cursor) → Answer) (hands : List (Option Cursor)) → Form world n k container changing makes_one f → map kind_of (f hands).world ≡ map kind_of world
+  form_kinds : (f : List (Option Cursor) → Answer) (hands : List (Option Cursor)) → Form world K V C k container changing makes_one f → map kind_of (f hands).world ≡ map kind_of world
   form_kinds f hands (shown none said memory strings) = refl
   form_kinds f hands (put none changes place left said done strings contents kinds there) = kinds_set world place left (subst (λ one. IsOfKind world one place) (sym kinds) there)
   form_kinds f hands (made number is still cursor over kinds here) = refl
 
-  form_fits : (f : List (Option Cursor) → Answer) (hands : List (Option Cursor)) → Form world n k container changing makes_one f → AreOver world hands → AreOver world (f hands).hands
+  form_fits : (f : List (Option Cursor) → Answer) (hands : List (Option Cursor)) → Form world K V C k container changing makes_one f → AreOver world hands → AreOver world (f hands).hands
   form_fits f hands (shown none said memory strings) fits = fits
   form_fits f hands (put none changes place left said done strings contents kinds there) fits = fits
   form_fits f hands (made one is still it over kinds here) fits = λ number jt at.
@@ -143,7 +154,7 @@ module _ (world : List Content) (n : ℕ) (k : Kind) (container : ℕ) (changing
   no_cursor : (hands : List (Option Cursor)) (named : List ℕ) (number : ℕ) → makes_one ≡ None → walked hands number ≡ walked_after hands makes_one named number
   no_cursor hands named number none = ap (λ o. walked_after hands o named number) (sym none)
 
-  form_walks : (f : List (Option Cursor) → Answer) (hands : List (Option Cursor)) (named : List ℕ) (number : ℕ) → Form world n k container changing makes_one f → IfSome makes_one (λ one. one < length hands) → ((one : ℕ) → makes_one ≡ Some one → named ≡ container ∷ [])
+  form_walks : (f : List (Option Cursor) → Answer) (hands : List (Option Cursor)) (named : List ℕ) (number : ℕ) → Form world K V C k container changing makes_one f → IfSome makes_one (λ one. one < length hands) → ((one : ℕ) → makes_one ≡ Some one → named ≡ container ∷ [])
       → walked (f hands).hands number ≡ walked_after hands makes_one named number
   form_walks f hands named number (shown none said memory strings) room only = no_cursor hands named number none
   form_walks f hands named number (put none changes place left said done strings contents kinds there) room only = no_cursor hands named number none
@@ -163,44 +174,44 @@ module _ (world : List Content) (n : ℕ) (k : Kind) (container : ℕ) (changing
 
 -- ---- what a world's contents are
 
-module _ (n : ℕ) (world : List Content) (contents : All (IsContentOf n) world) where
-  of_dict : (c : Content) → IsContentOf n c → All (IsPairOf n) (dict_of c).pairs
+module _ (K : Key → Type 0) (V : Value → Type 0) (C : ℕ → Type 0) (together : GoTogether K V) (world : List Content) (contents : All (IsContentBy K V) world) where
+  of_dict : (c : Content) → IsContentBy K V c → All (IsPairBy K V) (dict_of c).pairs
   of_dict (content.Dict dict) h = h
-  of_dict (content.List items) h = All-nil (IsPairOf n)
-  of_dict (content.Set set) h = All-nil (IsPairOf n)
+  of_dict (content.List items) h = All-nil (IsPairBy K V)
+  of_dict (content.Set set) h = All-nil (IsPairBy K V)
 
-  of_list : (c : Content) → IsContentOf n c → All (IsValueOf n) (list_of c)
-  of_list (content.Dict dict) h = All-nil (IsValueOf n)
+  of_list : (c : Content) → IsContentBy K V c → All V (list_of c)
+  of_list (content.Dict dict) h = All-nil V
   of_list (content.List items) h = h
-  of_list (content.Set set) h = All-nil (IsValueOf n)
+  of_list (content.Set set) h = All-nil V
 
-  of_set : (c : Content) → IsContentOf n c → All (IsElementOf n) (set_of c).elements
-  of_set (content.Dict dict) h = All-nil (IsElementOf n)
-  of_set (content.List items) h = All-nil (IsElementOf n)
+  of_set : (c : Content) → IsContentBy K V c → All (IsElementBy K) (set_of c).elements
+  of_set (content.Dict dict) h = All-nil (IsElementBy K)
+  of_set (content.List items) h = All-nil (IsElementBy K)
   of_set (content.Set set) h = h
 
-  content_at : (place : ℕ) (empty : Content) → IsContentOf n empty → IsContentOf n (slice_index_or world place empty)
+  content_at : (place : ℕ) (empty : Content) → IsContentBy K V empty → IsContentBy K V (slice_index_or world place empty)
   content_at place empty none =
       elim (cases_lt place (length world)) [
         | inl low ↦ contents place empty low
-        | inr high ↦ subst (IsContentOf n) (sym (get_or_past world place empty high)) none
+        | inr high ↦ subst (IsContentBy K V) (sym (get_or_past world place empty high)) none
       ]
 
-  pub dicts_of : (place : ℕ) → All (IsPairOf n) (dict_at world place).pairs
-  dicts_of place = of_dict (slice_index_or world place (content.Dict empty_dict)) (content_at place (content.Dict empty_dict) (All-nil (IsPairOf n)))
+  pub dicts_of : (place : ℕ) → All (IsPairBy K V) (dict_at world place).pairs
+  dicts_of place = of_dict (slice_index_or world place (content.Dict empty_dict)) (content_at place (content.Dict empty_dict) (All-nil (IsPairBy K V)))
 
-  pub lists_of : (place : ℕ) → All (IsValueOf n) (list_at world place)
-  lists_of place = of_list (slice_index_or world place (content.List [])) (content_at place (content.List []) (All-nil (IsValueOf n)))
+  pub lists_of : (place : ℕ) → All V (list_at world place)
+  lists_of place = of_list (slice_index_or world place (content.List [])) (content_at place (content.List []) (All-nil V))
 
-  pub sets_of : (place : ℕ) → All (IsElementOf n) (set_at world place).elements
-  sets_of place = of_set (slice_index_or world place (content.Set empty_set)) (content_at place (content.Set empty_set) (All-nil (IsElementOf n)))
+  pub sets_of : (place : ℕ) → All (IsElementBy K) (set_at world place).elements
+  sets_of place = of_set (slice_index_or world place (content.Set empty_set)) (content_at place (content.Set empty_set) (All-nil (IsElementBy K)))
 
   -- ---- cursors
 
   abbrev IsStep : Cursor → CursorStep → Type 0
-  IsStep before step = (is_memory step.reply ≡ false) × IsReplyOf n step.reply × (container_of step.cursor ≡ container_of before) × (cursor_kind step.cursor ≡ cursor_kind before)
+  IsStep before step = (is_memory step.reply ≡ false) × IsReplyBy K V C step.reply × (container_of step.cursor ≡ container_of before) × (cursor_kind step.cursor ≡ cursor_kind before)
 
-  dict_step : (pairs : List DictPair) (container : ℕ) (state : CursorState) (size expected : ℕ) (last : Option ℕ) → All (IsPairOf n) pairs → IsStep (cursor.Dict container state size expected last) (dict_next pairs container state size expected last)
+  dict_step : (pairs : List DictPair) (container : ℕ) (state : CursorState) (size expected : ℕ) (last : Option ℕ) → All (IsPairBy K V) pairs → IsStep (cursor.Dict container state size expected last) (dict_next pairs container state size expected last)
   dict_step pairs container walk.Ended size expected last of = (refl, tt, refl, refl)
   dict_step pairs container walk.Reported size expected last of = (refl, tt, refl, refl)
   dict_step pairs container walk.Live size expected last of =
@@ -210,12 +221,12 @@ module _ (n : ℕ) (world : List Content) (contents : All (IsContentOf n) world)
           | None ↦ λ _. (refl, tt, refl, refl)
           | Some pair ↦ λ found. elim (expected == 0) as (λ b. IsStep (cursor.Dict container walk.Live size expected last) (if b then record { reply = reply.Raised raise.Keys; cursor = cursor.Dict container walk.Ended size expected last } else record { reply = reply.Pair pair.key pair.value; cursor = cursor.Dict container walk.Live size (expected - 1) (Some pair.serial) })) [
             | true ↦ (refl, tt, refl, refl)
-            | false ↦ (refl, found_in (IsPairOf n) (λ (p : DictPair). is_after last p.serial) pairs pair of found, refl, refl)
+            | false ↦ (refl, found_in (IsPairBy K V) (λ (p : DictPair). is_after last p.serial) pairs pair of found, refl, refl)
           ]
         ] refl
       ]
 
-  set_step : (elements : List Element) (container : ℕ) (state : CursorState) (size : ℕ) (last : Option ℕ) → All (IsElementOf n) elements → IsStep (cursor.Set container state size last) (set_next elements container state size last)
+  set_step : (elements : List Element) (container : ℕ) (state : CursorState) (size : ℕ) (last : Option ℕ) → All (IsElementBy K) elements → IsStep (cursor.Set container state size last) (set_next elements container state size last)
   set_step elements container walk.Ended size last of = (refl, tt, refl, refl)
   set_step elements container walk.Reported size last of = (refl, tt, refl, refl)
   set_step elements container walk.Live size last of =
@@ -223,16 +234,16 @@ module _ (n : ℕ) (world : List Content) (contents : All (IsContentOf n) world)
         | false ↦ (refl, tt, refl, refl)
         | true ↦ elim (next_element elements last) as (λ o. next_element elements last ≡ o → IsStep (cursor.Set container walk.Live size last) (set_walk o container size last)) [
           | None ↦ λ _. (refl, tt, refl, refl)
-          | Some element ↦ λ found. (refl, key_value n element.key (found_in (IsElementOf n) (λ (e : Element). is_after last e.serial) elements element of found), refl, refl)
+          | Some element ↦ λ found. (refl, together.key_value element.key (found_in (IsElementBy K) (λ (e : Element). is_after last e.serial) elements element of found), refl, refl)
         ] refl
       ]
 
-  list_step : (items : List Value) (container index : ℕ) (ended : Bool) → All (IsValueOf n) items → IsStep (cursor.List container index ended) (list_next items container index ended)
+  list_step : (items : List Value) (container index : ℕ) (ended : Bool) → All V items → IsStep (cursor.List container index ended) (list_next items container index ended)
   list_step items container index true of = (refl, tt, refl, refl)
   list_step items container index false of =
       elim (slice_get items index) as (λ o. slice_get items index ≡ o → IsStep (cursor.List container index false) (list_walk o container index)) [
         | None ↦ λ _. (refl, tt, refl, refl)
-        | Some one ↦ λ found. (refl, held_at (IsValueOf n) items index one of found, refl, refl)
+        | Some one ↦ λ found. (refl, held_at V items index one of found, refl, refl)
       ] refl
 
   steps_of : (it : Cursor) → IsStep it (cursor_step world it)
@@ -270,60 +281,57 @@ module _ (n : ℕ) (world : List Content) (contents : All (IsContentOf n) world)
   only_set (set.Iter it) container one is = refl
   only_set other container one is = absurd cc
 
-  pub plain_answer : (hands : List (Option Cursor)) (called : Call) → AreStringsOf n called → IsAsked world called → IfSome (cursor_of called) (λ one. one < length hands) → IsPlainAnswer n world hands called
-  plain_answer hands (call.Dict container dict_call) strings asked room =
+  pub plain_answer : (hands : List (Option Cursor)) (called : Call) → IsCallBy K V called → IsAsked world called → (is_counting called ≡ true → (count : ℕ) → count ≤ counted_in world called → C count) → IsPlainAnswer K V C world hands called
+  plain_answer hands (call.Dict container dict_call) said asked few =
       let f : List (Option Cursor) → Answer = λ h. answer_dict world h container (dict_at world container) dict_call in
-      let form : Form world n kind.Dict container (is_changing (call.Dict container dict_call)) (cursor_of_dict dict_call) f = form_dict world n container (dict_at world container) (dicts_of container) dicts_of asked.0 dict_call strings asked.1 in
+      let form : Form world K V C kind.Dict container (is_changing (call.Dict container dict_call)) (cursor_of_dict dict_call) f = form_dict K V C together world container (dict_at world container) (dicts_of container) dicts_of asked.0 dict_call said asked.1 few in
       record {
-        memory = form_memory world n kind.Dict container _ _ f hands form;
-        alike = form_alike world n kind.Dict container _ _ f hands no_hands form;
-        quiet = form_quiet world n kind.Dict container _ _ f hands form;
-        reply = form_reply world n kind.Dict container _ _ f hands form;
-        contents = form_contents world n kind.Dict container _ _ f hands form contents;
-        containers = form_containers world n kind.Dict container _ _ f hands form;
-        kinds = form_kinds world n kind.Dict container _ _ f hands form;
-        fits = form_fits world n kind.Dict container _ _ f hands form;
-        room = form_room world n kind.Dict container _ _ f hands form;
-        walks = λ number. form_walks world n kind.Dict container _ _ f hands (containers_of (call.Dict container dict_call)) number form room (only_dict dict_call container);
+        memory = form_memory world K V C kind.Dict container _ _ f hands form;
+        alike = form_alike world K V C kind.Dict container _ _ f hands no_hands form;
+        quiet = form_quiet world K V C kind.Dict container _ _ f hands form;
+        reply = form_reply world K V C kind.Dict container _ _ f hands form;
+        contents = form_contents world K V C kind.Dict container _ _ f hands form contents;
+        containers = form_containers world K V C kind.Dict container _ _ f hands form;
+        kinds = form_kinds world K V C kind.Dict container _ _ f hands form;
+        fits = form_fits world K V C kind.Dict container _ _ f hands form;
+        room = form_room world K V C kind.Dict container _ _ f hands form;
       }
-  plain_answer hands (call.List container list_call) strings asked room =
+  plain_answer hands (call.List container list_call) said asked few =
       let f : List (Option Cursor) → Answer = λ h. answer_list world h container (list_at world container) list_call in
-      let form : Form world n kind.List container (is_changing (call.List container list_call)) (cursor_of_list list_call) f = form_list world n container (list_at world container) (lists_of container) lists_of asked.0 list_call strings asked.1 in
+      let form : Form world K V C kind.List container (is_changing (call.List container list_call)) (cursor_of_list list_call) f = form_list K V C together world container (list_at world container) (lists_of container) lists_of asked.0 list_call said asked.1 few in
       record {
-        memory = form_memory world n kind.List container _ _ f hands form;
-        alike = form_alike world n kind.List container _ _ f hands no_hands form;
-        quiet = form_quiet world n kind.List container _ _ f hands form;
-        reply = form_reply world n kind.List container _ _ f hands form;
-        contents = form_contents world n kind.List container _ _ f hands form contents;
-        containers = form_containers world n kind.List container _ _ f hands form;
-        kinds = form_kinds world n kind.List container _ _ f hands form;
-        fits = form_fits world n kind.List container _ _ f hands form;
-        room = form_room world n kind.List container _ _ f hands form;
-        walks = λ number. form_walks world n kind.List container _ _ f hands (containers_of (call.List container list_call)) number form room (only_list list_call container);
+        memory = form_memory world K V C kind.List container _ _ f hands form;
+        alike = form_alike world K V C kind.List container _ _ f hands no_hands form;
+        quiet = form_quiet world K V C kind.List container _ _ f hands form;
+        reply = form_reply world K V C kind.List container _ _ f hands form;
+        contents = form_contents world K V C kind.List container _ _ f hands form contents;
+        containers = form_containers world K V C kind.List container _ _ f hands form;
+        kinds = form_kinds world K V C kind.List container _ _ f hands form;
+        fits = form_fits world K V C kind.List container _ _ f hands form;
+        room = form_room world K V C kind.List container _ _ f hands form;
       }
-  plain_answer hands (call.Set container set_call) strings asked room =
+  plain_answer hands (call.Set container set_call) said asked few =
       let f : List (Option Cursor) → Answer = λ h. answer_set world h container (set_at world container) set_call in
-      let form : Form world n kind.Set container (is_changing (call.Set container set_call)) (cursor_of_set set_call) f = form_set world n container (set_at world container) (sets_of container) sets_of asked.0 set_call strings asked.1 in
+      let form : Form world K V C kind.Set container (is_changing (call.Set container set_call)) (cursor_of_set set_call) f = form_set K V C together world container (set_at world container) (sets_of container) sets_of asked.0 set_call said asked.1 few in
       record {
-        memory = form_memory world n kind.Set container _ _ f hands form;
-        alike = form_alike world n kind.Set container _ _ f hands no_hands form;
-        quiet = form_quiet world n kind.Set container _ _ f hands form;
-        reply = form_reply world n kind.Set container _ _ f hands form;
-        contents = form_contents world n kind.Set container _ _ f hands form contents;
-        containers = form_containers world n kind.Set container _ _ f hands form;
-        kinds = form_kinds world n kind.Set container _ _ f hands form;
-        fits = form_fits world n kind.Set container _ _ f hands form;
-        room = form_room world n kind.Set container _ _ f hands form;
-        walks = λ number. form_walks world n kind.Set container _ _ f hands (containers_of (call.Set container set_call)) number form room (only_set set_call container);
+        memory = form_memory world K V C kind.Set container _ _ f hands form;
+        alike = form_alike world K V C kind.Set container _ _ f hands no_hands form;
+        quiet = form_quiet world K V C kind.Set container _ _ f hands form;
+        reply = form_reply world K V C kind.Set container _ _ f hands form;
+        contents = form_contents world K V C kind.Set container _ _ f hands form contents;
+        containers = form_containers world K V C kind.Set container _ _ f hands form;
+        kinds = form_kinds world K V C kind.Set container _ _ f hands form;
+        fits = form_fits world K V C kind.Set container _ _ f hands form;
+        room = form_room world K V C kind.Set container _ _ f hands form;
       }
-  plain_answer hands (call.Next number) strings asked room =
+  plain_answer hands (call.Next number) said asked few =
       let stepped : Option Cursor → Answer = λ o. option_map_or (λ it. moves world hands number (cursor_step world it).cursor (cursor_step world it).reply) o (shows world hands reply.Stop) in
       record {
         memory = elim (cursor_at hands number) as (λ o. is_memory (stepped o).reply ≡ false) [ None ↦ refl | Some it ↦ (steps_of it).0 ];
         alike = λ changes. absurd (false≢true changes);
         quiet = λ _. elim (cursor_at hands number) as (λ o. (stepped o).world ≡ world) [ None ↦ refl | Some it ↦ refl ];
-        reply = elim (cursor_at hands number) as (λ o. IsReplyOf n (stepped o).reply) [ None ↦ tt | Some it ↦ (steps_of it).1 ];
-        contents = elim (cursor_at hands number) as (λ o. All (IsContentOf n) (stepped o).world) [ None ↦ contents | Some it ↦ contents ];
+        reply = elim (cursor_at hands number) as (λ o. IsReplyBy K V C (stepped o).reply) [ None ↦ tt | Some it ↦ (steps_of it).1 ];
+        contents = elim (cursor_at hands number) as (λ o. All (IsContentBy K V) (stepped o).world) [ None ↦ contents | Some it ↦ contents ];
         containers = elim (cursor_at hands number) as (λ o. length (stepped o).world ≡ length world) [ None ↦ refl | Some it ↦ refl ];
         room = elim (cursor_at hands number) as (λ o. length (stepped o).hands ≡ length hands) [ None ↦ refl | Some it ↦ length-set hands number (Some (cursor_step world it).cursor) ];
         kinds = elim (cursor_at hands number) as (λ o. map kind_of (stepped o).world ≡ map kind_of world) [ None ↦ refl | Some it ↦ refl ];
@@ -334,8 +342,50 @@ module _ (n : ℕ) (world : List Content) (contents : All (IsContentOf n) world)
             | inr now ↦ subst (λ (c : Cursor). IsOfKind world (cursor_kind c) (container_of c)) now (subst (λ kd. IsOfKind world kd (container_of (cursor_step world it).cursor)) (sym (steps_of it).3) (subst (IsOfKind world (cursor_kind it)) (sym (steps_of it).2) (fits number it is)))
           ]
         ] refl;
-        walks = next_walks hands number;
       }
-  plain_answer hands (call.Begin first second) strings asked room = record { memory = refl; alike = λ _. refl; quiet = λ _. refl; reply = tt; contents = contents; containers = refl; kinds = refl; fits = λ fits. fits; room = refl; walks = λ number. refl }
-  plain_answer hands call.End strings asked room = record { memory = refl; alike = λ _. refl; quiet = λ _. refl; reply = tt; contents = contents; containers = refl; kinds = refl; fits = λ fits. fits; room = refl; walks = λ number. refl }
-  plain_answer hands call.Quiesce strings asked room = record { memory = refl; alike = λ _. refl; quiet = λ _. refl; reply = tt; contents = contents; containers = refl; kinds = refl; fits = λ fits. fits; room = refl; walks = λ number. refl }
+  plain_answer hands (call.Begin first second) said asked few = record { memory = refl; alike = λ _. refl; quiet = λ _. refl; reply = tt; contents = contents; containers = refl; kinds = refl; fits = λ fits. fits; room = refl }
+  plain_answer hands call.End said asked few = record { memory = refl; alike = λ _. refl; quiet = λ _. refl; reply = tt; contents = contents; containers = refl; kinds = refl; fits = λ fits. fits; room = refl }
+  plain_answer hands call.Quiesce said asked few = record { memory = refl; alike = λ _. refl; quiet = λ _. refl; reply = tt; contents = contents; containers = refl; kinds = refl; fits = λ fits. fits; room = refl }
+
+  -- which container each cursor goes over then
+  pub plain_walks : (hands : List (Option Cursor)) (called : Call) → IsCallBy K V called → IsAsked world called → (is_counting called ≡ true → (count : ℕ) → count ≤ counted_in world called → C count) → IfSome (cursor_of called) (λ one. one < length hands) → (number : ℕ) → walked (answer world hands called).hands number ≡ walked_after hands (cursor_of called) (containers_of called) number
+  plain_walks hands (call.Dict container dict_call) said asked few room number =
+      form_walks world K V C kind.Dict container _ _ (λ h. answer_dict world h container (dict_at world container) dict_call) hands (containers_of (call.Dict container dict_call)) number (form_dict K V C together world container (dict_at world container) (dicts_of container) dicts_of asked.0 dict_call said asked.1 few) room (only_dict dict_call container)
+  plain_walks hands (call.List container list_call) said asked few room number =
+      form_walks world K V C kind.List container _ _ (λ h. answer_list world h container (list_at world container) list_call) hands (containers_of (call.List container list_call)) number (form_list K V C together world container (list_at world container) (lists_of container) lists_of asked.0 list_call said asked.1 few) room (only_list list_call container)
+  plain_walks hands (call.Set container set_call) said asked few room number =
+      form_walks world K V C kind.Set container _ _ (λ h. answer_set world h container (set_at world container) set_call) hands (containers_of (call.Set container set_call)) number (form_set K V C together world container (set_at world container) (sets_of container) sets_of asked.0 set_call said asked.1 few) room (only_set set_call container)
+  plain_walks hands (call.Next one) said asked few room number = next_walks hands one number
+  plain_walks hands (call.Begin first second) said asked few room number = refl
+  plain_walks hands call.End said asked few room number = refl
+  plain_walks hands call.Quiesce said asked few room number = refl
+
+-- ---- that their strings are among that many
+
+key_as_value : (n : ℕ) (k : Key) → IsKeyOf n k → IsValueOf n (as_value k)
+key_as_value n (key.Int i) of = tt
+key_as_value n (key.Text symbol) of = of
+
+pub strings_together : (n : ℕ) → GoTogether (IsKeyOf n) (IsValueOf n)
+strings_together n = record { nothing = tt; key_value = key_as_value n }
+
+content_by : (n : ℕ) (c : Content) → IsContentOf n c → IsContentBy (IsKeyOf n) (IsValueOf n) c
+content_by n (content.Dict dict) h = h
+content_by n (content.List items) h = h
+content_by n (content.Set set) h = h
+
+content_of : (n : ℕ) (c : Content) → IsContentBy (IsKeyOf n) (IsValueOf n) c → IsContentOf n c
+content_of n (content.Dict dict) h = h
+content_of n (content.List items) h = h
+content_of n (content.Set set) h = h
+
+pub contents_by : (n : ℕ) (world : List Content) → All (IsContentOf n) world → All (IsContentBy (IsKeyOf n) (IsValueOf n)) world
+contents_by n world h = All-weaker (IsContentOf n) (IsContentBy (IsKeyOf n) (IsValueOf n)) (content_by n) world h
+
+pub contents_of : (n : ℕ) (world : List Content) → All (IsContentBy (IsKeyOf n) (IsValueOf n)) world → All (IsContentOf n) world
+contents_of n world h = All-weaker (IsContentBy (IsKeyOf n) (IsValueOf n)) (IsContentOf n) (content_of n) world h
+
+pub reply_of : (n : ℕ) (said : Reply) → IsReplyBy (IsKeyOf n) (IsValueOf n) IsAny said → IsReplyOf n said
+reply_of n (reply.Value v) h = h
+reply_of n (reply.Suspended count) h = absurd h
+reply_of n other h = h

@@ -33,7 +33,8 @@ use Rattle.ft_turns.proofs.ProgressWords.{hands_of, tally_of, next_entry, with_a
 use Rattle.ft_turns.proofs.MachineSteps.{IsTry, there}
 use Rattle.ft_turns.proofs.Owned.{by_thread, IsOwned, owned_steps, owned_start, start_thread}
 use Rattle.ft_turns.proofs.Marks.{count_fixed}
-use Rattle.ft_turns.proofs.AnswerFacts.{AreOver, IsAsked, walked, IsPlainAnswer, plain_answer}
+use Rattle.ft_turns.proofs.AnswerFacts.{AreOver, IsAsked, walked, walked_after, IsAny, IsPlainAnswerOf, plain_answer, plain_walks, strings_together, contents_by, contents_of, reply_of}
+use Rattle.ft_turns.proofs.CallFacts.{strings_of}
 
 -- ---- replies
 
@@ -259,11 +260,19 @@ module _ (script : ScriptParts) (calls_ok : CallsOf script) where
     pub thread_low : thread < length script.threads
     thread_low = there script thread (thread_at progress.machine thread) called next
 
-    pub next_answer : IsPlainAnswer (length script.strings) progress.world (hands_of progress thread) called
+    next_of : IsCallOf script (cursors_of script thread) called
+    next_of = calls_ok thread (length (thread_at progress.machine thread).marks) called next
+
+    pub next_answer : IsPlainAnswerOf (length script.strings) progress.world (hands_of progress thread) called
     next_answer =
-        let of : IsCallOf script (cursors_of script thread) called = calls_ok thread (length (thread_at progress.machine thread).marks) called next in
-        plain_answer (length script.strings) progress.world inv.world.strings (hands_of progress thread) called of.strings (asked_of script.containers progress.world inv.kinds (cursors_of script thread) called of.names)
-        (subst (λ k. IfSome (cursor_of called) (λ one. one < k)) (sym (inv.room thread thread_low)) (cursor_room script.containers (cursors_of script thread) called of.names))
+        let n = length script.strings in
+        plain_answer (IsKeyOf n) (IsValueOf n) IsAny (strings_together n) progress.world (contents_by n progress.world inv.world.strings) (hands_of progress thread) called (strings_of n called next_of.strings) (asked_of script.containers progress.world inv.kinds (cursors_of script thread) called next_of.names) (λ _ _ _. tt)
+
+    next_walks : (number : ℕ) → walked (answer progress.world (hands_of progress thread) called).hands number ≡ walked_after (hands_of progress thread) (cursor_of called) (containers_of called) number
+    next_walks =
+        let n = length script.strings in
+        plain_walks (IsKeyOf n) (IsValueOf n) IsAny (strings_together n) progress.world (contents_by n progress.world inv.world.strings) (hands_of progress thread) called (strings_of n called next_of.strings) (asked_of script.containers progress.world inv.kinds (cursors_of script thread) called next_of.names) (λ _ _ _. tt)
+        (subst (λ k. IfSome (cursor_of called) (λ one. one < k)) (sym (inv.room thread thread_low)) (cursor_room script.containers (cursors_of script thread) called next_of.names))
 
   pub going_answers : (progress : Progress) (thread : ℕ) (called : Call) (asked_containers : List ℕ) → IsTry script progress.machine thread called false asked_containers → (take_locks thread progress.machine.holders asked_containers).found ≡ None
       → IsGoing script progress → IsGoing script (record (with_answer progress thread called) { machine = answered_machine progress.machine thread (thread_at progress.machine thread) called (take_locks thread progress.machine.holders asked_containers) })
@@ -302,10 +311,10 @@ module _ (script : ScriptParts) (calls_ok : CallsOf script) where
                 called = ap (slice_get (calls_of script thread)) before ∙ try.next;
                 wrote = refl;
                 thread = thread_low progress thread called try.next inv;
-                reply = reply_strings (length script.strings) progress.world hands (tally_of progress thread) called plain.reply;
+                reply = reply_strings (length script.strings) progress.world hands (tally_of progress thread) called (reply_of (length script.strings) (answer progress.world hands called).reply plain.reply);
               }))
         ];
-        world = record { containers = plain.containers ∙ inv.world.containers; strings = plain.contents };
+        world = record { containers = plain.containers ∙ inv.world.containers; strings = contents_of (length script.strings) (answer progress.world hands called).world plain.contents };
         kinds = plain.kinds ∙ inv.kinds;
         fits = λ other. elim (cases_eq other thread) [
           | inl same ↦
@@ -324,7 +333,7 @@ module _ (script : ScriptParts) (calls_ok : CallsOf script) where
         walks = λ other number. by_thread (λ u s. u < length script.threads → walked (slice_index_or (slice_set progress.hands thread (answer progress.world hands called).hands) u no_hands) number ≡ cursor_containers (take (count_fixed s) (calls_of script u)) number) machine.threads thread after low
             (λ within.
             ap (λ h. walked h number) (get_or-set_same progress.hands thread (answer progress.world hands called).hands no_hands low_hands)
-            ∙ plain.walks number
+            ∙ next_walks progress thread called try.next inv number
             ∙ ap (λ w. if makes number called then containers_of called else w) (inv.walks thread number within ∙ ap (λ b. cursor_containers (take (length state.marks + (if b then 1 else 0)) (calls_of script thread)) number) try.state ∙ ap (λ k. cursor_containers (take k (calls_of script thread)) number) (let e : length state.marks + 0 ≡ length state.marks = omega arith in e))
             ∙ sym (cursor_push (calls_of script thread) (length state.marks) called number try.next))
             (λ u differs within. ap (λ h. walked h number) (get_or-set_other progress.hands thread u (answer progress.world hands called).hands no_hands differs) ∙ inv.walks u number within) other;

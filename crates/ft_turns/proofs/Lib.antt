@@ -5,8 +5,9 @@ pub mod AnsweredPlaces
 pub mod AnsweringSteps
 pub mod Askable
 pub mod Blocking
+pub mod CallFacts
 pub mod Chronicled
-pub mod ContentStrings
+pub mod ContentFacts
 pub mod Endings
 pub mod Finishing
 pub mod Following
@@ -25,6 +26,7 @@ pub mod Progress
 pub mod ProgressWords
 pub mod ScheduleLemmas
 pub mod Secured
+pub mod ShortReplies
 pub mod Soundness
 pub mod Starts
 pub mod Suspension

@@ -25,7 +25,7 @@ use Rattle.ft_turns.proofs.Owned.{by_thread, start_thread}
 use Rattle.ft_turns.proofs.Marks.{count_fixed, stack_after, own_stack, stack_push, own_containers}
 use Rattle.ft_turns.proofs.Following.{followed_waits, followed_answers, followed_finishes, followed_mark}
 use Rattle.ft_turns.proofs.PlaceSteps.{AllBelow, sections_below, sections_own, sections_other}
-use Rattle.ft_turns.proofs.AnswerFacts.{IsPlainAnswer}
+use Rattle.ft_turns.proofs.AnswerFacts.{IsPlainAnswerOf}
 use Rattle.ft_turns.proofs.AnsweringSteps.{IsKeptByAnswers}
 use Rattle.ft_turns.proofs.Going.{IsGoing, CallsOf, thread_low, next_answer, going_waits, going_answers, going_finishes, hands_at_start, tally_at_start, reply_memory, reply_writes}
 use Rattle.ft_turns.proofs.EntriesHaveRightReplies.{Tallied, marked_by, tallied_next, tallied_other, tallied_call, counted_call, replied, IsPart, front_before, front_at, writes-marked, IsDone, HasRightReply}
@@ -127,7 +127,7 @@ module _ (script : ScriptParts) (calls_ok : CallsOf script) (events : List (ℕ 
     in_range : thread < length script.threads
     in_range = thread_low script calls_ok progress thread called try.next going
 
-    plain : IsPlainAnswer (length script.strings) progress.world (hands_of progress thread) called
+    plain : IsPlainAnswerOf (length script.strings) progress.world (hands_of progress thread) called
     plain = next_answer script calls_ok progress thread called try.next going
 
     writes_so_far : writes (take (length progress.entries) entries) ≡ writes progress.entries

@@ -3,4 +3,5 @@ pub mod Answering
 pub mod Chronicling
 pub mod Ends
 pub mod Orders
+pub mod Replies
 pub mod Wants

@@ -1,19 +1,22 @@
 //! What the calls of a script's threads answer, one after the other, and what they leave.
-ghost use Rattle.std.specs.Prelude.{◌≡◌, ◌^◌, ◌-◌, ◌<◌, true, is_some, length, slice_set, IfOk, OnOk};
-ghost use Rattle.ft_model.specs.Worlds.{IsDeclared, HasRoom};
+ghost use Rattle.std.specs.Prelude.{◌≡◌, ◌^◌, ◌-◌, ◌<◌, ◌≤◌, true, is_some, length, slice_get, slice_set, All, IfOk, OnOk};
+ghost use Rattle.std.specs.Option.{option_map_or};
+ghost use Rattle.ft_model.specs.Worlds.{length_of, IsDeclared, HasRoom};
 ghost use Rattle.ft_model.specs.Answers.{answer};
 ghost use Rattle.ft_turns.specs.Answering.{asks_container, ended_reply, waited_inside, tally_after, start_answers, hands_in, tally_in, reply_now, with_answer, with_mark};
+ghost use Rattle.ft_turns.specs.Internal.Counting.{counted_in};
 ghost use Rattle.ft_turns.specs.Internal.Runs.{call_followed, IsAsked};
+ghost use Rattle.ft_turns.specs.Replies.{HasShortReply, IsShortReply};
 
 use crate::machine::Turned;
-use ft_model::{Call, Entry, Hands, Reply, ScriptParts, World, apply};
+use ft_model::{Call, Content, Entry, Hands, Reply, ScriptParts, World, apply};
 use std::alloc::{AllocError, Global};
 use std::collections::VecDeque;
 use std::marker::Model;
 
 /// How many of a thread's calls have waited for a lock, and how many had when each of its open
 /// sections was entered.
-#[derive(Debug, Drop)]
+#[derive(Drop)]
 pub(crate) struct Tally {
     count: u32,
     /// The innermost section's first.
@@ -87,9 +90,63 @@ fn ended(count: u32) -> Reply
     }
 }
 
+/// How many pairs, items or elements a container has. They stand in memory, so there are fewer than 2^63.
+fn content_len(content: &Content) -> usize
+    ensures length { result ≡ length_of content.now }
+    ensures short { result < 2 ^ 63 }
+{
+    match content {
+        Content::Dict(dict) => dict.pairs().len(),
+        Content::List(list) => list.items().len(),
+        Content::Set(set) => set.elements().len(),
+    }
+}
+
+/// The same of the container at a place; 0 where there is none.
+fn length_at(world: &World, place: u32) -> usize
+    ensures length { result ≡ option_map_or length_of (slice_get world.now place) 0 }
+    ensures short { result < 2 ^ 63 }
+{
+    match world.contents().get(place as usize) {
+        Some(content) => content_len(content),
+        None => 0,
+    }
+}
+
+/// The most that a call can count: as much as its container has.
+fn most_counted(world: &World, call: &Call) -> usize
+    ensures counted { counted_in world.now call.now ≤ result }
+    ensures short { result < 2 ^ 63 }
+{
+    match call {
+        Call::Dict { container, .. } => length_at(world, *container),
+        Call::List { container, .. } => length_at(world, *container),
+        Call::Set { container, .. } => length_at(world, *container),
+        Call::Next { .. } | Call::Begin { .. } | Call::End | Call::Quiesce => 0,
+    }
+}
+
+/// The reply of a container to a call; what it counts is no more than the container has.
+fn apply_short(
+    alloc: Global,
+    world: &mut World,
+    hands: &mut Hands,
+    call: &Call,
+) -> Result<Reply, AllocError>
+    requires declared { IsDeclared world.old hands.old call.now }
+    requires room { HasRoom world.old call.now }
+    ensures reply { IfOk result (λ reply. reply ≡ (answer world.old hands.old call.now).reply) }
+    ensures world { OnOk result (world.new ≡ (answer world.old hands.old call.now).world) }
+    ensures hands { OnOk result (hands.new ≡ (answer world.old hands.old call.now).hands) }
+    ensures short { IfOk result (λ reply. IsShortReply reply) }
+{
+    let _most = most_counted(world, call);
+    apply(alloc, world, hands, call)
+}
+
 /// What the calls so far have left: what the containers have, each thread's cursors, how many of its
 /// calls waited, and the entries in the order in which the calls were answered.
-#[derive(Debug, Drop)]
+#[derive(Drop)]
 pub(crate) struct Answers {
     world: World,
     hands: Vec<Hands>,
@@ -100,15 +157,14 @@ pub(crate) struct Answers {
 }
 
 impl Model for Answers {
-    ghost use Rattle.std.specs.Prelude.{◌≡◌, length};
-    ghost use Rattle.ft_model.specs.Histories.{writes};
     ghost use Rattle.ft_turns.specs.Answering.{Answers};
+    ghost use Rattle.ft_turns.specs.Internal.Counting.{AreCounted};
 
     ghost Value = { Answers };
 
     ghost view = { λ a. record { world = a.world; hands = a.hands.items; tallies = a.tallies.items; entries = a.entries.items } };
 
-    ghost invariant = { λ a. a.written ≡ length (writes a.entries.items) };
+    ghost invariant = { λ a. AreCounted a.written a.entries.items };
 }
 
 impl Answers {
@@ -178,17 +234,15 @@ impl Answers {
         ensures hands { OnOk result (self.new.hands ≡ slice_set self.old.hands thread (answer self.old.world (hands_in self.old thread) call.now).hands) }
         ensures tallies { self.new.tallies ≡ self.old.tallies }
         ensures entries { self.new.entries ≡ self.old.entries }
+        ensures short { IfOk result (λ reply. IsShortReply reply) }
     {
         match call {
             Call::Begin { .. } => Ok(Reply::Entered),
             Call::End => Ok(ended(self.tallies[thread as usize].inside())),
             Call::Quiesce => Ok(Reply::Done),
-            Call::Dict { .. } | Call::List { .. } | Call::Set { .. } | Call::Next { .. } => apply(
-                alloc,
-                &mut self.world,
-                &mut self.hands[thread as usize],
-                call,
-            ),
+            Call::Dict { .. } | Call::List { .. } | Call::Set { .. } | Call::Next { .. } => {
+                apply_short(alloc, &mut self.world, &mut self.hands[thread as usize], call)
+            }
         }
     }
 
@@ -233,6 +287,7 @@ impl Answers {
     pub(crate) fn into_parts(self) -> (Vec<Entry>, World)
         ensures entries { result.0.items ≡ self.entries }
         ensures world { result.1 ≡ self.world }
+        ensures short { All HasShortReply result.0.items }
     {
         (self.entries, self.world)
     }

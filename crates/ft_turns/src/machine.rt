@@ -13,7 +13,7 @@ use std::alloc::{AllocError, Global};
 use std::collections::VecDeque;
 
 /// A section that is open (C API, critical sections).
-#[derive(Debug, Drop)]
+#[derive(Drop)]
 pub(crate) struct OpenSection {
     /// Its containers.
     pub(crate) containers: Containers,
@@ -22,7 +22,7 @@ pub(crate) struct OpenSection {
 }
 
 /// A thread between two turns.
-#[derive(Debug, Drop)]
+#[derive(Drop)]
 pub(crate) struct ThreadState {
     /// The marks of its calls that have finished, in order: the thread that each waited for first,
     /// where it waited.
@@ -40,7 +40,7 @@ pub(crate) struct ThreadState {
 }
 
 /// Which thread has the lock of each container, and how far each thread has come.
-#[derive(Debug, Drop)]
+#[derive(Drop)]
 pub(crate) struct Machine {
     /// The thread that has the lock of each container, where one has it.
     pub(crate) holders: Vec<Option<u32>>,
@@ -49,7 +49,7 @@ pub(crate) struct Machine {
 }
 
 /// What came of a turn of a thread that has a call left.
-#[derive(Clone, Copy, Debug, PartialEq, Eq)]
+#[derive(Clone, Copy)]
 pub(crate) struct Turned {
     /// The place of the call among the thread's calls.
     pub(crate) place: usize,

@@ -12,7 +12,7 @@ use ft_model::ScriptParts;
 use std::alloc::{AllocError, Global};
 
 /// A turn.
-#[derive(Clone, Copy, Debug)]
+#[derive(Clone, Copy)]
 pub(crate) struct Turn {
     /// The thread whose turn it was.
     pub(crate) thread: u32,
@@ -22,7 +22,7 @@ pub(crate) struct Turn {
 
 /// The turns of a script: those that its order says, and then rounds, each of one turn for every
 /// thread in the order of declaration, until no thread has a call left.
-#[derive(Debug, Drop)]
+#[derive(Drop)]
 pub(crate) struct Turns {
     /// What the turns so far have come to.
     pub(crate) machine: Machine,

@@ -7,6 +7,7 @@ ghost use Rattle.ft_model.specs.Parts.{IsEntryOf, IsWorldOf};
 ghost use Rattle.ft_model.specs.Scripts.{IsScript};
 ghost use Rattle.ft_turns.specs.Orders.{thread_at, IsOrderRun};
 ghost use Rattle.ft_turns.specs.Answering.{last_progress, marked_entry, answered_turns};
+ghost use Rattle.ft_turns.specs.Replies.{HasShortReply};
 ghost use Rattle.ft_turns.specs.Internal.ThreadStates.{machine_of};
 ghost use Rattle.ft_turns.specs.Internal.Runs.{followed, IsAskedTurn};
 
@@ -25,7 +26,8 @@ pub struct Run {
 }
 
 /// Runs a script on this thread, in the order of its turns. The entries are those of the turns, with
-/// their marks, in the order of a history, and the world is the one after all writes. It takes one
+/// their marks, in the order of a history, and the world is the one after all writes. No number of a
+/// reply is greater than what it counts can be. It takes one
 /// step for each turn, besides the calls themselves, and n log n comparisons for n calls. Memory may be
 /// refused; there is no other error.
 pub fn run_turns(alloc: Global, script: &Script) -> Result<Run, AllocError>
@@ -34,6 +36,7 @@ pub fn run_turns(alloc: Global, script: &Script) -> Result<Run, AllocError>
     ensures world { IfOk result (λ run. run.world ≡ world_at script.now run.entries.items (length (writes run.entries.items))) }
     ensures entries_of { IfOk result (λ run. All (IsEntryOf script.now) run.entries.items) }
     ensures world_of { IfOk result (λ run. IsWorldOf script.now run.world) }
+    ensures short { IfOk result (λ run. All HasShortReply run.entries.items) }
 {
     run_parts(alloc, script.parts())
 }
@@ -46,6 +49,7 @@ fn run_parts(alloc: Global, script: &ScriptParts) -> Result<Run, AllocError>
     ensures world { IfOk result (λ run. run.world ≡ world_at script.now run.entries.items (length (writes run.entries.items))) }
     ensures entries_of { IfOk result (λ run. All (IsEntryOf script.now) run.entries.items) }
     ensures world_of { IfOk result (λ run. IsWorldOf script.now run.world) }
+    ensures short { IfOk result (λ run. All HasShortReply run.entries.items) }
 {
     let run = answer_turns(alloc, script)?;
     let entries = put_in_order(run.entries)?;
@@ -61,6 +65,7 @@ fn answer_turns(alloc: Global, script: &ScriptParts) -> Result<Run, AllocError>
     requires { IsScript script.now }
     ensures entries { IfOk result (λ run. run.entries.items ≡ answered_turns script.now) }
     ensures world { IfOk result (λ run. run.world ≡ (last_progress script.now).world) }
+    ensures short { IfOk result (λ run. All HasShortReply run.entries.items) }
 {
     let mut turns = Turns::start(alloc, script)?;
     let mut answers = Answers::start(alloc, script, turns.calls)?;

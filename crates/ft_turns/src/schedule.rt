@@ -5,7 +5,7 @@ ghost use Rattle.ft_turns.specs.Internal.Schedules.{scheduled};
 
 /// How far the turns have come: first those that the script's order says, and then rounds, each of
 /// one turn for every thread in the order of declaration.
-#[derive(Clone, Copy, Debug)]
+#[derive(Clone, Copy)]
 pub(crate) struct Schedule {
     /// How many turns of the order are over.
     pub(crate) ordered: usize,

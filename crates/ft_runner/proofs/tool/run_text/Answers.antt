@@ -18,7 +18,7 @@ returns-in-Ok-write_all g c command =
     let run = c.in-Ok-run_turns.run' in
     let made = c.in-Ok-run_turns.ensures in
     let all = rw (c.deref.ensures.value) at c.in-Ok-write_all.ensures in
-    run_written command c.args.bytes.now c.in-Ok.script run.entries.items run.world c.in-Ok.ensures.read made.legal made.order made.world (sink.stream c.args.sink.now) (sink.stream c.write_all.new.sink) run.entries refl all
+    run_written command c.args.bytes.now c.in-Ok.script run.entries.items run.world c.in-Ok.ensures.read made.legal made.order made.short made.world (sink.stream c.args.sink.now) (sink.stream c.write_all.new.sink) run.entries refl all
 
 pub returns-in-Err-Failed : goal.returns-in-Err-Failed
 returns-in-Err-Failed g c command =
@@ -26,7 +26,7 @@ returns-in-Err-Failed g c command =
     let run = c.in-Ok-run_turns.run' in
     let made = c.in-Ok-run_turns.ensures in
     let part = rw (c.deref.ensures.value) at (rw c.in-Err-Failed.field-0-is at c.in-Err-Failed.ensures) in
-    run_failed command c.args.bytes.now c.in-Ok.script run.entries.items run.world c.in-Ok.ensures.read made.legal made.order made.world (sink.stream c.args.sink.now) (sink.stream c.write_all.new.sink) run.entries refl part
+    run_failed command c.args.bytes.now c.in-Ok.script run.entries.items run.world c.in-Ok.ensures.read made.legal made.order made.short made.world (sink.stream c.args.sink.now) (sink.stream c.write_all.new.sink) run.entries refl part
 
 pub returns : goal.returns
 returns g c command =
@@ -34,4 +34,4 @@ returns g c command =
     let run = c.in-Ok-run_turns.run' in
     let made = c.in-Ok-run_turns.ensures in
     let part = rw (c.deref.ensures.value) at (rw c.in-Err-Memory.field-0-is at c.in-Err-Memory.ensures) in
-    run_short command c.args.bytes.now c.in-Ok.script run.entries.items run.world c.in-Ok.ensures.read made.legal made.order made.world (sink.stream c.args.sink.now) (sink.stream c.write_all.new.sink) part
+    run_short command c.args.bytes.now c.in-Ok.script run.entries.items run.world c.in-Ok.ensures.read made.legal made.order made.short made.world (sink.stream c.args.sink.now) (sink.stream c.write_all.new.sink) part

@@ -1,7 +1,10 @@
-use Rattle.std.proofs.Common.{◌≡◌, [], Option, None, Some, IfNone, length, map, refl, sym, ap, ◌∙◌}
+use Rattle.std.proofs.Common.{◌≡◌, [], Option, None, Some, IfNone, length, map, refl, sym, ap, subst, ◌∙◌}
+use Rattle.std.specs.Prelude.{All}
+use Rattle.std.proofs.lemmas.List.Elements.{All-map}
 use Rattle.std.proofs.lemmas.List.{length-map, take_at}
 use Rattle.ft_turns.specs.declared.machine.Machine.{Machine as LockMachine}
 use Rattle.ft_turns.specs.Answering.{marked_entry}
+use Rattle.ft_turns.specs.Replies.{HasShortReply}
 use Rattle.ft_turns.specs.Internal.ThreadStates.{machine_of}
 use Rattle.ft_turns.specs.Internal.Turning.{IsTurn, IsOver}
 use Rattle.ft_turns.proofs.Running.{run_asks, run_goes_on, world_at_end, entries_at_end}
@@ -21,6 +24,15 @@ loop-answers-preserved c =
 where_none : {X P : Type 0} (found : Option X) → ((x : X) → found ≡ Some x → ⊥) → IfNone found P → P
 where_none None not_some holds = holds
 where_none (Some x) not_some holds = absurd (not_some x refl)
+
+pub returns-clause-short : goal.returns-clause-short
+returns-clause-short c =
+    let marked = marked_entry (machine_of c.next.new.self.machine []) in
+    let entries = c.into_parts-entries.result.0 in
+    let is : c.mark_all.new.entries ≡ map marked entries.items = c.mark_all.ensures ∙ ap (map marked) c.deref_mut.ensures.value in
+    let long : length c.mark_all.new.entries ≡ entries.len = ap length is ∙ length-map entries.items marked ∙ sym entries.ok.0 in
+    let all : All HasShortReply (map marked entries.items) = All-map HasShortReply marked entries.items c.into_parts-entries.ensures.short in
+    subst (All HasShortReply) (sym (take_at c.mark_all.new.entries _ entries.len long ∙ is)) all
 
 pub returns-clause-entries : goal.returns-clause-entries
 returns-clause-entries c =

@@ -1,10 +1,12 @@
 use Rattle.std.proofs.Common.{List, sym, subst, ◌∙◌}
 use Rattle.std.specs.List.Sorted.{IsPermutation}
+use Rattle.std.proofs.lemmas.List.Sorted.{All-permutation}
 use Rattle.ft_model.specs.declared.entry.Entry.{Entry}
 use Rattle.ft_model.specs.declared.entry.Storage.TheVariants as storage
 use Rattle.ft_model.specs.Histories.{IsChronicle}
 use Rattle.ft_model.specs.Parts.{IsWorldOf}
 use Rattle.ft_turns.specs.Answering.{answered_turns}
+use Rattle.ft_turns.specs.Replies.{HasShortReply}
 use Rattle.ft_turns.proofs.OrderRuns.{chronicle_is, order_run, entries_stay, world_stays}
 use Rattle.ft_turns.proofs.run.run_parts.Goals as goal
 
@@ -31,3 +33,6 @@ pub returns-clause-world_of : goal.returns-clause-world_of
 returns-clause-world_of c =
     let script = c.args.script.now in
     subst (IsWorldOf script) (sym c.in_ok-run.ensures.world) (chronicle_is script c.requires).world_of
+
+pub returns-clause-short : goal.returns-clause-short
+returns-clause-short c = All-permutation HasShortReply c.in_ok-run.run'.entries.items c.in_ok-entries.entries.items c.in_ok-entries.ensures.entries c.in_ok-run.ensures.short

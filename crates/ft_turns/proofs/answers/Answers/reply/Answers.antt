@@ -27,8 +27,8 @@ declared_here view now same thread hands called low read declared =
 room_here : (view now : Answers) → view ≡ now → (called : Call) → HasRoom now.world called → HasRoom view.world called
 room_here view now same called room = subst (λ (a : Answers). HasRoom a.world called) (sym same) room
 
-pub apply-requires : goal.apply-requires
-apply-requires c =
+pub apply_short-requires : goal.apply_short-requires
+apply_short-requires c =
     let container = asks c.args.call.now c.in-Dict.is in
     record {
       declared = declared_here _ c.args.self.now c.self.view_is c.args.thread c.index_mut.result.now c.args.call.now c.requires.hands c.index_mut.ensures.value (c.requires.declared container);

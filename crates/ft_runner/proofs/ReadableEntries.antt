@@ -225,8 +225,8 @@ module _ (script : ScriptParts) (rule : IsScript script) where
   low_by_mark : (thread : ℕ) (needs : List ℕ) → list_any (has_call_on script thread) needs ≡ true → thread < length script.threads
   low_by_mark thread needs any =
       let one = Any-from_list_any (has_call_on script thread) needs any in
-      let named = Any-from_list_any (names one.0) (calls_of script thread) one.4 in
-      low_by_call thread named.1 named.0 (slice_get-get_or (calls_of script thread) named.1 named.0 named.2 ∙ ap (λ (c : Call). Some c) named.3)
+      let named = Any-from_list_any (names one.1) (calls_of script thread) one.4 in
+      low_by_call thread named.0 named.1 (slice_get-get_or (calls_of script thread) named.0 named.1 named.2 ∙ ap (λ (c : Call). Some c) named.3)
 
   module _ (wide : All (λ (thread : Thread). All IsWideCall thread.calls) script.threads) where
     wide_call : (thread place : ℕ) (called : Call) → slice_get (calls_of script thread) place ≡ Some called → IsWideCall called

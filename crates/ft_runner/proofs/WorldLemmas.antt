@@ -91,12 +91,12 @@ world_of_legal script entries of legal =
     let n = length script.strings in
     let left = world_at script entries (length (writes entries)) in
     let fair : All (HasFairCall script (IsKeyOf n) (IsValueOf n) (strings_together n)) entries = λ place d low wrote.
-        let entry = get_or entries place d in
-        record {
-          cursors = cursors_of script entry.thread;
-          names = (of place d low).call.names;
-          said = strings_of n entry.call (of place d low).call.strings;
-          changes = changes_where_marked script entries legal place d low wrote;
-        } in
+    let entry = get_or entries place d in
+    record {
+      cursors = cursors_of script entry.thread;
+      names = (of place d low).call.names;
+      said = strings_of n entry.call (of place d low).call.strings;
+      changes = changes_where_marked script entries legal place d low wrote;
+    } in
     let served = served_at script (IsKeyOf n) (IsValueOf n) (strings_together n) entries fair (length (writes entries)) in
     record { containers = served.containers; strings = contents_of n left served.contents }

@@ -60,9 +60,9 @@ module _ (text : List ℕ) (script : ScriptParts) (read : read_script text ≡ O
 
   last_feed : 0 < length text → get_or text (length text - 1) 0 ≡ 10
   last_feed some = elim (or_cases (length text == 0) _ ended) [
-      | inl none ↦ (let empty : length text ≡ 0 = eqb-true _ _ none in absurd (omega arith))
-      | inr feed ↦ eqb-true _ _ feed
-    ]
+    | inl none ↦ (let empty : length text ≡ 0 = eqb-true _ _ none in absurd (omega arith))
+    | inr feed ↦ eqb-true _ _ feed
+  ]
 
   -- the text would have it as a line of its own
   in_text : (place : ℕ) → place + 3 < length text → begins_line text place ≡ true → drop place text ≡ codes "---\n" ++ drop (place + 4) text → ⊥
@@ -114,10 +114,10 @@ module _ (text : List ℕ) (script : ScriptParts) (read : read_script text ≡ O
       let at : drop (length text) bytes ≡ codes "---\n" ++ rest = drop_at text (codes "---\n" ++ rest) (length text) refl in
       let four : is_separator (take 4 (drop (length text) bytes)) ≡ true = ap (λ (r : List ℕ). is_separator (take 4 r)) at in
       let begins : begins_line bytes (length text) ≡ true =
-          elim (cases_lt 0 (length text)) [
-            | inl some ↦ ap (λ (b : ℕ). length text == 0 || b == 10) (get_or_append_left text (codes "---\n" ++ rest) 0 (length text - 1) (omega arith)) ∙ ended
-            | inr none ↦ (let empty : length text ≡ 0 = omega arith in rw empty refl)
-          ] in
+      elim (cases_lt 0 (length text)) [
+        | inl some ↦ ap (λ (b : ℕ). length text == 0 || b == 10) (get_or_append_left text (codes "---\n" ++ rest) 0 (length text - 1) (omega arith)) ∙ ended
+        | inr none ↦ (let empty : length text ≡ 0 = omega arith in rw empty refl)
+      ] in
       record {
         inside = omega (arith, length-append text (codes "---\n" ++ rest), length-append (codes "---\n") rest);
         here = ap₂ (λ (a b : Bool). a && b) begins four;

@@ -241,7 +241,12 @@ impl Answers {
             Call::End => Ok(ended(self.tallies[thread as usize].inside())),
             Call::Quiesce => Ok(Reply::Done),
             Call::Dict { .. } | Call::List { .. } | Call::Set { .. } | Call::Next { .. } => {
-                apply_short(alloc, &mut self.world, &mut self.hands[thread as usize], call)
+                apply_short(
+                    alloc,
+                    &mut self.world,
+                    &mut self.hands[thread as usize],
+                    call,
+                )
             }
         }
     }

@@ -13,7 +13,9 @@ use ft_layout::block_word;
 
 /// Which words of a block these are, as a bank counts them.
 pub(crate) const COUNT: u64 = block_word::USED - block_word::ROOT;
+
 pub(crate) const FILL: u64 = block_word::FILL - block_word::ROOT;
+
 pub(crate) const NEXT: u64 = block_word::NEXT - block_word::ROOT;
 
 /// What the block of a dict or a set counts.

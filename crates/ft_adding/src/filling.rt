@@ -23,8 +23,8 @@ use crate::fresh::FreshWords;
 use ft_bank::{Bank, Pass, Table};
 use ft_keys::{Way, calls_keep_versions, rebuild};
 use ft_layout::{
-    changed_words_are_of_a_table, table_size, used_entries_follow_a_dict, used_entries_follow_a_set,
-    words_are_of_one_content,
+    changed_words_are_of_a_table, table_size, used_entries_follow_a_dict,
+    used_entries_follow_a_set, words_are_of_one_content,
 };
 use ft_search::mask_of;
 

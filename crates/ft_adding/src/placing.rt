@@ -27,15 +27,7 @@ use ft_layout::Pair;
 use ft_search::{TableWords, mask_of, raise_version};
 
 /// Puts what a block counts, before the commit.
-fn put_counts(
-    bank: &Bank,
-    pass: &mut Pass,
-    o: u32,
-    table: Table,
-    count: u64,
-    fill: u64,
-    next: u64,
-)
+fn put_counts(bank: &Bank, pass: &mut Pass, o: u32, table: Table, count: u64, fill: u64, next: u64)
     requires pass { IsPassOf bank.now pass.old }
     requires writes { WritesEntries (shape_of bank.now) o table (view pass.old) }
     ensures pass { IsPassOf bank.now pass.new }
@@ -77,15 +69,7 @@ fn place_in(words: &mut TableWords<'_>, slot: u64, place: u64, pair: &Pair)
 
 /// Puts the entry of a pair at a place that was never used, and the index word of a slot that names it,
 /// before the commit.
-fn put_pair(
-    bank: &Bank,
-    pass: &mut Pass,
-    o: u32,
-    table: Table,
-    slot: u64,
-    place: u64,
-    pair: &Pair,
-)
+fn put_pair(bank: &Bank, pass: &mut Pass, o: u32, table: Table, slot: u64, place: u64, pair: &Pair)
     requires pass { IsPassOf bank.now pass.old }
     requires writes { WritesEntries (shape_of bank.now) o table (view pass.old) }
     requires early { has_committed o (view pass.old).log ≡ false }
@@ -137,7 +121,11 @@ pub(crate) fn put_key(
     ensures only { OnlyPut o (view pass.old) (view pass.new) }
     ensures words { held o (view pass.new) ≡ with_entry (name_of table) slot counts pair.now (held o (view pass.old)) }
 {
-    let Counts { count, fill, next: _ } = counts;
+    let Counts {
+        count,
+        fill,
+        next: _,
+    } = counts;
     put_counts(bank, pass, o, table, count + 1, fill + 1, pair.serial + 1);
     put_pair(bank, pass, o, table, slot, fill, pair);
 }

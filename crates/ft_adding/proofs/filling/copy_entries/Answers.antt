@@ -20,18 +20,18 @@ pub rebuild_in-requires-clause-can : goal.rebuild_in-requires-clause-can
 rebuild_in-requires-clause-can c =
     let a = c.args in
     let keyed = c.requires.keyed in
-      record {
-        pass = c.requires.pass;
-        container = keyed.container;
-        locked = keyed.locked;
-        even = keyed.even;
-        old_in = keyed.table_in a.old refl;
-        old_root = keyed.root;
-        old_mask = c.mask_of-old_mask.ensures;
-        table_in = c.requires.table;
-        fresh = c.requires.fresh;
-        mask = c.mask_of-mask.ensures;
-      }
+    record {
+      pass = c.requires.pass;
+      container = keyed.container;
+      locked = keyed.locked;
+      even = keyed.even;
+      old_in = keyed.table_in a.old refl;
+      old_root = keyed.root;
+      old_mask = c.mask_of-old_mask.ensures;
+      table_in = c.requires.table;
+      fresh = c.requires.fresh;
+      mask = c.mask_of-mask.ensures;
+    }
 
 pub rebuild_in-requires-clause-mask : goal.rebuild_in-requires-clause-mask
 rebuild_in-requires-clause-mask c = (mask_is c.args.table.class c.mask_of-mask.result c.requires.table.0 c.mask_of-mask.ensures, refl)

@@ -1,0 +1,161 @@
+//! The answer of a call: the first half of a try.
+ghost use Rattle.std.specs.Prelude.{◌≡◌, List, length, suc, IfSome, IfNone};
+ghost use Rattle.ft_model.specs.declared.call.Call.TheVariants as call;
+ghost use Rattle.ft_model.specs.declared.entry.Entry.{Entry as NamedEntry};
+ghost use Rattle.ft_bank.specs.Passes.{shape_of, view};
+ghost use Rattle.ft_bank.specs.Sections.{stack_of};
+ghost use Rattle.ft_engine.specs.Answering.{AreHandsOf, IsTryOf, LeavesHands, MayMake};
+ghost use Rattle.ft_engine.specs.Attempts.{MayAttempt, flight_after, kept_after, IsMarkOf, FoundIn, StaysCaller};
+ghost use Rattle.ft_engine.specs.Callers.{IsCallerOf, thread_of};
+ghost use Rattle.ft_engine.specs.Flights.{IsAnswered, IsNext};
+ghost use Rattle.ft_engine.specs.Keeping.{IsKept};
+
+use crate::attempts::Tried;
+use crate::caller::{Caller, Flight};
+use crate::cursor_call::{iter, next};
+use crate::engine::Engine;
+use crate::list_call::call_list;
+use crate::section_call::{begin, end, quiesce};
+
+use ft_bank::{Bank, Pass};
+use ft_model::{Call, Cursor, DictCall, Kind, ListCall, SetCall};
+use ft_section::{Object, Step};
+use std::alloc::Global;
+
+/// One try of a call that has no answer yet, by kinds of calls.
+fn make(
+    bank: &Bank,
+    pass: &mut Pass,
+    alloc: Global,
+    cursors: &mut Vec<Option<Cursor>>,
+    call: &Call,
+) -> Step
+    requires may { MayMake bank.now pass.old cursors.old.items call.now }
+    requires hands { AreHandsOf (shape_of bank.now) (view pass.old) cursors.old.items }
+    ensures tried { IsTryOf bank.now cursors.old.items call.now pass.old pass.new result }
+    ensures hands { AreHandsOf (shape_of bank.now) (view pass.new) cursors.new.items }
+    ensures stays { LeavesHands result cursors.old.items cursors.new.items }
+{
+    match *call {
+        Call::Dict { container, call } => make_dict(bank, pass, cursors, container, &call),
+        Call::List { container, call } => make_list(bank, pass, alloc, cursors, container, &call),
+        Call::Set { container, call } => make_set(bank, pass, cursors, container, &call),
+        Call::Next { cursor } => next(bank, pass, cursors, cursor),
+        Call::Begin { first, second } => begin(bank, pass, first, second),
+        Call::End => end(bank, pass),
+        Call::Quiesce => quiesce(bank, pass),
+    }
+}
+
+/// One try of a call on a dict.
+fn make_dict(
+    bank: &Bank,
+    pass: &mut Pass,
+    cursors: &mut Vec<Option<Cursor>>,
+    d: Object,
+    call: &DictCall,
+) -> Step
+    requires may { MayMake bank.now pass.old cursors.old.items (call.Dict d call.now) }
+    requires hands { AreHandsOf (shape_of bank.now) (view pass.old) cursors.old.items }
+    ensures tried { IsTryOf bank.now cursors.old.items (call.Dict d call.now) pass.old pass.new result }
+    ensures hands { AreHandsOf (shape_of bank.now) (view pass.new) cursors.new.items }
+    ensures stays { LeavesHands result cursors.old.items cursors.new.items }
+{
+    match call.cursor() {
+        Some(number) => iter(bank, pass, cursors, d, Kind::Dict, number),
+        None => unreachable!(),
+    }
+}
+
+/// One try of a call on a list.
+fn make_list(
+    bank: &Bank,
+    pass: &mut Pass,
+    alloc: Global,
+    cursors: &mut Vec<Option<Cursor>>,
+    l: Object,
+    call: &ListCall,
+) -> Step
+    requires may { MayMake bank.now pass.old cursors.old.items (call.List l call.now) }
+    requires hands { AreHandsOf (shape_of bank.now) (view pass.old) cursors.old.items }
+    ensures tried { IsTryOf bank.now cursors.old.items (call.List l call.now) pass.old pass.new result }
+    ensures hands { AreHandsOf (shape_of bank.now) (view pass.new) cursors.new.items }
+    ensures stays { LeavesHands result cursors.old.items cursors.new.items }
+{
+    match call.cursor() {
+        Some(number) => iter(bank, pass, cursors, l, Kind::List, number),
+        None => call_list(bank, pass, alloc, l, call),
+    }
+}
+
+/// One try of a call on a set.
+fn make_set(
+    bank: &Bank,
+    pass: &mut Pass,
+    cursors: &mut Vec<Option<Cursor>>,
+    s: Object,
+    call: &SetCall,
+) -> Step
+    requires may { MayMake bank.now pass.old cursors.old.items (call.Set s call.now) }
+    requires hands { AreHandsOf (shape_of bank.now) (view pass.old) cursors.old.items }
+    ensures tried { IsTryOf bank.now cursors.old.items (call.Set s call.now) pass.old pass.new result }
+    ensures hands { AreHandsOf (shape_of bank.now) (view pass.new) cursors.new.items }
+    ensures stays { LeavesHands result cursors.old.items cursors.new.items }
+{
+    match call.cursor() {
+        Some(number) => iter(bank, pass, cursors, s, Kind::Set, number),
+        None => unreachable!(),
+    }
+}
+
+impl Engine {
+    /// Makes the answer of a call. Where it is made, it answers none, and the innermost section has still to be
+    /// taken up again; else what the try answers.
+    pub(crate) fn answer(
+        &self,
+        alloc: Global,
+        caller: &mut Caller,
+        call: &Call,
+    ) -> Option<Tried>
+        requires caller { IsCallerOf self.now caller.old }
+        requires may { MayAttempt self.now caller.old call.now }
+        requires unanswered { IsAnswered caller.old.flight → ⊥ }
+        ensures caller { IsCallerOf self.now caller.new }
+        ensures same { StaysCaller caller.old caller.new }
+        ensures answered { IfNone result (IsAnswered caller.new.flight × IsNext caller.new.flight call.now) }
+        ensures counted { IfNone result (length (view caller.new.pass).entries ≡ suc (length (view caller.old.pass).entries)) }
+        ensures kept { IfNone result ((mine : List NamedEntry) → IsKept caller.old mine → IsKept caller.new mine) }
+        ensures marked { IfNone result ((stack_of caller.new.pass).mark ≡ (stack_of caller.old.pass).mark) }
+        ensures flight { IfSome result (λ tried. flight_after call.now tried caller.new.flight) }
+        ensures told { IfSome result (λ tried. (mine : List NamedEntry) → IsKept caller.old mine →
+            IsKept caller.new (kept_after (thread_of caller.old) call.now tried mine)) }
+        ensures mark { IfSome result (λ tried. IsMarkOf tried (stack_of caller.old.pass).mark (stack_of caller.new.pass).mark) }
+        ensures found { IfSome result (λ tried. FoundIn tried (view caller.old.pass) (view caller.new.pass)) }
+    {
+        match make(
+            &self.bank,
+            &mut caller.pass,
+            alloc,
+            &mut caller.cursors,
+            call,
+        ) {
+            Step::Done(reply, stamp) => {
+                caller.made += 1;
+                caller.flight = Flight::Answered(*call, reply, stamp);
+                None
+            }
+            Step::NotYet(object, owner) => {
+                caller.flight = Flight::Tried(*call);
+                Some(Tried::NotYet(object, owner))
+            }
+            Step::Moved(first, second) => {
+                caller.flight = Flight::Tried(*call);
+                Some(Tried::Moved(first, second))
+            }
+            Step::NoMemory => {
+                caller.flight = Flight::Refused(*call);
+                Some(Tried::NoMemory)
+            }
+        }
+    }
+}

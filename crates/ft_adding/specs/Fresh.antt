@@ -18,8 +18,8 @@ use Rattle.ft_bank.specs.Tables.{name_of, IsTableIn}
 use Rattle.ft_growth.specs.Adding.{OnlyFilled}
 use Rattle.ft_adding.specs.declared.fresh.FreshWords.{FreshWords}
 
--- The pass has the new table fresh in its hand, and the lock of the container, whose root names the old one and which it
--- doesn't write. (profile)
+-- The pass has the new table fresh in its hand, and the lock of the container, whose root names the old one and which
+-- it doesn't write. (profile)
 pub record CanFill (s : FreshWords) : Type 0 where
   pub pass : IsPassOf s.bank.now s.pass.now
   pub container : s.o < containers_in (shape_of s.bank.now)
@@ -69,8 +69,8 @@ pub record IsBlank (class : ℕ) (words : List ℕ) : Type 0 where
   pub long : length words ≡ size class
   pub zeros : (i : ℕ) → slice_index words i ≡ 0
 
--- The words of a table of this class have what a dict or a set has, each pair or element in one entry, in their order, with
--- its serial, and no entry for another key; each version is 0. (profile)
+-- The words of a table of this class have what a dict or a set has, each pair or element in one entry, in their order,
+-- with its serial, and no entry for another key; each version is 0. (profile)
 pub record IsFilledWith (texts : List ℕ) (class : ℕ) (content : Content) (words : List ℕ) : Type 0 where
   pub says : (block : List ℕ) → IsBlock block (Some class) (length_of content) (length_of content) (serial_of content)
       → StandsAs texts block (0 ∷ 0 ∷ words) (record { class = Some class; fill = length_of content }) content

@@ -1,5 +1,5 @@
--- Calls that add a key to a dict or a set: what a pass is to have and to know for that, what they ask of the plain containers,
--- and when the container gets another table.
+-- Calls that add a key to a dict or a set: what a pass is to have and to know for that, what they ask of the plain
+-- containers, and when the container gets another table.
 use Rattle.std.specs.Prelude.{◌≡◌, ℕ, suc, ◌+◌, ◌<◌, ◌≤◌, Bool, true, false, nat_lt, List, ◌∷◌, length, Option, Some, None, if◌then◌else◌}
 use Rattle.ft_model.specs.declared.call.Call.{Call}
 use Rattle.ft_model.specs.declared.content.Content.{Content}
@@ -38,8 +38,8 @@ use Rattle.ft_adding.specs.Placing.{with_key}
 
 -- ---- the pass
 
--- The pass has the lock of the container o, a dict or a set, whose root names this table or none; no version is odd there,
--- and its words stand for what the pass knows of it. (profile)
+-- The pass has the lock of the container o, a dict or a set, whose root names this table or none; no version is odd
+-- there, and its words stand for what the pass knows of it. (profile)
 pub record KnowsKeyed (k : Shape) (o : ℕ) (old : Option Table) (v : View) : Type 0 where
   pub container : o < containers_in k
   pub keyed : IsKeyed (kind_in k.kinds o)
@@ -49,8 +49,8 @@ pub record KnowsKeyed (k : Shape) (o : ℕ) (old : Option Table) (v : View) : Ty
   pub table_in : (t : Table) → old ≡ Some t → IsTableIn k t
   pub root : root_in (held o v) ≡ root_for old
 
--- Besides it is in the midst of no taking or giving of a table, and of no other write that took a table out of a root; it has
--- lowered no count of a class that it hasn't raised again, and it has a call left. (profile)
+-- Besides it is in the midst of no taking or giving of a table, and of no other write that took a table out of a root;
+-- it has lowered no count of a class that it hasn't raised again, and it has a call left. (profile)
 pub record MayAddKey (k : Shape) (o : ℕ) (old : Option Table) (v : View) : Type 0 where
   pub keyed : KnowsKeyed k o old v
   pub used : used v.log ≡ false
@@ -94,9 +94,9 @@ most_of (content.Dict dict) = most_pairs
 most_of (content.Set set) = most_elements
 most_of (content.List values) = most_items
 
--- A call adds this key, which is not there, to the container o: the plain containers reply so to it, and o has the key then
--- and the table that it takes, whatever else the bank has that agrees with what the pass knows; the pass has the locks of
--- the containers that it names. (Python manual, Mapping Types, Set Types)
+-- A call adds this key, which is not there, to the container o: the plain containers reply so to it, and o has the key
+-- then and the table that it takes, whatever else the bank has that agrees with what the pass knows; the pass has the
+-- locks of the containers that it names. (Python manual, Mapping Types, Set Types)
 pub record AddsKey (o : ℕ) (called : Call) (said : Reply) (key : Key) (stored : Stored) (v : View) : Type 0 where
   pub write : is_write called said ≡ true
   pub changed : changes called ≡ o
@@ -122,8 +122,8 @@ holds (content.Set set) key = has_element set.elements key
 holds (content.List values) key = false
 
 -- What a call comes to under the lock that puts this key into the container o, where it may be there: after loads, by
--- whether it is, and where it isn't by the class of the table that the container takes for one more key, and by whether it
--- would have more keys than the largest table holds.
+-- whether it is, and where it isn't by the class of the table that the container takes for one more key, and by whether
+-- it would have more keys than the largest table holds.
 abbrev pub PutsKey : Shape → ℕ → Key → Call → Reply → View → View → Added → Type 0
 PutsKey k o key called said v w what =
     (u : View) × OnlyLoaded v u
@@ -133,8 +133,9 @@ PutsKey k o key called said v w what =
     else nat_lt (most_of (known o v).content) (length_of (known o v).content + 1))
     called said u w what
 
--- What such a call comes to under the lock whose key isn't there: after loads, by the class of the table that the container takes for one more
--- key, if it takes one, and by whether it would have more keys than the largest table holds.
+-- What such a call comes to under the lock whose key isn't there: after loads, by the class of the table that the
+-- container takes for one more key, if it takes one, and by whether it would have more keys than the largest table
+-- holds.
 abbrev pub AddsOne : Shape → ℕ → Call → Reply → View → View → Added → Type 0
 AddsOne k o called said v w what =
     (u : View) × OnlyLoaded v u

@@ -65,8 +65,8 @@ with_entry t slot counts pair x =
       table = with_pair t slot counts.fill pair x;
     }
 
--- In these words of a table with n index slots and m entries neither the slot nor the entry at the place was ever used, and
--- the entry's version is even. (profile)
+-- In these words of a table with n index slots and m entries neither the slot nor the entry at the place was ever used,
+-- and the entry's version is even. (profile)
 pub record IsUnused (n m : ℕ) (words : List ℕ) (slot place : ℕ) : Type 0 where
   pub low : place < m
   pub in_index : slot < n

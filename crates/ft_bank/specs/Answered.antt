@@ -22,9 +22,9 @@ pub record Answered (called : Call) (said : Reply) (number : ℕ) (v w : View) :
   pub answered : w ≡ noted (Answer called said number) before
   pub seen : seen_writes v ≤ number
 
--- The pass loaded words of the bank, and then gave this reply to an `iter` or a `next` of its cursor under this number, with
--- a stamp that one of these loads of the counter gave, and that is at least all writes that the pass had seen; the call
--- left the new cursor there. It has done nothing else. (Python manual, Iterator Types)
+-- The pass loaded words of the bank, and then gave this reply to an `iter` or a `next` of its cursor under this number,
+-- with a stamp that one of these loads of the counter gave, and that is at least all writes that the pass had seen; the
+-- call left the new cursor there. It has done nothing else. (Python manual, Iterator Types)
 pub record AnsweredCursor
     (called : Call) (said : Reply) (stamp number : ℕ) (cursor : Cursor) (v w : View) : Type 0 where
   pub before : View

@@ -22,8 +22,9 @@ abbrev pub entries_in : Closed → List Entry
 entries_in c = flat_map (λ entries. entries) (lists_in c)
 
 -- There are writes, the oldest first, beside which all these entries stand: each write is that of one entry, and each
--- entry has the reply of the plain containers at its stamp, or that of a section, or a MemoryError with its cause there.
--- The stamps of each pass rise, and inside a section that it says it kept no other pass wrote on the section's containers.
+-- entry has the reply of the plain containers at its stamp, or that of a section, or a MemoryError with its cause
+-- there. The stamps of each pass rise, and inside a section that it says it kept no other pass wrote on the section's
+-- containers.
 abbrev pub IsWhole : Closed → Type 0
 IsWhole c =
     ∥ ((calls : List Call) × AreInOrder (shape_in c) calls (entries_in c)

@@ -32,7 +32,8 @@ Did a p q =
 abbrev pub KeepsAll : Pass → Pass → Type 0
 KeepsAll p q = (q.seat.table_id ≡ p.seat.table_id) × (q.seat.me.0 ≡ p.seat.me.0)
 
--- the cursor that the pass has under a number by its own calls (Python manual, Iterator Types: a cursor is its thread's)
+-- the cursor that the pass has under a number by its own calls (Python manual, Iterator Types: a cursor is its
+-- thread's)
 abbrev pub cursor_of : Pass → ℕ → Option Cursor
 cursor_of p number = cursor_in number (view p).log
 

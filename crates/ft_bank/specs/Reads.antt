@@ -13,9 +13,9 @@ use Rattle.ft_trace.specs.Causes.{Loaded, HasCause}
 use Rattle.ft_trace.specs.Hands.{cursor_in, MovesCursor}
 use Rattle.ft_trace.specs.Traces.{history, Sure}
 
--- In every trace in which a pass knows this, the call is replied so after as many writes: the reply is that of the plain
--- containers, or that of a section, or a MemoryError that has its cause in what the pass read. A load of the counter
--- since the last entry gave the number. The pass has a call left. The call is no `iter` or `next`.
+-- In every trace in which a pass knows this, the call is replied so after as many writes: the reply is that of the
+-- plain containers, or that of a section, or a MemoryError that has its cause in what the pass read. A load of the
+-- counter since the last entry gave the number. The pass has a call left. The call is no `iter` or `next`.
 pub record IsShown (v : View) (call : Call) (reply : Reply) (number : ℕ) : Type 0 where
   pub read : is_write call reply ≡ false
   pub left : 0 < v.left
@@ -26,9 +26,9 @@ pub record IsShown (v : View) (call : Call) (reply : Reply) (number : ℕ) : Typ
       number)
   pub no_cursor : Sure v (λ es. moved_cursor call ≡ None)
 
--- In every trace in which a pass knows this, the plain containers after as many writes answer an `iter` or a `next` so, of
--- the cursor that the pass has under this number, and leave the new one. A load of the counter since the last entry gave
--- how many writes. The pass has a call left. (Python manual, Iterator Types)
+-- In every trace in which a pass knows this, the plain containers after as many writes answer an `iter` or a `next` so,
+-- of the cursor that the pass has under this number, and leave the new one. A load of the counter since the last entry
+-- gave how many writes. The pass has a call left. (Python manual, Iterator Types)
 pub record IsCursorShown (v : View) (call : Call) (reply : Reply) (stamp number : ℕ) (cursor : Cursor) : Type 0 where
   pub moved : moved_cursor call ≡ Some number
   pub left : 0 < v.left

@@ -13,8 +13,8 @@ use Rattle.ft_bank.specs.Tables.{name_of, IsTableIn}
 abbrev pub table_of_bit : ℕ → ℕ → Table
 table_of_bit word b = record { class = 3 + word / 16; number = 64 * (word % 16) + b }
 
--- Each bit that is set is that of a table of the bank which the pass has retired and whose goal stands in its header, and
--- each such table has its bit set.
+-- Each bit that is set is that of a table of the bank which the pass has retired and whose goal stands in its header,
+-- and each such table has its bit set.
 pub record AreRetired (words : List ℕ) (v : View) : Type 0 where
   pub long : length words ≡ 224
   pub some : (w b : ℕ) → w < 224 → b < 64 → bit b (slice_index words w) ≡ 1

@@ -158,8 +158,8 @@ RepliesUnderLocksAreShown =
     → IsReplied call said (reply_in stored call) × HasCause stored v.log call said n)
     → IsShown v call said n
 
--- an `iter` or a `next` of the cursor that the pass has under this number, answered so by whatever the bank has that agrees
--- with what the pass knows
+-- an `iter` or a `next` of the cursor that the pass has under this number, answered so by whatever the bank has that
+-- agrees with what the pass knows
 abbrev pub CursorsUnderLocksAreShown : Type 0
 CursorsUnderLocksAreShown =
     (v : View) (call : Call) (said : Reply) (n number : ℕ) (cursor : Cursor) → LoadedUnderLocks v n
@@ -186,7 +186,8 @@ OversAreShown =
 
 -- ---- serials
 
--- The next serial of a container whose lock the pass has is low: as many more as the largest table has slots can be drawn.
+-- The next serial of a container whose lock the pass has is low: as many more as the largest table has slots can be
+-- drawn.
 abbrev pub SerialsHaveRoom : Type 0
 SerialsHaveRoom =
     (v : View) (o : ℕ) → ∥ Possible v ∥₁ → v.shape.passes * v.shape.calls < 2 ^ 46 → has_lock o v.log ≡ true

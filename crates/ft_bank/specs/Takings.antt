@@ -127,8 +127,8 @@ lowered class count = LowerCount class count count ∷ ReadCount class count ∷
 
 -- What a taking of a class did. It took the bit of the table after it had lowered the count. Or the count was 0 at the
 -- one load of this call. Or the count moved from a to b between two steps of this call; or it was lowered, and then a
--- free word moved from a to b between two steps of it, or each free word was 0 at its load: then the count, which was a,
--- was raised again, and b is 0. (profile)
+-- free word moved from a to b between two steps of it, or each free word was 0 at its load: then the count, which was
+-- a, was raised again, and b is 0. (profile)
 abbrev pub IsTaking : ℕ → Took → List Act → Type 0
 IsTaking class (took.Taken t) acts =
     (count : ℕ) × (rest : List Act) × (0 < count) × IsSearch class (search.Found t) rest

@@ -15,9 +15,9 @@ use Rattle.ft_trace.specs.Words.{root_in, Stands}
 use Rattle.ft_trace.specs.Holds.{held, known}
 use Rattle.ft_bank.specs.Writes.{MayHave}
 
--- It is the same pass: it has the same locks, has made the same versions odd, announces the same, is in the midst of the
--- same taking or giving, has begun the same sections, has the same cursors and the same entries of passes that it took
--- in, and has seen no fewer writes. (profile)
+-- It is the same pass: it has the same locks, has made the same versions odd, announces the same, is in the midst of
+-- the same taking or giving, has begun the same sections, has the same cursors and the same entries of passes that it
+-- took in, and has seen no fewer writes. (profile)
 pub record SamePass (v w : View) : Type 0 where
   pub number : w.number ≡ v.number
   pub next : w.next ≡ v.next
@@ -53,8 +53,8 @@ pub record OnlyLoaded (v w : View) : Type 0 where
   pub work : SameWork v w
   pub words : mem v.shape w.log ≡ mem v.shape v.log
 
--- The pass has loaded words of the bank and put words of the container o, and done nothing else: of each other container
--- whose lock it has and that it doesn't write it knows the same words. (profile)
+-- The pass has loaded words of the bank and put words of the container o, and done nothing else: of each other
+-- container whose lock it has and that it doesn't write it knows the same words. (profile)
 pub record OnlyPut (o : ℕ) (v w : View) : Type 0 where
   pub work : SameWork v w
   pub others : (p : ℕ) → p < containers_in v.shape → p ≢ o → has_lock p v.log ≡ true → is_writing p v.log ≡ false
@@ -73,9 +73,9 @@ hand_after o old root t stands = cond (old == root) stands (stage_next t (PutRoo
 abbrev pub debt_after : ℕ → ℕ → ℕ → ℕ → ℕ
 debt_after o old root n = cond (old == root) n (debt_next (PutRoot o root old) n)
 
--- The pass, which has made the version of a container odd and put its words, has made the call as its write there, and the
--- version even again: the second half of a whole write. The write's number is at least all writes that the pass had seen,
--- and the pass has then seen the write. (profile)
+-- The pass, which has made the version of a container odd and put its words, has made the call as its write there, and
+-- the version even again: the second half of a whole write. The write's number is at least all writes that the pass had
+-- seen, and the pass has then seen the write. (profile)
 pub record EndsWrite (called : Call) (said : Reply) (number : ℕ) (v w : View) : Type 0 where
   pub same_number : w.number ≡ v.number
   pub next : w.next ≡ v.next
@@ -109,9 +109,10 @@ pub record EndsWrite (called : Call) (said : Reply) (number : ℕ) (v w : View) 
   pub stands : Stands v.shape.texts (held (changes called) w) (known (changes called) w)
 
 -- The pass made this call as one whole write, with this reply, and the write has this number: at least all writes that
--- the pass had seen, and it has then seen the write. It has one entry more, and a call less left. It knows the same of each other container whose lock it has and that it doesn't write. Of the
--- container that the call changes it knows what the call makes of what the bank had, and the words that it knows stand
--- for that, with the class and the fill of its table. (profile)
+-- the pass had seen, and it has then seen the write. It has one entry more, and a call less left. It knows the same of
+-- each other container whose lock it has and that it doesn't write. Of the container that the call changes it knows
+-- what the call makes of what the bank had, and the words that it knows stand for that, with the class and the fill of
+-- its table. (profile)
 pub record Wrote (called : Call) (said : Reply) (number : ℕ) (v w : View) : Type 0 where
   pub pass : SamePass v w
   pub seen : seen_writes v ≤ number

@@ -13,8 +13,8 @@ use Rattle.ft_trace.specs.Words.{root_in, Stands}
 use Rattle.ft_trace.specs.Holds.{held, known}
 use Rattle.ft_bank.specs.Whole.{OnlyLoaded, Wrote}
 
--- The pass may reverse the list l: it has its lock, and the list's words stand for what the pass knows of it; no version
--- is odd there, the pass owes no table, and it has a call left.
+-- The pass may reverse the list l: it has its lock, and the list's words stand for what the pass knows of it; no
+-- version is odd there, the pass owes no table, and it has a call left.
 pub record MayReverse (k : Shape) (l : ℕ) (v : View) : Type 0 where
   pub container : l < containers_in k
   pub kind : kind_in k.kinds l ≡ kind.List

@@ -16,8 +16,8 @@ use Rattle.ft_trace.specs.Holds.{known}
 use Rattle.ft_growth.specs.declared.adding.Added.{Added}
 use Rattle.ft_adding.specs.Growing.{PutsKey}
 
--- what `d.setdefault(k, v)` replies: the value at the key where it is there, else the default, which is stored then (Python
--- manual, Mapping Types)
+-- what `d.setdefault(k, v)` replies: the value at the key where it is there, else the default, which is stored then
+-- (Python manual, Mapping Types)
 abbrev pub default_reply : Content → Key → Value → Reply
 default_reply content key default = reply.Value (unwrap_or (dict_get (dict_of content).pairs key) default)
 

@@ -50,8 +50,8 @@ pub record AddsNothing (v w : View) : Type 0 where
   pub left : w.left ≡ v.left
   pub cursors : (number : ℕ) → cursor_in number w.log ≡ cursor_in number v.log
 
--- The same pass has made the one entry of this answer, at a stamp that is at least all writes that it had seen. Its cursors
--- stay, but for the one that the call moves. (profile)
+-- The same pass has made the one entry of this answer, at a stamp that is at least all writes that it had seen. Its
+-- cursors stay, but for the one that the call moves. (profile)
 pub record AddsEntry (called : Call) (said : Reply) (stamp : Stamp) (v w : View) : Type 0 where
   pub pass : StaysPass v w
   pub entries : w.entries ≡ made_entry called said stamp ∷ v.entries
@@ -70,8 +70,8 @@ IsEndOf (call.Set o sc) marks said = Unit {0}
 IsEndOf (call.Next number) marks said = Unit {0}
 IsEndOf call.Quiesce marks said = Unit {0}
 
--- The call has its answer: the pass has one entry more, and the innermost section to take up again, of which a `begin` still
--- has the locks. The sections are those that the call leaves open, with their counts. (C API, critical sections)
+-- The call has its answer: the pass has one entry more, and the innermost section to take up again, of which a `begin`
+-- still has the locks. The sections are those that the call leaves open, with their counts. (C API, critical sections)
 pub record HasAnswer (b : Bank) (called : Call) (said : Reply) (stamp : Stamp) (p q : Pass) : Type 0 where
   pub entry : AddsEntry called said stamp (view p) (view q)
   pub resume : MayResume b q
@@ -80,8 +80,8 @@ pub record HasAnswer (b : Bank) (called : Call) (said : Reply) (stamp : Stamp) (
   pub mark : (stack_of q).mark ≡ (stack_of p).mark
   pub ends : IsEndOf called (marks_in (stack_of p)) said
 
--- The call waits: a step of it found another pass with the lock of one of its containers, and all open sections have let
--- their locks go. (C API, critical sections)
+-- The call waits: a step of it found another pass with the lock of one of its containers, and all open sections have
+-- let their locks go. (C API, critical sections)
 pub record HasToWait (b : Bank) (objects : Objects) (o owner : ℕ) (p q : Pass) : Type 0 where
   pub entry : AddsNothing (view p) (view q)
   pub waits : IsWaiting b q objects
@@ -98,8 +98,8 @@ pub record AreHandsOf (k : Shape) (v : View) (hands : List (Option Cursor)) : Ty
   pub cursors : (number : ℕ) → number < length hands → cursor_at hands number ≡ cursor_in number v.log
   pub over : AreOver k hands
 
--- A call may be tried: the pass is ready for it, or has tried it before, and has a call left; what it names is there, the
--- sections allow it, and the pass is online.
+-- A call may be tried: the pass is ready for it, or has tried it before, and has a call left; what it names is there,
+-- the sections allow it, and the pass is online.
 pub record MayMake (b : Bank) (p : Pass) (hands : List (Option Cursor)) (called : Call) : Type 0 where
   pub tries : (objects : Objects) → objects_of hands called ≡ Some objects → MayTry b p objects
   pub ready : objects_of hands called ≡ None → IsReady b p
@@ -127,8 +127,8 @@ IsTryOf b hands called p q step.NoMemory = HasNone b p q
 
 -- ---- looks
 
--- What a look at containers answers, in the words that all looks share. It gave a reply, with a stamp that it loaded; or it
--- has only loaded words.
+-- What a look at containers answers, in the words that all looks share. It gave a reply, with a stamp that it loaded;
+-- or it has only loaded words.
 abbrev pub IsLooked : Call → View → View → Look → Type 0
 IsLooked called v w (look.Done said stamp) = Answered called said stamp.number v w × (stamp.wrote ≡ false)
 IsLooked called v w (look.Contended first second) =

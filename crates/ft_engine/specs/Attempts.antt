@@ -21,8 +21,8 @@ use Rattle.ft_engine.specs.Names.{FitsSections, IsBuilt, IsCallIn}
 
 -- ---- what it asks
 
--- The call comes next. Where it has no answer yet, the caller has a call left, and the sections allow it. What it names is
--- there, and the pass is online.
+-- The call comes next. Where it has no answer yet, the caller has a call left, and the sections allow it. What it names
+-- is there, and the pass is online.
 pub record MayAttempt (e : Engine) (c : Caller) (called : Call) : Type 0 where
   pub next : IsNext c.flight called
   pub names : IsCallIn (shape_of e.bank) c.cursors.items called
@@ -68,8 +68,8 @@ HasFoundOwner t c d =
     FoundIn t (view c.pass) (view d.pass)
     ⊎ ((mid : View) × (length mid.entries ≡ suc (length (view c.pass).entries)) × FoundIn t mid (view d.pass))
 
--- it is the same caller, with as many cursors; it is online where it was, has taken in the same callers, and has seen no fewer
--- writes (profile)
+-- it is the same caller, with as many cursors; it is online where it was, has taken in the same callers, and has seen
+-- no fewer writes (profile)
 pub record StaysCaller (c d : Caller) : Type 0 where
   pub pass : StaysPass (view c.pass) (view d.pass)
   pub room : length d.cursors.items ≡ length c.cursors.items

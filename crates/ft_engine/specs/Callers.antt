@@ -59,8 +59,9 @@ AreOver k hands =
     (number : ℕ) (walker : Cursor) → cursor_at hands number ≡ Some walker
     → IsOfKindIn k (cursor_kind walker) (container_of walker)
 
--- A caller of the engine: its pass is one of the bank's and has come as far as the call in flight. It counts the entries of its
--- pass, which may make as many as the shape says. Its cursors are those that its own entries leave. (profile)
+-- A caller of the engine: its pass is one of the bank's and has come as far as the call in flight. It counts the
+-- entries of its pass, which may make as many as the shape says. Its cursors are those that its own entries leave.
+-- (profile)
 pub record IsCallerOf (e : Engine) (c : Caller) : Type 0 where
   pub pass : IsPassOf e.bank c.pass
   pub inside : IsIn e.bank c.pass c.cursors.items c.flight

@@ -20,14 +20,14 @@ pub record IsDone (c : Caller) : Type 0 where
   pub sections : (stack_of c.pass).sections ≡ []
   pub offline : announces (view c.pass).log ≡ 0
 
--- The first of these lists has the entries that the caller was answered, and the others those of the callers that it took in,
--- in the order of the threads.
+-- The first of these lists has the entries that the caller was answered, and the others those of the callers that it
+-- took in, in the order of the threads.
 abbrev pub AreKept : Caller → List (List NamedEntry) → Type 0
 AreKept c [] = ⊥
 AreKept c (mine ∷ others) = IsKept c mine × AreKeptFrom (suc (thread_of c)) others (taken_of c)
 
--- The lists are those of the script's threads: the bank was made for it, and no thread asks a cursor that it doesn't have.
--- (profile)
+-- The lists are those of the script's threads: the bank was made for it, and no thread asks a cursor that it doesn't
+-- have. (profile)
 pub record AreOfScript (script : ScriptParts) (k : Shape) (lists : List (List NamedEntry)) : Type 0 where
   pub shape : IsFor script k
   pub cursors : AskOwnCursors script lists

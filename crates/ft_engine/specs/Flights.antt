@@ -38,9 +38,9 @@ is_begin (call.Next number) = false
 is_begin call.End = false
 is_begin call.Quiesce = false
 
--- How far the pass has come. Between two calls it is ready for the next one. A call without an answer may be tried again, on
--- the locks of its containers. One with an answer has the innermost section to take up again, of which a `begin` still has
--- the locks. (C API, critical sections)
+-- How far the pass has come. Between two calls it is ready for the next one. A call without an answer may be tried
+-- again, on the locks of its containers. One with an answer has the innermost section to take up again, of which a
+-- `begin` still has the locks. (C API, critical sections)
 abbrev pub IsIn : Bank → Pass → List (Option Cursor) → Flight → Type 0
 IsIn b p hands flight.Idle = IsReady b p
 IsIn b p hands (flight.Tried called) =

@@ -5,8 +5,8 @@ use Rattle.ft_bank.specs.Passes.{view}
 use Rattle.ft_bank.specs.Sections.{stack_of}
 use Rattle.ft_engine.specs.declared.caller.Caller.{Caller}
 
--- It is the same caller, and has made no call: it has the same open sections, cursors and entries, has as many calls left, has
--- no other call in flight, and has taken in the same callers. It has seen no fewer writes. (profile)
+-- It is the same caller, and has made no call: it has the same open sections, cursors and entries, has as many calls
+-- left, has no other call in flight, and has taken in the same callers. It has seen no fewer writes. (profile)
 pub record SameWork (c d : Caller) : Type 0 where
   pub number : (view d.pass).number ≡ (view c.pass).number
   pub next : (view d.pass).next ≡ (view c.pass).next

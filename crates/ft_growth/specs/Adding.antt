@@ -33,8 +33,8 @@ use Rattle.ft_growth.specs.declared.adding.Added.TheVariants as added
 
 -- ---- steps of such a call
 
--- After a collection of retired tables a taking of a table of this class came to this. Besides, the pass has what it had.
--- (profile)
+-- After a collection of retired tables a taking of a table of this class came to this. Besides, the pass has what it
+-- had. (profile)
 pub record Tried (k : Shape) (class : ℕ) (result : Took) (v w : View) : Type 0 where
   pub mid : View
   pub freed : ℕ
@@ -47,8 +47,8 @@ pub record Tried (k : Shape) (class : ℕ) (result : Took) (v w : View) : Type 0
   pub keeps : KeepsBut (λ t. (has_goal t v.log ≡ false) × StaysIn result t) v w
   pub hands : (t : ℕ) → StaysIn result t → StaysOrGoes v w t
 
--- The pass has loaded words of the bank and put words of tables that are fresh in its hand, and done nothing else: of each
--- container whose lock it has and that it doesn't write it knows the same. (profile)
+-- The pass has loaded words of the bank and put words of tables that are fresh in its hand, and done nothing else: of
+-- each container whose lock it has and that it doesn't write it knows the same. (profile)
 pub record OnlyFilled (v w : View) : Type 0 where
   pub work : SameWork v w
   pub keeps : KeepsUnwritten v w
@@ -69,8 +69,8 @@ pub record WroteInPlace (called : Call) (said : Reply) (number : ℕ) (v w : Vie
   pub wrote : Wrote called said number v w
   pub root : root_in (held (changes called) w) ≡ root_in (held (changes called) v)
 
--- The pass took a table of this class and made the call as one whole write that put it into the root of the container in the
--- place of another table or of none, and then retired the table that the root named before. (profile)
+-- The pass took a table of this class and made the call as one whole write that put it into the root of the container
+-- in the place of another table or of none, and then retired the table that the root named before. (profile)
 pub record Grew (k : Shape) (class : ℕ) (called : Call) (said : Reply) (number : ℕ) (v w : View) : Type 0 where
   pub table : Table
   pub taken : View
@@ -81,8 +81,8 @@ pub record Grew (k : Shape) (class : ℕ) (called : Call) (said : Reply) (number
   pub root : root_in (held (changes called) done) ≡ suc (name_of table)
   pub retired : Retires (root_in (held (changes called) taken)) done w
 
--- The pass made the call as one whole write that left the container no table, and then retired the table that it had, if it had
--- one. (profile)
+-- The pass made the call as one whole write that left the container no table, and then retired the table that it had,
+-- if it had one. (profile)
 pub record GaveUp (called : Call) (said : Reply) (number : ℕ) (v w : View) : Type 0 where
   pub done : View
   pub wrote : Wrote called said number v done
@@ -94,9 +94,9 @@ abbrev pub WroteWith : Shape → Option ℕ → Call → Reply → ℕ → View 
 WroteWith k None called said number v w = WroteInPlace called said number v w
 WroteWith k (Some class) called said number v w = Grew k class called said number v w
 
--- What a call comes to under its locks that takes no table or one of this class, and that would leave more than the largest
--- table holds or not. It was made as a write with this reply. Or the count of its class was 0 at the one load of this call.
--- Or it would leave too much. Or tables of its class were taken or given by others meanwhile.
+-- What a call comes to under its locks that takes no table or one of this class, and that would leave more than the
+-- largest table holds or not. It was made as a write with this reply. Or the count of its class was 0 at the one load
+-- of this call. Or it would leave too much. Or tables of its class were taken or given by others meanwhile.
 abbrev pub IsAdded : Shape → Option ℕ → Bool → Call → Reply → View → View → Added → Type 0
 IsAdded k takes over called said v w (added.Made stamp) =
     (over ≡ false) × (stamp.wrote ≡ true) × WroteWith k takes called said stamp.number v w
@@ -128,8 +128,8 @@ pub record UnderLocks (objects : Objects) (F : View → View → Type 0) (v w : 
   pub did : F before after
   pub gone : OnlyLocked after w
 
--- What the try of a call answers that comes to F under the locks of these containers, and replies so where it is made; or a
--- step of it found another pass with one of these locks. It takes no memory. (C API, critical sections)
+-- What the try of a call answers that comes to F under the locks of these containers, and replies so where it is made;
+-- or a step of it found another pass with one of these locks. It takes no memory. (C API, critical sections)
 abbrev pub IsTryOf : Objects → (View → View → Added → Type 0) → Reply → View → View → Step → Type 0
 IsTryOf objects F said v w (step.NotYet p q) = OnlyLocked v w × IsOf p objects × FoundOwner p q v w
 IsTryOf objects F said v w step.NoMemory = ⊥

@@ -1,5 +1,5 @@
--- In which order the slots of a table are tried for a hash. A table has a power of two of slots, numbered from 0 on, and
--- its mask is the last one. (CPython's dictobject.c and setobject.c, their comments on probing: i*5 + perturb + 1,
+-- In which order the slots of a table are tried for a hash. A table has a power of two of slots, numbered from 0 on,
+-- and its mask is the last one. (CPython's dictobject.c and setobject.c, their comments on probing: i*5 + perturb + 1,
 -- perturb shifted by 5, runs of 9 more; from where on and in what words: profile)
 use Rattle.std.specs.Prelude.{◌≡◌, ℕ, zero, suc, ◌+◌, ◌*◌, ◌/◌, ◌%◌, ◌^◌, ◌<◌, ◌≤◌, List, [], ◌∷◌, map, flat_map, nat_le, if◌then◌else◌}
 use Rattle.std.specs.List.{range_with_len}

@@ -14,7 +14,8 @@ IsUntouched entries thread begun ended containers =
     → entry.wrote ≡ true → entry.thread ≢ thread → Contains containers container
     → ¬ (Contains (containers_of entry.call) container)
 
--- these calls lead from a number of open sections to a number, and end none that was open before the first of these (C API, critical sections)
+-- these calls lead from a number of open sections to a number, and end none that was open before the first of these (C
+-- API, critical sections)
 abbrev pub LeadsTo : ℕ → ℕ → List Call → Type 0
 LeadsTo from to [] = from ≡ to
 LeadsTo from to (call.Begin first second ∷ calls) = LeadsTo (from + 1) to calls
@@ -29,7 +30,8 @@ LeadsTo from to (call.Quiesce ∷ calls) = LeadsTo from to calls
 abbrev pub calls_in : List Entry → ℕ → ℕ → ℕ → List Call
 calls_in entries thread start end = map (λ entry. entry.call) (entries_of thread (between start end entries))
 
--- the `end` at the later place is that of the `begin` at the earlier one: both are of one thread, whose calls strictly between them end just the sections that they begin
+-- the `end` at the later place is that of the `begin` at the earlier one: both are of one thread, whose calls strictly
+-- between them end just the sections that they begin
 pub record Matches (entries : List Entry) (begun ended : ℕ) (begin end : Entry) : Type 0 where
   pub before : begun < ended
   pub begin_at : slice_get entries begun ≡ Some begin

@@ -1,7 +1,8 @@
 -- What a source has left and a sink has taken in. A stream that doesn't tell its content has None.
 use Rattle.std.specs.Prelude.{ℕ, ◌+◌, ◌-◌, ◌^◌, min, List, ◌++◌, Option, option_map}
 
--- What a stream tells of its bytes, those that a source has left or that a sink has taken in, and how often a call of it has failed. (profile)
+-- What a stream tells of its bytes, those that a source has left or that a sink has taken in, and how often a call of
+-- it has failed. (profile)
 pub record Stream : Type 0 where
   pub content : Option (List ℕ)
   pub faults : ℕ

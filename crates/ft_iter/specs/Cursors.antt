@@ -29,8 +29,8 @@ step_in c (cursor.Dict o walk size expected last) = dict_next (dict_of c).pairs 
 step_in c (cursor.List o index ended) = list_next (list_of c) o index ended
 step_in c (cursor.Set o walk size last) = set_next (set_of c).elements o walk size last
 
--- the pass took its lock, gave this reply with this stamp, which it loaded while it had it, and let go of the lock; this
--- cursor is its own under the number then
+-- the pass took its lock, gave this reply with this stamp, which it loaded while it had it, and let go of the lock;
+-- this cursor is its own under the number then
 pub record MovedUnderLock (called : Call) (said : Reply) (stamp number : ℕ) (left : Cursor) (v w : View) : Type 0 where
   pub before : View
   pub after : View
@@ -47,9 +47,9 @@ KeepsOthers number v w = (other : ℕ) → other ≢ number → cursor_in other 
 abbrev pub IsOver : Kind → ℕ → Cursor → Type 0
 IsOver kind o walker = (container_of walker ≡ o) × (cursor_kind walker ≡ kind)
 
--- The call gave its reply so, and the caller has the cursor that it leaves, over the same container; or a step of it found
--- another pass with the lock of the container, and the caller's cursor stays. It takes no table and no memory. (C API,
--- critical sections)
+-- The call gave its reply so, and the caller has the cursor that it leaves, over the same container; or a step of it
+-- found another pass with the lock of the container, and the caller's cursor stays. It takes no table and no memory. (C
+-- API, critical sections)
 abbrev pub IsMoveOf : Kind → ℕ → Call → ℕ → Option Cursor → View → View → Step → Option Cursor → Type 0
 IsMoveOf kind o called number had v w (step.Done said stamp) left =
     (walker : Cursor) × (left ≡ Some walker) × IsOver kind o walker
@@ -60,8 +60,8 @@ IsMoveOf kind o called number had v w (step.NotYet p q) left =
 IsMoveOf kind o called number had v w (step.Moved a b) left = ⊥
 IsMoveOf kind o called number had v w step.NoMemory left = ⊥
 
--- the call `iter` on a container of a kind, and the cursor that it makes there, where there are this many pairs, items or
--- elements (Python manual, Iterator Types)
+-- the call `iter` on a container of a kind, and the cursor that it makes there, where there are this many pairs, items
+-- or elements (Python manual, Iterator Types)
 abbrev pub iter_call : Kind → ℕ → ℕ → Call
 iter_call kind.Dict o number = call.Dict o (dict.Iter number)
 iter_call kind.List o number = call.List o (list.Iter number)

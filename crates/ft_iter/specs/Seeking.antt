@@ -14,8 +14,8 @@ use Rattle.ft_keys.specs.Ways.{IsTableOf}
 
 -- ---- loads
 
--- whether the kind is that of a key that is there, an integer's or a string's; a deleted key's is another, and 0 that of
--- an entry never used
+-- whether the kind is that of a key that is there, an integer's or a string's; a deleted key's is another, and 0 that
+-- of an entry never used
 abbrev pub is_there : ℕ → Bool
 is_there kind = (kind == 1) || (kind == 2)
 
@@ -32,8 +32,8 @@ abbrev pub gone_loads : List Access → ℕ
 gone_loads [] = 0
 gone_loads (access ∷ earlier) = gone_load access + gone_loads earlier
 
--- Loads led from one state of the words to the other, and each is a step. This holds of the loads, and that of each list
--- of words that answers so.
+-- Loads led from one state of the words to the other, and each is a step. This holds of the loads, and that of each
+-- list of words that answers so.
 pub record Probed {S : Type 0} (gave : S → Access → S → Type 0) (mask : ℕ) (start end : S) (before after : ℕ)
     (few : List Access → Type 0) (fact : List ℕ → Type 0) : Type 0 where
   pub calls : List Access
@@ -71,8 +71,8 @@ IsFirstThere mask words from fill (Some place) =
 IsFirstThere mask words from fill None =
     (other : ℕ) → from ≤ other → other < fill → is_there (entry_word mask words other 2) ≡ false
 
--- of the live ones among these used entries, the one at the place is the first whose serial is greater than the last one
--- given, as serials rise; or none is (profile)
+-- of the live ones among these used entries, the one at the place is the first whose serial is greater than the last
+-- one given, as serials rise; or none is (profile)
 abbrev pub FindsNext : List UsedEntry → Option ℕ → Option ℕ → Type 0
 FindsNext used last (Some place) =
     (place < length used)
@@ -97,8 +97,8 @@ SaysPair mask words place result =
 abbrev pub used_of : Pair → UsedEntry
 used_of pair = record { key = pair.key; serial = pair.serial; stored = Some pair.value }
 
--- of the live ones among the used entries of a table, this is the first whose serial is greater than the last one given;
--- or none is (profile)
+-- of the live ones among the used entries of a table, this is the first whose serial is greater than the last one
+-- given; or none is (profile)
 abbrev pub GivesPair : ℕ → List ℕ → ℕ → Option ℕ → Option Pair → Type 0
 GivesPair mask words fill last given =
     (way : Way) (texts : List ℕ) (used : List UsedEntry) → IsTableOf way texts mask used words → length used ≡ fill

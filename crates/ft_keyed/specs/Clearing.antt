@@ -22,8 +22,8 @@ use Rattle.ft_section.specs.Locking.{OnlyLocked, FoundOwner}
 use Rattle.ft_section.specs.Takings.{IsOf}
 use Rattle.ft_growth.specs.Adding.{GaveUp, UnderLocks}
 
--- what a dict or a set has once it is cleared (Python manual, Mapping Types, Set Types): nothing, and its next serial stays
--- (profile)
+-- what a dict or a set has once it is cleared (Python manual, Mapping Types, Set Types): nothing, and its next serial
+-- stays (profile)
 abbrev pub cleared : Content → Content
 cleared (content.Dict dict) = content.Dict (dict_clear dict)
 cleared (content.Set set) = content.Set (set_clear set)
@@ -38,8 +38,8 @@ pub record IsRootOf (k : Shape) (o : ℕ) (old : Option Table) (v : View) : Type
   pub table_in : (t : Table) → old ≡ Some t → IsTableIn k t
   pub root : root_in (held o v) ≡ root_for old
 
--- The clear was made under the lock, after loads, as one whole write that left its container no table; the table that it had
--- is retired. (Python manual, Mapping Types, Set Types)
+-- The clear was made under the lock, after loads, as one whole write that left its container no table; the table that
+-- it had is retired. (Python manual, Mapping Types, Set Types)
 abbrev pub IsCleared : Call → Stamp → View → View → Type 0
 IsCleared called stamp v w =
     (stamp.wrote ≡ true) × ((u : View) × OnlyLoaded v u × GaveUp called reply.Done stamp.number u w)

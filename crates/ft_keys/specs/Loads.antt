@@ -1,4 +1,5 @@
--- What a search loaded and what it was answered, slot by slot. No list of words is spoken of, as the loads may be of many moments. Calls stand newest first.
+-- What a search loaded and what it was answered, slot by slot. No list of words is spoken of, as the loads may be of
+-- many moments. Calls stand newest first.
 use Rattle.std.specs.Prelude.{◌≡◌, ◌≢◌, ◌⊎◌, ℕ, suc, ◌+◌, ◌<◌, List, [], ◌∷◌, ◌++◌, Option, Some, None}
 use Rattle.ft_model.specs.declared.data.Key.{Key}
 use Rattle.ft_layout.specs.Words.{key_kind, gone_kind, key_payload}
@@ -15,7 +16,8 @@ use Rattle.ft_keys.specs.Accesses.{Runs, index_loads}
 abbrev pub entry_loads : ℕ → ℕ → ℕ → ℕ → List Access
 entry_loads slot place kind payload = Entry place 3 payload ∷ (Entry place 2 kind ∷ (Index slot (suc place) ∷ []))
 
--- By these loads the slot was used, and not for the key: its index word names no entry of the table, or one of another kind, or one with another payload.
+-- By these loads the slot was used, and not for the key: its index word names no entry of the table, or one of another
+-- kind, or one with another payload.
 abbrev pub PassesSlot : ℕ → Key → ℕ → List Access → Type 0
 PassesSlot mask key slot loads =
     ((word : ℕ) × (dict_room mask < word) × (loads ≡ Index slot word ∷ []))
@@ -66,7 +68,8 @@ abbrev pub TriesOne : ℕ → Key → List ℕ → List ℕ → Option Found →
 TriesOne mask key first left (Some found) loads = (first ≡ unpassed found left) × EndsWith mask key left found loads
 TriesOne mask key first left None loads = (slot : ℕ) × (first ≡ slot ∷ left) × PassesSlot mask key slot loads
 
--- All that a search loaded that had the first slots to try, and has left these: it passed the slots before the one where it ended, each by its own loads.
+-- All that a search loaded that had the first slots to try, and has left these: it passed the slots before the one
+-- where it ended, each by its own loads.
 pub record Loads (mask : ℕ) (key : Key) (first left : List ℕ) (found : Found) (calls : List Access) : Type 0 where
   pub passed : List ℕ
   pub split : first ≡ passed ++ unpassed found left

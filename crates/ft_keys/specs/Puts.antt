@@ -24,7 +24,8 @@ abbrev pub PutBelow : ℕ → ℕ → List Access → Type 0
 PutBelow mask limit [] = Unit {0}
 PutBelow mask limit (access ∷ earlier) = PutsBelow mask limit access × PutBelow mask limit earlier
 
--- On these words the put is one after which a search still finds what it found: an index word where there is none, to an entry that is there by then; a word of an entry only before the entry has a kind.
+-- On these words the put is one after which a search still finds what it found: an index word where there is none, to
+-- an entry that is there by then; a word of an entry only before the entry has a kind.
 abbrev pub IsInOrder : ℕ → List ℕ → Access → Type 0
 IsInOrder mask words (PutIndex slot value) =
     (index_word words slot ≡ 0) × (place : ℕ) × (value ≡ place + 1) × (entry_word mask words place 2 ≢ 0)

@@ -36,7 +36,8 @@ pub record Passes (mask : ℕ) (words : List ℕ) (key : Key) (slot : ℕ) : Typ
   pub was_used : index_word words slot ≢ 0
   pub other : ¬ NamesKey mask words (index_word words slot) key
 
--- On these words a search that had the first slots to try, and has left these, ended so. It passed the slots before the one where it ended.
+-- On these words a search that had the first slots to try, and has left these, ended so. It passed the slots before the
+-- one where it ended.
 abbrev pub EndsAt : ℕ → List ℕ → Key → List ℕ → List ℕ → Found → Type 0
 EndsAt mask words key first left (At slot place) =
     (passed : List ℕ) × (first ≡ passed ++ slot ∷ left) × All (Passes mask words key) passed
@@ -49,7 +50,8 @@ EndsAt mask words key first left (Free slot) =
     × (index_word words slot ≡ 0)
 EndsAt mask words key first left Spent = (left ≡ []) × All (Passes mask words key) first
 
--- In a table with these used entries the key is at the place, or was there and was deleted, or is nowhere. No search is spent.
+-- In a table with these used entries the key is at the place, or was there and was deleted, or is nowhere. No search is
+-- spent.
 abbrev pub Finds : List UsedEntry → Key → Found → Type 0
 Finds used key (At slot place) =
     (place < length used)
@@ -62,13 +64,16 @@ Finds used key (Was slot place) =
 Finds used key (Free slot) = All (λ entry. entry.key ≢ key) (filter is_live used)
 Finds used key Spent = ⊥
 
--- A search on these words, which had the first slots to try and has left these: it ended rightly, and if the words are a table's and the slots were all those of the key's hash, it found the key exactly where it is.
+-- A search on these words, which had the first slots to try and has left these: it ended rightly, and if the words are
+-- a table's and the slots were all those of the key's hash, it found the key exactly where it is.
 pub record Searched (mask : ℕ) (words : List ℕ) (key : Key) (first left : List ℕ) (found : Found) : Type 0 where
   pub ends : EndsAt mask words key first left found
   pub finds : (way : Way) (texts : List ℕ) (used : List UsedEntry) → IsTableOf way texts mask used words
       → hash_of texts key < 2 ^ 64 → first ≡ walk_slots way (hash_of texts key) mask → Finds used key found
 
--- Calls led from one state of the words to the other, and none of them put a word. They loaded the index words of the first slots in order, have left these, and are counted. Each list of words that answers so is one of which the fact is true.
+-- Calls led from one state of the words to the other, and none of them put a word. They loaded the index words of the
+-- first slots in order, have left these, and are counted. Each list of words that answers so is one of which the fact
+-- is true.
 pub record Shows {S : Type 0} (gave : S → Access → S → Type 0) (mask : ℕ) (first left : List ℕ) (start end : S)
     (before after : ℕ) (fact : List ℕ → Type 0) : Type 0 where
   pub calls : List Access

@@ -21,7 +21,8 @@ abbrev pub IsRoot : ℕ → Option ℕ → Type 0
 IsRoot root None = root ≡ 0
 IsRoot root (Some class) = (number : ℕ) × IsRootOf root class number
 
--- A block is seen as the list of its words 2 to 7, without the lock and the version. This is one of them, by its number.
+-- A block is seen as the list of its words 2 to 7, without the lock and the version. This is one of them, by its
+-- number.
 abbrev pub block_word : List ℕ → ℕ → ℕ
 block_word block word = slice_index block (word - 2)
 

@@ -1,6 +1,6 @@
 -- What the words of a table say: which entries of a dict or set were used, in which order, and where their keys are
--- found; or which items a list has. (profile; that a deletion leaves a mark that searches pass, and that a search ends at
--- a slot never used: CPython's dictobject.c and setobject.c, their comments on probing)
+-- found; or which items a list has. (profile; that a deletion leaves a mark that searches pass, and that a search ends
+-- at a slot never used: CPython's dictobject.c and setobject.c, their comments on probing)
 use Rattle.std.specs.Prelude.{◌≡◌, ◌≢◌, ℕ, ◌+◌, ◌*◌, ◌/◌, ◌<◌, ◌≤◌, Bool, List, length, filter, AllPairs, Option, Some, None, is_some, slice_index, slice_index_or}
 use Rattle.ft_model.specs.declared.data.Key.{Key}
 use Rattle.ft_model.specs.declared.data.Key.TheVariants as key

@@ -32,8 +32,8 @@ use Rattle.ft_bank.specs.Whole.{Wrote}
 use Rattle.ft_bank.specs.Writes.{MayHave}
 use Rattle.ft_section.specs.declared.answers.Stamp.{Stamp}
 
--- The pass may write the list o: it has its lock, and its words stand for what the pass knows of it; no version is odd there,
--- the pass has lowered no count of a class that it hasn't raised again, and it has a call left. (profile)
+-- The pass may write the list o: it has its lock, and its words stand for what the pass knows of it; no version is odd
+-- there, the pass has lowered no count of a class that it hasn't raised again, and it has a call left. (profile)
 pub record MayWriteList (k : Shape) (o : ℕ) (v : View) : Type 0 where
   pub container : o < containers_in k
   pub kind : kind_in k.kinds o ≡ kind.List
@@ -48,9 +48,9 @@ pub record HasTable (k : Shape) (o : ℕ) (table : Table) (v : View) : Type 0 wh
   pub table_in : IsTableIn k table
   pub root : root_in (held o v) ≡ suc (name_of table)
 
--- A call is a write of the list o: the plain containers reply so to it, where the list has these values, and it has `news`
--- then, whatever else the bank has that agrees with what the pass knows; the pass has the locks of the containers that it
--- names, and no container passes its greatest length. (Python manual, Mutable Sequence Types)
+-- A call is a write of the list o: the plain containers reply so to it, where the list has these values, and it has
+-- `news` then, whatever else the bank has that agrees with what the pass knows; the pass has the locks of the
+-- containers that it names, and no container passes its greatest length. (Python manual, Mutable Sequence Types)
 pub record IsListWrite (o : ℕ) (lc : ListCall) (said : Reply) (values news : List Value) (v : View) : Type 0 where
   pub changing : is_changing_list lc ≡ true
   pub raises : is_raised said ≡ false
@@ -76,9 +76,10 @@ pub record Grows (o : ℕ) (lc : ListCall) (values news : List Value) (class : �
   pub table : (stored : StoredWorld) → MayHave v stored
       → table_at (after_stored stored (call.List o lc)).tables o ≡ record { class = Some class; fill = 0 }
 
--- A call adds to the list o: where the list has these values, the plain containers reply that it is done, and the list has
--- `news` then, whatever else the bank has that agrees with what the pass knows; the pass has the locks of the containers
--- that it names, and no other one is longer then than the largest table holds. (Python manual, Mutable Sequence Types)
+-- A call adds to the list o: where the list has these values, the plain containers reply that it is done, and the list
+-- has `news` then, whatever else the bank has that agrees with what the pass knows; the pass has the locks of the
+-- containers that it names, and no other one is longer then than the largest table holds. (Python manual, Mutable
+-- Sequence Types)
 pub record Adds (o : ℕ) (lc : ListCall) (values news : List Value) (v : View) : Type 0 where
   pub changing : is_changing_list lc ≡ true
   pub grows : list_change lc ≡ change.Grows
@@ -99,8 +100,8 @@ pub record Raises (o : ℕ) (lc : ListCall) (said : Reply) (values : List Value)
   pub caps : (world : List Content) → would_pass world (call.List o lc) ≡ false
   pub answered : (world : List Content) → answer_list world no_hands o values lc ≡ shows world no_hands said
 
--- A call under the lock was made, with this reply and this stamp: as one whole write, or as an entry that isn't a write,
--- at a load of the counter. (profile)
+-- A call under the lock was made, with this reply and this stamp: as one whole write, or as an entry that isn't a
+-- write, at a load of the counter. (profile)
 abbrev pub Made : Call → Reply → Stamp → View → View → Type 0
 Made called said stamp v w =
     ((stamp.wrote ≡ true) × Wrote called said stamp.number v w)

@@ -28,16 +28,16 @@ HasMoved w = (w.opened % 2 ≢ 0) ⊎ (w.closed ≢ w.opened)
 abbrev pub WasStill : Window → Type 0
 WasStill w = (w.closed ≡ w.opened) × (w.opened % 2 ≡ 0)
 
--- the pass loaded the version, words of the list, the counter, and the version again; and this is so of the items of each
--- list whose words answer so
+-- the pass loaded the version, words of the list, the counter, and the version again; and this is so of the items of
+-- each list whose words answer so
 abbrev pub SawItems : Shape → ℕ → (List Value → Type 0) → Window → Pass → Pass → Type 0
 SawItems k o holds w p q =
     (part : List Act) × AreLooks part
     × DidAll (Version o w.closed ∷ (ReadCounter w.number ∷ (part ++ Version o w.opened ∷ []))) p q
     × ((x : Picture) → Agrees k o part x → IsOfItems k holds x)
 
--- The pass loaded the version of each of two lists, words of both, the counter, and both versions again; and this is so of
--- the items of any two lists whose words answer so.
+-- The pass loaded the version of each of two lists, words of both, the counter, and both versions again; and this is so
+-- of the items of any two lists whose words answer so.
 abbrev pub SawBoth : Shape → ℕ → ℕ → (List Value → List Value → Type 0) → Window → Window → Pass → Pass → Type 0
 SawBoth k o m holds w u p q =
     (part : List Act) × AreLooks part
@@ -51,9 +51,9 @@ LoadedSome k o v w =
     (newer part older : List Act) × (w.log ≡ newer ++ (part ++ (older ++ v.log)))
     × ((x : Picture) → Agrees k o part x → IsOfItems k (λ items. 0 < length items) x)
 
--- What a call answers that copies a list between two loads of its version. It gave a reply, which is the one that its entry
--- has, with a stamp that it loaded; or it was contended; or there was no memory for the items, of which it loaded some, and
--- the pass only loaded words.
+-- What a call answers that copies a list between two loads of its version. It gave a reply, which is the one that its
+-- entry has, with a stamp that it loaded; or it was contended; or there was no memory for the items, of which it loaded
+-- some, and the pass only loaded words.
 abbrev pub IsCopyGlanceOf : Shape → ℕ → Call → View → View → Look → Type 0
 IsCopyGlanceOf k o called v w (look.Done said stamp) =
     Answered called said stamp.number v w × (stamp.wrote ≡ false)

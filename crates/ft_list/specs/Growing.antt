@@ -20,21 +20,22 @@ use Rattle.ft_section.specs.Takings.{IsOf}
 use Rattle.ft_growth.specs.Adding.{GaveUp, IsAdded, UnderLocks}
 use Rattle.ft_list.specs.Items.{items_of}
 
--- What a call that adds n items to the list o comes to under the lock, which the plain list replies is done: after loads, by
--- the class of the table that the list takes for its items and n more, if it takes one, and by whether these are more than
--- the largest table holds.
+-- What a call that adds n items to the list o comes to under the lock, which the plain list replies is done: after
+-- loads, by the class of the table that the list takes for its items and n more, if it takes one, and by whether these
+-- are more than the largest table holds.
 abbrev pub AddsItems : Shape → ℕ → Call → ℕ → View → View → Added → Type 0
 AddsItems k o called n v w what =
     (u : View) × OnlyLoaded v u
     × IsAdded k (list_takes (known o v).table (length (items_of o v) + n))
     (nat_lt most_items (length (items_of o v) + n)) called reply.Done u w what
 
--- What `o.extend(m)` comes to under the locks of both: it adds as many items as m has. (Python manual, Mutable Sequence Types)
+-- What `o.extend(m)` comes to under the locks of both: it adds as many items as m has. (Python manual, Mutable Sequence
+-- Types)
 abbrev pub ExtendsBy : Shape → ℕ → ℕ → View → View → Added → Type 0
 ExtendsBy k o m v w what = AddsItems k o (call.List o (list.Extend m)) (length (items_of m v)) v w what
 
--- A clear of the list o was made under the lock, after loads, as one whole write that left it no table; the table that it had
--- is retired. (Python manual, Mutable Sequence Types)
+-- A clear of the list o was made under the lock, after loads, as one whole write that left it no table; the table that
+-- it had is retired. (Python manual, Mutable Sequence Types)
 abbrev pub IsCleared : ℕ → Stamp → View → View → Type 0
 IsCleared o stamp v w =
     (stamp.wrote ≡ true)

@@ -34,8 +34,8 @@ abbrev pub item_named : List Value → ℤ → Option Value
 item_named values index =
     option_map (λ place. slice_index_or values place value.Nothing) (index_in (length values) index)
 
--- The pass only loaded words, and this is so of all words of the container o that answer so. What the pass knows of each
--- container whose lock it has answers so. (profile)
+-- The pass only loaded words, and this is so of all words of the container o that answer so. What the pass knows of
+-- each container whose lock it has answers so. (profile)
 abbrev pub Reads : Shape → ℕ → (Picture → Type 0) → Pass → Pass → Type 0
 Reads k o shows p q =
     (part : List Act) × AreLooks part × DidAll part p q × ((x : Picture) → Agrees k o part x → shows x)
@@ -59,8 +59,8 @@ IsItemNamed k index found x =
     (kept : Kept) → kind_of kept.content ≡ kind.List → Stands k.texts x kept
     → found ≡ item_named (list_of kept.content) index
 
--- Between two loads of the version of the list that gave the same even number, the counter was loaded, and words that show
--- which item the index names.
+-- Between two loads of the version of the list that gave the same even number, the counter was loaded, and words that
+-- show which item the index names.
 pub record ShowsNamed (k : Shape) (o : ℕ) (index : ℤ) (found : Option Value) (n : ℕ) (part : List Act) : Type 0 where
   pub mid : List Act
   pub between : Between part o mid

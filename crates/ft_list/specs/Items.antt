@@ -39,8 +39,8 @@ abbrev pub with_word : Picture → ℕ → ℕ → ℕ → Picture
 with_word words place word value =
     record { block = words.block; table = slice_set words.table (item_at place word) value }
 
--- The item at this place stores this: its words say so, and its version is odd unless they said so before. No other word
--- of the list is changed. (profile)
+-- The item at this place stores this: its words say so, and its version is odd unless they said so before. No other
+-- word of the list is changed. (profile)
 pub record PutsItem (place : ℕ) (stored : Stored) (old new : Picture) : Type 0 where
   pub block : new.block ≡ old.block
   pub size : length new.table ≡ length old.table
@@ -49,8 +49,8 @@ pub record PutsItem (place : ℕ) (stored : Stored) (old new : Picture) : Type 0
   pub payload : item_of new.table place 2 ≡ stored_payload stored
   pub version : (item_of new.table place 0 % 2 ≡ 1) ⊎ (new.table ≡ old.table)
 
--- The words of a list's table while a pass writes it: they say at each index what it has now, and where the version of an
--- item is even the list had the same there before. Each odd version lies in this range of places. (profile)
+-- The words of a list's table while a pass writes it: they say at each index what it has now, and where the version of
+-- an item is even the list had the same there before. Each odd version lies in this range of places. (profile)
 pub record IsChanging (class : ℕ) (before now : List Value) (first past : ℕ) (words : List ℕ) : Type 0 where
   pub table : IsListTable (class_mask class) now (0 ∷ 0 ∷ words)
   pub shut : (p : ℕ) → p < slots class → item_of words p 0 % 2 ≡ 0 → words_at now p ≡ words_at before p
@@ -78,8 +78,8 @@ pub record IsPutting
   pub shut : (p : ℕ) → p < slots class → item_of words p 0 % 2 ≡ 0 → words_for (now p) ≡ words_at before p
   pub odd : (p : ℕ) → p < slots class → item_of words p 0 % 2 ≡ 1 → (first ≤ p) × (p < past)
 
--- The items are put in order, and those before this place were: it stores what `news` has before it, and what the list had
--- from it on. (profile)
+-- The items are put in order, and those before this place were: it stores what `news` has before it, and what the list
+-- had from it on. (profile)
 pub record IsMoving (class : ℕ) (values news : List Value) (first past at : ℕ) (words : List ℕ) : Type 0 where
   pub now : ℕ → Stored
   pub putting : IsPutting class values first past now words
@@ -96,8 +96,9 @@ pub record ClosesItem (place : ℕ) (old new : Picture) : Type 0 where
 abbrev pub items_of : ℕ → View → List Value
 items_of o v = list_of (known o v).content
 
--- A pass that has put the words of the list o may commit this call, with this reply, and then make versions even: the call
--- changes o, and leaves it with these items and a table of this class, which the words say already but for versions.
+-- A pass that has put the words of the list o may commit this call, with this reply, and then make versions even: the
+-- call changes o, and leaves it with these items and a table of this class, which the words say already but for
+-- versions.
 pub record MayFinish (o : ℕ) (table : Table) (called : Call) (said : Reply) (first past : ℕ) (v : View) : Type 0 where
   pub may : MayCommit v called said
   pub changed : changes called ≡ o

@@ -46,8 +46,8 @@ pub record ShowsItem (o index kind payload n : ℕ) (log : List Act) : Type 0 wh
   pub hit : ItemHit log o t index n
   pub read : IsItemRead t index kind payload hit.mid
 
--- The log shows that the list had no item at this index when the counter was n: its root named a table that has none, or
--- no table.
+-- The log shows that the list had no item at this index when the counter was n: its root named a table that has none,
+-- or no table.
 abbrev pub ShowsPast : ℕ → ℕ → ℕ → List Act → Type 0
 ShowsPast o index n log = ((t : ℕ) × (slots (class_of t) ≤ index) × ItemPast log o t n) ⊎ Bare log o n
 
@@ -59,14 +59,15 @@ pub record StopsAtItem (t index a b : ℕ) (part : List Act) : Type 0 where
   pub is : part ≡ newer ++ ReadTable t (item_at index 0) b ∷ (mid ++ ReadTable t (item_at index 0) a ∷ rest)
   pub moved : (a % 2 ≢ 0) ⊎ (b ≢ a)
 
--- Two loads of one version gave a and then b, and a is odd or they differ: the version of this very item in a table that the
--- root named, or that of the list where its root was read 0.
+-- Two loads of one version gave a and then b, and a is odd or they differ: the version of this very item in a table
+-- that the root named, or that of the list where its root was read 0.
 abbrev pub Stops : ℕ → ℕ → ℕ → ℕ → List Act → Type 0
 Stops o index a b part =
     ((t : ℕ) × Among (ReadRoot o (suc t)) part × StopsAtItem t index a b part) ⊎ StopsAtContainer o a b part
 
--- A look-up came to this, by its own loads (`part`) and those before (`log` has both). It is contended by the version of
--- that very item, in a table that its root was read to name; or by the version of the list, whose root was read 0 between.
+-- A look-up came to this, by its own loads (`part`) and those before (`log` has both). It is contended by the version
+-- of that very item, in a table that its root was read to name; or by the version of the list, whose root was read 0
+-- between.
 abbrev pub ShowsFound : Shape → ℕ → ℕ → List Act → List Act → Found → Type 0
 ShowsFound k o index part log (Item kind payload n) = ShowsItem o index kind payload n log × Among (ReadCounter n) part
 ShowsFound k o index part log (Past n) = ShowsPast o index n log × Among (ReadCounter n) part
@@ -95,8 +96,8 @@ EndsRound k o index root p q (Ended found) =
 EndsRound k o index root p q (Moved r) =
     (part : List Act) × Inner part × DidAll (ReadRoot o r ∷ part) p q × (r ≢ root) × IsFresh k r (part ++ (view p).log)
 
--- The pass loaded words of the bank and did nothing else, and the version of this very item stopped the look-up; or that of
--- the list, where its root was read 0.
+-- The pass loaded words of the bank and did nothing else, and the version of this very item stopped the look-up; or
+-- that of the list, where its root was read 0.
 pub record IsContended (o index a b : ℕ) (v w : View) : Type 0 where
   pub loaded : OnlyLoaded v w
   pub part : List Act
@@ -111,8 +112,8 @@ IsFoundAt o index v w (AtFound found n) =
     × ((part : List Act) × (w.log ≡ part ++ v.log) × Among (ReadCounter n) part)
 IsFoundAt o index v w (AtContended a b) = IsContended o index a b v w
 
--- What `l[i]` answers without the lock at an index that isn't negative. It gave a reply, which is the one that its entry
--- has, with a stamp that it loaded; or it was contended. It takes no memory.
+-- What `l[i]` answers without the lock at an index that isn't negative. It gave a reply, which is the one that its
+-- entry has, with a stamp that it loaded; or it was contended. It takes no memory.
 abbrev pub IsGetOf : ℕ → ℕ → View → View → Look → Type 0
 IsGetOf o index v w (look.Done said stamp) =
     Answered (call.List o (list.Get (pos index))) said stamp.number v w × (stamp.wrote ≡ false)

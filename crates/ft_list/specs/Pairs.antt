@@ -22,8 +22,8 @@ use Rattle.ft_section.specs.declared.answers.Look.TheVariants as look
 use Rattle.ft_search.specs.Lengths.{IsStopped}
 use Rattle.ft_search.specs.Looks.{AreLooks}
 
--- The pass only loaded words, and this is so of all words of the containers o and m that answer so. What the pass knows of
--- each container whose lock it has answers so. (profile)
+-- The pass only loaded words, and this is so of all words of the containers o and m that answer so. What the pass knows
+-- of each container whose lock it has answers so. (profile)
 abbrev pub ReadsBoth : Shape → ℕ → ℕ → (Picture → Picture → Type 0) → Pass → Pass → Type 0
 ReadsBoth k o m shows p q =
     (part : List Act) × AreLooks part × DidAll part p q
@@ -36,8 +36,8 @@ AreOfItems k holds x y =
     (one other : Kept) → kind_of one.content ≡ kind.List → kind_of other.content ≡ kind.List → Stands k.texts x one
     → Stands k.texts y other → holds (list_of one.content) (list_of other.content)
 
--- What a call answers that reads two containers, each between two loads of its version. It gave a reply, which is the one
--- that its entry has, with a stamp that it loaded; or the version of one of the two stopped it. It takes no memory.
+-- What a call answers that reads two containers, each between two loads of its version. It gave a reply, which is the
+-- one that its entry has, with a stamp that it loaded; or the version of one of the two stopped it. It takes no memory.
 abbrev pub IsGlanceOfBoth : ℕ → ℕ → Call → View → View → Look → Type 0
 IsGlanceOfBoth o m called v w (look.Done said stamp) =
     Answered called said stamp.number v w × (stamp.wrote ≡ false)

@@ -245,7 +245,8 @@ walked_length world (cursor.Set container walk size last) = length (set_at world
 
 -- ---- all calls
 
--- what the plain containers of one thread reply to a call, and what it leaves; the calls of sections and `quiesce` ask no container, and leave all as it is
+-- what the plain containers of one thread reply to a call, and what it leaves; the calls of sections and `quiesce` ask
+-- no container, and leave all as it is
 abbrev pub answer : List Content → List (Option Cursor) → Call → Answer
 answer world hands (call.Dict container dict_call) =
     answer_dict world hands container (dict_at world container) dict_call

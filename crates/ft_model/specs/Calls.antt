@@ -1,4 +1,5 @@
--- What is known of a call before it is made: whether its kind changes a container, which containers it names, how many locks it takes, and what it does to tables.
+-- What is known of a call before it is made: whether its kind changes a container, which containers it names, how many
+-- locks it takes, and what it does to tables.
 use Rattle.std.specs.Prelude.{ℕ, Bool, true, false, List, [], ◌∷◌, length, Option, Some, None, ◌==◌, if◌then◌else◌}
 use Rattle.ft_model.specs.declared.call.Call.{Call}
 use Rattle.ft_model.specs.declared.call.Call.TheVariants as call
@@ -237,7 +238,8 @@ moved_cursor call.Quiesce = None
 
 -- ---- locks
 
--- whether a call of a dict takes the locks of what it names from the start; the others are tried without a lock first (PEP 703, Optimistically avoiding locking)
+-- whether a call of a dict takes the locks of what it names from the start; the others are tried without a lock first
+-- (PEP 703, Optimistically avoiding locking)
 abbrev pub is_locked_dict : DictCall → Bool
 is_locked_dict (dict.Get key) = false
 is_locked_dict (dict.GetOr key default) = false
@@ -296,7 +298,8 @@ is_locked_set (set.Disjoint other) = true
 is_locked_set set.Clear = true
 is_locked_set (set.Iter cursor) = true
 
--- how many locks a call takes from the start: those of the containers that it names, for a `next` that of its cursor's container (profile)
+-- how many locks a call takes from the start: those of the containers that it names, for a `next` that of its cursor's
+-- container (profile)
 abbrev pub locks_of : Call → ℕ
 locks_of (call.Dict container dict_call) =
     if is_locked_dict dict_call then length (containers_of (call.Dict container dict_call)) else 0

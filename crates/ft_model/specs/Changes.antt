@@ -32,7 +32,8 @@ changed_by call.Quiesce = None
 
 -- ---- tables in order
 
--- without a table nothing is stored; a table is of a class, and its used entries are no fewer than what is stored and no more than it has room for (profile)
+-- without a table nothing is stored; a table is of a class, and its used entries are no fewer than what is stored and
+-- no more than it has room for (profile)
 abbrev pub HasTableFor : ℕ → Option ℕ → ℕ → (ℕ → ℕ) → Type 0
 HasTableFor count None fill room = (count ≡ 0) × (fill ≡ 0)
 HasTableFor count (Some class) fill room = IsClass class × (count ≤ fill) × (fill ≤ room class)

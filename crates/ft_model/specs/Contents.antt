@@ -1,5 +1,6 @@
--- What containers have. A dict has its pairs in insertion order, each with the serial that it drew when its key was added, and the next serial; a set has its elements likewise.
--- (Python manual, Mapping Types: dictionaries preserve insertion order, and updating a key does not affect the order. The order of a set, and serials: profile)
+-- What containers have. A dict has its pairs in insertion order, each with the serial that it drew when its key was
+-- added, and the next serial; a set has its elements likewise. (Python manual, Mapping Types: dictionaries preserve
+-- insertion order, and updating a key does not affect the order. The order of a set, and serials: profile)
 use Rattle.std.specs.Prelude.{◌≡◌, ◌≢◌, ℕ, Bool, not, ◌&&◌, ◌+◌, ◌<◌, List, [], ◌∷◌, ◌++◌, map, length, filter, fold, Option, option_map, All, AllPairs, if◌then◌else◌}
 use Rattle.std.specs.List.{find, list_any, list_all}
 use Rattle.ft_model.specs.declared.data.Key.{Key}
@@ -41,7 +42,8 @@ has_key pairs key = list_any (is_at key) pairs
 abbrev pub with_value : List DictPair → Key → Value → List DictPair
 with_value pairs key value = map (λ pair. if is_at key pair then record pair { value = value } else pair) pairs
 
--- `d[k] = v`: a new value at a key that is there keeps the pair's place and serial; a key that isn't goes last (Python manual, Mapping Types)
+-- `d[k] = v`: a new value at a key that is there keeps the pair's place and serial; a key that isn't goes last (Python
+-- manual, Mapping Types)
 abbrev pub dict_set : DictContent → Key → Value → DictContent
 dict_set dict key value =
     if has_key dict.pairs key
@@ -51,13 +53,15 @@ dict_set dict key value =
       pairs = dict.pairs ++ record { serial = dict.next; key = key; value = value } ∷ [];
     }
 
--- a new value at a key that is there: keys and serials stand as they stood, and no serial is drawn (Python manual, Mapping Types: updating a key does not affect the order)
+-- a new value at a key that is there: keys and serials stand as they stood, and no serial is drawn (Python manual,
+-- Mapping Types: updating a key does not affect the order)
 pub record KeepsPlaces (old new : DictContent) : Type 0 where
   pub keys : map (λ pair. pair.key) new.pairs ≡ map (λ pair. pair.key) old.pairs
   pub serials : map (λ pair. pair.serial) new.pairs ≡ map (λ pair. pair.serial) old.pairs
   pub next : new.next ≡ old.next
 
--- a key that was not there goes last with the serial that it draws (Python manual, Mapping Types: keys added after deletion are inserted at the end)
+-- a key that was not there goes last with the serial that it draws (Python manual, Mapping Types: keys added after
+-- deletion are inserted at the end)
 pub record GoesLast (old new : DictContent) (key : Key) (value : Value) : Type 0 where
   pub pairs : new.pairs ≡ old.pairs ++ record { serial = old.next; key = key; value = value } ∷ []
   pub next : new.next ≡ old.next + 1
@@ -156,7 +160,8 @@ set_and set others = record { next = set.next; elements = those_in others set.el
 abbrev pub set_sub : SetContent → List Element → SetContent
 set_sub set others = record { next = set.next; elements = those_not_in others set.elements }
 
--- `s ^= t` (Python manual, Set Types): those that were in both go, and those of the other that weren't there go last, in its order (profile)
+-- `s ^= t` (Python manual, Set Types): those that were in both go, and those of the other that weren't there go last,
+-- in its order (profile)
 abbrev pub set_xor : SetContent → List Element → SetContent
 set_xor set others =
     record {

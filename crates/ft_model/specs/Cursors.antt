@@ -1,4 +1,5 @@
--- Cursors: what `iter` makes, and what one `next` answers and leaves. (Python manual, Iterator Types. Serials, and what changes of the container mean: profile)
+-- Cursors: what `iter` makes, and what one `next` answers and leaves. (Python manual, Iterator Types. Serials, and what
+-- changes of the container mean: profile)
 use Rattle.std.specs.Prelude.{◌≡◌, IsSomeAnd, ℕ, Bool, true, false, ◌+◌, ◌-◌, ◌==◌, nat_lt, List, length, slice_get, Option, Some, None, if◌then◌else◌}
 use Rattle.std.specs.List.{find}
 use Rattle.ft_model.specs.declared.data.Value.{Value}
@@ -123,7 +124,8 @@ is_ended (cursor.Set container walk.Ended size last) = true
 is_ended (cursor.List container index true) = true
 is_ended _ = false
 
--- the second cursor gave one more than the first: a serial greater than all that the first gave, or the next index (profile)
+-- the second cursor gave one more than the first: a serial greater than all that the first gave, or the next index
+-- (profile)
 abbrev pub GoesOn : Cursor → Cursor → Type 0
 GoesOn (cursor.Dict container walk size expected last) (cursor.Dict _ _ _ _ new) =
     IsSomeAnd new (λ serial. is_after last serial ≡ true)

@@ -50,7 +50,8 @@ calls_of script thread = option_map_or (λ found. found.calls) (slice_get script
 abbrev pub cursors_of : ScriptParts → ℕ → ℕ
 cursors_of script thread = option_map_or (λ found. length found.cursors) (slice_get script.threads thread) 0
 
--- the hands that an entry leaves to its thread, where `calls` are all writes in their order; a MemoryError leaves them as they were (profile)
+-- the hands that an entry leaves to its thread, where `calls` are all writes in their order; a MemoryError leaves them
+-- as they were (profile)
 abbrev pub after_stamped : List Kind → List Call → List (Option Cursor) → Entry → List (Option Cursor)
 after_stamped kinds calls hands entry =
     if is_memory entry.reply then hands else (answer (world_by kinds (take entry.stamp calls)) hands entry.call).hands
@@ -75,7 +76,8 @@ hands_at script entries thread place =
 abbrev pub IsPlainReply : Reply → Reply → Type 0
 IsPlainReply said plain = (is_memory said ≡ true) ⊎ (said ≡ plain)
 
--- what a call may reply at a place: a section is entered, and ends kept or suspended (C API, critical sections); a container replies as the plain one does there, or raises a MemoryError
+-- what a call may reply at a place: a section is entered, and ends kept or suspended (C API, critical sections); a
+-- container replies as the plain one does there, or raises a MemoryError
 abbrev pub IsReplied : Call → Reply → Reply → Type 0
 IsReplied (call.Begin first second) said plain = said ≡ reply.Entered
 IsReplied call.End said plain = (said ≡ reply.Kept) ⊎ ((count : ℕ) × (said ≡ reply.Suspended count))
@@ -170,12 +172,14 @@ is_marked thread entry = (entry.thread == thread) && is_some entry.waited
 abbrev pub marks_between : List Entry → ℕ → ℕ → Section → ℕ
 marks_between entries thread place section = count_by (is_marked thread) (between (section.begun + 1) place entries)
 
--- `end` says kept only where no other thread wrote in between (C API, critical sections: the locks were held all the while)
+-- `end` says kept only where no other thread wrote in between (C API, critical sections: the locks were held all the
+-- while)
 abbrev pub IsKeptBy : List Entry → ℕ → ℕ → Section → Reply → Type 0
 IsKeptBy entries thread place section reply.Kept = is_disturbed entries thread place section ≡ false
 IsKeptBy entries thread place section said = Unit {0}
 
--- `end` says kept where none of its calls waited, and else how many did (C API, critical sections: a thread that would block may let its locks go; the count: profile)
+-- `end` says kept where none of its calls waited, and else how many did (C API, critical sections: a thread that would
+-- block may let its locks go; the count: profile)
 abbrev pub IsCountedAs : ℕ → Reply → Type 0
 IsCountedAs marks reply.Kept = marks ≡ 0
 IsCountedAs marks (reply.Suspended count) = (1 ≤ count) × (marks ≡ count)
@@ -203,13 +207,15 @@ IsCounted entries place entry =
 abbrev pub has_call_on : ScriptParts → ℕ → ℕ → Bool
 has_call_on script thread container = list_any (names container) (calls_of script thread)
 
--- the containers whose locks a call needs: its own, and those of the section that is innermost after it, which it enters or takes up again (C API, critical sections)
+-- the containers whose locks a call needs: its own, and those of the section that is innermost after it, which it
+-- enters or takes up again (C API, critical sections)
 abbrev pub needs_at : ScriptParts → List Entry → ℕ → Entry → List ℕ
 needs_at script entries place entry =
     containers_used (hands_at script entries entry.thread place) entry.call
     ++ innermost (after_section place entry.call (sections_at entries entry.thread place))
 
--- a mark names another thread that has a call on a container that the marked call needs: one that could have had the lock, which need not be the one that had it (profile)
+-- a mark names another thread that has a call on a container that the marked call needs: one that could have had the
+-- lock, which need not be the one that had it (profile)
 abbrev pub IsMarked : ScriptParts → List Entry → ℕ → Entry → Type 0
 IsMarked script entries place entry =
     IfSome entry.waited
@@ -236,7 +242,8 @@ pub record IsChronicle (storage : Storage) (script : ScriptParts) (entries : Lis
   pub counted : EachAt entries (IsCounted entries)
   pub earned : EachAt entries (IsEarnedAt storage script entries)
 
--- a history of the script that containers of one thread can have, each of whose MemoryErrors has its cause: a chronicle in the order of histories (profile)
+-- a history of the script that containers of one thread can have, each of whose MemoryErrors has its cause: a chronicle
+-- in the order of histories (profile)
 pub record IsLegal (storage : Storage) (script : ScriptParts) (entries : List Entry) : Type 0 where
   pub order : IsSorted history_cmp entries
   pub chronicle : IsChronicle storage script entries

@@ -22,13 +22,15 @@ pub record IsStamped (entries : List Entry) (place : ℕ) (entry : Entry) : Type
   pub stamp : entry.stamp ≡ length (writes (take place entries))
   pub wrote : entry.wrote ≡ is_write entry.call entry.reply
 
--- of two reads of one stamp that follow each other the second has no smaller thread, nor the same thread and a smaller index
+-- of two reads of one stamp that follow each other the second has no smaller thread, nor the same thread and a smaller
+-- index
 abbrev pub IsAfter : List Entry → ℕ → Entry → Type 0
 IsAfter entries place entry =
     (last : ℕ) (before : Entry) → last + 1 ≡ place → slice_get entries last ≡ Some before
     → before.wrote ≡ false → entry.wrote ≡ false → before.stamp ≡ entry.stamp → is_lt (history_cmp entry before) ≡ false
 
--- its reply is the plain container's in the world that the writes before it left, a MemoryError aside, or of its section's form
+-- its reply is the plain container's in the world that the writes before it left, a MemoryError aside, or of its
+-- section's form
 abbrev pub HasRightReply : ScriptParts → List Entry → ℕ → Entry → Type 0
 HasRightReply script entries place entry =
     IsReplied entry.call entry.reply

@@ -1,4 +1,5 @@
--- When two keys are the same, and two values: of one kind, with one payload. (Python manual, Mapping Types: keys that compare equal are one key)
+-- When two keys are the same, and two values: of one kind, with one payload. (Python manual, Mapping Types: keys that
+-- compare equal are one key)
 use Rattle.std.specs.Prelude.{Bool, true, false, nat_eq}
 use Rattle.std.specs.Ordering.{int_eq}
 use Rattle.ft_model.specs.declared.data.Key.{Key}

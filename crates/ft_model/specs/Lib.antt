@@ -4,6 +4,7 @@ pub mod Classes
 pub mod Contents
 pub mod Lists
 pub mod Cursors
+pub mod Limits
 pub mod Names
 pub mod Scripts
 pub mod Worlds

@@ -9,12 +9,14 @@ use Rattle.ft_model.specs.Keys.{is_value}
 abbrev pub ListContent : Type 0
 ListContent = List Value
 
--- an index of a list of this length: a negative one has the length added once, and one that is then outside is none (Python manual, Sequence Types, note 3)
+-- an index of a list of this length: a negative one has the length added once, and one that is then outside is none
+-- (Python manual, Sequence Types, note 3)
 abbrev pub index_in : ℕ → ℤ → Option ℕ
 index_in len (pos index) = if nat_lt index len then Some index else None
 index_in len (negsuc below) = if nat_lt below len then Some (len - suc below) else None
 
--- an end of a slice, or where to insert: a negative one has the length added once, and one that is then outside is clamped (Python manual, Sequence Types, note 4)
+-- an end of a slice, or where to insert: a negative one has the length added once, and one that is then outside is
+-- clamped (Python manual, Sequence Types, note 4)
 abbrev pub clamped_in : ℕ → ℤ → ℕ
 clamped_in len (pos index) = min index len
 clamped_in len (negsuc below) = len - suc below

@@ -2,6 +2,7 @@
 use Rattle.std.specs.Prelude.{◌≡◌, ℕ, Bool, true, false, not, ◌&&◌, ◌||◌, ◌==◌, ◌≤◌, nat_le, List, [], ◌∷◌, length}
 use Rattle.std.specs.List.{list_all}
 use Rattle.std.specs.Str.{IsUtf8}
+use Rattle.ft_model.specs.Limits.{most_string_bytes}
 
 abbrev pub is_lower : ℕ → Bool
 is_lower b = nat_le 97 b && nat_le b 122
@@ -38,4 +39,4 @@ is_text_byte b = (nat_le 32 b && not (b == 127)) || b == 9 || b == 10
 pub record IsString (text : List ℕ) : Type 0 where
   pub encoded : IsUtf8 text
   pub bytes : list_all is_text_byte text ≡ true
-  pub short : length text ≤ 255
+  pub short : length text ≤ most_string_bytes

@@ -19,6 +19,7 @@ use Rattle.ft_model.specs.declared.script.Thread.{Thread}
 use Rattle.ft_model.specs.declared.script.ScriptParts.{ScriptParts}
 use Rattle.ft_model.specs.Calls.{other_dict, other_list, other_set, cursor_of_dict, cursor_of_list, cursor_of_set}
 use Rattle.ft_model.specs.Classes.{class_count}
+use Rattle.ft_model.specs.Limits.{heap_step, most_calls, most_containers, most_cursors, most_heap, most_sections, most_strings, most_tables, most_threads, most_turns}
 use Rattle.ft_model.specs.Names.{is_container_name, is_thread_name, IsString}
 
 -- ---- strings
@@ -150,10 +151,11 @@ AreMade calls =
 
 -- ---- sections
 
--- from that many open sections on each `end` has its `begin`, no more than 16 are open at once, and all are ended (C API, critical sections; the limit: profile)
+-- from that many open sections on each `end` has its `begin`, no more are open at once than may be, and all are ended
+-- (C API, critical sections; the limit: profile)
 abbrev pub AreNested : ℕ → List Call → Type 0
 AreNested depth [] = depth ≡ 0
-AreNested depth (call.Begin first second ∷ calls) = (depth < 16) × AreNested (depth + 1) calls
+AreNested depth (call.Begin first second ∷ calls) = (depth < most_sections) × AreNested (depth + 1) calls
 AreNested depth (call.End ∷ calls) = (0 < depth) × AreNested (depth - 1) calls
 AreNested depth (call.Dict place dict_call ∷ calls) = AreNested depth calls
 AreNested depth (call.List place list_call ∷ calls) = AreNested depth calls
@@ -163,14 +165,15 @@ AreNested depth (call.Quiesce ∷ calls) = AreNested depth calls
 
 -- ---- scripts
 
--- how many tables of each class there are where a script has no line for the class: 4 of each class from 3 to 12, 1 of each class above
+-- how many tables of each class there are where a script has no line for the class: 4 of each class from 3 to 12, 1 of
+-- each class above
 abbrev pub default_tables : List ℕ
 default_tables = replicate 10 4 ++ replicate 4 1
 
 -- a thread of the script, with its cursors and calls
 pub record IsThread (script : ScriptParts) (thread : Thread) : Type 0 where
   pub name : is_thread_name thread.name ≡ true
-  pub few_cursors : length thread.cursors ≤ 256
+  pub few_cursors : length thread.cursors ≤ most_cursors
   pub cursor_names : All (λ cursor. is_container_name cursor ≡ true) thread.cursors
   pub cursors_differ : AllPairs (λ a b. a ≢ b) thread.cursors
   pub calls : All (IsCallOf script (length thread.cursors)) thread.calls
@@ -179,22 +182,22 @@ pub record IsThread (script : ScriptParts) (thread : Thread) : Type 0 where
 
 -- what every script keeps
 pub record IsScript (script : ScriptParts) : Type 0 where
-  pub few_containers : length script.containers ≤ 256
+  pub few_containers : length script.containers ≤ most_containers
   pub container_names : All (λ container. is_container_name container.name ≡ true) script.containers
   pub containers_differ : AllPairs (λ a b. a.name ≢ b.name) script.containers
-  pub few_threads : length script.threads ≤ 64
+  pub few_threads : length script.threads ≤ most_threads
   pub threads : All (IsThread script) script.threads
   pub threads_differ : AllPairs (λ a b. a.name ≢ b.name) script.threads
-  pub few_calls : sum (map (λ thread. length thread.calls) script.threads) ≤ 500000
-  pub few_strings : length script.strings ≤ 65536
+  pub few_calls : sum (map (λ thread. length thread.calls) script.threads) ≤ most_calls
+  pub few_strings : length script.strings ≤ most_strings
   pub strings : All IsString script.strings
   pub strings_differ : AllPairs (λ a b. a ≢ b) script.strings
-  -- from 1 to 1024 tables of each class
+  -- at least one table of each class
   pub classes : length script.tables ≡ class_count
-  pub tables : All (λ count. (1 ≤ count) × (count ≤ 1024)) script.tables
-  -- from 64 to 4096 places in steps of 64
-  pub least_heap : 64 ≤ script.heap
-  pub greatest_heap : script.heap ≤ 4096
-  pub heap_steps : script.heap % 64 ≡ 0
-  pub few_turns : length script.order ≤ 1000000
+  pub tables : All (λ count. (1 ≤ count) × (count ≤ most_tables)) script.tables
+  -- a number of places that is a whole number of steps
+  pub least_heap : heap_step ≤ script.heap
+  pub greatest_heap : script.heap ≤ most_heap
+  pub heap_steps : script.heap % heap_step ≡ 0
+  pub few_turns : length script.order ≤ most_turns
   pub turns : All (λ thread. thread < length script.threads) script.order

@@ -1,5 +1,6 @@
--- The tables that containers have at a place of a history, computed from the writes before it alone, and when a MemoryError is right.
--- An entry of a dict's or set's table is used once, so that `fill` counts deleted ones too. (profile)
+-- The tables that containers have at a place of a history, computed from the writes before it alone, and when a
+-- MemoryError is right. An entry of a dict's or set's table is used once, so that `fill` counts deleted ones too.
+-- (profile)
 use Rattle.std.specs.Prelude.{◌≡◌, ℕ, Bool, true, false, ◌&&◌, ◌==◌, ◌+◌, ◌-◌, ◌*◌, ◌^◌, ◌≤◌, nat_lt, List, [], ◌∷◌, map, fold, length, Option, Some, None, slice_set, slice_index_or, if◌then◌else◌}
 use Rattle.std.specs.Option.{option_map_or}
 use Rattle.std.specs.List.{count_by, list_any}
@@ -229,7 +230,8 @@ pub record IsClassEarned
   pub is_class : IsClass class
   pub all_taken : table_count tables class ≤ takes_by kinds class calls + (threads - 1)
 
--- a MemoryError of a class or over stands only on a call that can add to a container, and that raises nothing else there
+-- a MemoryError of a class or over stands only on a call that can add to a container, and that raises nothing else
+-- there
 pub record CanLackMemory (world : List Content) (call : Call) : Type 0 where
   pub adds : can_add call ≡ true
   pub raises_nothing : is_raised (answer world no_hands call).reply ≡ false

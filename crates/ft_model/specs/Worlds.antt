@@ -133,7 +133,8 @@ pub record IsNamed (world : List Content) (hands : List (Option Cursor)) (kind :
   pub both : IfSome other (λ place. IsOfKind world kind place)
   pub room : IfSome cursor (λ number. number < length hands)
 
--- the containers that a call names are declared and of its kind, and the cursor of a `next` was made; the calls of sections are none that a container answers
+-- the containers that a call names are declared and of its kind, and the cursor of a `next` was made; the calls of
+-- sections are none that a container answers
 abbrev pub IsDeclared : List Content → List (Option Cursor) → Call → Type 0
 IsDeclared world hands (call.Dict container dict_call) =
     IsNamed world hands kind.Dict container (other_dict dict_call) (cursor_of_dict dict_call)

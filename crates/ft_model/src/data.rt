@@ -1,3 +1,5 @@
+//! Keys and values: 64-bit integers, strings by their number in a script, and `None` as a value.
+
 /// A string of a script: its place in the script's list of distinct strings.
 #[derive(Clone, Copy, Debug, PartialEq, Eq, Hash)]
 pub struct Sym(pub u32);

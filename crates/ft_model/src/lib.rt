@@ -16,6 +16,7 @@ mod dict_calls;
 mod entry;
 mod indexed;
 mod laws;
+mod limits;
 mod list;
 mod list_calls;
 mod reply;
@@ -44,6 +45,10 @@ pub use entry::{Entry, Rule, Storage};
 pub use laws::{
     a_write_takes_one_table, calls_have_room, others_are_untouched, serials_are_few,
     tables_are_in_order, tables_stay_in_order, worlds_keep_their_rule,
+};
+pub use limits::{
+    HEAP_STEP, MOST_CALLS, MOST_CONTAINERS, MOST_CURSORS, MOST_HEAP, MOST_SECTIONS,
+    MOST_STRING_BYTES, MOST_STRINGS, MOST_TABLES, MOST_THREADS, MOST_TURNS, limits_are_defined,
 };
 pub use list::List;
 pub use reply::{Keys, Pairs, Raise, Reply, Values};

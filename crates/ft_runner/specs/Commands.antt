@@ -50,12 +50,14 @@ commanded word (calls ∷ []) = if bytes_eq (codes "make") word then made calls 
 commanded word (calls ∷ mode ∷ []) = if bytes_eq (codes "make") word then made calls (Some mode) else None
 commanded word others = None
 
--- the command that the words are: the program's name, a subcommand's and its arguments, among which one mark that ends options may stand
+-- the command that the words are: the program's name, a subcommand's and its arguments, among which one mark that ends
+-- options may stand
 abbrev pub command_of : List (List ℕ) → Option Subcommand
 command_of (program ∷ word ∷ words) = commanded word (without_mark words)
 command_of others = None
 
--- the same as the parser of command lines gets it: one of the subcommands is required, and there is no help and no version
+-- the same as the parser of command lines gets it: one of the subcommands is required, and there is no help and no
+-- version
 abbrev pub without_help : Shape → Shape
 without_help shape =
     record shape {

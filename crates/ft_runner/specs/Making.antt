@@ -31,7 +31,8 @@ is_index_error _ = false
 abbrev pub length_in : List Content → ℕ → ℕ
 length_in world container = option_map_or length_of (slice_get world container) 0
 
--- a line of the summary for each: the calls, the writes, the replies of three kinds, and what the dict, the list and the set have in the end
+-- a line of the summary for each: the calls, the writes, the replies of three kinds, and what the dict, the list and
+-- the set have in the end
 abbrev pub summary_rows : ℕ → List Entry → List Content → List (List ℕ × ℕ)
 summary_rows calls history world =
     (codes "calls", calls)

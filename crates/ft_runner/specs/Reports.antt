@@ -196,7 +196,8 @@ pub record DoesRun (command : Subcommand) (ended : Outcome) (came : List ℕ) (s
 abbrev pub IsScriptFault : List ℕ → ScriptFault → Type 0
 IsScriptFault bytes refused = (text : List ℕ) × IsScriptPart bytes text × IsFirstFault text refused
 
--- what it says of the bytes that came that checking them came to this, and of the bytes that were put; the line of a broken rule is said apart
+-- what it says of the bytes that came that checking them came to this, and of the bytes that were put; the line of a
+-- broken rule is said apart
 abbrev pub MeansChecked : List ℕ → Outcome → List ℕ → Type 0
 MeansChecked came (outcome.Clean history) put =
     IsFound came verdict.Legal × (history.items ≡ []) × (put ≡ legal_line)
@@ -210,7 +211,8 @@ MeansChecked came outcome.TooLong put = put ≡ []
 MeansChecked came outcome.Memory put = put ≡ []
 MeansChecked came outcome.Usage put = ⊥
 
--- what `check` does: more than a script and a transcript may have, whatever follows, stops the reading, and no more is asked for then; what was read to its end is within
+-- what `check` does: more than a script and a transcript may have, whatever follows, stops the reading, and no more is
+-- asked for then; what was read to its end is within
 pub record DoesCheck (ended : Outcome) (source : Stream) (came : List ℕ) (source' : Stream)
     (put : List ℕ) : Type 0 where
   pub too_long : is_too_long ended ≡ true → IsTooLong source came source'
@@ -245,7 +247,8 @@ pub record DoesMake (IsWhole : List ℕ → Type 0) (ended : Outcome) (source : 
 
 -- ---- the parts that all commands have
 
--- what goes into the sink: the line of a broken rule, whole or a prefix where the sink failed; or else these bytes, and the sink failed exactly where that is the fault
+-- what goes into the sink: the line of a broken rule, whole or a prefix where the sink failed; or else these bytes, and
+-- the sink failed exactly where that is the fault
 abbrev pub PutsFor : Outcome → Stream → List ℕ → Stream → Type 0
 PutsFor (outcome.NotLegal place rule) before put after =
     ((put ≡ broken_line place rule) × Receives before put false after)
@@ -282,7 +285,8 @@ pub record IsDone (command : Option Subcommand) (source source' sink sink' : Str
   pub writing : PutsFor ended sink put sink'
   pub own : Does command ended source came source' put
 
--- what the tool reports for these words, from what the source, the sink and the errors tell before it to what they tell after it
+-- what the tool reports for these words, from what the source, the sink and the errors tell before it to what they tell
+-- after it
 pub record IsReport (words : List (List ℕ)) (source source' sink sink' errors errors' : Stream)
     (report : Report) : Type 0 where
   pub ended : Outcome

@@ -1,5 +1,5 @@
 -- What a call answers that is made under the locks of its containers and leaves each of them its table.
-use Rattle.std.specs.Prelude.{◌≡◌, ◌⊎◌, ℕ, true, false, List, Option, Some, None}
+use Rattle.std.specs.Prelude.{◌≡◌, ◌⊎◌, ℕ, true, false, List, None}
 use Rattle.ft_model.specs.declared.call.Call.{Call}
 use Rattle.ft_model.specs.declared.data.Key.{Key}
 use Rattle.ft_model.specs.declared.reply.Reply.{Reply}
@@ -22,15 +22,14 @@ use Rattle.ft_section.specs.declared.answers.Step.{Step}
 use Rattle.ft_section.specs.declared.answers.Step.TheVariants as step
 use Rattle.ft_section.specs.Locking.{OnlyLocked, FoundOwner}
 use Rattle.ft_section.specs.Takings.{IsOf}
-use Rattle.ft_search.specs.Held.{IsHeldAt}
 
 -- the plain containers reply so to the call, whatever the bank has that agrees with what the pass knows (Python manual,
 -- Built-in Types)
 abbrev pub IsReplyTo : Call → Reply → View → Type 0
 IsReplyTo called said v = (stored : StoredWorld) → MayHave v stored → reply_in stored called ≡ said
 
--- The call is no write: the plain containers reply so to it and keep what they have, whatever the bank has that agrees with
--- what the pass knows; the reply is no MemoryError.
+-- The call is no write: the plain containers reply so to it and keep what they have, whatever the bank has that agrees
+-- with what the pass knows; the reply is no MemoryError.
 pub record IsShownBy (called : Call) (said : Reply) (v : View) : Type 0 where
   pub read : is_write called said ≡ false
   pub cursor : moved_cursor called ≡ None
@@ -43,9 +42,9 @@ pub record KeepsTables (v w : View) : Type 0 where
   pub hands : (t : ℕ) → stage t w.log ≡ stage t v.log
   pub debt : debt w.log ≡ debt v.log
 
--- A pass with the locks of a call made it, as one whole write, or as an entry that isn't a write at a load of the counter. Its
--- reply is the one of the plain containers, and it is a write where the call is of a changing kind and the reply is no
--- exception. No table changed hands. (profile)
+-- A pass with the locks of a call made it, as one whole write, or as an entry that isn't a write at a load of the
+-- counter. Its reply is the one of the plain containers, and it is a write where the call is of a changing kind and the
+-- reply is no exception. No table changed hands. (profile)
 pub record MadeAs (called : Call) (said : Reply) (stamp : Stamp) (v w : View) : Type 0 where
   pub made : ((stamp.wrote ≡ true) × Wrote called said stamp.number v w)
       ⊎ ((stamp.wrote ≡ false) × Answered called said stamp.number v w)
@@ -68,9 +67,3 @@ IsMadeOf objects called v w (step.Done said stamp) = MadeUnderLocks called said 
 IsMadeOf objects called v w (step.NotYet p q) = OnlyLocked v w × IsOf p objects × FoundOwner p q v w
 IsMadeOf objects called v w (step.Moved a b) = ⊥
 IsMadeOf objects called v w step.NoMemory = ⊥
-
--- The key was there, and the call that puts something at it was made as a write; or it isn't there, and the pass only loaded
--- words. (profile)
-abbrev pub IsPresent : ℕ → Key → Call → View → View → Option (Reply × Stamp) → Type 0
-IsPresent o key called v w (Some made) = (made.1.wrote ≡ true) × MadeAs called made.0 made.1 v w
-IsPresent o key called v w None = OnlyLoaded v w × IsHeldAt (known o v).content key None

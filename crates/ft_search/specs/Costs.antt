@@ -17,7 +17,7 @@ abbrev pub index_reads : ℕ → List Act → ℕ
 index_reads t [] = 0
 index_reads t (act ∷ acts) = index_read t act + index_reads t acts
 
--- Of each table these load at most as many index words as one search may: two for each slot and 13 more of a dict's, eleven for
--- each slot and 130 more of a set's. (profile)
+-- Of each table these load at most as many index words as one search may: two for each slot and 13 more of a dict's,
+-- eleven for each slot and 130 more of a set's. (profile)
 abbrev pub AreFewReads : Way → List Act → Type 0
 AreFewReads way acts = (t : ℕ) → index_reads t acts ≤ most_loads way (class_mask (class_of t))

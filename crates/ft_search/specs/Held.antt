@@ -25,8 +25,8 @@ ReadsEntry mask words (found.At slot place) None = ⊥
 ReadsEntry mask words found (Some read) = ⊥
 ReadsEntry mask words found None = Unit {0}
 
--- The content has these words under the key, a kind and a payload and then the serial; or it has not the key. A list has
--- no keys.
+-- The content has these words under the key, a kind and a payload and then the serial; or it has not the key. A list
+-- has no keys.
 abbrev pub IsHeldAt : Content → Key → Option (ℕ × ℕ) → Type 0
 IsHeldAt (content.List values) key read = ⊥
 IsHeldAt (content.Dict dict) key (Some read) =

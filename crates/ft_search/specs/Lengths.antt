@@ -19,8 +19,8 @@ use Rattle.ft_search.specs.declared.lens.Counted.{Counted}
 use Rattle.ft_search.specs.declared.lens.Counted.TheVariants.{Seen, Contended}
 use Rattle.ft_search.specs.Looks.{AreLooks}
 
--- the call that asks how many pairs, items or elements the container o has, which is of this kind (Python manual, Built-in
--- Functions: len)
+-- the call that asks how many pairs, items or elements the container o has, which is of this kind (Python manual,
+-- Built-in Functions: len)
 abbrev pub len_of : Kind → ℕ → Call
 len_of kind.Dict o = call.Dict o dict.Len
 len_of kind.List o = call.List o list.Len
@@ -34,8 +34,8 @@ pub record StopsAtVersion (o a b : ℕ) (part : List Act) : Type 0 where
   pub is : part ≡ newer ++ Version o b ∷ (mid ++ Version o a ∷ rest)
   pub moved : (a % 2 ≢ 0) ⊎ (b ≢ a)
 
--- Between two loads of the version of the container that gave the same even number, the loads gave this as the number of
--- its pairs, items or elements, and n as the counter.
+-- Between two loads of the version of the container that gave the same even number, the loads gave this as the number
+-- of its pairs, items or elements, and n as the counter.
 pub record ShowsCount (o count n : ℕ) (part : List Act) : Type 0 where
   pub mid : List Act
   pub between : Between part o mid
@@ -55,8 +55,8 @@ pub record IsStopped (o a b : ℕ) (v w : View) : Type 0 where
   pub own : w.log ≡ part ++ v.log
   pub stops : StopsAtVersion o a b part
 
--- What a call answers that reads a container between two loads of its version. It gave a reply, which is the one that its
--- entry has, with a stamp that it loaded; or it was contended. It takes no memory.
+-- What a call answers that reads a container between two loads of its version. It gave a reply, which is the one that
+-- its entry has, with a stamp that it loaded; or it was contended. It takes no memory.
 abbrev pub IsGlanceOf : ℕ → Call → View → View → Look → Type 0
 IsGlanceOf o called v w (look.Done said stamp) = Answered called said stamp.number v w × (stamp.wrote ≡ false)
 IsGlanceOf o called v w (look.Contended a b) = IsStopped o a b v w

@@ -69,8 +69,8 @@ pub record StopsAtContainer (o a b : ℕ) (part : List Act) : Type 0 where
   pub moved : (a % 2 ≢ 0) ⊎ (b ≢ a)
   pub bare : Among (ReadRoot o 0) mid
 
--- Two loads of one version gave a and then b, and a is odd or they differ: the version of an entry of the key in a table
--- that the root named, or the container's where the root was read 0.
+-- Two loads of one version gave a and then b, and a is odd or they differ: the version of an entry of the key in a
+-- table that the root named, or the container's where the root was read 0.
 abbrev pub Stops : ℕ → Key → ℕ → ℕ → List Act → Type 0
 Stops o key a b part =
     ((t : ℕ) × Among (ReadRoot o (suc t)) part × StopsAtEntry t key a b part) ⊎ StopsAtContainer o a b part
@@ -82,8 +82,8 @@ ShowsLooked k o key part log (looked.Here value_kind value n) =
 ShowsLooked k o key part log (looked.Absent n) = ShowsAbsent k o key n log × Among (ReadCounter n) part
 ShowsLooked k o key part log (looked.Contended a b) = Stops o key a b part
 
--- The pass loaded words of the bank and did nothing else, and the version of the key's own entry stopped the look-up; or
--- the container's, where its root was read 0.
+-- The pass loaded words of the bank and did nothing else, and the version of the key's own entry stopped the look-up;
+-- or the container's, where its root was read 0.
 pub record IsContended (o : ℕ) (key : Key) (a b : ℕ) (v w : View) : Type 0 where
   pub loaded : OnlyLoaded v w
   pub part : List Act
@@ -91,8 +91,8 @@ pub record IsContended (o : ℕ) (key : Key) (a b : ℕ) (v w : View) : Type 0 w
   pub own : w.log ≡ part ++ v.log
   pub stops : Stops o key a b part
 
--- What a call answers that looks up a key without the lock. It gave a reply, which is the one that its entry has, with a
--- stamp that it loaded; or it was contended. It takes no memory.
+-- What a call answers that looks up a key without the lock. It gave a reply, which is the one that its entry has, with
+-- a stamp that it loaded; or it was contended. It takes no memory.
 abbrev pub IsLookOf : ℕ → Key → Call → View → View → Look → Type 0
 IsLookOf o key called v w (look.Done said stamp) = Answered called said stamp.number v w × (stamp.wrote ≡ false)
 IsLookOf o key called v w (look.Contended a b) = IsContended o key a b v w

@@ -71,8 +71,8 @@ abbrev pub TurnsAfter : Shape → ℕ → ℕ → Key → List Act → List ℕ 
 TurnsAfter k o t key earlier left result p q =
     (part : List Act) × Inner part × DidAll part p q × Turns k o t key (part ++ earlier) left result
 
--- after these loads the root was read again: it names the table as before, or it has changed to r, which names none or a
--- table that the pass had not found since it last announced
+-- after these loads the root was read again: it names the table as before, or it has changed to r, which names none or
+-- a table that the pass had not found since it last announced
 abbrev pub IsFresh : Shape → ℕ → List Act → Type 0
 IsFresh k r log = (u : ℕ) → r ≡ suc u → IsTable k u × (reads u log ≡ false)
 

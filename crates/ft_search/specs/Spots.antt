@@ -26,8 +26,8 @@ spot_in table (found.At slot place) (Some read) = spot.At table place read.0 rea
 spot_in table (found.Free slot) read = spot.Free table slot
 spot_in table found read = spot.Bare
 
--- The key is there, in the entry at this place of the table that the root names, with these words of its value; or it isn't,
--- and this slot is the first for it in that table that was never used; or it isn't, and there is no table.
+-- The key is there, in the entry at this place of the table that the root names, with these words of its value; or it
+-- isn't, and this slot is the first for it in that table that was never used; or it isn't, and there is no table.
 abbrev pub IsSpot : Shape → ℕ → Way → Key → View → Spot → Type 0
 IsSpot k o way key v (spot.At table place kind payload) =
     HasTable k o table v × IsEntryOf k o table place key v × IsHeldAt (known o v).content key (Some (kind, payload))

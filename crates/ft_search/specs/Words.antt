@@ -67,8 +67,8 @@ MayMake s (PutEntry place word value) =
     IsCareful (view s.pass.now) s.o (name_of s.table) (entry_at (slots (class_of (name_of s.table))) place word) value
 MayMake s access = Unit {0}
 
--- The call was one step of the bank. Where the pass knows the words, they answered it, and have what it put; so did those of
--- each container whose lock the pass has and whose root names the table.
+-- The call was one step of the bank. Where the pass knows the words, they answered it, and have what it put; so did
+-- those of each container whose lock the pass has and whose root names the table.
 pub record Made (s : TableWords) (access : Access) (t : TableWords) : Type 0 where
   pub same : SamePlace s t
   pub inside : IsInside (name_of s.table) access

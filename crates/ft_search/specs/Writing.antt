@@ -30,9 +30,9 @@ use Rattle.ft_bank.specs.Tables.{name_of, IsTableIn}
 use Rattle.ft_bank.specs.Writes.{MayHave, MayCommit, with_table}
 use Rattle.ft_search.specs.Calls.{IsReplyTo}
 
--- The pass may write the container o, a dict or a set: it has its lock, and its words stand for what the pass knows of it;
--- no version is odd there, the pass has lowered no count of a class that it hasn't raised again, and it has a call left.
--- (profile)
+-- The pass may write the container o, a dict or a set: it has its lock, and its words stand for what the pass knows of
+-- it; no version is odd there, the pass has lowered no count of a class that it hasn't raised again, and it has a call
+-- left. (profile)
 pub record MayWriteEntries (k : Shape) (o : ℕ) (v : View) : Type 0 where
   pub container : o < containers_in k
   pub keyed : IsKeyed (kind_in k.kinds o)
@@ -56,9 +56,9 @@ pub record WritesEntries (k : Shape) (o : ℕ) (table : Table) (v : View) : Type
   pub odd : is_writing o v.log ≡ true
   pub root : root_in (held o v) ≡ suc (name_of table)
 
--- A call is a write of the container o that takes no table: the plain containers reply so to it, whatever else the bank has
--- that agrees with what the pass knows, and o has this content and this table then; the pass has the locks of the containers
--- that it names, and none passes its greatest length. (Python manual, Mapping Types, Set Types)
+-- A call is a write of the container o that takes no table: the plain containers reply so to it, whatever else the bank
+-- has that agrees with what the pass knows, and o has this content and this table then; the pass has the locks of the
+-- containers that it names, and none passes its greatest length. (Python manual, Mapping Types, Set Types)
 pub record Leaves (o : ℕ) (called : Call) (said : Reply) (left : Kept) (v : View) : Type 0 where
   pub write : is_write called said ≡ true
   pub changed : changes called ≡ o
@@ -86,9 +86,9 @@ abbrev pub raised_at : ℕ → ℕ → Picture → Picture
 raised_at t place x =
     with_table x (entry_at (slots (class_of t)) place 0) (entry_of (slots (class_of t)) x.table place 0 + 1)
 
--- A pass that has put the words of the container o may commit this call, with this reply, and then make the version of the
--- entry at this place even: the call changes o, and leaves it with what the words say but for that version, the only one
--- that is odd. (profile)
+-- A pass that has put the words of the container o may commit this call, with this reply, and then make the version of
+-- the entry at this place even: the call changes o, and leaves it with what the words say but for that version, the
+-- only one that is odd. (profile)
 pub record MayFinish (o : ℕ) (table : Table) (place : ℕ) (called : Call) (said : Reply) (v : View) : Type 0 where
   pub may : MayCommit v called said
   pub changed : changes called ≡ o

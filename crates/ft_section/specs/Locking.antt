@@ -105,9 +105,9 @@ abbrev pub marks_more : Option ℕ → ℕ
 marks_more None = 1
 marks_more (Some first) = 0
 
--- A call that has found another pass with a lock that it needs: all sections have let their locks go, the first pass that
--- it found is its mark, and with that each section counts one marked call more. (C API, critical sections; the count:
--- profile)
+-- A call that has found another pass with a lock that it needs: all sections have let their locks go, the first pass
+-- that it found is its mark, and with that each section counts one marked call more. (C API, critical sections; the
+-- count: profile)
 abbrev pub waiting : Stack → ℕ → Stack
 waiting s q =
     record {

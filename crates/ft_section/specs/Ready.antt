@@ -107,15 +107,15 @@ NotesTop sections =
     (outer : List OpenSection) (top : OpenSection) → sections ≡ outer ++ top ∷ []
     → (noted_in top.locks.lower sections ≡ 1) × (noted_in top.locks.upper sections ≡ 1)
 
--- A pass in the midst of a call that has taken its locks: where the call didn't have to wait, the locks of the innermost
--- section are there too, and where it had to, none that a section took. (C API, critical sections)
+-- A pass in the midst of a call that has taken its locks: where the call didn't have to wait, the locks of the
+-- innermost section are there too, and where it had to, none that a section took. (C API, critical sections)
 pub record IsMaking (b : Bank) (p : Pass) : Type 0 where
   pub inside : IsInCall b p
   pub free : (stack_of p).mark ≡ None → NotesTop (stack_of p).sections
   pub waited : (q : ℕ) → (stack_of p).mark ≡ Some q → AreSuspended (stack_of p).sections
 
--- A pass whose call has made its answer: before the next call it takes up its innermost section again, of whose locks the
--- call has at most the lower one. (C API, critical sections)
+-- A pass whose call has made its answer: before the next call it takes up its innermost section again, of whose locks
+-- the call has at most the lower one. (C API, critical sections)
 pub record MayResume (b : Bank) (p : Pass) : Type 0 where
   pub inside : IsInCall b p
   pub own : (outer : List OpenSection) (top : OpenSection) → (stack_of p).sections ≡ outer ++ top ∷ []

@@ -44,7 +44,8 @@ ended_by marks s = if marks == 0 then ended.Kept s else ended.Suspended marks s
 abbrev pub answered_view : Call → Reply → ℕ → View → View
 answered_view called said n v = noted (Answer called said n) (noted (ReadCounter n) v)
 
--- the call isn't a write and asks no cursor, and a pass with this log may reply so whatever the containers have, at a load of the counter
+-- the call isn't a write and asks no cursor, and a pass with this log may reply so whatever the containers have, at a
+-- load of the counter
 pub record IsSaid (called : Call) (said : Reply) (log : List Act) : Type 0 where
   pub read : is_write called said ≡ false
   pub replied : (plain : Reply) → IsReplied called said plain

@@ -9,8 +9,8 @@ use Rattle.ft_section.specs.declared.answers.Step.TheVariants as step
 use Rattle.ft_section.specs.Locking.{with_own, waiting}
 use Rattle.ft_section.specs.Ready.{IsWaiting, MayTry, MayResume}
 
--- The call in flight has let go of the locks that it took itself; the same sections are open, and its mark stays. Any call
--- on containers may be tried then, or the innermost section be taken up again. (C API, critical sections)
+-- The call in flight has let go of the locks that it took itself; the same sections are open, and its mark stays. Any
+-- call on containers may be tried then, or the innermost section be taken up again. (C API, critical sections)
 pub record HasLetGo (b : Bank) (p q : Pass) : Type 0 where
   pub stack : stack_of q ≡ with_own (stack_of p) nothing_taken
   pub may : (objects : Objects) → MayTry b q objects

@@ -36,8 +36,8 @@ dict_del_write v o t place key pairs =
       late = entry_closed (slots (class_of t)) (held o v).table place;
     }
 
--- a pass with the lock of a dict may take out a key that is there, whatever other passes have done, where the words that
--- it puts stand for the dict without that key
+-- a pass with the lock of a dict may take out a key that is there, whatever other passes have done, where the words
+-- that it puts stand for the dict without that key
 abbrev pub KeysMayBeDeleted : Type 0
 KeysMayBeDeleted =
     (v : View) (o t place : ℕ) (key : Key) (pairs : DictContent) → MayWrite v o

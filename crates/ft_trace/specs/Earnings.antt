@@ -15,10 +15,10 @@ use Rattle.ft_trace.specs.Worlds.{first_writes}
 use Rattle.ft_trace.specs.Traces.{Event, history, Valid}
 use Rattle.ft_trace.specs.Laws.{HasView}
 
--- After these writes, newest first, the call may have this reply. A MemoryError of a class stands on a call that can add,
--- raises nothing else, passes no greatest length and would take a table of the class, where writes took the tables of the
--- class but for one for each other pass. One of a content past the largest table stands exactly where the call would
--- leave that. No value is in a heap yet. (profile)
+-- After these writes, newest first, the call may have this reply. A MemoryError of a class stands on a call that can
+-- add, raises nothing else, passes no greatest length and would take a table of the class, where writes took the tables
+-- of the class but for one for each other pass. One of a content past the largest table stands exactly where the call
+-- would leave that. No value is in a heap yet. (profile)
 abbrev pub IsEarnedSo : Shape → List Call → Call → Reply → Type 0
 IsEarnedSo k cs call (reply.Raised (raise.Memory class)) =
     CanLackMemory (stored_newest k.kinds cs).world call

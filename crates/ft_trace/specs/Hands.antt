@@ -21,8 +21,8 @@ abbrev pub cursor_in : ℕ → List Act → Option Cursor
 cursor_in number [] = None
 cursor_in number (a ∷ l) = cursor_next number a (cursor_in number l)
 
--- To a thread that has this cursor under the number, whatever else it has, the plain containers with this world give the
--- reply, and leave the new cursor in its place and all else as it was. (Python manual, Iterator Types)
+-- To a thread that has this cursor under the number, whatever else it has, the plain containers with this world give
+-- the reply, and leave the new cursor in its place and all else as it was. (Python manual, Iterator Types)
 abbrev pub MovesCursor : List Content → Call → ℕ → Option Cursor → Reply → Cursor → Type 0
 MovesCursor world called number had said left =
     (hands : List (Option Cursor)) → cursor_at hands number ≡ had

@@ -12,8 +12,8 @@ use Rattle.ft_trace.specs.Earnings.{AllEarned}
 use Rattle.ft_trace.specs.Entries.{Numbered, is_number, total}
 
 -- The entry beside these writes: its stamp is at most their number, and that of a write is its place among them. Its
--- reply is that of the plain containers after as many writes as the stamp says, to a thread with some cursors, or that of
--- a section, or a MemoryError; a MemoryError has its cause there, and fits the call.
+-- reply is that of the plain containers after as many writes as the stamp says, to a thread with some cursors, or that
+-- of a section, or a MemoryError; a MemoryError has its cause there, and fits the call.
 pub record StandsInOrder (k : Shape) (calls : List Call) (e : Entry) : Type 0 where
   pub within : e.stamp ≤ length calls
   pub wrote : e.wrote ≡ is_write e.call e.reply

@@ -1,4 +1,5 @@
--- A call that appends an item to a list whose table has no room, or that has none: the list gets another table. (profile)
+-- A call that appends an item to a list whose table has no room, or that has none: the list gets another table.
+-- (profile)
 use Rattle.std.specs.Prelude.{◌≡◌, ◌≢◌, ℕ, suc, ◌+◌, ◌<◌, List, [], ◌∷◌, ◌++◌, length, Some}
 use Rattle.ft_model.specs.declared.call.Call.TheVariants as call
 use Rattle.ft_model.specs.declared.call.ListCall.TheVariants as list
@@ -17,8 +18,8 @@ use Rattle.ft_trace.specs.Holds.{known, in_hand}
 use Rattle.ft_trace.specs.Traces.{Possible}
 use Rattle.ft_trace.specs.Writes.{to_block, to_table, Write, at_commit, after_write_of, MayBegin}
 
--- The new root is put first, then the length, and after the commit the version of the new item is made even, which was 1
--- in the new table.
+-- The new root is put first, then the length, and after the commit the version of the new item is made even, which was
+-- 1 in the new table.
 abbrev pub list_grow_write : View → ℕ → ℕ → Value → List Value → Write
 list_grow_write v o t value values =
     record {
@@ -29,8 +30,8 @@ list_grow_write v o t value values =
       late = to_table (item_at (length values) 0) 2 ∷ [];
     }
 
--- what the pass has in hand: a table of the class that the call takes, fresh, whose words stand for the list with the new
--- item; of its versions that of the new item is 1, and each other 0
+-- what the pass has in hand: a table of the class that the call takes, fresh, whose words stand for the list with the
+-- new item; of its versions that of the new item is 1, and each other 0
 pub record HasListGrown (v : View) (o t : ℕ) (value : Value) (values : List Value) : Type 0 where
   pub table : IsTable v.shape t
   pub fresh : stage t v.log ≡ 1
@@ -42,8 +43,8 @@ pub record HasListGrown (v : View) (o t : ℕ) (value : Value) (values : List Va
   pub open_item : item_of (in_hand t v) (length values) 0 ≡ 1
   pub others : (p : ℕ) → p < slots (class_of t) → p ≢ length values → item_of (in_hand t v) p 0 ≡ 0
 
--- a pass with the lock of a list that has such a table in hand may put it in the root and append the item, whatever other
--- passes have done
+-- a pass with the lock of a list that has such a table in hand may put it in the root and append the item, whatever
+-- other passes have done
 abbrev pub ListsMayGrow : Type 0
 ListsMayGrow =
     (v : View) (o t : ℕ) (value : Value) (values : List Value) → MayBegin v o

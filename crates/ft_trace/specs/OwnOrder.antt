@@ -52,9 +52,9 @@ HasWritesOn IsWrite entries containers first past =
 
 -- ---- order
 
--- An entry after earlier ones of its pass: its stamp is at least the number of writes that there were after each of them.
--- An `end` says kept only where each write on the section's containers from the `begin`'s stamp on, and below its own, is
--- the pass's.
+-- An entry after earlier ones of its pass: its stamp is at least the number of writes that there were after each of
+-- them. An `end` says kept only where each write on the section's containers from the `begin`'s stamp on, and below its
+-- own, is the pass's.
 pub record FollowsOwn (IsWrite : ℕ → Call → Type 0) (before : List Entry) (e : Entry) : Type 0 where
   pub rises : All (λ earlier. number_after earlier ≤ e.stamp) before
   pub kept : e.call ≡ call.End → e.reply ≡ reply.Kept → (begun : Entry) (outer : List Entry)
@@ -87,7 +87,8 @@ KeptSectionsAreUntouched =
     → (inner : List Begun) (b : Begun) (outer : List Begun) → begun u.log ≡ inner ++ b ∷ outer → b.held ≡ true
     → HasWritesOn (IsNumber (history es)) u.entries b.containers b.stamp (length (history es))
 
--- What is so stays so when writes are appended, if the entries have stamps that are not past the writes that there were.
+-- What is so stays so when writes are appended, if the entries have stamps that are not past the writes that there
+-- were.
 abbrev pub OwnOrderStays : Type 0
 OwnOrderStays =
     (calls more : List Call) (entries : List Entry) → All (λ e. e.stamp ≤ length calls) entries

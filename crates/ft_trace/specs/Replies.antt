@@ -23,8 +23,9 @@ use Rattle.ft_trace.specs.Traces.{Possible, IsAwake}
 abbrev pub after_answer : View → Call → Reply → ℕ → View
 after_answer v call said number = noted (Answer call said number) (noted (ReadCounter number) v)
 
--- A pass with a call left may load the counter and give a reply with that stamp to a call that asks no cursor, where it is the plain containers' in each history that
--- agrees with what the pass knows of the containers whose locks it has, and has its cause there.
+-- A pass with a call left may load the counter and give a reply with that stamp to a call that asks no cursor, where it
+-- is the plain containers' in each history that agrees with what the pass knows of the containers whose locks it has,
+-- and has its cause there.
 abbrev pub RepliesMayBeGiven : Type 0
 RepliesMayBeGiven =
     (v : View) (call : Call) (said : Reply) → IsAwake v → Possible v → 0 < v.left → is_write call said ≡ false
@@ -40,8 +41,8 @@ abbrev pub after_cursor : View → Call → Reply → ℕ → ℕ → Cursor →
 after_cursor v call said stamp number left =
     noted (AnswerCursor call said stamp number (cursor_in number v.log) left) (noted (ReadCounter stamp) v)
 
--- A pass with a call left may load the counter and answer an `iter` or a `next` with that stamp, where the plain containers
--- answer so in each history that agrees with what the pass knows of the containers whose locks it has.
+-- A pass with a call left may load the counter and answer an `iter` or a `next` with that stamp, where the plain
+-- containers answer so in each history that agrees with what the pass knows of the containers whose locks it has.
 abbrev pub CursorsMayBeMoved : Type 0
 CursorsMayBeMoved =
     (v : View) (call : Call) (said : Reply) (number : ℕ) (left : Cursor) → IsAwake v → Possible v → 0 < v.left
@@ -54,8 +55,8 @@ CursorsMayBeMoved =
 abbrev pub lacks : ℕ → Reply
 lacks class = reply.Raised (raise.Memory class)
 
--- A pass with a call left that found the count of a class 0 since its last entry, and owed no count then, may answer a MemoryError of it
--- to a call that would take a table of that class.
+-- A pass with a call left that found the count of a class 0 since its last entry, and owed no count then, may answer a
+-- MemoryError of it to a call that would take a table of that class.
 abbrev pub MemoryErrorsMayBeAnswered : Type 0
 MemoryErrorsMayBeAnswered =
     (v : View) (call : Call) (class : ℕ) (newer rest : List Act) → IsAwake v → Possible v

@@ -23,7 +23,8 @@ OfOneWrite o (StartWrite p f ∷ log) = (p ≢ o) × OfOneWrite o log
 OfOneWrite o (StopWrite p f ∷ log) = (p ≢ o) × OfOneWrite o log
 OfOneWrite o (act ∷ log) = OfOneWrite o log
 
--- the pass with this log made the version of o odd when o had no table and nothing in it, and has not made it even since
+-- the pass with this log made the version of o odd when o had no table and nothing in it, and has not made it even
+-- since
 pub record BeganBare (k : Shape) (es : List Event) (o j : ℕ) (log : List Act) : Type 0 where
   pub newer : List Event
   pub older : List Event
@@ -36,8 +37,8 @@ pub record BeganBare (k : Shape) (es : List Event) (o j : ℕ) (log : List Act) 
   pub nothing : IsNothing (kept k.kinds (history older) o)
 
 -- A root that is 0 while the version is odd: the pass that writes put 0 there in this write, or the container had no
--- table and nothing in it when the write began. A call that is committed after that put is one that may give up its table
--- first: a clear, a copy, a symmetric difference.
+-- table and nothing in it when the write began. A call that is committed after that put is one that may give up its
+-- table first: a clear, a copy, a symmetric difference.
 abbrev pub ZeroRootsHaveCauses : Type 0
 ZeroRootsHaveCauses =
     (k : Shape) (es : List Event) → Valid k es → (o : ℕ) → o < containers_in k → (j : ℕ) (u : View) → HasView k es j u

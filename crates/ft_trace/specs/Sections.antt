@@ -8,8 +8,8 @@ use Rattle.ft_trace.specs.declared.Act.{Act}
 use Rattle.ft_trace.specs.declared.Act.TheVariants.{Unlock, ReadCounter, Answer}
 use Rattle.ft_trace.specs.Acts.{has_lock}
 
--- A section that was begun: its containers as its `begin` names them, the stamp of the `begin`, and whether the pass has
--- had their locks at each moment since the load of the counter that gave the stamp. (C API, critical sections)
+-- A section that was begun: its containers as its `begin` names them, the stamp of the `begin`, and whether the pass
+-- has had their locks at each moment since the load of the counter that gave the stamp. (C API, critical sections)
 pub record Begun : Type 0 where
   pub containers : List ℕ
   pub stamp : ℕ

@@ -48,8 +48,8 @@ set_add_write v o t slot key elements =
       late = entry_closed (slots (class_of t)) (held o v).table (known o v).table.fill;
     }
 
--- a pass with the lock of a set whose table has room may add a key, whatever other passes have done, where the index slot
--- was never used and the words that it puts stand for the set with that key
+-- a pass with the lock of a set whose table has room may add a key, whatever other passes have done, where the index
+-- slot was never used and the words that it puts stand for the set with that key
 abbrev pub ElementsMayBeAdded : Type 0
 ElementsMayBeAdded =
     (v : View) (o t slot : ℕ) (key : Key) (elements : SetContent) → MayWrite v o

@@ -186,7 +186,8 @@ May k m cs v (ReadTable t i f) = IsTable k t × (i < size (class_of t))
 May k m cs v (ReadHeader t f) = IsTable k t
 May k m cs v (ReadCounter f) = Unit {0}
 -- The call is no write, and a load of the counter since the last entry gave its stamp. The reply is that of the plain
--- containers after as many writes, or that of a section, or a MemoryError; the last two have their causes. The pass has a call left.
+-- containers after as many writes, or that of a section, or a MemoryError; the last two have their causes. The pass has
+-- a call left.
 May k m cs v (Answer c r n) =
     (is_write c r ≡ false)
     × (n ≤ word_in k m counter)
@@ -195,9 +196,9 @@ May k m cs v (Answer c r n) =
     × HasCause (stored_newest k.kinds (first_writes n cs)) v.log c r n
     × (0 < v.left)
     × (moved_cursor c ≡ None)
--- The call is an `iter` or a `next` of the cursor under this number, and a load of the counter since the last entry gave
--- its stamp. The pass had that cursor, and the plain containers after as many writes give the reply and leave the new
--- one. The pass has a call left.
+-- The call is an `iter` or a `next` of the cursor under this number, and a load of the counter since the last entry
+-- gave its stamp. The pass had that cursor, and the plain containers after as many writes give the reply and leave the
+-- new one. The pass has a call left.
 May k m cs v (AnswerCursor c r n number had left) =
     (moved_cursor c ≡ Some number)
     × (n ≤ word_in k m counter)

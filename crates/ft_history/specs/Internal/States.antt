@@ -129,7 +129,8 @@ pub record IsFresh (thread : Thread) (progress : ThreadProgress) : Type 0 where
   pub hands : progress.hands ≡ start_hands (length thread.cursors)
   pub sections : progress.sections.items ≡ []
 
--- hands of a thread that has made a number of its calls: each cursor that these make is there, over a container of its kind
+-- hands of a thread that has made a number of its calls: each cursor that these make is there, over a container of its
+-- kind
 pub record AreHandsOf (script : ScriptParts) (thread made : ℕ) (hands : List (Option Cursor)) : Type 0 where
   pub room : length hands ≡ cursors_of script thread
   pub kinds : (number : ℕ)

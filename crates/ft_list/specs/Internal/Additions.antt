@@ -31,7 +31,8 @@ abbrev pub with_added : Addition → View → List Value → List Value
 with_added (One place value) v values = insert values place value
 with_added (All other more) v values = values ++ items_of other v
 
--- The pass has the lock of the list o; no version is odd there, and its words stand for what the pass knows of it. (profile)
+-- The pass has the lock of the list o; no version is odd there, and its words stand for what the pass knows of it.
+-- (profile)
 pub record KnowsItems (k : Shape) (o : ℕ) (v : View) : Type 0 where
   pub container : o < containers_in k
   pub kind : kind_in k.kinds o ≡ kind.List
@@ -39,14 +40,14 @@ pub record KnowsItems (k : Shape) (o : ℕ) (v : View) : Type 0 where
   pub even : is_writing o v.log ≡ false
   pub stands : Stands k.texts (held o v) (known o v)
 
--- The addition is a value that words can tell, at a place of a list of so many items; or all the items of a list that the pass
--- knows, of which there are as many as it says.
+-- The addition is a value that words can tell, at a place of a list of so many items; or all the items of a list that
+-- the pass knows, of which there are as many as it says.
 abbrev pub IsAddition : Shape → ℕ → Addition → View → Type 0
 IsAddition k count (One place value) v = (place ≤ count) × FitsStored (Plain value)
 IsAddition k count (All other more) v = (more ≡ length (items_of other v)) × KnowsItems k other v
 
--- The pass has the lock of the list m, which it doesn't write, or which is the list o that it writes; and the table that the
--- root of m names stores the items of m as they were before that write. (profile)
+-- The pass has the lock of the list m, which it doesn't write, or which is the list o that it writes; and the table
+-- that the root of m names stores the items of m as they were before that write. (profile)
 pub record GivesItems (k : Shape) (o m : ℕ) (v : View) : Type 0 where
   pub container : m < containers_in k
   pub locked : has_lock m v.log ≡ true

@@ -21,8 +21,8 @@ abbrev pub use_of : Option Table → TableUse
 use_of None = no_table
 use_of (Some t) = record { class = Some t.class; fill = 0 }
 
--- The pass has the lock of the list o, whose root names this table or none; no version is odd there, and its words stand for
--- what the pass knows of it. (profile)
+-- The pass has the lock of the list o, whose root names this table or none; no version is odd there, and its words
+-- stand for what the pass knows of it. (profile)
 pub record KnowsList (k : Shape) (o : ℕ) (old : Option Table) (v : View) : Type 0 where
   pub container : o < containers_in k
   pub kind : kind_in k.kinds o ≡ kind.List
@@ -32,8 +32,8 @@ pub record KnowsList (k : Shape) (o : ℕ) (old : Option Table) (v : View) : Typ
   pub table_in : (t : Table) → old ≡ Some t → IsTableIn k t
   pub root : root_in (held o v) ≡ root_for old
 
--- Besides it is in the midst of no taking or giving of a table, and of no other write that took a table out of a root; it has
--- lowered no count of a class that it hasn't raised again, and it has a call left. (profile)
+-- Besides it is in the midst of no taking or giving of a table, and of no other write that took a table out of a root;
+-- it has lowered no count of a class that it hasn't raised again, and it has a call left. (profile)
 pub record MayAdd (k : Shape) (o : ℕ) (old : Option Table) (v : View) : Type 0 where
   pub list : KnowsList k o old v
   pub used : used v.log ≡ false

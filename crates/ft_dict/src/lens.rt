@@ -10,6 +10,7 @@ ghost use Rattle.ft_bank.specs.Passes.{shape_of, view, IsPassOf};
 ghost use Rattle.ft_bank.specs.Sections.{stack_of};
 ghost use Rattle.ft_section.specs.declared.answers.Objects.TheVariants.{One};
 ghost use Rattle.ft_section.specs.Ready.{MayTry};
+ghost use Rattle.ft_section.specs.Trying.{SectionsAfter};
 ghost use Rattle.ft_search.specs.Lengths.{IsGlanceOf};
 ghost use Rattle.ft_search.specs.Tries.{IsReadOf};
 
@@ -51,6 +52,7 @@ pub fn try_len(bank: &Bank, pass: &mut Pass, d: Object) -> Step
     requires dict { kind_in (shape_of bank.now).kinds d ≡ kind.Dict }
     requires left { 0 < (view pass.old).left }
     ensures may { MayTry bank.now pass.new (One d) }
+    ensures sections { SectionsAfter bank.now (One d) pass.old pass.new result }
     ensures read { IsReadOf d (call.Dict d dict.Len) (view pass.old) (view pass.new) result }
 {
     let call = Call::Dict {

@@ -9,6 +9,7 @@ ghost use Rattle.ft_bank.specs.Keys.{IsKeyIn};
 ghost use Rattle.ft_bank.specs.Passes.{shape_of, view};
 ghost use Rattle.ft_section.specs.declared.answers.Objects.TheVariants.{One};
 ghost use Rattle.ft_section.specs.Ready.{MayTry};
+ghost use Rattle.ft_section.specs.Trying.{SectionsAfter};
 ghost use Rattle.ft_search.specs.Calls.{IsMadeOf};
 
 use crate::deletes::{del_locked, pop_locked, popd_locked};
@@ -29,6 +30,7 @@ pub fn try_del(bank: &Bank, pass: &mut Pass, d: Object, key: Key) -> Step
     requires key { IsKeyIn (shape_of bank.now) key }
     requires left { 0 < (view pass.old).left }
     ensures may { MayTry bank.now pass.new (One d) }
+    ensures sections { SectionsAfter bank.now (One d) pass.old pass.new result }
     ensures made { IsMadeOf (One d) (call.Dict d (dict.Del key)) (view pass.old) (view pass.new) result }
 {
     match take_for(bank, pass, Objects::One(d)) {
@@ -55,6 +57,7 @@ pub fn try_pop(bank: &Bank, pass: &mut Pass, d: Object, key: Key) -> Step
     requires key { IsKeyIn (shape_of bank.now) key }
     requires left { 0 < (view pass.old).left }
     ensures may { MayTry bank.now pass.new (One d) }
+    ensures sections { SectionsAfter bank.now (One d) pass.old pass.new result }
     ensures made { IsMadeOf (One d) (call.Dict d (dict.Pop key)) (view pass.old) (view pass.new) result }
 {
     match take_for(bank, pass, Objects::One(d)) {
@@ -81,6 +84,7 @@ pub fn try_popd(bank: &Bank, pass: &mut Pass, d: Object, key: Key, default: Valu
     requires key { IsKeyIn (shape_of bank.now) key }
     requires left { 0 < (view pass.old).left }
     ensures may { MayTry bank.now pass.new (One d) }
+    ensures sections { SectionsAfter bank.now (One d) pass.old pass.new result }
     ensures made { IsMadeOf (One d) (call.Dict d (dict.PopOr key default)) (view pass.old) (view pass.new) result }
 {
     match take_for(bank, pass, Objects::One(d)) {

@@ -9,6 +9,7 @@ ghost use Rattle.ft_bank.specs.Keys.{IsKeyIn};
 ghost use Rattle.ft_bank.specs.Passes.{shape_of, view};
 ghost use Rattle.ft_section.specs.declared.answers.Objects.TheVariants.{One};
 ghost use Rattle.ft_section.specs.Ready.{MayTry};
+ghost use Rattle.ft_section.specs.Trying.{SectionsAfter};
 ghost use Rattle.ft_search.specs.Tries.{IsReadOf};
 
 use crate::locked::{get_locked, getd_locked, has_locked};
@@ -29,6 +30,7 @@ pub fn try_get(bank: &Bank, pass: &mut Pass, d: Object, key: Key) -> Step
     requires key { IsKeyIn (shape_of bank.now) key }
     requires left { 0 < (view pass.old).left }
     ensures may { MayTry bank.now pass.new (One d) }
+    ensures sections { SectionsAfter bank.now (One d) pass.old pass.new result }
     ensures read { IsReadOf d (call.Dict d (dict.Get key)) (view pass.old) (view pass.new) result }
 {
     match take_for(bank, pass, Objects::One(d)) {
@@ -54,6 +56,7 @@ pub fn try_getd(bank: &Bank, pass: &mut Pass, d: Object, key: Key, default: Valu
     requires key { IsKeyIn (shape_of bank.now) key }
     requires left { 0 < (view pass.old).left }
     ensures may { MayTry bank.now pass.new (One d) }
+    ensures sections { SectionsAfter bank.now (One d) pass.old pass.new result }
     ensures read { IsReadOf d (call.Dict d (dict.GetOr key default)) (view pass.old) (view pass.new) result }
 {
     match take_for(bank, pass, Objects::One(d)) {
@@ -79,6 +82,7 @@ pub fn try_has(bank: &Bank, pass: &mut Pass, d: Object, key: Key) -> Step
     requires key { IsKeyIn (shape_of bank.now) key }
     requires left { 0 < (view pass.old).left }
     ensures may { MayTry bank.now pass.new (One d) }
+    ensures sections { SectionsAfter bank.now (One d) pass.old pass.new result }
     ensures read { IsReadOf d (call.Dict d (dict.Has key)) (view pass.old) (view pass.new) result }
 {
     match take_for(bank, pass, Objects::One(d)) {

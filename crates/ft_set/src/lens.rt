@@ -10,6 +10,7 @@ ghost use Rattle.ft_bank.specs.Passes.{shape_of, view, IsPassOf};
 ghost use Rattle.ft_bank.specs.Sections.{stack_of};
 ghost use Rattle.ft_section.specs.declared.answers.Objects.TheVariants.{One};
 ghost use Rattle.ft_section.specs.Ready.{MayTry};
+ghost use Rattle.ft_section.specs.Trying.{SectionsAfter};
 ghost use Rattle.ft_search.specs.Lengths.{IsGlanceOf};
 ghost use Rattle.ft_search.specs.Tries.{IsReadOf};
 
@@ -51,6 +52,7 @@ pub fn try_len(bank: &Bank, pass: &mut Pass, s: Object) -> Step
     requires set { kind_in (shape_of bank.now).kinds s ≡ kind.Set }
     requires left { 0 < (view pass.old).left }
     ensures may { MayTry bank.now pass.new (One s) }
+    ensures sections { SectionsAfter bank.now (One s) pass.old pass.new result }
     ensures read { IsReadOf s (call.Set s set.Len) (view pass.old) (view pass.new) result }
 {
     let call = Call::Set {

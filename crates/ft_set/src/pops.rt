@@ -9,6 +9,7 @@ ghost use Rattle.ft_bank.specs.Keys.{IsKeyIn};
 ghost use Rattle.ft_bank.specs.Passes.{shape_of, view};
 ghost use Rattle.ft_section.specs.declared.answers.Objects.TheVariants.{One};
 ghost use Rattle.ft_section.specs.Ready.{MayTry};
+ghost use Rattle.ft_section.specs.Trying.{SectionsAfter};
 ghost use Rattle.ft_search.specs.Calls.{IsMadeOf};
 
 use crate::deletes::{discard_locked, remove_locked};
@@ -29,6 +30,7 @@ pub fn try_discard(bank: &Bank, pass: &mut Pass, s: Object, key: Key) -> Step
     requires key { IsKeyIn (shape_of bank.now) key }
     requires left { 0 < (view pass.old).left }
     ensures may { MayTry bank.now pass.new (One s) }
+    ensures sections { SectionsAfter bank.now (One s) pass.old pass.new result }
     ensures made { IsMadeOf (One s) (call.Set s (set.Discard key)) (view pass.old) (view pass.new) result }
 {
     match take_for(bank, pass, Objects::One(s)) {
@@ -54,6 +56,7 @@ pub fn try_remove(bank: &Bank, pass: &mut Pass, s: Object, key: Key) -> Step
     requires key { IsKeyIn (shape_of bank.now) key }
     requires left { 0 < (view pass.old).left }
     ensures may { MayTry bank.now pass.new (One s) }
+    ensures sections { SectionsAfter bank.now (One s) pass.old pass.new result }
     ensures made { IsMadeOf (One s) (call.Set s (set.Remove key)) (view pass.old) (view pass.new) result }
 {
     match take_for(bank, pass, Objects::One(s)) {

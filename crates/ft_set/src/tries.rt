@@ -9,6 +9,7 @@ ghost use Rattle.ft_bank.specs.Keys.{IsKeyIn};
 ghost use Rattle.ft_bank.specs.Passes.{shape_of, view};
 ghost use Rattle.ft_section.specs.declared.answers.Objects.TheVariants.{One};
 ghost use Rattle.ft_section.specs.Ready.{MayTry};
+ghost use Rattle.ft_section.specs.Trying.{SectionsAfter};
 ghost use Rattle.ft_search.specs.Tries.{IsReadOf};
 
 use crate::locked::has_locked;
@@ -29,6 +30,7 @@ pub fn try_has(bank: &Bank, pass: &mut Pass, s: Object, key: Key) -> Step
     requires key { IsKeyIn (shape_of bank.now) key }
     requires left { 0 < (view pass.old).left }
     ensures may { MayTry bank.now pass.new (One s) }
+    ensures sections { SectionsAfter bank.now (One s) pass.old pass.new result }
     ensures read { IsReadOf s (call.Set s (set.Has key)) (view pass.old) (view pass.new) result }
 {
     match take_for(bank, pass, Objects::One(s)) {

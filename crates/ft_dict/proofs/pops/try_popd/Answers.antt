@@ -6,6 +6,7 @@ use Rattle.ft_trace.specs.Kinds.{IsKeyed}
 use Rattle.ft_bank.specs.Passes.{shape_of, view}
 use Rattle.ft_section.specs.declared.answers.Objects.TheVariants.{One}
 use Rattle.ft_search.proofs.Calling.{making_made, making_may}
+use Rattle.ft_section.proofs.Tries.{let_gone}
 use Rattle.ft_dict.proofs.pops.try_popd.Goals as goal
 
 pub popd_locked-reply-requires-clause-pass : goal.popd_locked-reply-requires-clause-pass
@@ -40,3 +41,9 @@ returns-in-NotYet-clause-may c = inr c.in-NotYet.ensures.waiting.0
 
 pub returns-in-NotYet-clause-made : goal.returns-in-NotYet-clause-made
 returns-in-NotYet-clause-made c = (c.in-NotYet.ensures.locked, c.in-NotYet.ensures.found.0, c.in-NotYet.ensures.found.1)
+
+pub returns-in-Have-clause-sections : goal.returns-in-Have-clause-sections
+returns-in-Have-clause-sections c = let_gone c.args.bank.now c.args.pass.now c.take_for.new.pass c.popd_locked-reply.new.pass c.let_go.new.pass c.in-Have.ensures.took c.popd_locked-reply.ensures.stack c.let_go.ensures.stack c.let_go.ensures.may c.let_go.ensures.resume
+
+pub returns-in-NotYet-clause-sections : goal.returns-in-NotYet-clause-sections
+returns-in-NotYet-clause-sections c = c.in-NotYet.ensures.waiting

@@ -27,7 +27,7 @@ use ft_model::{Call, Key, Reply};
 const COUNT: u64 = block_word::USED - block_word::ROOT;
 
 /// Marks the entry at a place as deleted, before the commit.
-fn put_deleted(bank: &Bank, pass: &mut Pass, o: u32, table: Table, place: u64, key: Key)
+pub fn put_deleted(bank: &Bank, pass: &mut Pass, o: u32, table: Table, place: u64, key: Key)
     requires pass { IsPassOf bank.now pass.old }
     requires writes { WritesEntries (shape_of bank.now) o table (view pass.old) }
     requires place { place < rows (kind_in (shape_of bank.now).kinds o) (class_of (name_of table)) }

@@ -104,6 +104,43 @@ impl<'a> TableWords<'a> {
     }
 }
 
+/// Looks for a key by its hash in the table of a container whose lock the pass has: where the search ended,
+/// and the words of the value that is there.
+pub fn read_by(
+    bank: &Bank,
+    pass: &mut Pass,
+    o: u32,
+    way: Way,
+    key: Key,
+    hash: u64,
+    table: Table,
+) -> (Found, Option<(u64, u64)>)
+    requires pass { IsPassOf bank.now pass.old }
+    requires container { o < containers_in (shape_of bank.now) }
+    requires hash { hash ≡ hash_of (shape_of bank.now).texts key }
+    requires table { IsTableIn (shape_of bank.now) table }
+    requires knows { KnowsTable o (name_of table) (view pass.old) }
+    ensures pass { IsPassOf bank.now pass.new }
+    ensures looks { (part : List Act) × AreLooks part × DidAll part pass.old pass.new × AreFewReads way part }
+    ensures low { hash_of (shape_of bank.now).texts key < 2 ^ 64 }
+    ensures within { IsWithin (class_mask table.class) result.0 }
+    ensures searched { (left : List ℕ)
+        × Searched (class_mask table.class) (0 ∷ 0 ∷ (held o (view pass.old)).table) key
+        (walk_slots way (hash_of (shape_of bank.now).texts key) (class_mask table.class)) left result.0
+        × ((slot place : ℕ) → result.0 ≢ Was slot place)
+        × ReadsEntry (class_mask table.class) (0 ∷ 0 ∷ (held o (view pass.old)).table) result.0 result.1 }
+{
+    let mask = mask_of(table.class);
+    let mut words = TableWords {
+        bank,
+        pass,
+        o,
+        table,
+        mask,
+    };
+    words.read_held(way, key, hash)
+}
+
 /// Looks for a key in the table of a container whose lock the pass has: where the search ended, and the
 /// words of the value that is there.
 pub fn read_in(
@@ -130,15 +167,7 @@ pub fn read_in(
         × ReadsEntry (class_mask table.class) (0 ∷ 0 ∷ (held o (view pass.old)).table) result.0 result.1 }
 {
     let hash = bank.hash_of(key);
-    let mask = mask_of(table.class);
-    let mut words = TableWords {
-        bank,
-        pass,
-        o,
-        table,
-        mask,
-    };
-    words.read_held(way, key, hash)
+    read_by(bank, pass, o, way, key, hash, table)
 }
 
 /// Reads the value at a key of a dict or a set whose lock the pass has: its kind and its payload, or

@@ -19,14 +19,14 @@ mod valuing;
 mod words;
 
 pub use crate::answering::{answer_made, written};
-pub use crate::deleting::delete_entry;
+pub use crate::deleting::{delete_entry, put_deleted};
 pub use crate::entries::raise_version;
 pub use crate::finishing::{finish_entry, write_nothing};
-pub use crate::held::{read_in, read_key};
+pub use crate::held::{read_by, read_in, read_key};
 pub use crate::lens::{look_len, try_len};
 pub use crate::look::look_up;
 pub use crate::looks::{Looked, answer_held, answer_look};
-pub use crate::spots::{Spot, seek_key};
+pub use crate::spots::{Spot, seek_by, seek_key};
 pub use crate::tables::{mask_of, table_named};
 pub use crate::valuing::set_entry;
 pub use crate::words::TableWords;

@@ -1,5 +1,6 @@
 //! Where a key is in a dict or a set whose lock the pass has, for the calls that write at it.
 ghost use Rattle.std.specs.Prelude.{◌≡◌, List, ◌++◌};
+ghost use Rattle.ft_layout.specs.Tables.{hash_of};
 ghost use Rattle.ft_layout.specs.Words.{FitsKey};
 ghost use Rattle.ft_trace.specs.Worlds.{kind_in};
 ghost use Rattle.ft_bank.specs.Keys.{IsKeyIn};
@@ -12,7 +13,7 @@ ghost use Rattle.ft_search.specs.Rounds.{kind_by};
 ghost use Rattle.ft_search.specs.Spots.{IsSpot, spot_in};
 ghost use Rattle.ft_search.specs.Writing.{MayWriteEntries};
 
-use crate::held::{ROOT, read_in};
+use crate::held::{ROOT, read_by};
 use crate::look::key_fits;
 use crate::tables::table_named;
 use ft_bank::{Bank, Pass, Table};
@@ -47,11 +48,12 @@ fn spot_of(table: Table, found: Found, read: Option<(u64, u64)>) -> Spot
     }
 }
 
-/// Looks for a key of a dict or a set that the pass may write. It loads at most as many index words as one search may.
-pub fn seek_key(bank: &Bank, pass: &mut Pass, o: u32, way: Way, key: Key) -> Spot
+/// Looks for a key by its hash in a dict or a set that the pass may write. It loads at most as many index words as
+/// one search may.
+pub fn seek_by(bank: &Bank, pass: &mut Pass, o: u32, way: Way, key: Key, hash: u64) -> Spot
     requires pass { IsPassOf bank.now pass.old }
     requires way { kind_in (shape_of bank.now).kinds o ≡ kind_by way }
-    requires key { IsKeyIn (shape_of bank.now) key }
+    requires hash { hash ≡ hash_of (shape_of bank.now).texts key }
     requires may { MayWriteEntries (shape_of bank.now) o (view pass.old) }
     ensures pass { IsPassOf bank.now pass.new }
     ensures stack { stack_of pass.new ≡ stack_of pass.old }
@@ -68,9 +70,27 @@ pub fn seek_key(bank: &Bank, pass: &mut Pass, o: u32, way: Way, key: Key) -> Spo
     let root = bank.read_block(pass, o, ROOT);
     match table_named(root) {
         Some(table) => {
-            let (found, read) = read_in(bank, pass, o, way, key, table);
+            let (found, read) = read_by(bank, pass, o, way, key, hash, table);
             spot_of(table, found, read)
         }
         None => Spot::Bare,
     }
+}
+
+/// Looks for a key of a dict or a set that the pass may write. It loads at most as many index words as one search may.
+pub fn seek_key(bank: &Bank, pass: &mut Pass, o: u32, way: Way, key: Key) -> Spot
+    requires pass { IsPassOf bank.now pass.old }
+    requires way { kind_in (shape_of bank.now).kinds o ≡ kind_by way }
+    requires key { IsKeyIn (shape_of bank.now) key }
+    requires may { MayWriteEntries (shape_of bank.now) o (view pass.old) }
+    ensures pass { IsPassOf bank.now pass.new }
+    ensures stack { stack_of pass.new ≡ stack_of pass.old }
+    ensures key { FitsKey key }
+    ensures may { MayWriteEntries (shape_of bank.now) o (view pass.new) }
+    ensures keeps { OnlyLoaded (view pass.old) (view pass.new) }
+    ensures loads { (part : List Act) × ((view pass.new).log ≡ part ++ (view pass.old).log) × AreFewReads way part }
+    ensures spot { IsSpot (shape_of bank.now) o way key (view pass.new) result }
+{
+    let hash = bank.hash_of(key);
+    seek_by(bank, pass, o, way, key, hash)
 }

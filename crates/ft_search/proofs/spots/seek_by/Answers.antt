@@ -27,31 +27,31 @@ use Rattle.ft_search.proofs.Holding.{bare_held, of_way}
 use Rattle.ft_search.proofs.Rounding.{looks_append, looks_load}
 use Rattle.ft_search.proofs.Running.{did_trans, did_log}
 use Rattle.ft_search.proofs.Spotting.{spot_is, may_loaded, spot_loaded}
-use Rattle.ft_search.proofs.spots.seek_key.Goals as goal
-use Rattle.ft_search.proofs.spots.seek_key.Goals.{After-read_in-found, In-None}
+use Rattle.ft_search.proofs.spots.seek_by.Goals as goal
+use Rattle.ft_search.proofs.spots.seek_by.Goals.{After-read_by-found, In-None}
 
 -- ---- where there is a table
 
-part : (c : After-read_in-found) → (l : List Act) × AreLooks l × DidAll l c.args.pass.now c.read_in-found.new.pass × AreFewReads c.args.way l
+part : (c : After-read_by-found) → (l : List Act) × AreLooks l × DidAll l c.args.pass.now c.read_by-found.new.pass × AreFewReads c.args.way l
 part c =
-    let r = c.read_in-found.ensures.looks in
+    let r = c.read_by-found.ensures.looks in
     let one : List Act = ReadBlock c.args.o 0 c.read_block-root.result ∷ [] in
-    (r.0 ++ one, looks_append r.0 one r.1 tt, did_trans r.0 one c.args.pass.now c.read_block-root.new.pass c.read_in-found.new.pass c.read_block-root.ensures.did r.2, few_before c.args.way r.0 one r.3 (λ t. refl))
+    (r.0 ++ one, looks_append r.0 one r.1 tt, did_trans r.0 one c.args.pass.now c.read_block-root.new.pass c.read_by-found.new.pass c.read_block-root.ensures.did r.2, few_before c.args.way r.0 one r.3 (λ t. refl))
 
-only : (c : After-read_in-found) → OnlyLoaded (view c.args.pass.now) (view c.read_in-found.new.pass)
+only : (c : After-read_by-found) → OnlyLoaded (view c.args.pass.now) (view c.read_by-found.new.pass)
 only c = let p = part c in subst (OnlyLoaded (view c.args.pass.now)) (sym p.2.1) (looks_load p.0 (view c.args.pass.now) p.1)
 
 pub returns-in-Some-clause-stack : goal.returns-in-Some-clause-stack
-returns-in-Some-clause-stack c = (part (goal.at.returns-in-Some-clause-stack c).After-read_in-found).2.2
+returns-in-Some-clause-stack c = (part (goal.at.returns-in-Some-clause-stack c).After-read_by-found).2.2
 
 pub returns-in-Some-clause-may : goal.returns-in-Some-clause-may
-returns-in-Some-clause-may c = may_loaded (shape_of c.args.bank.now) c.args.o (view c.args.pass.now) (view c.read_in-found.new.pass) (only (goal.at.returns-in-Some-clause-may c).After-read_in-found) c.requires.may
+returns-in-Some-clause-may c = may_loaded (shape_of c.args.bank.now) c.args.o (view c.args.pass.now) (view c.read_by-found.new.pass) (only (goal.at.returns-in-Some-clause-may c).After-read_by-found) c.requires.may
 
 pub returns-in-Some-clause-keeps : goal.returns-in-Some-clause-keeps
-returns-in-Some-clause-keeps c = only (goal.at.returns-in-Some-clause-keeps c).After-read_in-found
+returns-in-Some-clause-keeps c = only (goal.at.returns-in-Some-clause-keeps c).After-read_by-found
 
 pub returns-in-Some-clause-loads : goal.returns-in-Some-clause-loads
-returns-in-Some-clause-loads c = let p = part (goal.at.returns-in-Some-clause-loads c).After-read_in-found in (p.0, did_log p.0 c.args.pass.now c.read_in-found.new.pass p.2, p.3)
+returns-in-Some-clause-loads c = let p = part (goal.at.returns-in-Some-clause-loads c).After-read_by-found in (p.0, did_log p.0 c.args.pass.now c.read_by-found.new.pass p.2, p.3)
 
 pub returns-in-Some-clause-spot : goal.returns-in-Some-clause-spot
 returns-in-Some-clause-spot c =
@@ -65,14 +65,14 @@ returns-in-Some-clause-spot c =
     let kind_is = ap (λ (z : Shape). kind_in z.kinds o) c.requires.pass.1 ∙ c.requires.way in
     let names : root_in (held o v) ≡ suc (name_of table) = sym (c.read_block-root.ensures.held c.requires.may.locked) ∙ c.in-Some.ensures.named in
     let same : held o w ≡ held o v = ap (held o) c.read_block-root.ensures.did.1 in
-    let found = c.read_in-found.result.0 in
-    let read = c.read_in-found.result.1 in
+    let found = c.read_by-found.result.0 in
+    let read = c.read_by-found.result.1 in
     let s = subst (λ (x : Picture). (left : List ℕ) × Searched (class_mask table.class) (0 ∷ 0 ∷ x.table) key (walk_slots c.args.way (hash_of k.texts key) (class_mask table.class)) left found
-    × ((slot place : ℕ) → found ≢ Was slot place) × ReadsEntry (class_mask table.class) (0 ∷ 0 ∷ x.table) found read) same c.read_in-found.ensures.searched in
+    × ((slot place : ℕ) → found ≢ Was slot place) × ReadsEntry (class_mask table.class) (0 ∷ 0 ∷ x.table) found read) same c.read_by-found.ensures.searched in
     let spot_now = spot_is c.used_entries_follow_a_dict.ensures.missing c.used_entries_follow_a_set.ensures.missing c.used_entries_follow_a_dict.ensures.first c.used_entries_follow_a_set.ensures.first c.searches_end_at_the_first_free_slot.ensures k o key v c.args.way table in_bank names c.requires.may.stands
-    (of_way c.args.way v o c.args.pass.now.possible c.requires.may.locked kind_is) c.requires.way c.key_fits.ensures c.read_in-found.ensures.low s.0 found read c.read_in-found.ensures.within s.2 s.3 s.1 in
-    subst (λ (z : Spot). IsSpot k o c.args.way key (view c.read_in-found.new.pass) z) (sym c.spot_of.ensures)
-    (spot_loaded k o v (view c.read_in-found.new.pass) (only (goal.at.returns-in-Some-clause-spot c).After-read_in-found) c.args.way key _ spot_now)
+    (of_way c.args.way v o c.args.pass.now.possible c.requires.may.locked kind_is) c.requires.way c.key_fits.ensures c.read_by-found.ensures.low s.0 found read c.read_by-found.ensures.within s.2 s.3 s.1 in
+    subst (λ (z : Spot). IsSpot k o c.args.way key (view c.read_by-found.new.pass) z) (sym c.spot_of.ensures)
+    (spot_loaded k o v (view c.read_by-found.new.pass) (only (goal.at.returns-in-Some-clause-spot c).After-read_by-found) c.args.way key _ spot_now)
 
 -- ---- where there is none
 
@@ -101,11 +101,11 @@ returns-in-None-clause-spot c =
     let held_none = bare_held c.used_entries_follow_a_dict.ensures.missing c.used_entries_follow_a_set.ensures.missing k.texts (held o v) (known o v) c.requires.may.stands c.args.key c.args.way (of_way c.args.way v o c.args.pass.now.possible c.requires.may.locked kind_is) root in
     spot_loaded k o v (view c.read_block-root.new.pass) (bare_only (goal.at.returns-in-None-clause-spot c).In-None) c.args.way c.args.key spot.Bare (root, held_none)
 
-pub read_in-found-requires-clause-table : goal.read_in-found-requires-clause-table
-read_in-found-requires-clause-table c = c.in-Some.ensures.in_bank (shape_of c.args.bank.now) (λ t e. c.read_block-root.ensures.table t refl e)
+pub read_by-found-requires-clause-table : goal.read_by-found-requires-clause-table
+read_by-found-requires-clause-table c = c.in-Some.ensures.in_bank (shape_of c.args.bank.now) (λ t e. c.read_block-root.ensures.table t refl e)
 
-pub read_in-found-requires-clause-knows : goal.read_in-found-requires-clause-knows
-read_in-found-requires-clause-knows c =
+pub read_by-found-requires-clause-knows : goal.read_by-found-requires-clause-knows
+read_by-found-requires-clause-knows c =
     let o = c.args.o in
     let v = view c.args.pass.now in
     let d = c.read_block-root.ensures.did in (

@@ -1,0 +1,301 @@
+-- That the versions of the entries that a write put may be made even after its commit, one after the other.
+use Rattle.std.proofs.Common.{◌≡◌, ◌≢◌, ◌⊎◌, ℕ, zero, suc, ◌+◌, ◌%◌, ◌<◌, ◌≤◌, Bool, List, [], ◌∷◌, length, Option, Some, refl, sym, ap, ◌∙◌, subst, inl, inr, ⊎_elim, arith, get_or-set_same, get_or-set_other}
+use Rattle.std.specs.Prelude.{slice_index, slice_set}
+use mathlib.Core.Logic.{dite}
+use native.Mathlib.Decide.{ℕ_discrete}
+use Rattle.std.proofs.Math.Decide.{dec_lt}
+use Rattle.ft_model.specs.declared.call.Call.{Call}
+use Rattle.ft_model.specs.declared.content.Content.{Content}
+use Rattle.ft_model.specs.declared.content.Content.TheVariants as content
+use Rattle.ft_model.specs.declared.data.Key.{Key}
+use Rattle.ft_model.specs.declared.reply.Reply.{Reply}
+use Rattle.ft_model.specs.declared.script.Kind.{Kind}
+use Rattle.ft_model.specs.Classes.{IsClass, set_entries}
+use Rattle.ft_model.specs.Contents.{DictContent, SetContent}
+use Rattle.ft_model.specs.Worlds.{kind_of}
+use Rattle.ft_hash.specs.Probes.{dict_walk, set_walk}
+use Rattle.ft_hash.proofs.Walks.{dict_walk-within, set_walk-within}
+use Rattle.ft_layout.specs.Tables.{dict_room, set_room, IsDictTable, IsSetTable}
+use Rattle.ft_layout.specs.Tables as layout
+use Rattle.ft_layout.specs.Containers.{class_mask, IsDictWords, IsSetWords}
+use Rattle.ft_layout.proofs.Powers.{slots_range}
+use Rattle.ft_trace.specs.declared.Act.TheVariants.{Commit, StopWrite}
+use Rattle.ft_trace.specs.declared.Shape.{Shape}
+use Rattle.ft_trace.specs.declared.Snap.{Snap}
+use Rattle.ft_trace.specs.declared.View.{View}
+use Rattle.ft_trace.specs.Acts.{has_lock, has_committed, is_writing, noted, seen_writes}
+use Rattle.ft_trace.specs.Addresses.{class_of, slots, places}
+use Rattle.ft_trace.specs.Carefuls.{said_of, IsDead, IsLive}
+use Rattle.ft_trace.specs.Holds.{held, known}
+use Rattle.ft_trace.specs.Kinds.{under, rows, version_at, CarefulAs, ClearAs, IsKeyed}
+use Rattle.ft_trace.specs.Openings.{Shut, Timely}
+use Rattle.ft_trace.specs.Traces.{Possible}
+use Rattle.ft_trace.specs.Words.{Picture, root_in, entry_at, entry_of, Stands}
+use Rattle.ft_trace.specs.Worlds.{Kept, kind_in, changes}
+use Rattle.ft_trace.proofs.ByKind.{keyed_low}
+use Rattle.ft_trace.proofs.DictWrites as dict
+use Rattle.ft_trace.proofs.EntryPuts.{entry_close}
+use Rattle.ft_trace.proofs.Known.{after_header, class_known, table_is_long}
+use Rattle.ft_trace.proofs.SetKnown as set
+use Rattle.ft_bank.specs.declared.table.Table.{Table}
+use Rattle.ft_bank.specs.Tables.{name_of}
+use Rattle.ft_bank.specs.Whole.{EndsWrite, OnlyLoaded, OnlyPut}
+use Rattle.ft_bank.specs.Writes.{Committed, IsCareful, IsShut, with_table}
+use Rattle.ft_bank.proofs.Whole.{loaded_held, loaded_put, work_knows, write_ends}
+use Rattle.ft_search.specs.Writing.{raised_at}
+use Rattle.ft_search.proofs.Changing.{kind_is}
+use Rattle.ft_search.proofs.Puts.{keyed_version, table_class, writes_on}
+use Rattle.ft_merging.specs.Internal.Writing.{IsClosing, MayFinishAll, NoneDead, version_of}
+
+-- ---- what words say that stand for a dict or a set
+
+-- what is known of the first used entries, as it is cited
+pub record Laws : Type 0 where
+  pub pairs : dict.FirstEntriesArePairs
+  pub elements : set.FirstEntriesAreElements
+
+module _ (laws : Laws) (texts : List ℕ) (x : Picture) (t : ℕ) (is_class : IsClass (class_of t)) (names : root_in x ≡ suc t) where
+  abbrev c : ℕ
+  c = class_of t
+
+  abbrev n : ℕ
+  n = slots c
+
+  dict_says : (pairs : DictContent) (kept : Kept) → kept.content ≡ content.Dict pairs → Stands texts x kept → IsDictWords texts x.block (0 ∷ 0 ∷ x.table) (Some c) kept.table.fill pairs
+  dict_says pairs kept is stands =
+      let here : Stands texts x (record { content = content.Dict pairs; table = kept.table }) = subst (λ (z : Content). Stands texts x (record { content = z; table = kept.table })) is stands in
+      subst (λ (z : Option ℕ). IsDictWords texts x.block (0 ∷ 0 ∷ x.table) z kept.table.fill pairs) (class_known texts x kept t stands names) here
+
+  pub set_says : (elements : SetContent) (kept : Kept) → kept.content ≡ content.Set elements → Stands texts x kept → IsSetWords texts x.block (0 ∷ 0 ∷ x.table) (Some c) kept.table.fill elements
+  set_says elements kept is stands =
+      let here : Stands texts x (record { content = content.Set elements; table = kept.table }) = subst (λ (z : Content). Stands texts x (record { content = z; table = kept.table })) is stands in
+      subst (λ (z : Option ℕ). IsSetWords texts x.block (0 ∷ 0 ∷ x.table) z kept.table.fill elements) (class_known texts x kept t stands names) here
+
+  -- a live entry says what there is
+  right_of : (d : Content) (kept : Kept) → kept.content ≡ d → IsKeyed (kind_of d) → Stands texts x kept → (p : ℕ) (key : Key) → p < rows (kind_of d) c → IsLive n x.table p key → under d key ≡ said_of n x.table p
+  right_of (content.Dict pairs) kept is keyed stands p key low live = dict.dict_right laws.pairs texts x.block c kept.table.fill is_class pairs x.table (dict_says pairs kept is stands) p key low live
+  right_of (content.Set elements) kept is keyed stands p key low live = set.set_right laws.elements texts x.block c kept.table.fill is_class elements x.table (set_says elements kept is stands) p key low live
+  right_of (content.List values) kept is keyed stands p key low live = absurd keyed
+
+  -- what may be committed that leaves this
+  pub clear_of : (d : Content) (kept : Kept) → kept.content ≡ d → IsKeyed (kind_of d) → Stands texts x kept → (before : Content) → ((p : ℕ) (key : Key) → p < rows (kind_of d) c → entry_of n x.table p 0 % 2 ≡ 0 → IsLive n x.table p key → under d key ≡ under before key) → ClearAs (kind_of d) texts c x.table before d
+  clear_of (content.Dict pairs) kept is keyed stands before same = record { keeps = λ p key low even live. same p key low even live; adds = λ key fits none some. dict.dict_reached laws.pairs texts x.block c kept.table.fill is_class pairs x.table (dict_says pairs kept is stands) key fits some }
+  clear_of (content.Set elements) kept is keyed stands before same = record { keeps = λ p key low even live. same p key low even live; adds = λ key fits none some. set.set_reached laws.elements texts x.block c kept.table.fill is_class elements x.table (set_says elements kept is stands) key fits some }
+  clear_of (content.List values) kept is keyed stands before same = absurd keyed
+
+  -- a version may be made even
+  close_of : (d : Content) (kept : Kept) → kept.content ≡ d → IsKeyed (kind_of d) → Stands texts x kept → (p : ℕ) → p < rows (kind_of d) c → entry_of n x.table p 0 % 2 ≡ 1 → ((key : Key) → IsDead n x.table p key → under d key ≡ []) → CarefulAs (kind_of d) c x.table d (entry_at n p 0) (entry_of n x.table p 0 + 1)
+  close_of (content.Dict pairs) kept is keyed stands p low odd gone = entry_close n (places c) x.table (under (content.Dict pairs)) p (entry_of n x.table p 0 + 1) refl (omega (arith, odd)) (λ key live. right_of (content.Dict pairs) kept is keyed stands p key low live) gone
+  close_of (content.Set elements) kept is keyed stands p low odd gone = entry_close n (set_entries c) x.table (under (content.Set elements)) p (entry_of n x.table p 0 + 1) refl (omega (arith, odd)) (λ key live. right_of (content.Set elements) kept is keyed stands p key low live) gone
+  close_of (content.List values) kept is keyed stands p low odd gone = absurd keyed
+
+  -- a version that is put into an entry changes nothing
+  version_put : dict.EntryVersionsChangeNothing → (d : Content) (kept : Kept) → kept.content ≡ d → IsKeyed (kind_of d) → Stands texts x kept → (p y : ℕ) → Stands texts (with_table x (entry_at n p 0) y) kept
+  unfolding slots
+  version_put versions (content.Dict pairs) kept is keyed stands p y =
+      let says = dict_says pairs kept is stands in
+      let r = (slots_range c is_class).0 in
+      let table : IsDictTable texts (class_mask c) says.used (0 ∷ 0 ∷ slice_set x.table (entry_at n p 0) y) = subst (λ (z : List ℕ). IsDictTable texts (class_mask c) says.used z) (after_header x.table (layout.entry_at (class_mask c) p 0) (entry_at n p 0) y (omega (arith, r)))
+      (versions (λ hash. dict_walk hash (class_mask c) (class_mask c + 14)) (dict_room (class_mask c)) texts (class_mask c) says.used (0 ∷ 0 ∷ x.table) p y (λ hash. dict_walk-within hash (class_mask c) (class_mask c + 14)) says.table) in
+      let now : IsDictWords texts x.block (0 ∷ 0 ∷ slice_set x.table (entry_at n p 0) y) (Some c) kept.table.fill pairs = record { head = says.head; used = says.used; table = table; filled = says.filled; entries = says.entries } in
+      let here : Stands texts (with_table x (entry_at n p 0) y) (record { content = content.Dict pairs; table = kept.table }) = subst (λ (z : Option ℕ). IsDictWords texts x.block (0 ∷ 0 ∷ slice_set x.table (entry_at n p 0) y) z kept.table.fill pairs) (sym (class_known texts x kept t stands names)) now in
+      subst (λ (z : Content). Stands texts (with_table x (entry_at n p 0) y) (record { content = z; table = kept.table })) (sym is) here
+  version_put versions (content.Set elements) kept is keyed stands p y =
+      let says = set_says elements kept is stands in
+      let r = (slots_range c is_class).0 in
+      let table : IsSetTable texts (class_mask c) says.used (0 ∷ 0 ∷ slice_set x.table (entry_at n p 0) y) = subst (λ (z : List ℕ). IsSetTable texts (class_mask c) says.used z) (after_header x.table (layout.entry_at (class_mask c) p 0) (entry_at n p 0) y (omega (arith, r)))
+      (versions (λ hash. set_walk hash (class_mask c) (class_mask c + 14)) (set_room (class_mask c)) texts (class_mask c) says.used (0 ∷ 0 ∷ x.table) p y (λ hash. set_walk-within hash (class_mask c) (class_mask c + 14)) says.table) in
+      let now : IsSetWords texts x.block (0 ∷ 0 ∷ slice_set x.table (entry_at n p 0) y) (Some c) kept.table.fill elements = record { head = says.head; used = says.used; table = table; filled = says.filled; entries = says.entries } in
+      let here : Stands texts (with_table x (entry_at n p 0) y) (record { content = content.Set elements; table = kept.table }) = subst (λ (z : Option ℕ). IsSetWords texts x.block (0 ∷ 0 ∷ slice_set x.table (entry_at n p 0) y) z kept.table.fill elements) (sym (class_known texts x kept t stands names)) now in
+      subst (λ (z : Content). Stands texts (with_table x (entry_at n p 0) y) (record { content = z; table = kept.table })) (sym is) here
+  version_put versions (content.List values) kept is keyed stands p y = absurd keyed
+
+-- ---- one version
+
+-- a version is even or odd
+pub parity : (a : ℕ) → (a % 2 ≡ 0) ⊎ (a % 2 ≡ 1)
+parity a = dite (ℕ_discrete (a % 2) 0) (λ (e : a % 2 ≡ 0). inl e) (λ ne. inr (by (a % 2) (omega arith) ne))
+  where
+    by : (r : ℕ) → r < 2 → r ≢ 0 → r ≡ 1
+    by zero low ne = absurd (ne refl)
+    by (suc zero) low ne = refl
+    by (suc (suc r)) low ne = absurd (omega (arith, low))
+
+-- the words of the other entries, and all but the version of this one
+pub raised_else : (t : ℕ) (x : Picture) (p q w : ℕ) → w < 8 → (q ≢ p) ⊎ (0 < w) → entry_of (slots (class_of t)) (raised_at t p x).table q w ≡ entry_of (slots (class_of t)) x.table q w
+raised_else t x p q w few other =
+    get_or-set_other x.table (entry_at (slots (class_of t)) p 0) (entry_at (slots (class_of t)) q w) (entry_of (slots (class_of t)) x.table p 0 + 1) 0
+    (λ e. ⊎_elim (λ (ne : q ≢ p). ne (omega (arith, e, few))) (λ (some : 0 < w). omega (arith, e, few, some)) other)
+
+pub raised_here : (t : ℕ) (x : Picture) (p : ℕ) → entry_at (slots (class_of t)) p 0 < length x.table → version_of t (raised_at t p x) p ≡ version_of t x p + 1
+raised_here t x p low = get_or-set_same x.table (entry_at (slots (class_of t)) p 0) (entry_of (slots (class_of t)) x.table p 0 + 1) 0 low
+
+module _ (t m : ℕ) (x : Picture) (p : ℕ) (low : entry_at (slots (class_of t)) p 0 < length x.table) (odd : version_of t x p % 2 ≡ 1) where
+  -- an entry whose version is odd then is another one, whose words are as they were
+  still_odd : (q : ℕ) → version_of t (raised_at t p x) q % 2 ≡ 1 → q ≢ p
+  still_odd q now same =
+      let here : version_of t (raised_at t p x) q ≡ version_of t x p + 1 = ap (version_of t (raised_at t p x)) same ∙ raised_here t x p low in
+      omega (arith, here, now, odd)
+
+  was_odd : (q : ℕ) → version_of t (raised_at t p x) q % 2 ≡ 1 → version_of t x q % 2 ≡ 1
+  was_odd q now = let e = raised_else t x p q 0 (omega arith) (inl (still_odd q now)) in omega (arith, e, now)
+
+  pub raised_dead : (kept : Kept) → NoneDead t m x kept → NoneDead t m (raised_at t p x) kept
+  raised_dead kept none q key less now dead =
+      none q key less (was_odd q now)
+      (sym (raised_else t x p q 2 (omega arith) (inr (omega arith))) ∙ dead.0, sym (raised_else t x p q 3 (omega arith) (inr (omega arith))) ∙ dead.1)
+
+  pub raised_opened : (fill : ℕ) → ((q : ℕ) → q < m → version_of t x q % 2 ≡ 1 → q < fill) → (q : ℕ) → q < m → version_of t (raised_at t p x) q % 2 ≡ 1 → q < fill
+  raised_opened fill opened q less now = opened q less (was_odd q now)
+
+  pub raised_shut : ((q : ℕ) → q < m → q < p → version_of t x q % 2 ≡ 0) → (q : ℕ) → q < m → q < p + 1 → version_of t (raised_at t p x) q % 2 ≡ 0
+  raised_shut shut q less up =
+      dite (dec_lt q p)
+      (λ (before : q < p).
+      let old = shut q less before in
+      let e = raised_else t x p q 0 (omega arith) (inl (λ same. omega (arith, same, before))) in
+      omega (arith, old, e))
+      (λ past.
+      let same : q ≡ p = omega (arith, past, up) in
+      let here : version_of t (raised_at t p x) q ≡ version_of t x p + 1 = ap (version_of t (raised_at t p x)) same ∙ raised_here t x p low in
+      omega (arith, here, odd))
+
+-- ---- what the pass knows
+
+module _ (k : Shape) (o : ℕ) (table : Table) (from fill : ℕ) (v w : View) (only : OnlyLoaded v w) (closing : IsClosing k o table from fill v) where
+  abbrev lt : ℕ
+  lt = name_of table
+
+  abbrev lm : ℕ
+  lm = rows (kind_in k.kinds o) (class_of lt)
+
+  held_back : held o v ≡ held o w
+  held_back = sym (loaded_held v w o only)
+
+  pub closing_loaded : IsClosing k o table from fill w
+  closing_loaded = record {
+    writes = writes_on k o table v w (loaded_put v w o only) (ap root_in (loaded_held v w o only)) closing.writes;
+    late = only.work.committed o ∙ closing.late;
+    stands = subst (λ (y : Picture × Kept). Stands k.texts y.0 y.1) (λ d. (held_back d, sym (work_knows v w o only.work) d)) closing.stands;
+    gone = subst (λ (y : Picture × Kept). NoneDead lt lm y.0 y.1) (λ d. (held_back d, sym (work_knows v w o only.work) d)) closing.gone;
+    opened = subst (λ (y : Picture). (p : ℕ) → p < lm → version_of lt y p % 2 ≡ 1 → p < fill) held_back closing.opened;
+    shut = subst (λ (y : Picture). (p : ℕ) → p < lm → p < from → version_of lt y p % 2 ≡ 0) held_back closing.shut;
+  }
+
+module _ (laws : Laws) (k : Shape) (o : ℕ) (table : Table) (place fill : ℕ) (v : View) (shape : v.shape ≡ k) (possible : ∥ Possible v ∥₁) (low : place < rows (kind_in k.kinds o) (class_of (name_of table))) (closing : IsClosing k o table place fill v) where
+  abbrev ct : ℕ
+  ct = name_of table
+
+  abbrev cn : ℕ
+  cn = slots (class_of ct)
+
+  abbrev cm : ℕ
+  cm = rows (kind_in k.kinds o) (class_of ct)
+
+  abbrev at : ℕ
+  at = entry_at cn place 0
+
+  kind_eq : kind_of (known o v).content ≡ kind_in k.kinds o
+  kind_eq = kind_is k v o shape possible closing.writes.locked
+
+  is_keyed : IsKeyed (kind_of (known o v).content)
+  is_keyed = subst IsKeyed (sym kind_eq) closing.writes.keyed
+
+  class_is : IsClass (class_of ct)
+  class_is = table_class k table closing.writes.table_in
+
+  inside : at < length (held o v).table
+  inside = subst (λ (z : ℕ). at < z) (sym (table_is_long v o ct closing.writes.root)) (keyed_low (kind_in k.kinds o) closing.writes.keyed (class_of ct) place 0 low (omega arith))
+
+  -- the version may be made even
+  pub closing_care : version_of ct (held o v) place % 2 ≡ 1 → IsCareful v o ct at (entry_of cn (held o v).table place 0 + 1)
+  closing_care odd =
+      let care = close_of laws k.texts (held o v) ct class_is closing.writes.root (known o v).content (known o v) refl is_keyed closing.stands place (subst (λ (z : Kind). place < rows z (class_of ct)) (sym kind_eq) low) odd (λ key dead. closing.gone place key low odd dead) in
+      record {
+        care = subst (λ (z : Kind). CarefulAs z (class_of ct) (held o v).table (known o v).content at (entry_of cn (held o v).table place 0 + 1)) (kind_eq ∙ sym (ap (λ (z : Shape). kind_in z.kinds o) shape)) care;
+        timely = subst (λ (b : Bool). Timely (version_at (kind_in v.shape.kinds o) (class_of ct)) (rows (kind_in v.shape.kinds o) (class_of ct)) at (entry_of cn (held o v).table place 0 + 1) b) (sym closing.late)
+            (record { before = λ q less is one. absurd (omega (arith, one, odd)); later = λ q less is two. refl });
+      }
+
+  pub closing_raised : dict.EntryVersionsChangeNothing → (z : View) → OnlyPut o v z → held o z ≡ raised_at ct place (held o v) → version_of ct (held o v) place % 2 ≡ 1 → IsClosing k o table (place + 1) fill z
+  closing_raised versions z only held_is odd =
+      let back : raised_at ct place (held o v) ≡ held o z = sym held_is in
+      let knows = sym (work_knows v z o only.work) in
+      record {
+        writes = writes_on k o table v z only (ap root_in held_is) closing.writes;
+        late = only.work.committed o ∙ closing.late;
+        stands = subst (λ (y : Picture × Kept). Stands k.texts y.0 y.1) (λ d. (back d, knows d)) (version_put laws k.texts (held o v) ct class_is closing.writes.root versions (known o v).content (known o v) refl is_keyed closing.stands place (entry_of cn (held o v).table place 0 + 1));
+        gone = subst (λ (y : Picture × Kept). NoneDead ct cm y.0 y.1) (λ d. (back d, knows d)) (raised_dead ct cm (held o v) place inside odd (known o v) closing.gone);
+        opened = subst (λ (y : Picture). (p : ℕ) → p < cm → version_of ct y p % 2 ≡ 1 → p < fill) back (raised_opened ct cm (held o v) place inside odd fill closing.opened);
+        shut = subst (λ (y : Picture). (p : ℕ) → p < cm → p < place + 1 → version_of ct y p % 2 ≡ 0) back (raised_shut ct cm (held o v) place inside odd closing.shut);
+      }
+
+  -- it is even
+  pub closing_even : version_of ct (held o v) place % 2 ≡ 0 → IsClosing k o table (place + 1) fill v
+  closing_even even = record {
+    writes = closing.writes;
+    late = closing.late;
+    stands = closing.stands;
+    gone = closing.gone;
+    opened = closing.opened;
+    shut = λ p less up.
+        dite (dec_lt p place)
+        (λ (before : p < place). closing.shut p less before)
+        (λ past. let same : place ≡ p = omega (arith, past, up) in subst (λ (q : ℕ). version_of ct (held o v) q % 2 ≡ 0) same even);
+  }
+
+-- ---- the commit
+
+module _ (k : Shape) (o : ℕ) (table : Table) (fill : ℕ) (called : Call) (said : Reply) (u : View) (m : MayFinishAll k o table fill called said u) (number : ℕ) (snap : Snap) (w : View) (is : w ≡ noted (Commit called said number snap) u) (committed : Committed u w called) where
+  abbrev ft : ℕ
+  ft = name_of table
+
+  abbrev fm : ℕ
+  fm = rows (kind_in k.kinds o) (class_of ft)
+
+  held_then : held o u ≡ held o w
+  held_then = sym (ap (held o) is)
+
+  known_then : m.left ≡ known o w
+  known_then = sym (committed.left o ∙ m.left_is committed.found committed.has)
+
+  pub closing_begins : IsClosing k o table 0 fill w
+  closing_begins =
+      let b = m.midway in
+      record {
+        writes = record {
+          container = b.writes.container;
+          keyed = b.writes.keyed;
+          table_in = b.writes.table_in;
+          locked = ap (λ (z : View). has_lock o z.log) is ∙ b.writes.locked;
+          odd = ap (λ (z : View). is_writing o z.log) is ∙ b.writes.odd;
+          root = ap (λ (z : View). root_in (held o z)) is ∙ b.writes.root;
+        };
+        late = ap (λ (z : View). has_committed o z.log) is;
+        stands = subst (λ (y : Picture × Kept). Stands k.texts y.0 y.1) (λ d. (held_then d, known_then d)) b.stands;
+        gone = subst (λ (y : Picture × Kept). NoneDead ft fm y.0 y.1) (λ d. (held_then d, known_then d)) b.gone;
+        opened = subst (λ (y : Picture × ℕ). (p : ℕ) → p < fm → version_of ft y.0 p % 2 ≡ 1 → p < y.1) (λ d. (held_then d, m.used d)) b.opened;
+        shut = λ p less none. absurd (omega (arith, none));
+      }
+
+  pub closing_ends : (z : View) → OnlyPut o w z → IsClosing k o table fill fill z → u.shape ≡ k → (stop : ℕ) (x : View) → seen_writes u ≤ number → x ≡ noted (StopWrite o stop) z → EndsWrite called said number u x
+  closing_ends z only closing shape stop x seen stopped =
+      let at : o ≡ changes called = sym m.changed in
+      let stands : Stands u.shape.texts (held o z) (known o z) = subst (λ (y : Shape). Stands y.texts (held o z) (known o z)) (sym shape) closing.stands in
+      write_ends called said number stop snap u w z x seen is committed m.may.left
+      (subst (λ (p : ℕ). OnlyPut p w z) at only)
+      (subst (λ (p : ℕ). root_in (held p z) ≡ root_in (held p u)) at (closing.writes.root ∙ sym m.midway.writes.root))
+      (subst (λ (p : ℕ). Stands u.shape.texts (held p z) (known p z)) at stands)
+      (subst (λ (p : ℕ). x ≡ noted (StopWrite p stop) z) at stopped)
+
+-- no version is odd then
+pub closing_shut : (k : Shape) (o : ℕ) (table : Table) (fill : ℕ) (v : View) → v.shape ≡ k → IsClosing k o table fill fill v → IsShut o v
+closing_shut k o table fill v shape closing q names =
+    let t = name_of table in
+    let same : t ≡ q = let e : suc t ≡ suc q = sym closing.writes.root ∙ names in omega (arith, e) in
+    let m = rows (kind_in k.kinds o) (class_of t) in
+    let here : Shut (version_at (kind_in k.kinds o) (class_of t)) m (held o v).table =
+    λ p less.
+    let even : version_of t (held o v) p % 2 ≡ 0 = ⊎_elim (λ (e : version_of t (held o v) p % 2 ≡ 0). e) (λ (odd : version_of t (held o v) p % 2 ≡ 1). closing.shut p less (closing.opened p less odd)) (parity (version_of t (held o v) p)) in
+    subst (λ (i : ℕ). slice_index (held o v).table i % 2 ≡ 0) (sym (keyed_version (kind_in k.kinds o) closing.writes.keyed (class_of t) p)) even in
+    subst (λ (y : Shape × ℕ). Shut (version_at (kind_in y.0.kinds o) (class_of y.1)) (rows (kind_in y.0.kinds o) (class_of y.1)) (held o v).table) (λ d. (sym shape d, same d)) here

@@ -1,0 +1,4 @@
+pub mod Ending
+pub mod Thinned
+pub mod Finished
+pub mod Pairs

@@ -1,0 +1,472 @@
+-- A set in the midst of a write that takes some of its elements out: what each deletion leaves, and what all of them come to.
+use Rattle.std.proofs.Common.{◌≡◌, ◌≢◌, ℕ, suc, ◌+◌, ◌-◌, ◌*◌, ◌%◌, ◌<◌, ◌≤◌, Bool, true, false, List, [], ◌∷◌, length, filter, find, cond, Option, Some, refl, sym, ap, ◌∙◌, subst, arith, length-set, get_or-set_same, get_or-set_other}
+use Rattle.std.specs.Prelude.{All, ◌||◌, not, slice_index, slice_set, slice_get}
+use Rattle.std.specs.List.{list_any}
+use Rattle.std.specs.Option.{option_map_or}
+use mathlib.Core.Logic.{dite}
+use native.Mathlib.Decide.{ℕ_discrete}
+use Rattle.std.proofs.Math.Decide.{dec_lt}
+use Rattle.std.proofs.lemmas.Option.{get_or_from_slice_get, slice_get_within}
+use Rattle.ft_model.specs.declared.content.Content.{Content}
+use Rattle.ft_model.specs.declared.content.Content.TheVariants as content
+use Rattle.ft_model.specs.declared.content.Element.{Element}
+use Rattle.ft_model.specs.declared.data.Key.{Key}
+use Rattle.ft_model.specs.declared.script.Kind.{Kind}
+use Rattle.ft_model.specs.declared.script.Kind.TheVariants as kind
+use Rattle.ft_model.specs.Classes.{IsClass, set_entries}
+use Rattle.ft_model.specs.Contents.{SetContent, IsSet, has_element, set_discard}
+use Rattle.ft_model.specs.Keys.{same_key}
+use Rattle.ft_model.specs.Tables.{TableUse}
+use Rattle.ft_model.proofs.KeyLemmas.{same_key-true}
+use Rattle.ft_hash.specs.Probes.{set_walk}
+use Rattle.ft_hash.proofs.Walks.{set_walk-within}
+use Rattle.ft_layout.specs.Words.{FitsKey, gone_kind}
+use Rattle.ft_layout.specs.Tables.{UsedEntry, hash_of, set_room, IsSetTable}
+use Rattle.ft_layout.specs.Tables as layout
+use Rattle.ft_layout.specs.Changes.{with_deleted}
+use Rattle.ft_layout.specs.Containers.{class_mask, used_element, IsBlock, IsSetWords}
+use Rattle.ft_layout.proofs.ContentLaws.{stands_for_set}
+use Rattle.ft_layout.proofs.Powers.{slots_range}
+use Rattle.ft_layout.proofs.WordLaws.{gone_is, kind_range}
+use Rattle.ft_layout.proofs.WordLaws as words
+use Rattle.ft_trace.specs.declared.Shape.{Shape}
+use Rattle.ft_trace.specs.declared.View.{View}
+use Rattle.ft_trace.specs.Addresses.{class_of, slots, size}
+use Rattle.ft_trace.specs.Carefuls.{IsLive, IsDead, said_of}
+use Rattle.ft_trace.specs.Holds.{held, known}
+use Rattle.ft_trace.specs.Kinds.{element_words, is_key, rows, under}
+use Rattle.ft_trace.specs.Words.{Picture, root_in, entry_at, entry_of, Stands}
+use Rattle.ft_trace.specs.Worlds.{Kept, kind_in}
+use Rattle.ft_trace.specs.Writes.{to_block, to_table, with_puts, MayPut, MayPuts}
+use Rattle.ft_trace.proofs.ByKind.{keyed_low}
+use Rattle.ft_trace.proofs.EntryPuts.{dead_is, dead_kind, dead_open, dead_others, dead_same}
+use Rattle.ft_trace.proofs.FitCalls.{set_fits_words}
+use Rattle.ft_trace.proofs.Known.{after_header, class_known}
+use Rattle.ft_trace.proofs.LookReplies.{element_there}
+use Rattle.ft_trace.proofs.SetKnown as set
+use Rattle.ft_trace.proofs.SetDiscards as discarded
+use Rattle.ft_trace.proofs.Tellings.{key_is, key_words, live_tells, right_is_live, word_is}
+use Rattle.ft_bank.specs.declared.table.Table.{Table}
+use Rattle.ft_bank.specs.Tables.{name_of}
+use Rattle.ft_bank.specs.Whole.{OnlyLoaded, OnlyPut}
+use Rattle.ft_bank.proofs.Whole.{loaded_held, loaded_put, work_knows}
+use Rattle.ft_search.specs.Writing.{deletion}
+use Rattle.ft_search.proofs.Changing.{with_count}
+use Rattle.ft_search.proofs.Laws.{SetLaws}
+use Rattle.ft_search.proofs.Puts.{table_class, writes_on}
+use Rattle.ft_merging.specs.Thinning.{stays}
+use Rattle.ft_merging.specs.Internal.Thinning.{IsThinned}
+use Rattle.ft_merging.specs.Internal.Writing.{IsMidway, NoneDead, version_of}
+
+-- ---- elements
+
+-- one that doesn't stay may be taken out first
+discard_stays : (f : Key → Bool) (key : Key) → f key ≡ false → (es : List Element) → filter (λ (e : Element). f e.key) (filter (λ (e : Element). not (same_key e.key key)) es) ≡ filter (λ (e : Element). f e.key) es
+discard_stays f key out [] = refl
+discard_stays f key out (e ∷ es) =
+    let rest = discard_stays f key out es in
+    elim (same_key e.key key) as (λ b. same_key e.key key ≡ b → filter (λ (x : Element). f x.key) (cond (not b) (e ∷ filter (λ (x : Element). not (same_key x.key key)) es) (filter (λ (x : Element). not (same_key x.key key)) es)) ≡ filter (λ (x : Element). f x.key) (e ∷ es)) [
+      | true ↦ λ yes. rest ∙ sym (ap (λ (b : Bool). cond b (e ∷ filter (λ (x : Element). f x.key) es) (filter (λ (x : Element). f x.key) es)) (ap f (same_key-true e.key key yes) ∙ out))
+      | false ↦ λ no. ap (λ (z : List Element). cond (f e.key) (e ∷ z) z) rest
+    ] refl
+
+-- what isn't there isn't among fewer
+none_filtered : (test keep : Element → Bool) (es : List Element) → option_map_or element_words (find test es) [] ≡ [] → option_map_or element_words (find test (filter keep es)) [] ≡ []
+none_filtered test keep [] none = refl
+none_filtered test keep (e ∷ es) none =
+    elim (test e) as (λ b. test e ≡ b → option_map_or element_words (cond b (Some e) (find test es)) [] ≡ [] → option_map_or element_words (find test (filter keep (e ∷ es))) [] ≡ []) [
+      | true ↦ λ yes same. absurd (cc)
+      | false ↦ λ no same.
+          let rest = none_filtered test keep es same in
+          elim (keep e) as (λ b. option_map_or element_words (find test (cond b (e ∷ filter keep es) (filter keep es))) [] ≡ []) [
+            | true ↦ ap (λ (b : Bool). option_map_or element_words (cond b (Some e) (find test (filter keep es))) []) no ∙ rest
+            | false ↦ rest
+          ]
+    ] refl none
+
+-- what is there is found
+found_words : (test : Element → Bool) (es : List Element) → list_any test es ≡ true → option_map_or element_words (find test es) [] ≢ []
+found_words test [] some = absurd (cc)
+found_words test (e ∷ es) some =
+    elim (test e) as (λ b. (b || list_any test es) ≡ true → option_map_or element_words (cond b (Some e) (find test es)) [] ≢ []) [
+      | true ↦ λ yes none. absurd (cc)
+      | false ↦ λ yes. found_words test es yes
+    ] some
+
+later : (a b : Bool) → b ≡ true → (a || b) ≡ true
+later true b e = refl
+later false b e = e
+
+-- where each stays, all are left
+all_stay : (f : Key → Bool) (es : List Element) → All (λ (e : Element). FitsKey e.key) es → ((key : Key) → FitsKey key → list_any (λ (e : Element). is_key e.key key) es ≡ true → f key ≡ true) → filter (λ (e : Element). f e.key) es ≡ es
+all_stay f [] fits each = refl
+all_stay f (e ∷ es) fits each =
+    let here = each e.key (fits 0 e (omega arith)) (ap (λ (b : Bool). b || list_any (λ (x : Element). is_key x.key e.key) es) (key_is e.key e.key refl refl)) in
+    let rest = all_stay f es (λ i d low. fits (suc i) d (omega (arith, low))) (λ key ok there. each key ok (later (is_key e.key key) (list_any (λ (x : Element). is_key x.key key) es) there)) in
+    ap (λ (b : Bool). cond b (e ∷ filter (λ (x : Element). f x.key) es) (filter (λ (x : Element). f x.key) es)) here ∙ ap (λ (z : List Element). e ∷ z) rest
+
+-- ---- an entry of a set whose other entries may be written too
+
+module _ (laws : SetLaws) (texts : List ℕ) (x : Picture) (tab : TableUse) (t : ℕ) (is_class : IsClass (class_of t)) (elements : SetContent) (says : IsSetWords texts x.block (0 ∷ 0 ∷ x.table) (Some (class_of t)) tab.fill elements) (p : ℕ) (key : Key) (low : p < set_entries (class_of t)) (live : IsLive (slots (class_of t)) x.table p key) (fits : FitsKey key) where
+  abbrev c : ℕ
+  c = class_of t
+
+  abbrev n : ℕ
+  n = slots c
+
+  abbrev walk : ℕ → List ℕ
+  walk hash = set_walk hash (class_mask c) (class_mask c + 14)
+
+  within : (hash : ℕ) → All (λ slot. slot ≤ class_mask c) (walk hash)
+  within hash = set_walk-within hash (class_mask c) (class_mask c + 14)
+
+  in_order : IsSet elements.next elements.elements
+  in_order = stands_for_set texts x.block (0 ∷ 0 ∷ x.table) (Some c) tab.fill elements says
+
+  -- the element whose entry it is
+  mine : (item : Element) × (slice_get says.used p ≡ Some (used_element item)) × (item.key ≡ key)
+  mine =
+      let room : set_room (class_mask c) ≡ set_entries c = set.room_is laws.first texts x.block c tab.fill is_class elements x.table says in
+      let tells = live_tells walk (set_room (class_mask c)) texts c is_class says.used x.table says.table p key (omega (arith, room, low)) live in
+      let l = laws.lives says.used elements p tells.entry says.entries in_order tells.at tells.live in
+      let w = key_words tells.entry.key key tells.mine in
+      (l.0, tells.at ∙ ap (λ (z : UsedEntry). Some z) l.1, ap (λ (z : UsedEntry). z.key) (sym l.1) ∙ words.same_key tells.entry.key key tells.fits fits w.0 w.1)
+
+  -- it is a used one
+  pub used_place : p < tab.fill
+  used_place = let inside = slice_get_within says.used p (used_element mine.0) mine.1 in let all = says.filled in omega (arith, inside, all)
+
+  pub right : under (content.Set elements) key ≡ said_of n x.table p
+  right = set.set_right laws.first texts x.block c tab.fill is_class elements x.table says p key low live
+
+  pub there : under (content.Set elements) key ≢ []
+  there none = absurd (let e = sym right ∙ none in cc)
+
+  -- it has the key's hash
+  pub hash_here : entry_of n x.table p 1 ≡ hash_of texts key
+  hash_here =
+      let any : UsedEntry = used_element mine.0 in
+      let inside = slice_get_within says.used p any mine.1 in
+      sym (word_is walk (set_room (class_mask c)) texts c is_class says.used x.table says.table p 1)
+      ∙ (says.table.hashes p any inside ∙ ap (hash_of texts) (ap (λ (z : UsedEntry). z.key) (get_or_from_slice_get says.used p any any mine.1) ∙ mine.2))
+
+  module _ (class_eq : tab.class ≡ Some c) (names : root_in x ≡ suc t) (long : n + 8 * set_entries c ≤ length x.table) (even : entry_of n x.table p 0 % 2 ≡ 0) where
+    abbrev m : ℕ
+    m = set_entries c
+
+    abbrev news : SetContent
+    news = set_discard elements key
+
+    abbrev ver : ℕ
+    ver = entry_of n x.table p 0
+
+    abbrev block : List ℕ
+    block = slice_set x.block 1 (slice_index x.block 1 - 1)
+
+    abbrev opened : List ℕ
+    opened = slice_set x.table (entry_at n p 0) (ver + 1)
+
+    abbrev put : List ℕ
+    put = slice_set opened (entry_at n p 2) (gone_kind key)
+
+    abbrev after : Picture
+    after = record { block = block; table = put }
+
+    pub now_odd : entry_of n put p 0 ≡ ver + 1
+    now_odd = get_or-set_other opened (entry_at n p 2) (entry_at n p 0) (gone_kind key) 0 (λ e. absurd (omega (arith, e))) ∙ get_or-set_same x.table (entry_at n p 0) (ver + 1) 0 (omega (arith, low, long))
+
+    shorter : length (set_discard elements mine.0.key).elements + 1 ≡ length elements.elements
+    shorter = (laws.shrinks says.used elements p mine.0 says.entries in_order mine.1).1
+
+    pub some : 0 < slice_index x.block 1
+    some = let s = shorter in let h : slice_index x.block 1 ≡ length elements.elements = says.head.count_is in omega (arith, s, h)
+
+    opened_says : IsSetWords texts x.block (0 ∷ 0 ∷ opened) (Some c) tab.fill elements
+    unfolding slots
+    opened_says =
+        let r = (slots_range c is_class).0 in
+        let table : IsSetTable texts (class_mask c) says.used (0 ∷ 0 ∷ opened) = subst (λ (z : List ℕ). IsSetTable texts (class_mask c) says.used z) (after_header x.table (layout.entry_at (class_mask c) p 0) (entry_at n p 0) (ver + 1) (omega (arith, r)))
+        (laws.versions walk (set_room (class_mask c)) texts (class_mask c) says.used (0 ∷ 0 ∷ x.table) p (ver + 1) within says.table) in
+        record { head = says.head; used = says.used; table = table; filled = says.filled; entries = says.entries }
+
+    head : IsBlock block (Some c) (length (set_discard elements mine.0.key).elements) tab.fill elements.next
+    head =
+        let s = shorter in
+        let h : slice_index x.block 1 ≡ length elements.elements = says.head.count_is in
+        let e : slice_index x.block 1 - 1 ≡ length (set_discard elements mine.0.key).elements = omega (arith, s, h) in
+        subst (λ (z : ℕ). IsBlock block (Some c) z tab.fill elements.next) e (with_count x.block (Some c) (length elements.elements) (slice_index x.block 1 - 1) tab.fill elements.next says.head)
+
+    same_words : with_deleted (class_mask c) (0 ∷ 0 ∷ opened) p key ≡ 0 ∷ 0 ∷ put
+    unfolding slots
+    same_words = let r = (slots_range c is_class).0 in after_header opened (layout.entry_at (class_mask c) p 2) (entry_at n p 2) (gone_kind key) (omega (arith, r))
+
+    pub now_says : IsSetWords texts block (0 ∷ 0 ∷ put) (Some c) tab.fill news
+    unfolding opened_says
+    now_says =
+        let used : slice_get opened_says.used p ≡ Some (used_element mine.0) = mine.1 in
+        let made = laws.deletes texts x.block (0 ∷ 0 ∷ opened) block c tab.fill elements opened_says p mine.0 used head in
+        let moved : IsSetWords texts block (with_deleted (class_mask c) (0 ∷ 0 ∷ opened) p key) (Some c) tab.fill news = subst (λ (z : Key). IsSetWords texts block (with_deleted (class_mask c) (0 ∷ 0 ∷ opened) p z) (Some c) tab.fill (set_discard elements z)) mine.2 made in
+        subst (λ (z : List ℕ). IsSetWords texts block z (Some c) tab.fill news) same_words moved
+
+    pub now_stands : Stands texts after (record { content = content.Set news; table = tab })
+    now_stands = subst (λ (z : Option ℕ). IsSetWords texts block (0 ∷ 0 ∷ put) z tab.fill news) (sym class_eq) now_says
+
+    pub now_root : root_in after ≡ root_in x
+    now_root = get_or-set_other x.block 1 0 (slice_index x.block 1 - 1) 0 (λ e. absurd (omega (arith, e)))
+
+    inside : (w : ℕ) → w < 8 → entry_at n p w < size c
+    inside w few = keyed_low kind.Set tt c p w low few
+
+    -- its words may be put, whatever the set had before the write
+    pub may_delete : (before : Content) → MayPuts kind.Set t before false x (deletion t p key x)
+    may_delete before =
+        let q1 : MayPut kind.Set t before false x (to_block 1 (slice_index x.block 1 - 1)) = (omega arith, omega arith) in
+        let q2 : MayPut kind.Set t before false (record { block = block; table = x.table }) (to_table (entry_at n p 0) (ver + 1)) = (now_root ∙ names, inside 0 (omega arith), dead_open n m x.table p key low long even live (under before), record { before = λ q less at one. refl; later = λ q less at two. absurd (omega (arith, two, even)) }) in
+        let q3 : MayPut kind.Set t before false (record { block = block; table = opened }) (to_table (entry_at n p 2) (gone_kind key)) = (now_root ∙ names, inside 2 (omega arith), dead_kind n m x.table p key low long even live (under before), record { before = λ q less at one. refl; later = λ q less at two. absurd (omega (arith, at)) }) in
+        (q1, (q2, (q3, tt)))
+
+    -- the words of the other entries
+    pub others_same : (q w : ℕ) → q ≢ p → w < 8 → entry_of n put q w ≡ entry_of n x.table q w
+    others_same q w ne few = dead_others n m x.table p key low long even live q w ne few
+
+    pub other_live : (q : ℕ) (a : Key) → q ≢ p → IsLive n put q a → IsLive n x.table q a
+    other_live q a ne l = (sym (others_same q 2 ne (omega arith)) ∙ l.0, sym (others_same q 3 ne (omega arith)) ∙ l.1)
+
+    -- the entry isn't there any more
+    pub not_live : (a : Key) → IsLive n put p a → ⊥
+    not_live a l =
+        let kind : entry_of n put p 2 ≡ gone_kind key = get_or-set_same opened (entry_at n p 2) (gone_kind key) 0 (let e = length-set x.table (entry_at n p 0) (ver + 1) in omega (arith, low, long, e)) in
+        let g = gone_is key in
+        let b = (kind_range key).0 in
+        let h = (kind_range a).1 in
+        let e = l.0 in
+        omega (arith, kind, g, b, h, e)
+
+    -- an entry with an even version says what it said
+    pub keeps_under : (q : ℕ) (a : Key) → q < m → entry_of n put q 0 % 2 ≡ 0 → IsLive n put q a → under (content.Set news) a ≡ under (content.Set elements) a
+    keeps_under q a less two l = (set.set_clear laws.first texts block x.block c tab.fill tab.fill is_class elements news x.table put says now_says (dead_same n m x.table p key low long even live)).keeps q a less two l
+
+    -- and no deleted one that is being written has a key that is there
+    pub dead_under : NoneDead t m x (record { content = content.Set elements; table = tab }) → NoneDead t m after (record { content = content.Set news; table = tab })
+    dead_under none q a less odd dead =
+        dite (ℕ_discrete q p)
+        (λ (e : q ≡ p).
+        let here : IsDead n put p a = subst (λ (z : ℕ). IsDead n put z a) e dead in
+        discarded.none_under elements key a fits (set_fits_words texts x.block (0 ∷ 0 ∷ x.table) c tab.fill elements says) (dead_is n m x.table p key low long even live a here))
+        (λ ne.
+        let v = others_same q 0 ne (omega arith) in
+        let was = none q a less (omega (arith, v, odd)) (sym (others_same q 2 ne (omega arith)) ∙ dead.0, sym (others_same q 3 ne (omega arith)) ∙ dead.1) in
+        none_filtered (λ (element : Element). is_key element.key a) (λ (element : Element). not (same_key element.key key)) elements.elements was)
+
+-- ---- what the pass knows
+
+pub midway_loaded : (k : Shape) (o : ℕ) (table : Table) (mid : Kept) (v w : View) → OnlyLoaded v w → IsMidway k o table mid v → IsMidway k o table mid w
+midway_loaded k o table mid v w only b =
+    let back : held o v ≡ held o w = sym (loaded_held v w o only) in
+    let knows : known o v ≡ known o w = sym (work_knows v w o only.work) in
+    let t = name_of table in
+    let m = rows (kind_in k.kinds o) (class_of t) in
+    record {
+      writes = writes_on k o table v w (loaded_put v w o only) (ap root_in (sym back)) b.writes;
+      early = only.work.committed o ∙ b.early;
+      stands = subst (λ (y : Picture). Stands k.texts y mid) back b.stands;
+      same = subst (λ (y : Picture × Kept). (p : ℕ) (key : Key) → p < m → version_of t y.0 p % 2 ≡ 0 → IsLive (slots (class_of t)) y.0.table p key → under mid.content key ≡ under y.1.content key) (λ d. (back d, knows d)) b.same;
+      gone = subst (λ (y : Picture). NoneDead t m y mid) back b.gone;
+      opened = subst (λ (y : Picture). (p : ℕ) → p < m → version_of t y p % 2 ≡ 1 → p < mid.table.fill) back b.opened;
+    }
+
+module _ (k : Shape) (s : ℕ) (table : Table) (kept : Bool) (others first : SetContent) (place : ℕ) (v w : View) (only : OnlyLoaded v w) (th : IsThinned k s table kept others first place v) where
+  abbrev lt : ℕ
+  lt = name_of table
+
+  abbrev lm : ℕ
+  lm = rows (kind_in k.kinds s) (class_of lt)
+
+  back' : held s v ≡ held s w
+  back' = sym (loaded_held v w s only)
+
+  knows' : known s v ≡ known s w
+  knows' = sym (work_knows v w s only.work)
+
+  pub thinned_loaded : IsThinned k s table kept others first place w
+  thinned_loaded = record {
+    mid = th.mid;
+    midway = subst (λ (y : Kept). IsMidway k s table (record { content = content.Set th.mid; table = y.table }) w) knows' (midway_loaded k s table (record { content = content.Set th.mid; table = (known s v).table }) v w only th.midway);
+    first_is = ap (λ (y : Kept). y.content) (sym knows') ∙ th.first_is;
+    fits = th.fits;
+    next = th.next;
+    left = th.left;
+    even = subst (λ (y : Picture). (p : ℕ) → p < lm → place ≤ p → version_of lt y p % 2 ≡ 0) back' th.even;
+    done = subst (λ (y : Picture). (p : ℕ) (key : Key) → p < lm → p < place → FitsKey key → IsLive (slots (class_of lt)) y.table p key → stays kept others key ≡ true) back' th.done;
+  }
+
+module _ (k : Shape) (s : ℕ) (table : Table) (kept : Bool) (others first : SetContent) (place : ℕ) (v : View) (is : kind_in k.kinds s ≡ kind.Set) (th : IsThinned k s table kept others first place v) where
+  abbrev vt : ℕ
+  vt = name_of table
+
+  abbrev vn : ℕ
+  vn = slots (class_of vt)
+
+  abbrev vm : ℕ
+  vm = set_entries (class_of vt)
+
+  abbrev words_now : Picture
+  words_now = held s v
+
+  abbrev tab : TableUse
+  tab = (known s v).table
+
+  class_is : IsClass (class_of vt)
+  class_is = table_class k table th.midway.writes.table_in
+
+  abbrev now : Kept
+  now = record { content = content.Set th.mid; table = tab }
+
+  class_some : tab.class ≡ Some (class_of vt)
+  class_some = class_known k.texts words_now now vt th.midway.stands th.midway.writes.root
+
+  says_now : IsSetWords k.texts words_now.block (0 ∷ 0 ∷ words_now.table) (Some (class_of vt)) tab.fill th.mid
+  says_now = subst (λ (z : Option ℕ). IsSetWords k.texts words_now.block (0 ∷ 0 ∷ words_now.table) z tab.fill th.mid) class_some th.midway.stands
+
+  row : (p : ℕ) → p < vm → p < rows (kind_in k.kinds s) (class_of vt)
+  row p less = subst (λ (z : Kind). p < rows z (class_of vt)) (sym is) less
+
+  unrow : (p : ℕ) → p < rows (kind_in k.kinds s) (class_of vt) → p < vm
+  unrow p less = subst (λ (z : Kind). p < rows z (class_of vt)) is less
+
+  -- ---- the entry at this place, where a key is there
+
+  module _ (laws : SetLaws) (low : place < vm) (key : Key) (live : IsLive vn words_now.table place key) (fits : FitsKey key) where
+    even_here : version_of vt words_now place % 2 ≡ 0
+    even_here = th.even place (row place low) (omega arith)
+
+    pub hash_is : entry_of vn words_now.table place 1 ≡ hash_of k.texts key
+    hash_is = hash_here laws k.texts words_now tab vt class_is th.mid says_now place key low live fits
+
+    -- it was there before the write
+    pub was_there : has_element first.elements key ≡ true
+    was_there = element_there first key fits th.fits (λ none. there laws k.texts words_now tab vt class_is th.mid says_now place key low live fits (th.midway.same place key (row place low) even_here live ∙ (ap (λ (z : Content). under z key) th.first_is ∙ none)))
+
+    pub may_go : MayPuts (kind_in k.kinds s) vt (known s v).content false words_now (deletion vt place key words_now)
+    may_go =
+        subst (λ (z : Kind). MayPuts z vt (known s v).content false words_now (deletion vt place key words_now)) (sym is)
+        (may_delete laws k.texts words_now tab vt class_is th.mid says_now place key low live fits class_some th.midway.writes.root (set.set_is_long v s vt th.midway.writes.root) even_here (known s v).content)
+
+    pub some_there : 0 < slice_index words_now.block 1
+    some_there = some laws k.texts words_now tab vt class_is th.mid says_now place key low live fits class_some th.midway.writes.root (set.set_is_long v s vt th.midway.writes.root) even_here
+
+    module _ (z : View) (only : OnlyPut s v z) (puts : held s z ≡ with_puts words_now (deletion vt place key words_now)) (out : stays kept others key ≡ false) where
+      abbrev long : vn + 8 * vm ≤ length words_now.table
+      long = set.set_is_long v s vt th.midway.writes.root
+
+      abbrev words_then : Picture
+      words_then = with_puts words_now (deletion vt place key words_now)
+
+      back : words_then ≡ held s z
+      back = sym puts
+
+      knows : known s v ≡ known s z
+      knows = sym (work_knows v z s only.work)
+
+      abbrev mid_then : Content
+      mid_then = content.Set (set_discard th.mid key)
+
+      apart : (p : ℕ) → version_of vt words_then p % 2 ≡ 0 → p ≢ place
+      apart p two e =
+          let o = now_odd laws k.texts words_now tab vt class_is th.mid says_now place key low live fits class_some th.midway.writes.root long even_here in
+          let v : version_of vt words_then p ≡ version_of vt words_then place = ap (version_of vt words_then) e in
+          let w = even_here in
+          omega (arith, o, v, w, two)
+
+      same_word : (p w : ℕ) → p ≢ place → w < 8 → entry_of vn words_then.table p w ≡ entry_of vn words_now.table p w
+      same_word p w ne few = others_same laws k.texts words_now tab vt class_is th.mid says_now place key low live fits class_some th.midway.writes.root long even_here p w ne few
+
+      live_before : (p : ℕ) (a : Key) → p ≢ place → IsLive vn words_then.table p a → IsLive vn words_now.table p a
+      live_before p a ne l = other_live laws k.texts words_now tab vt class_is th.mid says_now place key low live fits class_some th.midway.writes.root long even_here p a ne l
+
+      same_then : (p : ℕ) (a : Key) → p < rows (kind_in k.kinds s) (class_of vt) → version_of vt words_then p % 2 ≡ 0 → IsLive vn words_then.table p a → under mid_then a ≡ under (known s v).content a
+      same_then p a less two l =
+          let ne = apart p two in
+          let e = same_word p 0 ne (omega arith) in
+          keeps_under laws k.texts words_now tab vt class_is th.mid says_now place key low live fits class_some th.midway.writes.root long even_here p a (unrow p less) two l
+          ∙ th.midway.same p a less (omega (arith, e, two)) (live_before p a ne l)
+
+      gone_then : NoneDead vt (rows (kind_in k.kinds s) (class_of vt)) words_then (record { content = mid_then; table = tab })
+      gone_then p a less odd dead =
+          dead_under laws k.texts words_now tab vt class_is th.mid says_now place key low live fits class_some th.midway.writes.root long even_here
+          (λ q b small. th.midway.gone q b (row q small)) p a (unrow p less) odd dead
+
+      opened_then : (p : ℕ) → p < rows (kind_in k.kinds s) (class_of vt) → version_of vt words_then p % 2 ≡ 1 → p < tab.fill
+      opened_then p less odd =
+          dite (ℕ_discrete p place)
+          (λ (e : p ≡ place). let u = used_place laws k.texts words_now tab vt class_is th.mid says_now place key low live fits in omega (arith, e, u))
+          (λ ne. let e = same_word p 0 ne (omega arith) in th.midway.opened p less (omega (arith, e, odd)))
+
+      even_then : (p : ℕ) → p < rows (kind_in k.kinds s) (class_of vt) → place + 1 ≤ p → version_of vt words_then p % 2 ≡ 0
+      even_then p less up =
+          let e = same_word p 0 (λ (same : p ≡ place). omega (arith, same, up)) (omega arith) in
+          let old = th.even p less (omega (arith, up)) in
+          omega (arith, e, old)
+
+      done_then : (p : ℕ) (a : Key) → p < rows (kind_in k.kinds s) (class_of vt) → p < place + 1 → FitsKey a → IsLive vn words_then.table p a → stays kept others a ≡ true
+      done_then p a less up ok l =
+          dite (ℕ_discrete p place)
+          (λ (e : p ≡ place). absurd (not_live laws k.texts words_now tab vt class_is th.mid says_now place key low live fits class_some th.midway.writes.root long even_here a (subst (λ (q : ℕ). IsLive vn words_then.table q a) e l)))
+          (λ ne. th.done p a less (before p place ne up) ok (live_before p a ne l))
+        where
+          before : (a b : ℕ) → a ≢ b → a < b + 1 → a < b
+          before a b ne up = dite (dec_lt a b) (λ (less : a < b). less) (λ past. absurd (ne (omega (arith, past, up))))
+
+      midway_then : IsMidway k s table (record { content = mid_then; table = (known s z).table }) z
+      midway_then = record {
+        writes = writes_on k s table v z only (ap root_in puts ∙ now_root laws k.texts words_now tab vt class_is th.mid says_now place key low live fits class_some th.midway.writes.root long even_here) th.midway.writes;
+        early = only.work.committed s ∙ th.midway.early;
+        stands = subst (λ (y : Picture × Kept). Stands k.texts y.0 (record { content = mid_then; table = y.1.table })) (λ d. (back d, knows d)) (now_stands laws k.texts words_now tab vt class_is th.mid says_now place key low live fits class_some th.midway.writes.root long even_here);
+        same = subst (λ (y : Picture × Kept). (p : ℕ) (a : Key) → p < rows (kind_in k.kinds s) (class_of vt) → version_of vt y.0 p % 2 ≡ 0 → IsLive vn y.0.table p a → under mid_then a ≡ under y.1.content a) (λ d. (back d, knows d)) same_then;
+        gone = subst (λ (y : Picture × Kept). NoneDead vt (rows (kind_in k.kinds s) (class_of vt)) y.0 (record { content = mid_then; table = y.1.table })) (λ d. (back d, knows d)) gone_then;
+        opened = subst (λ (y : Picture × Kept). (p : ℕ) → p < rows (kind_in k.kinds s) (class_of vt) → version_of vt y.0 p % 2 ≡ 1 → p < y.1.table.fill) (λ d. (back d, knows d)) opened_then;
+      }
+
+      pub thinned_goes : IsThinned k s table kept others first (place + 1) z
+      thinned_goes = record {
+        mid = set_discard th.mid key;
+        midway = midway_then;
+        first_is = ap (λ (y : Kept). y.content) (sym knows) ∙ th.first_is;
+        fits = th.fits;
+        next = th.next;
+        left = discard_stays (stays kept others) key out th.mid.elements ∙ th.left;
+        even = subst (λ (y : Picture). (p : ℕ) → p < rows (kind_in k.kinds s) (class_of vt) → place + 1 ≤ p → version_of vt y p % 2 ≡ 0) back even_then;
+        done = subst (λ (y : Picture). (p : ℕ) (a : Key) → p < rows (kind_in k.kinds s) (class_of vt) → p < place + 1 → FitsKey a → IsLive vn y.table p a → stays kept others a ≡ true) back done_then;
+      }
+
+  -- ---- where it stays, or none is there
+
+  pub thinned_stays : ((key : Key) → FitsKey key → IsLive vn words_now.table place key → stays kept others key ≡ true) → IsThinned k s table kept others first (place + 1) v
+  thinned_stays each = record {
+    mid = th.mid;
+    midway = th.midway;
+    first_is = th.first_is;
+    fits = th.fits;
+    next = th.next;
+    left = th.left;
+    even = λ p less up. th.even p less (omega (arith, up));
+    done = λ p key less up ok live.
+        dite (dec_lt p place)
+        (λ (before : p < place). th.done p key less before ok live)
+        (λ past. let same : p ≡ place = omega (arith, past, up) in each key ok (subst (λ (q : ℕ). IsLive vn words_now.table q key) same live));
+  }
+
+  -- ---- once all entries were looked at
+
+  pub thinned_all : set.FirstEntriesAreElements → place ≡ tab.fill → filter (λ element. stays kept others element.key) first.elements ≡ th.mid.elements
+  thinned_all first_element all =
+      sym th.left
+      ∙ all_stay (stays kept others) th.mid.elements (set_fits_words k.texts words_now.block (0 ∷ 0 ∷ words_now.table) (class_of vt) tab.fill th.mid says_now)
+      (λ key ok there.
+      let walk : ℕ → List ℕ = λ hash. set_walk hash (class_mask (class_of vt)) (class_mask (class_of vt) + 14) in
+      let r = right_is_live walk (set_room (class_mask (class_of vt))) k.texts (class_of vt) class_is says_now.used words_now.table says_now.table used_element th.mid.elements (λ test. first_element says_now.used th.mid test says_now.entries) key (found_words (λ (e : Element). is_key e.key key) th.mid.elements there) in
+      let inside = r.1 in
+      let count = says_now.filled in
+      let room : set_room (class_mask (class_of vt)) ≡ vm = set.room_is first_element k.texts words_now.block (class_of vt) tab.fill class_is th.mid words_now.table says_now in
+      let few = says_now.table.fill in
+      th.done r.0 key (row r.0 (omega (arith, inside, few, room))) (omega (arith, inside, count, all)) ok r.2)

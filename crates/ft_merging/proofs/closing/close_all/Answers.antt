@@ -1,0 +1,18 @@
+use Rattle.std.proofs.Common.{refl, ◌∙◌}
+use Rattle.ft_bank.specs.Passes.{view}
+use Rattle.ft_bank.proofs.Whole.{put_same, put_then}
+use Rattle.ft_merging.proofs.closing.close_all.Goals as goal
+
+pub loop-place-init : goal.loop-place-init
+loop-place-init c = record { pass = c.requires.pass; stack = refl; only = put_same (view c.args.pass.now) c.args.o; closing = c.requires.closing }
+
+pub loop-place-preserved : goal.loop-place-preserved
+loop-place-preserved c =
+    let i = c.loop-place.invariant in
+    let e = c.close_at.ensures in
+    record {
+      pass = e.pass;
+      stack = e.stack ∙ i.stack;
+      only = put_then (view c.args.pass.now) (view c.loop-place.pass) (view c.close_at.new.pass) c.args.o i.only e.only;
+      closing = e.closing;
+    }

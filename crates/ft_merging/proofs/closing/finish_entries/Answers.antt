@@ -1,0 +1,38 @@
+use Rattle.ft_bank.specs.Passes.{shape_of, view}
+use Rattle.ft_merging.proofs.Ending.{closing_begins, closing_ends, closing_shut}
+use Rattle.ft_merging.proofs.closing.finish_entries.Goals as goal
+
+pub commit-number-requires-clause-may : goal.commit-number-requires-clause-may
+commit-number-requires-clause-may c = c.requires.may.may
+
+pub close_all-requires-clause-closing : goal.close_all-requires-clause-closing
+close_all-requires-clause-closing c =
+    let a = c.args in
+    let d = c.commit-number.ensures.did in
+    closing_begins (shape_of a.bank.now) a.o a.table a.fill a.called.now a.said.now (view a.pass.now) c.requires.may c.commit-number.result d.0 (view c.commit-number.new.pass) d.1.1 c.commit-number.ensures.committed
+
+pub stop_write-requires-clause-container : goal.stop_write-requires-clause-container
+stop_write-requires-clause-container c = c.close_all.ensures.closing.writes.container
+
+pub stop_write-requires-clause-odd : goal.stop_write-requires-clause-odd
+stop_write-requires-clause-odd c = c.close_all.ensures.closing.writes.odd
+
+pub stop_write-requires-clause-committed : goal.stop_write-requires-clause-committed
+stop_write-requires-clause-committed c = c.close_all.ensures.closing.late
+
+pub stop_write-requires-clause-stands : goal.stop_write-requires-clause-stands
+stop_write-requires-clause-stands c = c.close_all.ensures.closing.stands
+
+pub stop_write-requires-clause-shut : goal.stop_write-requires-clause-shut
+stop_write-requires-clause-shut c =
+    let a = c.args in
+    let e = c.close_all.ensures in
+    closing_shut (shape_of a.bank.now) a.o a.table a.fill (view c.close_all.new.pass) e.pass.1 e.closing
+
+pub returns-clause-ends : goal.returns-clause-ends
+returns-clause-ends c =
+    let a = c.args in
+    let d = c.commit-number.ensures.did in
+    let e = c.close_all.ensures in
+    closing_ends (shape_of a.bank.now) a.o a.table a.fill a.called.now a.said.now (view a.pass.now) c.requires.may c.commit-number.result d.0 (view c.commit-number.new.pass) d.1.1 c.commit-number.ensures.committed
+    (view c.close_all.new.pass) e.only e.closing c.requires.pass.1 c.stop_write.result (view c.stop_write.new.pass) c.commit-number.ensures.seen c.stop_write.ensures.1

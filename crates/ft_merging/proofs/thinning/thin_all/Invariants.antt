@@ -1,0 +1,16 @@
+use Rattle.std.proofs.Common.{◌≡◌}
+use Rattle.ft_model.specs.Worlds.{set_of}
+use Rattle.ft_trace.specs.Holds.{known}
+use Rattle.ft_bank.specs.Passes.{shape_of, view, IsPassOf}
+use Rattle.ft_bank.specs.Sections.{stack_of}
+use Rattle.ft_bank.specs.Whole.{OnlyPut}
+use Rattle.ft_merging.specs.Internal.Thinning.{IsThinned}
+use Rattle.ft_merging.proofs.thinning.thin_all.Given as goal
+
+abbrev pub invariant-loop-place : goal.invariant-loop-place
+invariant-loop-place l = record {
+  pass : IsPassOf l.bank l.pass;
+  stack : stack_of l.pass ≡ stack_of l.initial.pass;
+  only : OnlyPut l.s (view l.initial.pass) (view l.pass);
+  thinned : IsThinned (shape_of l.bank) l.s l.table l.kept (set_of (known l.t (view l.initial.pass)).content) (set_of (known l.s (view l.initial.pass)).content) l.place (view l.pass);
+}

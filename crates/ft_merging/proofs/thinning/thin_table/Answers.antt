@@ -1,0 +1,78 @@
+use Rattle.std.proofs.Common.{◌≡◌, ◌≤◌, ℕ, refl, sym, ap, ◌∙◌, subst, arith}
+use Rattle.ft_model.specs.declared.script.Kind.{Kind}
+use Rattle.ft_model.specs.Classes.{set_entries}
+use Rattle.ft_trace.specs.Addresses.{class_of}
+use Rattle.ft_trace.specs.Kinds.{rows}
+use Rattle.ft_bank.specs.Tables.{name_of}
+use Rattle.ft_model.specs.declared.reply.Reply.TheVariants as reply
+use Rattle.ft_model.specs.Worlds.{set_of}
+use Rattle.ft_trace.specs.Holds.{known}
+use Rattle.ft_trace.specs.Worlds.{Kept}
+use Rattle.ft_bank.specs.Passes.{shape_of, view}
+use Rattle.ft_search.proofs.Endings.{whole_root, whole_write}
+use Rattle.ft_merging.specs.Thinning.{thinned_kept}
+use Rattle.ft_merging.specs.Internal.Thinning.{IsThinned}
+use Rattle.ft_merging.proofs.Ending.{Laws}
+use Rattle.ft_merging.proofs.Finished.{fill_fits, other_begun, thinned_begins, thinned_finishes}
+use Rattle.ft_merging.proofs.thinning.thin_table.Goals as goal
+use Rattle.ft_merging.proofs.thinning.thin_table.Goals.{After-start_write}
+
+laws : (c : After-start_write) → Laws
+laws c = record { pairs = c.used_entries_follow_a_dict.ensures.first; elements = c.used_entries_follow_a_set.ensures.first }
+
+-- what the pass knows is as it was
+knows : (c : After-start_write) → (p : ℕ) → known p (view c.start_write.new.pass) ≡ known p (view c.args.pass.now)
+knows c p = ap (known p) c.start_write.ensures.1
+
+pub thin_all-requires-clause-other : goal.thin_all-requires-clause-other
+thin_all-requires-clause-other c ne =
+    let a = c.args in
+    other_begun (shape_of a.bank.now) a.s a.t (view a.pass.now) (view c.start_write.new.pass) c.start_write.result c.start_write.ensures.1 ne c.requires.other
+
+pub thin_all-requires-clause-thinned : goal.thin_all-requires-clause-thinned
+thin_all-requires-clause-thinned c =
+    let a = c.args in
+    let d = (goal.at.thin_all-requires-clause-thinned c).After-start_write in
+    let v = view a.pass.now in
+    let u = view c.start_write.new.pass in
+    subst (λ (z : Kept × Kept). IsThinned (shape_of a.bank.now) a.s a.table a.kept (set_of z.0.content) (set_of z.1.content) 0 u) (sym (λ i. (knows d a.t i, knows d a.s i)))
+    (thinned_begins (shape_of a.bank.now) a.s a.table a.kept (set_of (known a.t v).content) v u c.start_write.result c.requires.pass.1 a.pass.now.possible c.requires.may c.requires.set c.requires.table c.start_write.ensures.1)
+
+pub finish_entries-requires-clause-may : goal.finish_entries-requires-clause-may
+finish_entries-requires-clause-may c =
+    let a = c.args in
+    let d = (goal.at.finish_entries-requires-clause-may c).After-start_write in
+    let v = view a.pass.now in
+    let u = view c.start_write.new.pass in
+    let w = view c.thin_all.new.pass in
+    let e = c.thin_all.ensures in
+    let thinned = subst (λ (z : Kept × Kept). IsThinned (shape_of a.bank.now) a.s a.table a.kept (set_of z.0.content) (set_of z.1.content) a.fill w) (λ i. (knows d a.t i, knows d a.s i)) e.thinned in
+    thinned_finishes (shape_of a.bank.now) a.s a.table a.kept (set_of (known a.t v).content) v u c.start_write.result c.requires.pass.1 a.pass.now.possible c.requires.may c.requires.set c.requires.table c.start_write.ensures.1
+    (laws d) w e.only a.fill c.requires.fill thinned a.called.now reply.Done (thinned_kept a.kept (known a.t v) (known a.s v)) refl refl c.requires.leaves
+
+pub returns-clause-wrote : goal.returns-clause-wrote
+returns-clause-wrote c =
+    let a = c.args in
+    whole_write a.s (view a.pass.now) (view c.start_write.new.pass) (view c.thin_all.new.pass) c.start_write.result c.start_write.ensures.1 c.thin_all.ensures.only a.called.now reply.Done c.finish_entries.result (view c.finish_entries.new.pass) c.requires.leaves.changed c.requires.may.even c.finish_entries.ensures.ends
+    (c.thin_all.ensures.thinned.midway.writes.root ∙ sym c.requires.table.root)
+
+pub returns-clause-root : goal.returns-clause-root
+returns-clause-root c =
+    let a = c.args in
+    whole_root a.s (view a.pass.now) (view c.start_write.new.pass) (view c.thin_all.new.pass) c.start_write.result c.start_write.ensures.1 c.thin_all.ensures.only a.called.now reply.Done c.finish_entries.result (view c.finish_entries.new.pass) c.requires.leaves.changed c.finish_entries.ensures.ends
+    (c.thin_all.ensures.thinned.midway.writes.root ∙ sym c.requires.table.root)
+
+fits : (c : After-start_write) → c.args.fill ≤ set_entries (class_of (name_of c.args.table))
+fits c =
+    let a = c.args in
+    let f = fill_fits (shape_of a.bank.now) a.s a.table a.kept (set_of (known a.t (view a.pass.now)).content) (view a.pass.now) (view c.start_write.new.pass) c.start_write.result c.requires.pass.1 a.pass.now.possible c.requires.may c.requires.set c.requires.table c.start_write.ensures.1 (laws c).elements in
+    let e = c.requires.fill in
+    omega (arith, f, e)
+
+pub thin_all-requires-clause-fill : goal.thin_all-requires-clause-fill
+thin_all-requires-clause-fill c = fits (goal.at.thin_all-requires-clause-fill c).After-start_write
+
+pub finish_entries-requires-clause-fill : goal.finish_entries-requires-clause-fill
+finish_entries-requires-clause-fill c =
+    let d = (goal.at.finish_entries-requires-clause-fill c).After-start_write in
+    subst (λ (z : Kind). c.args.fill ≤ rows z (class_of (name_of c.args.table))) (sym c.requires.set) (fits d)

@@ -1,0 +1,12 @@
+//! Writes of several entries of a dict or a set at once, by a pass that has the locks: what calls on two containers
+//! have alike. All entries are put round one raise of the counter.
+//!
+//! Between any two steps of any passes it keeps true, for whoever runs calls, that each such call is one whole write,
+//! and that readers without the lock find what there was before it until the counter is raised.
+#![tactic(auto)]
+
+mod closing;
+mod reading;
+mod thinning;
+
+pub use crate::thinning::thin_by;

@@ -1,0 +1,96 @@
+//! Single entries of the table of a dict or a set, read by a pass that has its lock.
+ghost use Rattle.std.specs.Prelude.{◌≡◌, ◌<◌, ◌↔◌, suc, Some};
+ghost use Rattle.ft_layout.specs.declared.slot.Pair.{Pair};
+ghost use Rattle.ft_layout.specs.declared.slot.Slot.TheVariants.{Live};
+ghost use Rattle.ft_layout.specs.Words.{IsKey};
+ghost use Rattle.ft_model.specs.declared.data.Key.{Key};
+ghost use Rattle.ft_trace.specs.Addresses.{class_of, containers_in, slots};
+ghost use Rattle.ft_trace.specs.Holds.{held};
+ghost use Rattle.ft_trace.specs.Kinds.{rows, IsKeyed};
+ghost use Rattle.ft_trace.specs.Words.{entry_of};
+ghost use Rattle.ft_trace.specs.Worlds.{kind_in};
+ghost use Rattle.ft_bank.specs.Passes.{shape_of, view, IsPassOf};
+ghost use Rattle.ft_bank.specs.Sections.{stack_of};
+ghost use Rattle.ft_bank.specs.Tables.{name_of, IsTableIn};
+ghost use Rattle.ft_bank.specs.Whole.{OnlyLoaded};
+ghost use Rattle.ft_search.specs.Held.{KnowsTable};
+
+use ft_bank::{Bank, Pass, Table};
+use ft_layout::entry_word::{KEY, KEY_KIND};
+use ft_layout::{Slot, entry_of};
+use ft_model::Key;
+use ft_search::mask_of;
+use ft_section::Object;
+
+/// The key of what an entry has, if one is there.
+fn key_in(slot: Slot) -> Option<Key>
+    ensures some { (pair : Pair) → slot ≡ Live pair → result ≡ Some pair.key }
+    ensures said { (key : Key) → result ≡ Some key → (pair : Pair) × (slot ≡ Live pair) × (pair.key ≡ key) }
+{
+    match slot {
+        Slot::Live(pair) => Some(pair.key),
+        Slot::Never | Slot::Gone(..) => None,
+    }
+}
+
+/// The key that these words of an entry say, if one is there.
+fn key_said(kind: u64, payload: u64) -> Option<Key>
+    ensures { (key : Key) → IsKey kind payload key ↔ (result ≡ Some key) }
+{
+    // The other words count for nothing.
+    match entry_of(&[0, 0, kind, payload, 0, 0, 0, 0]) {
+        Some(slot) => key_in(slot),
+        None => None,
+    }
+}
+
+/// Loads a word of an entry.
+pub(crate) fn word_of(
+    bank: &Bank,
+    pass: &mut Pass,
+    o: Object,
+    table: Table,
+    place: u64,
+    word: u64,
+) -> u64
+    requires pass { IsPassOf bank.now pass.old }
+    requires container { o < containers_in (shape_of bank.now) }
+    requires keyed { IsKeyed (kind_in (shape_of bank.now).kinds o) }
+    requires table { IsTableIn (shape_of bank.now) table }
+    requires knows { KnowsTable o (name_of table) (view pass.old) }
+    requires place { place < rows (kind_in (shape_of bank.now).kinds o) (class_of (name_of table)) }
+    requires word { word < 8 }
+    ensures pass { IsPassOf bank.now pass.new }
+    ensures stack { stack_of pass.new ≡ stack_of pass.old }
+    ensures only { OnlyLoaded (view pass.old) (view pass.new) }
+    ensures found { result ≡ entry_of (slots (class_of (name_of table))) (held o (view pass.old)).table place word }
+{
+    let _ = o;
+    let at = 8 * place + word + mask_of(table.class) + 1;
+    bank.read_table(pass, table, at)
+}
+
+/// The key of the entry at a place, if one is there.
+pub(crate) fn key_at(
+    bank: &Bank,
+    pass: &mut Pass,
+    o: Object,
+    table: Table,
+    place: u64,
+) -> Option<Key>
+    requires pass { IsPassOf bank.now pass.old }
+    requires container { o < containers_in (shape_of bank.now) }
+    requires keyed { IsKeyed (kind_in (shape_of bank.now).kinds o) }
+    requires table { IsTableIn (shape_of bank.now) table }
+    requires knows { KnowsTable o (name_of table) (view pass.old) }
+    requires place { place < rows (kind_in (shape_of bank.now).kinds o) (class_of (name_of table)) }
+    ensures pass { IsPassOf bank.now pass.new }
+    ensures stack { stack_of pass.new ≡ stack_of pass.old }
+    ensures only { OnlyLoaded (view pass.old) (view pass.new) }
+    ensures key { (key : Key) → IsKey (entry_of (slots (class_of (name_of table))) (held o (view pass.old)).table place 2)
+        (entry_of (slots (class_of (name_of table))) (held o (view pass.old)).table place 3) key ↔ (result ≡ Some key) }
+{
+    let kind = word_of(bank, pass, o, table, place, KEY_KIND);
+    let payload = word_of(bank, pass, o, table, place, KEY);
+    key_said(kind, payload)
+}

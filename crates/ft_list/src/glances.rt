@@ -25,20 +25,20 @@ use ft_search::answer_look;
 use ft_section::{Look, Object};
 use std::alloc::{AllocError, Global};
 
-/// Two loads of the version of a list, and the load of the counter between them.
+/// Two loads of the version of a container, and the load of the counter between them.
 #[derive(Clone, Copy)]
-pub(crate) struct Window {
+pub struct Window {
     /// The version at first.
-    pub(crate) opened: u64,
+    pub opened: u64,
     /// The counter.
-    pub(crate) number: u64,
+    pub number: u64,
     /// The version at last.
-    pub(crate) closed: u64,
+    pub closed: u64,
 }
 
 impl Window {
     /// Whether a write may have come between: the version was odd, or it moved.
-    fn has_moved(self) -> bool
+    pub fn has_moved(self) -> bool
         ensures moved { result ≡ true → HasMoved self }
         ensures still { result ≡ false → WasStill self }
     {

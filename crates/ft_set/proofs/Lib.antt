@@ -1,3 +1,4 @@
 mod Reading
 mod Leaving
 mod NewKeys
+mod Merged

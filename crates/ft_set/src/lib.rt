@@ -11,6 +11,7 @@ mod deletes;
 mod lens;
 mod locked;
 mod looks;
+mod merges;
 mod pops;
 mod tries;
 
@@ -19,5 +20,6 @@ pub use crate::clears::{clear_by, try_clear};
 pub use crate::deletes::{discard_locked, remove_locked};
 pub use crate::lens::{look_len, try_len};
 pub use crate::looks::look_has;
+pub use crate::merges::{try_and, try_sub};
 pub use crate::pops::{try_discard, try_remove};
 pub use crate::tries::try_has;

@@ -1,0 +1,113 @@
+//! Calls on two sets that write the first one: those of its elements stay that the other one has, or hasn't.
+ghost use Rattle.std.specs.Prelude.{◌≡◌, ◌<◌};
+ghost use Rattle.ft_model.specs.declared.call.Call.TheVariants as call;
+ghost use Rattle.ft_model.specs.declared.call.SetCall.TheVariants as set;
+ghost use Rattle.ft_model.specs.declared.script.Kind.TheVariants as kind;
+ghost use Rattle.ft_trace.specs.Addresses.{containers_in};
+ghost use Rattle.ft_trace.specs.Worlds.{kind_in};
+ghost use Rattle.ft_bank.specs.Passes.{shape_of, view, IsPassOf};
+ghost use Rattle.ft_bank.specs.Sections.{stack_of};
+ghost use Rattle.ft_section.specs.declared.answers.Objects.TheVariants.{Two};
+ghost use Rattle.ft_section.specs.Ready.{MayTry};
+ghost use Rattle.ft_section.specs.Trying.{SectionsAfter};
+ghost use Rattle.ft_search.specs.Calls.{IsMadeOf, MadeAs};
+ghost use Rattle.ft_search.specs.Writing.{MayWriteEntries};
+
+use ft_bank::{Bank, Pass};
+use ft_merging::thin_by;
+use ft_model::{Call, Reply, SetCall};
+use ft_search::written;
+use ft_section::{Got, Object, Objects, Stamp, Step, let_go, take_for};
+
+/// `s &= t`, by a pass that has both locks (Python manual, Set Types): a set that is named twice stays as it is.
+fn and_locked(bank: &Bank, pass: &mut Pass, s: Object, t: Object) -> (Reply, Stamp)
+    requires pass { IsPassOf bank.now pass.old }
+    requires may { MayWriteEntries (shape_of bank.now) s (view pass.old) }
+    requires other { MayWriteEntries (shape_of bank.now) t (view pass.old) }
+    requires set { kind_in (shape_of bank.now).kinds s ≡ kind.Set }
+    requires other_set { kind_in (shape_of bank.now).kinds t ≡ kind.Set }
+    ensures pass { IsPassOf bank.now pass.new }
+    ensures stack { stack_of pass.new ≡ stack_of pass.old }
+    ensures made { MadeAs (call.Set s (set.And t)) result.0 result.1 (view pass.old) (view pass.new) }
+{
+    let called = Call::Set {
+        container: s,
+        call: SetCall::And { other: t },
+    };
+    let number = thin_by(bank, pass, s, t, true, &called);
+    (Reply::Done, written(number))
+}
+
+/// `s -= t`, by a pass that has both locks (Python manual, Set Types): a set that is named twice is empty then.
+fn sub_locked(bank: &Bank, pass: &mut Pass, s: Object, t: Object) -> (Reply, Stamp)
+    requires pass { IsPassOf bank.now pass.old }
+    requires may { MayWriteEntries (shape_of bank.now) s (view pass.old) }
+    requires other { MayWriteEntries (shape_of bank.now) t (view pass.old) }
+    requires set { kind_in (shape_of bank.now).kinds s ≡ kind.Set }
+    requires other_set { kind_in (shape_of bank.now).kinds t ≡ kind.Set }
+    ensures pass { IsPassOf bank.now pass.new }
+    ensures stack { stack_of pass.new ≡ stack_of pass.old }
+    ensures made { MadeAs (call.Set s (set.Sub t)) result.0 result.1 (view pass.old) (view pass.new) }
+{
+    let called = Call::Set {
+        container: s,
+        call: SetCall::Sub { other: t },
+    };
+    let number = thin_by(bank, pass, s, t, false, &called);
+    (Reply::Done, written(number))
+}
+
+/// `s &= t` under the locks of both sets, the lower one taken first; a set named twice counts once, and stays as it is
+/// (Python manual, Set Types). The elements that stay keep their serials.
+///
+/// # Errors
+///
+/// `NotYet` where a step of the call found another pass with the lock of one of the sets; the same call comes next.
+/// It never answers `Moved` or `NoMemory`.
+pub fn try_and(bank: &Bank, pass: &mut Pass, s: Object, t: Object) -> Step
+    requires may { MayTry bank.now pass.old (Two s t) }
+    requires container { s < containers_in (shape_of bank.now) }
+    requires other { t < containers_in (shape_of bank.now) }
+    requires set { kind_in (shape_of bank.now).kinds s ≡ kind.Set }
+    requires other_set { kind_in (shape_of bank.now).kinds t ≡ kind.Set }
+    requires left { 0 < (view pass.old).left }
+    ensures may { MayTry bank.now pass.new (Two s t) }
+    ensures made { IsMadeOf (Two s t) (call.Set s (set.And t)) (view pass.old) (view pass.new) result }
+    ensures sections { SectionsAfter bank.now (Two s t) pass.old pass.new result }
+{
+    match take_for(bank, pass, Objects::Two(s, t)) {
+        Got::Have => {
+            let (reply, stamp) = and_locked(bank, pass, s, t);
+            let_go(bank, pass);
+            Step::Done(reply, stamp)
+        }
+        Got::NotYet(container, owner) => Step::NotYet(container, owner),
+    }
+}
+
+/// `s -= t` under the locks of both sets, the lower one taken first; a set named twice counts once, and is empty then
+/// (Python manual, Set Types). The elements that stay keep their serials.
+///
+/// # Errors
+///
+/// As those of `try_and`.
+pub fn try_sub(bank: &Bank, pass: &mut Pass, s: Object, t: Object) -> Step
+    requires may { MayTry bank.now pass.old (Two s t) }
+    requires container { s < containers_in (shape_of bank.now) }
+    requires other { t < containers_in (shape_of bank.now) }
+    requires set { kind_in (shape_of bank.now).kinds s ≡ kind.Set }
+    requires other_set { kind_in (shape_of bank.now).kinds t ≡ kind.Set }
+    requires left { 0 < (view pass.old).left }
+    ensures may { MayTry bank.now pass.new (Two s t) }
+    ensures made { IsMadeOf (Two s t) (call.Set s (set.Sub t)) (view pass.old) (view pass.new) result }
+    ensures sections { SectionsAfter bank.now (Two s t) pass.old pass.new result }
+{
+    match take_for(bank, pass, Objects::Two(s, t)) {
+        Got::Have => {
+            let (reply, stamp) = sub_locked(bank, pass, s, t);
+            let_go(bank, pass);
+            Step::Done(reply, stamp)
+        }
+        Got::NotYet(container, owner) => Step::NotYet(container, owner),
+    }
+}

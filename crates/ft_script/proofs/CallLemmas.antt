@@ -1,7 +1,7 @@
 -- What is reported of a call that is one too many.
 use Rattle.std.proofs.Common.{Result, Ok, Err, ap}
 use Rattle.ft_model.specs.declared.call.Call.{Call}
-use Rattle.ft_script.specs.declared.draft.Draft.{Draft}
+use Rattle.ft_script.specs.Drafts.{Draft}
 use Rattle.ft_script.specs.declared.fault.Fault.{Fault}
 use Rattle.ft_script.specs.declared.fault.LineError.{LineError}
 use Rattle.ft_script.specs.declared.fault.LineError.TheVariants as error

@@ -15,7 +15,7 @@ use Rattle.ft_model.specs.declared.script.Kind.TheVariants as kind
 use Rattle.ft_model.specs.Names.{is_container_name, is_text_byte, IsString}
 use Rattle.ft_model.specs.Scripts.{IsKeyOf, IsValueOf, IsDeclaredAs}
 use Rattle.ft_model.specs.Keys.{as_value}
-use Rattle.ft_script.specs.declared.draft.Draft.{Draft}
+use Rattle.ft_script.specs.Drafts.{Draft}
 use Rattle.ft_script.specs.declared.fault.Fault.{Fault}
 use Rattle.ft_script.specs.declared.fault.Fault.TheVariants as fault
 use Rattle.ft_script.specs.Transcripts.{IsWideKey, IsWideValue}

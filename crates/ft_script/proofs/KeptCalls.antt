@@ -16,7 +16,7 @@ use Rattle.ft_script.specs.declared.call_words.CallWord.{CallWord}
 use Rattle.ft_script.specs.declared.call_words.CallWord.TheVariants.{Next, Begin, End, Quiesce, On}
 use Rattle.ft_script.specs.declared.call_words.Operation.{Operation}
 use Rattle.ft_script.specs.declared.call_words.Operation.TheVariants as of
-use Rattle.ft_script.specs.declared.draft.Draft.{Draft}
+use Rattle.ft_script.specs.Drafts.{Draft}
 use Rattle.ft_script.specs.Arguments.{kind_at, container_of, nothing_in, key_in, key_and_value_in, value_in, index_in, some_index_in, two_indices_in, index_and_value_in, other_in, made_cursor_in, cursor_in, section_in}
 use Rattle.ft_script.specs.Transcripts.{IsWideCall}
 use Rattle.ft_script.specs.Words.{is_wide}

@@ -12,7 +12,7 @@ use Rattle.ft_model.specs.declared.script.ScriptParts.{ScriptParts}
 use Rattle.ft_model.specs.Names.{is_container_name, is_thread_name}
 use Rattle.ft_model.specs.Scripts.{AreMade, IsCallOf, IsThread, cursor_of}
 use Rattle.ft_model.specs.Classes.{class_count}
-use Rattle.ft_script.specs.declared.draft.Draft.{Draft}
+use Rattle.ft_script.specs.Drafts.{Draft}
 use Rattle.ft_script.specs.declared.fault.Fault.{Fault}
 use Rattle.ft_script.specs.Drafts.{script_of, end_thread, thread_place}
 use Rattle.ft_script.specs.Reading.{thread_line}

@@ -9,7 +9,7 @@ use Rattle.ft_model.specs.declared.script.ScriptParts.{ScriptParts}
 use Rattle.ft_model.specs.Names.{IsString, is_container_name}
 use Rattle.ft_model.specs.Scripts.{IsCallOf, IsScript, IsThread, default_tables}
 use Rattle.ft_model.specs.Classes.{class_count}
-use Rattle.ft_script.specs.declared.draft.Draft.{Draft}
+use Rattle.ft_script.specs.Drafts.{Draft}
 use Rattle.ft_script.specs.declared.fault.Fault.{Fault}
 use Rattle.ft_script.specs.declared.fault.ScriptFault.{ScriptFault}
 use Rattle.ft_script.specs.Lines.{ends_thread, is_comment, lines_of, words_of}

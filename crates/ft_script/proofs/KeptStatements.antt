@@ -16,13 +16,13 @@ use Rattle.ft_model.specs.declared.script.Kind.TheVariants as kind
 use Rattle.ft_model.specs.Names.{is_container_name, is_thread_name}
 use Rattle.ft_model.specs.Scripts.{AreMade, IsCallOf, IsThread, NamesOf, cursor_of}
 use Rattle.ft_script.specs.declared.call_words.CallWord.{CallWord}
-use Rattle.ft_script.specs.declared.draft.Draft.{Draft}
+use Rattle.ft_script.specs.Drafts.{Draft}
 use Rattle.ft_script.specs.declared.fault.Fault.{Fault}
 use Rattle.ft_script.specs.CallWords.{call_word_of}
 use Rattle.ft_script.specs.Words.{natural_of}
 use Rattle.ft_script.specs.Drafts.{or_fault, container_place, script_of, thread_place}
 use Rattle.ft_script.specs.Arguments.{index_of}
-use Rattle.ft_script.specs.Reading.{call_line, call_of, class_of, container_line, counted_call, declaration, depth_after, heap_line, is_reported, order_line, other_statement, past_limit, plain_statement, statement, tables_at, tables_line, tables_of, thread_statement, turn, turns, unordered_statement}
+use Rattle.ft_script.specs.Reading.{call_line, call_of, class_of, container_line, counted_call, declaration, depth_after, heap_line, is_reported, order_line, other_statement, past_limit, plain_statement, statement, tables_at, tables_line, tables_by_words, thread_statement, turn, turns, unordered_statement}
 use Rattle.ft_script.specs.Transcripts.{IsWideCall}
 use Rattle.ft_script.proofs.Encoded.{BeginsNoThread}
 use Rattle.ft_script.proofs.Growing.{call_grows}
@@ -127,15 +127,15 @@ tables_at_keeps d place count h =
     bind_holds (index_of count) _ (λ _. Unit {0}) IsDraft (anything (index_of count)) (λ n _.
     cond_holds (int_le (pos 1) n && int_le n (pos 1024)) _ _ IsDraft (λ is. let limits = between 1 1024 n is in tables_reported d place (natural_of n) h limits.0 limits.1) (λ _. tt)))
 
-tables_of_keeps : (d : Draft) (class count : List ℕ) → IsDraft d → IfOk (tables_of d class count) IsDraft
-unfolding tables_of
-tables_of_keeps d class count h = bind_holds (class_of class) _ (λ _. Unit {0}) IsDraft (anything (class_of class)) (λ place _. tables_at_keeps d place count h)
+tables_by_words_keeps : (d : Draft) (class count : List ℕ) → IsDraft d → IfOk (tables_by_words d class count) IsDraft
+unfolding tables_by_words
+tables_by_words_keeps d class count h = bind_holds (class_of class) _ (λ _. Unit {0}) IsDraft (anything (class_of class)) (λ place _. tables_at_keeps d place count h)
 
 tables_line_keeps : (d : Draft) (words : List (List ℕ)) → IsDraft d → IfOk (tables_line d words) IsDraft
 unfolding tables_line
 tables_line_keeps d [] h = tt
 tables_line_keeps d (class ∷ []) h = tt
-tables_line_keeps d (class ∷ count ∷ []) h = tables_of_keeps d class count h
+tables_line_keeps d (class ∷ count ∷ []) h = tables_by_words_keeps d class count h
 tables_line_keeps d (class ∷ count ∷ other ∷ words) h = tt
 
 heap_reported : (d : Draft) (count : ℕ) → IsDraft d → 64 ≤ count → count ≤ 4096 → count % 64 ≡ 0 → IsDraft (record d { heap = Some count })

@@ -24,7 +24,7 @@ use Rattle.ft_model.specs.Names.{is_digit}
 use Rattle.ft_script.specs.declared.call_words.CallWord.{CallWord}
 use Rattle.ft_script.specs.declared.call_words.CallWord.TheVariants.{Quiesce, On}
 use Rattle.ft_script.specs.declared.call_words.Operation.TheVariants as of
-use Rattle.ft_script.specs.declared.draft.Draft.{Draft}
+use Rattle.ft_script.specs.Drafts.{Draft}
 use Rattle.ft_script.specs.declared.fault.ScriptFault.{ScriptFault}
 use Rattle.ft_script.specs.declared.lines.Place.{Place}
 use Rattle.ft_script.specs.declared.lines.Place.TheVariants as place
@@ -33,7 +33,7 @@ use Rattle.ft_script.specs.CallWords.{call_word_of}
 use Rattle.ft_script.specs.Drafts.{empty_draft, end_thread, script_of}
 use Rattle.ft_script.specs.Generator.{call_by, calls_above, head_words, made_call, made_calls, made_head, made_script, made_text, made_thread, number_at, share, thread_words}
 use Rattle.ft_script.specs.Lines.{ends_thread, is_comment, joined, lines_of, place_after, with_first, words_from, words_of}
-use Rattle.ft_script.specs.Reading.{call_at, call_line, call_of, class_of, container_call, container_line, counted_call, declaration, depth_after, dict_call, heap_line, list_call, open_line, other_statement, plain_statement, read_line, set_call, statement, tables_at, tables_line, tables_of, thread_line, thread_statement, unordered_statement, words_line}
+use Rattle.ft_script.specs.Reading.{call_at, call_line, call_of, class_of, container_call, container_line, counted_call, declaration, depth_after, dict_call, heap_line, list_call, open_line, other_statement, plain_statement, read_line, set_call, statement, tables_at, tables_line, tables_by_words, thread_line, thread_statement, unordered_statement, words_line}
 use Rattle.ft_script.specs.Scripts.{line_after, read_lines, read_script, reported_at}
 use Rattle.ft_script.specs.Texts.{call_words, line}
 use Rattle.ft_script.specs.Words.{integer_of, is_wide}
@@ -429,7 +429,7 @@ unfolding statement other_statement unordered_statement plain_statement declarat
 heap_read = by_words empty_draft (codes "heap 4096") (codes "heap" ∷ codes "4096" ∷ []) refl refl (words_back (codes "heap" ∷ codes "4096" ∷ []) ((refl, refl), ((refl, refl), tt))) ∙ refl
 
 tables_read : read_line (heading (replicate class_count None) []) (codes "tables 12 16") ≡ Ok (heading sixteen [])
-unfolding statement other_statement unordered_statement plain_statement declaration tables_line tables_of class_of tables_at index_of integer_of
+unfolding statement other_statement unordered_statement plain_statement declaration tables_line tables_by_words class_of tables_at index_of integer_of
 tables_read = by_words _ (codes "tables 12 16") (codes "tables" ∷ codes "12" ∷ codes "16" ∷ []) refl refl (words_back (codes "tables" ∷ codes "12" ∷ codes "16" ∷ []) ((refl, refl), ((refl, refl), ((refl, refl), tt)))) ∙ refl
 
 dict_read : read_line (heading sixteen []) (codes "dict d") ≡ Ok (heading sixteen (containers_before 1))

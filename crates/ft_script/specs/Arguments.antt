@@ -9,7 +9,7 @@ use Rattle.ft_model.specs.declared.script.Kind.{Kind}
 use Rattle.ft_model.specs.declared.script.Kind.TheVariants as kind
 use Rattle.ft_model.specs.Keys.{as_value}
 use Rattle.ft_model.specs.Names.{is_container_name}
-use Rattle.ft_script.specs.declared.draft.Draft.{Draft}
+use Rattle.ft_script.specs.Drafts.{Draft}
 use Rattle.ft_script.specs.declared.fault.Fault.{Fault}
 use Rattle.ft_script.specs.declared.fault.Fault.TheVariants as fault
 use Rattle.ft_script.specs.declared.fault.Which.TheVariants as which

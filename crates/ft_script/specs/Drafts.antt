@@ -5,12 +5,33 @@ use Rattle.std.specs.List.{zip}
 use Rattle.std.specs.Str.{bytes_eq}
 use Rattle.ft_model.specs.Classes.{class_count}
 use Rattle.ft_model.specs.Scripts.{default_tables}
+use Rattle.ft_model.specs.declared.call.Call.{Call}
 use Rattle.ft_model.specs.declared.script.Declaration.{Declaration}
 use Rattle.ft_model.specs.declared.script.Thread.{Thread}
 use Rattle.ft_model.specs.declared.script.ScriptParts.{ScriptParts}
-use Rattle.ft_script.specs.declared.draft.Draft.{Draft}
 use Rattle.ft_script.specs.declared.fault.Fault.{Fault}
 use Rattle.ft_script.specs.declared.fault.Fault.TheVariants as fault
+
+-- ---- drafts
+
+-- what the lines above a place say
+pub record Draft : Type 0 where
+  pub containers : List Declaration
+  -- the numbers of tables that lines name, from class 3 on, and of places in the heap
+  pub tables : List (Option ℕ)
+  pub heap : Option ℕ
+  -- the threads whose calls have ended
+  pub threads : List Thread
+  -- the name of the thread whose calls stand here, its cursors and calls, and how many of its sections are open
+  pub name : Option (List ℕ)
+  pub cursors : List (List ℕ)
+  pub calls : List Call
+  pub depth : ℕ
+  -- how many calls all threads have
+  pub called : ℕ
+  -- the distinct strings, and the threads that `order` lines name
+  pub strings : List (List ℕ)
+  pub order : List ℕ
 
 -- ---- results
 
@@ -35,7 +56,7 @@ thread_place threads name = position (λ thread. bytes_eq thread.name name) thre
 abbrev pub text_place : List (List ℕ) → List ℕ → Option ℕ
 text_place texts text = position (λ other. bytes_eq text other) texts
 
--- ---- drafts
+-- ---- the first draft, and the end of a thread
 
 -- nothing is declared
 abbrev pub empty_draft : Draft
@@ -62,7 +83,8 @@ draft_at script thread =
       cursors = option_map_or (λ found. found.cursors) (slice_get script.threads thread) [];
     }
 
--- the script of all lines: where none says otherwise there are as many tables of a class as a script has without a line for it, and 64 places in each heap
+-- the script of all lines: where none says otherwise there are as many tables of a class as a script has without a line
+-- for it, and 64 places in each heap
 abbrev pub script_of : Draft → ScriptParts
 script_of draft = record {
   containers = draft.containers;

@@ -27,7 +27,8 @@ number_at first (suc draws) = number_after (number_at first draws)
 
 -- ---- calls
 
--- Of the upper 31 bits of a number the rest modulo 8 says which call it is, and the rest of the eighth part modulo 1000 is its key, value or index. (profile)
+-- Of the upper 31 bits of a number the rest modulo 8 says which call it is, and the rest of the eighth part modulo 1000
+-- is its key, value or index. (profile)
 abbrev pub call_by : ℕ → ℕ → Call
 call_by rest k =
     if rest == 0 then call.Dict 0 (dict.Set (key.Int (pos k)) (value.Int (pos k))) else (
@@ -47,7 +48,8 @@ made_calls first count = map (λ draws. made_call (number_at first (draws + 1)))
 
 -- ---- scripts
 
--- Calls are dealt in blocks: each thread has a fourth of them, rounded down, and as many threads as are left over have one more. (profile)
+-- Calls are dealt in blocks: each thread has a fourth of them, rounded down, and as many threads as are left over have
+-- one more. (profile)
 abbrev pub share : ℕ → ℕ → ℕ
 share calls place = calls / 4 + (if nat_lt place (calls % 4) then 1 else 0)
 
@@ -63,7 +65,8 @@ made_thread calls place = record {
   calls = made_calls (number_at calls (calls_above calls place)) (share calls place);
 }
 
--- What each script of the generator declares: a dict, a list and a set, 16 tables of class 12, and the greatest heap. (profile)
+-- What each script of the generator declares: a dict, a list and a set, 16 tables of class 12, and the greatest heap.
+-- (profile)
 abbrev pub made_head : ScriptParts
 made_head = record {
   containers =

@@ -27,7 +27,8 @@ is_plain b = not (nat_lt b 32) && not (b == 127)
 abbrev pub is_escape : ℕ → Bool
 is_escape b = b == 34 || b == 92 || b == 110 || b == 116
 
--- where a byte leads: between words, in a plain word, in a string, after a backslash in it, or after its end; a string ends its word
+-- where a byte leads: between words, in a plain word, in a string, after a backslash in it, or after its end; a string
+-- ends its word
 abbrev pub place_after : Place → ℕ → Option Place
 place_after place.Between b =
     if b == 32 then Some place.Between else (if b == 34 then Some place.String else Some place.Plain)
@@ -38,7 +39,8 @@ place_after place.String b =
 place_after place.Escape b = if is_escape b then Some place.String else None
 place_after place.Ended b = if b == 32 then Some place.Between else None
 
--- what a byte between two places adds to the words after it, of which the first goes on with the byte but for between words
+-- what a byte between two places adds to the words after it, of which the first goes on with the byte but for between
+-- words
 abbrev pub joined : Place → ℕ → Place → List (List ℕ) → List (List ℕ)
 joined place.Between b place.Between words = words
 joined other b place.Between words = [] ∷ words
@@ -55,7 +57,8 @@ abbrev pub word_start : Place → ℕ → ℕ → ℕ
 word_start place.Between start here = here
 word_start other start here = start
 
--- the words from a place on, the first of them being what is left of the word there; none where a string isn't closed or has what no string has
+-- the words from a place on, the first of them being what is left of the word there; none where a string isn't closed
+-- or has what no string has
 unfoldable pub words_from : Place → List ℕ → Option (List (List ℕ))
 words_from place.Between [] = Some []
 words_from place.Plain [] = Some ([] ∷ [])

@@ -18,7 +18,7 @@ use Rattle.ft_script.specs.declared.call_words.CallWord.{CallWord}
 use Rattle.ft_script.specs.declared.call_words.CallWord.TheVariants.{Next, Begin, End, Quiesce, On}
 use Rattle.ft_script.specs.declared.call_words.Operation.{Operation}
 use Rattle.ft_script.specs.declared.call_words.Operation.TheVariants as of
-use Rattle.ft_script.specs.declared.draft.Draft.{Draft}
+use Rattle.ft_script.specs.Drafts.{Draft}
 use Rattle.ft_script.specs.declared.fault.Fault.{Fault}
 use Rattle.ft_script.specs.declared.fault.Fault.TheVariants as fault
 use Rattle.ft_script.specs.declared.fault.Which.TheVariants as which
@@ -239,12 +239,12 @@ tables_at draft place count =
     && int_le n (pos 1024) then Ok (record draft { tables = slice_set draft.tables place (Some (natural_of n)) })
     else Err (fault.Limit which.Tables))
 
-unfoldable pub tables_of : Draft → List ℕ → List ℕ → Result Draft Fault
-tables_of draft class count = class_of class >>= λ place. tables_at draft place count
+unfoldable pub tables_by_words : Draft → List ℕ → List ℕ → Result Draft Fault
+tables_by_words draft class count = class_of class >>= λ place. tables_at draft place count
 
 -- `tables CLASS COUNT`
 unfoldable pub tables_line : Draft → List (List ℕ) → Result Draft Fault
-tables_line draft (class ∷ count ∷ []) = tables_of draft class count
+tables_line draft (class ∷ count ∷ []) = tables_by_words draft class count
 tables_line draft others = Err fault.WordCount
 
 -- `heap COUNT`
@@ -328,6 +328,7 @@ unfoldable pub open_line : Draft → List ℕ → Result Draft Fault
 open_line draft line =
     if ends_thread line then (end_thread draft >>= λ ended. words_line ended line) else words_line draft line
 
--- a line: it ends the calls of the thread above it before anything else is reported, and no word is read of one whose strings are broken
+-- a line: it ends the calls of the thread above it before anything else is reported, and no word is read of one whose
+-- strings are broken
 unfoldable pub read_line : Draft → List ℕ → Result Draft Fault
 read_line draft line = if is_comment line then Ok draft else open_line draft line

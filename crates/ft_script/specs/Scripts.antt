@@ -2,7 +2,7 @@
 use Rattle.std.specs.Prelude.{ℕ, ◌+◌, ◌-◌, ◌^◌, ◌==◌, nat_lt, min, List, [], ◌∷◌, length, take, count_by, Result, Ok, Err, if◌then◌else◌}
 use Rattle.std.specs.Str.Lossy.{utf8_valid_len}
 use Rattle.ft_model.specs.declared.script.ScriptParts.{ScriptParts}
-use Rattle.ft_script.specs.declared.draft.Draft.{Draft}
+use Rattle.ft_script.specs.Drafts.{Draft}
 use Rattle.ft_script.specs.declared.fault.Fault.{Fault}
 use Rattle.ft_script.specs.declared.fault.Fault.TheVariants as fault
 use Rattle.ft_script.specs.declared.fault.ScriptFault.{ScriptFault}
@@ -20,7 +20,8 @@ abbrev pub reported_at : {X : Type 0} → ℕ → Result X Fault → Result X Sc
 reported_at number (Ok x) = Ok x
 reported_at number (Err found) = Err (fault_at number found)
 
--- the draft after the lines, of which the first has this number, or the first fault; a thread's calls that don't end are reported one past the last line
+-- the draft after the lines, of which the first has this number, or the first fault; a thread's calls that don't end
+-- are reported one past the last line
 unfoldable pub read_lines : ℕ → Draft → List (List ℕ) → Result Draft ScriptFault
 read_lines number draft [] = reported_at number (end_thread draft)
 read_lines number draft (line ∷ lines) =

@@ -30,7 +30,8 @@ line words = join_with_byte 32 words ++ 10 ∷ []
 
 -- ---- keys and values
 
--- a byte of a string: a quotation mark, a backslash, a line feed and a tab stand after a backslash, and all others as they are
+-- a byte of a string: a quotation mark, a backslash, a line feed and a tab stand after a backslash, and all others as
+-- they are
 abbrev pub escaped : ℕ → List ℕ
 escaped b =
     if b == 34 then 92 ∷ 34

@@ -95,7 +95,8 @@ counts (call.Begin first second) = false
 counts call.End = false
 counts call.Quiesce = false
 
--- an integer stands for a count where the call counts and it isn't negative, and else for a value; a count, too, is within 64 signed bits; MemoryError has a class from 3 to 16
+-- an integer stands for a count where the call counts and it isn't negative, and else for a value; a count, too, is
+-- within 64 signed bits; MemoryError has a class from 3 to 16
 abbrev pub IsReadableReply : Bool → Reply → Type 0
 IsReadableReply counted (reply.Count count) = (counted ≡ true) × (count < 2 ^ 63)
 IsReadableReply counted (reply.Value (value.Int n)) = (count : ℕ) → n ≡ pos count → counted ≡ false
@@ -133,7 +134,8 @@ IsWideReply (reply.Set elements) = All IsWideKey elements
 IsWideReply (reply.Suspended count) = count < 2 ^ 32
 IsWideReply other = Unit {0}
 
--- an entry that a line can have: it names what the script has, its calls are numbered from 1, and no number is too great
+-- an entry that a line can have: it names what the script has, its calls are numbered from 1, and no number is too
+-- great
 pub record IsReadable (script : ScriptParts) (entry : Entry) : Type 0 where
   pub of_script : IsEntryOf script entry
   pub first_index : 1 ≤ entry.index
@@ -180,7 +182,9 @@ pub record IsTranscript (script : ScriptParts) (bytes : List ℕ) (entries : Lis
   pub world_read : All (IsContentLine script) world
   pub written : bytes ≡ flat_map (entry_line script) entries ++ fed world
 
--- the first line that is none: the lines before it are a transcript, and what is left begins neither with the line of an entry, where no line of a content stands above, nor with the line of a content; numbers of lines stand still at the greatest of 32 bits
+-- the first line that is none: the lines before it are a transcript, and what is left begins neither with the line of
+-- an entry, where no line of a content stands above, nor with the line of a content; numbers of lines stand still at
+-- the greatest of 32 bits
 pub record IsFirstBad (script : ScriptParts) (bytes : List ℕ) (number : ℕ) : Type 0 where
   pub entries : List Entry
   pub world : List (List ℕ)

@@ -1,7 +1,7 @@
 //! Reads the words after the word of a call.
 ghost use Rattle.ft_model.specs.Names.{is_container_name};
 ghost use Rattle.ft_script.specs.Arguments.{container_of, cursor_in, cursor_of, index_and_value_in, index_and_value_of, index_in, index_of, is_of_kind, key_and_value_in, key_and_value_of, key_in, key_of, kind_at, made_cursor_in, made_cursor_of, nothing_in, other_in, other_of, same_kind, section_in, some_index_in, symbol_of, two_containers_of, two_indices_in, two_indices_of, value_in, value_of};
-ghost use Rattle.ft_script.specs.Internal.Answers.{Gives, Reads};
+ghost use Rattle.ft_script.specs.Internal.Answers.{Gives, Reads, draft_of};
 ghost use Rattle.std.specs.Prelude.{◌≡◌, Ok, map};
 
 use crate::declarations::CURSOR_LIMIT;
@@ -36,7 +36,7 @@ impl Draft {
     /// The number of a string.
     #[tactic(auto, unfolding(crate::specs::Arguments::symbol_of))]
     fn symbol_of(&mut self, text: &[u8]) -> Result<u32, LineError>
-        ensures { Reads result self.new (symbol_of self.old text.now) }
+        ensures { Reads result (draft_of self.new) (symbol_of (draft_of self.old) text.now) }
     {
         if text.len() > STRING_BYTES_LIMIT {
             return Err(Fault::Limit(Which::StringBytes).into());
@@ -55,7 +55,7 @@ impl Draft {
     /// The key that a word is.
     #[tactic(auto, unfolding(crate::specs::Arguments::key_of))]
     fn key_of(&mut self, alloc: Global, word: &[u8]) -> Result<Key, LineError>
-        ensures { Reads result self.new (key_of self.old word.now) }
+        ensures { Reads result (draft_of self.new) (key_of (draft_of self.old) word.now) }
     {
         if is_string(word) {
             let text = text_of(alloc, word)?;
@@ -68,7 +68,7 @@ impl Draft {
     /// The value that a word is.
     #[tactic(auto, unfolding(crate::specs::Arguments::value_of))]
     fn value_of(&mut self, alloc: Global, word: &[u8]) -> Result<Value, LineError>
-        ensures { Reads result self.new (value_of self.old word.now) }
+        ensures { Reads result (draft_of self.new) (value_of (draft_of self.old) word.now) }
     {
         if word == b"None".as_slice() {
             return Ok(Value::Nothing);
@@ -79,7 +79,7 @@ impl Draft {
     /// The place of a container that stands above.
     #[tactic(auto, unfolding(crate::specs::Arguments::container_of))]
     pub(crate) fn container_of(&self, name: &[u8]) -> Result<u32, Fault>
-        ensures { result ≡ container_of self.now name.now }
+        ensures { result ≡ container_of (draft_of self.now) name.now }
     {
         self.containers.place_of(name).ok_or(Fault::Name)
     }
@@ -87,7 +87,7 @@ impl Draft {
     /// The place of a second container.
     #[tactic(auto, unfolding(crate::specs::Arguments::other_of))]
     fn other_of(&self, kind: Kind, name: &[u8]) -> Result<u32, Fault>
-        ensures { result ≡ other_of self.now kind name.now }
+        ensures { result ≡ other_of (draft_of self.now) kind name.now }
     {
         let place = self.container_of(name)?;
         match self.kind_at(place) {
@@ -98,7 +98,7 @@ impl Draft {
 
     /// The kind of the container at a place.
     pub(crate) fn kind_at(&self, place: u32) -> Option<Kind>
-        ensures { result ≡ kind_at self.now place }
+        ensures { result ≡ kind_at (draft_of self.now) place }
     {
         let containers = self.containers.as_slice();
         let container = containers.get(place as usize)?;
@@ -108,7 +108,7 @@ impl Draft {
     /// The number of a cursor that stands above in the thread.
     #[tactic(auto, unfolding(crate::specs::Arguments::cursor_of))]
     fn cursor_of(&self, name: &[u8]) -> Result<u32, Fault>
-        ensures { result ≡ cursor_of self.now name.now }
+        ensures { result ≡ cursor_of (draft_of self.now) name.now }
     {
         self.cursors.place_of(name).ok_or(Fault::Name)
     }
@@ -116,7 +116,7 @@ impl Draft {
     /// The number of a cursor that is made, or made anew.
     #[tactic(auto, unfolding(crate::specs::Arguments::made_cursor_of))]
     fn made_cursor_of(&mut self, alloc: Global, name: &[u8]) -> Result<u32, LineError>
-        ensures { Reads result self.new (made_cursor_of self.old name.now) }
+        ensures { Reads result (draft_of self.new) (made_cursor_of (draft_of self.old) name.now) }
     {
         if !is_container_name(name) {
             return Err(Fault::Name.into());
@@ -135,7 +135,7 @@ impl Draft {
 
     #[tactic(auto, unfolding(crate::specs::Arguments::key_in))]
     pub(crate) fn key_in(&mut self, alloc: Global, words: &[&[u8]]) -> Result<Key, LineError>
-        ensures { Reads result self.new (key_in self.old (map (λ word. word.now) words.now)) }
+        ensures { Reads result (draft_of self.new) (key_in (draft_of self.old) (map (λ word. word.now) words.now)) }
     {
         match words {
             [word] => self.key_of(alloc, word),
@@ -149,7 +149,7 @@ impl Draft {
         alloc: Global,
         words: &[&[u8]],
     ) -> Result<(Key, Value), LineError>
-        ensures { Reads result self.new (key_and_value_in self.old (map (λ word. word.now) words.now)) }
+        ensures { Reads result (draft_of self.new) (key_and_value_in (draft_of self.old) (map (λ word. word.now) words.now)) }
     {
         match words {
             [key, value] => self.key_and_value_of(alloc, key, value),
@@ -164,7 +164,7 @@ impl Draft {
         key: &[u8],
         value: &[u8],
     ) -> Result<(Key, Value), LineError>
-        ensures { Reads result self.new (key_and_value_of self.old key.now value.now) }
+        ensures { Reads result (draft_of self.new) (key_and_value_of (draft_of self.old) key.now value.now) }
     {
         let found = self.key_of(alloc, key)?;
         let stored = self.value_of(alloc, value)?;
@@ -178,7 +178,7 @@ impl Draft {
         index: &[u8],
         value: &[u8],
     ) -> Result<(i64, Value), LineError>
-        ensures { Reads result self.new (index_and_value_of self.old index.now value.now) }
+        ensures { Reads result (draft_of self.new) (index_and_value_of (draft_of self.old) index.now value.now) }
     {
         let place = index_of(index)?;
         let stored = self.value_of(alloc, value)?;
@@ -187,7 +187,7 @@ impl Draft {
 
     #[tactic(auto, unfolding(crate::specs::Arguments::value_in))]
     pub(crate) fn value_in(&mut self, alloc: Global, words: &[&[u8]]) -> Result<Value, LineError>
-        ensures { Reads result self.new (value_in self.old (map (λ word. word.now) words.now)) }
+        ensures { Reads result (draft_of self.new) (value_in (draft_of self.old) (map (λ word. word.now) words.now)) }
     {
         match words {
             [word] => self.value_of(alloc, word),
@@ -201,7 +201,7 @@ impl Draft {
         alloc: Global,
         words: &[&[u8]],
     ) -> Result<(i64, Value), LineError>
-        ensures { Reads result self.new (index_and_value_in self.old (map (λ word. word.now) words.now)) }
+        ensures { Reads result (draft_of self.new) (index_and_value_in (draft_of self.old) (map (λ word. word.now) words.now)) }
     {
         match words {
             [index, value] => self.index_and_value_of(alloc, index, value),
@@ -211,7 +211,7 @@ impl Draft {
 
     #[tactic(auto, unfolding(crate::specs::Arguments::other_in))]
     pub(crate) fn other_in(&self, kind: Kind, words: &[&[u8]]) -> Result<u32, Fault>
-        ensures { result ≡ other_in self.now kind (map (λ word. word.now) words.now) }
+        ensures { result ≡ other_in (draft_of self.now) kind (map (λ word. word.now) words.now) }
     {
         match words {
             [name] => self.other_of(kind, name),
@@ -225,7 +225,7 @@ impl Draft {
         alloc: Global,
         words: &[&[u8]],
     ) -> Result<u32, LineError>
-        ensures { Reads result self.new (made_cursor_in self.old (map (λ word. word.now) words.now)) }
+        ensures { Reads result (draft_of self.new) (made_cursor_in (draft_of self.old) (map (λ word. word.now) words.now)) }
     {
         match words {
             [name] => self.made_cursor_of(alloc, name),
@@ -235,7 +235,7 @@ impl Draft {
 
     #[tactic(auto, unfolding(crate::specs::Arguments::cursor_in))]
     pub(crate) fn cursor_in(&self, words: &[&[u8]]) -> Result<u32, Fault>
-        ensures { result ≡ cursor_in self.now (map (λ word. word.now) words.now) }
+        ensures { result ≡ cursor_in (draft_of self.now) (map (λ word. word.now) words.now) }
     {
         match words {
             [name] => self.cursor_of(name),
@@ -245,7 +245,7 @@ impl Draft {
 
     #[tactic(auto, unfolding(crate::specs::Arguments::section_in))]
     pub(crate) fn section_in(&self, words: &[&[u8]]) -> Result<(u32, Option<u32>), Fault>
-        ensures { result ≡ section_in self.now (map (λ word. word.now) words.now) }
+        ensures { result ≡ section_in (draft_of self.now) (map (λ word. word.now) words.now) }
     {
         match words {
             [name] => Ok((self.container_of(name)?, None)),
@@ -256,7 +256,7 @@ impl Draft {
 
     #[tactic(auto, unfolding(crate::specs::Arguments::two_containers_of))]
     fn two_containers_of(&self, name: &[u8], other: &[u8]) -> Result<(u32, Option<u32>), Fault>
-        ensures { result ≡ two_containers_of self.now name.now other.now }
+        ensures { result ≡ two_containers_of (draft_of self.now) name.now other.now }
     {
         let first = self.container_of(name)?;
         let second = self.container_of(other)?;

@@ -3,7 +3,7 @@ ghost use Rattle.ft_script.specs.CallWords.{call_word_of, call_word_text, operat
 ghost use Rattle.std.specs.Prelude.{◌≡◌};
 
 /// A call of a container.
-#[derive(Clone, Copy, Debug, PartialEq, Eq)]
+#[derive(Clone, Copy)]
 pub(crate) enum Operation {
     Get,
     GetOr,
@@ -40,7 +40,7 @@ pub(crate) enum Operation {
 }
 
 /// The word that a call begins with.
-#[derive(Clone, Copy, Debug, PartialEq, Eq)]
+#[derive(Clone, Copy)]
 pub(crate) enum CallWord {
     Next,
     Begin,

@@ -1,6 +1,6 @@
 //! Reads the lines of calls.
 ghost use Rattle.ft_script.specs.Reading.{call_at, call_line, call_of, container_call, counted_call, depth_after, dict_call, limit_fault, list_call, set_call};
-ghost use Rattle.ft_script.specs.Internal.Answers.{Leaves, Reads, limit_error};
+ghost use Rattle.ft_script.specs.Internal.Answers.{Leaves, Reads, limit_error, draft_of};
 ghost use Rattle.std.specs.Prelude.{◌≡◌, ◌<◌, map};
 
 use crate::arguments::{index_in, nothing_in, some_index_in, two_indices_in};
@@ -22,7 +22,7 @@ impl Draft {
         operation: Operation,
         words: &[&[u8]],
     ) -> Result<DictCall, LineError>
-        ensures { Reads result self.new (dict_call self.old operation (map (λ word. word.now) words.now)) }
+        ensures { Reads result (draft_of self.new) (dict_call (draft_of self.old) operation (map (λ word. word.now) words.now)) }
     {
         match operation {
             Operation::Get => Ok(DictCall::Get {
@@ -108,7 +108,7 @@ impl Draft {
         operation: Operation,
         words: &[&[u8]],
     ) -> Result<ListCall, LineError>
-        ensures { Reads result self.new (list_call self.old operation (map (λ word. word.now) words.now)) }
+        ensures { Reads result (draft_of self.new) (list_call (draft_of self.old) operation (map (λ word. word.now) words.now)) }
     {
         match operation {
             Operation::Append => Ok(ListCall::Append {
@@ -197,7 +197,7 @@ impl Draft {
         operation: Operation,
         words: &[&[u8]],
     ) -> Result<SetCall, LineError>
-        ensures { Reads result self.new (set_call self.old operation (map (λ word. word.now) words.now)) }
+        ensures { Reads result (draft_of self.new) (set_call (draft_of self.old) operation (map (λ word. word.now) words.now)) }
     {
         match operation {
             Operation::Add => Ok(SetCall::Add {
@@ -279,7 +279,7 @@ impl Draft {
         operation: Operation,
         words: &[&[u8]],
     ) -> Result<Call, LineError>
-        ensures { Reads result self.new (container_call self.old operation (map (λ word. word.now) words.now)) }
+        ensures { Reads result (draft_of self.new) (container_call (draft_of self.old) operation (map (λ word. word.now) words.now)) }
     {
         let [name, words @ ..] = words else {
             return Err(Fault::WordCount.into());
@@ -299,7 +299,7 @@ impl Draft {
         words: &[&[u8]],
         kind: Option<Kind>,
     ) -> Result<Call, LineError>
-        ensures { Reads result self.new (call_at self.old container operation (map (λ word. word.now) words.now) kind) }
+        ensures { Reads result (draft_of self.new) (call_at (draft_of self.old) container operation (map (λ word. word.now) words.now) kind) }
     {
         match kind {
             None => Err(Fault::Name.into()),
@@ -326,7 +326,7 @@ impl Draft {
         word: CallWord,
         words: &[&[u8]],
     ) -> Result<Call, LineError>
-        ensures { Reads result self.new (call_of self.old word (map (λ word. word.now) words.now)) }
+        ensures { Reads result (draft_of self.new) (call_of (draft_of self.old) word (map (λ word. word.now) words.now)) }
     {
         match word {
             CallWord::Next => Ok(Call::Next {
@@ -356,7 +356,7 @@ impl Draft {
         word: CallWord,
         words: &[&[u8]],
     ) -> Result<(), LineError>
-        ensures { Leaves result self.new (call_line self.old word (map (λ word. word.now) words.now)) }
+        ensures { Leaves result (draft_of self.new) (call_line (draft_of self.old) word (map (λ word. word.now) words.now)) }
     {
         if self.called >= CALL_LIMIT {
             return Err(limit_error(self.call_of(alloc, word, words)));
@@ -373,7 +373,7 @@ impl Draft {
         words: &[&[u8]],
     ) -> Result<(), LineError>
         requires { self.old.called < 500000 }
-        ensures { Leaves result self.new (counted_call self.old word (map (λ word. word.now) words.now)) }
+        ensures { Leaves result (draft_of self.new) (counted_call (draft_of self.old) word (map (λ word. word.now) words.now)) }
     {
         let (called, depth) = (self.called, self.depth);
         let call = self.call_of(alloc, word, words)?;

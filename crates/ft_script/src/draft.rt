@@ -1,6 +1,6 @@
 //! What the lines above a place say.
 ghost use Rattle.ft_script.specs.Drafts.{empty_draft, script_of, end_thread};
-ghost use Rattle.ft_script.specs.Internal.Answers.{HasFewThreads, Leaves};
+ghost use Rattle.ft_script.specs.Internal.Answers.{HasFewThreads, Leaves, draft_of};
 ghost use Rattle.ft_model.specs.Scripts.{default_tables};
 ghost use Rattle.std.specs.List.{zip};
 ghost use Rattle.std.specs.Option.{unwrap_or};
@@ -49,7 +49,7 @@ pub(crate) struct Draft {
 impl Draft {
     /// Nothing is declared.
     pub(crate) fn empty(alloc: Global) -> Self
-        ensures { result ≡ empty_draft }
+        ensures { draft_of result ≡ empty_draft }
     {
         Draft {
             containers: Declarations::new(alloc),
@@ -69,8 +69,8 @@ impl Draft {
     /// Ends the calls of the thread, if one's calls stand here.
     #[tactic(auto, unfolding(crate::specs::Drafts::end_thread))]
     pub(crate) fn end_thread(&mut self, alloc: Global) -> Result<(), LineError>
-        ensures read { Leaves result self.new (end_thread self.old) }
-        ensures few { OnOk result (HasFewThreads self.old → length self.new.threads ≤ 64) }
+        ensures read { Leaves result (draft_of self.new) (end_thread (draft_of self.old)) }
+        ensures few { OnOk result (HasFewThreads (draft_of self.old) → length self.new.threads ≤ 64) }
     {
         let Some(name) = self.name.take() else {
             return Ok(());
@@ -90,7 +90,7 @@ impl Draft {
 
     /// The script of all lines.
     pub(crate) fn into_parts(self, alloc: Global) -> Result<ScriptParts, AllocError>
-        ensures { IfOk result (λ parts. parts ≡ script_of self) }
+        ensures { IfOk result (λ parts. parts ≡ script_of (draft_of self)) }
     {
         let tables = table_counts(alloc, &self.tables)?;
         Ok(ScriptParts {

@@ -3,7 +3,7 @@ ghost use Rattle.ft_script.specs.declared.fault.Fault.TheVariants as fault;
 ghost use Rattle.ft_script.specs.Internal.Candidates.{content_of, entry_of, numbered_of, only_call, stamp_of, thread_call, thread_of, waited_of};
 ghost use Rattle.ft_model.specs.Scripts.{IsScript};
 ghost use Rattle.ft_script.specs.Drafts.{container_place, draft_at, or_fault};
-ghost use Rattle.ft_script.specs.Internal.Answers.{Gives};
+ghost use Rattle.ft_script.specs.Internal.Answers.{Gives, draft_of};
 ghost use Rattle.ft_script.specs.Reading.{call_of};
 ghost use Rattle.ft_script.specs.Internal.Readers.{AddsNothing, IsReaderOf, IsUnchanged};
 ghost use Rattle.ft_script.specs.Internal.Tokens.{before_word};
@@ -228,7 +228,7 @@ impl Reader {
     /// The reader of a script's transcripts.
     pub(crate) fn new(alloc: Global, script: &ScriptParts) -> Result<Self, AllocError>
         requires { IsScript script.now }
-        ensures { IfOk result (λ reader. IsReaderOf script.now reader.draft reader.cursors.items) }
+        ensures { IfOk result (λ reader. IsReaderOf script.now (draft_of reader.draft) reader.cursors.items) }
     {
         let mut draft = Draft::empty(alloc);
         let containers = copied_containers(alloc, script.containers.as_slice())?;
@@ -247,10 +247,10 @@ impl Reader {
         thread: u32,
         words: &[&[u8]],
     ) -> Result<Call, LineError>
-        requires reader { IsReaderOf script.now self.old.draft self.old.cursors.items }
+        requires reader { IsReaderOf script.now (draft_of self.old.draft) self.old.cursors.items }
         requires declared { thread < length script.now.threads }
         ensures read { Gives (λ call. call) result (thread_call script.now thread (map (λ word. word.now) words.now)) }
-        ensures kept { OnOk result (AddsNothing script.now thread (map (λ word. word.now) words.now) → IsReaderOf script.now self.new.draft self.new.cursors.items) }
+        ensures kept { OnOk result (AddsNothing script.now thread (map (λ word. word.now) words.now) → IsReaderOf script.now (draft_of self.new.draft) self.new.cursors.items) }
     {
         let [word, words @ ..] = words else {
             return Err(Fault::WordCount.into());
@@ -268,10 +268,10 @@ impl Reader {
         word: CallWord,
         words: &[&[u8]],
     ) -> Result<Call, LineError>
-        requires reader { IsReaderOf script.now self.old.draft self.old.cursors.items }
+        requires reader { IsReaderOf script.now (draft_of self.old.draft) self.old.cursors.items }
         requires declared { thread < length script.now.threads }
         ensures read { Gives (λ call. call) result (only_call (call_of (draft_at script.now thread) word (map (λ word. word.now) words.now))) }
-        ensures kept { OnOk result (IsUnchanged (draft_at script.now thread) (call_of (draft_at script.now thread) word (map (λ word. word.now) words.now)) → IsReaderOf script.now self.new.draft self.new.cursors.items) }
+        ensures kept { OnOk result (IsUnchanged (draft_at script.now thread) (call_of (draft_at script.now thread) word (map (λ word. word.now) words.now)) → IsReaderOf script.now (draft_of self.new.draft) self.new.cursors.items) }
     {
         let cursors = &mut self.cursors[thread as usize];
         mem::swap(&mut self.draft.cursors, cursors);
@@ -290,10 +290,10 @@ impl Reader {
         tokens: &[&[u8]],
     ) -> Result<Entry, LineError>
         requires script { IsScript script.now }
-        requires reader { IsReaderOf script.now self.old.draft self.old.cursors.items }
+        requires reader { IsReaderOf script.now (draft_of self.old.draft) self.old.cursors.items }
         requires strings { strings.now ≡ script.now.strings }
         ensures read { Gives (λ entry. entry) result (entry_of script.now (map (λ token. token.now) tokens.now)) }
-        ensures kept { IfOk result (λ entry. AddsNothing script.now entry.thread (before_word (codes "=") (drop 2 (map (λ token. token.now) tokens.now))) → IsReaderOf script.now self.new.draft self.new.cursors.items) }
+        ensures kept { IfOk result (λ entry. AddsNothing script.now entry.thread (before_word (codes "=") (drop 2 (map (λ token. token.now) tokens.now))) → IsReaderOf script.now (draft_of self.new.draft) self.new.cursors.items) }
     {
         let [place, stamp, words @ ..] = tokens else {
             return Err(Fault::WordCount.into());

@@ -32,7 +32,7 @@ pub enum Which {
 }
 
 /// What is wrong with a line.
-#[derive(Clone, Copy, Debug, PartialEq, Eq)]
+#[derive(Clone, Copy)]
 pub(crate) enum Fault {
     /// A byte that isn't UTF-8.
     Encoding,
@@ -63,7 +63,7 @@ pub(crate) enum Fault {
 }
 
 /// Why a line isn't read.
-#[derive(Clone, Copy, Debug, PartialEq, Eq)]
+#[derive(Clone, Copy)]
 pub(crate) enum LineError {
     /// Memory ran out.
     Memory,

@@ -14,7 +14,7 @@ use ft_model::{Call, DictCall, Key, ListCall, ScriptParts, SetCall, Value};
 use std::alloc::AllocError;
 
 /// What stands after the word of a call.
-#[derive(Clone, Copy, Debug)]
+#[derive(Clone, Copy)]
 pub(crate) enum Argument {
     /// The name of a container, by its place.
     Container(u32),

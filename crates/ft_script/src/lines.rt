@@ -9,7 +9,7 @@ use crate::fault::{Fault, LineError};
 use std::alloc::{AllocError, Global};
 
 /// Where a byte of a line stands.
-#[derive(Clone, Copy, Debug, PartialEq, Eq)]
+#[derive(Clone, Copy)]
 pub(crate) enum Place {
     /// Between two words.
     Between,

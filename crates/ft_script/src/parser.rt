@@ -1,7 +1,7 @@
 //! Reads scripts.
 ghost use Rattle.ft_script.specs.Drafts.{empty_draft};
 ghost use Rattle.ft_script.specs.Faults.{no_memory};
-ghost use Rattle.ft_script.specs.Internal.Answers.{reported};
+ghost use Rattle.ft_script.specs.Internal.Answers.{reported, draft_of};
 ghost use Rattle.ft_script.specs.Lines.{lines_of};
 ghost use Rattle.ft_script.specs.Scripts.{line_after, read_lines, read_script};
 ghost use Rattle.std.specs.Prelude.{◌≡◌, ◌==◌, ◌⊎◌, IfErr, IfOk, IsUtf8, OnOk, Ok, Err, count_by};
@@ -46,7 +46,7 @@ fn bad_line(front: &[u8]) -> u32
 /// The draft after all lines.
 fn read_lines(alloc: Global, text: &[u8]) -> Result<Draft, ScriptFault>
     requires { IsUtf8 text.now }
-    ensures read { IfOk result (λ draft. read_lines 1 empty_draft (lines_of text.now) ≡ Ok draft) }
+    ensures read { IfOk result (λ draft. read_lines 1 empty_draft (lines_of text.now) ≡ Ok (draft_of draft)) }
     ensures fault { IfErr result (λ fault. (fault ≡ no_memory) ⊎ (read_lines 1 empty_draft (lines_of text.now) ≡ Err fault)) }
 {
     let mut draft = Draft::empty(alloc);

@@ -3,7 +3,7 @@ ghost use Rattle.ft_script.specs.Internal.Candidates.{reply_word_of, reply_word_
 ghost use Rattle.std.specs.Prelude.{◌≡◌};
 
 /// The first token of a reply that isn't a value or a pair.
-#[derive(Clone, Copy, Debug, PartialEq, Eq)]
+#[derive(Clone, Copy)]
 pub(crate) enum ReplyWord {
     Done,
     True,

@@ -1,6 +1,6 @@
 //! Reads the lines of a script.
-ghost use Rattle.ft_script.specs.Internal.Answers.{HasFewThreads, Leaves, LeavesAlways};
-ghost use Rattle.ft_script.specs.Reading.{class_of, class_place, container_line, declaration, heap_line, open_line, order_line, other_statement, read_line, statement, tables_at, tables_line, tables_of, thread_line, thread_statement, turn, turns, words_line};
+ghost use Rattle.ft_script.specs.Internal.Answers.{HasFewThreads, Leaves, LeavesAlways, draft_of};
+ghost use Rattle.ft_script.specs.Reading.{class_of, class_place, container_line, declaration, heap_line, open_line, order_line, other_statement, read_line, statement, tables_at, tables_line, tables_by_words, thread_line, thread_statement, turn, turns, words_line};
 ghost use Rattle.std.specs.Prelude.{◌≡◌, ◌<◌, ◌≤◌, IfOk, IfSome, OnOk, length, map};
 
 use crate::arguments::index_of;
@@ -52,7 +52,7 @@ impl Draft {
         kind: Kind,
         words: &[&[u8]],
     ) -> Result<(), LineError>
-        ensures { Leaves result self.new (container_line self.old kind (map (λ word. word.now) words.now)) }
+        ensures { Leaves result (draft_of self.new) (container_line (draft_of self.old) kind (map (λ word. word.now) words.now)) }
     {
         let [name] = words else {
             return Err(Fault::WordCount.into());
@@ -74,17 +74,17 @@ impl Draft {
     /// Reads the line of a class's tables.
     #[tactic(auto, unfolding(crate::specs::Reading::tables_line))]
     fn tables_line(&mut self, words: &[&[u8]]) -> Result<(), Fault>
-        ensures { LeavesAlways result self.new (tables_line self.old (map (λ word. word.now) words.now)) }
+        ensures { LeavesAlways result (draft_of self.new) (tables_line (draft_of self.old) (map (λ word. word.now) words.now)) }
     {
         match words {
-            [class, count] => self.tables_of(class, count),
+            [class, count] => self.tables_by_words(class, count),
             _ => Err(Fault::WordCount),
         }
     }
 
-    #[tactic(auto, unfolding(crate::specs::Reading::tables_of))]
-    fn tables_of(&mut self, class: &[u8], count: &[u8]) -> Result<(), Fault>
-        ensures { LeavesAlways result self.new (tables_of self.old class.now count.now) }
+    #[tactic(auto, unfolding(crate::specs::Reading::tables_by_words))]
+    fn tables_by_words(&mut self, class: &[u8], count: &[u8]) -> Result<(), Fault>
+        ensures { LeavesAlways result (draft_of self.new) (tables_by_words (draft_of self.old) class.now count.now) }
     {
         let place = class_of(class)?;
         self.tables_at(place, count)
@@ -93,7 +93,7 @@ impl Draft {
     #[tactic(auto, unfolding(crate::specs::Reading::tables_at))]
     fn tables_at(&mut self, place: usize, count: &[u8]) -> Result<(), Fault>
         requires { place < 14 }
-        ensures { LeavesAlways result self.new (tables_at self.old place count.now) }
+        ensures { LeavesAlways result (draft_of self.new) (tables_at (draft_of self.old) place count.now) }
     {
         if self.tables[place].is_some() {
             return Err(Fault::NameTwice);
@@ -109,7 +109,7 @@ impl Draft {
     /// Reads the line of the heap.
     #[tactic(auto, unfolding(crate::specs::Reading::heap_line))]
     fn heap_line(&mut self, words: &[&[u8]]) -> Result<(), Fault>
-        ensures { LeavesAlways result self.new (heap_line self.old (map (λ word. word.now) words.now)) }
+        ensures { LeavesAlways result (draft_of self.new) (heap_line (draft_of self.old) (map (λ word. word.now) words.now)) }
     {
         let [count] = words else {
             return Err(Fault::WordCount);
@@ -128,7 +128,7 @@ impl Draft {
     /// Reads a line above all threads.
     #[tactic(auto, unfolding(crate::specs::Reading::declaration))]
     fn declaration(&mut self, alloc: Global, word: &[u8], words: &[&[u8]]) -> Result<(), LineError>
-        ensures { Leaves result self.new (declaration self.old word.now (map (λ word. word.now) words.now)) }
+        ensures { Leaves result (draft_of self.new) (declaration (draft_of self.old) word.now (map (λ word. word.now) words.now)) }
     {
         if word == b"dict".as_slice() {
             self.container_line(alloc, Kind::Dict, words)
@@ -149,7 +149,7 @@ impl Draft {
     #[tactic(auto, unfolding(crate::specs::Reading::thread_line))]
     fn thread_line(&mut self, alloc: Global, words: &[&[u8]]) -> Result<(), LineError>
         requires { length self.old.threads ≤ 64 }
-        ensures { Leaves result self.new (thread_line self.old (map (λ word. word.now) words.now)) }
+        ensures { Leaves result (draft_of self.new) (thread_line (draft_of self.old) (map (λ word. word.now) words.now)) }
     {
         let [name] = words else {
             return Err(Fault::WordCount.into());
@@ -172,7 +172,7 @@ impl Draft {
     #[tactic(auto, unfolding(crate::specs::Reading::turn))]
     fn turn(&mut self, name: &[u8]) -> Result<(), LineError>
         requires { length self.old.threads ≤ 64 }
-        ensures read { Leaves result self.new (turn self.old name.now) }
+        ensures read { Leaves result (draft_of self.new) (turn (draft_of self.old) name.now) }
         ensures threads { OnOk result (self.new.threads ≡ self.old.threads) }
     {
         if !is_thread_name(name) {
@@ -190,7 +190,7 @@ impl Draft {
     #[tactic(auto, unfolding(crate::specs::Reading::order_line))]
     fn order_line(&mut self, words: &[&[u8]]) -> Result<(), LineError>
         requires { length self.old.threads ≤ 64 }
-        ensures { Leaves result self.new (order_line self.old (map (λ word. word.now) words.now)) }
+        ensures { Leaves result (draft_of self.new) (order_line (draft_of self.old) (map (λ word. word.now) words.now)) }
     {
         if words.is_empty() {
             return Err(Fault::WordCount.into());
@@ -200,7 +200,7 @@ impl Draft {
 
     fn turns(&mut self, names: &[&[u8]]) -> Result<(), LineError>
         requires { length self.old.threads ≤ 64 }
-        ensures { Leaves result self.new (turns self.old (map (λ word. word.now) names.now)) }
+        ensures { Leaves result (draft_of self.new) (turns (draft_of self.old) (map (λ word. word.now) names.now)) }
     {
         for name in names {
             self.turn(name)?;
@@ -212,7 +212,7 @@ impl Draft {
     #[tactic(auto, unfolding(crate::specs::Reading::statement))]
     fn statement(&mut self, alloc: Global, words: &[&[u8]]) -> Result<(), LineError>
         requires { length self.old.threads ≤ 64 }
-        ensures { Leaves result self.new (statement self.old (map (λ word. word.now) words.now)) }
+        ensures { Leaves result (draft_of self.new) (statement (draft_of self.old) (map (λ word. word.now) words.now)) }
     {
         let [word, words @ ..] = words else {
             return Ok(());
@@ -233,7 +233,7 @@ impl Draft {
         words: &[&[u8]],
     ) -> Result<(), LineError>
         requires { length self.old.threads ≤ 64 }
-        ensures { Leaves result self.new (other_statement self.old word.now (map (λ word. word.now) words.now)) }
+        ensures { Leaves result (draft_of self.new) (other_statement (draft_of self.old) word.now (map (λ word. word.now) words.now)) }
     {
         if self.order.len() != 0 {
             Err(Fault::UnknownWord.into())
@@ -254,7 +254,7 @@ impl Draft {
         word: &[u8],
         words: &[&[u8]],
     ) -> Result<(), LineError>
-        ensures { Leaves result self.new (thread_statement self.old word.now (map (λ word. word.now) words.now)) }
+        ensures { Leaves result (draft_of self.new) (thread_statement (draft_of self.old) word.now (map (λ word. word.now) words.now)) }
     {
         let found = call_word_of(word).ok_or(Fault::UnknownWord)?;
         self.call_line(alloc, found, words)
@@ -263,8 +263,8 @@ impl Draft {
     /// Reads a line.
     #[tactic(auto, unfolding(crate::specs::Reading::read_line))]
     pub(crate) fn read_line(&mut self, alloc: Global, line: &[u8]) -> Result<(), LineError>
-        requires { HasFewThreads self.old }
-        ensures { Leaves result self.new (read_line self.old line.now) }
+        requires { HasFewThreads (draft_of self.old) }
+        ensures { Leaves result (draft_of self.new) (read_line (draft_of self.old) line.now) }
     {
         if is_comment(line) {
             Ok(())
@@ -275,8 +275,8 @@ impl Draft {
 
     #[tactic(auto, unfolding(crate::specs::Reading::open_line))]
     fn open_line(&mut self, alloc: Global, line: &[u8]) -> Result<(), LineError>
-        requires { HasFewThreads self.old }
-        ensures { Leaves result self.new (open_line self.old line.now) }
+        requires { HasFewThreads (draft_of self.old) }
+        ensures { Leaves result (draft_of self.new) (open_line (draft_of self.old) line.now) }
     {
         if ends_thread(line) {
             self.end_thread(alloc)?;
@@ -289,7 +289,7 @@ impl Draft {
     #[tactic(auto, unfolding(crate::specs::Reading::words_line))]
     fn words_line(&mut self, alloc: Global, line: &[u8]) -> Result<(), LineError>
         requires { length self.old.threads ≤ 64 }
-        ensures { Leaves result self.new (words_line self.old line.now) }
+        ensures { Leaves result (draft_of self.new) (words_line (draft_of self.old) line.now) }
     {
         let words = words_of(alloc, line)?;
         self.statement(alloc, &words)

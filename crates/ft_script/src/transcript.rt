@@ -2,6 +2,7 @@
 ghost use Rattle.ft_model.specs.Histories.{cursors_of};
 ghost use Rattle.ft_model.specs.Parts.{IsEntryOf, IsReplyOf};
 ghost use Rattle.ft_model.specs.Scripts.{IsCallOf, IsScript};
+ghost use Rattle.ft_script.specs.Internal.Answers.{draft_of};
 ghost use Rattle.ft_script.specs.Internal.Readers.{AddsContent, AddsEntry, IfFault, IsLine, IsReaderOf, NoContent, NoEntry, but_feed, is_feedless, refused, reported_line};
 ghost use Rattle.ft_script.specs.Texts.{entry_line};
 ghost use Rattle.ft_script.specs.Internal.Tokens.{tokens_of};
@@ -147,9 +148,9 @@ fn read_line(
 ) -> Result<(), LineError>
     requires rule { IsScript script.now }
     requires strings { strings.now ≡ script.now.strings }
-    requires reader { IsReaderOf script.now reader.old.draft reader.old.cursors.items }
+    requires reader { IsReaderOf script.now (draft_of reader.old.draft) reader.old.cursors.items }
     requires line { IsLine line.now }
-    ensures kept { OnOk result (IsReaderOf script.now reader.new.draft reader.new.cursors.items) }
+    ensures kept { OnOk result (IsReaderOf script.now (draft_of reader.new.draft) reader.new.cursors.items) }
     ensures read { OnOk result (let world = map (λ text. text.items) transcript.old.world.items in let after = map (λ text. text.items) transcript.new.world.items in AddsEntry script.now line.now transcript.old.entries.items world transcript.new.entries.items after ⊎ AddsContent script.now line.now transcript.old.entries.items world transcript.new.entries.items after) }
     ensures entries { OnErr result (transcript.new.entries.items ≡ transcript.old.entries.items) }
     ensures world { OnErr result (transcript.new.world.items ≡ transcript.old.world.items) }
@@ -181,9 +182,9 @@ fn read_entry(
 ) -> Result<Entry, LineError>
     requires rule { IsScript script.now }
     requires strings { strings.now ≡ script.now.strings }
-    requires reader { IsReaderOf script.now reader.old.draft reader.old.cursors.items }
+    requires reader { IsReaderOf script.now (draft_of reader.old.draft) reader.old.cursors.items }
     requires tokens { map (λ token. token.now) tokens.now ≡ tokens_of line.now }
-    ensures kept { OnOk result (IsReaderOf script.now reader.new.draft reader.new.cursors.items) }
+    ensures kept { OnOk result (IsReaderOf script.now (draft_of reader.new.draft) reader.new.cursors.items) }
     ensures read { IfOk result (λ entry. IsReadable script.now entry × (line.now ≡ entry_line script.now entry)) }
     ensures fault { IfErr result (λ e. IfFault e (NoEntry script.now line.now)) }
 {

@@ -7,7 +7,7 @@ use Rattle.std.proofs.lemmas.List.{get_or-set_same, get_or_push, length_push}
 use Rattle.ft_model.specs.declared.call.Call.{Call}
 use Rattle.ft_model.specs.declared.script.ScriptParts.{ScriptParts}
 use Rattle.ft_model.specs.Histories.{calls_of}
-use Rattle.ft_turns.specs.Orders.{ThreadState, Machine, Locking, fresh_thread, take_locks, thread_at, next_call, without_locks, waiting_machine, sections_after, answered_machine, with_taken, finished_machine, try_answer, relocked, try_finish}
+use Rattle.ft_turns.specs.Orders.{ThreadState, Machine, Locking, fresh_thread, take_locks, thread_at, next_call, without_locks, waiting_machine, sections_after, answered_machine, with_taken, finished_machine, answer_try, finish_step, finish_try}
 use Rattle.ft_turns.specs.Answering.{Progress, has_answered, has_finished, mark_given, with_turn, answered_turn}
 use Rattle.ft_turns.proofs.ProgressWords.{with_answer, with_mark}
 use Rattle.ft_turns.proofs.MachineSteps.{wanted, wanted_again, IsTry, there, same_marks}
@@ -67,11 +67,11 @@ module _ (script : ScriptParts) (Q : Progress → Type 0) (keeps : IsKeptByAnswe
       (ap (λ ms. slice_index_or ms (length state.marks) None) marks ∙ get_or_push state.marks state.mark None (length state.marks) refl)
       (keeps.finishes progress thread called (wanted_again progress.machine thread) (record { next = next; state = fixed; asks = refl }) finds holds)
 
-  shown_second : (thread_at progress.machine thread).fixed ≡ true → Shown (try_finish progress.machine thread)
+  shown_second : (thread_at progress.machine thread).fixed ≡ true → Shown (finish_try progress.machine thread)
   shown_second fixed =
       let state = thread_at progress.machine thread in
       let locking = take_locks thread progress.machine.holders (wanted_again progress.machine thread) in
-      subst (λ b. Shown (if b then relocked progress.machine thread state locking else progress.machine)) (sym fixed)
+      subst (λ b. Shown (if b then finish_step progress.machine thread state locking else progress.machine)) (sym fixed)
       (elim locking.found as (λ f. locking.found ≡ f → Shown (option_map_or (waiting_machine progress.machine thread state locking) f (finished_machine progress.machine thread state locking))) [
         | None ↦ λ none. shown_finishes fixed none
         | Some found ↦ λ some. shown_waits true (wanted_again progress.machine thread) found (record { next = next; state = fixed; asks = refl }) some
@@ -135,26 +135,26 @@ module _ (script : ScriptParts) (Q : Progress → Type 0) (keeps : IsKeptByAnswe
         (ap (λ ms. slice_index_or ms (length before) None) marks ∙ get_or_push before state.mark None (length before) refl)
         (keeps.finishes progress_answered thread called (wanted_again machine_answered thread) (record { next = next_now; state = fixed_now; asks = refl }) again answered_holds)
 
-    shown_answers : Shown (try_finish machine_answered thread)
+    shown_answers : Shown (finish_try machine_answered thread)
     shown_answers =
         let state = thread_at machine_answered thread in
-        subst (λ b. Shown (if b then relocked machine_answered thread state taken_again else machine_answered)) (sym fixed_now)
+        subst (λ b. Shown (if b then finish_step machine_answered thread state taken_again else machine_answered)) (sym fixed_now)
         (elim taken_again.found as (λ f. taken_again.found ≡ f → Shown (option_map_or (waiting_machine machine_answered thread state taken_again) f (finished_machine machine_answered thread state taken_again))) [
           | None ↦ λ none. then_finishes none
           | Some found ↦ λ some. then_waits found some
         ] refl)
 
-  shown_first : (thread_at progress.machine thread).fixed ≡ false → Shown (try_finish (try_answer script progress.machine thread (thread_at progress.machine thread) called) thread)
+  shown_first : (thread_at progress.machine thread).fixed ≡ false → Shown (finish_try (answer_try script progress.machine thread (thread_at progress.machine thread) called) thread)
   shown_first unfixed =
       let state = thread_at progress.machine thread in
       let locking = take_locks thread progress.machine.holders (wanted script progress.machine thread called) in
-      elim locking.found as (λ f. locking.found ≡ f → Shown (try_finish (option_map_or (waiting_machine progress.machine thread state locking) f (answered_machine progress.machine thread state called locking)) thread)) [
+      elim locking.found as (λ f. locking.found ≡ f → Shown (finish_try (option_map_or (waiting_machine progress.machine thread state locking) f (answered_machine progress.machine thread state called locking)) thread)) [
         | None ↦ λ none. shown_answers unfixed none
         | Some found ↦ λ some.
             (let after : Machine = waiting_machine progress.machine thread state locking found in
             let waited : ThreadState = record state { sections = map without_locks state.sections; own = state.own ++ locking.taken; mark = if is_some state.mark then state.mark else Some found } in
             let still : (thread_at after thread).fixed ≡ false = ap (λ (s : ThreadState). s.fixed) (get_or-set_same progress.machine.threads thread waited fresh_thread low) ∙ unfixed in
-            subst (λ b. Shown (if b then relocked after thread (thread_at after thread) (take_locks thread after.holders (wanted_again after thread)) else after)) (sym still)
+            subst (λ b. Shown (if b then finish_step after thread (thread_at after thread) (take_locks thread after.holders (wanted_again after thread)) else after)) (sym still)
             (shown_waits false (wanted script progress.machine thread called) found (record { next = next; state = unfixed; asks = refl }) some))
       ] refl
 
@@ -163,11 +163,11 @@ module _ (script : ScriptParts) (Q : Progress → Type 0) (keeps : IsKeptByAnswe
   answered_turn_keeps progress thread holds =
       let machine = progress.machine in
       let state = thread_at machine thread in
-      let turned : Option Call → Machine = λ o. option_map_or (λ called. try_finish (if state.fixed then machine else try_answer script machine thread state called) thread) o machine in
+      let turned : Option Call → Machine = λ o. option_map_or (λ called. finish_try (if state.fixed then machine else answer_try script machine thread state called) thread) o machine in
       elim (next_call script thread state) as (λ o. next_call script thread state ≡ o → Q (option_map_or (λ called. with_turn progress thread called (has_answered machine (turned o)) (has_finished machine (turned o) thread) (mark_given machine (turned o) thread) (turned o)) o progress)) [
         | None ↦ λ none. holds
         | Some called ↦ λ next.
-            elim state.fixed as (λ b. state.fixed ≡ b → Shown script Q keeps progress thread called next holds (try_finish (if b then machine else try_answer script machine thread state called) thread)) [
+            elim state.fixed as (λ b. state.fixed ≡ b → Shown script Q keeps progress thread called next holds (finish_try (if b then machine else answer_try script machine thread state called) thread)) [
               | true ↦ λ fixed. shown_second script Q keeps progress thread called next holds fixed
               | false ↦ λ unfixed. shown_first script Q keeps progress thread called next holds unfixed
             ] refl

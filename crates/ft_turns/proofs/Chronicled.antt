@@ -22,7 +22,7 @@ use Rattle.ft_model.specs.Answers.{after_write, is_write}
 use Rattle.ft_model.specs.Histories.{writes, entries_of, calls_of, cursors_of, IsWhole, Section, after_section, sections_at, innermost, IfEnds, names, IsKeptBy, IsCountedBy, IsKept, IsMarked, has_call_on, needs_at}
 use Rattle.ft_model.specs.Judging.{IsNext}
 use Rattle.ft_history.proofs.Unbroken.{IsFront, fronts}
-use Rattle.ft_turns.specs.Orders.{Machine, thread_at, turn, turns_of, start_machine, last_machine, next_call, try_answer, try_finish, Ordered, ordered_in, order_of, ordered_entry}
+use Rattle.ft_turns.specs.Orders.{Machine, thread_at, turn, turns_of, start_machine, last_machine, next_call, answer_try, finish_try, Ordered, ordered_in, order_of, ordered_entry}
 use Rattle.ft_turns.specs.Answering.{Progress, start_progress, with_turn, has_answered, has_finished, mark_given, answered_turn, last_progress, marked_entry, answered_turns}
 use Rattle.ft_turns.specs.Chronicling.{AllFinish, IsChronicleOfTurns}
 use Rattle.ft_turns.proofs.LockLemmas.{occ, occ-nil, occ-cons}
@@ -145,7 +145,7 @@ pub turn_machine : (script : ScriptParts) (progress : Progress) (thread : ℕ) �
 turn_machine script progress thread =
     let machine = progress.machine in
     elim (next_call script thread (thread_at machine thread)) as (λ o. next_call script thread (thread_at machine thread) ≡ o → (option_map_or (λ called. with_turn progress thread called (has_answered machine (turn script machine thread)) (has_finished machine (turn script machine thread) thread) (mark_given machine (turn script machine thread) thread) (turn script machine thread)) o progress).machine ≡ turn script machine thread) [
-      | None ↦ λ none. sym (ap (λ o. option_map_or (λ called. try_finish (if (thread_at machine thread).fixed then machine else try_answer script machine thread (thread_at machine thread) called) thread) o machine) none)
+      | None ↦ λ none. sym (ap (λ o. option_map_or (λ called. finish_try (if (thread_at machine thread).fixed then machine else answer_try script machine thread (thread_at machine thread) called) thread) o machine) none)
       | Some called ↦ λ some. refl
     ] refl
 

@@ -9,7 +9,7 @@ use Rattle.ft_model.specs.declared.script.Thread.{Thread}
 use Rattle.ft_model.specs.declared.call.Call.{Call}
 use Rattle.ft_model.specs.declared.script.ScriptParts.{ScriptParts}
 use Rattle.ft_model.specs.Histories.{calls_of}
-use Rattle.ft_turns.specs.Orders.{locks_taken, sections_after, without_locks, lower_first, ThreadState, Machine, fresh_thread, take_locks, thread_at, next_call, waiting_machine, answered_machine, innermost_containers, finished_machine, try_answer, relocked, try_finish, turn}
+use Rattle.ft_turns.specs.Orders.{locks_taken, sections_after, without_locks, lower_first, ThreadState, Machine, fresh_thread, take_locks, thread_at, next_call, waiting_machine, answered_machine, innermost_containers, finished_machine, answer_try, finish_step, finish_try, turn}
 
 -- the containers whose locks the next call of a thread takes, and those that it takes up again
 abbrev pub wanted : ScriptParts → Machine → ℕ → Call → List ℕ
@@ -37,7 +37,7 @@ pub record IsKeptBySteps (script : ScriptParts) (P : Machine → Type 0) : Type 
       → P machine → P (finished_machine machine thread (thread_at machine thread) (take_locks thread machine.holders containers))
 
 module _ (script : ScriptParts) (P : Machine → Type 0) (keeps : IsKeptBySteps script P) where
-  tries : (machine : Machine) (thread : ℕ) (called : Call) → next_call script thread (thread_at machine thread) ≡ Some called → (thread_at machine thread).fixed ≡ false → P machine → P (try_answer script machine thread (thread_at machine thread) called)
+  tries : (machine : Machine) (thread : ℕ) (called : Call) → next_call script thread (thread_at machine thread) ≡ Some called → (thread_at machine thread).fixed ≡ false → P machine → P (answer_try script machine thread (thread_at machine thread) called)
   tries machine thread called next unfixed holds =
       let locking = take_locks thread machine.holders (wanted script machine thread called) in
       elim locking.found as (λ f. locking.found ≡ f → P (option_map_or (waiting_machine machine thread (thread_at machine thread) locking) f (answered_machine machine thread (thread_at machine thread) called locking))) [
@@ -45,10 +45,10 @@ module _ (script : ScriptParts) (P : Machine → Type 0) (keeps : IsKeptBySteps 
         | Some found ↦ λ some. keeps.waits machine thread called false (wanted script machine thread called) found (record { next = next; state = unfixed; asks = refl }) some holds
       ] refl
 
-  finish : (machine : Machine) (thread : ℕ) (called : Call) → next_call script thread (thread_at machine thread) ≡ Some called → P machine → P (try_finish machine thread)
+  finish : (machine : Machine) (thread : ℕ) (called : Call) → next_call script thread (thread_at machine thread) ≡ Some called → P machine → P (finish_try machine thread)
   finish machine thread called next holds =
       let locking = take_locks thread machine.holders (wanted_again machine thread) in
-      elim (thread_at machine thread).fixed as (λ b. (thread_at machine thread).fixed ≡ b → P (if b then relocked machine thread (thread_at machine thread) locking else machine)) [
+      elim (thread_at machine thread).fixed as (λ b. (thread_at machine thread).fixed ≡ b → P (if b then finish_step machine thread (thread_at machine thread) locking else machine)) [
         | false ↦ λ unfixed. holds
         | true ↦ λ fixed. elim locking.found as (λ f. locking.found ≡ f → P (option_map_or (waiting_machine machine thread (thread_at machine thread) locking) f (finished_machine machine thread (thread_at machine thread) locking))) [
           | None ↦ λ none. keeps.finishes machine thread called (wanted_again machine thread) (record { next = next; state = fixed; asks = refl }) none holds
@@ -76,7 +76,7 @@ module _ (script : ScriptParts) (P : Machine → Type 0) (keeps : IsKeptBySteps 
   abbrev Same : Machine → ℕ → Machine → Type 0
   Same machine thread after = (thread_at after thread).marks ≡ (thread_at machine thread).marks
 
-  pub try_same : (machine : Machine) (thread : ℕ) (called : Call) → Same machine thread (try_answer script machine thread (thread_at machine thread) called)
+  pub try_same : (machine : Machine) (thread : ℕ) (called : Call) → Same machine thread (answer_try script machine thread (thread_at machine thread) called)
   try_same machine thread called =
       let state = thread_at machine thread in
       let locking = take_locks thread machine.holders (wanted script machine thread called) in
@@ -88,13 +88,13 @@ module _ (script : ScriptParts) (P : Machine → Type 0) (keeps : IsKeptBySteps 
   pub turn_keeps : (machine : Machine) (thread : ℕ) → P machine → P (turn script machine thread)
   turn_keeps machine thread holds =
       let state = thread_at machine thread in
-      elim (next_call script thread state) as (λ o. next_call script thread state ≡ o → P (option_map_or (λ called. try_finish (if state.fixed then machine else try_answer script machine thread state called) thread) o machine)) [
+      elim (next_call script thread state) as (λ o. next_call script thread state ≡ o → P (option_map_or (λ called. finish_try (if state.fixed then machine else answer_try script machine thread state called) thread) o machine)) [
         | None ↦ λ none. holds
         | Some called ↦ λ next.
-            elim state.fixed as (λ b. state.fixed ≡ b → P (try_finish (if b then machine else try_answer script machine thread state called) thread)) [
+            elim state.fixed as (λ b. state.fixed ≡ b → P (finish_try (if b then machine else answer_try script machine thread state called) thread)) [
               | true ↦ λ fixed. finish script P keeps machine thread called next holds
               | false ↦ λ unfixed.
-                  finish script P keeps (try_answer script machine thread state called) thread called
+                  finish script P keeps (answer_try script machine thread state called) thread called
                   (ap (λ (ms : List (Option ℕ)). slice_get (calls_of script thread) (length ms)) (try_same machine thread called) ∙ next)
                   (tries script P keeps machine thread called next unfixed holds)
             ] refl

@@ -1,4 +1,5 @@
--- What comes of the turns of a script's threads: each call is answered, in the order of the turns, as the plain containers of one thread answer it then.
+-- What comes of the turns of a script's threads: each call is answered, in the order of the turns, as the plain
+-- containers of one thread answer it then.
 use Rattle.std.specs.Prelude.{ℕ, Bool, true, false, ◌+◌, ◌-◌, ◌==◌, nat_lt, List, [], ◌∷◌, ◌++◌, map, fold, length, drop, slice_set, slice_index_or, Option, None, is_some, if◌then◌else◌}
 use Rattle.std.specs.Option.{option_map_or}
 use Rattle.ft_model.specs.declared.call.Call.{Call}
@@ -16,7 +17,8 @@ use Rattle.ft_turns.specs.Orders.{Machine, start_machine, thread_at, next_call, 
 
 -- ---- how many calls of a section waited
 
--- of a thread: how many of its calls that have finished waited for a lock, and how many had when each open section was entered, innermost first (profile)
+-- of a thread: how many of its calls that have finished waited for a lock, and how many had when each open section was
+-- entered, innermost first (profile)
 pub record Tally : Type 0 where
   pub count : ℕ
   pub noted : List ℕ
@@ -43,7 +45,8 @@ waited_inside tally = tally.count - slice_index_or tally.noted 0 0
 
 -- ---- answers
 
--- an `end` says kept where no call of its section waited, and else how many did (C API, critical sections; the count: profile)
+-- an `end` says kept where no call of its section waited, and else how many did (C API, critical sections; the count:
+-- profile)
 abbrev pub ended_reply : ℕ → Reply
 ended_reply count = if count == 0 then reply.Kept else reply.Suspended count
 
@@ -69,7 +72,8 @@ reply_in world hands tally call.Quiesce = (answer world hands call.Quiesce).repl
 
 -- ---- what has been answered
 
--- what the containers have; each thread's cursors, and its tally; and the entries in the order in which their answers were fixed, without their marks
+-- what the containers have; each thread's cursors, and its tally; and the entries in the order in which their answers
+-- were fixed, without their marks
 pub record Answers : Type 0 where
   pub world : List Content
   pub hands : List (List (Option Cursor))

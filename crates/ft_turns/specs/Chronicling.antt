@@ -16,7 +16,8 @@ abbrev pub AllFinish : ScriptParts → Type 0
 AllFinish script =
     (thread : ℕ) → length (thread_at (last_machine script) thread).marks ≡ length (calls_of script thread)
 
--- these entries and this world come of the script's turns: the entries are a chronicle of the script in the order of the turns, with the marks that the turns give, and the world is the one that they leave
+-- these entries and this world come of the script's turns: the entries are a chronicle of the script in the order of
+-- the turns, with the marks that the turns give, and the world is the one that they leave
 pub record IsChronicleOfTurns (script : ScriptParts) (entries : List Entry) (world : List Content) : Type 0 where
   pub chronicled : IsChronicle storage.Plain script entries
   pub order : map ordered_entry entries ≡ order_of script
@@ -24,7 +25,9 @@ pub record IsChronicleOfTurns (script : ScriptParts) (entries : List Entry) (wor
   pub world_is : world ≡ world_at script entries (length (writes entries))
   pub world_of : IsWorldOf script world
 
--- what answering the next call of a thread asks for: the thread has its hands and its tally, which counts no more than the calls of a script, and a container is asked for what is declared, with a cursor that was made, and has serials left
+-- what answering the next call of a thread asks for: the thread has its hands and its tally, which counts no more than
+-- the calls of a script, and a container is asked for what is declared, with a cursor that was made, and has serials
+-- left
 pub record IsAnswerable (progress : Progress) (thread : ℕ) (called : Call) : Type 0 where
   pub hands : thread < length progress.answers.hands
   pub tally : thread < length progress.answers.tallies

@@ -1,4 +1,5 @@
--- The order in which the calls of a script are answered when its threads take turns, and which of them wait: a machine over the script alone. (C API, critical sections; which locks are let go and taken again, and when: profile)
+-- The order in which the calls of a script are answered when its threads take turns, and which of them wait: a machine
+-- over the script alone. (C API, critical sections; which locks are let go and taken again, and when: profile)
 use Rattle.std.specs.Prelude.{◌≡◌, ℕ, Bool, true, false, ◌+◌, ◌*◌, ◌==◌, nat_lt, List, [], ◌∷◌, ◌++◌, map, fold, length, take, drop, sum, slice_get, slice_set, slice_index_or, Option, Some, None, is_some, is_none, if◌then◌else◌}
 use Rattle.std.specs.Option.{option_map_or, unwrap_or}
 use Rattle.std.specs.List.{flat_map, range_with_len}
@@ -23,7 +24,8 @@ abbrev pub cursor_containers : List Call → ℕ → List ℕ
 cursor_containers calls number =
     fold (λ containers called. if makes number called then containers_of called else containers) [] calls
 
--- the containers whose locks a call takes, after these calls of its thread; a call that is tried without a lock takes none here
+-- the containers whose locks a call takes, after these calls of its thread; a call that is tried without a lock takes
+-- none here
 abbrev pub locks_taken : List Call → Call → List ℕ
 locks_taken before (call.Next number) = cursor_containers before number
 locks_taken before (call.Dict container dict_call) =
@@ -62,7 +64,8 @@ pub record ThreadState : Type 0 where
   -- the thread that its next call waited for first, where it has waited
   pub mark : Option ℕ
 
--- the thread that has the lock of each container; the threads; and the calls whose answers are fixed, in that order, each as its thread and its place among the thread's calls
+-- the thread that has the lock of each container; the threads; and the calls whose answers are fixed, in that order,
+-- each as its thread and its place among the thread's calls
 pub record Machine : Type 0 where
   pub holders : List (Option ℕ)
   pub threads : List ThreadState
@@ -81,7 +84,8 @@ start_machine script =
 
 -- ---- locks
 
--- what came of taking locks: who has each, those that were taken now, and the thread that had one of them, where one had
+-- what came of taking locks: who has each, those that were taken now, and the thread that had one of them, where one
+-- had
 pub record Locking : Type 0 where
   pub holders : List (Option ℕ)
   pub taken : List ℕ
@@ -136,7 +140,8 @@ waiting_thread state found =
       mark = if is_some state.mark then state.mark else Some found;
     }
 
--- a call that finds a lock with another thread: the locks of all sections of its thread are let go; the lock that it took itself before that one is kept
+-- a call that finds a lock with another thread: the locks of all sections of its thread are let go; the lock that it
+-- took itself before that one is kept
 abbrev pub waiting_machine : Machine → ℕ → ThreadState → Locking → ℕ → Machine
 waiting_machine machine thread state locking found =
     record machine {
@@ -144,7 +149,9 @@ waiting_machine machine thread state locking found =
       threads = slice_set machine.threads thread (waiting_thread (with_own state locking) found);
     }
 
--- the sections of a thread when the answer of a call is fixed, and the locks that are let go then: a `begin` enters a section, which took what the call took; an `end` lets go what its section took; any other call lets go what it took itself
+-- the sections of a thread when the answer of a call is fixed, and the locks that are let go then: a `begin` enters a
+-- section, which took what the call took; an `end` lets go what its section took; any other call lets go what it took
+-- itself
 abbrev pub sections_after : Call → List ℕ → List OpenSection → List OpenSection
 sections_after (call.Begin first second) own sections =
     record { containers = containers_of (call.Begin first second); taken = own } ∷ sections
@@ -215,36 +222,37 @@ finished_machine machine thread state locking =
     }
 
 -- a step of a thread whose answer is not fixed, and of one whose answer is
-abbrev pub locked : Machine → ℕ → ThreadState → Call → Locking → Machine
-locked machine thread state called locking =
+abbrev pub answer_step : Machine → ℕ → ThreadState → Call → Locking → Machine
+answer_step machine thread state called locking =
     option_map_or (waiting_machine machine thread state locking) locking.found
     (answered_machine machine thread state called locking)
 
-abbrev pub try_answer : ScriptParts → Machine → ℕ → ThreadState → Call → Machine
-try_answer script machine thread state called =
-    locked machine thread state called
+abbrev pub answer_try : ScriptParts → Machine → ℕ → ThreadState → Call → Machine
+answer_try script machine thread state called =
+    answer_step machine thread state called
     (take_locks thread machine.holders
     (lower_first (locks_taken (take (length state.marks) (calls_of script thread)) called)))
 
-abbrev pub relocked : Machine → ℕ → ThreadState → Locking → Machine
-relocked machine thread state locking =
+abbrev pub finish_step : Machine → ℕ → ThreadState → Locking → Machine
+finish_step machine thread state locking =
     option_map_or (waiting_machine machine thread state locking) locking.found
     (finished_machine machine thread state locking)
 
-abbrev pub try_finish : Machine → ℕ → Machine
-try_finish machine thread =
+abbrev pub finish_try : Machine → ℕ → Machine
+finish_try machine thread =
     if (thread_at machine thread).fixed
-    then relocked machine thread (thread_at machine thread)
+    then finish_step machine thread (thread_at machine thread)
     (take_locks thread machine.holders (lower_first (innermost_containers (thread_at machine thread).sections)))
     else machine
 
--- one turn of a thread: one try of its next call, which fixes the answer, where it isn't fixed, and then takes up the innermost section again; a thread without calls spends its turn
+-- one turn of a thread: one try of its next call, which fixes the answer, where it isn't fixed, and then takes up the
+-- innermost section again; a thread without calls spends its turn
 abbrev pub turn : ScriptParts → Machine → ℕ → Machine
 turn script machine thread =
     option_map_or
-    (λ called. try_finish
+    (λ called. finish_try
     (if (thread_at machine thread).fixed then machine
-    else try_answer script machine thread (thread_at machine thread) called) thread)
+    else answer_try script machine thread (thread_at machine thread) called) thread)
     (next_call script thread (thread_at machine thread)) machine
 
 -- ---- the order
@@ -285,7 +293,8 @@ order_of script = map (ordered_in (last_machine script)) (last_machine script).a
 abbrev pub ordered_entry : Entry → Ordered
 ordered_entry entry = record { thread = entry.thread; index = entry.index; waited = entry.waited }
 
--- the entries of a history are those of the turns: put in the order in which their answers were fixed, they say what they have to say at their places
+-- the entries of a history are those of the turns: put in the order in which their answers were fixed, they say what
+-- they have to say at their places
 pub record IsOrderRun (storage : Storage) (script : ScriptParts) (entries : List Entry) : Type 0 where
   pub chronicle : List Entry
   pub same : IsPermutation chronicle entries

@@ -2,7 +2,8 @@
 use Rattle.std.specs.Prelude.{◌≡◌, ℕ, ◌+◌, ◌≤◌, length, Result, Ok, Err, if◌then◌else◌}
 use Rattle.std.specs.Option.{is_some}
 use Rattle.ft_model.specs.declared.call.Call.{Call}
-use Rattle.ft_script.specs.declared.draft.Draft.{Draft}
+use Rattle.ft_script.specs.declared.draft.Draft.{Draft as DraftParts}
+use Rattle.ft_script.specs.Drafts.{Draft}
 use Rattle.ft_script.specs.declared.fault.Fault.{Fault}
 use Rattle.ft_script.specs.declared.fault.Fault.TheVariants as fault
 use Rattle.ft_script.specs.declared.fault.LineError.{LineError}
@@ -11,6 +12,22 @@ use Rattle.ft_script.specs.declared.fault.ScriptFault.{ScriptFault}
 use Rattle.ft_script.specs.declared.fault.Which.TheVariants as which
 use Rattle.ft_script.specs.Faults.{fault_at, no_memory}
 use Rattle.ft_script.specs.Reading.{limit_fault}
+
+-- what a draft of the code says
+abbrev pub draft_of : DraftParts → Draft
+draft_of parts = record {
+  containers = parts.containers;
+  tables = parts.tables;
+  heap = parts.heap;
+  threads = parts.threads;
+  name = parts.name;
+  cursors = parts.cursors;
+  calls = parts.calls;
+  depth = parts.depth;
+  called = parts.called;
+  strings = parts.strings;
+  order = parts.order;
+}
 
 -- a refusal for out of memory, or the fault that reading gives
 abbrev pub Fails : {Y : Type 0} → LineError → Result Y Fault → Type 0

@@ -1,4 +1,5 @@
--- The one entry or content whose line some tokens may be. They are its line where it is printed so: what else may stand between the tokens or after them is passed over here. (profile)
+-- The one entry or content whose line some tokens may be. They are its line where it is printed so: what else may stand
+-- between the tokens or after them is passed over here. (profile)
 use Rattle.std.specs.Prelude.{ℕ, pos, ◌-◌, ◌^◌, Bool, true, false, ◌==◌, ◌&&◌, nat_lt, nat_le, List, [], ◌∷◌, length, take, codes, Option, Some, None, Result, Ok, Err, if◌then◌else◌}
 use Rattle.std.specs.List.{list_all, before_first, after_first, find}
 use Rattle.std.specs.Str.{bytes_eq}
@@ -17,7 +18,7 @@ use Rattle.ft_model.specs.declared.script.ScriptParts.{ScriptParts}
 use Rattle.ft_model.specs.Names.{is_digit}
 use Rattle.ft_model.specs.Keys.{as_value}
 use Rattle.ft_model.specs.Classes.{least_class, greatest_class}
-use Rattle.ft_script.specs.declared.draft.Draft.{Draft}
+use Rattle.ft_script.specs.Drafts.{Draft}
 use Rattle.ft_script.specs.declared.fault.Fault.{Fault}
 use Rattle.ft_script.specs.declared.fault.Fault.TheVariants as fault
 use Rattle.ft_script.specs.declared.reply_words.ReplyWord.{ReplyWord}

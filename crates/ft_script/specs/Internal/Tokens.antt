@@ -1,4 +1,5 @@
--- The tokens of the lines of a transcript: what stands between spaces, commas and line feeds, where a string is one token, and so is each of `:`, `[`, `]`, `{` and `}`. (profile)
+-- The tokens of the lines of a transcript: what stands between spaces, commas and line feeds, where a string is one
+-- token, and so is each of `:`, `[`, `]`, `{` and `}`. (profile)
 use Rattle.std.specs.Prelude.{ℕ, Bool, true, false, ◌||◌, ◌==◌, List, [], ◌∷◌, if◌then◌else◌}
 use Rattle.std.specs.List.{before_first, after_first}
 use Rattle.std.specs.Str.{bytes_eq}

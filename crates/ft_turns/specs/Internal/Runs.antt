@@ -21,7 +21,8 @@ followed script marks answers thread (Some turned) =
     option_map_or (λ called. call_followed answers thread called turned (slice_index_or marks turned.place None))
     (slice_get (calls_of script thread) turned.place) answers
 
--- what is asked for where a call of a thread is answered or has finished: the thread has its hands and its tally, with room for one more, and a container is asked for what is declared, and has serials left
+-- what is asked for where a call of a thread is answered or has finished: the thread has its hands and its tally, with
+-- room for one more, and a container is asked for what is declared, and has serials left
 pub record IsAsked (answers : Answers) (thread : ℕ) (called : Call) (turned : Turned) : Type 0 where
   pub hands : thread < length answers.hands
   pub tally : thread < length answers.tallies

@@ -103,7 +103,8 @@ placed machine thread tried more =
 
 -- ---- what the machine rests on
 
--- a thread has finished some of its calls; its cursors are those that these made, and there is room for all that it may make
+-- a thread has finished some of its calls; its cursors are those that these made, and there is room for all that it may
+-- make
 pub record IsReadyThread (calls : List Call) (count : ℕ) (thread_state : StoredThread) : Type 0 where
   pub made : length thread_state.marks.items ≤ length calls
   pub cursors : AreCursors (take (length thread_state.marks.items) calls) thread_state.cursors.items
@@ -117,7 +118,8 @@ pub record IsReady (script : ScriptParts) (thread_states : List StoredThread) : 
 
 -- ---- what a turn tells
 
--- what comes of a turn of a thread that has a call left: the call's place among the thread's calls, whether its answer became fixed, and whether it finished
+-- what comes of a turn of a thread that has a call left: the call's place among the thread's calls, whether its answer
+-- became fixed, and whether it finished
 abbrev pub turned_of : ScriptParts → Machine → ℕ → Option Turned
 turned_of script machine thread =
     option_map

@@ -1,5 +1,5 @@
 use Rattle.std.proofs.Common.{◌≡◌, ◌∙◌, List, ℕ, [], ◌∷◌, length, sym, ap, subst, rules}
-use Rattle.ft_script.specs.declared.draft.Draft.{Draft}
+use Rattle.ft_script.specs.Drafts.{Draft}
 use Rattle.ft_script.proofs.Encoded.{AreEncoded, lines_encoded}
 use Rattle.ft_script.proofs.KeptDrafts.{IsDraft}
 use Rattle.ft_script.proofs.KeptScripts.{empty_is_draft, has_few_threads, kept_on}
@@ -7,6 +7,7 @@ use Rattle.std.proofs.lemmas.Result.{err_from_is_err_and}
 use Rattle.std.proofs.lemmas.List.{nil_from_length}
 use Rattle.ft_script.specs.Drafts.{empty_draft}
 use Rattle.ft_script.specs.Lines.{lines_of}
+use Rattle.ft_script.specs.Internal.Answers.{draft_of}
 use Rattle.ft_script.specs.Scripts.{read_lines}
 use Rattle.ft_script.proofs.LineLemmas.{no_lines}
 use Rattle.ft_script.proofs.LineReading.{lines_on, lines_end, text_end, text_done}
@@ -23,34 +24,34 @@ loop-rest-init c = record {
 }
 
 pub read_line-requires : goal.read_line-requires
-read_line-requires c = has_few_threads c.loop-rest.draft c.loop-rest.invariant.kept
+read_line-requires c = has_few_threads (draft_of c.loop-rest.draft) c.loop-rest.invariant.kept
 
 pub loop-rest-preserved : goal.loop-rest-preserved
 loop-rest-preserved c =
     let is = sym c.reported.ensures ∙ c.in_ok-reported.was in
     let encoded : AreEncoded (c.next_line.result.0.now ∷ lines_of c.next_line.result.1.now) = subst AreEncoded c.next_line.ensures.line c.loop-rest.invariant.encoded in
     record {
-      read = rw c.saturating_add-number.ensures (lines_on c.read_line.result c.loop-rest.number c.loop-rest.draft c.read_line.new.self c.next_line.result.0.now (lines_of c.loop-rest.rest.now) (lines_of c.next_line.result.1.now) (read_lines 1 empty_draft (lines_of c.args.text.now))
+      read = rw c.saturating_add-number.ensures (lines_on c.read_line.result c.loop-rest.number (draft_of c.loop-rest.draft) (draft_of c.read_line.new.self) c.next_line.result.0.now (lines_of c.loop-rest.rest.now) (lines_of c.next_line.result.1.now) (read_lines 1 empty_draft (lines_of c.args.text.now))
           is c.read_line.ensures c.next_line.ensures.line c.loop-rest.invariant.read);
-      kept = kept_on c.read_line.result c.loop-rest.number c.loop-rest.draft c.read_line.new.self c.next_line.result.0.now _ is c.read_line.ensures c.loop-rest.invariant.kept encoded.0;
+      kept = kept_on c.read_line.result c.loop-rest.number (draft_of c.loop-rest.draft) (draft_of c.read_line.new.self) c.next_line.result.0.now _ is c.read_line.ensures c.loop-rest.invariant.kept encoded.0;
       encoded = encoded.1;
     }
 
 pub returns-in_err-reported-clause-fault : goal.returns-in_err-reported-clause-fault
 returns-in_err-reported-clause-fault c =
     let p = err_from_is_err_and c.from_residual.result c.from_residual.ensures.1 in
-    rw (p.1, p.2) (lines_end c.read_line.result c.loop-rest.number c.loop-rest.draft c.read_line.new.self c.next_line.result.0.now (lines_of c.loop-rest.rest.now) (lines_of c.next_line.result.1.now) (read_lines 1 empty_draft (lines_of c.args.text.now)) c.in_err-reported.field-0.0
+    rw (p.1, p.2) (lines_end c.read_line.result c.loop-rest.number (draft_of c.loop-rest.draft) (draft_of c.read_line.new.self) c.next_line.result.0.now (lines_of c.loop-rest.rest.now) (lines_of c.next_line.result.1.now) (read_lines 1 empty_draft (lines_of c.args.text.now)) c.in_err-reported.field-0.0
     (sym c.reported.ensures ∙ c.in_err-reported.was) c.read_line.ensures c.next_line.ensures.line c.loop-rest.invariant.read)
 
 pub returns-in_err-reported-2-clause-fault : goal.returns-in_err-reported-2-clause-fault
 returns-in_err-reported-2-clause-fault c =
     let p = err_from_is_err_and c.from_residual-in_err-reported-2.result c.from_residual-in_err-reported-2.ensures.1 in
     let none : length c.loop-rest.rest.now ≡ 0 = search rules in
-    rw (p.1, p.2) (text_end c.end_thread.result c.loop-rest.number c.loop-rest.draft c.end_thread.new.self (lines_of c.loop-rest.rest.now) (read_lines 1 empty_draft (lines_of c.args.text.now)) c.in_err-reported-2.field-0.0
+    rw (p.1, p.2) (text_end c.end_thread.result c.loop-rest.number (draft_of c.loop-rest.draft) (draft_of c.end_thread.new.self) (lines_of c.loop-rest.rest.now) (read_lines 1 empty_draft (lines_of c.args.text.now)) c.in_err-reported-2.field-0.0
     (sym c.reported-2.ensures ∙ c.in_err-reported-2.was) c.end_thread.ensures.read (nothing_below c.loop-rest.rest.now none) c.loop-rest.invariant.read)
 
 pub returns-clause-read : goal.returns-clause-read
 returns-clause-read c =
     let none : length c.loop-rest.rest.now ≡ 0 = search rules in
-    text_done c.end_thread.result c.loop-rest.number c.loop-rest.draft c.end_thread.new.self (lines_of c.loop-rest.rest.now) (read_lines 1 empty_draft (lines_of c.args.text.now))
+    text_done c.end_thread.result c.loop-rest.number (draft_of c.loop-rest.draft) (draft_of c.end_thread.new.self) (lines_of c.loop-rest.rest.now) (read_lines 1 empty_draft (lines_of c.args.text.now))
     (sym c.reported-2.ensures ∙ c.in_ok-reported-2.was) c.end_thread.ensures.read (nothing_below c.loop-rest.rest.now none) c.loop-rest.invariant.read

@@ -1,8 +1,9 @@
 use Rattle.std.proofs.Common.{◌≡◌, ℕ, ◌≤◌, List, length, map, drop, Bor}
+use Rattle.ft_script.specs.Internal.Answers.{draft_of}
 use Rattle.ft_script.specs.Reading.{turns}
 use Rattle.ft_script.proofs.draft.Draft.turns.Given as goal
 
 abbrev pub invariant-loop-name : goal.invariant-loop-name
 invariant-loop-name l =
-    (turns l.self (map (λ (word : Bor (List ℕ)). word.now) (drop l.name-index l.names)) ≡ turns l.fn.self (map (λ (word : Bor (List ℕ)). word.now) l.names))
+    (turns (draft_of l.self) (map (λ (word : Bor (List ℕ)). word.now) (drop l.name-index l.names)) ≡ turns (draft_of l.fn.self) (map (λ (word : Bor (List ℕ)). word.now) l.names))
     × (length l.self.threads ≤ 64)

@@ -1,6 +1,7 @@
 -- The words after the word of a call, read from left to right. (profile)
 use Rattle.std.specs.Prelude.{ℕ, ℤ, Bool, true, false, nat_lt, List, [], ◌∷◌, ◌++◌, length, slice_get, codes, Option, option_map, Some, None, Result, Ok, Err, if◌then◌else◌}
 use Rattle.std.specs.Str.{bytes_eq}
+use Rattle.ft_model.specs.Limits.{most_cursors, most_string_bytes, most_strings}
 use Rattle.ft_model.specs.declared.data.Key.{Key}
 use Rattle.ft_model.specs.declared.data.Key.TheVariants as key
 use Rattle.ft_model.specs.declared.data.Value.{Value}
@@ -21,11 +22,11 @@ use Rattle.ft_script.specs.Drafts.{◌>>=◌, or_fault, container_place, text_pl
 -- the number of a string; one that isn't mentioned above has the next
 unfoldable pub symbol_of : Draft → List ℕ → Result (ℕ × Draft) Fault
 symbol_of draft text =
-    if nat_lt 255 (length text) then Err (fault.Limit which.StringBytes)
+    if nat_lt most_string_bytes (length text) then Err (fault.Limit which.StringBytes)
     else (elim (text_place draft.strings text) [
       | Some number ↦ Ok (number, draft)
       | None ↦
-          if nat_lt (length draft.strings) 65536
+          if nat_lt (length draft.strings) most_strings
           then Ok (length draft.strings, record draft { strings = draft.strings ++ text ∷ [] })
           else Err (fault.Limit which.Strings)
     ])
@@ -85,7 +86,7 @@ made_cursor_of draft name =
     if is_container_name name then (elim (text_place draft.cursors name) [
       | Some number ↦ Ok (number, draft)
       | None ↦
-          if nat_lt (length draft.cursors) 256
+          if nat_lt (length draft.cursors) most_cursors
           then Ok (length draft.cursors, record draft { cursors = draft.cursors ++ name ∷ [] })
           else Err (fault.Limit which.Cursors)
     ])

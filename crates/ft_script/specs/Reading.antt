@@ -2,6 +2,7 @@
 use Rattle.std.specs.Prelude.{ℕ, ℤ, ◌+◌, ◌-◌, ◌%◌, Bool, false, not, ◌==◌, ◌&&◌, nat_lt, pos, int_le, List, [], ◌∷◌, ◌++◌, length, slice_get, slice_set, codes, Option, Some, None, Result, Ok, Err, if◌then◌else◌}
 use Rattle.std.specs.Str.{bytes_eq}
 use Rattle.std.specs.Option.{is_some}
+use Rattle.ft_model.specs.Limits.{heap_step, most_calls, most_containers, most_heap, most_sections, most_tables, most_threads, most_turns}
 use Rattle.ft_model.specs.declared.call.Call.{Call}
 use Rattle.ft_model.specs.declared.call.Call.TheVariants as call
 use Rattle.ft_model.specs.declared.call.DictCall.{DictCall}
@@ -165,9 +166,9 @@ unfoldable pub call_in : Draft → List (List ℕ) → Result (Call × Draft) Fa
 call_in draft [] = Err fault.WordCount
 call_in draft (word ∷ words) = or_fault fault.UnknownWord (call_word_of word) >>= λ found. call_of draft found words
 
--- the open sections after a call, of which there are at most 16
+-- the open sections after a call, of which there are no more than there may be
 unfoldable pub depth_after : ℕ → Call → Result ℕ Fault
-depth_after depth (call.Begin first second) = if nat_lt depth 16 then Ok (depth + 1) else Err fault.TooDeep
+depth_after depth (call.Begin first second) = if nat_lt depth most_sections then Ok (depth + 1) else Err fault.TooDeep
 depth_after depth call.End = if depth == 0 then Err fault.EndWithoutBegin else Ok (depth - 1)
 depth_after depth (call.Dict container dict_call) = Ok depth
 depth_after depth (call.List container list_call) = Ok depth
@@ -205,7 +206,7 @@ past_limit (Err found) = Err (limit_fault found)
 -- the line of a call
 unfoldable pub call_line : Draft → CallWord → List (List ℕ) → Result Draft Fault
 call_line draft word words =
-    if nat_lt draft.called 500000 then counted_call draft word words else past_limit (call_of draft word words)
+    if nat_lt draft.called most_calls then counted_call draft word words else past_limit (call_of draft word words)
 
 -- ---- declarations
 
@@ -214,7 +215,7 @@ unfoldable pub container_line : Draft → Kind → List (List ℕ) → Result Dr
 container_line draft kind (name ∷ []) =
     if not (is_container_name name) then Err fault.Name else (
     if is_some (container_place draft.containers name) then Err fault.NameTwice else (
-    if nat_lt (length draft.containers) 256
+    if nat_lt (length draft.containers) most_containers
     then Ok (record draft { containers = draft.containers ++ record { kind = kind; name = name } ∷ [] })
     else Err (fault.Limit which.Containers)))
 container_line draft kind others = Err fault.WordCount
@@ -236,7 +237,7 @@ unfoldable pub tables_at : Draft → ℕ → List ℕ → Result Draft Fault
 tables_at draft place count =
     if is_reported (slice_get draft.tables place) then Err fault.NameTwice else (index_of count >>= λ n.
     if int_le (pos 1) n
-    && int_le n (pos 1024) then Ok (record draft { tables = slice_set draft.tables place (Some (natural_of n)) })
+    && int_le n (pos most_tables) then Ok (record draft { tables = slice_set draft.tables place (Some (natural_of n)) })
     else Err (fault.Limit which.Tables))
 
 unfoldable pub tables_by_words : Draft → List ℕ → List ℕ → Result Draft Fault
@@ -251,8 +252,8 @@ tables_line draft others = Err fault.WordCount
 unfoldable pub heap_line : Draft → List (List ℕ) → Result Draft Fault
 heap_line draft (count ∷ []) =
     if is_some draft.heap then Err fault.NameTwice else (index_of count >>= λ n.
-    if int_le (pos 64) n && int_le n (pos 4096)
-    && (natural_of n % 64 == 0) then Ok (record draft { heap = Some (natural_of n) })
+    if int_le (pos heap_step) n && int_le n (pos most_heap)
+    && (natural_of n % heap_step == 0) then Ok (record draft { heap = Some (natural_of n) })
     else Err (fault.Limit which.Heap))
 heap_line draft others = Err fault.WordCount
 
@@ -272,7 +273,7 @@ unfoldable pub thread_line : Draft → List (List ℕ) → Result Draft Fault
 thread_line draft (name ∷ []) =
     if not (is_thread_name name) then Err fault.Name else (
     if is_some (thread_place draft.threads name) then Err fault.NameTwice else (
-    if nat_lt (length draft.threads) 64 then Ok (record draft { name = Some name; depth = 0 })
+    if nat_lt (length draft.threads) most_threads then Ok (record draft { name = Some name; depth = 0 })
     else Err (fault.Limit which.Threads)))
 thread_line draft others = Err fault.WordCount
 
@@ -281,7 +282,7 @@ unfoldable pub turn : Draft → List ℕ → Result Draft Fault
 turn draft name =
     if not (is_thread_name name) then Err fault.Name
     else (or_fault fault.OrderName (thread_place draft.threads name) >>= λ thread.
-    if nat_lt (length draft.order) 1000000 then Ok (record draft { order = draft.order ++ thread ∷ [] })
+    if nat_lt (length draft.order) most_turns then Ok (record draft { order = draft.order ++ thread ∷ [] })
     else Err (fault.Limit which.Order))
 
 unfoldable pub turns : Draft → List (List ℕ) → Result Draft Fault

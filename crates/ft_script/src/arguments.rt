@@ -4,16 +4,11 @@ ghost use Rattle.ft_script.specs.Arguments.{container_of, cursor_in, cursor_of, 
 ghost use Rattle.ft_script.specs.Internal.Answers.{Gives, Reads, draft_of};
 ghost use Rattle.std.specs.Prelude.{◌≡◌, Ok, map};
 
-use crate::declarations::CURSOR_LIMIT;
 use crate::draft::Draft;
 use crate::fault::{Fault, LineError, Which};
-use crate::strings::STRING_LIMIT;
 use crate::words::{integer_of, is_container_name, is_string, text_of};
-use ft_model::{Key, Kind, Sequence, Sym, Value};
+use ft_model::{Key, Kind, MOST_CURSORS, MOST_STRING_BYTES, MOST_STRINGS, Sequence, Sym, Value};
 use std::alloc::Global;
-
-/// The most bytes that a string may have.
-const STRING_BYTES_LIMIT: usize = 255;
 
 /// The integer that a word is.
 #[tactic(auto, unfolding(crate::specs::Arguments::index_of))]
@@ -38,14 +33,14 @@ impl Draft {
     fn symbol_of(&mut self, text: &[u8]) -> Result<u32, LineError>
         ensures { Reads result (draft_of self.new) (symbol_of (draft_of self.old) text.now) }
     {
-        if text.len() > STRING_BYTES_LIMIT {
+        if text.len() > MOST_STRING_BYTES {
             return Err(Fault::Limit(Which::StringBytes).into());
         }
         if let Some(place) = self.strings.place_of(text) {
             return Ok(place);
         }
         let number = self.strings.len();
-        if number >= STRING_LIMIT {
+        if number >= MOST_STRINGS {
             return Err(Fault::Limit(Which::Strings).into());
         }
         self.strings.add(text)?;
@@ -125,7 +120,7 @@ impl Draft {
             return Ok(number);
         }
         let number = self.cursors.len();
-        if number >= CURSOR_LIMIT {
+        if number >= MOST_CURSORS {
             return Err(Fault::Limit(Which::Cursors).into());
         }
         let name = Sequence::from_vec(Vec::from_slice(alloc, name)?);

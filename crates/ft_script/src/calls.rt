@@ -1,17 +1,15 @@
 //! Reads the lines of calls.
+ghost use Rattle.ft_model.specs.Limits.{most_calls};
 ghost use Rattle.ft_script.specs.Reading.{call_at, call_line, call_of, container_call, counted_call, depth_after, dict_call, limit_fault, list_call, set_call};
 ghost use Rattle.ft_script.specs.Internal.Answers.{Leaves, Reads, limit_error, draft_of};
 ghost use Rattle.std.specs.Prelude.{◌≡◌, ◌<◌, map};
 
 use crate::arguments::{index_in, nothing_in, some_index_in, two_indices_in};
 use crate::call_words::{CallWord, Operation};
-use crate::draft::{CALL_LIMIT, Draft};
+use crate::draft::Draft;
 use crate::fault::{Fault, LineError, Which};
-use ft_model::{Call, DictCall, Kind, ListCall, SetCall};
+use ft_model::{Call, DictCall, Kind, ListCall, MOST_CALLS, MOST_SECTIONS, SetCall};
 use std::alloc::Global;
-
-/// The most sections of a thread that are open at once.
-const DEPTH_LIMIT: u32 = 16;
 
 impl Draft {
     /// A call of a dict.
@@ -358,7 +356,7 @@ impl Draft {
     ) -> Result<(), LineError>
         ensures { Leaves result (draft_of self.new) (call_line (draft_of self.old) word (map (λ word. word.now) words.now)) }
     {
-        if self.called >= CALL_LIMIT {
+        if self.called >= MOST_CALLS {
             return Err(limit_error(self.call_of(alloc, word, words)));
         }
         self.counted_call(alloc, word, words)
@@ -372,7 +370,7 @@ impl Draft {
         word: CallWord,
         words: &[&[u8]],
     ) -> Result<(), LineError>
-        requires { self.old.called < 500000 }
+        requires { self.old.called < most_calls }
         ensures { Leaves result (draft_of self.new) (counted_call (draft_of self.old) word (map (λ word. word.now) words.now)) }
     {
         let (called, depth) = (self.called, self.depth);
@@ -421,7 +419,7 @@ fn depth_after(depth: u32, call: &Call) -> Result<u32, Fault>
     ensures { result ≡ depth_after depth call.now }
 {
     match call {
-        Call::Begin { .. } if depth >= DEPTH_LIMIT => Err(Fault::TooDeep),
+        Call::Begin { .. } if depth >= MOST_SECTIONS => Err(Fault::TooDeep),
         Call::Begin { .. } => Ok(depth + 1),
         Call::End if depth == 0 => Err(Fault::EndWithoutBegin),
         Call::End => Ok(depth - 1),

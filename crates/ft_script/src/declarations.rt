@@ -1,5 +1,6 @@
 //! The containers that a script declares, and the cursors that a thread makes. There are never more
 //! than a script may have, so the place of each fits 32 bits, and looking a name up takes no memory.
+ghost use Rattle.ft_model.specs.Limits.{most_containers, most_cursors, most_threads};
 ghost use Rattle.ft_script.specs.Drafts.{container_place, text_place, thread_place};
 ghost use Rattle.std.specs.Prelude.{◌≡◌, ◌<◌, ◌≤◌, [], ◌∷◌, ◌++◌, length, IfSome, OnOk};
 
@@ -7,19 +8,14 @@ use ft_model::{Declaration, Sequence, Text, Thread};
 use std::alloc::{AllocError, Global};
 use std::marker::Model;
 
-/// The most containers that a script may have.
-pub(crate) const CONTAINER_LIMIT: usize = 256;
-
-/// The most cursors that a thread may have.
-pub(crate) const CURSOR_LIMIT: usize = 256;
-
-/// At most 256 containers, in the order in which they are declared.
+/// Containers, no more than a script may have, in the order in which they are declared.
 #[derive(Drop)]
 pub(crate) struct Declarations {
     containers: Sequence<Declaration>,
 }
 
 impl Model for Declarations {
+    ghost use Rattle.ft_model.specs.Limits.{most_containers};
     ghost use Rattle.ft_model.specs.declared.script.Declaration.{Declaration};
     ghost use Rattle.std.specs.Prelude.{List, ◌≤◌, length};
 
@@ -27,7 +23,7 @@ impl Model for Declarations {
 
     ghost view = { λ d. d.containers };
 
-    ghost invariant = { λ d. length d.containers ≤ 256 };
+    ghost invariant = { λ d. length d.containers ≤ most_containers };
 }
 
 impl Declarations {
@@ -42,7 +38,7 @@ impl Declarations {
 
     /// These containers.
     pub(crate) fn from_sequence(containers: Sequence<Declaration>) -> Self
-        requires { length containers ≤ 256 }
+        requires { length containers ≤ most_containers }
         ensures { result ≡ containers }
     {
         Declarations { containers }
@@ -64,7 +60,7 @@ impl Declarations {
 
     /// Adds a container, which has the next place.
     pub(crate) fn push(&mut self, container: Declaration) -> Result<(), AllocError>
-        requires { length self.old < 256 }
+        requires { length self.old < most_containers }
         ensures { OnOk result (self.new ≡ self.old ++ container ∷ []) }
     {
         self.containers.push(container)?;
@@ -82,7 +78,7 @@ impl Declarations {
 
 /// The place of the container of that name, if there is one.
 pub(crate) fn container_place(containers: &[Declaration], name: &[u8]) -> Option<u32>
-    requires { length containers.now ≤ 256 }
+    requires { length containers.now ≤ most_containers }
     ensures { result ≡ container_place containers.now name.now }
 {
     let place = container_index(containers, name)?;
@@ -100,7 +96,7 @@ fn container_index(containers: &[Declaration], name: &[u8]) -> Option<usize>
 
 /// The place of the thread of that name, if there is one.
 pub(crate) fn thread_place(threads: &[Thread], name: &[u8]) -> Option<u32>
-    requires { length threads.now ≤ 64 }
+    requires { length threads.now ≤ most_threads }
     ensures { result ≡ thread_place threads.now name.now }
 {
     let place = thread_index(threads, name)?;
@@ -116,20 +112,22 @@ fn thread_index(threads: &[Thread], name: &[u8]) -> Option<usize>
         .position(|thread| thread.name.as_slice() == name)
 }
 
-/// The names of at most 256 cursors of a thread, in the order in which they are first made.
+/// The names of a thread's cursors, no more than it may have, in the order in which they are first
+/// made.
 #[derive(Drop)]
 pub(crate) struct CursorNames {
     names: Sequence<Text>,
 }
 
 impl Model for CursorNames {
+    ghost use Rattle.ft_model.specs.Limits.{most_cursors};
     ghost use Rattle.std.specs.Prelude.{List, ℕ, ◌≤◌, length};
 
     ghost Value = { List (List ℕ) };
 
     ghost view = { λ c. c.names };
 
-    ghost invariant = { λ c. length c.names ≤ 256 };
+    ghost invariant = { λ c. length c.names ≤ most_cursors };
 }
 
 impl CursorNames {
@@ -144,7 +142,7 @@ impl CursorNames {
 
     /// The cursors of these names.
     pub(crate) fn from_sequence(names: Sequence<Text>) -> Self
-        requires { length names ≤ 256 }
+        requires { length names ≤ most_cursors }
         ensures { result ≡ names }
     {
         CursorNames { names }
@@ -167,7 +165,7 @@ impl CursorNames {
 
     fn find(&self, name: &[u8]) -> Option<usize>
         ensures number { result ≡ text_place self.now name.now }
-        ensures small { IfSome result (λ number. number < 256) }
+        ensures small { IfSome result (λ number. number < most_cursors) }
     {
         let names = self.names.as_slice();
         names.iter().position(|other| name == other.as_slice())
@@ -175,7 +173,7 @@ impl CursorNames {
 
     /// Adds a cursor, which has the next number.
     pub(crate) fn push(&mut self, name: Text) -> Result<(), AllocError>
-        requires { length self.old < 256 }
+        requires { length self.old < most_cursors }
         ensures { OnOk result (self.new ≡ self.old ++ name ∷ []) }
     {
         self.names.push(name)?;

@@ -1,4 +1,5 @@
 //! What the lines above a place say.
+ghost use Rattle.ft_model.specs.Limits.{most_threads};
 ghost use Rattle.ft_script.specs.Drafts.{empty_draft, script_of, end_thread};
 ghost use Rattle.ft_script.specs.Internal.Answers.{HasFewThreads, Leaves, draft_of};
 ghost use Rattle.ft_model.specs.Scripts.{default_tables};
@@ -12,12 +13,12 @@ use crate::strings::Strings;
 use ft_model::{CLASS_COUNT, Call, ScriptParts, Sequence, Text, Thread};
 use std::alloc::{AllocError, Global};
 
-/// The most calls that a script may have.
-pub(crate) const CALL_LIMIT: u32 = 500_000;
-
 /// How many tables a class has where no line names their number: 4 of each class to 12, 1 of each
 /// above.
 const DEFAULT_TABLES: [u32; CLASS_COUNT] = [4, 4, 4, 4, 4, 4, 4, 4, 4, 4, 1, 1, 1, 1];
+
+/// How many places each heap has where no line names their number.
+const DEFAULT_HEAP: u32 = 64;
 
 /// What the lines above a place say.
 #[derive(Drop)]
@@ -70,7 +71,7 @@ impl Draft {
     #[tactic(auto, unfolding(crate::specs::Drafts::end_thread))]
     pub(crate) fn end_thread(&mut self, alloc: Global) -> Result<(), LineError>
         ensures read { Leaves result (draft_of self.new) (end_thread (draft_of self.old)) }
-        ensures few { OnOk result (HasFewThreads (draft_of self.old) → length self.new.threads ≤ 64) }
+        ensures few { OnOk result (HasFewThreads (draft_of self.old) → length self.new.threads ≤ most_threads) }
     {
         let Some(name) = self.name.take() else {
             return Ok(());
@@ -98,7 +99,7 @@ impl Draft {
             threads: self.threads,
             strings: Sequence::from_vec(self.strings.into_texts()?),
             tables: Sequence::from_vec(tables),
-            heap: self.heap.unwrap_or(64),
+            heap: self.heap.unwrap_or(DEFAULT_HEAP),
             order: self.order,
         })
     }

@@ -1,4 +1,5 @@
 //! Reads the lines of entries and contents.
+ghost use Rattle.ft_model.specs.Limits.{most_cursors, most_strings};
 ghost use Rattle.ft_script.specs.declared.fault.Fault.TheVariants as fault;
 ghost use Rattle.ft_script.specs.Internal.Candidates.{content_of, entry_of, numbered_of, only_call, stamp_of, thread_call, thread_of, waited_of};
 ghost use Rattle.ft_model.specs.Scripts.{IsScript};
@@ -205,7 +206,7 @@ fn copied_container(alloc: Global, container: &Declaration) -> Result<Declaratio
 /// The strings, each with its number.
 pub(crate) fn numbered_strings(alloc: Global, texts: &[Text]) -> Result<Strings, AllocError>
     requires differ { AllPairs (λ a b. a ≢ b) texts.now }
-    requires few { length texts.now ≤ 65536 }
+    requires few { length texts.now ≤ most_strings }
     ensures { IfOk result (λ strings. strings ≡ texts.now) }
 {
     let mut strings = Strings::new(alloc);
@@ -347,7 +348,7 @@ fn container_of(script: &ScriptParts, name: &[u8]) -> Result<u32, Fault>
 
 /// The cursors of each thread.
 fn all_cursors(alloc: Global, threads: &[Thread]) -> Result<Vec<CursorNames>, AllocError>
-    requires { All (λ thread. length thread.cursors ≤ 256) threads.now }
+    requires { All (λ thread. length thread.cursors ≤ most_cursors) threads.now }
     ensures { IfOk result (λ cursors. cursors.items ≡ map (λ thread. thread.cursors) threads.now) }
 {
     let mut cursors = Vec::new(alloc);

@@ -1,4 +1,5 @@
 //! What holds of every script and transcript. The functions do nothing: their contracts are the laws.
+ghost use Rattle.ft_model.specs.Limits.{most_calls};
 ghost use Rattle.std.specs.Prelude.{◌≡◌, ◌<◌, ◌≤◌, ℕ, All, List, Ok, length};
 ghost use Rattle.ft_model.specs.declared.call.Call.{Call};
 ghost use Rattle.ft_model.specs.declared.entry.Entry.{Entry};
@@ -43,5 +44,5 @@ pub fn no_transcript_is_bad()
 /// The text that the generator makes for a number of calls is read as the script of that number,
 /// so it is one.
 pub fn made_scripts_are_read()
-    ensures { (calls : ℕ) → calls ≤ 500000 → read_script (made_text calls) ≡ Ok (made_script calls) }
+    ensures { (calls : ℕ) → calls ≤ most_calls → read_script (made_text calls) ≡ Ok (made_script calls) }
 {}

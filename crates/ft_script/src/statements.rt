@@ -1,34 +1,30 @@
 //! Reads the lines of a script.
+ghost use Rattle.ft_model.specs.Classes.{class_count};
+ghost use Rattle.ft_model.specs.Limits.{most_threads};
 ghost use Rattle.ft_script.specs.Internal.Answers.{HasFewThreads, Leaves, LeavesAlways, draft_of};
 ghost use Rattle.ft_script.specs.Reading.{class_of, class_place, container_line, declaration, heap_line, open_line, order_line, other_statement, read_line, statement, tables_at, tables_line, tables_by_words, thread_line, thread_statement, turn, turns, words_line};
 ghost use Rattle.std.specs.Prelude.{◌≡◌, ◌<◌, ◌≤◌, IfOk, IfSome, OnOk, length, map};
 
 use crate::arguments::index_of;
 use crate::call_words::call_word_of;
-use crate::declarations::{CONTAINER_LIMIT, thread_place};
+use crate::declarations::thread_place;
 use crate::draft::Draft;
 use crate::fault::{Fault, LineError, Which};
 use crate::lines::{ends_thread, is_comment, words_of};
 use crate::words::{is_container_name, is_thread_name};
-use ft_model::{Declaration, Kind, Sequence};
+use ft_model::{
+    Declaration, GREATEST_CLASS, HEAP_STEP, Kind, LEAST_CLASS, MOST_CONTAINERS, MOST_HEAP,
+    MOST_TABLES, MOST_THREADS, MOST_TURNS, Sequence,
+};
 use std::alloc::Global;
-
-/// The most tables that a class may have.
-const TABLE_LIMIT: i64 = 1024;
-
-/// The most threads that a script may have.
-const THREAD_LIMIT: usize = 64;
-
-/// The most names that the `order` lines may have.
-const ORDER_LIMIT: usize = 1_000_000;
 
 /// The place of a class among those from 3 to 16.
 fn class_place(class: i64) -> Option<usize>
     ensures place { result ≡ class_place class }
-    ensures small { IfSome result (λ place. place < 14) }
+    ensures small { IfSome result (λ place. place < class_count) }
 {
-    if (3..=16).contains(&class) {
-        Some(class as usize - 3)
+    if (i64::from(LEAST_CLASS)..=i64::from(GREATEST_CLASS)).contains(&class) {
+        Some(class as usize - LEAST_CLASS as usize)
     } else {
         None
     }
@@ -37,7 +33,7 @@ fn class_place(class: i64) -> Option<usize>
 #[tactic(auto, unfolding(crate::specs::Reading::class_of))]
 fn class_of(word: &[u8]) -> Result<usize, Fault>
     ensures class { result ≡ class_of word.now }
-    ensures small { IfOk result (λ place. place < 14) }
+    ensures small { IfOk result (λ place. place < class_count) }
 {
     let class = index_of(word)?;
     class_place(class).ok_or(Fault::Limit(Which::Class))
@@ -63,7 +59,7 @@ impl Draft {
         if self.containers.place_of(name).is_some() {
             return Err(Fault::NameTwice.into());
         }
-        if self.containers.as_slice().len() >= CONTAINER_LIMIT {
+        if self.containers.as_slice().len() >= MOST_CONTAINERS {
             return Err(Fault::Limit(Which::Containers).into());
         }
         let name = Sequence::from_vec(Vec::from_slice(alloc, name)?);
@@ -92,14 +88,14 @@ impl Draft {
 
     #[tactic(auto, unfolding(crate::specs::Reading::tables_at))]
     fn tables_at(&mut self, place: usize, count: &[u8]) -> Result<(), Fault>
-        requires { place < 14 }
+        requires { place < class_count }
         ensures { LeavesAlways result (draft_of self.new) (tables_at (draft_of self.old) place count.now) }
     {
         if self.tables[place].is_some() {
             return Err(Fault::NameTwice);
         }
         let number = index_of(count)?;
-        if !(1..=TABLE_LIMIT).contains(&number) {
+        if !(1..=i64::from(MOST_TABLES)).contains(&number) {
             return Err(Fault::Limit(Which::Tables));
         }
         self.tables[place] = Some(number as u32);
@@ -118,7 +114,9 @@ impl Draft {
             return Err(Fault::NameTwice);
         }
         let count = index_of(count)?;
-        if !(64..=4096).contains(&count) || count % 64 != 0 {
+        if !(i64::from(HEAP_STEP)..=i64::from(MOST_HEAP)).contains(&count)
+            || count % i64::from(HEAP_STEP) != 0
+        {
             return Err(Fault::Limit(Which::Heap));
         }
         self.heap = Some(count as u32);
@@ -148,7 +146,7 @@ impl Draft {
     /// Reads the line of a thread.
     #[tactic(auto, unfolding(crate::specs::Reading::thread_line))]
     fn thread_line(&mut self, alloc: Global, words: &[&[u8]]) -> Result<(), LineError>
-        requires { length self.old.threads ≤ 64 }
+        requires { length self.old.threads ≤ most_threads }
         ensures { Leaves result (draft_of self.new) (thread_line (draft_of self.old) (map (λ word. word.now) words.now)) }
     {
         let [name] = words else {
@@ -160,7 +158,7 @@ impl Draft {
         if thread_place(self.threads.as_slice(), name).is_some() {
             return Err(Fault::NameTwice.into());
         }
-        if self.threads.len() >= THREAD_LIMIT {
+        if self.threads.len() >= MOST_THREADS {
             return Err(Fault::Limit(Which::Threads).into());
         }
         self.name = Some(Sequence::from_vec(Vec::from_slice(alloc, name)?));
@@ -171,7 +169,7 @@ impl Draft {
     /// Reads a name of an `order` line.
     #[tactic(auto, unfolding(crate::specs::Reading::turn))]
     fn turn(&mut self, name: &[u8]) -> Result<(), LineError>
-        requires { length self.old.threads ≤ 64 }
+        requires { length self.old.threads ≤ most_threads }
         ensures read { Leaves result (draft_of self.new) (turn (draft_of self.old) name.now) }
         ensures threads { OnOk result (self.new.threads ≡ self.old.threads) }
     {
@@ -179,7 +177,7 @@ impl Draft {
             return Err(Fault::Name.into());
         }
         let thread = thread_place(self.threads.as_slice(), name).ok_or(Fault::OrderName)?;
-        if self.order.len() >= ORDER_LIMIT {
+        if self.order.len() >= MOST_TURNS {
             return Err(Fault::Limit(Which::Order).into());
         }
         self.order.push(thread)?;
@@ -189,7 +187,7 @@ impl Draft {
     /// Reads an `order` line.
     #[tactic(auto, unfolding(crate::specs::Reading::order_line))]
     fn order_line(&mut self, words: &[&[u8]]) -> Result<(), LineError>
-        requires { length self.old.threads ≤ 64 }
+        requires { length self.old.threads ≤ most_threads }
         ensures { Leaves result (draft_of self.new) (order_line (draft_of self.old) (map (λ word. word.now) words.now)) }
     {
         if words.is_empty() {
@@ -199,7 +197,7 @@ impl Draft {
     }
 
     fn turns(&mut self, names: &[&[u8]]) -> Result<(), LineError>
-        requires { length self.old.threads ≤ 64 }
+        requires { length self.old.threads ≤ most_threads }
         ensures { Leaves result (draft_of self.new) (turns (draft_of self.old) (map (λ word. word.now) names.now)) }
     {
         for name in names {
@@ -211,7 +209,7 @@ impl Draft {
     /// Reads a line by its words.
     #[tactic(auto, unfolding(crate::specs::Reading::statement))]
     fn statement(&mut self, alloc: Global, words: &[&[u8]]) -> Result<(), LineError>
-        requires { length self.old.threads ≤ 64 }
+        requires { length self.old.threads ≤ most_threads }
         ensures { Leaves result (draft_of self.new) (statement (draft_of self.old) (map (λ word. word.now) words.now)) }
     {
         let [word, words @ ..] = words else {
@@ -232,7 +230,7 @@ impl Draft {
         word: &[u8],
         words: &[&[u8]],
     ) -> Result<(), LineError>
-        requires { length self.old.threads ≤ 64 }
+        requires { length self.old.threads ≤ most_threads }
         ensures { Leaves result (draft_of self.new) (other_statement (draft_of self.old) word.now (map (λ word. word.now) words.now)) }
     {
         if self.order.len() != 0 {
@@ -288,7 +286,7 @@ impl Draft {
 
     #[tactic(auto, unfolding(crate::specs::Reading::words_line))]
     fn words_line(&mut self, alloc: Global, line: &[u8]) -> Result<(), LineError>
-        requires { length self.old.threads ≤ 64 }
+        requires { length self.old.threads ≤ most_threads }
         ensures { Leaves result (draft_of self.new) (words_line (draft_of self.old) line.now) }
     {
         let words = words_of(alloc, line)?;

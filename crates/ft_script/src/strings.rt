@@ -1,5 +1,6 @@
 //! The distinct strings of a script, each with its number. There are never more than a script may
 //! have, so each number fits 32 bits, and looking a string up takes no memory.
+ghost use Rattle.ft_model.specs.Limits.{most_strings};
 ghost use Rattle.ft_script.specs.Drafts.{text_place};
 ghost use Rattle.std.specs.Prelude.{◌≡◌, ◌<◌, [], ◌∷◌, ◌++◌, length, None, IfOk, OnOk};
 
@@ -8,10 +9,7 @@ use indexmap::IndexSet;
 use std::alloc::{AllocError, Global};
 use std::marker::Model;
 
-/// The most distinct strings that a script may have.
-pub(crate) const STRING_LIMIT: usize = 65_536;
-
-/// At most 65,536 distinct texts, numbered from 0 in the order in which they are first named.
+/// Distinct texts, no more than a script may have, numbered from 0 in the order in which they are first named.
 #[derive(Drop)]
 pub(crate) struct Strings {
     alloc: Global,
@@ -19,13 +17,14 @@ pub(crate) struct Strings {
 }
 
 impl Model for Strings {
+    ghost use Rattle.ft_model.specs.Limits.{most_strings};
     ghost use Rattle.std.specs.Prelude.{List, ℕ, ◌≤◌, length, map};
 
     ghost Value = { List (List ℕ) };
 
     ghost view = { λ s. map (λ text. text.items) s.texts.keys };
 
-    ghost invariant = { λ s. length s.texts.keys ≤ 65536 };
+    ghost invariant = { λ s. length s.texts.keys ≤ most_strings };
 }
 
 impl Strings {
@@ -57,7 +56,7 @@ impl Strings {
     /// Adds a text, which has the next number.
     pub(crate) fn add(&mut self, text: &[u8]) -> Result<(), AllocError>
         requires new { text_place self.old text.now ≡ None }
-        requires room { length self.old < 65536 }
+        requires room { length self.old < most_strings }
         ensures { OnOk result (self.new ≡ self.old ++ text.now ∷ []) }
     {
         let text = Vec::from_slice(self.alloc, text)?;

@@ -1,6 +1,7 @@
 -- How the code's answers go with what the grammar says: an answer may also be that memory ran out. (profile)
 use Rattle.std.specs.Prelude.{◌≡◌, ℕ, ◌+◌, ◌≤◌, length, Result, Ok, Err, if◌then◌else◌}
 use Rattle.std.specs.Option.{is_some}
+use Rattle.ft_model.specs.Limits.{most_threads}
 use Rattle.ft_model.specs.declared.call.Call.{Call}
 use Rattle.ft_script.specs.declared.draft.Draft.{Draft as DraftParts}
 use Rattle.ft_script.specs.Drafts.{Draft}
@@ -68,4 +69,4 @@ limit_error (Err (error.Fault found)) = error.Fault (limit_fault found)
 
 -- there are no more threads than a script may have, the one whose calls stand here counted
 abbrev pub HasFewThreads : Draft → Type 0
-HasFewThreads draft = length draft.threads + (if is_some draft.name then 1 else 0) ≤ 64
+HasFewThreads draft = length draft.threads + (if is_some draft.name then 1 else 0) ≤ most_threads

@@ -1,5 +1,6 @@
 use Rattle.std.proofs.Common.{◌≡◌, ◌∙◌, ℕ, List, Vec, Global, map, length, sym, ap, rules, arith}
 use Rattle.std.proofs.lemmas.Result.{err_from_is_err_and}
+use Rattle.ft_script.specs.Internal.Answers.{draft_of}
 use Rattle.ft_script.specs.Internal.Readers.{IsReaderOf}
 use Rattle.ft_script.proofs.LineCases.{Adds}
 use Rattle.ft_script.proofs.TranscriptReading.{none_read, one_more, all_read, line_shorter, on_read, bad_reported, end_reported}
@@ -20,7 +21,7 @@ loop-rest-preserved c =
     record {
       read = one_more c.args.script.now c.args.bytes.now c.loop-rest.rest.now c.in-Some.parts.0.now c.in-Some.parts.1.now c.loop-rest.transcript.entries.items c.read_line-read.new.transcript.entries.items (map bytes_of c.loop-rest.transcript.world.items) (map bytes_of c.read_line-read.new.transcript.world.items) c.loop-rest.number c.saturating_add-number.result c.loop-rest.invariant.read c.in-Some.ensures.0
           (on_read (Adds c.args.script.now c.in-Some.parts.0.now c.loop-rest.transcript.entries.items (map bytes_of c.loop-rest.transcript.world.items) c.read_line-read.new.transcript.entries.items (map bytes_of c.read_line-read.new.transcript.world.items)) c.read_line-read.result c.loop-rest.number reported c.read_line-read.ensures.read) c.saturating_add-number.ensures;
-      reader = on_read (IsReaderOf c.args.script.now c.read_line-read.new.reader.draft c.read_line-read.new.reader.cursors.items) c.read_line-read.result c.loop-rest.number reported c.read_line-read.ensures.kept;
+      reader = on_read (IsReaderOf c.args.script.now (draft_of c.read_line-read.new.reader.draft) c.read_line-read.new.reader.cursors.items) c.read_line-read.result c.loop-rest.number reported c.read_line-read.ensures.kept;
     }
 
 pub loop-rest-smaller : goal.loop-rest-smaller

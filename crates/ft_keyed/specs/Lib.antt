@@ -1,1 +1,8 @@
 pub mod Clearing
+pub mod Comparing
+pub mod Contents
+pub mod Copies
+pub mod Entries
+pub mod Finding
+pub mod Places
+pub mod Windows

@@ -25,7 +25,7 @@ use ft_section::{Object, Stamp};
 /// them.
 const COUNT: u64 = block_word::USED - block_word::ROOT;
 
-const FILL: u64 = block_word::FILL - block_word::ROOT;
+pub(crate) const FILL: u64 = block_word::FILL - block_word::ROOT;
 
 /// The table of a dict or a set whose lock the pass has, or none.
 fn root_table(bank: &Bank, pass: &mut Pass, o: Object) -> Option<Table>

@@ -2,3 +2,5 @@ mod Reading
 mod Leaving
 mod Deleted
 mod NewKeys
+mod Showing
+mod Popping

@@ -1,3 +1,4 @@
 pub mod Looks
 pub mod Locked
 pub mod Values
+pub mod Lasts

@@ -7,6 +7,9 @@
 
 mod clears;
 mod deletes;
+mod equals;
+mod items;
+mod lasts;
 mod lens;
 mod locked;
 mod looks;
@@ -16,6 +19,9 @@ mod values;
 
 pub use crate::clears::{clear_by, try_clear};
 pub use crate::deletes::{del_locked, pop_locked, popd_locked};
+pub use crate::equals::{look_eq, try_eq};
+pub use crate::items::{look_items, try_items};
+pub use crate::lasts::{popitem_locked, try_popitem};
 pub use crate::lens::{look_len, try_len};
 pub use crate::looks::{look_get, look_getd, look_has};
 pub use crate::pops::{try_del, try_pop, try_popd};

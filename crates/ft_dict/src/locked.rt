@@ -17,8 +17,9 @@ ghost use Rattle.ft_bank.specs.Sections.{stack_of};
 ghost use Rattle.ft_bank.specs.Whole.{OnlyLoaded};
 ghost use Rattle.ft_dict.specs.Locked.{HasValue};
 
-use crate::looks::{reply_of, value_of};
+use crate::looks::reply_of;
 use ft_bank::{Bank, Pass};
+use ft_keyed::value_of;
 use ft_keys::Way;
 use ft_model::{Call, DictCall, Key, Reply, Value};
 use ft_search::{answer_held, read_key};

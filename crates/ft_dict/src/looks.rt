@@ -1,11 +1,8 @@
 //! Look-ups of one key of a dict without the lock. Sets, deletions and growths for other keys never make
 //! them contended, unless the root was read 0.
-ghost use Rattle.std.specs.Prelude.{◌≡◌, ◌↔◌, ◌<◌, Some};
-ghost use Rattle.ft_layout.specs.declared.slot.Stored.TheVariants.{Plain};
-ghost use Rattle.ft_layout.specs.Words.{IsStored};
+ghost use Rattle.std.specs.Prelude.{◌≡◌, ◌<◌};
 ghost use Rattle.ft_model.specs.declared.call.Call.TheVariants as call;
 ghost use Rattle.ft_model.specs.declared.call.DictCall.TheVariants as dict;
-ghost use Rattle.ft_model.specs.declared.data.Value.{Value};
 ghost use Rattle.ft_model.specs.declared.script.Kind.TheVariants as kind;
 ghost use Rattle.ft_trace.specs.Acts.{announces};
 ghost use Rattle.ft_trace.specs.Addresses.{containers_in};
@@ -18,8 +15,8 @@ ghost use Rattle.ft_search.specs.Looks.{IsLookOf};
 ghost use Rattle.ft_dict.specs.Looks.{IsFoundAt};
 
 use ft_bank::{Bank, Pass};
+use ft_keyed::value_of;
 use ft_keys::Way;
-use ft_layout::{Stored, item_of};
 use ft_model::{Call, DictCall, Key, Raise, Reply, Value};
 use ft_search::{Looked, answer_look, look_up};
 use ft_section::{Look, Object};
@@ -31,26 +28,6 @@ pub(crate) enum AtKey {
     Found(Option<Value>, u64),
     /// Two loads of one version: the first is odd, or they differ.
     Contended(u64, u64),
-}
-
-/// The value that is stored in place, if one is.
-fn plain_of(stored: Stored) -> Option<Value>
-    ensures { (value : Value) → (stored ≡ Plain value) ↔ (result ≡ Some value) }
-{
-    match stored {
-        Stored::Plain(value) => Some(value),
-        Stored::Empty | Stored::Boxed(_) => None,
-    }
-}
-
-/// The value that a kind and a payload stand for, which lie in an entry as they do in an item.
-pub(crate) fn value_of(kind: u64, payload: u64) -> Option<Value>
-    ensures { (value : Value) → IsStored kind payload (Plain value) ↔ (result ≡ Some value) }
-{
-    match item_of(&[0, kind, payload, 0]) {
-        Some(stored) => plain_of(stored),
-        None => None,
-    }
 }
 
 /// What `d[k]` replies: the value, or a KeyError.

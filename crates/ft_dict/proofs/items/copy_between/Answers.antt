@@ -1,0 +1,15 @@
+use Rattle.std.proofs.Common.{◌≡◌, map}
+use Rattle.ft_model.specs.Answers.{items_of}
+use Rattle.ft_model.specs.Contents.{DictContent}
+use Rattle.ft_bank.specs.Passes.{shape_of}
+use Rattle.ft_keyed.specs.Contents.{IsOfDict}
+use Rattle.ft_keyed.specs.Copies.{AreCopied}
+use Rattle.ft_keyed.proofs.Windowed.{saw_between}
+use Rattle.ft_dict.proofs.items.copy_between.Goals as goal
+
+pub returns-clause-saw : goal.returns-clause-saw
+returns-clause-saw c =
+    let a = c.args in
+    let k = shape_of a.bank.now in
+    saw_between k a.d (IsOfDict k (λ (dict : DictContent). AreCopied c.copy_pairs-copy.result (items_of dict.pairs))) (record { opened = c.seq-opened.result; number = c.stamp-number.result; closed = c.seq-closed.result })
+    a.pass.now c.seq-opened.new.pass c.copy_pairs-copy.new.pass c.stamp-number.new.pass c.seq-closed.new.pass c.seq-opened.ensures c.copy_pairs-copy.ensures.reads c.stamp-number.ensures.did c.seq-closed.ensures

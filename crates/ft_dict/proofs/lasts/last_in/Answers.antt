@@ -1,0 +1,36 @@
+use Rattle.std.proofs.Common.{◌≡◌, ℕ, Option, None, Some, refl, sym, ◌∙◌, subst}
+use Rattle.ft_bank.specs.Passes.{shape_of}
+use Rattle.ft_bank.specs.Tables.{name_of}
+use Rattle.ft_list.specs.Indexes.{Reads}
+use Rattle.ft_list.proofs.Indexes.{reads_map, reads_then}
+use Rattle.ft_keyed.specs.Entries.{IsPlainAt, OfUsed}
+use Rattle.ft_keyed.specs.Places.{IsLast}
+use Rattle.ft_dict.specs.declared.lasts.Last.{Last}
+use Rattle.ft_dict.specs.Lasts.{IsLastIn}
+use Rattle.ft_dict.proofs.Popping.{last_found, last_none}
+use Rattle.ft_dict.proofs.lasts.last_in.Goals as goal
+
+pub returns-in-Some-clause-reads : goal.returns-in-Some-clause-reads
+returns-in-Some-clause-reads c =
+    let a = c.args in
+    let k = shape_of a.bank.now in
+    let t = name_of a.table in
+    let place = c.in-Some.place in
+    let found = c.value_at-found.result in
+    let p = a.pass.now in
+    let q = c.last_place.new.pass in
+    let r = c.value_at-found.new.pass in
+    let here : Reads k a.d (OfUsed k t (IsLast a.fill (Some place))) p q = subst (λ (z : Option ℕ). Reads k a.d (OfUsed k t (IsLast a.fill z)) p q) c.in-Some.is c.last_place.ensures.reads in
+    reads_map k a.d (λ x. OfUsed k t (IsLast a.fill (Some place)) x × IsPlainAt k t place found x) (IsLastIn k a.table a.fill c.last_with.result) p r
+    (λ x both. subst (λ (z : Option Last). IsLastIn k a.table a.fill z x) (sym c.last_with.ensures) (last_found c.used_entries_follow_a_dict.ensures.live k a.table a.fill place x c.requires.table found c.value_at-found.ensures.within both.0 both.1))
+    (reads_then k a.d (OfUsed k t (IsLast a.fill (Some place))) (IsPlainAt k t place found) p q r here c.value_at-found.ensures.reads)
+
+pub returns-in-None-clause-reads : goal.returns-in-None-clause-reads
+returns-in-None-clause-reads c =
+    let a = c.args in
+    let k = shape_of a.bank.now in
+    let t = name_of a.table in
+    let p = a.pass.now in
+    let q = c.last_place.new.pass in
+    let here : Reads k a.d (OfUsed k t (IsLast a.fill None)) p q = subst (λ (z : Option ℕ). Reads k a.d (OfUsed k t (IsLast a.fill z)) p q) c.in-None.is c.last_place.ensures.reads in
+    reads_map k a.d (OfUsed k t (IsLast a.fill None)) (IsLastIn k a.table a.fill None) p q (λ x none. last_none k a.table a.fill x none) here

@@ -2,3 +2,5 @@ mod Reading
 mod Leaving
 mod NewKeys
 mod Merged
+mod Showing
+mod Popping

@@ -1,0 +1,15 @@
+use Rattle.std.proofs.Common.{◌≡◌}
+use Rattle.ft_model.specs.Contents.{same_elements}
+use Rattle.ft_bank.specs.Passes.{shape_of}
+use Rattle.ft_keyed.specs.Comparing.{AreOfSets}
+use Rattle.ft_keyed.proofs.Windowed.{saw_both_between}
+use Rattle.ft_set.proofs.equals.same_between.Goals as goal
+
+pub returns-clause-saw : goal.returns-clause-saw
+returns-clause-saw c =
+    let a = c.args in
+    let k = shape_of a.bank.now in
+    saw_both_between k a.s a.t (AreOfSets k (λ set others. c.are_same_sets-same.result ≡ same_elements set.elements others.elements)) (record { opened = c.seq-opened.result; number = c.stamp-number.result; closed = c.seq-closed.result })
+    (record { opened = c.seq-other_opened.result; number = c.stamp-number.result; closed = c.seq-other_closed.result })
+    a.pass.now c.seq-opened.new.pass c.seq-other_opened.new.pass c.are_same_sets-same.new.pass c.stamp-number.new.pass c.seq-other_closed.new.pass c.seq-closed.new.pass
+    c.seq-opened.ensures c.seq-other_opened.ensures c.are_same_sets-same.ensures.reads c.stamp-number.ensures.did c.seq-other_closed.ensures c.seq-closed.ensures

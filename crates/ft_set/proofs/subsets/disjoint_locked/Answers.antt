@@ -1,0 +1,42 @@
+use Rattle.std.proofs.Common.{◌≡◌, refl}
+use Rattle.ft_model.specs.declared.call.Call.TheVariants as call
+use Rattle.ft_model.specs.declared.call.SetCall.TheVariants as set
+use Rattle.ft_model.specs.declared.reply.Reply.TheVariants as reply
+use Rattle.ft_model.specs.Contents.{is_disjoint}
+use Rattle.ft_bank.specs.Passes.{shape_of, view}
+use Rattle.ft_bank.specs.Whole.{OnlyLoaded}
+use Rattle.ft_search.specs.Calls.{IsShownBy}
+use Rattle.ft_search.proofs.Calling.{answer_loaded}
+use Rattle.ft_search.proofs.Running.{did_log}
+use Rattle.ft_search.proofs.Spotting.{may_loaded}
+use Rattle.ft_list.proofs.Both.{both_loaded}
+use Rattle.ft_keyed.specs.Comparing.{AreOfSets}
+use Rattle.ft_keyed.proofs.Knowing.{both_show, shown_then}
+use Rattle.ft_set.proofs.Showing.{disjoint_shown}
+use Rattle.ft_set.proofs.subsets.disjoint_locked.Goals as goal
+use Rattle.ft_set.proofs.subsets.disjoint_locked.Goals.{After-is_apart-is_so}
+
+loaded : (c : After-is_apart-is_so) → OnlyLoaded (view c.args.pass.now) (view c.is_apart-is_so.new.pass)
+loaded c = both_loaded (shape_of c.args.bank.now) c.args.s c.args.t (AreOfSets (shape_of c.args.bank.now) (λ set others. c.is_apart-is_so.result ≡ is_disjoint set.elements others.elements)) c.args.pass.now c.is_apart-is_so.new.pass c.is_apart-is_so.ensures.reads
+
+shown : (c : After-is_apart-is_so) → IsShownBy (call.Set c.args.s (set.Disjoint c.args.t)) (reply.Truth c.is_apart-is_so.result) (view c.is_apart-is_so.new.pass)
+shown c =
+    let a = c.args in
+    let k = shape_of a.bank.now in
+    let v = view a.pass.now in
+    let so = both_show k a.s a.t (AreOfSets k (λ set others. c.is_apart-is_so.result ≡ is_disjoint set.elements others.elements)) a.pass.now c.is_apart-is_so.new.pass c.is_apart-is_so.ensures.reads c.requires.may c.requires.other in
+    shown_then (call.Set a.s (set.Disjoint a.t)) (reply.Truth c.is_apart-is_so.result) v (view c.is_apart-is_so.new.pass) (loaded c)
+    (disjoint_shown k a.s v c.requires.pass.1 a.pass.now.possible c.requires.may c.requires.set a.t c.requires.other c.requires.other_set c.is_apart-is_so.result so)
+
+pub answer_made-requires-clause-left : goal.answer_made-requires-clause-left
+answer_made-requires-clause-left c = (may_loaded (shape_of c.args.bank.now) c.args.s (view c.args.pass.now) (view c.is_apart-is_so.new.pass) (loaded (goal.at.answer_made-requires-clause-left c).After-is_apart-is_so) c.requires.may).left
+
+pub answer_made-requires-clause-shown : goal.answer_made-requires-clause-shown
+answer_made-requires-clause-shown c = shown (goal.at.answer_made-requires-clause-shown c).After-is_apart-is_so
+
+pub returns-clause-made : goal.returns-clause-made
+returns-clause-made c =
+    let r = c.is_apart-is_so.ensures.reads in
+    let p = c.args.pass.now in
+    let q = c.is_apart-is_so.new.pass in
+    answer_loaded (call.Set c.args.s (set.Disjoint c.args.t)) (reply.Truth c.is_apart-is_so.result) c.answer_made.result.0 c.answer_made.result.1 (view p) (view q) (view c.answer_made.new.pass) r.0 (loaded (goal.at.returns-clause-made c).After-is_apart-is_so) (did_log r.0 p q r.2) c.answer_made.ensures.said c.answer_made.ensures.made

@@ -1,0 +1,142 @@
+//! The first element of a set, and `pop`, which takes it out: under the lock, and as a try.
+ghost use Rattle.std.specs.Prelude.{◌≡◌, ◌<◌, option_map};
+ghost use Rattle.ft_model.specs.declared.call.Call.TheVariants as call;
+ghost use Rattle.ft_model.specs.declared.call.SetCall.TheVariants as set;
+ghost use Rattle.ft_model.specs.declared.data.Key.{Key};
+ghost use Rattle.ft_model.specs.declared.script.Kind.TheVariants as kind;
+ghost use Rattle.ft_trace.specs.Addresses.{containers_in};
+ghost use Rattle.ft_trace.specs.Worlds.{kind_in};
+ghost use Rattle.ft_bank.specs.Passes.{shape_of, view, IsPassOf};
+ghost use Rattle.ft_bank.specs.Sections.{stack_of};
+ghost use Rattle.ft_bank.specs.Tables.{name_of, IsTableIn};
+ghost use Rattle.ft_section.specs.declared.answers.Objects.TheVariants.{One};
+ghost use Rattle.ft_section.specs.Ready.{MayTry};
+ghost use Rattle.ft_section.specs.Trying.{SectionsAfter};
+ghost use Rattle.ft_search.specs.Calls.{MadeAs, IsMadeOf};
+ghost use Rattle.ft_search.specs.Writing.{MayWriteEntries};
+ghost use Rattle.ft_list.specs.Indexes.{Reads};
+ghost use Rattle.ft_set.specs.Firsts.{IsFirstIn, IsFirstOf};
+
+use ft_bank::{Bank, Pass, Table};
+use ft_keyed::{first_place, key_at};
+use ft_layout::{block_word, used_entries_follow_a_set};
+use ft_model::{Call, Key, Raise, Reply, SetCall};
+use ft_search::{answer_made, delete_entry, table_named, written};
+use ft_section::{Got, Object, Objects, Stamp, Step, let_go, take_for};
+
+/// Which word of a block says how many entries were used, as a bank counts them.
+const FILL: u64 = block_word::FILL - block_word::ROOT;
+
+/// The first element of a set, and where it is.
+#[derive(Clone, Copy)]
+pub(crate) struct First {
+    /// The set's table.
+    pub(crate) table: Table,
+    /// The place of the element's entry.
+    pub(crate) place: u64,
+    /// The element.
+    pub(crate) key: Key,
+}
+
+/// The element that was found at a place of a table.
+fn first_with(table: Table, place: u64, found: Option<Key>) -> Option<First>
+    ensures { result ≡ option_map (λ (key : Key). record { table = table; place = place; key = key }) found }
+{
+    match found {
+        Some(key) => Some(First { table, place, key }),
+        None => None,
+    }
+}
+
+/// The first element among as many entries of a table.
+fn first_in(bank: &Bank, pass: &mut Pass, s: Object, table: Table, fill: u64) -> Option<First>
+    requires pass { IsPassOf bank.now pass.old }
+    requires table { IsTableIn (shape_of bank.now) table }
+    ensures pass { IsPassOf bank.now pass.new }
+    ensures stack { stack_of pass.new ≡ stack_of pass.old }
+    ensures reads { Reads (shape_of bank.now) s (IsFirstIn (shape_of bank.now) table fill result) pass.old pass.new }
+{
+    used_entries_follow_a_set();
+    match first_place(bank, pass, s, table, fill) {
+        Some(place) => {
+            let found = key_at(bank, pass, s, table, place);
+            first_with(table, place, found)
+        }
+        None => None,
+    }
+}
+
+/// The first element of a set.
+fn first_element(bank: &Bank, pass: &mut Pass, s: Object) -> Option<First>
+    requires pass { IsPassOf bank.now pass.old }
+    requires container { s < containers_in (shape_of bank.now) }
+    ensures pass { IsPassOf bank.now pass.new }
+    ensures stack { stack_of pass.new ≡ stack_of pass.old }
+    ensures reads { Reads (shape_of bank.now) s (IsFirstOf (shape_of bank.now) result) pass.old pass.new }
+{
+    used_entries_follow_a_set();
+    let root = bank.read_block(pass, s, 0);
+    let fill = bank.read_block(pass, s, FILL);
+    match table_named(root) {
+        Some(table) => first_in(bank, pass, s, table, fill),
+        None => None,
+    }
+}
+
+/// `s.pop()`: the first element, which is taken out; a KeyError if the set is empty (Python manual, Set Types); under
+/// the lock.
+pub fn pop_locked(bank: &Bank, pass: &mut Pass, s: Object) -> (Reply, Stamp)
+    requires pass { IsPassOf bank.now pass.old }
+    requires may { MayWriteEntries (shape_of bank.now) s (view pass.old) }
+    requires set { kind_in (shape_of bank.now).kinds s ≡ kind.Set }
+    ensures pass { IsPassOf bank.now pass.new }
+    ensures stack { stack_of pass.new ≡ stack_of pass.old }
+    ensures made { MadeAs (call.Set s set.Pop) result.0 result.1 (view pass.old) (view pass.new) }
+{
+    let called = Call::Set {
+        container: s,
+        call: SetCall::Pop,
+    };
+    match first_element(bank, pass, s) {
+        Some(first) => {
+            let said = Reply::Value(first.key.into_value());
+            let number = delete_entry(
+                bank,
+                pass,
+                s,
+                first.table,
+                first.place,
+                first.key,
+                &called,
+                &said,
+            );
+            (said, written(number))
+        }
+        None => answer_made(bank, pass, &called, Reply::Raised(Raise::NoKey)),
+    }
+}
+
+/// `s.pop()`: the first element, which is taken out; a KeyError if the set is empty (Python manual, Set Types).
+///
+/// # Errors
+///
+/// `NotYet` where a step of the call found another pass with the lock of the set; the same call comes next. It never
+/// answers `Moved` or `NoMemory`.
+pub fn try_pop(bank: &Bank, pass: &mut Pass, s: Object) -> Step
+    requires may { MayTry bank.now pass.old (One s) }
+    requires container { s < containers_in (shape_of bank.now) }
+    requires set { kind_in (shape_of bank.now).kinds s ≡ kind.Set }
+    requires left { 0 < (view pass.old).left }
+    ensures may { MayTry bank.now pass.new (One s) }
+    ensures made { IsMadeOf (One s) (call.Set s set.Pop) (view pass.old) (view pass.new) result }
+    ensures sections { SectionsAfter bank.now (One s) pass.old pass.new result }
+{
+    match take_for(bank, pass, Objects::One(s)) {
+        Got::Have => {
+            let (reply, stamp) = pop_locked(bank, pass, s);
+            let_go(bank, pass);
+            Step::Done(reply, stamp)
+        }
+        Got::NotYet(container, owner) => Step::NotYet(container, owner),
+    }
+}

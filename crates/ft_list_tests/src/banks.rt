@@ -1,18 +1,18 @@
-//! Banks with two lists and two passes, and what tests ask of each call on them.
+//! Banks with two lists and two passes.
 ghost use Rattle.std.specs.Prelude.{◌≡◌, [], ◌∷◌, ◌<◌, IfOk, OnOk};
 ghost use Rattle.ft_model.specs.declared.script.Kind.TheVariants.{List};
 ghost use Rattle.ft_bank.specs.Openings.{IsOpening, AreOpening};
 ghost use Rattle.ft_bank.specs.Passes.{view};
+ghost use Rattle.ft_list_tests.specs.Calling.{HasTwoLists};
 
 use ft_bank::{Bank, Pass, Shape};
-use ft_model::{Kind, Reply};
-use ft_section::{Stamp, Step};
+use ft_model::Kind;
 use std::alloc::Global;
 use std::test::Fail;
 
 /// Two lists, one table of each class, two passes.
-pub(crate) fn small(alloc: Global) -> Result<Shape, Fail>
-    ensures { IfOk result (λ s. (s.kinds.items ≡ List ∷ List ∷ []) × (s.passes ≡ 2) × (s.calls ≡ 40)) }
+fn small(alloc: Global) -> Result<Shape, Fail>
+    ensures { IfOk result (λ s. (s.kinds.items ≡ List ∷ List ∷ []) × (s.passes ≡ 2)) }
 {
     Ok(Shape {
         kinds: vec![in alloc; Kind::List, Kind::List]?,
@@ -20,12 +20,12 @@ pub(crate) fn small(alloc: Global) -> Result<Shape, Fail>
         tables: vec![in alloc; 1u32; 14]?,
         heap: 64,
         passes: 2,
-        calls: 40,
+        calls: 100,
     })
 }
 
 /// The two passes of a bank.
-pub(crate) fn two(bank: &Bank, passes: Vec<Pass>) -> Result<(Pass, Pass), Fail>
+fn two(bank: &Bank, passes: Vec<Pass>) -> Result<(Pass, Pass), Fail>
     requires { AreOpening bank.now 0 passes.items }
     ensures { IfOk result (λ p. IsOpening bank.now 0 p.0 × IsOpening bank.now 1 p.1) }
 {
@@ -40,12 +40,21 @@ pub(crate) fn two(bank: &Bank, passes: Vec<Pass>) -> Result<(Pass, Pass), Fail>
     Ok((first, second))
 }
 
-/// A call that was made: its reply and its stamp.
-pub(crate) fn done(step: Step) -> Result<(Reply, Stamp), Fail> {
-    match step {
-        Step::Done(reply, stamp) => Ok((reply, stamp)),
-        _ => Err(Fail::from("nobody has the lock")),
+/// A bank with two lists and one table of each class, and its two passes.
+pub(crate) fn small_bank(alloc: Global) -> Result<(Bank, Pass, Pass), Fail>
+    ensures lists { IfOk result (λ made. HasTwoLists made.0) }
+    ensures first { IfOk result (λ made. IsOpening made.0 0 made.1) }
+    ensures second { IfOk result (λ made. IsOpening made.0 1 made.2) }
+{
+    let shape = small(alloc)?;
+    if !shape.fits() {
+        return Err(Fail::from("a small shape fits"));
     }
+    let Ok((bank, passes)) = Bank::new(alloc, shape) else {
+        return Err(Fail::from("there is memory"));
+    };
+    let (first, second) = two(&bank, passes)?;
+    Ok((bank, first, second))
 }
 
 /// Has the pass a call left?
@@ -53,7 +62,7 @@ pub(crate) fn some_left(pass: &Pass) -> Result<(), Fail>
     ensures { OnOk result (0 < (view pass.now).left) }
 {
     if pass.left() == 0 {
-        return Err(Fail::from("forty calls are left at first"));
+        return Err(Fail::from("a hundred calls are left at first"));
     }
     Ok(())
 }

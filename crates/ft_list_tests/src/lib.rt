@@ -1,12 +1,19 @@
-//! Calls on lists of a bank, worked by hand. Beside the code these tests would have it proved a second time. Nothing
-//! stands on this crate.
+//! Calls on lists of a bank, worked by hand: tables of calls that are made one after the other, and looks in the midst
+//! of another pass's write. Beside the code these tests would have it proved a second time. Nothing stands on this
+//! crate.
 #![tactic(auto)]
 
 #[cfg(test)]
 mod banks;
 #[cfg(test)]
-mod growing;
+mod calls;
 #[cfg(test)]
-mod looking;
+mod edges;
 #[cfg(test)]
-mod without_items;
+mod python;
+#[cfg(test)]
+mod rows;
+#[cfg(test)]
+mod tables;
+#[cfg(test)]
+mod writing;

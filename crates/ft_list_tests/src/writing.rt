@@ -1,0 +1,156 @@
+//! Looks at a list in the midst of another pass's write, whose words are put step by step.
+ghost use Rattle.std.specs.Prelude.{◌≡◌, ◌<◌, true, false, IfSome, OnOk};
+ghost use Rattle.ft_model.specs.declared.script.Kind.TheVariants as kind;
+ghost use Rattle.ft_trace.specs.Acts.{has_committed, has_lock, is_writing};
+ghost use Rattle.ft_trace.specs.Addresses.{class_of, containers_in, slots};
+ghost use Rattle.ft_trace.specs.Words.{item_at};
+ghost use Rattle.ft_trace.specs.Worlds.{kind_in};
+ghost use Rattle.ft_bank.specs.Passes.{shape_of, view, IsPassOf};
+ghost use Rattle.ft_bank.specs.Tables.{name_of};
+ghost use Rattle.ft_list.specs.Items.{WritesList};
+ghost use Rattle.ft_list_tests.specs.Calling.{HasTwoLists, MayCall};
+
+use crate::banks::{small_bank, some_left};
+use crate::calls::{is_list, look_call, try_call};
+use crate::python::{append, equals, get, has};
+use ft_bank::{Bank, Pass, Table};
+use ft_layout::item_word;
+use ft_list::{look_eq, look_has};
+use ft_model::{ListCall, Reply, Value};
+use ft_search::table_named;
+use ft_section::{Got, Look, Objects, Stamp, new_passes_are_ready, take_for};
+use std::alloc::Global;
+use std::test::Fail;
+
+/// How many words of a table come before those that a bank counts.
+const HEADER: u64 = 2;
+
+/// Which word of a table the version of an item is, counted from the header on.
+fn version_at(place: u64) -> u64
+    requires { place < 65536 }
+    ensures { result ≡ item_at place 0 }
+{
+    ft_layout::item_at(place, item_word::VERSION) - HEADER
+}
+
+/// Makes the version of a list odd whose lock the pass has, and answers its table.
+fn begin(bank: &Bank, writer: &mut Pass, l: u32) -> Option<Table>
+    requires pass { IsPassOf bank.now writer.old }
+    requires container { l < containers_in (shape_of bank.now) }
+    requires list { kind_in (shape_of bank.now).kinds l ≡ kind.List }
+    requires locked { has_lock l (view writer.old).log ≡ true }
+    requires even { is_writing l (view writer.old).log ≡ false }
+    ensures pass { IsPassOf bank.now writer.new }
+    ensures list { IfSome result (λ table. WritesList (shape_of bank.now) l table (view writer.new)) }
+    ensures early { has_committed l (view writer.new).log ≡ false }
+{
+    let root = bank.read_block(writer, l, 0);
+    bank.start_write(writer, l);
+    table_named(root)
+}
+
+/// Makes odd the version of an item of a list that the pass writes, and answers it; `None` where it was odd.
+fn open_item(bank: &Bank, writer: &mut Pass, l: u32, table: Table, place: u64) -> Option<u64>
+    requires pass { IsPassOf bank.now writer.old }
+    requires list { WritesList (shape_of bank.now) l table (view writer.old) }
+    requires early { has_committed l (view writer.old).log ≡ false }
+    requires place { place < slots (class_of (name_of table)) }
+{
+    let word = version_at(place);
+    let version = bank.read_table(writer, table, word);
+    if version % 2 != 0 {
+        return None;
+    }
+    bank.put_table(writer, l, table, word, version + 1);
+    Some(version + 1)
+}
+
+/// The first half of a write of list 0, which has eight items: makes its version and that of item 3 odd, and answers
+/// the latter.
+fn open_third(bank: &Bank, writer: &mut Pass) -> Option<u64>
+    requires lists { HasTwoLists bank.now }
+    requires may { MayCall bank.now writer.old }
+{
+    if !is_list(bank, 0) {
+        return None;
+    }
+    let Got::Have = take_for(bank, writer, Objects::One(0)) else {
+        return None;
+    };
+    let table = begin(bank, writer, 0)?;
+    if table.class != 3 {
+        return None;
+    }
+    open_item(bank, writer, 0, table, 3)
+}
+
+/// Gives list 0 the integers 0 to 7, each at its index.
+fn fill(bank: &Bank, writer: &mut Pass, alloc: Global) -> Result<(), Fail>
+    requires lists { HasTwoLists bank.now }
+    requires may { MayCall bank.now writer.old }
+    ensures may { OnOk result (MayCall bank.now writer.new) }
+{
+    for integer in 0..8i64 {
+        let Some((Reply::Done, _)) = try_call(bank, writer, alloc, 0, append(integer)) else {
+            return Err(Fail::from("an append is done"));
+        };
+    }
+    Ok(())
+}
+
+/// Whether a look at list 0 is contended by two loads of a version that gave this.
+fn is_contended(bank: &Bank, reader: &mut Pass, alloc: Global, call: ListCall, version: u64) -> bool
+    requires lists { HasTwoLists bank.now }
+    requires pass { IsPassOf bank.now reader.old }
+    ensures pass { IsPassOf bank.now reader.new }
+{
+    match look_call(bank, reader, alloc, 0, call) {
+        Some(Look::Contended(early, late)) => early == version && late == version,
+        _ => false,
+    }
+}
+
+#[test]
+fn an_item_whose_version_is_odd_contends_alone(rt: HostRuntime) -> Result<(), Fail> {
+    let alloc = rt.alloc();
+    let (bank, mut writer, mut reader) = small_bank(alloc)?;
+    new_passes_are_ready(&bank, &writer);
+    fill(&bank, &mut writer, alloc)?;
+    // The item was put once, so that its version was 2; eight writes made the list's 16.
+    assert_eq!(rt; open_third(&bank, &mut writer), Some(3));
+    let stamp = Stamp {
+        number: 8,
+        wrote: false,
+    };
+    let two = Look::Done(Reply::Value(Value::Int(2)), stamp);
+    assert_eq!(rt; look_call(&bank, &mut reader, alloc, 0, get(2)), Some(two));
+    assert!(rt; is_contended(&bank, &mut reader, alloc, get(3), 3));
+    assert!(rt; is_contended(&bank, &mut reader, alloc, get(-6), 17));
+    assert!(rt; is_contended(&bank, &mut reader, alloc, has(2), 17));
+    assert!(rt; is_contended(&bank, &mut reader, alloc, equals(1), 17));
+    assert!(rt; is_contended(&bank, &mut reader, alloc, ListCall::Len, 17));
+    assert!(rt; is_contended(&bank, &mut reader, alloc, ListCall::Items, 17));
+    Ok(())
+}
+
+#[test]
+fn an_odd_version_contends_and_a_lock_does_not(rt: HostRuntime) -> Result<(), Fail> {
+    let (bank, mut writer, mut reader) = small_bank(rt.alloc())?;
+    let Ok(()) = bank.try_lock(&mut writer, 0) else {
+        return Err(Fail::from("the lock is free"));
+    };
+    some_left(&reader)?;
+    let Look::Done(reply, _) = look_has(&bank, &mut reader, 0, Value::Int(7)) else {
+        return Err(Fail::from("a lock alone stops no look"));
+    };
+    assert_eq!(rt; reply, Reply::Truth(false));
+    assert_eq!(rt; bank.start_write(&mut writer, 0), 0);
+    some_left(&reader)?;
+    assert_eq!(rt; look_eq(&bank, &mut reader, 1, 0), Look::Contended(1, 1));
+    some_left(&reader)?;
+    let Look::Done(reply, _) = look_has(&bank, &mut reader, 1, Value::Int(7)) else {
+        return Err(Fail::from("nobody writes the other list"));
+    };
+    assert_eq!(rt; reply, Reply::Truth(false));
+    Ok(())
+}

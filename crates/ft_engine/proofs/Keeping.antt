@@ -14,7 +14,7 @@ use Rattle.ft_model.specs.Numbers.{IfBegun, IfEndsBegin, begins_of, marks_since}
 use Rattle.ft_trace.specs.declared.Entry.{Entry}
 use Rattle.ft_trace.specs.OwnCursors.{entry_of}
 use Rattle.ft_bank.specs.declared.sections.Taking.{Taking}
-use Rattle.ft_bank.specs.Sections.{Stack, nothing_taken}
+use Rattle.ft_bank.specs.Sections.{Stack, no_sections, nothing_taken}
 use Rattle.ft_history.proofs.Places.{slice_get_push}
 use Rattle.ft_history.proofs.Unbroken.{range_push}
 use Rattle.ft_section.specs.declared.answers.Stamp.{Stamp}
@@ -39,6 +39,10 @@ unanswered_due flight.Idle marks no_answer = refl
 unanswered_due (flight.Tried called) marks no_answer = refl
 unanswered_due (flight.Answered called said stamp) marks no_answer = absurd (no_answer tt)
 unanswered_due (flight.Refused called) marks no_answer = refl
+
+none_more : (count : ℕ) (xs : List ℕ) → more_marks count xs ≡ [] → xs ≡ []
+none_more count [] is = refl
+none_more count (x ∷ xs) is = absurd (let e : (x + count) ∷ more_marks count xs ≡ [] = is in cc)
 
 pub no_answer_idle : (f : Flight) → f ≡ flight.Idle → IsAnswered f → ⊥
 no_answer_idle f is answered = subst IsAnswered is answered
@@ -93,6 +97,19 @@ module _ (thread : ℕ) where
 
       pub kept_refused : (t : Stack) (called : Call) → t ≡ with_own s nothing_taken → AreKeptBy thread entries t (flight.Refused called) mine
       kept_refused t called stack = record { same = kept_entries; own = k.own; indexes = k.indexes; counted = k.counted; sections = kept_left t stack; ends = tt }
+
+      -- the caller gives up, with no section open
+      pub kept_abandoned : (t : Stack) → s.sections ≡ [] → t ≡ no_sections → AreKeptBy thread entries t flight.Idle mine
+      kept_abandoned t none stack = record {
+        same = kept_entries;
+        own = k.own;
+        indexes = k.indexes;
+        counted = k.counted;
+        sections =
+            let none_open : open_marks thread mine ≡ [] = none_more (mark_count s.mark) (open_marks thread mine) (sym kept_marks ∙ ap (λ xs. reverse (map (λ section. section.marks) xs)) none) in
+            ap marks_in stack ∙ ap (more_marks (mark_count t.mark)) (sym none_open);
+        ends = tt;
+      }
 
       ended : (called : Call) (said : Reply) → (called ≡ call.End → s.mark ≡ None) → IsEndOf called (marks_in s) said → IfEndsBegin (begins_of mine) called (λ begun. IsCountedAs (marks_since thread mine begun) said)
       ended call.End said free end =

@@ -8,3 +8,7 @@ pub mod Outcomes
 pub mod Looking
 pub mod ListCalls
 pub mod ListLooks
+pub mod CursorCalls
+pub mod IterCalls
+pub mod KeyedCalls
+pub mod GivingUp

@@ -114,7 +114,7 @@ pub may_making : (b : Bank) (p : Pass) (objects : Objects) → MayTry b p object
 may_making b p objects may = ⊎_elim (λ (r : IsReady b p). ready_making b p r) (λ (w : IsWaiting b p objects). waiting_making b p objects w) may
 
 module _ (b : Bank) (p q : Pass) (pass : IsPassOf b q) (stack : stack_of q ≡ stack_of p) (l : OnlyLoaded (view p) (view q)) where
-  loaded_in : InCall (view p) (stack_of p) → InCall (view q) (stack_of q)
+  pub loaded_in : InCall (view p) (stack_of p) → InCall (view q) (stack_of q)
   loaded_in i = subst (InCall (view q)) (sym stack) (in_call_stays (view p) (view q) (stack_of p) i l.work.pass.shape l.work.pass.locks l.work.pass.begun (still_loaded (view p) (view q) l i.still))
 
   pub loaded_making : IsMaking b p → IsMaking b q
@@ -124,17 +124,20 @@ module _ (b : Bank) (p q : Pass) (pass : IsPassOf b q) (stack : stack_of q ≡ s
     waited = λ a e. subst (λ (s : Stack). AreSuspended s.sections) (sym stack) (m.waited a (sym (ap (λ (s : Stack). s.mark) stack) ∙ e));
   }
 
+  pub loaded_ready : IsReady b p → IsReady b q
+  loaded_ready r = record {
+    inside = (pass, loaded_in r.inside.1);
+    own = ap (λ (s : Stack). s.own) stack ∙ r.own;
+    mark = ap (λ (s : Stack). s.mark) stack ∙ r.mark;
+    top = λ outer top split.
+        let t = r.top outer top (sym (ap (λ (s : Stack). s.sections) stack) ∙ split) in
+        (l.work.pass.locks top.locks.lower ∙ t.0, l.work.pass.locks top.locks.upper ∙ t.1);
+  }
+
   pub loaded_may : (objects : Objects) → MayTry b p objects → MayTry b q objects
   loaded_may objects may =
       ⊎_elim
-      (λ (r : IsReady b p). inl (record {
-        inside = (pass, loaded_in r.inside.1);
-        own = ap (λ (s : Stack). s.own) stack ∙ r.own;
-        mark = ap (λ (s : Stack). s.mark) stack ∙ r.mark;
-        top = λ outer top split.
-            let t = r.top outer top (sym (ap (λ (s : Stack). s.sections) stack) ∙ split) in
-            (l.work.pass.locks top.locks.lower ∙ t.0, l.work.pass.locks top.locks.upper ∙ t.1);
-      }))
+      (λ (r : IsReady b p). inl (loaded_ready r))
       (λ (w : IsWaiting b p objects). inr (record {
         inside = (pass, loaded_in w.inside.1);
         owner = w.owner;

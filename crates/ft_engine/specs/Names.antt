@@ -1,14 +1,20 @@
 -- What a call asks of the bank's containers, of the caller's cursors and of its open sections.
-use Rattle.std.specs.Prelude.{◌≡◌, ℕ, ◌<◌, List, length, Option, IfSome, None, is_some, true}
+use Rattle.std.specs.Prelude.{◌≡◌, ℕ, ◌<◌, List, length, Option, Some, None, IfSome, is_some, true}
 use Rattle.ft_model.specs.declared.call.Call.{Call}
 use Rattle.ft_model.specs.declared.call.Call.TheVariants as call
+use Rattle.ft_model.specs.declared.call.DictCall.{DictCall}
+use Rattle.ft_model.specs.declared.call.DictCall.TheVariants as dict
+use Rattle.ft_model.specs.declared.call.SetCall.{SetCall}
+use Rattle.ft_model.specs.declared.call.SetCall.TheVariants as set
 use Rattle.ft_model.specs.declared.cursor.Cursor.{Cursor}
+use Rattle.ft_model.specs.declared.data.Key.{Key}
 use Rattle.ft_model.specs.declared.script.Kind.{Kind}
 use Rattle.ft_model.specs.declared.script.Kind.TheVariants as kind
 use Rattle.ft_model.specs.Calls.{cursor_of_dict, cursor_of_list, cursor_of_set, other_dict, other_list, other_set}
 use Rattle.ft_model.specs.Worlds.{cursor_at}
 use Rattle.ft_trace.specs.declared.Shape.{Shape}
 use Rattle.ft_trace.specs.Addresses.{containers_in}
+use Rattle.ft_bank.specs.Keys.{IsKeyIn}
 use Rattle.ft_bank.specs.Sections.{Stack}
 use Rattle.ft_engine.specs.Callers.{IsOfKindIn}
 
@@ -20,11 +26,55 @@ AreOfKindIn k kind o other = IsOfKindIn k kind o × IfSome other (λ p. IsOfKind
 abbrev pub HasRoomFor : List (Option Cursor) → Option ℕ → Type 0
 HasRoomFor hands cursor = IfSome cursor (λ number. number < length hands)
 
--- the containers and cursors that a call names are there (profile)
+-- the key that a call on a dict names, if it names one (Python manual, Mapping Types)
+abbrev pub key_of_dict : DictCall → Option Key
+key_of_dict (dict.Get key) = Some key
+key_of_dict (dict.GetOr key default) = Some key
+key_of_dict (dict.Set key value) = Some key
+key_of_dict (dict.Del key) = Some key
+key_of_dict (dict.Pop key) = Some key
+key_of_dict (dict.PopOr key default) = Some key
+key_of_dict dict.PopItem = None
+key_of_dict (dict.SetDefault key default) = Some key
+key_of_dict (dict.Has key) = Some key
+key_of_dict dict.Len = None
+key_of_dict dict.Items = None
+key_of_dict (dict.Update other) = None
+key_of_dict dict.Clear = None
+key_of_dict (dict.CopyTo other) = None
+key_of_dict (dict.Eq other) = None
+key_of_dict (dict.Iter cursor) = None
+
+-- the element that a call on a set names, if it names one (Python manual, Set Types)
+abbrev pub key_of_set : SetCall → Option Key
+key_of_set (set.Add key) = Some key
+key_of_set (set.Discard key) = Some key
+key_of_set (set.Remove key) = Some key
+key_of_set set.Pop = None
+key_of_set (set.Has key) = Some key
+key_of_set set.Len = None
+key_of_set set.Items = None
+key_of_set (set.Eq other) = None
+key_of_set (set.Or other) = None
+key_of_set (set.And other) = None
+key_of_set (set.Sub other) = None
+key_of_set (set.Xor other) = None
+key_of_set (set.Subset other) = None
+key_of_set (set.Disjoint other) = None
+key_of_set set.Clear = None
+key_of_set (set.Iter cursor) = None
+
+-- a key that a call names is an integer, or a string of the bank
+abbrev pub HasKey : Shape → Option Key → Type 0
+HasKey k key = IfSome key (λ named. IsKeyIn k named)
+
+-- the containers, cursors and strings that a call names are there (profile)
 abbrev pub IsCallIn : Shape → List (Option Cursor) → Call → Type 0
-IsCallIn k hands (call.Dict o dc) = AreOfKindIn k kind.Dict o (other_dict dc) × HasRoomFor hands (cursor_of_dict dc)
+IsCallIn k hands (call.Dict o dc) =
+    AreOfKindIn k kind.Dict o (other_dict dc) × HasRoomFor hands (cursor_of_dict dc) × HasKey k (key_of_dict dc)
 IsCallIn k hands (call.List o lc) = AreOfKindIn k kind.List o (other_list lc) × HasRoomFor hands (cursor_of_list lc)
-IsCallIn k hands (call.Set o sc) = AreOfKindIn k kind.Set o (other_set sc) × HasRoomFor hands (cursor_of_set sc)
+IsCallIn k hands (call.Set o sc) =
+    AreOfKindIn k kind.Set o (other_set sc) × HasRoomFor hands (cursor_of_set sc) × HasKey k (key_of_set sc)
 IsCallIn k hands (call.Next number) = (number < length hands) × (is_some (cursor_at hands number) ≡ true)
 IsCallIn k hands (call.Begin first second) =
     (first < containers_in k) × IfSome second (λ other. other < containers_in k)
@@ -41,12 +91,49 @@ FitsSections s (call.Set o sc) = Unit {0}
 FitsSections s (call.Next number) = Unit {0}
 FitsSections s call.Quiesce = Unit {0}
 
--- the calls that an engine makes so far: those of sections, `quiesce`, and those on lists but for `iter`
+-- the calls on dicts and sets that an engine makes so far: all but `update`, `copyto`, `or` and `xor`
+abbrev pub IsBuiltDict : DictCall → Type 0
+IsBuiltDict (dict.Get key) = Unit {0}
+IsBuiltDict (dict.GetOr key default) = Unit {0}
+IsBuiltDict (dict.Set key value) = Unit {0}
+IsBuiltDict (dict.Del key) = Unit {0}
+IsBuiltDict (dict.Pop key) = Unit {0}
+IsBuiltDict (dict.PopOr key default) = Unit {0}
+IsBuiltDict dict.PopItem = Unit {0}
+IsBuiltDict (dict.SetDefault key default) = Unit {0}
+IsBuiltDict (dict.Has key) = Unit {0}
+IsBuiltDict dict.Len = Unit {0}
+IsBuiltDict dict.Items = Unit {0}
+IsBuiltDict (dict.Update other) = ⊥
+IsBuiltDict dict.Clear = Unit {0}
+IsBuiltDict (dict.CopyTo other) = ⊥
+IsBuiltDict (dict.Eq other) = Unit {0}
+IsBuiltDict (dict.Iter cursor) = Unit {0}
+
+abbrev pub IsBuiltSet : SetCall → Type 0
+IsBuiltSet (set.Add key) = Unit {0}
+IsBuiltSet (set.Discard key) = Unit {0}
+IsBuiltSet (set.Remove key) = Unit {0}
+IsBuiltSet set.Pop = Unit {0}
+IsBuiltSet (set.Has key) = Unit {0}
+IsBuiltSet set.Len = Unit {0}
+IsBuiltSet set.Items = Unit {0}
+IsBuiltSet (set.Eq other) = Unit {0}
+IsBuiltSet (set.Or other) = ⊥
+IsBuiltSet (set.And other) = Unit {0}
+IsBuiltSet (set.Sub other) = Unit {0}
+IsBuiltSet (set.Xor other) = ⊥
+IsBuiltSet (set.Subset other) = Unit {0}
+IsBuiltSet (set.Disjoint other) = Unit {0}
+IsBuiltSet set.Clear = Unit {0}
+IsBuiltSet (set.Iter cursor) = Unit {0}
+
+-- the calls that an engine makes so far: all on lists, of cursors and of sections, `quiesce`, and those on dicts and sets
 abbrev pub IsBuilt : Call → Type 0
-IsBuilt (call.Dict o dc) = ⊥
-IsBuilt (call.List o lc) = cursor_of_list lc ≡ None
-IsBuilt (call.Set o sc) = ⊥
-IsBuilt (call.Next number) = ⊥
+IsBuilt (call.Dict o dc) = IsBuiltDict dc
+IsBuilt (call.List o lc) = Unit {0}
+IsBuilt (call.Set o sc) = IsBuiltSet sc
+IsBuilt (call.Next number) = Unit {0}
 IsBuilt (call.Begin first second) = Unit {0}
 IsBuilt call.End = Unit {0}
 IsBuilt call.Quiesce = Unit {0}

@@ -53,9 +53,9 @@ impl Engine {
         }
     }
 
-    /// One try of a call: the call first, a look before its locks where it may be made without them, where it has no answer yet, and then the locks of the innermost section
-    /// again. After `Done` the caller has the locks of its innermost section, and no others but those that its
-    /// open sections took.
+    /// One try of a call. Where it has no answer yet, it is looked first if it may be made without locks, and else
+    /// made under its locks. Then the locks of the innermost section are taken again. After `Done` the caller has
+    /// the locks of its innermost section, and no others but those that its open sections took.
     ///
     /// # Errors
     ///

@@ -47,7 +47,7 @@ impl Engine {
             AreOfScript script (shape_of (bank_of self)) (map (λ list. list.items) lists.items) →
             AreAllMade script (map (λ list. list.items) lists.items) → IsLegalFor script made.0.items) }
     {
-        let Engine { bank } = self;
+        let Engine { bank, .. } = self;
         let Caller {
             pass,
             cursors: _,

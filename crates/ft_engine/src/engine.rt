@@ -1,23 +1,28 @@
 //! The engine: a bank, and the callers that are made with it.
-ghost use Rattle.std.specs.Prelude.{◌≡◌, ◌∷◌, [], length, IfOk, OnOk, replicate, ℕ, None};
-ghost use Rattle.ft_model.specs.declared.cursor.Cursor.{Cursor};
-ghost use Rattle.ft_bank.specs.Openings.{IsOpening, AreOpening};
+ghost use Rattle.std.specs.Prelude.{◌≡◌, length};
 ghost use Rattle.ft_bank.specs.Passes.{shape_of};
-ghost use Rattle.ft_bank.specs.Shapes.{plan, IsShape};
-ghost use Rattle.ft_engine.specs.Callers.{bank_of, IsFresh, AreFresh};
 
 use crate::caller::{Caller, Flight};
 use ft_bank::{Bank, MakeFault, Pass, Shape};
-use ft_model::Cursor;
+use ft_model::{Cursor, Kind};
 use std::alloc::{AllocError, Global};
 
 /// A bank on which callers make their calls.
 #[derive(Drop)]
 pub struct Engine {
     pub(crate) bank: Bank,
+    pub(crate) kinds: Vec<Kind>,
+    pub(crate) texts: u64,
+    ghost kinds_are: { (shape_of bank).kinds ≡ kinds.items },
+    ghost texts_are: { length (shape_of bank).texts ≡ texts },
 }
 
 impl Engine {
+    ghost use Rattle.std.specs.Prelude.{◌∷◌, [], IfOk, OnOk, replicate, ℕ, None};
+    ghost use Rattle.ft_bank.specs.Openings.{AreOpening, IsOpening};
+    ghost use Rattle.ft_bank.specs.Shapes.{IsShape, plan};
+    ghost use Rattle.ft_engine.specs.Callers.{AreFresh, IsFresh, bank_of};
+
     /// A bank of this shape, and a caller for each of its passes, in the order of their numbers, with room for
     /// that many cursors. Each may make as many calls as the shape says. Caller 0 can take in the others.
     pub fn new(
@@ -31,8 +36,10 @@ impl Engine {
         ensures callers { IfOk result (λ made. AreFresh made.0 cursors 0 made.1.items) }
     {
         let calls = shape.calls;
+        let kinds = shape.kinds.clone()?;
+        let texts = shape.texts.len() as u64;
         let (bank, passes) = Bank::new(alloc, shape)?;
-        let engine = Engine { bank };
+        let engine = Engine { bank, kinds, texts };
         let callers = engine.callers(alloc, passes, calls, cursors)?;
         Ok((engine, callers))
     }

@@ -10,10 +10,15 @@ mod answering;
 mod attempts;
 mod caller;
 mod closing;
+mod cursor_call;
+mod dict_call;
 mod engine;
+mod giving_up;
 mod list_call;
 mod meetings;
+mod naming;
 mod section_call;
+mod set_call;
 mod settling;
 mod visits;
 

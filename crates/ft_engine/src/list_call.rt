@@ -1,10 +1,10 @@
 //! Tries of calls on lists: a look without the lock, where the call may be made so, and then the call under its
 //! locks.
-ghost use Rattle.std.specs.Prelude.{◌≡◌, ◌<◌, List, Option, None, length};
+ghost use Rattle.std.specs.Prelude.{◌≡◌, ◌<◌, List, Option, None, length, IfNone, true};
 ghost use Rattle.ft_model.specs.declared.call.Call.TheVariants as calls;
 ghost use Rattle.ft_model.specs.declared.cursor.Cursor.{Cursor};
 ghost use Rattle.ft_model.specs.declared.script.Kind.TheVariants as kind;
-ghost use Rattle.ft_model.specs.Calls.{cursor_of_list, other_list};
+ghost use Rattle.ft_model.specs.Calls.{cursor_of_list, is_locked_list, other_list};
 ghost use Rattle.ft_trace.specs.Acts.{announces};
 ghost use Rattle.ft_bank.specs.Passes.{shape_of, view, IsPassOf};
 ghost use Rattle.ft_bank.specs.Sections.{stack_of};
@@ -39,6 +39,7 @@ pub(crate) fn look_list(
     ensures pass { IsPassOf bank.now pass.new }
     ensures sections { stack_of pass.new ≡ stack_of pass.old }
     ensures looked { Looked (calls.List l call.now) pass.old pass.new result }
+    ensures made { IfNone result (is_locked_list call.now ≡ true) }
 {
     match *call {
         ListCall::Get { index } => Some(look_get(bank, pass, l, index)),
@@ -46,7 +47,19 @@ pub(crate) fn look_list(
         ListCall::Len => Some(look_len(bank, pass, l)),
         ListCall::Items => Some(look_items(bank, pass, alloc, l)),
         ListCall::Eq { other } => Some(look_eq(bank, pass, l, other)),
-        _ => None,
+        ListCall::Append { .. }
+        | ListCall::Insert { .. }
+        | ListCall::Set { .. }
+        | ListCall::Del { .. }
+        | ListCall::Pop { .. }
+        | ListCall::Remove { .. }
+        | ListCall::Index { .. }
+        | ListCall::Count { .. }
+        | ListCall::Reverse
+        | ListCall::Extend { .. }
+        | ListCall::Slice { .. }
+        | ListCall::Clear
+        | ListCall::Iter { .. } => None,
     }
 }
 

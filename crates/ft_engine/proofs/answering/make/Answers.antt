@@ -1,11 +1,10 @@
-use Rattle.std.proofs.Common.{◌≡◌, refl, sym, subst}
+use Rattle.std.proofs.Common.{◌≡◌, ◌∙◌, ap, refl, sym, subst}
 use Rattle.ft_model.specs.declared.call.Call.{Call}
 use Rattle.ft_model.specs.declared.call.Call.TheVariants as call
-use Rattle.std.specs.Prelude.{None}
-use Rattle.ft_model.specs.Calls.{cursor_of_list}
 use Rattle.ft_bank.specs.Passes.{shape_of}
-use Rattle.ft_engine.specs.Answering.{IsTryOf}
-use Rattle.ft_engine.specs.Names.{IsBuilt}
+use Rattle.ft_engine.specs.Answering.{IsTryOf, MayMake}
+use Rattle.ft_engine.specs.Flights.{objects_of}
+use Rattle.ft_engine.specs.Names.{IsCallIn}
 use Rattle.ft_engine.proofs.Callers.{hands_stay, leaves_same}
 use Rattle.ft_engine.proofs.answering.make.Goals as goal
 
@@ -33,18 +32,6 @@ pub returns-in-Quiesce-clause-hands : goal.returns-in-Quiesce-clause-hands
 returns-in-Quiesce-clause-hands c =
     hands_stay (shape_of c.args.bank.now) c.args.bank.now c.args.cursors.now.items call.Quiesce c.args.pass.now c.quiesce.new.pass c.quiesce.result refl (c.quiesce.ensures c.args.cursors.now.items) c.requires.hands
 
-pub returns-in-List-clause-tried : goal.returns-in-List-clause-tried
-returns-in-List-clause-tried c =
-    subst (λ (x : Call). IsTryOf c.args.bank.now c.args.cursors.now.items x c.args.pass.now c.call_list.new.pass c.call_list.result) (sym c.in-List.is) (c.call_list.ensures c.args.cursors.now.items)
-
-pub returns-in-List-clause-hands : goal.returns-in-List-clause-hands
-returns-in-List-clause-hands c =
-    let none : cursor_of_list c.in-List.call ≡ None = subst IsBuilt c.in-List.is c.requires.may.built in
-    hands_stay (shape_of c.args.bank.now) c.args.bank.now c.args.cursors.now.items (call.List c.in-List.container c.in-List.call) c.args.pass.now c.call_list.new.pass c.call_list.result none (c.call_list.ensures c.args.cursors.now.items) c.requires.hands
-
-pub returns-in-List-clause-stays : goal.returns-in-List-clause-stays
-returns-in-List-clause-stays c = leaves_same c.call_list.result c.args.cursors.now.items
-
 pub returns-in-Begin-clause-stays : goal.returns-in-Begin-clause-stays
 returns-in-Begin-clause-stays c = leaves_same c.begin.result c.args.cursors.now.items
 
@@ -53,3 +40,37 @@ returns-in-End-clause-stays c = leaves_same c.end.result c.args.cursors.now.item
 
 pub returns-in-Quiesce-clause-stays : goal.returns-in-Quiesce-clause-stays
 returns-in-Quiesce-clause-stays c = leaves_same c.quiesce.result c.args.cursors.now.items
+
+pub make_dict-requires-clause-may : goal.make_dict-requires-clause-may
+make_dict-requires-clause-may c = subst (MayMake c.args.bank.now c.args.pass.now c.args.cursors.now.items) c.in-Dict.is c.requires.may
+
+pub returns-in-Dict-clause-tried : goal.returns-in-Dict-clause-tried
+returns-in-Dict-clause-tried c =
+    subst (λ (x : Call). IsTryOf c.args.bank.now c.args.cursors.now.items x c.args.pass.now c.make_dict.new.pass c.make_dict.result) (sym c.in-Dict.is) c.make_dict.ensures.tried
+
+pub make_list-requires-clause-may : goal.make_list-requires-clause-may
+make_list-requires-clause-may c = subst (MayMake c.args.bank.now c.args.pass.now c.args.cursors.now.items) c.in-List.is c.requires.may
+
+pub returns-in-List-clause-tried : goal.returns-in-List-clause-tried
+returns-in-List-clause-tried c =
+    subst (λ (x : Call). IsTryOf c.args.bank.now c.args.cursors.now.items x c.args.pass.now c.make_list.new.pass c.make_list.result) (sym c.in-List.is) c.make_list.ensures.tried
+
+pub make_set-requires-clause-may : goal.make_set-requires-clause-may
+make_set-requires-clause-may c = subst (MayMake c.args.bank.now c.args.pass.now c.args.cursors.now.items) c.in-Set.is c.requires.may
+
+pub returns-in-Set-clause-tried : goal.returns-in-Set-clause-tried
+returns-in-Set-clause-tried c =
+    subst (λ (x : Call). IsTryOf c.args.bank.now c.args.cursors.now.items x c.args.pass.now c.make_set.new.pass c.make_set.result) (sym c.in-Set.is) c.make_set.ensures.tried
+
+pub next-requires-clause-may : goal.next-requires-clause-may
+next-requires-clause-may c objects is = c.requires.may.tries objects (ap (objects_of c.args.cursors.now.items) c.in-Next.is ∙ is)
+
+pub next-requires-clause-room : goal.next-requires-clause-room
+next-requires-clause-room c = (subst (IsCallIn (shape_of c.args.bank.now) c.args.cursors.now.items) c.in-Next.is c.requires.may.names).0
+
+pub next-requires-clause-made : goal.next-requires-clause-made
+next-requires-clause-made c = (subst (IsCallIn (shape_of c.args.bank.now) c.args.cursors.now.items) c.in-Next.is c.requires.may.names).1
+
+pub returns-in-Next-clause-tried : goal.returns-in-Next-clause-tried
+returns-in-Next-clause-tried c =
+    subst (λ (x : Call). IsTryOf c.args.bank.now c.args.cursors.now.items x c.args.pass.now c.next.new.pass c.next.result) (sym c.in-Next.is) c.next.ensures.tried

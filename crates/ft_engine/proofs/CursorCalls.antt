@@ -1,0 +1,160 @@
+-- What `iter` and `next` come to, and the cursors that a caller has then.
+use Rattle.std.proofs.Common.{◌≡◌, ◌≢◌, ◌≤◌, ◌<◌, ◌-◌, ℕ, zero, suc, Bool, true, false, List, [], ◌∷◌, length, set, refl, sym, ap, ◌∙◌, subst, arith, inl, inr, ⊎_elim, le_trans}
+use Rattle.std.specs.Prelude.{Option, Some, None, option_map, slice_index_or}
+use Rattle.std.proofs.lemmas.List.{length-set}
+use mathlib.Core.Logic.{dite}
+use native.Mathlib.Decide.{ℕ_discrete}
+use Rattle.ft_model.specs.declared.call.Call.{Call}
+use Rattle.ft_model.specs.declared.call.Call.TheVariants as call
+use Rattle.ft_model.specs.declared.cursor.Cursor.{Cursor}
+use Rattle.ft_model.specs.declared.reply.Reply.{Reply}
+use Rattle.ft_model.specs.declared.script.Kind.{Kind}
+use Rattle.ft_model.specs.declared.script.Kind.TheVariants as kind
+use Rattle.ft_model.specs.Calls.{moved_cursor}
+use Rattle.ft_model.specs.Worlds.{container_of, cursor_at, cursor_kind}
+use Rattle.ft_trace.specs.declared.Act.TheVariants.{AnswerCursor}
+use Rattle.ft_trace.specs.declared.Entry.{Entry}
+use Rattle.ft_trace.specs.declared.Shape.{Shape}
+use Rattle.ft_trace.specs.declared.View.{View}
+use Rattle.ft_trace.specs.Acts.{announces, seen_writes}
+use Rattle.ft_trace.specs.Hands.{cursor_in}
+use Rattle.ft_trace.proofs.Seeing.{seen_up}
+use Rattle.ft_bank.specs.declared.bank.Bank.{Bank}
+use Rattle.ft_bank.specs.declared.pass.Pass.{Pass}
+use Rattle.ft_bank.specs.Answered.{AnsweredCursor}
+use Rattle.ft_bank.specs.Passes.{view}
+use Rattle.ft_section.specs.declared.answers.Objects.{Objects}
+use Rattle.ft_section.specs.declared.answers.Objects.TheVariants.{One}
+use Rattle.ft_section.specs.declared.answers.Stamp.{Stamp}
+use Rattle.ft_section.specs.declared.answers.Step.{Step}
+use Rattle.ft_section.specs.declared.answers.Step.TheVariants as step
+use Rattle.ft_section.specs.Locking.{OnlyLocked}
+use Rattle.ft_section.specs.Trying.{SectionsAfter}
+use Rattle.ft_iter.specs.Cursors.{IsMoveOf, IsOver, KeepsOthers, MovedUnderLock, iter_call}
+use Rattle.ft_engine.specs.Answering.{AddsEntry, AreHandsOf, IsTryOf, LeavesHands}
+use Rattle.ft_engine.specs.Callers.{AreOver, IsOfKindIn}
+use Rattle.ft_engine.specs.Flights.{objects_of}
+use Rattle.ft_engine.specs.Keeping.{made_entry}
+use Rattle.ft_engine.proofs.Looking.{IsPlain, tried_of}
+use Rattle.ft_engine.proofs.Outcomes.{Outcome}
+use Rattle.ft_engine.proofs.SectionCalls.{only_nothing}
+
+-- ---- the entry
+
+moved_adds : (called : Call) (said : Reply) (stamp : Stamp) (number : ℕ) (left : Cursor) (v w : View) → stamp.wrote ≡ false → 0 < v.left → moved_cursor called ≡ Some number → KeepsOthers number v w → MovedUnderLock called said stamp.number number left v w → AddsEntry called said stamp v w
+moved_adds called said stamp number left v w is some moves others m =
+    let before = only_nothing v m.before m.took in
+    let after = only_nothing m.after w m.gone in
+    let x = m.answered in
+    let u = x.before in
+    let l = x.loaded.work in
+    let act = AnswerCursor called said stamp.number number (cursor_in number m.before.log) left in
+    record {
+      pass = record {
+        number = after.pass.number ∙ (ap (λ (z : View). z.number) x.answered ∙ (l.pass.number ∙ before.pass.number));
+        next = after.pass.next ∙ (ap (λ (z : View). z.next) x.answered ∙ (l.pass.next ∙ before.pass.next));
+        parts = after.pass.parts ∙ (ap (λ (z : View). z.parts) x.answered ∙ (l.pass.parts ∙ before.pass.parts));
+        shape = after.pass.shape ∙ (ap (λ (z : View). z.shape) x.answered ∙ (l.pass.shape ∙ before.pass.shape));
+        lists = after.pass.lists ∙ (ap (λ (z : View). z.lists) x.answered ∙ (l.pass.lists ∙ before.pass.lists));
+        online = λ on. after.pass.online (subst (λ (n : ℕ). 0 < n) (sym (ap (λ (z : View). announces z.log) x.answered ∙ l.pass.announced)) (before.pass.online on));
+        seen = le_trans before.pass.seen (le_trans (subst (λ (z : View). seen_writes m.before ≤ seen_writes z) (sym x.answered) (le_trans l.pass.seen (seen_up act u))) after.pass.seen);
+      };
+      entries = after.entries ∙ (ap (λ (z : View). z.entries) x.answered ∙ (ap (λ (b : Bool). record { call = called; reply = said; stamp = stamp.number; wrote = b } ∷ u.entries) (sym is) ∙ ap (λ (es : List Entry). made_entry called said stamp ∷ es) (l.entries ∙ before.entries)));
+      left =
+          let a : m.after.left ≡ u.left - 1 = ap (λ (z : View). z.left) x.answered in
+          let b = l.left in
+          let c = before.left in
+          let d = after.left in
+          let e : v.left ≡ suc w.left = omega (arith, a, b, c, d, some) in e;
+      seen = le_trans before.pass.seen x.seen;
+      cursors = λ other apart. others other (λ e. apart (moves ∙ ap (λ (n : ℕ). Some n) (sym e)));
+    }
+
+move_outcome : (kind : Kind) (o : ℕ) (called : Call) (number : ℕ) (had left : Option Cursor) (v w : View) (result : Step) → 0 < v.left → moved_cursor called ≡ Some number → KeepsOthers number v w → IsMoveOf kind o called number had v w result left → Outcome called (One o) v w result
+move_outcome kind o called number had left v w (step.Done said stamp) some moves others x = moved_adds called said stamp number x.0 v w x.4 some moves others x.3
+move_outcome kind o called number had left v w (step.NotYet p owner) some moves others x = (x.1, x.2, x.3)
+move_outcome kind o called number had left v w (step.Moved a b) some moves others x = absurd x
+move_outcome kind o called number had left v w step.NoMemory some moves others x = absurd x
+
+-- ---- the cursors
+
+at_set : (hands : List (Option Cursor)) (number : ℕ) (left : Option Cursor) → number < length hands → cursor_at (set hands number left) number ≡ left
+at_set [] number left low = absurd (omega (arith, low))
+at_set (h ∷ hands) zero left low = refl
+at_set (h ∷ hands) (suc n) left low = at_set hands n left (omega (arith, low))
+
+at_other : (hands : List (Option Cursor)) (number n : ℕ) (left : Option Cursor) → n ≢ number → cursor_at (set hands number left) n ≡ cursor_at hands n
+at_other [] number n left apart = refl
+at_other (h ∷ hands) zero zero left apart = absurd (apart refl)
+at_other (h ∷ hands) zero (suc n) left apart = refl
+at_other (h ∷ hands) (suc number) zero left apart = refl
+at_other (h ∷ hands) (suc number) (suc n) left apart = at_other hands number n left (λ e. apart (ap suc e))
+
+-- what is read at a place
+pub at_read : (hands : List (Option Cursor)) (number : ℕ) (slot : Option Cursor) → number < length hands → slot ≡ slice_index_or hands number slot → slot ≡ cursor_at hands number
+at_read [] number slot low is = absurd (omega (arith, low))
+at_read (h ∷ hands) zero slot low is = is
+at_read (h ∷ hands) (suc n) slot low is = at_read hands n slot (omega (arith, low)) is
+
+set_same : (hands : List (Option Cursor)) (number : ℕ) → set hands number (cursor_at hands number) ≡ hands
+set_same [] number = refl
+set_same (h ∷ hands) zero = refl
+set_same (h ∷ hands) (suc n) = ap (λ (l : List (Option Cursor)). h ∷ l) (set_same hands n)
+
+moved_hands : (k : Shape) (v w : View) (hands : List (Option Cursor)) (kind : Kind) (o number : ℕ) (walker : Cursor) → AreHandsOf k v hands → number < length hands → KeepsOthers number v w → cursor_in number w.log ≡ Some walker → IsOver kind o walker → IsOfKindIn k kind o → AreHandsOf k w (set hands number (Some walker))
+moved_hands k v w hands kind o number walker are low others mine over of = record {
+  cursors = λ n within.
+      dite (ℕ_discrete n number)
+      (λ (e : n ≡ number). subst (λ (z : ℕ). cursor_at (set hands number (Some walker)) z ≡ cursor_in z w.log) (sym e) (at_set hands number (Some walker) low ∙ sym mine))
+      (λ apart. at_other hands number n (Some walker) apart ∙ (are.cursors n (let l = length-set hands number (Some walker) in omega (arith, l, within)) ∙ sym (others n apart)));
+  over = λ n other at.
+      dite (ℕ_discrete n number)
+      (λ (e : n ≡ number).
+      let same : Some walker ≡ Some other = sym (at_set hands number (Some walker) low) ∙ (ap (cursor_at (set hands number (Some walker))) (sym e) ∙ at) in
+      subst (λ (z : Cursor). IsOfKindIn k (cursor_kind z) (container_of z)) (let s : walker ≡ other = cc in s)
+      (subst (λ (z : Kind × ℕ). IsOfKindIn k z.0 z.1) (λ d. (sym over.1 d, sym over.0 d)) of))
+      (λ apart. are.over n other (sym (at_other hands number n (Some walker) apart) ∙ at));
+}
+
+-- what the caller's cursors become
+pub hands_by : (k : Shape) (v w : View) (hands : List (Option Cursor)) (kind : Kind) (o number : ℕ) (called : Call) (left : Option Cursor) (result : Step) → AreHandsOf k v hands → number < length hands → KeepsOthers number v w → IsOfKindIn k kind o → IsMoveOf kind o called number (cursor_at hands number) v w result left → AreHandsOf k w (set hands number left) × LeavesHands result hands (set hands number left)
+hands_by k v w hands kind o number called left (step.Done said stamp) are low others of x = (
+  subst (λ (z : Option Cursor). AreHandsOf k w (set hands number z)) (sym x.1) (moved_hands k v w hands kind o number x.0 are low others x.3.mine x.2 of),
+  length-set hands number left,
+)
+hands_by k v w hands kind o number called left (step.NotYet p owner) are low others of x =
+    let same : set hands number left ≡ hands = ap (set hands number) x.0 ∙ set_same hands number in
+    (subst (AreHandsOf k w) (sym same) (record { cursors = λ n within. are.cursors n within ∙ sym (x.1.cursors n); over = are.over }), same)
+hands_by k v w hands kind o number called left (step.Moved a b) are low others of x = absurd x
+hands_by k v w hands kind o number called left step.NoMemory are low others of x = absurd x
+
+-- ---- the calls
+
+plain_iter : (kind : Kind) (o number : ℕ) → IsPlain (iter_call kind o number)
+plain_iter kind.Dict o number = record { sections = λ n log sections. refl; begins = refl; marks = λ marks. refl; ends = λ marks said. tt }
+plain_iter kind.List o number = record { sections = λ n log sections. refl; begins = refl; marks = λ marks. refl; ends = λ marks said. tt }
+plain_iter kind.Set o number = record { sections = λ n log sections. refl; begins = refl; marks = λ marks. refl; ends = λ marks said. tt }
+
+iter_names : (hands : List (Option Cursor)) (kind : Kind) (o number : ℕ) → objects_of hands (iter_call kind o number) ≡ Some (One o)
+iter_names hands kind.Dict o number = refl
+iter_names hands kind.List o number = refl
+iter_names hands kind.Set o number = refl
+
+iter_moves : (kind : Kind) (o number : ℕ) → moved_cursor (iter_call kind o number) ≡ Some number
+iter_moves kind.Dict o number = refl
+iter_moves kind.List o number = refl
+iter_moves kind.Set o number = refl
+
+pub iter_tried : (b : Bank) (p q : Pass) (hands : List (Option Cursor)) (kind : Kind) (o number : ℕ) (had left : Option Cursor) (result : Step) → 0 < (view p).left → SectionsAfter b (One o) p q result → KeepsOthers number (view p) (view q) → IsMoveOf kind o (iter_call kind o number) number had (view p) (view q) result left → IsTryOf b hands (iter_call kind o number) p q result
+iter_tried b p q hands kind o number had left result some after others x =
+    tried_of b p q hands (iter_call kind o number) (One o) (plain_iter kind o number) (iter_names hands kind o number) result after (move_outcome kind o (iter_call kind o number) number had left (view p) (view q) result some (iter_moves kind o number) others x)
+
+plain_next : (number : ℕ) → IsPlain (call.Next number)
+plain_next number = record { sections = λ n log sections. refl; begins = refl; marks = λ marks. refl; ends = λ marks said. tt }
+
+pub next_names : (hands : List (Option Cursor)) (number : ℕ) (walker : Cursor) → cursor_at hands number ≡ Some walker → objects_of hands (call.Next number) ≡ Some (One (container_of walker))
+next_names hands number walker at = ap (λ (z : Option Cursor). option_map (λ w. One (container_of w)) z) at
+
+pub next_tried : (b : Bank) (p q : Pass) (hands : List (Option Cursor)) (kind : Kind) (number : ℕ) (walker : Cursor) (had left : Option Cursor) (result : Step) → 0 < (view p).left → cursor_at hands number ≡ Some walker → SectionsAfter b (One (container_of walker)) p q result → KeepsOthers number (view p) (view q) → IsMoveOf kind (container_of walker) (call.Next number) number had (view p) (view q) result left → IsTryOf b hands (call.Next number) p q result
+next_tried b p q hands kind number walker had left result some at after others x =
+    tried_of b p q hands (call.Next number) (One (container_of walker)) (plain_next number) (next_names hands number walker at) result after (move_outcome kind (container_of walker) (call.Next number) number had left (view p) (view q) result some refl others x)

@@ -1,0 +1,108 @@
+-- What calls on dicts and sets come to, and looks at them, in the words that all calls share.
+use Rattle.std.proofs.Common.{◌≡◌, ◌<◌, ℕ, List, refl, sym, ap, subst}
+use Rattle.std.specs.Prelude.{Option, Some}
+use Rattle.ft_model.specs.declared.call.Call.{Call}
+use Rattle.ft_model.specs.declared.call.Call.TheVariants as call
+use Rattle.ft_model.specs.declared.call.DictCall.{DictCall}
+use Rattle.ft_model.specs.declared.call.DictCall.TheVariants as dict
+use Rattle.ft_model.specs.declared.call.SetCall.{SetCall}
+use Rattle.ft_model.specs.declared.cursor.Cursor.{Cursor}
+use Rattle.ft_model.specs.declared.data.Key.{Key}
+use Rattle.ft_model.specs.declared.data.Value.{Value}
+use Rattle.ft_model.specs.declared.reply.Reply.{Reply}
+use Rattle.ft_model.specs.declared.reply.Reply.TheVariants as reply
+use Rattle.ft_model.specs.Calls.{other_dict, other_set}
+use Rattle.ft_trace.specs.declared.Shape.{Shape}
+use Rattle.ft_trace.specs.declared.View.{View}
+use Rattle.ft_trace.specs.Words.{Picture}
+use Rattle.ft_bank.specs.declared.bank.Bank.{Bank}
+use Rattle.ft_bank.specs.declared.pass.Pass.{Pass}
+use Rattle.ft_bank.specs.Passes.{view}
+use Rattle.ft_section.specs.declared.answers.Look.{Look}
+use Rattle.ft_section.specs.declared.answers.Look.TheVariants as look
+use Rattle.ft_section.specs.declared.answers.Objects.{Objects}
+use Rattle.ft_section.specs.declared.answers.Objects.TheVariants.{One}
+use Rattle.ft_section.specs.declared.answers.Step.{Step}
+use Rattle.ft_section.specs.declared.answers.Step.TheVariants as step
+use Rattle.ft_section.specs.Trying.{SectionsAfter}
+use Rattle.ft_growth.specs.Adding.{IsTryOf as IsAddTryOf}
+use Rattle.ft_search.specs.Lengths.{IsGlanceOf}
+use Rattle.ft_search.specs.Looks.{IsLookOf}
+use Rattle.ft_adding.specs.Growing.{PutsKey}
+use Rattle.ft_keyed.specs.Clearing.{IsClearOf}
+use Rattle.ft_keyed.specs.Copies.{IsCopyGlanceOf, IsCopyOf}
+use Rattle.ft_dict.specs.Values.{SetsDefault}
+use Rattle.ft_engine.specs.Answering.{IsLooked, IsTryOf}
+use Rattle.ft_engine.specs.Flights.{objects_by}
+use Rattle.ft_engine.proofs.ListLooks.{glance_looked}
+use Rattle.ft_engine.proofs.Looking.{IsPlain, tried_of}
+use Rattle.ft_engine.proofs.Outcomes.{Outcome, add_outcome, gave_up_adds, loaded_comes, loaded_nothing, locked_entry, under_locks}
+use Rattle.ft_engine.proofs.SectionCalls.{nothing_then, only_nothing}
+
+-- ---- tries
+
+pub plain_dict : (d : ℕ) (dc : DictCall) → IsPlain (call.Dict d dc)
+plain_dict d dc = record { sections = λ n log sections. refl; begins = refl; marks = λ marks. refl; ends = λ marks said. tt }
+
+pub plain_set : (s : ℕ) (sc : SetCall) → IsPlain (call.Set s sc)
+plain_set s sc = record { sections = λ n log sections. refl; begins = refl; marks = λ marks. refl; ends = λ marks said. tt }
+
+pub dict_tried : (b : Bank) (p q : Pass) (hands : List (Option Cursor)) (d : ℕ) (given dc : DictCall) (objects : Objects) (result : Step) → given ≡ dc → objects_by d (other_dict dc) ≡ objects → SectionsAfter b objects p q result → Outcome (call.Dict d dc) objects (view p) (view q) result → IsTryOf b hands (call.Dict d given) p q result
+dict_tried b p q hands d given dc objects result is names after came =
+    subst (λ (z : DictCall). IsTryOf b hands (call.Dict d z) p q result) (sym is)
+    (tried_of b p q hands (call.Dict d dc) objects (plain_dict d dc) (ap (λ (z : Objects). Some z) names) result after came)
+
+pub set_tried : (b : Bank) (p q : Pass) (hands : List (Option Cursor)) (s : ℕ) (given sc : SetCall) (objects : Objects) (result : Step) → given ≡ sc → objects_by s (other_set sc) ≡ objects → SectionsAfter b objects p q result → Outcome (call.Set s sc) objects (view p) (view q) result → IsTryOf b hands (call.Set s given) p q result
+set_tried b p q hands s given sc objects result is names after came =
+    subst (λ (z : SetCall). IsTryOf b hands (call.Set s z) p q result) (sym is)
+    (tried_of b p q hands (call.Set s sc) objects (plain_set s sc) (ap (λ (z : Objects). Some z) names) result after came)
+
+-- ---- new keys
+
+pub puts_outcome : (k : Shape) (o : ℕ) (key : Key) (called : Call) (said : Reply) (v w : View) (result : Step) → 0 < v.left → IsAddTryOf (One o) (PutsKey k o key called said) said v w result → Outcome called (One o) v w result
+puts_outcome k o key called said v w result left x =
+    add_outcome (One o) (PutsKey k o key called said) called said v w result (λ u z what some y. loaded_comes k _ _ called said u y.0 z what some y.1 y.2) left x
+
+pub default_outcome : (k : Shape) (d : ℕ) (key : Key) (default : Value) (said : Reply) (v w : View) (result : Step) → 0 < v.left → IsAddTryOf (One d) (SetsDefault k d key default said) said v w result → Outcome (call.Dict d (dict.SetDefault key default)) (One d) v w result
+default_outcome k d key default said v w result left x =
+    let called = call.Dict d (dict.SetDefault key default) in
+    add_outcome (One d) (SetsDefault k d key default said) called said v w result (λ u z what some y. loaded_comes k _ _ called said u y.1.0 z what some y.1.1 y.1.2) left x
+
+-- ---- clears
+
+pub keyed_clear_outcome : (o : ℕ) (called : Call) (v w : View) (result : Step) → IsClearOf o called v w result → Outcome called (One o) v w result
+keyed_clear_outcome o called v w (step.Done said stamp) x =
+    let u = x.1 in
+    let c = u.did in
+    subst (λ (r : Reply). Outcome called (One o) v w (step.Done r stamp)) (sym x.0)
+    (locked_entry called reply.Done stamp v u.before u.after w u.took (gave_up_adds called reply.Done stamp u.before c.1.0 u.after c.0 c.1.1 c.1.2) u.gone)
+keyed_clear_outcome o called v w (step.NotYet p owner) x = x
+keyed_clear_outcome o called v w (step.Moved a b) x = absurd x
+keyed_clear_outcome o called v w step.NoMemory x = absurd x
+
+-- ---- copies
+
+pub keyed_copy_outcome : (objects : Objects) (called : Call) (v w : View) (result : Step) → 0 < v.left → IsCopyOf objects called v w result → Outcome called objects v w result
+keyed_copy_outcome objects called v w (step.Done said stamp) left x = under_locks called said stamp v w left x
+keyed_copy_outcome objects called v w (step.NotYet o owner) left x = x
+keyed_copy_outcome objects called v w (step.Moved a b) left x = absurd x
+keyed_copy_outcome objects called v w step.NoMemory left x = nothing_then v x.before w (only_nothing v x.before x.took) (nothing_then x.before x.after w (loaded_nothing x.before x.after x.did.0) (only_nothing x.after w x.gone))
+
+-- ---- looks
+
+pub keyed_copy_looked : (k : Shape) (o : ℕ) (some : Picture → Type 0) (called : Call) (v w : View) (answer : Look) → IsCopyGlanceOf k o some called v w answer → IsLooked called v w answer
+keyed_copy_looked k o some called v w (look.Done said stamp) x = x
+keyed_copy_looked k o some called v w (look.Contended a b) x = (x.part, x.own, x.loaded)
+keyed_copy_looked k o some called v w look.NoMemory x = x.0
+
+pub key_looked : (o : ℕ) (key : Key) (called : Call) (v w : View) (answer : Look) → IsLookOf o key called v w answer → IsLooked called v w answer
+key_looked o key called v w (look.Done said stamp) x = x
+key_looked o key called v w (look.Contended a b) x = (x.part, x.own, x.loaded)
+key_looked o key called v w look.NoMemory x = absurd x
+
+-- by the call that was given
+pub dict_looked : (d : ℕ) (given dc : DictCall) (v w : View) (answer : Look) → given ≡ dc → IsLooked (call.Dict d dc) v w answer → IsLooked (call.Dict d given) v w answer
+dict_looked d given dc v w answer is x = subst (λ (z : DictCall). IsLooked (call.Dict d z) v w answer) (sym is) x
+
+pub set_looked : (s : ℕ) (given sc : SetCall) (v w : View) (answer : Look) → given ≡ sc → IsLooked (call.Set s sc) v w answer → IsLooked (call.Set s given) v w answer
+set_looked s given sc v w answer is x = subst (λ (z : SetCall). IsLooked (call.Set s z) v w answer) (sym is) x

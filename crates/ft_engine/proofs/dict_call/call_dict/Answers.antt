@@ -1,0 +1,35 @@
+use Rattle.std.proofs.Common.{◌∙◌, sym}
+use Rattle.ft_model.specs.declared.call.Call.TheVariants as call
+use Rattle.ft_model.specs.Calls.{other_dict}
+use Rattle.ft_engine.specs.Flights.{objects_by}
+use Rattle.ft_engine.proofs.KeyedCalls.{plain_dict}
+use Rattle.ft_engine.proofs.Looking.{looked_left, looked_making, looked_may, looked_then, looked_tried}
+use Rattle.ft_engine.proofs.dict_call.call_dict.Goals as goal
+
+pub settle-requires : goal.settle-requires
+settle-requires c =
+    let e = c.look_dict-look.ensures in
+    let lc = c.args.call.now in
+    looked_making c.args.bank.now c.args.pass.now c.look_dict-look.new.pass (call.Dict c.args.d lc) (objects_by c.args.d (other_dict lc)) c.look_dict-look.result (plain_dict c.args.d lc) c.requires.may e.pass e.sections e.looked
+
+pub try_dict-requires-clause-may : goal.try_dict-requires-clause-may
+try_dict-requires-clause-may c =
+    let e = c.look_dict-look.ensures in
+    let lc = c.args.call.now in
+    looked_may c.args.bank.now c.args.pass.now c.look_dict-look.new.pass c.settle.new.pass (call.Dict c.args.d lc) (objects_by c.args.d (other_dict lc)) c.look_dict-look.result (sym c.in-None.ensures.answer) e.looked e.pass e.sections c.in-None.ensures.none c.requires.may
+
+pub try_dict-requires-clause-left : goal.try_dict-requires-clause-left
+try_dict-requires-clause-left c =
+    let e = c.look_dict-look.ensures in
+    looked_left c.args.pass.now c.look_dict-look.new.pass c.settle.new.pass (call.Dict c.args.d c.args.call.now) c.look_dict-look.result (sym c.in-None.ensures.answer) e.looked c.in-None.ensures.none c.requires.left
+
+pub returns-in-Some : goal.returns-in-Some
+returns-in-Some c hands =
+    let e = c.look_dict-look.ensures in
+    let lc = c.args.call.now in
+    looked_tried c.args.bank.now c.args.pass.now c.look_dict-look.new.pass c.settle.new.pass hands (call.Dict c.args.d lc) c.look_dict-look.result c.in-Some.step (plain_dict c.args.d lc) c.requires.left (sym c.in-Some.ensures.answer) e.looked e.sections c.in-Some.ensures.locked c.in-Some.ensures.gone
+
+pub returns-in-None : goal.returns-in-None
+returns-in-None c hands =
+    let e = c.look_dict-look.ensures in
+    looked_then c.args.bank.now hands (call.Dict c.args.d c.args.call.now) c.args.pass.now c.look_dict-look.new.pass c.settle.new.pass c.try_dict.new.pass c.look_dict-look.result c.try_dict.result (sym c.in-None.ensures.answer) e.looked e.sections c.in-None.ensures.none (c.try_dict.ensures hands)

@@ -1,0 +1,35 @@
+use Rattle.std.proofs.Common.{◌∙◌, sym}
+use Rattle.ft_model.specs.declared.call.Call.TheVariants as call
+use Rattle.ft_model.specs.Calls.{other_set}
+use Rattle.ft_engine.specs.Flights.{objects_by}
+use Rattle.ft_engine.proofs.KeyedCalls.{plain_set}
+use Rattle.ft_engine.proofs.Looking.{looked_left, looked_making, looked_may, looked_then, looked_tried}
+use Rattle.ft_engine.proofs.set_call.call_set.Goals as goal
+
+pub settle-requires : goal.settle-requires
+settle-requires c =
+    let e = c.look_set-look.ensures in
+    let lc = c.args.call.now in
+    looked_making c.args.bank.now c.args.pass.now c.look_set-look.new.pass (call.Set c.args.s lc) (objects_by c.args.s (other_set lc)) c.look_set-look.result (plain_set c.args.s lc) c.requires.may e.pass e.sections e.looked
+
+pub try_set_call-requires-clause-may : goal.try_set_call-requires-clause-may
+try_set_call-requires-clause-may c =
+    let e = c.look_set-look.ensures in
+    let lc = c.args.call.now in
+    looked_may c.args.bank.now c.args.pass.now c.look_set-look.new.pass c.settle.new.pass (call.Set c.args.s lc) (objects_by c.args.s (other_set lc)) c.look_set-look.result (sym c.in-None.ensures.answer) e.looked e.pass e.sections c.in-None.ensures.none c.requires.may
+
+pub try_set_call-requires-clause-left : goal.try_set_call-requires-clause-left
+try_set_call-requires-clause-left c =
+    let e = c.look_set-look.ensures in
+    looked_left c.args.pass.now c.look_set-look.new.pass c.settle.new.pass (call.Set c.args.s c.args.call.now) c.look_set-look.result (sym c.in-None.ensures.answer) e.looked c.in-None.ensures.none c.requires.left
+
+pub returns-in-Some : goal.returns-in-Some
+returns-in-Some c hands =
+    let e = c.look_set-look.ensures in
+    let lc = c.args.call.now in
+    looked_tried c.args.bank.now c.args.pass.now c.look_set-look.new.pass c.settle.new.pass hands (call.Set c.args.s lc) c.look_set-look.result c.in-Some.step (plain_set c.args.s lc) c.requires.left (sym c.in-Some.ensures.answer) e.looked e.sections c.in-Some.ensures.locked c.in-Some.ensures.gone
+
+pub returns-in-None : goal.returns-in-None
+returns-in-None c hands =
+    let e = c.look_set-look.ensures in
+    looked_then c.args.bank.now hands (call.Set c.args.s c.args.call.now) c.args.pass.now c.look_set-look.new.pass c.settle.new.pass c.try_set_call.new.pass c.look_set-look.result c.try_set_call.result (sym c.in-None.ensures.answer) e.looked e.sections c.in-None.ensures.none (c.try_set_call.ensures hands)

@@ -1,0 +1,117 @@
+//! Tries of calls on dicts.
+ghost use Rattle.std.specs.Prelude.{◌≡◌, ◌<◌, None, List, Option, IfNone, true};
+ghost use Rattle.ft_model.specs.declared.call.Call.TheVariants as calls;
+ghost use Rattle.ft_model.specs.declared.cursor.Cursor.{Cursor};
+ghost use Rattle.ft_model.specs.declared.script.Kind.TheVariants as kind;
+ghost use Rattle.ft_model.specs.Calls.{cursor_of_dict, is_locked_dict, other_dict};
+ghost use Rattle.ft_trace.specs.Acts.{announces};
+ghost use Rattle.ft_bank.specs.Passes.{shape_of, view, IsPassOf};
+ghost use Rattle.ft_bank.specs.Sections.{stack_of};
+ghost use Rattle.ft_section.specs.Ready.{MayTry};
+ghost use Rattle.ft_engine.specs.Answering.{IsTryOf, Looked};
+ghost use Rattle.ft_engine.specs.Flights.{objects_by};
+ghost use Rattle.ft_engine.specs.Names.{AreOfKindIn, HasKey, IsBuiltDict, key_of_dict};
+
+use crate::settling::settle;
+use ft_bank::{Bank, Pass};
+use ft_dict::{
+    look_eq, look_get, look_getd, look_has, look_items, look_len, try_clear, try_del, try_eq,
+    try_get, try_getd, try_has, try_items, try_len, try_pop, try_popd, try_popitem, try_set,
+    try_setdefault,
+};
+use ft_model::DictCall;
+use ft_section::{Look, Object, Step};
+use std::alloc::Global;
+
+/// A look at a dict without its lock, where the call may be made so (PEP 703, Optimistically avoiding locking).
+pub(crate) fn look_dict(
+    bank: &Bank,
+    pass: &mut Pass,
+    alloc: Global,
+    d: Object,
+    call: &DictCall,
+) -> Option<Look>
+    requires pass { IsPassOf bank.now pass.old }
+    requires names { AreOfKindIn (shape_of bank.now) kind.Dict d (other_dict call.now) }
+    requires key { HasKey (shape_of bank.now) (key_of_dict call.now) }
+    requires built { IsBuiltDict call.now }
+    requires online { 0 < announces (view pass.old).log }
+    requires left { 0 < (view pass.old).left }
+    ensures pass { IsPassOf bank.now pass.new }
+    ensures sections { stack_of pass.new ≡ stack_of pass.old }
+    ensures looked { Looked (calls.Dict d call.now) pass.old pass.new result }
+    ensures made { IfNone result (is_locked_dict call.now ≡ true) }
+{
+    match *call {
+        DictCall::Get { key } => Some(look_get(bank, pass, d, key)),
+        DictCall::GetOr { key, default } => Some(look_getd(bank, pass, d, key, default)),
+        DictCall::Has { key } => Some(look_has(bank, pass, d, key)),
+        DictCall::Len => Some(look_len(bank, pass, d)),
+        DictCall::Items => Some(look_items(bank, pass, alloc, d)),
+        DictCall::Eq { other } => Some(look_eq(bank, pass, d, other)),
+        DictCall::Set { .. }
+        | DictCall::Del { .. }
+        | DictCall::Pop { .. }
+        | DictCall::PopOr { .. }
+        | DictCall::PopItem
+        | DictCall::SetDefault { .. }
+        | DictCall::Update { .. }
+        | DictCall::Clear
+        | DictCall::CopyTo { .. }
+        | DictCall::Iter { .. } => None,
+    }
+}
+
+/// A call on a dict under its lock; none that makes a cursor.
+fn try_dict(bank: &Bank, pass: &mut Pass, alloc: Global, d: Object, call: &DictCall) -> Step
+    requires may { MayTry bank.now pass.old (objects_by d (other_dict call.now)) }
+    requires names { AreOfKindIn (shape_of bank.now) kind.Dict d (other_dict call.now) }
+    requires key { HasKey (shape_of bank.now) (key_of_dict call.now) }
+    requires no_cursor { cursor_of_dict call.now ≡ None }
+    requires built { IsBuiltDict call.now }
+    requires left { 0 < (view pass.old).left }
+    ensures { (hands : List (Option Cursor)) → IsTryOf bank.now hands (calls.Dict d call.now) pass.old pass.new result }
+{
+    match *call {
+        DictCall::Get { key } => try_get(bank, pass, d, key),
+        DictCall::GetOr { key, default } => try_getd(bank, pass, d, key, default),
+        DictCall::Set { key, value } => try_set(bank, pass, d, key, value),
+        DictCall::Del { key } => try_del(bank, pass, d, key),
+        DictCall::Pop { key } => try_pop(bank, pass, d, key),
+        DictCall::PopOr { key, default } => try_popd(bank, pass, d, key, default),
+        DictCall::SetDefault { key, default } => try_setdefault(bank, pass, d, key, default),
+        DictCall::Has { key } => try_has(bank, pass, d, key),
+        DictCall::Len => try_len(bank, pass, d),
+        DictCall::Clear => try_clear(bank, pass, d),
+        DictCall::PopItem => try_popitem(bank, pass, d),
+        DictCall::Items => try_items(bank, pass, alloc, d),
+        DictCall::Eq { other } => try_eq(bank, pass, d, other),
+        DictCall::Update { .. } => unreachable!(),
+        DictCall::CopyTo { .. } => unreachable!(),
+        DictCall::Iter { .. } => unreachable!(),
+    }
+}
+
+/// One try of a call on a dict that makes no cursor.
+pub(crate) fn call_dict(
+    bank: &Bank,
+    pass: &mut Pass,
+    alloc: Global,
+    d: Object,
+    call: &DictCall,
+) -> Step
+    requires may { MayTry bank.now pass.old (objects_by d (other_dict call.now)) }
+    requires names { AreOfKindIn (shape_of bank.now) kind.Dict d (other_dict call.now) }
+    requires key { HasKey (shape_of bank.now) (key_of_dict call.now) }
+    requires no_cursor { cursor_of_dict call.now ≡ None }
+    requires built { IsBuiltDict call.now }
+    requires online { 0 < announces (view pass.old).log }
+    requires left { 0 < (view pass.old).left }
+    ensures { (hands : List (Option Cursor)) → IsTryOf bank.now hands (calls.Dict d call.now) pass.old pass.new result }
+{
+    let look = look_dict(bank, pass, alloc, d, call);
+    match settle(bank, pass, look) {
+        Some(step) => step,
+        None => try_dict(bank, pass, alloc, d, call),
+    }
+}

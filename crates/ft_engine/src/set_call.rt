@@ -1,0 +1,116 @@
+//! Tries of calls on sets.
+ghost use Rattle.std.specs.Prelude.{◌≡◌, ◌<◌, None, List, Option, IfNone, true};
+ghost use Rattle.ft_model.specs.declared.call.Call.TheVariants as calls;
+ghost use Rattle.ft_model.specs.declared.cursor.Cursor.{Cursor};
+ghost use Rattle.ft_model.specs.declared.script.Kind.TheVariants as kind;
+ghost use Rattle.ft_model.specs.Calls.{cursor_of_set, is_locked_set, other_set};
+ghost use Rattle.ft_trace.specs.Acts.{announces};
+ghost use Rattle.ft_bank.specs.Passes.{shape_of, view, IsPassOf};
+ghost use Rattle.ft_bank.specs.Sections.{stack_of};
+ghost use Rattle.ft_section.specs.Ready.{MayTry};
+ghost use Rattle.ft_engine.specs.Answering.{IsTryOf, Looked};
+ghost use Rattle.ft_engine.specs.Flights.{objects_by};
+ghost use Rattle.ft_engine.specs.Names.{AreOfKindIn, HasKey, IsBuiltSet, key_of_set};
+
+use crate::settling::settle;
+use ft_bank::{Bank, Pass};
+use ft_model::SetCall;
+use ft_section::{Look, Object, Step};
+use ft_set::{
+    look_eq, look_has, look_items, look_len, try_add, try_and, try_clear, try_discard,
+    try_disjoint, try_eq, try_has, try_items, try_len, try_pop, try_remove, try_sub, try_subset,
+};
+use std::alloc::Global;
+
+/// A look at a set without its lock, where the call may be made so (PEP 703, Optimistically avoiding locking).
+pub(crate) fn look_set(
+    bank: &Bank,
+    pass: &mut Pass,
+    alloc: Global,
+    s: Object,
+    call: &SetCall,
+) -> Option<Look>
+    requires pass { IsPassOf bank.now pass.old }
+    requires names { AreOfKindIn (shape_of bank.now) kind.Set s (other_set call.now) }
+    requires key { HasKey (shape_of bank.now) (key_of_set call.now) }
+    requires built { IsBuiltSet call.now }
+    requires online { 0 < announces (view pass.old).log }
+    requires left { 0 < (view pass.old).left }
+    ensures pass { IsPassOf bank.now pass.new }
+    ensures sections { stack_of pass.new ≡ stack_of pass.old }
+    ensures looked { Looked (calls.Set s call.now) pass.old pass.new result }
+    ensures made { IfNone result (is_locked_set call.now ≡ true) }
+{
+    match *call {
+        SetCall::Has { key } => Some(look_has(bank, pass, s, key)),
+        SetCall::Len => Some(look_len(bank, pass, s)),
+        SetCall::Items => Some(look_items(bank, pass, alloc, s)),
+        SetCall::Eq { other } => Some(look_eq(bank, pass, s, other)),
+        SetCall::Add { .. }
+        | SetCall::Discard { .. }
+        | SetCall::Remove { .. }
+        | SetCall::Pop
+        | SetCall::Or { .. }
+        | SetCall::And { .. }
+        | SetCall::Sub { .. }
+        | SetCall::Xor { .. }
+        | SetCall::Subset { .. }
+        | SetCall::Disjoint { .. }
+        | SetCall::Clear
+        | SetCall::Iter { .. } => None,
+    }
+}
+
+/// A call on a set under its lock; none that makes a cursor.
+fn try_set_call(bank: &Bank, pass: &mut Pass, alloc: Global, s: Object, call: &SetCall) -> Step
+    requires may { MayTry bank.now pass.old (objects_by s (other_set call.now)) }
+    requires names { AreOfKindIn (shape_of bank.now) kind.Set s (other_set call.now) }
+    requires key { HasKey (shape_of bank.now) (key_of_set call.now) }
+    requires no_cursor { cursor_of_set call.now ≡ None }
+    requires built { IsBuiltSet call.now }
+    requires left { 0 < (view pass.old).left }
+    ensures { (hands : List (Option Cursor)) → IsTryOf bank.now hands (calls.Set s call.now) pass.old pass.new result }
+{
+    match *call {
+        SetCall::Add { key } => try_add(bank, pass, s, key),
+        SetCall::Discard { key } => try_discard(bank, pass, s, key),
+        SetCall::Remove { key } => try_remove(bank, pass, s, key),
+        SetCall::Has { key } => try_has(bank, pass, s, key),
+        SetCall::Len => try_len(bank, pass, s),
+        SetCall::Clear => try_clear(bank, pass, s),
+        SetCall::Pop => try_pop(bank, pass, s),
+        SetCall::Items => try_items(bank, pass, alloc, s),
+        SetCall::Eq { other } => try_eq(bank, pass, s, other),
+        SetCall::Or { .. } => unreachable!(),
+        SetCall::And { other } => try_and(bank, pass, s, other),
+        SetCall::Sub { other } => try_sub(bank, pass, s, other),
+        SetCall::Xor { .. } => unreachable!(),
+        SetCall::Subset { other } => try_subset(bank, pass, s, other),
+        SetCall::Disjoint { other } => try_disjoint(bank, pass, s, other),
+        SetCall::Iter { .. } => unreachable!(),
+    }
+}
+
+/// One try of a call on a set that makes no cursor.
+pub(crate) fn call_set(
+    bank: &Bank,
+    pass: &mut Pass,
+    alloc: Global,
+    s: Object,
+    call: &SetCall,
+) -> Step
+    requires may { MayTry bank.now pass.old (objects_by s (other_set call.now)) }
+    requires names { AreOfKindIn (shape_of bank.now) kind.Set s (other_set call.now) }
+    requires key { HasKey (shape_of bank.now) (key_of_set call.now) }
+    requires no_cursor { cursor_of_set call.now ≡ None }
+    requires built { IsBuiltSet call.now }
+    requires online { 0 < announces (view pass.old).log }
+    requires left { 0 < (view pass.old).left }
+    ensures { (hands : List (Option Cursor)) → IsTryOf bank.now hands (calls.Set s call.now) pass.old pass.new result }
+{
+    let look = look_set(bank, pass, alloc, s, call);
+    match settle(bank, pass, look) {
+        Some(step) => step,
+        None => try_set_call(bank, pass, alloc, s, call),
+    }
+}

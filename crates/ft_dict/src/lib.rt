@@ -1,5 +1,5 @@
-//! Dicts of a bank (Python manual, Mapping Types): calls that look up a key and `len`, without the lock and
-//! with it, and calls under it that put a value at a key or take the key away.
+//! Dicts of a bank (Python manual, Mapping Types): calls that look up a key, `len`, all pairs and `==`, without the
+//! locks and with them, and calls under the lock that put a value at a key, take a pair out or clear the dict.
 //!
 //! Between any two steps of any passes it keeps true, for whoever runs calls, that each call adds one
 //! entry to the pass at most, and that this entry has the reply of the plain dict at its stamp.

@@ -1,4 +1,4 @@
--- What a pass knows in the midst of a write of several entries. Only private functions and proofs cite it: none of it is needed to
--- say what a call does.
+-- What a pass knows in the midst of a write of several entries. Only private functions and proofs cite it: none of it
+-- is needed to say what a call does.
 pub mod Writing
 pub mod Thinning

@@ -87,7 +87,8 @@ pub(crate) fn key_at(
     ensures pass { IsPassOf bank.now pass.new }
     ensures stack { stack_of pass.new ≡ stack_of pass.old }
     ensures only { OnlyLoaded (view pass.old) (view pass.new) }
-    ensures key { (key : Key) → IsKey (entry_of (slots (class_of (name_of table))) (held o (view pass.old)).table place 2)
+    ensures key { (key : Key) →
+        IsKey (entry_of (slots (class_of (name_of table))) (held o (view pass.old)).table place 2)
         (entry_of (slots (class_of (name_of table))) (held o (view pass.old)).table place 3) key ↔ (result ≡ Some key) }
 {
     let kind = word_of(bank, pass, o, table, place, KEY_KIND);

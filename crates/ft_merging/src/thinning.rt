@@ -1,5 +1,5 @@
-//! Elements of a set are taken out that another set has, or that it hasn't: as one whole write. A set that is named twice
-//! is read as it stood before.
+//! Elements of a set are taken out that another set has, or that it hasn't: as one whole write. A set that is named
+//! twice is read as it stood before.
 ghost use Rattle.std.specs.Prelude.{◌≡◌, ◌≢◌, ◌+◌, ◌<◌, ◌≤◌, true, false, Option, Some, None, not};
 ghost use Rattle.ft_layout.specs.Tables.{hash_of};
 ghost use Rattle.ft_layout.specs.Words.{FitsKey};

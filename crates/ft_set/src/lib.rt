@@ -1,5 +1,5 @@
-//! Sets of a bank (Python manual, Set Types): the call that looks up an element and `len`, without the lock and
-//! with it, and calls under it that add an element or take it away.
+//! Sets of a bank (Python manual, Set Types): the call that looks up an element, `len`, all elements and `==`, without
+//! the locks and with them, and calls under them that add elements, take them out, compare two sets or clear one.
 //!
 //! Between any two steps of any passes it keeps true, for whoever runs calls, that each call adds one
 //! entry to the pass at most, and that this entry has the reply of the plain set at its stamp.

@@ -17,9 +17,10 @@ use Rattle.ft_bank.specs.Tables.{name_of}
 use Rattle.ft_merging.specs.Thinning.{stays}
 use Rattle.ft_merging.specs.Internal.Writing.{IsMidway, version_of}
 
--- Of the set, which had this at first, the elements are out that don't stay and whose entries come before this place. (profile)
-pub record IsThinned (k : Shape) (s : ℕ) (table : Table) (kept : Bool) (others first : SetContent) (place : ℕ) (v : View)
-    : Type 0 where
+-- Of the set, which had this at first, the elements are out that don't stay and whose entries come before this place.
+-- (profile)
+pub record IsThinned (k : Shape) (s : ℕ) (table : Table) (kept : Bool) (others first : SetContent) (place : ℕ)
+    (v : View) : Type 0 where
   pub mid : SetContent
   pub midway : IsMidway k s table (record { content = content.Set mid; table = (known s v).table }) v
   pub first_is : (known s v).content ≡ content.Set first

@@ -28,8 +28,8 @@ NoneDead t m x kept =
     (p : ℕ) (key : Key) → p < m → version_of t x p % 2 ≡ 1 → IsDead (slots (class_of t)) x.table p key
     → under kept.content key ≡ []
 
--- Some of the entries are put, and the counter isn't raised yet. The words stand for this; an entry with an even version says
--- what the container had before. (profile)
+-- Some of the entries are put, and the counter isn't raised yet. The words stand for this; an entry with an even
+-- version says what the container had before. (profile)
 pub record IsMidway (k : Shape) (o : ℕ) (table : Table) (mid : Kept) (v : View) : Type 0 where
   pub writes : WritesEntries k o table v
   pub early : has_committed o v.log ≡ false

@@ -3,8 +3,14 @@
 #![tactic(auto)]
 
 #[cfg(test)]
+mod dicts;
+#[cfg(test)]
 mod looks;
 mod opened;
+#[cfg(test)]
+mod rows;
+#[cfg(test)]
+mod sets;
 #[cfg(test)]
 mod takes;
 

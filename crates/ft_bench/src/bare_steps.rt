@@ -1,6 +1,6 @@
 //! The bare steps of `atomic_table` under a rule that says nothing: as many as a round on the bank takes, and of the
-//! same kinds.
-ghost use Rattle.std.specs.Prelude.{◌≡◌, IfOk};
+//! same kinds. Those of a table that is taken and retired are made kind by kind.
+ghost use Rattle.std.specs.Prelude.{◌≡◌, ◌≤◌, ◌<◌, IfOk};
 
 use atomic_table::{Play, Seat, Shared, Table, TableRule};
 use std::alloc::{AllocError, Global};
@@ -86,5 +86,133 @@ pub fn take_all(words: &Seen, seat: &mut Seat<(), ()>, rounds: u32)
         words.fetch_and::<Anything>(seat, 6, 0);
         words.fetch_or::<Anything>(seat, 6, 1);
         words.fetch_add::<Anything>(seat, 5, 1);
+    }
+}
+
+/// A table of 256 zeros, and a seat on it.
+pub fn spread(alloc: Global) -> Result<(Words, Seat<(), ()>), AllocError>
+    ensures seat { IfOk result (λ made. made.1.table_id ≡ made.0.shared.table_id) }
+    ensures words { IfOk result (λ made. made.0.shared.table_id.words ≡ 256) }
+{
+    Table::of_words(alloc, &[0; 256], &())
+}
+
+/// Another seat on it, for another thread.
+pub fn seat_of(words: &Seen) -> Seat<(), ()>
+    requires { words.now.table_id.words ≡ 256 }
+    ensures { result.table_id ≡ words.now.table_id }
+{
+    let (_, seat) = words.load_new_seat::<Anything>(0);
+    seat
+}
+
+/// What the setting of an item takes of a list whose words begin here: seven loads, the lock, the version of the list
+/// raised twice and the counter, which is word 0, once, the version of the item put twice, its payload once, and the
+/// lock put back.
+fn set_once(words: &Seen, seat: &mut Seat<(), ()>, start: usize)
+    requires seat { seat.old.table_id ≡ words.now.table_id }
+    requires words { words.now.table_id.words ≡ 256 }
+    requires start { start < 248 }
+    ensures seat { seat.new.table_id ≡ words.now.table_id }
+{
+    words.load::<Anything>(seat, start);
+    words.compare_exchange::<Anything>(seat, start, 0, 1);
+    words.load::<Anything>(seat, start + 1);
+    words.load::<Anything>(seat, start + 2);
+    words.fetch_add::<Anything>(seat, start + 3, 1);
+    words.load::<Anything>(seat, start + 4);
+    words.load::<Anything>(seat, start + 5);
+    words.load::<Anything>(seat, start + 6);
+    words.store::<Anything>(seat, start + 6, 1);
+    words.store::<Anything>(seat, start + 5, 1);
+    words.fetch_add::<Anything>(seat, 0, 1);
+    words.load::<Anything>(seat, start + 6);
+    words.store::<Anything>(seat, start + 6, 2);
+    words.fetch_add::<Anything>(seat, start + 3, 1);
+    words.store::<Anything>(seat, start, 0);
+}
+
+/// The same, over and over.
+pub fn set_all(words: &Seen, seat: &mut Seat<(), ()>, start: usize, rounds: u32)
+    requires seat { seat.old.table_id ≡ words.now.table_id }
+    requires words { words.now.table_id.words ≡ 256 }
+    requires start { start < 248 }
+    ensures seat { seat.new.table_id ≡ words.now.table_id }
+{
+    for _ in 0..rounds {
+        set_once(words, seat, start);
+    }
+}
+
+/// Loads of that many words.
+fn load_some(words: &Seen, seat: &mut Seat<(), ()>, count: usize)
+    requires seat { seat.old.table_id ≡ words.now.table_id }
+    requires words { words.now.table_id.words ≡ 256 }
+    requires count { count ≤ 256 }
+    ensures seat { seat.new.table_id ≡ words.now.table_id }
+{
+    for word in 0..count {
+        words.load::<Anything>(seat, word);
+    }
+}
+
+/// Exchanges of that many words, each compared with 0.
+fn exchange_some(words: &Seen, seat: &mut Seat<(), ()>, count: usize)
+    requires seat { seat.old.table_id ≡ words.now.table_id }
+    requires words { words.now.table_id.words ≡ 256 }
+    requires count { count ≤ 256 }
+    ensures seat { seat.new.table_id ≡ words.now.table_id }
+{
+    for word in 0..count {
+        words.compare_exchange::<Anything>(seat, word, 0, 0);
+    }
+}
+
+/// Additions to that many words.
+fn add_some(words: &Seen, seat: &mut Seat<(), ()>, count: usize)
+    requires seat { seat.old.table_id ≡ words.now.table_id }
+    requires words { words.now.table_id.words ≡ 256 }
+    requires count { count ≤ 256 }
+    ensures seat { seat.new.table_id ≡ words.now.table_id }
+{
+    for word in 0..count {
+        words.fetch_add::<Anything>(seat, word, 1);
+    }
+}
+
+/// Stores of that many words.
+fn store_some(words: &Seen, seat: &mut Seat<(), ()>, count: usize)
+    requires seat { seat.old.table_id ≡ words.now.table_id }
+    requires words { words.now.table_id.words ≡ 256 }
+    requires count { count ≤ 256 }
+    ensures seat { seat.new.table_id ≡ words.now.table_id }
+{
+    for word in 0..count {
+        words.store::<Anything>(seat, word, 0);
+    }
+}
+
+/// What it takes that a list gets a table of 8 items for its first item and is cleared again, by one of three passes,
+/// which gives back the table that it retired before: 17 loads, 3 exchanges, 10 additions or masks, and 43 stores, 32
+/// of them in the fresh table.
+fn retire_once(words: &Seen, seat: &mut Seat<(), ()>)
+    requires seat { seat.old.table_id ≡ words.now.table_id }
+    requires words { words.now.table_id.words ≡ 256 }
+    ensures seat { seat.new.table_id ≡ words.now.table_id }
+{
+    load_some(words, seat, 17);
+    exchange_some(words, seat, 3);
+    add_some(words, seat, 10);
+    store_some(words, seat, 43);
+}
+
+/// The same, over and over.
+pub fn retire_all(words: &Seen, seat: &mut Seat<(), ()>, rounds: u32)
+    requires seat { seat.old.table_id ≡ words.now.table_id }
+    requires words { words.now.table_id.words ≡ 256 }
+    ensures seat { seat.new.table_id ≡ words.now.table_id }
+{
+    for _ in 0..rounds {
+        retire_once(words, seat);
     }
 }

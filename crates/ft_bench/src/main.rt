@@ -1,11 +1,14 @@
-//! Times steps of a bank, each beside the bare steps of `atomic_table` that it stands on, in one run. The one
-//! argument is a number of rounds; without it the program makes a few rounds and writes no time.
+//! Times steps of a bank and calls on lists, each beside the bare steps of `atomic_table` that it stands on, in one
+//! run. The one argument is a number of rounds; without it the program makes a few rounds and writes no time.
 #![tactic(auto)]
 
 mod bank_steps;
 mod bare_steps;
+mod list_steps;
+mod list_times;
 mod times;
 
+use crate::list_times::measure_lists;
 use crate::times::{Time, measure};
 use std::rt::Env;
 use std::{env, io};
@@ -21,7 +24,13 @@ fn main(rt: HostRuntime) -> io::Result<()> {
     show(&rt, "load", times.loads, rounds)?;
     show(&rt, "lock, load and unlock", times.locks, rounds)?;
     show(&rt, "lock, write and unlock", times.writes, rounds)?;
-    show(&rt, "take and give back", times.takings, rounds)
+    show(&rt, "take and give back", times.takings, rounds)?;
+    let Some(times) = measure_lists(&rt, rt.alloc(), rounds.unwrap_or(QUICK))? else {
+        return println!(rt; "out of memory");
+    };
+    show(&rt, "lock, set an item and unlock", times.sets, rounds)?;
+    show(&rt, "take a table and retire it", times.retirements, rounds)?;
+    show(&rt, "set items in two threads", times.in_two, rounds)
 }
 
 /// The number of rounds that the command line names, if it names one.

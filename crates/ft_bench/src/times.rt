@@ -35,7 +35,7 @@ pub struct Times {
 }
 
 /// The time of one of that many rounds, in hundredths of a nanosecond.
-fn of_one(all: Duration, rounds: u32) -> u64 {
+pub(crate) fn of_one(all: Duration, rounds: u32) -> u64 {
     let nanos = u64::try_from(all.as_nanos()).unwrap_or(u64::MAX);
     nanos.saturating_mul(100) / u64::from(rounds.max(1))
 }

@@ -1,0 +1,158 @@
+-- What a call comes to once it is tried, as the pass has it then.
+use Rattle.std.specs.Prelude.{◌≡◌, ◌≢◌, ℕ, suc, ◌<◌, ◌≤◌, Bool, true, false, not, List, ◌∷◌, ◌++◌, length, Option, Some, None, slice_index_or}
+use Rattle.ft_model.specs.declared.call.Call.{Call}
+use Rattle.ft_model.specs.declared.call.Call.TheVariants as call
+use Rattle.ft_model.specs.declared.cursor.Cursor.{Cursor}
+use Rattle.ft_model.specs.declared.reply.Reply.{Reply}
+use Rattle.ft_model.specs.Calls.{is_locked_dict, is_locked_list, is_locked_set, moved_cursor}
+use Rattle.ft_model.specs.Histories.{IsCountedAs}
+use Rattle.ft_model.specs.Worlds.{cursor_at}
+use Rattle.ft_trace.specs.declared.Shape.{Shape}
+use Rattle.ft_trace.specs.declared.Act.{Act}
+use Rattle.ft_trace.specs.declared.View.{View}
+use Rattle.ft_trace.specs.Acts.{announces, seen_writes}
+use Rattle.ft_trace.specs.Hands.{cursor_in}
+use Rattle.ft_bank.specs.declared.bank.Bank.{Bank}
+use Rattle.ft_bank.specs.declared.pass.Pass.{Pass}
+use Rattle.ft_bank.specs.Answered.{Answered}
+use Rattle.ft_bank.specs.Passes.{shape_of, view, DidNothing}
+use Rattle.ft_bank.specs.Sections.{stack_of}
+use Rattle.ft_bank.specs.Whole.{OnlyLoaded}
+use Rattle.ft_section.specs.declared.answers.Look.{Look}
+use Rattle.ft_section.specs.declared.answers.Look.TheVariants as look
+use Rattle.ft_section.specs.declared.answers.Objects.{Objects}
+use Rattle.ft_section.specs.declared.answers.Stamp.{Stamp}
+use Rattle.ft_section.specs.declared.answers.Step.{Step}
+use Rattle.ft_section.specs.declared.answers.Step.TheVariants as step
+use Rattle.ft_section.specs.Locking.{FoundOwner, with_own, waiting}
+use Rattle.ft_section.specs.Ready.{HasTop, IsReady, IsWaiting, MayTry, MayResume}
+use Rattle.ft_section.specs.Takings.{IsOf}
+use Rattle.ft_section.specs.Trying.{HasLetGo}
+use Rattle.ft_engine.specs.Callers.{AreOver}
+use Rattle.ft_engine.specs.Flights.{is_begin, objects_of}
+use Rattle.ft_engine.specs.Names.{FitsSections, IsBuilt, IsCallIn}
+use Rattle.ft_engine.specs.Keeping.{made_entry, marks_in, marks_after}
+
+-- It is the same pass: it is online where it was, has taken in the same passes, and has seen no fewer writes. (profile)
+pub record StaysPass (v w : View) : Type 0 where
+  pub number : w.number ≡ v.number
+  pub next : w.next ≡ v.next
+  pub parts : w.parts ≡ v.parts
+  pub shape : w.shape ≡ v.shape
+  pub lists : w.lists ≡ v.lists
+  pub online : 0 < announces v.log → 0 < announces w.log
+  pub seen : seen_writes v ≤ seen_writes w
+
+-- The same pass has made no entry, and has the same cursors. (profile)
+pub record AddsNothing (v w : View) : Type 0 where
+  pub pass : StaysPass v w
+  pub entries : w.entries ≡ v.entries
+  pub left : w.left ≡ v.left
+  pub cursors : (number : ℕ) → cursor_in number w.log ≡ cursor_in number v.log
+
+-- The same pass has made the one entry of this answer, at a stamp that is at least all writes that it had seen. Its
+-- cursors stay, but for the one that the call moves. (profile)
+pub record AddsEntry (called : Call) (said : Reply) (stamp : Stamp) (v w : View) : Type 0 where
+  pub pass : StaysPass v w
+  pub entries : w.entries ≡ made_entry called said stamp ∷ v.entries
+  pub left : v.left ≡ suc w.left
+  pub seen : seen_writes v ≤ stamp.number
+  pub cursors : (number : ℕ) → moved_cursor called ≢ Some number
+      → cursor_in number w.log ≡ cursor_in number v.log
+
+-- an `end` says how many calls in the innermost of these sections waited
+abbrev pub IsEndOf : Call → List ℕ → Reply → Type 0
+IsEndOf call.End marks said = IsCountedAs (slice_index_or marks 0 0) said
+IsEndOf (call.Begin first second) marks said = Unit {0}
+IsEndOf (call.Dict o dc) marks said = Unit {0}
+IsEndOf (call.List o lc) marks said = Unit {0}
+IsEndOf (call.Set o sc) marks said = Unit {0}
+IsEndOf (call.Next number) marks said = Unit {0}
+IsEndOf call.Quiesce marks said = Unit {0}
+
+-- The call has its answer: the pass has one entry more, and the innermost section to take up again, of which a `begin`
+-- still has the locks. The sections are those that the call leaves open, with their counts. (C API, critical sections)
+pub record HasAnswer (b : Bank) (called : Call) (said : Reply) (stamp : Stamp) (p q : Pass) : Type 0 where
+  pub entry : AddsEntry called said stamp (view p) (view q)
+  pub resume : MayResume b q
+  pub top : is_begin called ≡ true → HasTop q
+  pub marks : marks_in (stack_of q) ≡ marks_after called (marks_in (stack_of p))
+  pub mark : (stack_of q).mark ≡ (stack_of p).mark
+  pub ends : IsEndOf called (marks_in (stack_of p)) said
+
+-- The call waits: a step of it found another pass with the lock of one of its containers, and all open sections have
+-- let their locks go. (C API, critical sections)
+pub record HasToWait (b : Bank) (objects : Objects) (o owner : ℕ) (p q : Pass) : Type 0 where
+  pub entry : AddsNothing (view p) (view q)
+  pub waits : IsWaiting b q objects
+  pub stack : stack_of q ≡ waiting (with_own (stack_of p) (stack_of q).own) owner
+  pub found : IsOf o objects × FoundOwner o owner (view p) (view q)
+
+-- the call has let go of its own locks, and has no answer
+pub record HasNone (b : Bank) (p q : Pass) : Type 0 where
+  pub entry : AddsNothing (view p) (view q)
+  pub gone : HasLetGo b p q
+
+-- these are the cursors that the pass has by its own entries, and each goes over a container of its kind
+pub record AreHandsOf (k : Shape) (v : View) (hands : List (Option Cursor)) : Type 0 where
+  pub cursors : (number : ℕ) → number < length hands → cursor_at hands number ≡ cursor_in number v.log
+  pub over : AreOver k hands
+
+-- A call may be tried: the pass is ready for it, or has tried it before, and has a call left; what it names is there,
+-- the sections allow it, and the pass is online.
+pub record MayMake (b : Bank) (p : Pass) (hands : List (Option Cursor)) (called : Call) : Type 0 where
+  pub tries : (objects : Objects) → objects_of hands called ≡ Some objects → MayTry b p objects
+  pub ready : objects_of hands called ≡ None → IsReady b p
+  pub names : IsCallIn (shape_of b) hands called
+  pub sections : FitsSections (stack_of p) called
+  pub left : 0 < (view p).left
+  pub online : 0 < announces (view p).log
+  pub built : IsBuilt called
+
+-- only a call that has its answer changes a cursor
+abbrev pub LeavesHands : Step → List (Option Cursor) → List (Option Cursor) → Type 0
+LeavesHands (step.Done said stamp) before after = length after ≡ length before
+LeavesHands (step.NotYet o owner) before after = after ≡ before
+LeavesHands (step.Moved first second) before after = after ≡ before
+LeavesHands step.NoMemory before after = after ≡ before
+
+-- what one try of a call of a thread with these cursors comes to
+abbrev pub IsTryOf : Bank → List (Option Cursor) → Call → Pass → Pass → Step → Type 0
+IsTryOf b hands called p q (step.Done said stamp) = HasAnswer b called said stamp p q
+IsTryOf b hands called p q (step.NotYet o owner) =
+    (objects : Objects) × (objects_of hands called ≡ Some objects) × HasToWait b objects o owner p q
+IsTryOf b hands called p q (step.Moved first second) =
+    (objects : Objects) × (objects_of hands called ≡ Some objects) × HasNone b p q
+IsTryOf b hands called p q step.NoMemory = HasNone b p q
+
+-- ---- looks
+
+-- whether a call may be made by a look, without a lock (PEP 703, Optimistically avoiding locking)
+abbrev pub may_look : Call → Bool
+may_look (call.Dict o dc) = not (is_locked_dict dc)
+may_look (call.List o lc) = not (is_locked_list lc)
+may_look (call.Set o sc) = not (is_locked_set sc)
+may_look (call.Next number) = false
+may_look (call.Begin first second) = false
+may_look call.End = false
+may_look call.Quiesce = false
+
+-- What a look at containers answers, in the words that all looks share. It gave a reply, with a stamp that it loaded;
+-- or it has only loaded words.
+abbrev pub IsLooked : Call → View → View → Look → Type 0
+IsLooked called v w (look.Done said stamp) = Answered called said stamp.number v w × (stamp.wrote ≡ false)
+IsLooked called v w (look.Contended first second) =
+    (part : List Act) × (w.log ≡ part ++ v.log) × OnlyLoaded v w
+IsLooked called v w look.NoMemory = OnlyLoaded v w
+
+-- the same of a call that is looked at, or of one that isn't
+abbrev pub Looked : Call → Pass → Pass → Option Look → Type 0
+Looked called p q (Some answer) = IsLooked called (view p) (view q) answer
+Looked called p q None = DidNothing p q
+
+-- the answer of a try that the look gives, if it gives one
+abbrev pub settled : Option Look → Option Step
+settled (Some (look.Done said stamp)) = Some (step.Done said stamp)
+settled (Some (look.Contended first second)) = None
+settled (Some look.NoMemory) = Some step.NoMemory
+settled None = None

@@ -12,3 +12,4 @@ pub mod Ends
 pub mod Entering
 pub mod Fresh
 pub mod Tries
+pub mod Floors

@@ -4,3 +4,4 @@ pub mod Locking
 pub mod Answers
 pub mod Sectioning
 pub mod Trying
+pub mod Floors

@@ -1,18 +1,20 @@
 //! How many sections a pass has open, and the begin of another one (C API, critical sections).
-ghost use Rattle.std.specs.Prelude.{◌≡◌, ◌≤◌, ◌<◌, ◌++◌, ◌∷◌, [], ℕ, List, length, false};
+ghost use Rattle.std.specs.Prelude.{◌≡◌, ◌≤◌, ◌<◌, ◌++◌, ◌∷◌, [], ℕ, List, length, false, true};
 ghost use Rattle.ft_bank.specs.declared.sections.Taking.{Taking};
 ghost use Rattle.ft_bank.specs.Openings.{IsOpening};
 ghost use Rattle.ft_bank.specs.Passes.{shape_of, view};
 ghost use Rattle.ft_bank.specs.Sections.{stack_of, nothing_taken};
 ghost use Rattle.ft_model.specs.declared.reply.Reply.TheVariants as reply;
 ghost use Rattle.ft_section.specs.Answers.{IfEntered, IfBeginWaits};
+ghost use Rattle.ft_section.specs.Floors.{began_by, first_owned, floor_word};
 ghost use Rattle.ft_section.specs.Locking.{OnlyLocked, KeepsLocks, FoundOwner, with_own, waiting};
 ghost use Rattle.ft_section.specs.Ready.{IsReady, IsMaking, IsWaiting, MayTry, MayResume};
 ghost use Rattle.ft_section.specs.Sectioning.{IsSaid, AreNoted, begin_of, answered_view};
-ghost use Rattle.ft_section.specs.Takings.{IsOf, AreIn, HasLocks};
+ghost use Rattle.ft_section.specs.Takings.{IsOf, AreIn, HasLocks, lower_of, upper_of};
 ghost use Rattle.ft_trace.specs.declared.Act.{Act};
 ghost use Rattle.ft_trace.specs.declared.View.{View};
 ghost use Rattle.ft_trace.specs.Acts.{seen_writes};
+ghost use Rattle.ft_trace.specs.Addresses.{counter};
 
 use crate::answers::{Began, Got, Objects, Stamp};
 use crate::calls::take_for;
@@ -67,6 +69,7 @@ fn enter(bank: &Bank, pass: &mut Pass, objects: Objects) -> Stamp
       sections = (stack_of pass.old).sections ++ record { locks = (stack_of pass.old).own; marks = 0 } ∷ [];
       own = nothing_taken;
     } }
+    ensures known { (view pass.old).has_floor ≡ true → result.number ≡ floor_word counter (view pass.old) }
     ensures resume { MayResume bank.now pass.new }
 {
     let call = begin_call(objects);
@@ -105,6 +108,8 @@ pub fn try_begin(bank: &Bank, pass: &mut Pass, objects: Objects) -> Began
     ensures found { IfBeginWaits result (λ o q. IsOf o objects × FoundOwner o q (view pass.old) (view pass.new)) }
     ensures waiting { IfBeginWaits result (λ o q. IsWaiting bank.now pass.new objects
         × (stack_of pass.new ≡ waiting (with_own (stack_of pass.old) (stack_of pass.new).own) q)) }
+    ensures known { (view pass.old).has_floor ≡ true → result ≡ began_by (floor_word counter (view pass.old))
+        (first_owned (lower_of objects) (upper_of objects) (view pass.old)) }
 {
     match take_for(bank, pass, objects) {
         Got::Have => Began::Entered(enter(bank, pass, objects)),

@@ -1,5 +1,5 @@
 //! The locks of a call on containers: what each of them takes at its beginning and lets go at its end.
-ghost use Rattle.std.specs.Prelude.{◌≡◌, ◌+◌, ℕ, Some, All};
+ghost use Rattle.std.specs.Prelude.{◌≡◌, ◌+◌, ℕ, Some, All, true};
 ghost use Rattle.ft_bank.specs.declared.sections.Taking.{Taking};
 ghost use Rattle.ft_bank.specs.Passes.{shape_of, view};
 ghost use Rattle.ft_bank.specs.Sections.{stack_of, nothing_taken, taken_in};
@@ -7,6 +7,7 @@ ghost use Rattle.ft_section.specs.declared.answers.Objects.{Objects};
 ghost use Rattle.ft_section.specs.Answers.{IfHave, IfNotYet};
 ghost use Rattle.ft_section.specs.Locking.{OnlyLocked, KeepsLocks, FoundOwner, with_own, waiting, first_mark, marks_more};
 ghost use Rattle.ft_section.specs.Ready.{IsInCall, IsMarked, AreSuspended, IsMaking, IsWaiting, MayTry, MayResume, lock_count};
+ghost use Rattle.ft_section.specs.Floors.{FindsSame, first_owned, got_by};
 ghost use Rattle.ft_section.specs.Sectioning.{AreNoted};
 ghost use Rattle.ft_section.specs.Takings.{lower_of, upper_of, IsOf, AreIn, IsOwnFor, HasLocks};
 ghost use Rattle.ft_trace.specs.Addresses.{containers_in};
@@ -70,6 +71,9 @@ pub fn take_for(bank: &Bank, pass: &mut Pass, objects: Objects) -> Got
     ensures found { IfNotYet result (λ o q. IsOf o objects × FoundOwner o q (view pass.old) (view pass.new)) }
     ensures waiting { IfNotYet result (λ o q. IsWaiting bank.now pass.new objects
         × (stack_of pass.new ≡ waiting (with_own (stack_of pass.old) (stack_of pass.new).own) q)) }
+    ensures known { (view pass.old).has_floor ≡ true →
+        result ≡ got_by (first_owned (lower_of objects) (upper_of objects) (view pass.old)) }
+    ensures finds { IfHave result (FindsSame (view pass.old) (view pass.new)) }
 {
     let (lower, upper) = objects.in_order();
     match take_both(bank, pass, lower, upper) {

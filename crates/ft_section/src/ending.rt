@@ -5,11 +5,13 @@ ghost use Rattle.ft_bank.specs.Passes.{view};
 ghost use Rattle.ft_bank.specs.Sections.{stack_of};
 ghost use Rattle.ft_model.specs.declared.call.Call.TheVariants as call;
 ghost use Rattle.ft_section.specs.Answers.{stamp_of, marks_in};
+ghost use Rattle.ft_section.specs.Floors.{floor_word};
 ghost use Rattle.ft_section.specs.Locking.{OnlyLocked};
 ghost use Rattle.ft_section.specs.Ready.{IsReady, MayResume};
 ghost use Rattle.ft_section.specs.Sectioning.{IsSaid, IsUntouched, ended_by, reply_of, answered_view};
 ghost use Rattle.ft_trace.specs.declared.Act.{Act};
 ghost use Rattle.ft_trace.specs.Acts.{seen_writes};
+ghost use Rattle.ft_trace.specs.Addresses.{counter};
 ghost use Rattle.ft_trace.specs.Sections.{Begun, begun, IsInnermostHeld};
 
 use crate::answers::{Ended, Stamp};
@@ -57,6 +59,7 @@ pub fn end(bank: &Bank, pass: &mut Pass) -> Ended
         (result ≡ ended_by top.marks (stamp_of result)) × (stack_of pass.new ≡ record (stack_of pass.old) { sections = outer }) }
     ensures kept { (b : Begun) (bs : List Begun) → begun (view pass.old).log ≡ b ∷ bs → marks_in result ≡ 0 →
         (b.held ≡ true) × IsUntouched b (view pass.old) }
+    ensures known { (view pass.old).has_floor ≡ true → (stamp_of result).number ≡ floor_word counter (view pass.old) }
     ensures resume { MayResume bank.now pass.new }
 {
     let mut sections = pass.sections().copied();

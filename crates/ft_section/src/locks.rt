@@ -1,11 +1,12 @@
 //! The locks that a pass has, and those that the call in flight takes: each is noted once, by the section or the
 //! call that took it, so that whoever took it lets it go.
-ghost use Rattle.std.specs.Prelude.{◌≡◌, ◌≢◌, ◌+◌, ◌<◌, ◌↔◌, ◌⊎◌, ℕ, IsTrue, Bool, true, false, not, if◌then◌else◌, OnOk, OnErr, IfOk, IfErr};
+ghost use Rattle.std.specs.Prelude.{◌≡◌, ◌≢◌, ◌+◌, ◌<◌, ◌↔◌, ◌⊎◌, ℕ, IsTrue, Bool, true, false, not, if◌then◌else◌, None, OnOk, OnErr, IfOk, IfErr};
 ghost use Rattle.ft_bank.specs.declared.sections.Taking.{Taking};
 ghost use Rattle.ft_bank.specs.Passes.{shape_of, view, IsPassOf};
 ghost use Rattle.ft_bank.specs.Sections.{Stack, stack_of, taken_in, noted_in};
 ghost use Rattle.ft_section.specs.Ready.{IsInCall, lock_count};
 ghost use Rattle.ft_section.specs.Locking.{Took, OnlyLocked, KeepsLocks, FoundOwner, KeepsStack, at_one, with_own};
+ghost use Rattle.ft_section.specs.Floors.{FindsSame, first_found, first_owned, owner_found, owner_of, owner_or};
 ghost use Rattle.ft_section.specs.Takings.{IsOwnFor};
 ghost use Rattle.ft_trace.specs.Addresses.{containers_in};
 ghost use Rattle.ft_trace.specs.Acts.{has_lock};
@@ -52,6 +53,8 @@ fn take_one(bank: &Bank, pass: &mut Pass, o: Object) -> Result<bool, Owner>
     ensures none { OnErr result (Took (λ p. 0) (view pass.old) (view pass.new)) }
     ensures found { IfErr result (λ q. FoundOwner o q (view pass.old) (view pass.new)) }
     ensures lacked { OnErr result (has_lock o (view pass.old).log ≡ false) }
+    ensures known { (view pass.old).has_floor ≡ true → owner_found result ≡ owner_of o (view pass.old) }
+    ensures finds { OnOk result (FindsSame (view pass.old) (view pass.new)) }
 {
     if has(pass, o) {
         return Ok(false);
@@ -108,6 +111,9 @@ fn take_lower(bank: &Bank, pass: &mut Pass) -> Result<(), (Object, Owner)>
     ensures none { OnErr result (stack_of pass.new ≡ stack_of pass.old) }
     ensures lacked { OnErr result (has_lock (stack_of pass.old).own.lower (view pass.old).log ≡ false) }
     ensures found { IfErr result (λ e. (e.0 ≡ (stack_of pass.old).own.lower) × FoundOwner e.0 e.1 (view pass.old) (view pass.new)) }
+    ensures known { (view pass.old).has_floor ≡ true → first_found result ≡
+        owner_or (stack_of pass.old).own.lower (owner_of (stack_of pass.old).own.lower (view pass.old)) None }
+    ensures finds { OnOk result (FindsSame (view pass.old) (view pass.new)) }
 {
     let own = pass.own();
     match take_one(bank, pass, own.lower) {
@@ -132,6 +138,9 @@ fn take_upper(bank: &Bank, pass: &mut Pass) -> Result<(), (Object, Owner)>
     ensures none { OnErr result (stack_of pass.new ≡ stack_of pass.old) }
     ensures lacked { OnErr result (has_lock (stack_of pass.old).own.upper (view pass.old).log ≡ false) }
     ensures found { IfErr result (λ e. (e.0 ≡ (stack_of pass.old).own.upper) × FoundOwner e.0 e.1 (view pass.old) (view pass.new)) }
+    ensures known { (view pass.old).has_floor ≡ true → first_found result ≡
+        owner_or (stack_of pass.old).own.upper (owner_of (stack_of pass.old).own.upper (view pass.old)) None }
+    ensures finds { OnOk result (FindsSame (view pass.old) (view pass.new)) }
 {
     let own = pass.own();
     match take_one(bank, pass, own.upper) {
@@ -165,6 +174,8 @@ pub(crate) fn take_both(
     ensures none { OnErr result ((stack_of pass.new).own.took_upper ≡ false) }
     ensures lacked { OnErr result ((has_lock lower (view pass.old).log ≡ false) ⊎ (has_lock upper (view pass.old).log ≡ false)) }
     ensures found { IfErr result (λ e. ((e.0 ≡ lower) ⊎ (e.0 ≡ upper)) × FoundOwner e.0 e.1 (view pass.old) (view pass.new)) }
+    ensures known { (view pass.old).has_floor ≡ true → first_found result ≡ first_owned lower upper (view pass.old) }
+    ensures finds { OnOk result (FindsSame (view pass.old) (view pass.new)) }
 {
     let own = pass.own();
     pass.put_own(Taking {

@@ -3,7 +3,9 @@ ghost use Rattle.std.specs.Prelude.{◌≡◌, ◌≤◌, ◌+◌, ◌++◌, ◌
 ghost use Rattle.ft_bank.specs.declared.sections.OpenSection.{OpenSection};
 ghost use Rattle.ft_bank.specs.Passes.{view};
 ghost use Rattle.ft_bank.specs.Sections.{stack_of, taken_in, nothing_taken};
+ghost use Rattle.ft_section.specs.declared.answers.Resumed.TheVariants as resumed;
 ghost use Rattle.ft_section.specs.Answers.{IfBack, IfStillWaits};
+ghost use Rattle.ft_section.specs.Floors.{first_owned, resumed_by};
 ghost use Rattle.ft_section.specs.Locking.{OnlyLocked, FoundOwner, TakenUp, with_own, waiting};
 ghost use Rattle.ft_section.specs.Ready.{HasTop, IsReady, MayResume};
 
@@ -42,6 +44,10 @@ pub fn resume(bank: &Bank, pass: &mut Pass) -> Resumed
     ensures found { IfStillWaits result (λ o q. FoundOwner o q (view pass.old) (view pass.new)) }
     ensures lacked { IfStillWaits result (λ o q. HasTop pass.old → ⊥) }
     ensures may { IfStillWaits result (λ o q. MayResume bank.now pass.new) }
+    ensures known { (view pass.old).has_floor ≡ true → (outer : List OpenSection) (top : OpenSection) →
+        (stack_of pass.old).sections ≡ outer ++ top ∷ [] →
+        result ≡ resumed_by (stack_of pass.old).mark (first_owned top.locks.lower top.locks.upper (view pass.old)) }
+    ensures none { (stack_of pass.old).sections ≡ [] → result ≡ resumed.Back (stack_of pass.old).mark }
     ensures waiting { IfStillWaits result (λ o q. stack_of pass.new ≡ waiting (with_own (stack_of pass.old) (stack_of pass.new).own) q) }
 {
     let mark = pass.mark();

@@ -2,6 +2,10 @@ use Rattle.std.proofs.Common.{[], refl, sym, subst}
 use Rattle.ft_bank.specs.Passes.{view}
 use Rattle.ft_bank.specs.Reads.{IsShown}
 use Rattle.ft_trace.specs.declared.View.{View}
+use Rattle.ft_trace.specs.declared.Act.TheVariants.{ReadCounter}
+use Rattle.ft_trace.specs.Acts.{noted}
+use Rattle.ft_trace.specs.Traces.{Possible}
+use Rattle.ft_section.proofs.Floors.{counter_known}
 use Rattle.ft_section.proofs.entries.make_entry.Goals as goal
 
 pub answer-requires-clause-shown : goal.answer-requires-clause-shown
@@ -16,3 +20,9 @@ answer-requires-clause-shown c =
       cause = λ es id k. c.requires.said.cause _ n;
       no_cursor = λ es id k. c.requires.said.no_cursor;
     })
+
+pub returns-clause-known : goal.returns-clause-known
+returns-clause-known c has =
+    let v = view c.args.pass.now in
+    let n = c.stamp-number.result in
+    counter_known v n (subst (λ (w : View). ∥ Possible w ∥₁) c.stamp-number.ensures.did.1 c.stamp-number.new.pass.possible) has

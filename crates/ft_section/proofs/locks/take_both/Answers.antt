@@ -1,4 +1,4 @@
-use Rattle.std.proofs.Common.{◌≡◌, true, inr, ap, ◌∙◌, subst, sym}
+use Rattle.std.proofs.Common.{None, ◌≡◌, ◌<◌, ℕ, true, inr, ap, ◌∙◌, subst, sym}
 use Rattle.std.proofs.lemmas.Result.{IfErr-weaker}
 use Rattle.ft_bank.specs.Passes.{view}
 use Rattle.ft_bank.specs.Sections.{Stack, stack_of}
@@ -9,6 +9,11 @@ use Rattle.ft_section.proofs.Gains.{later_found}
 use Rattle.ft_section.proofs.Releases.{only_then}
 use Rattle.ft_trace.specs.declared.View.{View}
 use Rattle.ft_trace.specs.Acts.{has_lock}
+use Rattle.std.specs.Prelude.{Option}
+use Rattle.ft_trace.specs.declared.Shape.{Shape}
+use Rattle.ft_trace.specs.Addresses.{containers_in}
+use Rattle.ft_section.specs.Floors.{owner_of, owner_or, first_found}
+use Rattle.ft_section.proofs.Floors.{owner_none}
 use Rattle.ft_section.proofs.locks.take_both.Goals as goal
 
 pub take_lower-requires-clause-inside : goal.take_lower-requires-clause-inside
@@ -32,3 +37,25 @@ returns-clause-found c =
     let stack = c.take_lower.ensures.stack.1 ∙ ap (λ (s : Stack). with_own s (record s.own { took_lower = c.take_lower.ensures.stack.0 })) c.put_own.ensures.stack in
     let upper = ap (λ (s : Stack). s.own.upper) stack in
     IfErr-weaker c.take_upper.result _ _ (λ e f. (inr (f.0 ∙ upper), later_found u v w e.0 e.1 first f.1)) c.take_upper.ensures.found
+
+-- nobody had the lower one, so the upper one decides
+pub returns-clause-known : goal.returns-clause-known
+returns-clause-known c has =
+    let u = view c.args.pass.now in
+    let w = view c.put_own.new.self in
+    let v = view c.take_lower.new.pass in
+    let lower = c.args.lower in
+    let upper = c.args.upper in
+    let same = c.put_own.ensures.view.1 in
+    let floor : w.has_floor ≡ true = ap (λ (z : View). z.has_floor) same ∙ has in
+    let named : (stack_of c.put_own.new.self).own.lower ≡ lower = ap (λ (s : Stack). s.own.lower) c.put_own.ensures.stack in
+    let first : None ≡ owner_or lower (owner_of lower u) None =
+    ap first_found (sym c.in_ok-take_lower.was) ∙ (c.take_lower.ensures.known floor
+    ∙ (ap (λ (o : ℕ). owner_or o (owner_of o w) None) named ∙ ap (λ (z : View). owner_or lower (owner_of lower z) None) same)) in
+    let stack = c.take_lower.ensures.stack.1 ∙ ap (λ (s : Stack). with_own s (record s.own { took_lower = c.take_lower.ensures.stack.0 })) c.put_own.ensures.stack in
+    let here : (stack_of c.take_lower.new.pass).own.upper ≡ upper = ap (λ (s : Stack). s.own.upper) stack in
+    let finds = c.in_ok-take_lower.ensures.finds floor in
+    let low : upper < containers_in w.shape = subst (λ (k : Shape). upper < containers_in k) (sym (ap (λ (z : View). z.shape) same ∙ c.requires.inside.0.1)) c.requires.containers.1 in
+    let owner : owner_of upper v ≡ owner_of upper u = finds.1 upper low ∙ ap (owner_of upper) same in
+    c.take_upper.ensures.known finds.0 ∙ (ap (λ (o : ℕ). owner_or o (owner_of o v) None) here ∙ (ap (λ (q : Option ℕ). owner_or upper q None) owner
+    ∙ sym (owner_none lower (owner_of lower u) (owner_or upper (owner_of upper u) None) first)))

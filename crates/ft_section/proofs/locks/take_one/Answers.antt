@@ -1,4 +1,4 @@
-use Rattle.std.proofs.Common.{◌≡◌, ◌<◌, ◌+◌, false, [], sym, ap, subst, arith}
+use Rattle.std.proofs.Common.{◌≡◌, ◌<◌, ◌+◌, ◌∙◌, false, [], sym, ap, subst, arith}
 use Rattle.ft_bank.specs.Locks.{KeepsOthers}
 use Rattle.ft_bank.specs.Passes.{shape_of, view}
 use Rattle.ft_section.specs.Locking.{Took, at_one}
@@ -10,6 +10,10 @@ use Rattle.ft_trace.specs.Acts.{has_lock, noted}
 use Rattle.ft_trace.specs.Addresses.{containers_in}
 use Rattle.ft_trace.specs.Holds.{held, known}
 use Rattle.ft_trace.specs.Words.{Stands}
+use Rattle.std.specs.Prelude.{suc}
+use Rattle.ft_trace.specs.Traces.{Possible}
+use Rattle.ft_section.specs.Floors.{FindsSame, named_in}
+use Rattle.ft_section.proofs.Floors.{tried_known, took_finds}
 use Rattle.ft_section.proofs.locks.take_one.Goals as goal
 
 pub returns-in-Ok-clause-took : goal.returns-in-Ok-clause-took
@@ -38,3 +42,24 @@ pub returns-in-Err-clause-found : goal.returns-in-Err-clause-found
 returns-in-Err-clause-found c =
     let d = c.in-Err.ensures.did in
     record { newer = []; snap = d.0; older = []; is = ap (λ v. v.log) d.1.1; other = c.in-Err.ensures.other.0 }
+
+pub returns-in-Ok-clause-known : goal.returns-in-Ok-clause-known
+returns-in-Ok-clause-known c has =
+    let v = view c.args.pass.now in
+    let d = c.in-Ok.ensures.did in
+    tried_known v c.args.o 0 d.0 (sym (c.if-has.ensures)) (subst (λ (w : View). ∥ Possible w ∥₁) d.1.1 c.try_lock.new.pass.possible) has
+
+pub returns-in-Ok-clause-finds : goal.returns-in-Ok-clause-finds
+returns-in-Ok-clause-finds c =
+    let v = view c.args.pass.now in
+    let o = c.args.o in
+    let d = c.in-Ok.ensures.did in
+    let low = subst (λ (k : Shape). o < containers_in k) (sym c.requires.inside.0.1) c.requires.container in
+    subst (FindsSame v) (sym d.1.1) (took_finds v o d.0 (sym (c.if-has.ensures)) low (subst (λ (w : View). ∥ Possible w ∥₁) d.1.1 c.try_lock.new.pass.possible))
+
+pub returns-in-Err-clause-known : goal.returns-in-Err-clause-known
+returns-in-Err-clause-known c has =
+    let v = view c.args.pass.now in
+    let d = c.in-Err.ensures.did in
+    let next : c.in-Err.owner + 1 ≡ suc c.in-Err.owner = omega arith in
+    ap named_in (sym next) ∙ tried_known v c.args.o (c.in-Err.owner + 1) d.0 (sym (c.if-has.ensures)) (subst (λ (w : View). ∥ Possible w ∥₁) d.1.1 c.try_lock.new.pass.possible) has

@@ -12,7 +12,9 @@ use Rattle.ft_section.specs.Ready.{IsMarked}
 use Rattle.ft_section.specs.Takings.{HasBoth}
 use Rattle.ft_section.proofs.Goings.{found_then}
 use Rattle.ft_section.proofs.Releases.{only_then, only_same}
-use Rattle.ft_section.proofs.Resumes.{top_taking, top_apart, resumed, taken_up, none_up, wait_split, wait_some}
+use Rattle.ft_section.specs.declared.answers.Resumed.TheVariants as resumed
+use Rattle.ft_section.specs.Floors.{first_owned, resumed_by}
+use Rattle.ft_section.proofs.Resumes.{push_some, top_taking, top_apart, resumed, taken_up, none_up, wait_split, wait_some}
 use Rattle.ft_trace.specs.declared.Shape.{Shape}
 use Rattle.ft_trace.specs.Acts.{has_lock}
 use Rattle.ft_trace.specs.Addresses.{containers_in}
@@ -133,3 +135,24 @@ returns-in-Err-clause-may c =
           );
       none = λ nil. absurd (wait_some m (stack_of q).sections c.pop.new.self top split (sym sections ∙ nil));
     }
+
+pub returns-in-Ok-clause-known : goal.returns-in-Ok-clause-known
+returns-in-Ok-clause-known c has outer top cut =
+    let v = view c.args.pass.now in
+    let m = (stack_of c.args.pass.now).mark in
+    let split = sym (c.copied-sections.ensures ∙ c.sections.ensures) ∙ c.pop.ensures.some c.in-Some.top c.in-Some.is in
+    let same = same_from_push c.pop.new.self outer c.in-Some.top top (sym split ∙ cut) in
+    ap resumed.Back c.mark-mark.ensures ∙ (ap (resumed_by m) (c.in-Ok.ensures.known has) ∙ ap (λ (s : OpenSection). resumed_by m (first_owned s.locks.lower s.locks.upper v)) same.1)
+
+pub returns-in-Err-clause-known : goal.returns-in-Err-clause-known
+returns-in-Err-clause-known c has outer top cut =
+    let v = view c.args.pass.now in
+    let m = (stack_of c.args.pass.now).mark in
+    let split = sym (c.copied-sections.ensures ∙ c.sections.ensures) ∙ c.pop.ensures.some c.in-Some.top c.in-Some.is in
+    let same = same_from_push c.pop.new.self outer c.in-Some.top top (sym split ∙ cut) in
+    ap (resumed_by m) (c.in-Err.ensures.known has) ∙ ap (λ (s : OpenSection). resumed_by m (first_owned s.locks.lower s.locks.upper v)) same.1
+
+pub returns-in-Err-clause-none : goal.returns-in-Err-clause-none
+returns-in-Err-clause-none c nil =
+    let split = sym (c.copied-sections.ensures ∙ c.sections.ensures) ∙ c.pop.ensures.some c.in-Some.top c.in-Some.is in
+    absurd (push_some c.pop.new.self c.in-Some.top (sym split ∙ nil))

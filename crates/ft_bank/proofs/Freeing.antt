@@ -1,5 +1,5 @@
 -- What the steps of takings and givings leave, and which tables the set bits of a word are of.
-use Rattle.std.proofs.Common.{◌≡◌, ◌≢◌, ℕ, ◌+◌, ◌-◌, ◌*◌, ◌/◌, ◌%◌, ◌^◌, ◌<◌, Bool, true, cond, eqb, List, [], ◌∷◌, ◌++◌, refl, sym, ap, ◌∙◌, subst, arith}
+use Rattle.std.proofs.Common.{◌≡◌, ◌≢◌, ℕ, ◌+◌, ◌-◌, ◌*◌, ◌/◌, ◌%◌, ◌^◌, ◌<◌, Bool, true, cond, eqb, List, [], ◌∷◌, ◌++◌, refl, sym, ap, ◌∙◌, subst, arith, inl, inr, ⊎_elim, ◌⊎◌, ◌≤◌}
 use Rattle.std.specs.Prelude.{bit_and, bit_or}
 use Rattle.std.specs.Int.{w64, bit_not, trailing_zeros}
 use Rattle.std.proofs.lemmas.Nat.Bits.{bit_at-trailing_zeros}
@@ -16,9 +16,11 @@ use Rattle.ft_trace.specs.declared.Snap.{Snap}
 use Rattle.ft_trace.specs.declared.View.{View}
 use Rattle.ft_trace.specs.Bits.{bit, bit_on, bit_off}
 use Rattle.ft_trace.specs.Addresses.{containers_in, class_of, number_of, free_word_of, free_bit_of, tables_in, bits, cell, extent, IsTable}
-use Rattle.ft_trace.specs.Acts.{place, has_lock, has_lock_next, is_writing_next, has_committed_next, has_emptied_next, stage, stage_next, used_next, debt_next, announces_next, left_next, entries_next, flight, owes, noted}
+use Rattle.ft_trace.specs.Ages.{age}
+use Rattle.ft_trace.specs.Words.{table_of}
+use Rattle.ft_trace.specs.Acts.{clear, place, has_lock, has_lock_next, is_writing_next, has_committed_next, has_emptied_next, stage, stage_next, used_next, debt_next, announces_next, left_next, entries_next, flight, owes, noted}
 use Rattle.ft_trace.specs.Holds.{held, known, in_hand}
-use Rattle.ft_trace.specs.Traces.{Event, did, run, word, writes_of, history, May, Ready, ReadyAs}
+use Rattle.ft_trace.specs.Traces.{Event, did, run, word, writes_of, history, IsShut, May, Ready, ReadyAs}
 use Rattle.ft_trace.specs.Worlds.{kept}
 use Rattle.ft_trace.proofs.Addresses.{class_of_number, number_of_number, at_low}
 use Rattle.ft_trace.proofs.Bits.{off_is, on_is}
@@ -28,6 +30,7 @@ use Rattle.ft_trace.proofs.Held.{words_known, content_known, hand_known}
 use Rattle.ft_trace.proofs.Ones.{IsNone, unused}
 use Rattle.ft_trace.proofs.Pieces.{table_same}
 use Rattle.ft_trace.proofs.Places.{placed}
+use Rattle.ft_trace.proofs.Shuts.{shuts}
 use Rattle.ft_trace.proofs.Words.{stays}
 use Rattle.ft_bank.specs.declared.table.Table.{Table}
 use Rattle.ft_bank.specs.Rules.{Acted}
@@ -35,7 +38,7 @@ use Rattle.ft_bank.specs.Series.{noted_all}
 use Rattle.ft_bank.specs.Tables.{name_of, IsTableIn}
 use Rattle.ft_bank.specs.declared.takings.Search.{Search}
 use Rattle.ft_bank.specs.declared.takings.Search.TheVariants as search
-use Rattle.ft_bank.specs.Takings.{KeepsHeld, KeepsBut, Each, NotTable, IsUnclaimed, MayGive, HasFound, IsSearch, IsCleared, Cleared, word_of_class, loads_of_none}
+use Rattle.ft_bank.specs.Takings.{KeepsHeld, KeepsBut, Each, NotTable, IsShutIn, IsUnclaimed, MayGive, HasFound, IsSearch, IsCleared, Cleared, word_of_class, loads_of_none}
 use Rattle.ft_bank.proofs.Allowed.{acted_knows}
 use Rattle.ft_bank.proofs.Tables.{named}
 
@@ -331,6 +334,14 @@ pub bit_read : (q : Table) (f : ℕ) → q.number < 1024 → bit (free_bit_of (n
 unfolding bit
 bit_read q f low = ap (λ (b : ℕ). f / 2 ^ b % 2) (bit_is q low)
 
+-- a table that was free has no odd version
+taken_shut : (v : View) (t f : ℕ) (s : Snap) → Acted v (TakeTable t f s) → bit (free_bit_of t) f ≡ 1 → IsShutIn t (noted (TakeTable t f s) v)
+taken_shut v t f s d one =
+    let may = d.2.1.3 in
+    let free : age d.0 t % 5 ≡ 0 = (placed v.shape d.0 d.2.0 t may.0).free_is (ap (bit (free_bit_of t)) (sym d.2.1.2) ∙ one) in
+    subst (λ (z : Snap). IsShut (class_of t) (table_of v.shape t z.words)) (sym may.2)
+    (shuts v.shape d.0 d.2.0 t may.0 (λ e. absurd (omega (arith, free, e))) (λ e. absurd (omega (arith, free, e))))
+
 module _ (v w : View) (q : Table) (f : ℕ) (s : Snap) (is : w ≡ noted (TakeTable (name_of q) f s) v) (d : Acted v (TakeTable (name_of q) f s)) where
   pub found_has : (k : Shape) → IsTableIn k q → stage (name_of q) v.log ≡ 0 → bit (free_bit_of (name_of q)) f ≡ 1 → HasFound k q.class (search.Found q) v w
   found_has k table none one =
@@ -342,6 +353,7 @@ module _ (v w : View) (q : Table) (f : ℕ) (s : Snap) (is : w ≡ noted (TakeTa
         ap (λ (u : View). stage t u.log) is ∙ (hit t (cond (eqb (bit (free_bit_of t) f) 1) 1 n) n ∙ here (bit (free_bit_of t) f) 1 1 n one),
         ap (λ (u : View). flight u.log) is ∙ here (bit (free_bit_of t) f) 1 0 (flight v.log) one,
         ap (λ (u : View). owes u.log) is,
+        subst (IsShutIn t) (sym is) (taken_shut v t f s d one),
       )
 
   pub found_keeps : KeepsBut (NotTable q) v w
@@ -357,7 +369,10 @@ module _ (v w : View) (q : Table) (f : ℕ) (s : Snap) (is : w ≡ noted (TakeTa
 
 pub give_ready : (v : View) (j r : ℕ) (q : Table) → r ≡ name_of q → IsTableIn v.shape q → MayGive (name_of q) v → flight v.log ≡ 0 → Ready v j (λ n. GiveTable r)
 give_ready v j r q e is may idle es id knows small =
-    subst (λ (z : ℕ). Unit {0} × May v.shape (run v.shape es) (history es) v (GiveTable z)) (sym e) (tt, (named v.shape q is, may, idle))
+    let t = name_of q in
+    let table = named v.shape q is in
+    let given = ⊎_elim (λ (x : (stage t v.log ≡ 1) × IsShutIn t v). inl (x.0, subst (IsShut (class_of t)) (hand_known v t table x.0 es id knows) x.1)) (λ (x : (stage t v.log ≡ 4) × ((p : ℕ) → 0 < p → p ≤ v.shape.passes → clear t p v.log ≡ true)). inr x) may in
+    subst (λ (z : ℕ). Unit {0} × May v.shape (run v.shape es) (history es) v (GiveTable z)) (sym e) (tt, (table, given, idle))
 
 -- ---- a search
 

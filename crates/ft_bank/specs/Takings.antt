@@ -5,10 +5,11 @@ use Rattle.ft_trace.specs.declared.Act.TheVariants.{LowerCount, RaiseCount, Read
 use Rattle.ft_trace.specs.declared.Shape.{Shape}
 use Rattle.ft_trace.specs.declared.Snap.{Snap}
 use Rattle.ft_trace.specs.declared.View.{View}
-use Rattle.ft_trace.specs.Addresses.{containers_in, IsTable, free_word_of, free_bit_of}
+use Rattle.ft_trace.specs.Addresses.{containers_in, class_of, IsTable, free_word_of, free_bit_of}
 use Rattle.ft_trace.specs.Acts.{has_lock, is_writing, has_committed, has_emptied, stage, clear, announces, used, debt, flight, owes}
 use Rattle.ft_trace.specs.Bits.{bit}
 use Rattle.ft_trace.specs.Holds.{held, known, in_hand}
+use Rattle.ft_trace.specs.Traces.{IsShut}
 use Rattle.ft_bank.specs.declared.table.Table.{Table}
 use Rattle.ft_bank.specs.declared.takings.Took.{Took}
 use Rattle.ft_bank.specs.declared.takings.Took.TheVariants as took
@@ -60,11 +61,16 @@ NotTable q t = t ≢ name_of q
 abbrev pub IsUnclaimed : Shape → Table → View → Type 0
 IsUnclaimed k t v = IsTableIn k t × (stage (name_of t) v.log ≡ 0)
 
--- A pass may give a table back that it took and that has stood in no root since; or one that it retired, where it has
--- found each pass offline or at least at the goal since then.
+-- no version is odd in the words that the pass knows of a table fresh in its hand, by the kind of container that it was
+-- filled for
+abbrev pub IsShutIn : ℕ → View → Type 0
+IsShutIn t v = IsShut (class_of t) (in_hand t v)
+
+-- A pass may give a table back that it took, that has stood in no root since and that has no odd version; or one that
+-- it retired, where it has found each pass offline or at least at the goal since then.
 abbrev pub MayGive : ℕ → View → Type 0
 MayGive t v =
-    (stage t v.log ≡ 1)
+    ((stage t v.log ≡ 1) × IsShutIn t v)
     ⊎ ((stage t v.log ≡ 4) × ((p : ℕ) → 0 < p → p ≤ v.shape.passes → clear t p v.log ≡ true))
 
 -- ---- a search for a bit
@@ -96,12 +102,12 @@ IsSearch class (search.Found t) acts =
 IsSearch class (search.Lost a b) acts = (a ≢ b) × (t : Table) × Cleared class t a b acts
 IsSearch class search.Nothing acts = acts ≡ loads_of_none class 16
 
--- What the pass has after a search: the table, and it is in the midst of nothing; or it is still in the midst of the
--- taking. What it owes stays.
+-- What the pass has after a search: the table, with no odd version, and it is in the midst of nothing; or it is still
+-- in the midst of the taking. What it owes stays.
 abbrev pub HasFound : Shape → ℕ → Search → View → View → Type 0
 HasFound k class (search.Found t) v w =
     IsTableIn k t × (t.class ≡ class) × (stage (name_of t) v.log ≡ 0) × (stage (name_of t) w.log ≡ 1)
-    × (flight w.log ≡ 0) × (owes w.log ≡ owes v.log)
+    × (flight w.log ≡ 0) × (owes w.log ≡ owes v.log) × IsShutIn (name_of t) w
 HasFound k class (search.Lost a b) v w = (flight w.log ≡ flight v.log) × (owes w.log ≡ owes v.log)
 HasFound k class search.Nothing v w = (flight w.log ≡ flight v.log) × (owes w.log ≡ owes v.log)
 
@@ -140,12 +146,12 @@ IsTaking class (took.Moved a b) acts =
     × (acts ≡ RaiseCount class raised ∷ (rest ++ lowered class count)))
     ⊎ ((b ≡ 0) × (raised : ℕ) × (acts ≡ RaiseCount class raised ∷ (loads_of_none class 16 ++ lowered class a))))
 
--- What the pass has after it: the table, one of the bank's and of the class, which it had not before, and it owes its
--- class; or it owes nothing, as before.
+-- What the pass has after it: the table, one of the bank's and of the class, which it had not before and which has no
+-- odd version, and it owes its class; or it owes nothing, as before.
 abbrev pub HasTook : Shape → ℕ → Took → View → View → Type 0
 HasTook k class (took.Taken t) v w =
     IsTableIn k t × (t.class ≡ class) × (stage (name_of t) v.log ≡ 0) × (stage (name_of t) w.log ≡ 1)
-    × (owes w.log ≡ suc class)
+    × (owes w.log ≡ suc class) × IsShutIn (name_of t) w
 HasTook k class took.AllTaken v w = owes w.log ≡ 0
 HasTook k class (took.Moved a b) v w = owes w.log ≡ 0
 

@@ -10,7 +10,7 @@ ghost use Rattle.ft_trace.specs.declared.Snap.{Snap};
 ghost use Rattle.ft_trace.specs.Acts.{flight, owes, stage};
 ghost use Rattle.ft_trace.specs.Addresses.{free_bit_of};
 ghost use Rattle.ft_trace.specs.Bits.{bit};
-ghost use Rattle.ft_bank.specs.Takings.{Each, HasTook, IsSearch, IsTaking, KeepsBut, NotTable, StaysIn, HasFound, StaysInSearch, IsCleared, IsUnclaimed, MayGive, word_of_class};
+ghost use Rattle.ft_bank.specs.Takings.{Each, HasTook, IsSearch, IsTaking, KeepsBut, NotTable, StaysIn, HasFound, StaysInSearch, IsCleared, IsShutIn, IsUnclaimed, MayGive, word_of_class};
 ghost use Rattle.ft_bank.specs.Tables.{name_of, IsTableIn};
 
 use crate::bank::Bank;
@@ -88,11 +88,12 @@ impl Bank {
         }
     }
 
-    /// Gives back a table that the pass took and that has stood in no root since.
+    /// Gives back a table that the pass took, that has stood in no root since and that has no odd version.
     pub fn give_table(&self, pass: &mut Pass, table: Table)
         requires pass { IsPassOf self.now pass.old }
         requires table { IsTableIn (shape_of self.now) table }
         requires fresh { stage (name_of table) (view pass.old).log ≡ 1 }
+        requires shut { IsShutIn (name_of table) (view pass.old) }
         requires idle { flight (view pass.old).log ≡ 0 }
         ensures pass { IsPassOf self.now pass.new }
         ensures did { (n : ℕ) × DidAll (RaiseCount table.class n ∷ GiveTable (name_of table) ∷ []) pass.old pass.new }

@@ -22,7 +22,7 @@ used_of n ws p k =
     ⊎_elim (λ (l : IsLive n ws p k). λ z. let a = l.0 in absurd (omega (arith, a, z, h0))) (λ (d : IsDead n ws p k). λ z. let a = d.0 in absurd (omega (arith, a, z, h0, h2)))
 
 pub later_self : (n m : ℕ) (ws : List ℕ) → Later n m ws ws
-later_self n m ws = record { index = λ s low used. refl; kind = λ p low u. inl refl; key = λ p low u. refl; version = λ p low. le_refl (entry_of n ws p 0); same = λ p w low some_w small even e. refl; gone = λ p low e even. refl }
+later_self n m ws = record { index = λ s low used. refl; kind = λ p low u. inl refl; hash = λ p low u. refl; key = λ p low u. refl; version = λ p low. le_refl (entry_of n ws p 0); same = λ p w low some_w small even e. refl; gone = λ p low e even. refl }
 
 -- a kind that only dies
 two_kinds : (a b c : ℕ) → a ≢ 0 → (b ≡ a) ⊎ ((a < 3) × (b ≡ a + 2)) → (c ≡ b) ⊎ ((b < 3) × (c ≡ b + 2)) → (c ≡ a) ⊎ ((a < 3) × (c ≡ a + 2))
@@ -46,6 +46,7 @@ pub later_trans : (n m : ℕ) (ws ys zs : List ℕ) → Later n m ws ys → Late
 later_trans n m ws ys zs a b = record {
   index = λ s low used. let e = a.index s low used in b.index s low (λ none. used (sym e ∙ none)) ∙ e;
   kind = λ p low u. two_kinds (entry_of n ws p 2) (entry_of n ys p 2) (entry_of n zs p 2) u (a.kind p low u) (b.kind p low (later_used n m ws ys a p low u));
+  hash = λ p low u. b.hash p low (later_used n m ws ys a p low u) ∙ a.hash p low u;
   key = λ p low u. b.key p low (later_used n m ws ys a p low u) ∙ a.key p low u;
   version = λ p low. le_trans (a.version p low) (b.version p low);
   same = λ p w low some_w small even e.
@@ -92,6 +93,7 @@ module _ (n m long_is : ℕ) (ws : List ℕ) (c : Pairs) (i x : ℕ) (long : len
   careful_later = record {
     index = λ s low used. else s (λ e. used (care.index s low (sym e)));
     kind = λ p low u. careful_kind p low u;
+    hash = λ p low u. else (entry_at n p 1) (λ e. u (care.key p 1 low (inl refl) (sym e)));
     key = λ p low u. else (entry_at n p 3) (λ e. u (care.key p 3 low (inr refl) (sym e)));
     version = λ p low. dite (ℕ_discrete i (entry_at n p 0)) (λ e. let v = care.version p low e in let h = here (entry_at n p 0) e in omega (arith, v, h)) (λ ne. let h = else (entry_at n p 0) (λ e. ne (sym e)) in omega (arith, h));
     same = λ p w low some_w small even e. kept p w low some_w small even;

@@ -236,7 +236,7 @@ module _ (k : Shape) (es : List Event) (id : ℕ) (v : View) (c : ℕ) (small : 
       let may = ok.1.3 in
       let its = placed k es ok.0 p may.0 in
       let stay = stays k es id v A may (count_of_class c) low (λ z. absurd (cc)) in
-      let some_stage : stage p v.log ≢ 0 = ⊎_elim (λ (x : stage p v.log ≡ 1). λ z. absurd (omega (arith, x, z))) (λ (x : (stage p v.log ≡ 4) × _). λ z. let y = x.0 in absurd (omega (arith, y, z))) may.1 in
+      let some_stage : stage p v.log ≢ 0 = ⊎_elim (λ (x : (stage p v.log ≡ 1) × _). λ z. let y = x.0 in absurd (omega (arith, y, z))) (λ (x : (stage p v.log ≡ 4) × _). λ z. let y = x.0 in absurd (omega (arith, y, z))) may.1 in
       let mine = its.hands id v ok.1.0 some_stage in
       let small_bit = bit_small (free_bit_of p) (word k es (bits (free_word_of p))) in
       let not_one : bit_of k es p ≢ 1 = λ b. some_stage (sym mine.0 ∙ its.free_is b) in

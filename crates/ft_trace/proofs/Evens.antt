@@ -36,7 +36,7 @@ shut_same : (k : Shape) (o t : ℕ) (ws zs : List ℕ) → zs ≡ ws → Shut (v
 shut_same k o t ws zs e h = subst (Shut (version_at (kind_in k.kinds o) (class_of t)) (rows (kind_in k.kinds o) (class_of t))) (sym e) h
 
 -- an action that leaves the words of t
-left_alone : (k : Shape) (es : List Event) (id : ℕ) (v : View) (t : ℕ) (table : IsTable k t) (a : Act) → May k (run k es) (history es) v a → ((i : ℕ) → place a ≢ cell t i) → tab k (did id v a ∷ es) t ≡ tab k es t
+pub left_alone : (k : Shape) (es : List Event) (id : ℕ) (v : View) (t : ℕ) (table : IsTable k t) (a : Act) → May k (run k es) (history es) v a → ((i : ℕ) → place a ≢ cell t i) → tab k (did id v a ∷ es) t ≡ tab k es t
 left_alone k es id v t table a may apart = table_same k t (run k (did id v a ∷ es)).words (run k es).words (λ i low. stays k es id v a may (cell t i) (table, low) (apart i))
 
 -- an action that does not move t

@@ -198,7 +198,7 @@ placed k (did id v a ∷ es) valid t table =
     (λ ok.
     let A : Act = GiveTable t in
     let may = ok.1.3 in
-    let mine : n ≢ 0 = ⊎_elim (λ (x : n ≡ 1). λ z. absurd (omega (arith, x, z))) (λ (x : (n ≡ 4) × _). λ z. let y = x.0 in absurd (omega (arith, y, z))) may.1 in
+    let mine : n ≢ 0 = ⊎_elim (λ (x : (n ≡ 1) × _). λ z. let y = x.0 in absurd (omega (arith, y, z))) (λ (x : (n ≡ 4) × _). λ z. let y = x.0 in absurd (omega (arith, y, z))) may.1 in
     let h = old.hands id v ok.1.0 mine in
     let not_two : n ≢ 2 = not_current t v.log in
     let now : aged A t g ≡ g + 5 - g % 5 = hit t (g + 5 - g % 5) g in

@@ -227,7 +227,7 @@ safe k (did id v a ∷ es) valid t table =
     (λ j u e r.
     let h = (old j u e).read_is r in
     ⊎_elim
-    (λ (x : n ≡ 1). let was = (its.hands id v ok.1.0 (λ z. absurd (omega (arith, x, z)))).0 in let two = h.0 in absurd (omega (arith, was, x, two)))
+    (λ (x : (n ≡ 1) × _). let one = x.0 in let was = (its.hands id v ok.1.0 (λ z. absurd (omega (arith, one, z)))).0 in let two = h.0 in absurd (omega (arith, was, one, two)))
     (λ (x : (n ≡ 4) × ((p : ℕ) → 0 < p → p ≤ k.passes → clear t p v.log ≡ true)).
     let four = x.0 in
     let was = (its.hands id v ok.1.0 (λ z. absurd (omega (arith, four, z)))).0 in

@@ -68,6 +68,7 @@ pub record Later (n m : ℕ) (ws zs : List ℕ) : Type 0 where
   pub kind : (p : ℕ) → p < m → entry_of n ws p 2 ≢ 0
       → (entry_of n zs p 2 ≡ entry_of n ws p 2) ⊎ ((entry_of n ws p 2 < 3)
       × (entry_of n zs p 2 ≡ entry_of n ws p 2 + 2))
+  pub hash : (p : ℕ) → p < m → entry_of n ws p 2 ≢ 0 → entry_of n zs p 1 ≡ entry_of n ws p 1
   pub key : (p : ℕ) → p < m → entry_of n ws p 2 ≢ 0 → entry_of n zs p 3 ≡ entry_of n ws p 3
   pub version : (p : ℕ) → p < m → entry_of n ws p 0 ≤ entry_of n zs p 0
   pub same : (p w : ℕ) → p < m → 0 < w → w < 8 → entry_of n ws p 0 % 2 ≡ 0 → entry_of n zs p 0 ≡ entry_of n ws p 0

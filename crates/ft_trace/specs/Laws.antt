@@ -20,7 +20,7 @@ use Rattle.ft_layout.specs.Words.{FitsKey}
 use Rattle.ft_trace.specs.declared.Act.{Act}
 use Rattle.ft_trace.specs.declared.Snap.{Snap}
 use Rattle.ft_trace.specs.Causes.{FoundEmpty, least_stamp}
-use Rattle.ft_trace.specs.declared.Act.TheVariants.{Commit, Answer, AnswerCursor, ReadCounter, ReadRoot, ReadTable, ReadCount}
+use Rattle.ft_trace.specs.declared.Act.TheVariants.{Commit, Answer, AnswerCursor, ReadCounter, ReadRoot, ReadTable, ReadCount, PutRoot}
 use Rattle.ft_trace.specs.declared.Shape.{Shape}
 use Rattle.ft_trace.specs.declared.View.{View}
 use Rattle.ft_trace.specs.Bits.{bit}
@@ -37,7 +37,7 @@ use Rattle.ft_trace.specs.Holds.{held, known, in_hand}
 use Rattle.ft_trace.specs.FitCalls.{FitsContent}
 use Rattle.ft_trace.specs.Reading.{Among, IsNothing, Looked, LookedAtBoth}
 use Rattle.ft_trace.specs.Finding.{Hit, Miss, Full, Bare, ItemHit, ItemPast, IsNew}
-use Rattle.ft_trace.specs.Traces.{Event, run, word, history, StandsFor, SoundFor, ShutFor, Valid, Knows}
+use Rattle.ft_trace.specs.Traces.{Event, did, run, word, history, StandsFor, SoundFor, ShutFor, IsShut, Valid, Knows}
 
 -- the pass at seat j knows u
 abbrev pub HasView : Shape → List Event → ℕ → View → Type 0
@@ -75,6 +75,15 @@ abbrev pub EvenTablesAreShut : Type 0
 EvenTablesAreShut =
     (k : Shape) (es : List Event) → Valid k es → (o : ℕ) → o < containers_in k → word k es (version_of o) % 2 ≡ 0
     → (t : ℕ) → word k es (block o 0) ≡ suc t → ShutFor k (run k es).words o t
+
+-- of no other table a version is odd: where the table isn't fresh in a hand, and no container whose version is odd has it
+-- as its own
+abbrev pub OddVersionsAreInWrites : Type 0
+OddVersionsAreInWrites =
+    (k : Shape) (es : List Event) → Valid k es → (t : ℕ) → IsTable k t
+    → ((j : ℕ) (u : View) → HasView k es j u → stage t u.log ≢ 1)
+    → ((o : ℕ) → o < containers_in k → word k es (block o 0) ≡ suc t → word k es (version_of o) % 2 ≡ 0)
+    → IsShut (class_of t) (table_of k t (run k es).words)
 
 -- ---- entries
 
@@ -224,6 +233,15 @@ FoundTablesAreKept =
     → (reads t u.log ≡ true → bit (free_bit_of t) (word k es (bits (free_word_of t))) ≢ 1)
     × (reads t u.log ≡ true → (2 ≤ age es t % 5) × (age es t % 5 ≡ 4 → announces u.log < goal t (all_acts es)))
     × (age es t % 5 ≡ 4 → clear t u.number (all_acts es) ≡ true → reads t u.log ≡ true → ⊥)
+
+-- a table that was taken out of a root is free before it stands in a root again
+abbrev pub TablesAreFreeBeforeRoots : Type 0
+TablesAreFreeBeforeRoots =
+    (k : Shape) (newer es : List Event) (id : ℕ) (v : View) (o r t : ℕ) → r ≢ suc t
+    → Valid k (newer ++ did id v (PutRoot o r (suc t)) ∷ es)
+    → (p : ℕ) → p < containers_in k → word k (newer ++ did id v (PutRoot o r (suc t)) ∷ es) (block p 0) ≡ suc t
+    → (later sooner : List Event) × (newer ≡ later ++ sooner)
+    × (bit (free_bit_of t) (word k (sooner ++ did id v (PutRoot o r (suc t)) ∷ es) (bits (free_word_of t))) ≡ 1)
 
 -- where a pass has put the goal of a table into its header, the table is the pass's, retired, and its header says the
 -- goal, until the pass gives the table back

@@ -6,6 +6,7 @@ use lib.ListN.{get_elem?}
 use Rattle.std.specs.Prelude.{Some, None}
 use Rattle.ft_model.specs.declared.call.Call.{Call}
 use Rattle.ft_model.specs.declared.content.Content.{Content}
+use Rattle.ft_model.specs.declared.script.Kind.{Kind}
 use Rattle.ft_model.specs.Answers.{is_write}
 use Rattle.ft_model.specs.Calls.{moved_cursor}
 use Rattle.ft_model.specs.Histories.{IsReplied}
@@ -103,6 +104,10 @@ ShutFor k ws o t =
 abbrev pub TimelyFor : Shape → ℕ → ℕ → ℕ → ℕ → Bool → Type 0
 TimelyFor k o t i x committed =
     Timely (version_at (kind_in k.kinds o) (class_of t)) (rows (kind_in k.kinds o) (class_of t)) i x committed
+
+-- of a table of this class with these words no version is odd, by the kind of container that it was filled for
+abbrev pub IsShut : ℕ → List ℕ → Type 0
+IsShut class ws = (kind : Kind) × Shut (version_at kind class) (rows kind class) ws
 
 abbrev pub LowFor : Shape → List ℕ → ℕ → ℕ → ℕ → Bool → Type 0
 LowFor k ws o t count committed =
@@ -216,11 +221,12 @@ May k m cs v (ReadFree w f) = w < 224
 -- in the midst of a taking of its class
 May k m cs v (TakeTable t f s) =
     IsTable k t × (stage t v.log ≡ 0) × (s ≡ snap m cs) × (flight v.log ≡ 2 * class_of t + 1)
--- a table that has stood in no root since it was taken; or one that the pass retired, where it has found each pass
--- offline or at least at the goal since then
+-- a table that has stood in no root since it was taken, and has no odd version; or one that the pass retired, where it
+-- has found each pass offline or at least at the goal since then
 May k m cs v (GiveTable t) =
     IsTable k t
-    × ((stage t v.log ≡ 1) ⊎ ((stage t v.log ≡ 4) × ((p : ℕ) → 0 < p → p ≤ k.passes → clear t p v.log ≡ true)))
+    × (((stage t v.log ≡ 1) × IsShut (class_of t) (table_of k t m.words))
+    ⊎ ((stage t v.log ≡ 4) × ((p : ℕ) → 0 < p → p ≤ k.passes → clear t p v.log ≡ true)))
     × (flight v.log ≡ 0)
 -- a table that the pass took out of a root; it has retired fewer than it has taken out
 May k m cs v (Retire t f) =

@@ -15,7 +15,7 @@ ghost use Rattle.ft_trace.specs.SetWrites.{ElementsMayBeAdded, ElementsMayBeDisc
 ghost use Rattle.ft_trace.specs.GrowWrites.{DictsMayGrow};
 ghost use Rattle.ft_trace.specs.SetGrowWrites.{SetsMayGrow};
 ghost use Rattle.ft_trace.specs.ListGrowWrites.{ListsMayGrow};
-ghost use Rattle.ft_trace.specs.Laws.{ContentsFit, StoredTablesAreInOrder, WordsLieApart, PairsAreUnderTheirKeys, ElementsAreUnderTheirKeys, OnePassIsAlone, StampsRise, MemoryErrorsAreEarned, LocksNameHolders, VersionsAreOddInWrites, EvenTablesAreShut, NumbersAreOnce, EntriesAreRight, OneHasAllEntries, EvenWordsStand, ZeroRootsHaveNothing, HoldersKnow, TablesAreSomewhere, TablesAreInOnePlace, CountsStand, TablesAreOwed, EmptyClassesAreEarned, AnnouncedNumbersAreLow, FoundTablesAreKept, GoalsStand, GivenUpTablesRest, TablesAreSound, TableWordsStay, HitsAreRight, MissesAreRight, BareRootsAreRight, ItemsAreRight, ListsFitTheirTables, LooksAreRight, LooksAtBothAreRight, ChangedRootsAreNew, NumbersHaveRoom, NextSerialsAreLow, CallsAreCounted};
+ghost use Rattle.ft_trace.specs.Laws.{ContentsFit, StoredTablesAreInOrder, WordsLieApart, PairsAreUnderTheirKeys, ElementsAreUnderTheirKeys, OnePassIsAlone, StampsRise, MemoryErrorsAreEarned, LocksNameHolders, VersionsAreOddInWrites, EvenTablesAreShut, OddVersionsAreInWrites, NumbersAreOnce, EntriesAreRight, OneHasAllEntries, EvenWordsStand, ZeroRootsHaveNothing, HoldersKnow, TablesAreSomewhere, TablesAreInOnePlace, CountsStand, TablesAreOwed, EmptyClassesAreEarned, AnnouncedNumbersAreLow, FoundTablesAreKept, TablesAreFreeBeforeRoots, GoalsStand, GivenUpTablesRest, TablesAreSound, TableWordsStay, HitsAreRight, MissesAreRight, BareRootsAreRight, ItemsAreRight, ListsFitTheirTables, LooksAreRight, LooksAtBothAreRight, ChangedRootsAreNew, NumbersHaveRoom, NextSerialsAreLow, CallsAreCounted};
 
 use ft_layout::{
     puts_change_one_item, used_entries_follow_a_dict, used_entries_follow_a_set,
@@ -35,6 +35,12 @@ pub fn versions_are_odd_in_writes()
 /// The version of an entry or item is odd only while its container is written.
 pub fn tables_are_shut_while_versions_are_even()
     ensures { EvenTablesAreShut }
+{}
+
+/// The version of an entry or item is odd only in a table that a pass took and has put into no root yet, or in the
+/// table of a container that is being written.
+pub fn odd_versions_are_in_writes()
+    ensures { OddVersionsAreInWrites }
 {}
 
 /// Each number below the counter is that of one write in one view.
@@ -162,6 +168,11 @@ pub fn announced_numbers_are_low()
 /// A table that a pass has found in a root since it last announced is not free.
 pub fn found_tables_are_kept()
     ensures { FoundTablesAreKept }
+{}
+
+/// A table that was taken out of a root stands in no root again before it has been free.
+pub fn tables_are_free_before_roots()
+    ensures { TablesAreFreeBeforeRoots }
 {}
 
 /// The header of a table that a pass retired says the goal, once the pass has put it there.

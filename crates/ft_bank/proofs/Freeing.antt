@@ -1,5 +1,5 @@
 -- What the steps of takings and givings leave, and which tables the set bits of a word are of.
-use Rattle.std.proofs.Common.{◌≡◌, ◌≢◌, ℕ, ◌+◌, ◌-◌, ◌*◌, ◌/◌, ◌%◌, ◌^◌, ◌<◌, Bool, true, cond, eqb, List, [], ◌∷◌, ◌++◌, refl, sym, ap, ◌∙◌, subst, arith, inl, inr, ⊎_elim, ◌⊎◌, ◌≤◌}
+use Rattle.std.proofs.Common.{◌≡◌, ◌≢◌, ℕ, ◌+◌, ◌-◌, ◌*◌, ◌/◌, ◌%◌, ◌^◌, ◌<◌, Bool, true, cond, eqb, List, [], ◌∷◌, ◌++◌, refl, sym, ap, ◌∙◌, subst, arith, inl, inr, ⊎_elim, ◌≤◌}
 use Rattle.std.specs.Prelude.{bit_and, bit_or}
 use Rattle.std.specs.Int.{w64, bit_not, trailing_zeros}
 use Rattle.std.proofs.lemmas.Nat.Bits.{bit_at-trailing_zeros}
@@ -20,7 +20,7 @@ use Rattle.ft_trace.specs.Ages.{age}
 use Rattle.ft_trace.specs.Words.{table_of}
 use Rattle.ft_trace.specs.Acts.{clear, place, has_lock, has_lock_next, is_writing_next, has_committed_next, has_emptied_next, stage, stage_next, used_next, debt_next, announces_next, left_next, entries_next, flight, owes, noted}
 use Rattle.ft_trace.specs.Holds.{held, known, in_hand}
-use Rattle.ft_trace.specs.Traces.{Event, did, run, word, writes_of, history, IsShut, May, Ready, ReadyAs}
+use Rattle.ft_trace.specs.Traces.{Event, did, run, word, writes_of, history, IsAllShut, May, Ready, ReadyAs}
 use Rattle.ft_trace.specs.Worlds.{kept}
 use Rattle.ft_trace.proofs.Addresses.{class_of_number, number_of_number, at_low}
 use Rattle.ft_trace.proofs.Bits.{off_is, on_is}
@@ -339,7 +339,7 @@ taken_shut : (v : View) (t f : ℕ) (s : Snap) → Acted v (TakeTable t f s) →
 taken_shut v t f s d one =
     let may = d.2.1.3 in
     let free : age d.0 t % 5 ≡ 0 = (placed v.shape d.0 d.2.0 t may.0).free_is (ap (bit (free_bit_of t)) (sym d.2.1.2) ∙ one) in
-    subst (λ (z : Snap). IsShut (class_of t) (table_of v.shape t z.words)) (sym may.2)
+    subst (λ (z : Snap). IsAllShut (class_of t) (table_of v.shape t z.words)) (sym may.2)
     (shuts v.shape d.0 d.2.0 t may.0 (λ e. absurd (omega (arith, free, e))) (λ e. absurd (omega (arith, free, e))))
 
 module _ (v w : View) (q : Table) (f : ℕ) (s : Snap) (is : w ≡ noted (TakeTable (name_of q) f s) v) (d : Acted v (TakeTable (name_of q) f s)) where
@@ -371,7 +371,7 @@ pub give_ready : (v : View) (j r : ℕ) (q : Table) → r ≡ name_of q → IsTa
 give_ready v j r q e is may idle es id knows small =
     let t = name_of q in
     let table = named v.shape q is in
-    let given = ⊎_elim (λ (x : (stage t v.log ≡ 1) × IsShutIn t v). inl (x.0, subst (IsShut (class_of t)) (hand_known v t table x.0 es id knows) x.1)) (λ (x : (stage t v.log ≡ 4) × ((p : ℕ) → 0 < p → p ≤ v.shape.passes → clear t p v.log ≡ true)). inr x) may in
+    let given = ⊎_elim (λ (x : (stage t v.log ≡ 1) × IsShutIn t v). inl (x.0, subst (IsAllShut (class_of t)) (hand_known v t table x.0 es id knows) x.1)) (λ (x : (stage t v.log ≡ 4) × ((p : ℕ) → 0 < p → p ≤ v.shape.passes → clear t p v.log ≡ true)). inr x) may in
     subst (λ (z : ℕ). Unit {0} × May v.shape (run v.shape es) (history es) v (GiveTable z)) (sym e) (tt, (table, given, idle))
 
 -- ---- a search

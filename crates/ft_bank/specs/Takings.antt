@@ -9,7 +9,7 @@ use Rattle.ft_trace.specs.Addresses.{containers_in, class_of, IsTable, free_word
 use Rattle.ft_trace.specs.Acts.{has_lock, is_writing, has_committed, has_emptied, stage, clear, announces, used, debt, flight, owes}
 use Rattle.ft_trace.specs.Bits.{bit}
 use Rattle.ft_trace.specs.Holds.{held, known, in_hand}
-use Rattle.ft_trace.specs.Traces.{IsShut}
+use Rattle.ft_trace.specs.Traces.{IsAllShut}
 use Rattle.ft_bank.specs.declared.table.Table.{Table}
 use Rattle.ft_bank.specs.declared.takings.Took.{Took}
 use Rattle.ft_bank.specs.declared.takings.Took.TheVariants as took
@@ -64,7 +64,7 @@ IsUnclaimed k t v = IsTableIn k t × (stage (name_of t) v.log ≡ 0)
 -- no version is odd in the words that the pass knows of a table fresh in its hand, by the kind of container that it was
 -- filled for
 abbrev pub IsShutIn : ℕ → View → Type 0
-IsShutIn t v = IsShut (class_of t) (in_hand t v)
+IsShutIn t v = IsAllShut (class_of t) (in_hand t v)
 
 -- A pass may give a table back that it took, that has stood in no root since and that has no odd version; or one that
 -- it retired, where it has found each pass offline or at least at the goal since then.

@@ -1,14 +1,13 @@
 -- What a pass with the floor finds is what its log says beforehand.
-use Rattle.std.proofs.Common.{◌≡◌, ◌≢◌, ◌<◌, ◌==◌, ℕ, Bool, true, false, cond, List, refl, sym, ap, ◌∙◌, subst, arith, get_or-set_other}
+use Rattle.std.proofs.Common.{◌≡◌, ◌≢◌, ◌<◌, ℕ, Bool, true, false, cond, refl, sym, ap, ◌∙◌, subst, get_or-set_other}
 use mathlib.Core.Logic.{dite}
 use native.Mathlib.Decide.{ℕ_discrete}
-use Rattle.std.specs.Prelude.{Option, Some, None, if◌then◌else◌, slice_index, slice_set}
+use Rattle.std.specs.Prelude.{Option, Some, None, if◌then◌else◌}
 use Rattle.std.proofs.lemmas.Bool.{eq-eqb, ne_eqb}
 use Rattle.ft_bank.proofs.Floors.{floor_found}
 use Rattle.ft_section.specs.declared.answers.Began.TheVariants as began
 use Rattle.ft_section.specs.declared.answers.Got.TheVariants as got
-use Rattle.ft_section.specs.Floors.{floor_word, named_in, owner_of, owner_or, began_by, got_by, FindsSame}
-use Rattle.ft_trace.specs.declared.Act.{Act}
+use Rattle.ft_section.specs.Floors.{floor_word, owner_named, owner_of, owner_or, began_by, got_by, FindsSame}
 use Rattle.ft_trace.specs.declared.Act.TheVariants.{Lock, ReadCounter}
 use Rattle.ft_trace.specs.declared.Snap.{Snap}
 use Rattle.ft_trace.specs.declared.View.{View}
@@ -22,14 +21,14 @@ pub counter_known : (v : View) (n : ℕ) → ∥ Possible (noted (ReadCounter n)
 counter_known v n possible has = floor_found v (ReadCounter n) n (floor_word counter v) (λ p. p.0) possible has
 
 -- whose lock it was, where the pass lacked it
-pub tried_known : (v : View) (o f : ℕ) (s : Snap) → has_lock o v.log ≡ false → ∥ Possible (noted (Lock o f s) v) ∥₁ → v.has_floor ≡ true → named_in f ≡ owner_of o v
+pub tried_known : (v : View) (o f : ℕ) (s : Snap) → has_lock o v.log ≡ false → ∥ Possible (noted (Lock o f s) v) ∥₁ → v.has_floor ≡ true → owner_named f ≡ owner_of o v
 tried_known v o f s free possible has =
     let found : f ≡ floor_word (lock_of o) v = floor_found v (Lock o f s) f (floor_word (lock_of o) v) (λ p. p.0) possible has in
-    ap named_in found ∙ sym (ap (λ (b : Bool). if b then None else named_in (floor_word (lock_of o) v)) free)
+    ap owner_named found ∙ sym (ap (λ (b : Bool). if b then None else owner_named (floor_word (lock_of o) v)) free)
 
 -- a pass has its own locks itself
 pub own_known : (v : View) (o : ℕ) → has_lock o v.log ≡ true → owner_of o v ≡ None
-own_known v o had = ap (λ (b : Bool). if b then None else named_in (floor_word (lock_of o) v)) had
+own_known v o had = ap (λ (b : Bool). if b then None else owner_named (floor_word (lock_of o) v)) had
 
 -- the word of another container's lock, and the counter, are as they were
 other_floor : (v : View) (o f : ℕ) (s : Snap) (x : Word) → o < containers_in v.shape → Inside v.shape x → x ≢ lock_of o → floor_word x (noted (Lock o f s) v) ≡ floor_word x v
@@ -54,7 +53,7 @@ took_finds v o s free low possible has =
     (λ ne.
     let here : has_lock p w.log ≡ has_lock p v.log = ap (λ (b : Bool). cond b true (has_lock p v.log)) (ne_eqb o p ne) in
     let same : floor_word (lock_of p) w ≡ floor_word (lock_of p) v = other_floor v o 0 s (lock_of p) low in_bank (λ e. ne (sym (one_lock o p e))) in
-    ap (λ (b : Bool). if b then None else named_in (floor_word (lock_of p) w)) here ∙ ap (λ (n : ℕ). if has_lock p v.log then None else named_in n) same) in
+    ap (λ (b : Bool). if b then None else owner_named (floor_word (lock_of p) w)) here ∙ ap (λ (n : ℕ). if has_lock p v.log then None else owner_named n) same) in
     (has, owners, other_floor v o 0 s counter low tt (lock_counter o))
 
 -- nobody has the lock of o, so the rest decides

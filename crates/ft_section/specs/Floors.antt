@@ -16,13 +16,13 @@ abbrev pub floor_word : Word → View → ℕ
 floor_word x v = slice_index (floor_words v.shape v.number v.log) (at v.shape x)
 
 -- the pass that a lock word names
-abbrev pub named_in : ℕ → Option ℕ
-named_in zero = None
-named_in (suc q) = Some q
+abbrev pub owner_named : ℕ → Option ℕ
+owner_named zero = None
+owner_named (suc q) = Some q
 
 -- the other pass that has the lock of o, where one has
 abbrev pub owner_of : ℕ → View → Option ℕ
-owner_of o v = if has_lock o v.log then None else named_in (floor_word (lock_of o) v)
+owner_of o v = if has_lock o v.log then None else owner_named (floor_word (lock_of o) v)
 
 -- the container with its owner, and else what the rest says
 abbrev pub owner_or : ℕ → Option ℕ → Option (ℕ × ℕ) → Option (ℕ × ℕ)

@@ -1,5 +1,5 @@
 -- What a pass hands over when another takes it in: just the tables that it keeps retired, with their goals.
-use Rattle.std.proofs.Common.{◌≡◌, ℕ, eqb, Bool, true, false, true≢false, cond, List, [], ◌∷◌, ◌++◌, map, refl, sym, ap, ◌∙◌, arith}
+use Rattle.std.proofs.Common.{◌≡◌, ℕ, eqb, Bool, true, false, cond, List, [], ◌∷◌, ◌++◌, map, refl, sym, ap, ◌∙◌, arith}
 use mathlib.Core.Logic.{dite}
 use native.Mathlib.Decide.{ℕ_discrete}
 use Rattle.std.proofs.lemmas.Bool.{eqb-true}
@@ -7,7 +7,7 @@ use Rattle.ft_trace.specs.declared.Act.{Act}
 use Rattle.ft_trace.specs.declared.Act.TheVariants.{PutHeader, GiveTable, TookOver}
 use Rattle.ft_trace.specs.declared.Handed.{Handed}
 use Rattle.ft_trace.specs.Acts.{stage, goal, has_goal, has_goal_next, is_handed, handed_goal, put_tables, put_tables_next, keeps_retired, kept_of, hands_over}
-use Rattle.ft_trace.proofs.Cases.{here, miss, off, same_or}
+use Rattle.ft_trace.proofs.Cases.{here, miss, off}
 
 -- one of two cases
 pub either_way : {X : Type 0} (b : Bool) → (b ≡ true → X) → (b ≡ false → X) → X

@@ -12,7 +12,7 @@ use Rattle.ft_trace.specs.declared.View.{View}
 use Rattle.ft_trace.specs.declared.Act.{Act}
 use Rattle.ft_trace.specs.declared.Act.TheVariants.{Lock, Unlock, PutBlock, PutRoot, PutTable, PutFresh, Commit, ReadBlock, ReadRoot, ReadTable, TakeTable, GiveTable, Retire, TookOver}
 use Rattle.ft_trace.specs.Addresses.{Word, counter, write_number, announced_of, bits, count_of_class, lock_of, version_of, block, header, cell, Inside, at, extent}
-use Rattle.ft_trace.specs.Acts.{place, word_after, has_lock, is_writing, stage, stage_next, is_handed, hands_over, mem, past, starter, noted, maker, made, both, spent, sender, note}
+use Rattle.ft_trace.specs.Acts.{place, word_after, has_lock, is_writing, stage, stage_next, hands_over, mem, past, starter, noted, maker, made, both, spent, sender, note}
 use Rattle.ft_trace.specs.Worlds.{kept}
 use Rattle.ft_trace.specs.Addresses.{containers_in}
 use Rattle.ft_trace.specs.Traces.{Event, did, forked, joined, sent, run, word, history, snap, May, Valid}

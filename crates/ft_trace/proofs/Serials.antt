@@ -1,6 +1,6 @@
 -- A write draws no more serials than the largest table has entries, so the next serial is low after few writes.
-use Rattle.std.proofs.Common.{◌≡◌, ℕ, suc, zero, ◌+◌, ◌-◌, ◌*◌, ◌^◌, ◌≤◌, Bool, true, false, not, List, [], ◌∷◌, length, get_or, Option, Some, None, refl, arith}
-use Rattle.std.specs.Prelude.{All, nat_lt, negsuc, slice_get, slice_set, if◌then◌else◌}
+use Rattle.std.proofs.Common.{◌≡◌, ℕ, suc, zero, ◌+◌, ◌-◌, ◌*◌, ◌≤◌, Bool, true, false, not, List, [], ◌∷◌, length, get_or, Option, Some, None, refl, arith}
+use Rattle.std.specs.Prelude.{All, negsuc, slice_get, slice_set, if◌then◌else◌}
 use Rattle.std.specs.Option.{option_map_or, unwrap_or}
 use Rattle.std.proofs.lemmas.Bool.{ltb-false}
 use Rattle.std.proofs.lemmas.List.Elements.{All-head, All-tail, All-set, All-weaker, All-map}
@@ -29,11 +29,10 @@ use Rattle.ft_model.specs.Tables.{passes_cap, stored_newest}
 use Rattle.ft_model.proofs.KnownKeys.{length-filter-le}
 use Rattle.ft_model.proofs.TableOrder.{order-caps}
 use Rattle.ft_trace.specs.declared.Shape.{Shape}
-use Rattle.ft_trace.specs.declared.View.{View}
 use Rattle.ft_trace.specs.declared.Act.{Act}
 use Rattle.ft_trace.specs.declared.Act.TheVariants.{Commit}
 use Rattle.ft_trace.specs.Worlds.{kept}
-use Rattle.ft_trace.specs.Traces.{Event, did, forked, joined, sent, run, writes_of, history, May, Valid}
+use Rattle.ft_trace.specs.Traces.{Event, did, forked, joined, sent, writes_of, history, Valid}
 use Rattle.ft_trace.proofs.Orders.{in_order}
 
 -- the next serial is at most that

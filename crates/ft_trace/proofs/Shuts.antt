@@ -1,25 +1,22 @@
 -- No version is odd in a table that is free, was taken out of a root or is retired.
-use Rattle.std.proofs.Common.{◌≡◌, ◌≢◌, ◌⊎◌, ℕ, suc, eqb, ◌+◌, ◌-◌, ◌%◌, ◌<◌, cond, List, [], ◌∷◌, refl, sym, ap, ◌∙◌, subst, ⊎_elim, arith}
-use mathlib.Core.Option.{some}
+use Rattle.std.proofs.Common.{◌≡◌, ◌≢◌, ℕ, suc, eqb, ◌+◌, ◌%◌, cond, List, [], ◌∷◌, refl, sym, ap, ◌∙◌, subst, ⊎_elim, arith}
 use mathlib.Core.Logic.{dite}
 use native.Mathlib.Decide.{ℕ_discrete}
-use lib.ListN.{get_elem?}
 use Rattle.ft_model.specs.declared.script.Kind.TheVariants as kind
 use Rattle.ft_trace.specs.declared.Shape.{Shape}
-use Rattle.ft_trace.specs.declared.View.{View}
 use Rattle.ft_trace.specs.declared.Act.{Act}
 use Rattle.ft_trace.specs.declared.Act.TheVariants.{TakeTable, GiveTable, PutRoot, Retire}
 use Rattle.ft_trace.specs.Bits.{bit}
-use Rattle.ft_trace.specs.Addresses.{containers_in, class_of, slots, IsTable, free_bit_of}
+use Rattle.ft_trace.specs.Addresses.{class_of, slots, IsTable, free_bit_of}
 use Rattle.ft_trace.specs.Acts.{stage}
 use Rattle.ft_trace.specs.Worlds.{kind_in}
 use Rattle.ft_trace.specs.Words.{entry_at}
 use Rattle.ft_trace.specs.Ages.{aged, age, whose, keeper}
 use Rattle.ft_trace.specs.Laws.{OddVersionsAreInWrites}
-use Rattle.ft_trace.specs.Traces.{Event, did, forked, joined, sent, opened, IsShut, Valid}
+use Rattle.ft_trace.specs.Traces.{Event, did, forked, joined, sent, opened, IsAllShut, Valid}
 use Rattle.ft_trace.proofs.Addresses.{cell_first}
 use Rattle.ft_trace.proofs.ByKind.{keyed_low}
-use Rattle.ft_trace.proofs.Cases.{hit, miss, here}
+use Rattle.ft_trace.proofs.Cases.{hit, here}
 use Rattle.ft_trace.proofs.Contents.{tab}
 use Rattle.ft_trace.proofs.Evens.{left_alone, evens}
 use Rattle.ft_trace.proofs.Hands.{handed}
@@ -29,10 +26,10 @@ use Rattle.ft_trace.proofs.Rests.{rests}
 
 -- what is said of t, while it is neither fresh in a hand nor current
 abbrev pub Shuts : Shape → List Event → ℕ → Type 0
-Shuts k es t = age es t % 5 ≢ 1 → age es t % 5 ≢ 2 → IsShut (class_of t) (tab k es t)
+Shuts k es t = age es t % 5 ≢ 1 → age es t % 5 ≢ 2 → IsAllShut (class_of t) (tab k es t)
 
 -- at the start each word is 0
-first_shut : (k : Shape) (t : ℕ) → IsTable k t → IsShut (class_of t) (tab k [] t)
+first_shut : (k : Shape) (t : ℕ) → IsTable k t → IsAllShut (class_of t) (tab k [] t)
 first_shut k t table = (
   kind.Dict,
   λ p low.
@@ -56,8 +53,8 @@ shuts k (did id v a ∷ es) valid t table =
     absurd (not_one (omega (arith, now, was))))
     (λ ok _ _.
     let same = left_alone k es id v t table (GiveTable t) ok.1.3 (λ i e. absurd (cc)) in
-    subst (IsShut (class_of t)) (sym same)
-    (⊎_elim (λ (x : (n ≡ 1) × IsShut (class_of t) (tab k es t)). x.1)
+    subst (IsAllShut (class_of t)) (sym same)
+    (⊎_elim (λ (x : (n ≡ 1) × IsAllShut (class_of t) (tab k es t)). x.1)
     (λ (x : (n ≡ 4) × _).
     let four = x.0 in
     let was = (its.hands id v ok.1.0 (λ z. absurd (omega (arith, four, z)))).0 in
@@ -69,17 +66,17 @@ shuts k (did id v a ∷ es) valid t table =
     absurd (not_two (omega (arith, now, was, one))))
     (λ o r ne ok _ _.
     let same = left_alone k es id v t table (PutRoot o r (suc t)) ok.1.3 (λ i e. absurd (cc)) in
-    subst (IsShut (class_of t)) (sym same) (kind_in k.kinds o, ok.1.3.4 t refl))
+    subst (IsAllShut (class_of t)) (sym same) (kind_in k.kinds o, ok.1.3.4 t refl))
     (λ f ok _ _.
     let same = left_alone k es id v t table (Retire t f) ok.1.3 (λ i e. absurd (cc)) in
     let three : n ≡ 3 = ok.1.3.1 in
     let was = (its.hands id v ok.1.0 (λ z. absurd (omega (arith, three, z)))).0 in
-    subst (IsShut (class_of t)) (sym same) (old (λ z. absurd (omega (arith, was, three, z))) (λ z. absurd (omega (arith, was, three, z)))))
+    subst (IsAllShut (class_of t)) (sym same) (old (λ z. absurd (omega (arith, was, three, z))) (λ z. absurd (omega (arith, was, three, z)))))
     (λ b c ok not_one not_two.
     let gs = c.age g in
     let one : g % 5 ≢ 1 = λ e. not_one (ap (λ (z : ℕ). z % 5) gs ∙ e) in
     let two : g % 5 ≢ 2 = λ e. not_two (ap (λ (z : ℕ). z % 5) gs ∙ e) in
-    subst (IsShut (class_of t)) (sym (rests k es (did id v b) ok t table one two)) (old one two))
+    subst (IsAllShut (class_of t)) (sym (rests k es (did id v b) ok t table one two)) (old one two))
     a valid.1.2 valid.1.3 valid
 shuts k (forked id v ∷ es) valid t table = shuts k es valid.0 t table
 shuts k (sent id v given ∷ es) valid t table = shuts k es valid.0 t table

@@ -37,7 +37,7 @@ use Rattle.ft_trace.specs.Holds.{held, known, in_hand}
 use Rattle.ft_trace.specs.FitCalls.{FitsContent}
 use Rattle.ft_trace.specs.Reading.{Among, IsNothing, Looked, LookedAtBoth}
 use Rattle.ft_trace.specs.Finding.{Hit, Miss, Full, Bare, ItemHit, ItemPast, IsNew}
-use Rattle.ft_trace.specs.Traces.{Event, did, run, word, history, StandsFor, SoundFor, ShutFor, IsShut, Valid, Knows}
+use Rattle.ft_trace.specs.Traces.{Event, did, run, word, history, StandsFor, SoundFor, ShutFor, IsAllShut, Valid, Knows}
 
 -- the pass at seat j knows u
 abbrev pub HasView : Shape → List Event → ℕ → View → Type 0
@@ -83,7 +83,7 @@ OddVersionsAreInWrites =
     (k : Shape) (es : List Event) → Valid k es → (t : ℕ) → IsTable k t
     → ((j : ℕ) (u : View) → HasView k es j u → stage t u.log ≢ 1)
     → ((o : ℕ) → o < containers_in k → word k es (block o 0) ≡ suc t → word k es (version_of o) % 2 ≡ 0)
-    → IsShut (class_of t) (table_of k t (run k es).words)
+    → IsAllShut (class_of t) (table_of k t (run k es).words)
 
 -- ---- entries
 

@@ -106,8 +106,8 @@ TimelyFor k o t i x committed =
     Timely (version_at (kind_in k.kinds o) (class_of t)) (rows (kind_in k.kinds o) (class_of t)) i x committed
 
 -- of a table of this class with these words no version is odd, by the kind of container that it was filled for
-abbrev pub IsShut : ℕ → List ℕ → Type 0
-IsShut class ws = (kind : Kind) × Shut (version_at kind class) (rows kind class) ws
+abbrev pub IsAllShut : ℕ → List ℕ → Type 0
+IsAllShut class ws = (kind : Kind) × Shut (version_at kind class) (rows kind class) ws
 
 abbrev pub LowFor : Shape → List ℕ → ℕ → ℕ → ℕ → Bool → Type 0
 LowFor k ws o t count committed =
@@ -225,7 +225,7 @@ May k m cs v (TakeTable t f s) =
 -- has found each pass offline or at least at the goal since then
 May k m cs v (GiveTable t) =
     IsTable k t
-    × (((stage t v.log ≡ 1) × IsShut (class_of t) (table_of k t m.words))
+    × (((stage t v.log ≡ 1) × IsAllShut (class_of t) (table_of k t m.words))
     ⊎ ((stage t v.log ≡ 4) × ((p : ℕ) → 0 < p → p ≤ k.passes → clear t p v.log ≡ true)))
     × (flight v.log ≡ 0)
 -- a table that the pass took out of a root; it has retired fewer than it has taken out

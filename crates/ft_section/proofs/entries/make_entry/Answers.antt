@@ -2,8 +2,6 @@ use Rattle.std.proofs.Common.{[], refl, sym, subst}
 use Rattle.ft_bank.specs.Passes.{view}
 use Rattle.ft_bank.specs.Reads.{IsShown}
 use Rattle.ft_trace.specs.declared.View.{View}
-use Rattle.ft_trace.specs.declared.Act.TheVariants.{ReadCounter}
-use Rattle.ft_trace.specs.Acts.{noted}
 use Rattle.ft_trace.specs.Traces.{Possible}
 use Rattle.ft_section.proofs.Floors.{counter_known}
 use Rattle.ft_section.proofs.entries.make_entry.Goals as goal

@@ -12,7 +12,7 @@ use Rattle.ft_trace.specs.Holds.{held, known}
 use Rattle.ft_trace.specs.Words.{Stands}
 use Rattle.std.specs.Prelude.{suc}
 use Rattle.ft_trace.specs.Traces.{Possible}
-use Rattle.ft_section.specs.Floors.{FindsSame, named_in}
+use Rattle.ft_section.specs.Floors.{FindsSame, owner_named}
 use Rattle.ft_section.proofs.Floors.{tried_known, took_finds}
 use Rattle.ft_section.proofs.locks.take_one.Goals as goal
 
@@ -62,4 +62,4 @@ returns-in-Err-clause-known c has =
     let v = view c.args.pass.now in
     let d = c.in-Err.ensures.did in
     let next : c.in-Err.owner + 1 ≡ suc c.in-Err.owner = omega arith in
-    ap named_in (sym next) ∙ tried_known v c.args.o (c.in-Err.owner + 1) d.0 (sym (c.if-has.ensures)) (subst (λ (w : View). ∥ Possible w ∥₁) d.1.1 c.try_lock.new.pass.possible) has
+    ap owner_named (sym next) ∙ tried_known v c.args.o (c.in-Err.owner + 1) d.0 (sym (c.if-has.ensures)) (subst (λ (w : View). ∥ Possible w ∥₁) d.1.1 c.try_lock.new.pass.possible) has

@@ -18,3 +18,6 @@ pub mod Spotting
 pub mod Calling
 pub mod Values
 mod Costing
+pub mod Staying
+mod Bounding
+pub mod Spending

@@ -8,3 +8,4 @@ pub mod Writing
 pub mod Spots
 pub mod Calls
 pub mod Costs
+pub mod Stays

@@ -7,6 +7,8 @@ ghost use Rattle.ft_trace.specs.declared.Act.TheVariants.{ReadRoot};
 ghost use Rattle.ft_trace.specs.Acts.{announces};
 ghost use Rattle.ft_trace.specs.Addresses.{containers_in};
 ghost use Rattle.ft_bank.specs.Passes.{shape_of, view, IsPassOf};
+ghost use Rattle.ft_keys.specs.declared.walk.Way.{Way};
+ghost use Rattle.ft_search.specs.Costs.{SpendsRound};
 ghost use Rattle.ft_search.specs.Rounds.{EndsRound};
 
 use crate::looks::Looked;
@@ -21,6 +23,7 @@ pub(crate) fn look_bare(bank: &Bank, pass: &mut Pass, o: u32) -> Round
     requires last { (rest : List Act) × ((view pass.old).log ≡ ReadRoot o 0 ∷ rest) }
     ensures pass { IsPassOf bank.now pass.new }
     ensures ended { (key : Key) → EndsRound (shape_of bank.now) o key 0 pass.old pass.new result }
+    ensures spends { (way : Way) → SpendsRound way o 0 pass.old pass.new result }
 {
     let opened = bank.seq(pass, o);
     let root = bank.read_root(pass, o);

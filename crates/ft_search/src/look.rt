@@ -14,6 +14,7 @@ ghost use Rattle.ft_bank.specs.Series.{DidAll};
 ghost use Rattle.ft_bank.specs.Keys.{IsKeyIn};
 ghost use Rattle.ft_bank.specs.Tables.{name_of, IsTableIn};
 ghost use Rattle.ft_bank.specs.Whole.{OnlyLoaded};
+ghost use Rattle.ft_search.specs.Costs.{LoadsRounds, SpendsRound};
 ghost use Rattle.ft_search.specs.Looks.{AreLooks, ShowsLooked};
 ghost use Rattle.ft_search.specs.Rounds.{kind_by, EndsTable, EndsRound};
 
@@ -47,6 +48,7 @@ fn look_in(
     requires last { (rest : List Act) × ((view pass.old).log ≡ ReadRoot o root ∷ rest) }
     ensures pass { IsPassOf bank.now pass.new }
     ensures ended { EndsTable (shape_of bank.now) o key (name_of table) pass.old pass.new result }
+    ensures spends { SpendsRound way o root pass.old pass.new result }
 {
     let mask = mask_of(table.class);
     let mut words = TableWords {
@@ -78,6 +80,7 @@ fn look_round(
     requires last { (rest : List Act) × ((view pass.old).log ≡ ReadRoot o root ∷ rest) }
     ensures pass { IsPassOf bank.now pass.new }
     ensures ended { EndsRound (shape_of bank.now) o key root pass.old pass.new result }
+    ensures spends { SpendsRound way o root pass.old pass.new result }
 {
     match table_named(root) {
         Some(table) => look_in(bank, pass, o, way, key, hash, root, table),
@@ -103,6 +106,9 @@ pub(crate) fn key_fits(key: Key)
 ///
 /// Writes under other keys and growths never make it contended, unless the root was read 0: then the
 /// version of the container decides, else that of the key's own entry.
+///
+/// It goes in rounds, one more for each change of the root that it finds. In each round it loads at most as many
+/// index words as one search may under the lock, whoever else writes.
 pub fn look_up(bank: &Bank, pass: &mut Pass, o: u32, way: Way, key: Key) -> Looked
     requires pass { IsPassOf bank.now pass.old }
     requires container { o < containers_in (shape_of bank.now) }
@@ -114,6 +120,7 @@ pub fn look_up(bank: &Bank, pass: &mut Pass, o: u32, way: Way, key: Key) -> Look
     ensures keeps { OnlyLoaded (view pass.old) (view pass.new) }
     ensures looked { (part : List Act) × AreLooks part × DidAll part pass.old pass.new
         × ShowsLooked (shape_of bank.now) o key part (view pass.new).log result }
+    ensures loads { LoadsRounds way o (view pass.old) (view pass.new) }
 {
     key_fits(key);
     let hash = bank.hash_of(key);

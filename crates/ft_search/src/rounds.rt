@@ -1,6 +1,6 @@
 //! One round of a look-up: a search of the table that the root named. What it found counts where the root
 //! names the table still once all was loaded, since no table comes back that the pass has found.
-ghost use Rattle.std.specs.Prelude.{◌≡◌, ◌≢◌, ℕ, suc, ◌<◌, ◌≤◌, List, ◌∷◌, length, None};
+ghost use Rattle.std.specs.Prelude.{◌≡◌, ◌≢◌, ℕ, suc, ◌<◌, ◌≤◌, List, ◌∷◌, length, None, All};
 ghost use Rattle.ft_model.specs.declared.data.Key.{Key};
 ghost use Rattle.ft_model.specs.Classes.{IsClass};
 ghost use Rattle.ft_layout.specs.Words.{key_kind, gone_kind};
@@ -8,7 +8,7 @@ ghost use Rattle.ft_layout.specs.Tables.{hash_of, dict_room};
 ghost use Rattle.ft_trace.specs.declared.Act.{Act};
 ghost use Rattle.ft_trace.specs.declared.Act.TheVariants.{ReadRoot};
 ghost use Rattle.ft_trace.specs.Acts.{announces};
-ghost use Rattle.ft_trace.specs.Addresses.{class_of};
+ghost use Rattle.ft_trace.specs.Addresses.{class_of, slots};
 ghost use Rattle.ft_trace.specs.Finding.{Inner};
 ghost use Rattle.ft_trace.specs.Words.{walk_of};
 ghost use Rattle.ft_trace.specs.Kinds.{rows};
@@ -17,6 +17,7 @@ ghost use Rattle.ft_bank.specs.Passes.{shape_of, view};
 ghost use Rattle.ft_bank.specs.Series.{DidAll};
 ghost use Rattle.ft_bank.specs.Tables.{name_of};
 ghost use Rattle.ft_search.specs.Words.{CanLoad, SamePlace};
+ghost use Rattle.ft_search.specs.Costs.{LoadsNoIndex, MayWalkOn, SpendsRound, SpendsSearch, WalksOn};
 ghost use Rattle.ft_search.specs.Rounds.{kind_by, met_acts, Walked, TurnsAfter, ClosesAt, EndsTable};
 
 use crate::looks::Looked;
@@ -62,6 +63,7 @@ fn look_at(words: &mut TableWords, place: u64, entries: u64, key: Key) -> Option
         TurnsAfter (shape_of words.old.bank.now) words.old.o (name_of words.old.table) key
         (met_acts (name_of words.old.table) slot place key (key_kind key) earlier) left result
         words.old.pass.now words.new.pass.now }
+    ensures index { (part : List Act) × DidAll part words.old.pass.now words.new.pass.now × LoadsNoIndex part }
 {
     if place >= entries {
         return None;
@@ -89,6 +91,7 @@ fn look_at_deleted(words: &mut TableWords, place: u64, entries: u64) -> Option<L
         TurnsAfter (shape_of words.old.bank.now) words.old.o (name_of words.old.table) key
         (met_acts (name_of words.old.table) slot place key (gone_kind key) earlier) left result
         words.old.pass.now words.new.pass.now }
+    ensures index { (part : List Act) × DidAll part words.old.pass.now words.new.pass.now × LoadsNoIndex part }
 {
     if place >= entries {
         return None;
@@ -115,6 +118,8 @@ fn search_on(words: &mut TableWords, walk: &mut Walk, key: Key, entries: u64) ->
         Walked (shape_of words.old.bank.now) words.old.o (name_of words.old.table) key part walk.old.left →
         TurnsAfter (shape_of words.old.bank.now) words.old.o (name_of words.old.table) key part walk.new.left result
         words.old.pass.now words.new.pass.now }
+    ensures spends { (walked : List ℕ) (acts : List Act) → MayWalkOn (name_of words.old.table) walked acts walk.old.left →
+        SpendsSearch (name_of words.old.table) walked acts walk.new.left result words.old.pass.now words.new.pass.now }
 {
     let passed = walk.count();
     let number = words.stamp();
@@ -143,10 +148,13 @@ fn search_walk(words: &mut TableWords, walk: &mut Walk, key: Key, entries: u64) 
     requires room { entries ≤ dict_room words.old.mask }
     requires whole { walk.old.left ≡ walk_of (kind_in (shape_of words.old.bank.now).kinds words.old.o)
         (shape_of words.old.bank.now).texts (class_of (name_of words.old.table)) key }
+    requires low { All (λ slot. slot < slots (class_of (name_of words.old.table))) walk.old.left }
     ensures can { CanLoad words.new }
     ensures same { SamePlace words.old words.new }
     ensures closes { (part : List Act) × Inner part × DidAll part words.old.pass.now words.new.pass.now
         × ClosesAt (shape_of words.old.bank.now) words.old.o (name_of words.old.table) key part result }
+    ensures spends { (part : List Act) × (left : List ℕ) × DidAll part words.old.pass.now words.new.pass.now
+        × WalksOn (name_of words.old.table) walk.old.left part left }
 {
     'walk: loop {
         match search_on(words, walk, key, entries) {
@@ -174,6 +182,7 @@ pub(crate) fn search_table(
     ensures same { SamePlace words.old words.new }
     ensures ended { EndsTable (shape_of words.old.bank.now) words.old.o key (name_of words.old.table)
         words.old.pass.now words.new.pass.now result }
+    ensures spends { SpendsRound way words.old.o root words.old.pass.now words.new.pass.now result }
 {
     let entries = entries_of(way, words.table.class);
     let mut walk = Walk::new(way, hash, words.mask);

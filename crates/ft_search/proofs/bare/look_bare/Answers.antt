@@ -1,7 +1,9 @@
-use Rattle.std.proofs.Common.{◌≡◌, ◌≢◌, ◌⊎◌, ◌%◌, List, [], ◌∷◌, inl, inr, arith}
+use Rattle.std.proofs.Common.{◌≡◌, ◌≢◌, ◌⊎◌, ◌%◌, List, [], ◌∷◌, inl, inr, refl, arith}
 use Rattle.ft_trace.specs.declared.Act.{Act}
-use Rattle.ft_trace.specs.declared.Act.TheVariants.{ReadRoot}
+use Rattle.ft_trace.specs.declared.Act.TheVariants.{ReadRoot, Version}
 use Rattle.ft_bank.specs.Passes.{shape_of}
+use Rattle.ft_search.proofs.Running.{did_trans}
+use Rattle.ft_search.proofs.Spending.{none_round}
 use Rattle.ft_search.proofs.Rounding.{bare_moved, bare_acts, bare_did, bare_stops, bare_absent}
 use Rattle.ft_search.proofs.bare.look_bare.Goals as goal
 use Rattle.ft_search.proofs.bare.look_bare.Goals.{then-closed-opened-via-then-closed-opened, then-closed-opened-via-else-closed-opened+then-opened-ne0}
@@ -33,3 +35,26 @@ returns-clause-ended c key =
     bare_absent (shape_of c.args.bank.now) o c.seq-closed.result c.stamp-number.result c.read_root-root.result c.seq-opened.result key c.args.pass.now c.seq-closed.new.pass
     (bare_did o c.seq-closed.result c.stamp-number.result c.read_root-root.result c.seq-opened.result c.args.pass.now c.seq-opened.new.pass c.read_root-root.new.pass c.stamp-number.new.pass c.seq-closed.new.pass c.seq-opened.ensures c.read_root-root.ensures.did c.stamp-number.ensures.did c.seq-closed.ensures)
     none same even
+
+pub returns-then-root-ne0-clause-spends : goal.returns-then-root-ne0-clause-spends
+returns-then-root-ne0-clause-spends c way =
+    let o = c.args.o in
+    let opened = c.seq-opened.result in
+    let part : List Act = Version o opened ∷ [] in
+    (part, did_trans (ReadRoot o c.read_root-root.result ∷ []) part c.args.pass.now c.seq-opened.new.pass c.read_root-root.new.pass c.seq-opened.ensures c.read_root-root.ensures.did, none_round way 0 part (λ u. refl))
+
+pub returns-then-closed-opened-clause-spends : goal.returns-then-closed-opened-clause-spends
+returns-then-closed-opened-clause-spends c way =
+    let acts = bare_acts c.args.o c.seq-closed.result c.stamp-number.result c.read_root-root.result c.seq-opened.result in (
+      acts,
+      bare_did c.args.o c.seq-closed.result c.stamp-number.result c.read_root-root.result c.seq-opened.result c.args.pass.now c.seq-opened.new.pass c.read_root-root.new.pass c.stamp-number.new.pass c.seq-closed.new.pass c.seq-opened.ensures c.read_root-root.ensures.did c.stamp-number.ensures.did c.seq-closed.ensures,
+      none_round way 0 acts (λ u. refl),
+    )
+
+pub returns-clause-spends : goal.returns-clause-spends
+returns-clause-spends c way =
+    let acts = bare_acts c.args.o c.seq-closed.result c.stamp-number.result c.read_root-root.result c.seq-opened.result in (
+      acts,
+      bare_did c.args.o c.seq-closed.result c.stamp-number.result c.read_root-root.result c.seq-opened.result c.args.pass.now c.seq-opened.new.pass c.read_root-root.new.pass c.stamp-number.new.pass c.seq-closed.new.pass c.seq-opened.ensures c.read_root-root.ensures.did c.stamp-number.ensures.did c.seq-closed.ensures,
+      none_round way 0 acts (λ u. refl),
+    )

@@ -4,6 +4,7 @@ use Rattle.ft_bank.specs.Passes.{shape_of}
 use Rattle.ft_bank.specs.Tables.{name_of}
 use Rattle.ft_search.specs.Rounds.{EndsRound}
 use Rattle.ft_search.proofs.Rounding.{at_bare, at_table}
+use Rattle.ft_search.proofs.Spending.{at_root}
 use Rattle.ft_search.proofs.look.look_round.Goals as goal
 
 pub look_in-requires-clause-table : goal.look_in-requires-clause-table
@@ -29,3 +30,8 @@ returns-in-Some-clause-ended c =
     subst (λ (z : ℕ). EndsRound (shape_of c.args.bank.now) c.args.o c.args.key z c.args.pass.now c.look_in.new.pass c.look_in.result) (sym is)
     (at_table (shape_of c.args.bank.now) c.args.o c.args.key t c.args.pass.now c.look_in.new.pass c.look_in.result c.requires.last.0
     (c.requires.last.1 ∙ ap (λ (z : ℕ). ReadRoot c.args.o z ∷ c.requires.last.0) is) c.look_in.ensures.ended)
+
+pub returns-in-None-clause-spends : goal.returns-in-None-clause-spends
+returns-in-None-clause-spends c =
+    at_root c.args.way c.args.o c.args.root 0 c.args.pass.now c.look_bare.new.pass c.look_bare.result
+    (c.in-None.ensures.none (shape_of c.args.bank.now) c.requires.table) (c.look_bare.ensures.spends c.args.way)

@@ -1,12 +1,14 @@
-use Rattle.std.proofs.Common.{◌≡◌, ◌<◌, ℕ, List, [], ◌∷◌, ◌++◌, sym, ap, ◌∙◌, subst, append_assoc}
+use Rattle.std.proofs.Common.{◌≡◌, ◌<◌, ℕ, suc, List, [], ◌∷◌, ◌++◌, refl, sym, ap, ◌∙◌, subst, append_assoc}
 use Rattle.ft_trace.specs.declared.Act.{Act}
 use Rattle.ft_trace.specs.declared.Act.TheVariants.{ReadRoot}
-use Rattle.ft_trace.specs.Acts.{announces}
+use Rattle.ft_trace.specs.Acts.{announces, reads}
 use Rattle.ft_bank.specs.Passes.{shape_of, view}
 use Rattle.ft_bank.specs.Whole.{OnlyLoaded}
-use Rattle.ft_search.specs.Looks.{ShowsLooked}
+use Rattle.ft_search.specs.Looks.{AreLooks, ShowsLooked}
 use Rattle.ft_search.proofs.Running.{did_trans, did_log}
 use Rattle.ft_search.proofs.Rounding.{looks_inner, looks_append, looks_load, looks_announce, looked_in, falls}
+use Rattle.ft_trace.specs.Finding.{Inner}
+use Rattle.ft_search.proofs.Spending.{one_round, own_reads}
 use Rattle.ft_search.proofs.look.look_up.Goals as goal
 
 pub rounds-init : goal.rounds-init
@@ -16,6 +18,7 @@ rounds-init c =
       pass = (did.0 ∙ c.requires.pass.0, ap (λ v. v.shape) did.1 ∙ c.requires.pass.1);
       table = c.read_root-root.ensures.table;
       made = ([], tt, did);
+      spent = (0, ReadRoot c.args.o c.read_root-root.result ∷ [], tt, did, refl);
     }
 
 pub look_round-requires-clause-online : goal.look_round-requires-clause-online
@@ -55,11 +58,28 @@ returns-in-Ended-clause-looked c =
 pub rounds-smaller : goal.rounds-smaller
 rounds-smaller c = falls (shape_of c.args.bank.now) c.args.o c.args.key c.rounds.root c.in-Moved.next c.rounds.pass c.look_round.new.pass c.in-Moved.ensures.ended
 
+pub returns-in-Ended-clause-loads : goal.returns-in-Ended-clause-loads
+returns-in-Ended-clause-loads c =
+    let spent = c.rounds.invariant.spent in
+    let round = c.in-Ended.ensures.spends in (
+      round.0 ++ spent.1,
+      did_log (round.0 ++ spent.1) c.args.pass.now c.look_round.new.pass (did_trans round.0 spent.1 c.args.pass.now c.rounds.pass c.look_round.new.pass spent.3 round.1),
+      record { moved = spent.0; root = c.rounds.root; earlier = spent.1; rounds = spent.4; last = round.0; few = round.2; is = refl },
+    )
+
 pub rounds-preserved : goal.rounds-preserved
 rounds-preserved c =
     let m = c.rounds.invariant.made in
     let old : List Act = ReadRoot c.args.o c.rounds.root ∷ m.0 in
     let e = c.in-Moved.ensures.ended in
+    let next = c.in-Moved.next in
+    let spent = c.rounds.invariant.spent in
+    let round = c.in-Moved.ensures.spends in
+    let same : e.0 ≡ round.0 = one_round c.args.o next e.0 round.0 c.rounds.pass c.look_round.new.pass e.2 round.1 in
+    let inner : Inner round.0 = subst Inner same e.1 in
+    let looks : AreLooks (round.0 ++ spent.1) = looks_append round.0 spent.1 (looks_inner round.0 inner) spent.2 in
+    let log : e.0 ++ (view c.rounds.pass).log ≡ (round.0 ++ spent.1) ++ (view c.args.pass.now).log = ap (λ (z : List Act). z ++ (view c.rounds.pass).log) same
+    ∙ (ap (λ (z : List Act). round.0 ++ z) (did_log spent.1 c.args.pass.now c.rounds.pass spent.3) ∙ sym (append_assoc round.0 spent.1 (view c.args.pass.now).log)) in
     record {
       pass = c.look_round.ensures.pass;
       table = λ t is. (e.4 t is).0;
@@ -67,5 +87,22 @@ rounds-preserved c =
         e.0 ++ old,
         looks_append e.0 old (looks_inner e.0 e.1) m.1,
         did_trans (ReadRoot c.args.o c.in-Moved.next ∷ e.0) old c.args.pass.now c.rounds.pass c.look_round.new.pass m.2 e.2,
+      );
+      spent = (
+        suc spent.0,
+        ReadRoot c.args.o next ∷ (round.0 ++ spent.1),
+        looks,
+        did_trans (ReadRoot c.args.o next ∷ round.0) spent.1 c.args.pass.now c.rounds.pass c.look_round.new.pass spent.3 round.1,
+        (
+          c.rounds.root,
+          round.0,
+          spent.1,
+          spent.4,
+          inner,
+          round.2,
+          e.3,
+          λ t is. own_reads t (round.0 ++ spent.1) (view c.args.pass.now).log looks (sym (ap (reads t) log) ∙ (e.4 t is).1),
+          refl,
+        ),
       );
     }

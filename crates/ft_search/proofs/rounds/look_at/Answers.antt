@@ -4,6 +4,7 @@ use Rattle.ft_bank.specs.Passes.{shape_of}
 use Rattle.ft_bank.specs.Tables.{name_of}
 use Rattle.ft_search.specs.Rounds.{met_acts, seen_acts}
 use Rattle.ft_search.proofs.Running.{did_none}
+use Rattle.ft_search.proofs.Spending.{seen_none}
 use Rattle.ft_search.proofs.Walking.{walked_more, walked_past}
 use Rattle.ft_search.proofs.Closing.{beyond_passed, moved_passed, stops_seen, closes_here}
 use Rattle.ft_search.proofs.rounds.look_at.Goals as goal
@@ -58,3 +59,24 @@ returns-clause-turns c slot earlier left w =
       c.read_between-seen.ensures.did,
       closes_here k s.o t key slot c.args.place earlier seen (omega (arith, low, c.requires.entries)) stood.0 stood.1 live,
     )
+
+pub returns-then-place-entries-clause-index : goal.returns-then-place-entries-clause-index
+returns-then-place-entries-clause-index c = ([], did_none c.args.words.now.pass.now, λ t. refl)
+
+pub returns-then-not-stood-clause-index : goal.returns-then-not-stood-clause-index
+returns-then-not-stood-clause-index c =
+    let t = name_of c.args.words.now.table in
+    let seen = c.read_between-seen.result in
+    (seen_acts t c.args.place seen, c.read_between-seen.ensures.did, seen_none t c.args.place seen)
+
+pub returns-then-seen-kind_of-clause-index : goal.returns-then-seen-kind_of-clause-index
+returns-then-seen-kind_of-clause-index c =
+    let t = name_of c.args.words.now.table in
+    let seen = c.read_between-seen.result in
+    (seen_acts t c.args.place seen, c.read_between-seen.ensures.did, seen_none t c.args.place seen)
+
+pub returns-clause-index : goal.returns-clause-index
+returns-clause-index c =
+    let t = name_of c.args.words.now.table in
+    let seen = c.read_between-seen.result in
+    (seen_acts t c.args.place seen, c.read_between-seen.ensures.did, seen_none t c.args.place seen)

@@ -1,4 +1,4 @@
-use Rattle.std.proofs.Common.{List, [], ◌∷◌, arith}
+use Rattle.std.proofs.Common.{List, [], ◌∷◌, refl, arith}
 use Rattle.ft_layout.specs.Words.{gone_kind}
 use Rattle.ft_trace.specs.declared.Act.{Act}
 use Rattle.ft_trace.specs.declared.Act.TheVariants.{ReadTable}
@@ -8,6 +8,7 @@ use Rattle.ft_bank.specs.Passes.{shape_of}
 use Rattle.ft_bank.specs.Tables.{name_of}
 use Rattle.ft_search.specs.Rounds.{met_acts}
 use Rattle.ft_search.proofs.Running.{did_none, did_trans, at_same}
+use Rattle.ft_search.proofs.Spending.{version_none, versions_none}
 use Rattle.ft_search.proofs.Walking.{walked_more, walked_past}
 use Rattle.ft_search.proofs.Closing.{beyond_passed, deleted_passed, stops_deleted}
 use Rattle.ft_bank.specs.Series.{DidAll}
@@ -55,3 +56,25 @@ returns-clause-turns c key slot earlier left w =
       did_trans (second ∷ []) (first ∷ []) s.pass.now s1.pass.now s2.pass.now c.word-opened.ensures.did again,
       stops_deleted k s.o t key slot c.args.place earlier opened closed (λ even. c.if-opened-eq0.false even),
     )
+
+pub returns-then-place-entries-clause-index : goal.returns-then-place-entries-clause-index
+returns-then-place-entries-clause-index c = ([], did_none c.args.words.now.pass.now, λ t. refl)
+
+pub returns-then-opened-eq0-clause-index : goal.returns-then-opened-eq0-clause-index
+returns-then-opened-eq0-clause-index c =
+    let t = name_of c.args.words.now.table in
+    let opened = c.word-opened.result in
+    (ReadTable t (entry_at (slots (class_of t)) c.args.place 0) opened ∷ [], c.word-opened.ensures.did, version_none t c.args.place opened)
+
+pub returns-clause-index : goal.returns-clause-index
+returns-clause-index c =
+    let s = c.args.words.now in
+    let s1 = c.word-opened.new.self in
+    let s2 = c.word-closed.new.self in
+    let t = name_of s.table in
+    let opened = c.word-opened.result in
+    let closed = c.word-closed.result in
+    let first : Act = ReadTable t (entry_at (slots (class_of t)) c.args.place 0) opened in
+    let second : Act = ReadTable t (entry_at (slots (class_of t)) c.args.place 0) closed in
+    let again : DidAll (second ∷ []) s1.pass.now s2.pass.now = at_same (λ _ _ n. DidAll (ReadTable n (entry_at (slots (class_of n)) c.args.place 0) closed ∷ []) s1.pass.now s2.pass.now) s s1 c.word-opened.ensures.same c.word-closed.ensures.did in
+    (second ∷ (first ∷ []), did_trans (second ∷ []) (first ∷ []) s.pass.now s1.pass.now s2.pass.now c.word-opened.ensures.did again, versions_none t c.args.place opened closed)

@@ -1,9 +1,9 @@
-use Rattle.std.proofs.Common.{◌≡◌, ◌≢◌, ◌<◌, ℕ, suc, List, [], ◌∷◌, ◌++◌, sym, ap, ◌∙◌, subst, arith}
+use Rattle.std.proofs.Common.{◌≡◌, ◌≢◌, ◌<◌, ℕ, suc, List, [], ◌∷◌, ◌++◌, refl, sym, ap, ◌∙◌, subst, arith}
 use Rattle.ft_keys.specs.Ways.{walk_slots}
 use Rattle.ft_trace.specs.declared.Act.{Act}
 use Rattle.ft_trace.specs.declared.Act.TheVariants.{ReadRoot}
 use Rattle.ft_trace.specs.Acts.{reads, announces}
-use Rattle.ft_trace.specs.Addresses.{IsTable}
+use Rattle.ft_trace.specs.Addresses.{IsTable, class_of, slots}
 use Rattle.ft_trace.specs.Words.{walk_of}
 use Rattle.ft_trace.specs.Kinds.{rows}
 use Rattle.ft_trace.specs.Finding.{IsNew}
@@ -12,7 +12,8 @@ use Rattle.ft_bank.specs.Series.{DidAll}
 use Rattle.ft_bank.specs.Tables.{name_of}
 use Rattle.ft_bank.proofs.Tables.{class_is}
 use Rattle.ft_search.proofs.Running.{did_trans, did_log, at_same, inner_announces}
-use Rattle.ft_search.proofs.Places.{mask_is, room_for, walk_is}
+use Rattle.ft_search.proofs.Places.{mask_is, room_for, slots_is, walk_is}
+use Rattle.ft_search.proofs.Spending.{walk_low, searched_round, round_more}
 use Rattle.ft_search.proofs.rounds.search_table.Goals as goal
 
 pub new-walk-requires : goal.new-walk-requires
@@ -39,6 +40,12 @@ search_walk-looked-requires-clause-whole c =
     ∙ ((λ d. walk_slots c.args.way (c.requires.hash d) (c.requires.can.mask d))
     ∙ (walk_is c.args.way k.texts s.table.class c.args.key
     ∙ sym (λ d. walk_of (c.requires.way d) k.texts (class_is s.table c.requires.can.table.2 d) c.args.key)))
+
+pub search_walk-looked-requires-clause-low : goal.search_walk-looked-requires-clause-low
+search_walk-looked-requires-clause-low c =
+    let s = c.args.words.now in
+    walk_low c.args.way c.args.hash s.mask (slots (class_of (name_of s.table))) c.new-walk.result.left (ap (λ z. z.left) c.new-walk.ensures)
+    (slots_is (shape_of s.bank.now) s.table s.mask c.requires.can.table c.requires.can.mask)
 
 pub root-again-requires-clause-online : goal.root-again-requires-clause-online
 root-again-requires-clause-online c =
@@ -82,3 +89,29 @@ returns-clause-ended c =
     let read : DidAll (ReadRoot s0.o r ∷ []) s1.pass.now s2.pass.now = at_same (λ _ o _. DidAll (ReadRoot o r ∷ []) s1.pass.now s2.pass.now) s0 s1 c.search_walk-looked.ensures.same c.root-again.ensures.did in
     let whole : DidAll (ReadRoot s0.o (suc t) ∷ m.0) s0.pass.now s2.pass.now = subst (λ (z : ℕ). DidAll (ReadRoot s0.o z ∷ m.0) s0.pass.now s2.pass.now) again (did_trans (ReadRoot s0.o r ∷ []) m.0 s0.pass.now s1.pass.now s2.pass.now m.2 read) in
     (m.0, m.1, whole, m.3)
+
+pub returns-then-again-root-clause-spends : goal.returns-then-again-root-clause-spends
+returns-then-again-root-clause-spends c =
+    let s0 = c.args.words.now in
+    let s1 = c.search_walk-looked.new.words in
+    let s2 = c.root-again.new.self in
+    let r = c.root-again.result in
+    let m = c.search_walk-looked.ensures.closes in
+    let spent = c.search_walk-looked.ensures.spends in
+    let read : DidAll (ReadRoot s0.o r ∷ []) s1.pass.now s2.pass.now = at_same (λ _ o _. DidAll (ReadRoot o r ∷ []) s1.pass.now s2.pass.now) s0 s1 c.search_walk-looked.ensures.same c.root-again.ensures.did in
+    let round = searched_round s0 s1 c.args.way c.args.hash c.args.root c.new-walk.result.left spent.1 m.0 spent.0 c.requires.last.0 c.requires.can c.search_walk-looked.ensures.can c.requires.way c.requires.root
+    (ap (λ z. z.left) c.new-walk.ensures) c.requires.last.1 m.1 m.2 spent.2 spent.3 in
+    (m.0, did_trans (ReadRoot s0.o r ∷ []) m.0 s0.pass.now s1.pass.now s2.pass.now m.2 read, round)
+
+pub returns-clause-spends : goal.returns-clause-spends
+returns-clause-spends c =
+    let s0 = c.args.words.now in
+    let s1 = c.search_walk-looked.new.words in
+    let s2 = c.root-again.new.self in
+    let r = c.root-again.result in
+    let m = c.search_walk-looked.ensures.closes in
+    let spent = c.search_walk-looked.ensures.spends in
+    let read : DidAll (ReadRoot s0.o r ∷ []) s1.pass.now s2.pass.now = at_same (λ _ o _. DidAll (ReadRoot o r ∷ []) s1.pass.now s2.pass.now) s0 s1 c.search_walk-looked.ensures.same c.root-again.ensures.did in
+    let round = searched_round s0 s1 c.args.way c.args.hash c.args.root c.new-walk.result.left spent.1 m.0 spent.0 c.requires.last.0 c.requires.can c.search_walk-looked.ensures.can c.requires.way c.requires.root
+    (ap (λ z. z.left) c.new-walk.ensures) c.requires.last.1 m.1 m.2 spent.2 spent.3 in
+    (ReadRoot s0.o r ∷ m.0, did_trans (ReadRoot s0.o r ∷ []) m.0 s0.pass.now s1.pass.now s2.pass.now m.2 read, round_more c.args.way c.args.root (ReadRoot s0.o r ∷ []) m.0 (λ u. refl) round)

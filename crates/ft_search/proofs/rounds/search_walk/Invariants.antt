@@ -5,6 +5,7 @@ use Rattle.ft_bank.specs.Passes.{shape_of}
 use Rattle.ft_bank.specs.Series.{DidAll}
 use Rattle.ft_bank.specs.Tables.{name_of}
 use Rattle.ft_search.specs.Words.{CanLoad, SamePlace}
+use Rattle.ft_search.specs.Costs.{MayWalkOn}
 use Rattle.ft_search.specs.Rounds.{Walked}
 use Rattle.ft_search.proofs.rounds.search_walk.Given as goal
 
@@ -16,6 +17,8 @@ invariant-walk l =
       mask : l.words.mask ≡ l.walk.mask;
       made : (part : List Act) × Inner part × DidAll part l.fn.words.pass.now l.words.pass.now
           × Walked (shape_of l.fn.words.bank.now) l.fn.words.o (name_of l.fn.words.table) l.key part l.walk.left;
+      spent : (acts : List Act) × DidAll acts l.fn.words.pass.now l.words.pass.now
+          × MayWalkOn (name_of l.fn.words.table) l.fn.walk.left acts l.walk.left;
     }
 
 abbrev pub decreases-walk : goal.decreases-walk

@@ -1,0 +1,257 @@
+-- What one round of a look-up without the lock loads.
+use Rattle.std.proofs.Common.{◌≡◌, ℕ, zero, suc, ◌+◌, ◌<◌, ◌≤◌, Bool, true, false, cond, List, [], ◌∷◌, ◌++◌, map, Option, None, refl, sym, ap, ◌∙◌, subst, arith, append_assoc, All}
+use Rattle.std.specs.Prelude.{◌==◌}
+use Rattle.std.proofs.lemmas.List.{append_cancel_right}
+use Rattle.std.proofs.lemmas.List.Elements.{All-weaker}
+use Rattle.std.proofs.Math.Decide.{dec_lt}
+use mathlib.Core.Logic.{dite}
+use native.Mathlib.Decide.{ℕ_discrete}
+use Rattle.ft_model.specs.declared.call.Call.{Call}
+use Rattle.ft_model.specs.declared.data.Key.{Key}
+use Rattle.ft_model.specs.declared.reply.Reply.{Reply}
+use Rattle.ft_model.specs.declared.script.Kind.{Kind}
+use Rattle.ft_layout.specs.Containers.{class_mask}
+use Rattle.ft_trace.specs.declared.Act.{Act}
+use Rattle.ft_trace.specs.declared.Act.TheVariants.{ReadBlock, ReadRoot, ReadTable, ReadCounter, Version, Answer}
+use Rattle.ft_trace.specs.declared.Shape.{Shape}
+use Rattle.ft_trace.specs.declared.View.{View}
+use Rattle.ft_trace.specs.Acts.{noted, reads}
+use Rattle.ft_trace.specs.Addresses.{class_of, slots}
+use Rattle.ft_trace.specs.Finding.{Inner}
+use Rattle.ft_trace.specs.Kinds.{IsKeyed}
+use Rattle.ft_trace.specs.Traces.{Possible}
+use Rattle.ft_trace.specs.Words.{entry_at}
+use Rattle.ft_trace.specs.Worlds.{kind_in}
+use Rattle.ft_keys.specs.declared.walk.Way.{Way}
+use Rattle.ft_keys.specs.declared.walk.Way.TheVariants as way
+use Rattle.ft_keys.specs.declared.words.Access.{Access}
+use Rattle.ft_keys.specs.declared.words.Access.TheVariants.{Index}
+use Rattle.ft_keys.specs.declared.search.Found.{Found}
+use Rattle.ft_keys.specs.Accesses.{Follows, index_loads}
+use Rattle.ft_keys.specs.Costs.{most_loads, NeverUsed, StaysUsed, free_loads}
+use Rattle.ft_keys.specs.Ways.{walk_slots}
+use Rattle.ft_keys.proofs.Bounds.{bounded}
+use Rattle.ft_keys.proofs.Reaching.{walk-within}
+use Rattle.ft_bank.specs.declared.pass.Pass.{Pass}
+use Rattle.ft_bank.specs.Passes.{shape_of, view}
+use Rattle.ft_bank.specs.Series.{DidAll, noted_all}
+use Rattle.ft_bank.specs.Tables.{name_of}
+use Rattle.ft_search.specs.declared.words.TableWords.{TableWords}
+use Rattle.ft_search.specs.declared.looks.Looked.{Looked}
+use Rattle.ft_search.specs.declared.reading.Seen.{Seen}
+use Rattle.ft_search.specs.declared.rounds.Round.{Round}
+use Rattle.ft_search.specs.Costs.{index_reads, indexed, LoadsNoIndex, IsRound, LoadsRounds, WalksOn, MayWalkOn, SpendsSearch, SpendsRound}
+use Rattle.ft_search.specs.Looks.{AreLooks}
+use Rattle.ft_search.specs.Rounds.{kind_by, seen_acts}
+use Rattle.ft_search.specs.Words.{act_of, CanLoad}
+use Rattle.ft_search.proofs.Bounding.{count_is, index_here, index_other, index_past, index_entry, freed, Went, went, none_append, walks_more}
+use Rattle.ft_search.proofs.Places.{slots_is, slots_of_class}
+use Rattle.ft_search.proofs.Running.{did_trans, did_log, inner_append, inner_online}
+use Rattle.ft_search.proofs.Seeking.{Sought}
+use Rattle.ft_search.proofs.Staying.{slots_stay}
+
+-- ---- one search on the walk
+
+-- the loads of an entry between two of its version
+pub seen_none : (t place : ℕ) (seen : Seen) → LoadsNoIndex (seen_acts t place seen)
+seen_none t place seen u =
+    let at = entry_at (slots (class_of t)) place in
+    let one : List Act = ReadTable t (at 0) seen.opened ∷ [] in
+    let two : List Act = ReadTable t (at 2) seen.key_kind ∷ one in
+    let three : List Act = ReadTable t (at 4) seen.value_kind ∷ two in
+    let four : List Act = ReadTable t (at 5) seen.value ∷ three in
+    index_entry u t place 0 seen.closed (ReadCounter seen.number ∷ four)
+    ∙ (index_entry u t place 5 seen.value three ∙ (index_entry u t place 4 seen.value_kind two ∙ (index_entry u t place 2 seen.key_kind one ∙ index_entry u t place 0 seen.opened [])))
+
+pub versions_none : (t place a b : ℕ) → LoadsNoIndex (ReadTable t (entry_at (slots (class_of t)) place 0) b ∷ (ReadTable t (entry_at (slots (class_of t)) place 0) a ∷ []))
+versions_none t place a b u = index_entry u t place 0 b (ReadTable t (entry_at (slots (class_of t)) place 0) a ∷ []) ∙ index_entry u t place 0 a []
+
+pub version_none : (t place a : ℕ) → LoadsNoIndex (ReadTable t (entry_at (slots (class_of t)) place 0) a ∷ [])
+version_none t place a u = index_entry u t place 0 a []
+
+module _ (s0 s2 : TableWords) (key : Key) (number : ℕ) (first left : List ℕ) (found : Found) (s : Sought s0 s2 key number first left found) (walked : List ℕ) (acts : List Act) (may : MayWalkOn (name_of s0.table) walked acts first) where
+  abbrev t : ℕ
+  t = name_of s0.table
+
+  abbrev calls : List Act
+  calls = map (act_of s0.o t) s.calls
+
+  abbrev own : List Act
+  own = calls ++ ReadCounter number ∷ []
+
+  abbrev pub sought_on : Went s0.o t walked s0.mask key first left found s.calls (ReadCounter number ∷ acts)
+  sought_on = went s0.o t walked s0.mask key first left found s.calls (ReadCounter number ∷ acts) s.loads (walks_more t walked (ReadCounter number ∷ []) acts first (λ u. refl) may.0, may.1)
+
+  -- other words were loaded after it
+  pub spent_search : (more : List Act) (s3 : TableWords) (result : Option Looked) → LoadsNoIndex more → DidAll more s2.pass.now s3.pass.now → (result ≡ None → freed found sought_on.before ≤ 1) → SpendsSearch t walked acts left result s0.pass.now s3.pass.now
+  spent_search more s3 result none did few =
+      let whole : (more ++ own) ++ acts ≡ more ++ (calls ++ ReadCounter number ∷ acts) = append_assoc more own acts ∙ ap (λ (z : List Act). more ++ z) (append_assoc calls (ReadCounter number ∷ []) acts) in
+      let free : free_loads (indexed t ((more ++ own) ++ acts)) ≡ freed found sought_on.before = ap (λ (z : List Act). free_loads (indexed t z)) whole ∙ (ap free_loads (none_append more (calls ++ ReadCounter number ∷ acts) none t) ∙ sought_on.free_is) in (
+        more ++ own,
+        did_trans more own s0.pass.now s2.pass.now s3.pass.now s.did did,
+        subst (λ (z : List Act). WalksOn t walked z left) (sym whole) (walks_more t walked more (calls ++ ReadCounter number ∷ acts) left none sought_on.on),
+        λ is. subst (λ (z : ℕ). z ≤ 1) (sym free) (few is),
+      )
+
+-- ---- the loads of one round
+
+-- of one load what is known if it is of an index word, and if it isn't
+counted_or : (t u i f : ℕ) (acts : List Act) (P : List Access → Type 0) → (u ≡ t → i < slots (class_of t) → P (Index i f ∷ indexed t acts)) → P (indexed t acts) → P (indexed t (ReadTable u i f ∷ acts))
+counted_or t u i f acts P mine other =
+    dite (ℕ_discrete u t)
+    (λ (e : u ≡ t).
+    dite (dec_lt i (slots (class_of t)))
+    (λ (low : i < slots (class_of t)). subst (λ (z : ℕ). P (indexed t (ReadTable z i f ∷ acts))) (sym e) (subst P (sym (index_here t i f acts low)) (mine e low)))
+    (λ high. subst P (sym (index_past t u i f acts (subst (λ (z : ℕ). slots (class_of z) ≤ i) (sym e) (let z : slots (class_of t) ≤ i = omega (arith, high) in z)))) other))
+    (λ ne. subst P (sym (index_other t u i f acts ne)) other)
+
+module _ (v : View) (possible : ∥ Possible v ∥₁) (o t : ℕ) (keyed : IsKeyed (kind_in v.shape.kinds o)) (rest : List Act) where
+  abbrev base : List Act
+  base = ReadRoot o (suc t) ∷ rest
+
+  moved_by : (mid : List Act) (a : Act) (part : List Act) → mid ++ ((a ∷ part) ++ base) ≡ (mid ++ a ∷ []) ++ (part ++ base)
+  moved_by mid a part = sym (append_assoc mid (a ∷ []) (part ++ base))
+
+  -- a slot that is found never used was not found used before
+  never_used : (slot : ℕ) → slot < slots (class_of t) → (newer mid part : List Act) → v.log ≡ newer ++ ReadTable t slot 0 ∷ (mid ++ (part ++ base)) → Inner mid → Inner part → NeverUsed slot (indexed t part)
+  never_used slot low newer mid [] log inner q = tt
+  never_used slot low newer mid (ReadTable u i f ∷ part) log inner q =
+      let log' = log ∙ ap (λ (z : List Act). newer ++ ReadTable t slot 0 ∷ z) (moved_by mid (ReadTable u i f) part) in
+      let more = never_used slot low newer (mid ++ ReadTable u i f ∷ []) part log' (inner_append mid (ReadTable u i f ∷ []) inner tt) q in
+      counted_or t u i f part (NeverUsed slot) (λ e small. by f e log more) more
+    where
+      by : (f : ℕ) → u ≡ t → v.log ≡ newer ++ ReadTable t slot 0 ∷ (mid ++ ((ReadTable u i f ∷ part) ++ base)) → NeverUsed slot (indexed t part) → NeverUsed slot (Index i f ∷ indexed t part)
+      by zero e log more = more
+      by (suc x) e log more = (
+        λ (same : i ≡ slot).
+            let log' : v.log ≡ newer ++ ReadTable t slot 0 ∷ (mid ++ ReadTable t slot (suc x) ∷ (part ++ base)) = log ∙ (λ d. newer ++ ReadTable t slot 0 ∷ (mid ++ ReadTable (e d) (same d) (suc x) ∷ (part ++ base))) in
+            let z : 0 ≡ suc x = slots_stay v possible o t slot 0 x newer mid part rest keyed low log' (inner_online mid inner) (inner_online part q) in
+            absurd (omega (arith, z)),
+        more,
+      )
+  never_used slot low newer mid (Version p f ∷ part) log inner q =
+      never_used slot low newer (mid ++ Version p f ∷ []) part (log ∙ ap (λ (z : List Act). newer ++ ReadTable t slot 0 ∷ z) (moved_by mid (Version p f) part)) (inner_append mid (Version p f ∷ []) inner tt) q
+  never_used slot low newer mid (ReadCounter f ∷ part) log inner q =
+      never_used slot low newer (mid ++ ReadCounter f ∷ []) part (log ∙ ap (λ (z : List Act). newer ++ ReadTable t slot 0 ∷ z) (moved_by mid (ReadCounter f) part)) (inner_append mid (ReadCounter f ∷ []) inner tt) q
+  never_used slot low newer mid (act ∷ part) log inner q = absurd q
+
+  -- index words, once not 0, stay so
+  pub stay_used : (newer part : List Act) → v.log ≡ newer ++ (part ++ base) → Inner part → StaysUsed (indexed t part)
+  stay_used newer [] log q = tt
+  stay_used newer (ReadTable u i f ∷ part) log q =
+      let more = stay_used (newer ++ ReadTable u i f ∷ []) part (log ∙ sym (append_assoc newer (ReadTable u i f ∷ []) (part ++ base))) q in
+      counted_or t u i f part StaysUsed (λ e small. by f e small log more) more
+    where
+      by : (f : ℕ) → u ≡ t → i < slots (class_of t) → v.log ≡ newer ++ ((ReadTable u i f ∷ part) ++ base) → StaysUsed (indexed t part) → StaysUsed (Index i f ∷ indexed t part)
+      by zero e small log more = (never_used i small newer [] part (log ∙ ap (λ (z : ℕ). newer ++ ReadTable z i 0 ∷ (part ++ base)) e) tt q, more)
+      by (suc x) e small log more = more
+  stay_used newer (Version p f ∷ part) log q = stay_used (newer ++ Version p f ∷ []) part (log ∙ sym (append_assoc newer (Version p f ∷ []) (part ++ base))) q
+  stay_used newer (ReadCounter f ∷ part) log q = stay_used (newer ++ ReadCounter f ∷ []) part (log ∙ sym (append_assoc newer (ReadCounter f ∷ []) (part ++ base))) q
+  stay_used newer (act ∷ part) log q = absurd q
+
+pub kind_keyed : (way : Way) (kind : Kind) → kind ≡ kind_by way → IsKeyed kind
+kind_keyed way.Dict kind is = subst IsKeyed (sym is) tt
+kind_keyed way.Set kind is = subst IsKeyed (sym is) tt
+
+-- the slots of a walk are some of the table's
+-- what a pass does leaves its bank's shape
+noted_shape : (acts : List Act) (p q : Pass) → DidAll acts p q → (view q).shape ≡ (view p).shape
+noted_shape acts p q did = ap (λ (z : View). z.shape) did.1 ∙ kept acts (view p)
+  where
+    kept : (acts : List Act) (v : View) → (noted_all acts v).shape ≡ v.shape
+    kept [] v = refl
+    kept (a ∷ acts) v = kept acts v
+
+pub walk_low : (way : Way) (hash mask n : ℕ) (walk : List ℕ) → walk ≡ walk_slots way hash mask → n ≡ mask + 1 → All (λ slot. slot < n) walk
+walk_low way hash mask n walk is many =
+    subst (All (λ slot. slot < n)) (sym is) (All-weaker (λ slot. slot ≤ mask) (λ slot. slot < n) (λ slot low. omega (arith, low, many)) (walk_slots way hash mask) (walk-within way hash mask))
+
+-- what two ways tell that a pass did is the same
+pub one_part : (a b : List Act) (p q : Pass) → DidAll a p q → DidAll b p q → a ≡ b
+one_part a b p q x y = append_cancel_right a b (view p).log (sym (did_log a p q x) ∙ did_log b p q y)
+
+cons_same : (a : Act) (x y : List Act) → a ∷ x ≡ a ∷ y → x ≡ y
+cons_same a x y e = cc
+
+pub one_round : (o r : ℕ) (a b : List Act) (p q : Pass) → DidAll (ReadRoot o r ∷ a) p q → DidAll (ReadRoot o r ∷ b) p q → a ≡ b
+one_round o r a b p q x y = cons_same (ReadRoot o r) a b (one_part (ReadRoot o r ∷ a) (ReadRoot o r ∷ b) p q x y)
+
+no_reads : (t : ℕ) (acts : List Act) → indexed t acts ≡ [] → index_reads t acts ≡ 0
+no_reads t acts none = count_is t acts ∙ ap index_loads none
+
+-- the loads of a walk in the table that the root named
+pub walk_round : (v : View) → ∥ Possible v ∥₁ → (o t : ℕ) (way : Way) (hash mask : ℕ) (walk left : List ℕ) (part rest : List Act) → kind_in v.shape.kinds o ≡ kind_by way → walk ≡ walk_slots way hash mask → slots (class_of t) ≡ mask + 1
+    → v.log ≡ part ++ ReadRoot o (suc t) ∷ rest → Inner part → WalksOn t walk part left → IsRound way (suc t) part
+walk_round v possible o t way hash mask walk left part rest kind is last log inner on =
+    let keyed = kind_keyed way (kind_in v.shape.kinds o) kind in
+    let stays = stay_used v possible o t keyed rest [] part log inner in
+    let c = slots_of_class (class_of t) in
+    let same : mask ≡ class_mask (class_of t) = omega (arith, c, last) in
+    let few : index_loads (indexed t part) ≤ most_loads way mask = bounded way hash mask (indexed t part) left (subst (λ (z : List ℕ). Follows z (indexed t part) left) is on.follows) stays on.once in
+    let most : most_loads way mask ≡ most_loads way (class_mask (class_of t)) = ap (most_loads way) same in
+    let count = count_is t part in
+    let here : index_reads t part ≤ most_loads way (class_mask (class_of t)) = omega (arith, few, most, count) in (
+      λ u.
+          dite (ℕ_discrete u t)
+          (λ (e : u ≡ t). subst (λ (z : ℕ). index_reads z part ≤ most_loads way (class_mask (class_of z))) (sym e) here)
+          (λ ne. let none = no_reads u part (on.others u ne) in omega (arith, none)),
+      λ u ne. no_reads u part (on.others u (λ e. ne (ap suc (sym e)))),
+    )
+
+-- loads of other words beside them
+pub round_more : (way : Way) (root : ℕ) (more part : List Act) → LoadsNoIndex more → IsRound way root part → IsRound way root (more ++ part)
+round_more way root more part none h =
+    let same : (u : ℕ) → index_reads u (more ++ part) ≡ index_reads u part = λ u. count_is u (more ++ part) ∙ (ap index_loads (none_append more part none u) ∙ sym (count_is u part)) in
+    (λ u. let s = same u in let few = h.0 u in omega (arith, s, few), λ u ne. same u ∙ h.1 u ne)
+
+-- no index word at all
+pub none_round : (way : Way) (root : ℕ) (acts : List Act) → LoadsNoIndex acts → IsRound way root acts
+none_round way root acts none = (λ u. let n = no_reads u acts (none u) in omega (arith, n), λ u ne. no_reads u acts (none u))
+
+-- ---- a round at whatever the root was
+
+pub at_root : (way : Way) (o root named : ℕ) (p q : Pass) (r : Round) → root ≡ named → SpendsRound way o named p q r → SpendsRound way o root p q r
+at_root way o root named p q r is s = subst (λ (z : ℕ). SpendsRound way o z p q r) (sym is) s
+
+-- ---- one round after the other
+
+-- what was not found in a root was not found by the last loads
+pub own_reads : (t : ℕ) (acts rest : List Act) → AreLooks acts → reads t (acts ++ rest) ≡ false → reads t acts ≡ false
+own_reads t [] rest q none = refl
+own_reads t (ReadRoot o f ∷ acts) rest q none = by (f == suc t) none (own_reads t acts rest q)
+  where
+    by : (b : Bool) → cond b true (reads t (acts ++ rest)) ≡ false → (reads t (acts ++ rest) ≡ false → reads t acts ≡ false) → cond b true (reads t acts) ≡ false
+    by true e more = absurd (cc)
+    by false e more = more e
+own_reads t (Version o f ∷ acts) rest q none = own_reads t acts rest q none
+own_reads t (ReadBlock o i f ∷ acts) rest q none = own_reads t acts rest q none
+own_reads t (ReadTable u i f ∷ acts) rest q none = own_reads t acts rest q none
+own_reads t (ReadCounter f ∷ acts) rest q none = own_reads t acts rest q none
+own_reads t (act ∷ acts) rest q none = absurd q
+
+-- ---- a walk over the words of a table that the root named
+
+-- the round is known in two ways: by what it shows, and by what it spends
+pub searched_round : (s0 s1 : TableWords) (way : Way) (hash root : ℕ) (walk left : List ℕ) (part spent rest : List Act) → CanLoad s0 → CanLoad s1 → kind_in (shape_of s0.bank.now).kinds s0.o ≡ kind_by way → root ≡ suc (name_of s0.table)
+    → walk ≡ walk_slots way hash s0.mask → (view s0.pass.now).log ≡ ReadRoot s0.o root ∷ rest → Inner part → DidAll part s0.pass.now s1.pass.now → DidAll spent s0.pass.now s1.pass.now → WalksOn (name_of s0.table) walk spent left → IsRound way root part
+searched_round s0 s1 way hash root walk left part spent rest can now kind named is last inner did did_spent on =
+    let t = name_of s0.table in
+    let k = shape_of s0.bank.now in
+    let p = s0.pass.now in
+    let q = s1.pass.now in
+    let same : spent ≡ part = one_part spent part p q did_spent did in
+    let shape : (view q).shape ≡ k = noted_shape part p q did ∙ can.pass.1 in
+    let kind_here : kind_in (view q).shape.kinds s0.o ≡ kind_by way = ap (λ (z : Shape). kind_in z.kinds s0.o) shape ∙ kind in
+    let log : (view q).log ≡ part ++ ReadRoot s0.o (suc t) ∷ rest = did_log part p q did ∙ (ap (λ (z : List Act). part ++ z) last ∙ ap (λ (z : ℕ). part ++ ReadRoot s0.o z ∷ rest) named) in
+    subst (λ (z : ℕ). IsRound way z part) (sym named)
+    (walk_round (view q) q.possible s0.o t way hash s0.mask walk left part rest kind_here is (slots_is k s0.table s0.mask can.table can.mask) log inner (subst (λ (z : List Act). WalksOn t walk z left) same on))
+
+-- the entry of the call loads nothing
+pub rounds_answered : (way : Way) (o : ℕ) (v w z : View) (called : Call) (said : Reply) (number : ℕ) → z ≡ noted (Answer called said number) w → LoadsRounds way o v w → LoadsRounds way o v z
+rounds_answered way o v w z called said number is h =
+    let r = h.2 in
+    let answer : List Act = Answer called said number ∷ [] in (
+      answer ++ h.0,
+      ap (λ (x : View). x.log) is ∙ ap (λ (l : List Act). answer ++ l) h.1,
+      record { moved = r.moved; root = r.root; earlier = r.earlier; rounds = r.rounds; last = answer ++ r.last; few = round_more way r.root answer r.last (λ u. refl) r.few; is = ap (λ (l : List Act). answer ++ l) r.is },
+    )

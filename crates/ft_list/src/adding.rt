@@ -63,7 +63,7 @@ pub(crate) fn root_table(bank: &Bank, pass: &mut Pass, l: Object) -> Option<Tabl
     table_at_root(bank, pass, l)
 }
 
-/// Adds to a list of so many items whose table has room, or that has none and needs none, as the write of this call.
+/// Adds to a list of that many items whose table has room, or that has none and needs none, as the write of this call.
 fn add_in_room(
     bank: &Bank,
     pass: &mut Pass,
@@ -103,7 +103,7 @@ fn add_in_room(
     }
 }
 
-/// Takes a table of a class for a list of so many items and adds to it there, as the write of this call; the
+/// Takes a table of a class for a list of that many items and adds to it there, as the write of this call; the
 /// table that the list had is retired.
 fn add_in_taken(
     bank: &Bank,
@@ -143,7 +143,7 @@ fn add_in_taken(
     }
 }
 
-/// Adds to a list of so many items, as the write of this call.
+/// Adds to a list of that many items, as the write of this call.
 fn add_to(
     bank: &Bank,
     pass: &mut Pass,

@@ -27,7 +27,7 @@ use ft_model::Value;
 pub(crate) enum Addition {
     /// A value, before the item at a place.
     One { place: u64, value: Value },
-    /// All items of another list or of the same one, of which there are so many, after the last item.
+    /// All items of another list or of the same one, of which there are that many, after the last item.
     All { other: u32, count: u64 },
 }
 
@@ -41,7 +41,7 @@ pub(crate) fn added_count(addition: Addition) -> u64
     }
 }
 
-/// The first place, of so many, whose item changes.
+/// The first place, of that many, whose item changes.
 pub(crate) fn first_place(addition: Addition, count: u64) -> u64
     ensures { result ≡ first_in addition count }
 {
@@ -70,7 +70,7 @@ fn given_item(bank: &Bank, pass: &mut Pass, m: u32, table: Option<Table>, place:
     }
 }
 
-/// Puts the items of a list one by one after those of the list that the pass writes, which had so many. Each is
+/// Puts the items of a list one by one after those of the list that the pass writes, which had that many. Each is
 /// read from the table of its list just before it is put.
 fn put_from(
     bank: &Bank,
@@ -108,7 +108,7 @@ fn put_from(
     }
 }
 
-/// Puts all items of a list after those of the list that the pass writes, which had so many.
+/// Puts all items of a list after those of the list that the pass writes, which had that many.
 fn put_items(bank: &Bank, pass: &mut Pass, o: u32, table: Table, m: u32, count: u64, more: u64)
     requires pass { IsPassOf bank.now pass.old }
     requires list { WritesList (shape_of bank.now) o table (view pass.old) }
@@ -132,7 +132,7 @@ fn put_items(bank: &Bank, pass: &mut Pass, o: u32, table: Table, m: u32, count: 
     put_from(bank, pass, o, table, m, from, count, more);
 }
 
-/// Puts what is added to the list that the pass writes, which had so many items, and the items after it.
+/// Puts what is added to the list that the pass writes, which had that many items, and the items after it.
 pub(crate) fn put_added(
     bank: &Bank,
     pass: &mut Pass,

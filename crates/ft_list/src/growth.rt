@@ -128,7 +128,7 @@ fn begin_in(bank: &Bank, pass: &mut Pass, o: u32, old: Option<Table>, table: Tab
     bank.put_root(pass, o, Some(table));
 }
 
-/// Adds to a list of so many items, which gets this table, as the write of this call. Answers the number of the
+/// Adds to a list of that many items, which gets this table, as the write of this call. Answers the number of the
 /// write.
 pub(crate) fn add_in(
     bank: &Bank,

@@ -117,7 +117,7 @@ pub(crate) fn shift_up(
     }
 }
 
-/// Adds to a list of so many items whose table has room, as the write of this call. Answers the number of the
+/// Adds to a list of that many items whose table has room, as the write of this call. Answers the number of the
 /// write.
 pub(crate) fn add_items(
     bank: &Bank,

@@ -125,7 +125,7 @@ fn is_said(reply: &Reply, said: Said) -> bool {
     }
 }
 
-/// Whether a call is answered as the row says, with so many writes before it.
+/// Whether a call is answered as the row says, with that many writes before it.
 fn is_answer(reply: &Reply, stamp: Stamp, row: Row, number: u64) -> bool {
     is_said(reply, row.said) && stamp.number == number && stamp.wrote == row.wrote
 }
@@ -176,7 +176,7 @@ fn is_made(
     }
 }
 
-/// Makes the call of a row as often as it says, with so many writes before it. Answers how many come before the next
+/// Makes the call of a row as often as it says, with that many writes before it. Answers how many come before the next
 /// row, or `None` where an answer is another than the row's.
 fn made_all(
     bank: &Bank,

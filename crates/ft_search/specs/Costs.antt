@@ -40,7 +40,7 @@ AreFewReads way acts = (t : ℕ) → index_reads t acts ≤ most_loads way (clas
 abbrev pub IsRound : Way → ℕ → List Act → Type 0
 IsRound way root acts = AreFewReads way acts × ((t : ℕ) → root ≢ suc t → index_reads t acts ≡ 0)
 
--- So many rounds of a look-up in the container o, newest first, up to a read of its root: after each one the root was
+-- That many rounds of a look-up in the container o, newest first, up to a read of its root: after each one the root was
 -- read again, and was another one. It named no table, or one that no earlier round found there, so there are at most
 -- two rounds for each table, and one more. (profile)
 abbrev pub AreMovedRounds : Way → ℕ → ℕ → ℕ → List Act → Type 0

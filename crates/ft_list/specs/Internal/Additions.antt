@@ -21,7 +21,7 @@ abbrev pub count_in : Addition → ℕ
 count_in (One place value) = 1
 count_in (All other count) = count
 
--- the first place, of so many, whose item changes
+-- the first place, of that many, whose item changes
 abbrev pub first_in : Addition → ℕ → ℕ
 first_in (One place value) count = place
 first_in (All other more) count = count
@@ -40,7 +40,7 @@ pub record KnowsItems (k : Shape) (o : ℕ) (v : View) : Type 0 where
   pub even : is_writing o v.log ≡ false
   pub stands : Stands k.texts (held o v) (known o v)
 
--- The addition is a value that words can tell, at a place of a list of so many items; or all the items of a list that
+-- The addition is a value that words can tell, at a place of a list of that many items; or all the items of a list that
 -- the pass knows, of which there are as many as it says.
 abbrev pub IsAddition : Shape → ℕ → Addition → View → Type 0
 IsAddition k count (One place value) v = (place ≤ count) × FitsStored (Plain value)
@@ -56,7 +56,7 @@ pub record GivesItems (k : Shape) (o m : ℕ) (v : View) : Type 0 where
       × IsStored (item_of (held m v).table p 1) (item_of (held m v).table p 2) (stored_at (items_of m v) p)
   pub bare : root_in (held m v) ≡ 0 → length (items_of m v) ≡ 0
 
--- the same of an addition once the pass writes the list o, of so many items
+-- the same of an addition once the pass writes the list o, of that many items
 abbrev pub IsAdditionTo : Shape → ℕ → ℕ → Addition → View → Type 0
 IsAdditionTo k o count (One place value) v = (place ≤ count) × FitsStored (Plain value)
 IsAdditionTo k o count (All other more) v = (more ≡ length (items_of other v)) × GivesItems k o other v

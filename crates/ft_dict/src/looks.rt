@@ -11,6 +11,8 @@ ghost use Rattle.ft_trace.specs.Worlds.{kind_in};
 ghost use Rattle.ft_bank.specs.Keys.{IsKeyIn};
 ghost use Rattle.ft_bank.specs.Passes.{shape_of, view, IsPassOf};
 ghost use Rattle.ft_bank.specs.Sections.{stack_of};
+ghost use Rattle.ft_keys.specs.declared.walk.Way.TheVariants as way;
+ghost use Rattle.ft_search.specs.Costs.{LoadsRounds};
 ghost use Rattle.ft_search.specs.Looks.{IsLookOf};
 ghost use Rattle.ft_dict.specs.Looks.{IsFoundAt};
 
@@ -51,6 +53,7 @@ fn find_value(bank: &Bank, pass: &mut Pass, d: Object, key: Key) -> AtKey
     ensures pass { IsPassOf bank.now pass.new }
     ensures sections { stack_of pass.new ≡ stack_of pass.old }
     ensures found { IsFoundAt d key (view pass.old) (view pass.new) result }
+    ensures loads { LoadsRounds way.Dict d (view pass.old) (view pass.new) }
 {
     match look_up(bank, pass, d, Way::Dict, key) {
         Looked::Here(kind, payload, number) => match value_of(kind, payload) {
@@ -63,7 +66,8 @@ fn find_value(bank: &Bank, pass: &mut Pass, d: Object, key: Key) -> AtKey
     }
 }
 
-/// `d[k]`, a KeyError where the key isn't there, without the lock (Python manual, Mapping Types).
+/// `d[k]`, a KeyError where the key isn't there, without the lock (Python manual, Mapping Types). It goes in rounds,
+/// one more for each change of the root that it finds, and in each loads at most as many index words as one search may.
 ///
 /// # Errors
 ///
@@ -79,6 +83,7 @@ pub fn look_get(bank: &Bank, pass: &mut Pass, d: Object, key: Key) -> Look
     ensures pass { IsPassOf bank.now pass.new }
     ensures sections { stack_of pass.new ≡ stack_of pass.old }
     ensures looked { IsLookOf d key (call.Dict d (dict.Get key)) (view pass.old) (view pass.new) result }
+    ensures loads { LoadsRounds way.Dict d (view pass.old) (view pass.new) }
 {
     let call = Call::Dict {
         container: d,
@@ -90,7 +95,8 @@ pub fn look_get(bank: &Bank, pass: &mut Pass, d: Object, key: Key) -> Look
     }
 }
 
-/// `d.get(k, v)`: the value at the key, or the default, without the lock (Python manual, Mapping Types).
+/// `d.get(k, v)`: the value at the key, or the default, without the lock (Python manual, Mapping Types). It loads what
+/// [`look_get`] may load.
 ///
 /// # Errors
 ///
@@ -105,6 +111,7 @@ pub fn look_getd(bank: &Bank, pass: &mut Pass, d: Object, key: Key, default: Val
     ensures pass { IsPassOf bank.now pass.new }
     ensures sections { stack_of pass.new ≡ stack_of pass.old }
     ensures looked { IsLookOf d key (call.Dict d (dict.GetOr key default)) (view pass.old) (view pass.new) result }
+    ensures loads { LoadsRounds way.Dict d (view pass.old) (view pass.new) }
 {
     let call = Call::Dict {
         container: d,
@@ -119,7 +126,7 @@ pub fn look_getd(bank: &Bank, pass: &mut Pass, d: Object, key: Key, default: Val
     }
 }
 
-/// `k in d`, without the lock (Python manual, Mapping Types).
+/// `k in d`, without the lock (Python manual, Mapping Types). It loads what [`look_get`] may load.
 ///
 /// # Errors
 ///
@@ -134,6 +141,7 @@ pub fn look_has(bank: &Bank, pass: &mut Pass, d: Object, key: Key) -> Look
     ensures pass { IsPassOf bank.now pass.new }
     ensures sections { stack_of pass.new ≡ stack_of pass.old }
     ensures looked { IsLookOf d key (call.Dict d (dict.Has key)) (view pass.old) (view pass.new) result }
+    ensures loads { LoadsRounds way.Dict d (view pass.old) (view pass.new) }
 {
     let call = Call::Dict {
         container: d,

@@ -10,6 +10,8 @@ ghost use Rattle.ft_trace.specs.Worlds.{kind_in};
 ghost use Rattle.ft_bank.specs.Keys.{IsKeyIn};
 ghost use Rattle.ft_bank.specs.Passes.{shape_of, view, IsPassOf};
 ghost use Rattle.ft_bank.specs.Sections.{stack_of};
+ghost use Rattle.ft_keys.specs.declared.walk.Way.TheVariants as way;
+ghost use Rattle.ft_search.specs.Costs.{LoadsRounds};
 ghost use Rattle.ft_search.specs.Looks.{IsLookOf};
 
 use ft_bank::{Bank, Pass};
@@ -18,7 +20,8 @@ use ft_model::{Call, Key, Reply, SetCall};
 use ft_search::{Looked, answer_look, look_up};
 use ft_section::{Look, Object};
 
-/// `k in s`, without the lock (Python manual, Set Types).
+/// `k in s`, without the lock (Python manual, Set Types). It goes in rounds, one more for each change of the root that
+/// it finds, and in each loads at most as many index words as one search may.
 ///
 /// # Errors
 ///
@@ -34,6 +37,7 @@ pub fn look_has(bank: &Bank, pass: &mut Pass, s: Object, key: Key) -> Look
     ensures pass { IsPassOf bank.now pass.new }
     ensures sections { stack_of pass.new ≡ stack_of pass.old }
     ensures looked { IsLookOf s key (call.Set s (set.Has key)) (view pass.old) (view pass.new) result }
+    ensures loads { LoadsRounds way.Set s (view pass.old) (view pass.new) }
 {
     let call = Call::Set {
         container: s,

@@ -6,6 +6,8 @@ use Rattle.ft_model.specs.declared.call.DictCall.TheVariants as dict
 use Rattle.ft_model.specs.declared.reply.Reply.TheVariants as reply
 use Rattle.ft_search.specs.Looks.{IsLookOf}
 use Rattle.ft_search.proofs.Asking.{answered_after}
+use Rattle.ft_keys.specs.declared.walk.Way.TheVariants as way
+use Rattle.ft_search.proofs.Spending.{rounds_answered}
 use Rattle.ft_dict.proofs.looks.look_has.Goals as goal
 
 pub answer_look-requires-clause-shown : goal.answer_look-requires-clause-shown
@@ -22,3 +24,8 @@ returns-in-Found-clause-looked c =
     let f = c.in-Found.ensures.found in
     subst (λ r. IsLookOf c.args.d c.args.key called v z r) (sym c.answer_look.ensures.done)
     (answered_after v w z called (reply.Truth c.is_some.result) c.in-Found.number f.2.0 f.0 f.2.1 f.2.2 c.answer_look.ensures.did.1 c.args.pass.now.settled c.answer_look.new.pass.possible, refl)
+
+pub returns-in-Found-clause-loads : goal.returns-in-Found-clause-loads
+returns-in-Found-clause-loads c =
+    rounds_answered way.Dict c.args.d (view c.args.pass.now) (view c.find_value.new.pass) (view c.answer_look.new.pass) (call.Dict c.args.d (dict.Has c.args.key)) (reply.Truth c.is_some.result) c.in-Found.number
+    c.answer_look.ensures.did.1 c.in-Found.ensures.loads

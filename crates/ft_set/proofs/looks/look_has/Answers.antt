@@ -6,6 +6,8 @@ use Rattle.ft_model.specs.declared.reply.Reply.TheVariants as reply
 use Rattle.ft_search.specs.Looks.{IsLookOf}
 use Rattle.ft_search.proofs.Asking.{element_absent, element_here, answered_after, contended_after}
 use Rattle.ft_search.proofs.Running.{did_log}
+use Rattle.ft_keys.specs.declared.walk.Way.TheVariants as way
+use Rattle.ft_search.proofs.Spending.{rounds_answered}
 use Rattle.ft_set.proofs.looks.look_has.Goals as goal
 
 pub answer_look-requires-clause-shown : goal.answer_look-requires-clause-shown
@@ -57,3 +59,13 @@ returns-in-Contended-clause-looked c =
     let m = c.in-Contended.ensures.looked in
     contended_after (view c.args.pass.now) (view c.look_up.new.pass) c.args.s c.args.key c.in-Contended.first c.in-Contended.second m.0 e.keeps
     m.1 (did_log m.0 c.args.pass.now c.look_up.new.pass m.2) m.3
+
+pub returns-in-Here-clause-loads : goal.returns-in-Here-clause-loads
+returns-in-Here-clause-loads c =
+    rounds_answered way.Set c.args.s (view c.args.pass.now) (view c.look_up.new.pass) (view c.answer_look.new.pass) (call.Set c.args.s (set.Has c.args.key)) (reply.Truth true) c.in-Here.number
+    c.answer_look.ensures.did.1 c.in-Here.ensures.loads
+
+pub returns-in-Absent-clause-loads : goal.returns-in-Absent-clause-loads
+returns-in-Absent-clause-loads c =
+    rounds_answered way.Set c.args.s (view c.args.pass.now) (view c.look_up.new.pass) (view c.answer_look-in-Absent.new.pass) (call.Set c.args.s (set.Has c.args.key)) (reply.Truth false) c.in-Absent.number
+    c.answer_look-in-Absent.ensures.did.1 c.in-Absent.ensures.loads

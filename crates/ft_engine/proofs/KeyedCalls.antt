@@ -12,6 +12,7 @@ use Rattle.ft_model.specs.declared.data.Value.{Value}
 use Rattle.ft_model.specs.declared.reply.Reply.{Reply}
 use Rattle.ft_model.specs.declared.reply.Reply.TheVariants as reply
 use Rattle.ft_model.specs.Calls.{other_dict, other_set}
+use Rattle.ft_trace.specs.declared.Act.{Act}
 use Rattle.ft_trace.specs.declared.Shape.{Shape}
 use Rattle.ft_trace.specs.declared.View.{View}
 use Rattle.ft_trace.specs.Words.{Picture}
@@ -26,15 +27,15 @@ use Rattle.ft_section.specs.declared.answers.Step.{Step}
 use Rattle.ft_section.specs.declared.answers.Step.TheVariants as step
 use Rattle.ft_section.specs.Trying.{SectionsAfter}
 use Rattle.ft_growth.specs.Adding.{IsTryOf as IsAddTryOf}
-use Rattle.ft_search.specs.Lengths.{IsGlanceOf}
-use Rattle.ft_search.specs.Looks.{IsLookOf}
+use Rattle.ft_search.specs.Looks.{IsLookOf, Stops}
 use Rattle.ft_adding.specs.Growing.{PutsKey}
 use Rattle.ft_keyed.specs.Clearing.{IsClearOf}
 use Rattle.ft_keyed.specs.Copies.{IsCopyGlanceOf, IsCopyOf}
 use Rattle.ft_dict.specs.Values.{SetsDefault}
 use Rattle.ft_engine.specs.Answering.{IsLooked, IsTryOf}
+use Rattle.ft_engine.specs.Contentions.{StopsCall}
 use Rattle.ft_engine.specs.Flights.{objects_by}
-use Rattle.ft_engine.proofs.ListLooks.{glance_looked}
+use Rattle.ft_engine.proofs.ListLooks.{StopsAt}
 use Rattle.ft_engine.proofs.Looking.{IsPlain, tried_of}
 use Rattle.ft_engine.proofs.Outcomes.{Outcome, add_outcome, gave_up_adds, loaded_comes, loaded_nothing, locked_entry, under_locks}
 use Rattle.ft_engine.proofs.SectionCalls.{nothing_then, only_nothing}
@@ -90,15 +91,15 @@ keyed_copy_outcome objects called v w step.NoMemory left x = nothing_then v x.be
 
 -- ---- looks
 
-pub keyed_copy_looked : (k : Shape) (o : ℕ) (some : Picture → Type 0) (called : Call) (v w : View) (answer : Look) → IsCopyGlanceOf k o some called v w answer → IsLooked called v w answer
-keyed_copy_looked k o some called v w (look.Done said stamp) x = x
-keyed_copy_looked k o some called v w (look.Contended a b) x = (x.part, x.own, x.loaded)
-keyed_copy_looked k o some called v w look.NoMemory x = x.0
+pub keyed_copy_looked : (k : Shape) (o : ℕ) (some : Picture → Type 0) (called : Call) (v w : View) (answer : Look) → StopsAt o called → IsCopyGlanceOf k o some called v w answer → IsLooked called v w answer
+keyed_copy_looked k o some called v w (look.Done said stamp) stops x = x
+keyed_copy_looked k o some called v w (look.Contended a b) stops x = (x.part, x.own, x.loaded, stops a b x.part x.stops)
+keyed_copy_looked k o some called v w look.NoMemory stops x = x.0
 
-pub key_looked : (o : ℕ) (key : Key) (called : Call) (v w : View) (answer : Look) → IsLookOf o key called v w answer → IsLooked called v w answer
-key_looked o key called v w (look.Done said stamp) x = x
-key_looked o key called v w (look.Contended a b) x = (x.part, x.own, x.loaded)
-key_looked o key called v w look.NoMemory x = absurd x
+pub key_looked : (o : ℕ) (key : Key) (called : Call) (v w : View) (answer : Look) → ((a b : ℕ) (part : List Act) → Stops o key a b part → StopsCall called a b part) → IsLookOf o key called v w answer → IsLooked called v w answer
+key_looked o key called v w (look.Done said stamp) stops x = x
+key_looked o key called v w (look.Contended a b) stops x = (x.part, x.own, x.loaded, stops a b x.part x.stops)
+key_looked o key called v w look.NoMemory stops x = absurd x
 
 -- by the call that was given
 pub dict_looked : (d : ℕ) (given dc : DictCall) (v w : View) (answer : Look) → given ≡ dc → IsLooked (call.Dict d dc) v w answer → IsLooked (call.Dict d given) v w answer

@@ -6,9 +6,11 @@ pub mod Callers
 pub mod KeptLists
 pub mod Outcomes
 pub mod Looking
+pub mod LookFirst
 pub mod ListCalls
 pub mod ListLooks
 pub mod CursorCalls
 pub mod IterCalls
 pub mod KeyedCalls
 pub mod GivingUp
+pub mod LookCalls

@@ -159,7 +159,7 @@ looked_making b p q called objects (Some look.NoMemory) plain may pass stack x =
 pub looked_loaded : (p q : Pass) (called : Call) (found : Option Look) → settled found ≡ None → Looked called p q found → (part : List Act) × ((view q).log ≡ part ++ (view p).log) × OnlyLoaded (view p) (view q)
 looked_loaded p q called None none x = ([], ap (λ (v : View). v.log) x.1, loaded_none p q x)
 looked_loaded p q called (Some (look.Done said stamp)) none x = absurd (let e : Some (step.Done said stamp) ≡ None = none in cc)
-looked_loaded p q called (Some (look.Contended first second)) none x = x
+looked_loaded p q called (Some (look.Contended first second)) none x = (x.0, x.1, x.2)
 looked_loaded p q called (Some look.NoMemory) none x = absurd (let e : Some step.NoMemory ≡ None = none in cc)
 
 after_nothing : (called : Call) (said : Reply) (stamp : Stamp) (u v w : View) → AddsEntry called said stamp u v → AddsNothing v w → AddsEntry called said stamp u w

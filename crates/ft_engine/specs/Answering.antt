@@ -29,6 +29,7 @@ use Rattle.ft_section.specs.Ready.{HasTop, IsReady, IsWaiting, MayTry, MayResume
 use Rattle.ft_section.specs.Takings.{IsOf}
 use Rattle.ft_section.specs.Trying.{HasLetGo}
 use Rattle.ft_engine.specs.Callers.{AreOver}
+use Rattle.ft_engine.specs.Contentions.{StopsCall, WasContended, may_look}
 use Rattle.ft_engine.specs.Flights.{is_begin, objects_of}
 use Rattle.ft_engine.specs.Names.{FitsSections, IsBuilt, IsCallIn}
 use Rattle.ft_engine.specs.Keeping.{made_entry, marks_in, marks_after}
@@ -128,11 +129,11 @@ IsTryOf b hands called p q step.NoMemory = HasNone b p q
 -- ---- looks
 
 -- What a look at containers answers, in the words that all looks share. It gave a reply, with a stamp that it loaded;
--- or it has only loaded words.
+-- or it has only loaded words, and where it is contended, among them those that stopped it.
 abbrev pub IsLooked : Call → View → View → Look → Type 0
 IsLooked called v w (look.Done said stamp) = Answered called said stamp.number v w × (stamp.wrote ≡ false)
 IsLooked called v w (look.Contended first second) =
-    (part : List Act) × (w.log ≡ part ++ v.log) × OnlyLoaded v w
+    (part : List Act) × (w.log ≡ part ++ v.log) × OnlyLoaded v w × StopsCall called first second part
 IsLooked called v w look.NoMemory = OnlyLoaded v w
 
 -- the same of a call that is looked at, or of one that isn't
@@ -146,3 +147,10 @@ settled (Some (look.Done said stamp)) = Some (step.Done said stamp)
 settled (Some (look.Contended first second)) = None
 settled (Some look.NoMemory) = Some step.NoMemory
 settled None = None
+
+-- a call that may be made without a lock waits for one only where a look at it in this try was contended
+abbrev pub HasLooked : Call → View → View → Step → Type 0
+HasLooked called v w (step.NotYet o owner) = may_look called ≡ true → WasContended called v w
+HasLooked called v w (step.Done said stamp) = Unit {0}
+HasLooked called v w (step.Moved first second) = Unit {0}
+HasLooked called v w step.NoMemory = Unit {0}

@@ -1,11 +1,13 @@
 -- One try of a call: what it asks of the caller, and what it answers.
-use Rattle.std.specs.Prelude.{◌≡◌, ◌⊎◌, ℕ, suc, ◌<◌, List, [], ◌∷◌, ◌++◌, length, Option, Some}
+use Rattle.std.specs.Prelude.{◌≡◌, ◌⊎◌, ℕ, suc, ◌+◌, ◌<◌, true, List, [], ◌∷◌, ◌++◌, length, Option, Some, None}
 use Rattle.ft_model.specs.declared.call.Call.{Call}
 use Rattle.ft_model.specs.declared.entry.Entry.{Entry as NamedEntry}
 use Rattle.ft_trace.specs.declared.View.{View}
 use Rattle.ft_trace.specs.Acts.{announces}
 use Rattle.ft_bank.specs.Passes.{shape_of, view}
 use Rattle.ft_bank.specs.Sections.{stack_of}
+use Rattle.ft_section.specs.declared.answers.Look.{Look}
+use Rattle.ft_section.specs.declared.answers.Look.TheVariants as look
 use Rattle.ft_section.specs.Locking.{FoundOwner, first_mark}
 use Rattle.ft_engine.specs.declared.attempts.Tried.{Tried}
 use Rattle.ft_engine.specs.declared.attempts.Tried.TheVariants as tried
@@ -14,7 +16,8 @@ use Rattle.ft_engine.specs.declared.caller.Flight.{Flight}
 use Rattle.ft_engine.specs.declared.caller.Flight.TheVariants as flight
 use Rattle.ft_engine.specs.declared.engine.Engine.{Engine}
 use Rattle.ft_engine.specs.Answering.{StaysPass}
-use Rattle.ft_engine.specs.Callers.{left_of}
+use Rattle.ft_engine.specs.Callers.{flight_of, left_of}
+use Rattle.ft_engine.specs.Contentions.{WasContended, may_look}
 use Rattle.ft_engine.specs.Flights.{IsAnswered, IsNext}
 use Rattle.ft_engine.specs.Keeping.{kept_entry}
 use Rattle.ft_engine.specs.Names.{FitsSections, IsBuilt, IsCallIn}
@@ -68,8 +71,44 @@ HasFoundOwner t c d =
     FoundIn t (view c.pass) (view d.pass)
     ⊎ ((mid : View) × (length mid.entries ≡ suc (length (view c.pass).entries)) × FoundIn t mid (view d.pass))
 
+-- A call that may be made without a lock, and whose answer isn't fixed yet, waits only where a look at it in this try was
+-- contended. (PEP 703, Optimistically avoiding locking)
+abbrev pub HasLookedFirst : Call → Tried → Caller → Caller → Type 0
+HasLookedFirst called (tried.NotYet o owner) c d =
+    may_look called ≡ true → flight_of d ≡ flight.Tried called → WasContended called (view c.pass) (view d.pass)
+HasLookedFirst called (tried.Done said stamp mark) c d = Unit {0}
+HasLookedFirst called (tried.Moved first second) c d = Unit {0}
+HasLookedFirst called tried.NoMemory c d = Unit {0}
+
+-- it waits
+abbrev pub IfWaits : Tried → Type 0 → Type 0
+IfWaits (tried.NotYet o owner) P = P
+IfWaits (tried.Done said stamp mark) P = Unit {0}
+IfWaits (tried.Moved first second) P = Unit {0}
+IfWaits tried.NoMemory P = Unit {0}
+
 -- it is the same caller, with as many cursors; it is online where it was, has taken in the same callers, and has seen
 -- no fewer writes (profile)
 pub record StaysCaller (c d : Caller) : Type 0 where
   pub pass : StaysPass (view c.pass) (view d.pass)
   pub room : length d.cursors.items ≡ length c.cursors.items
+
+-- ---- looks
+
+-- a call that was refused memory is in flight until the caller gives up; after any other look none is
+abbrev pub flight_looked : Call → Look → Flight
+flight_looked called (look.Done said stamp) = flight.Idle
+flight_looked called (look.Contended first second) = flight.Idle
+flight_looked called look.NoMemory = flight.Refused called
+
+-- the entries that the caller was answered, with that of the look if it gave a reply; no lock was waited for
+abbrev pub kept_looked : ℕ → Call → Look → List NamedEntry → List NamedEntry
+kept_looked thread called (look.Done said stamp) mine = mine ++ kept_entry thread mine called said stamp None ∷ []
+kept_looked thread called (look.Contended first second) mine = mine
+kept_looked thread called look.NoMemory mine = mine
+
+-- the caller once a look of its pass has answered so
+abbrev pub after_look : Call → Look → Caller → Caller
+after_look called (look.Done said stamp) c = record c { made = c.made + 1 }
+after_look called (look.Contended first second) c = c
+after_look called look.NoMemory c = record c { flight = flight.Refused called }

@@ -1,6 +1,7 @@
 pub mod Flights
 pub mod Callers
 pub mod Names
+pub mod Contentions
 pub mod Keeping
 pub mod Answering
 pub mod Attempts

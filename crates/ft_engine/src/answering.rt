@@ -4,8 +4,8 @@ ghost use Rattle.ft_model.specs.declared.call.Call.TheVariants as calls;
 ghost use Rattle.ft_model.specs.declared.entry.Entry.{Entry as NamedEntry};
 ghost use Rattle.ft_bank.specs.Passes.{shape_of, view};
 ghost use Rattle.ft_bank.specs.Sections.{stack_of};
-ghost use Rattle.ft_engine.specs.Answering.{AreHandsOf, IsTryOf, LeavesHands, MayMake};
-ghost use Rattle.ft_engine.specs.Attempts.{MayAttempt, flight_after, kept_after, IsMarkOf, FoundIn, StaysCaller};
+ghost use Rattle.ft_engine.specs.Answering.{AreHandsOf, HasLooked, IsTryOf, LeavesHands, MayMake};
+ghost use Rattle.ft_engine.specs.Attempts.{MayAttempt, flight_after, kept_after, IsMarkOf, FoundIn, HasLookedFirst, StaysCaller};
 ghost use Rattle.ft_engine.specs.Callers.{IsCallerOf, thread_of};
 ghost use Rattle.ft_engine.specs.Flights.{IsAnswered, IsNext};
 ghost use Rattle.ft_engine.specs.Keeping.{IsKept};
@@ -34,6 +34,7 @@ fn make(
     requires may { MayMake bank.now pass.old cursors.old.items call.now }
     requires hands { AreHandsOf (shape_of bank.now) (view pass.old) cursors.old.items }
     ensures tried { IsTryOf bank.now cursors.old.items call.now pass.old pass.new result }
+    ensures looked { HasLooked call.now (view pass.old) (view pass.new) result }
     ensures hands { AreHandsOf (shape_of bank.now) (view pass.new) cursors.new.items }
     ensures stays { LeavesHands result cursors.old.items cursors.new.items }
 {
@@ -60,6 +61,7 @@ fn make_dict(
     requires may { MayMake bank.now pass.old cursors.old.items (calls.Dict d call.now) }
     requires hands { AreHandsOf (shape_of bank.now) (view pass.old) cursors.old.items }
     ensures tried { IsTryOf bank.now cursors.old.items (calls.Dict d call.now) pass.old pass.new result }
+    ensures looked { HasLooked (calls.Dict d call.now) (view pass.old) (view pass.new) result }
     ensures hands { AreHandsOf (shape_of bank.now) (view pass.new) cursors.new.items }
     ensures stays { LeavesHands result cursors.old.items cursors.new.items }
 {
@@ -81,6 +83,7 @@ fn make_list(
     requires may { MayMake bank.now pass.old cursors.old.items (calls.List l call.now) }
     requires hands { AreHandsOf (shape_of bank.now) (view pass.old) cursors.old.items }
     ensures tried { IsTryOf bank.now cursors.old.items (calls.List l call.now) pass.old pass.new result }
+    ensures looked { HasLooked (calls.List l call.now) (view pass.old) (view pass.new) result }
     ensures hands { AreHandsOf (shape_of bank.now) (view pass.new) cursors.new.items }
     ensures stays { LeavesHands result cursors.old.items cursors.new.items }
 {
@@ -102,6 +105,7 @@ fn make_set(
     requires may { MayMake bank.now pass.old cursors.old.items (calls.Set s call.now) }
     requires hands { AreHandsOf (shape_of bank.now) (view pass.old) cursors.old.items }
     ensures tried { IsTryOf bank.now cursors.old.items (calls.Set s call.now) pass.old pass.new result }
+    ensures looked { HasLooked (calls.Set s call.now) (view pass.old) (view pass.new) result }
     ensures hands { AreHandsOf (shape_of bank.now) (view pass.new) cursors.new.items }
     ensures stays { LeavesHands result cursors.old.items cursors.new.items }
 {
@@ -129,6 +133,7 @@ impl Engine {
             IsKept caller.new (kept_after (thread_of caller.old) call.now tried mine)) }
         ensures mark { IfSome result (λ tried. IsMarkOf tried (stack_of caller.old.pass).mark (stack_of caller.new.pass).mark) }
         ensures found { IfSome result (λ tried. FoundIn tried (view caller.old.pass) (view caller.new.pass)) }
+        ensures looked { IfSome result (λ tried. HasLookedFirst call.now tried caller.old caller.new) }
     {
         match make(
             &self.bank,

@@ -3,7 +3,7 @@ ghost use Rattle.std.specs.Prelude.{◌≡◌, ◌<◌, List};
 ghost use Rattle.ft_model.specs.declared.entry.Entry.{Entry as NamedEntry};
 ghost use Rattle.ft_bank.specs.Passes.{view};
 ghost use Rattle.ft_bank.specs.Sections.{stack_of};
-ghost use Rattle.ft_engine.specs.Attempts.{MayAttempt, flight_after, kept_after, IsMarkOf, FoundIn, HasFoundOwner, StaysCaller};
+ghost use Rattle.ft_engine.specs.Attempts.{MayAttempt, flight_after, kept_after, IsMarkOf, FoundIn, HasFoundOwner, HasLookedFirst, IfWaits, StaysCaller};
 ghost use Rattle.ft_engine.specs.Callers.{IsCallerOf, pass_of, flight_of, thread_of};
 ghost use Rattle.ft_engine.specs.Flights.{IsAnswered, IsNext};
 ghost use Rattle.ft_engine.specs.Keeping.{IsKept};
@@ -40,6 +40,7 @@ impl Engine {
             IsKept caller.new (kept_after (thread_of caller.old) called result mine) }
         ensures mark { IsMarkOf result (stack_of caller.old.pass).mark (stack_of caller.new.pass).mark }
         ensures found { FoundIn result (view caller.old.pass) (view caller.new.pass) }
+        ensures answered { IfWaits result (IsAnswered caller.new.flight) }
     {
         match resume(&self.bank, &mut caller.pass) {
             Resumed::Back(mark) => {
@@ -59,10 +60,10 @@ impl Engine {
     ///
     /// # Errors
     ///
-    /// `NotYet` where a step of the try found another thread with a lock: all open sections have let their locks
-    /// go, and at most the lower one of two is kept. `Moved` where two steps of it found a word of the free tables
-    /// of a class changed. The same call comes next. `NoMemory` where memory for a copy ran out: the caller is to
-    /// give up.
+    /// `NotYet` where a step of the try found another thread with a lock, and for a call that is looked first only
+    /// where its look was contended: all open sections have let their locks go, and at most the lower one of two is
+    /// kept. `Moved` where two steps of it found a word of the free tables of a class changed. The same call comes
+    /// next. `NoMemory` where memory for a copy ran out: the caller is to give up.
     pub fn attempt(&self, alloc: Global, caller: &mut Caller, call: &Call) -> Tried
         requires caller { IsCallerOf self.now caller.old }
         requires may { MayAttempt self.now caller.old call.now }
@@ -73,6 +74,7 @@ impl Engine {
             IsKept caller.new (kept_after (thread_of caller.old) call.now result mine) }
         ensures mark { IsMarkOf result (stack_of (pass_of caller.old)).mark (stack_of (pass_of caller.new)).mark }
         ensures found { HasFoundOwner result caller.old caller.new }
+        ensures looked { HasLookedFirst call.now result caller.old caller.new }
     {
         if caller.is_answered() {
             return self.take_up(caller);

@@ -8,7 +8,7 @@ ghost use Rattle.ft_trace.specs.Acts.{announces};
 ghost use Rattle.ft_bank.specs.Passes.{shape_of, view, IsPassOf};
 ghost use Rattle.ft_bank.specs.Sections.{stack_of};
 ghost use Rattle.ft_section.specs.Ready.{MayTry};
-ghost use Rattle.ft_engine.specs.Answering.{IsTryOf, Looked};
+ghost use Rattle.ft_engine.specs.Answering.{HasLooked, IsTryOf, Looked};
 ghost use Rattle.ft_engine.specs.Flights.{objects_by};
 ghost use Rattle.ft_engine.specs.Names.{AreOfKindIn, HasKey, IsBuiltDict, key_of_dict};
 
@@ -107,7 +107,8 @@ pub(crate) fn call_dict(
     requires built { IsBuiltDict call.now }
     requires online { 0 < announces (view pass.old).log }
     requires left { 0 < (view pass.old).left }
-    ensures { (hands : List (Option Cursor)) → IsTryOf bank.now hands (calls.Dict d call.now) pass.old pass.new result }
+    ensures tried { (hands : List (Option Cursor)) → IsTryOf bank.now hands (calls.Dict d call.now) pass.old pass.new result }
+    ensures looked { HasLooked (calls.Dict d call.now) (view pass.old) (view pass.new) result }
 {
     let look = look_dict(bank, pass, alloc, d, call);
     match settle(bank, pass, look) {

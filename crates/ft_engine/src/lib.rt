@@ -15,6 +15,7 @@ mod dict_call;
 mod engine;
 mod giving_up;
 mod list_call;
+mod looks;
 mod meetings;
 mod naming;
 mod section_call;

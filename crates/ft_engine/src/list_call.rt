@@ -9,7 +9,7 @@ ghost use Rattle.ft_trace.specs.Acts.{announces};
 ghost use Rattle.ft_bank.specs.Passes.{shape_of, view, IsPassOf};
 ghost use Rattle.ft_bank.specs.Sections.{stack_of};
 ghost use Rattle.ft_section.specs.Ready.{MayTry};
-ghost use Rattle.ft_engine.specs.Answering.{IsTryOf, Looked};
+ghost use Rattle.ft_engine.specs.Answering.{HasLooked, IsTryOf, Looked};
 ghost use Rattle.ft_engine.specs.Flights.{objects_by};
 ghost use Rattle.ft_engine.specs.Names.{AreOfKindIn};
 
@@ -106,7 +106,8 @@ pub(crate) fn call_list(
     requires no_cursor { cursor_of_list call.now ≡ None }
     requires online { 0 < announces (view pass.old).log }
     requires left { 0 < (view pass.old).left }
-    ensures { (hands : List (Option Cursor)) → IsTryOf bank.now hands (calls.List l call.now) pass.old pass.new result }
+    ensures tried { (hands : List (Option Cursor)) → IsTryOf bank.now hands (calls.List l call.now) pass.old pass.new result }
+    ensures looked { HasLooked (calls.List l call.now) (view pass.old) (view pass.new) result }
 {
     let look = look_list(bank, pass, alloc, l, call);
     match settle(bank, pass, look) {

@@ -8,7 +8,7 @@ ghost use Rattle.ft_trace.specs.Acts.{announces};
 ghost use Rattle.ft_bank.specs.Passes.{shape_of, view, IsPassOf};
 ghost use Rattle.ft_bank.specs.Sections.{stack_of};
 ghost use Rattle.ft_section.specs.Ready.{MayTry};
-ghost use Rattle.ft_engine.specs.Answering.{IsTryOf, Looked};
+ghost use Rattle.ft_engine.specs.Answering.{HasLooked, IsTryOf, Looked};
 ghost use Rattle.ft_engine.specs.Flights.{objects_by};
 ghost use Rattle.ft_engine.specs.Names.{AreOfKindIn, HasKey, IsBuiltSet, key_of_set};
 
@@ -106,7 +106,8 @@ pub(crate) fn call_set(
     requires built { IsBuiltSet call.now }
     requires online { 0 < announces (view pass.old).log }
     requires left { 0 < (view pass.old).left }
-    ensures { (hands : List (Option Cursor)) → IsTryOf bank.now hands (calls.Set s call.now) pass.old pass.new result }
+    ensures tried { (hands : List (Option Cursor)) → IsTryOf bank.now hands (calls.Set s call.now) pass.old pass.new result }
+    ensures looked { HasLooked (calls.Set s call.now) (view pass.old) (view pass.new) result }
 {
     let look = look_set(bank, pass, alloc, s, call);
     match settle(bank, pass, look) {

@@ -1,11 +1,13 @@
 use Rattle.std.proofs.Common.{◌≡◌, ◌∙◌, ap, refl, sym, subst}
 use Rattle.ft_model.specs.declared.call.Call.{Call}
 use Rattle.ft_model.specs.declared.call.Call.TheVariants as call
-use Rattle.ft_bank.specs.Passes.{shape_of}
-use Rattle.ft_engine.specs.Answering.{IsTryOf, MayMake}
+use Rattle.ft_bank.specs.Passes.{shape_of, view}
+use Rattle.ft_engine.specs.Answering.{HasLooked, IsTryOf, MayMake}
+use Rattle.ft_engine.specs.Contentions.{may_look}
 use Rattle.ft_engine.specs.Flights.{objects_of}
 use Rattle.ft_engine.specs.Names.{IsCallIn}
 use Rattle.ft_engine.proofs.Callers.{hands_stay, leaves_same}
+use Rattle.ft_engine.proofs.LookFirst.{locked_looked}
 use Rattle.ft_engine.proofs.answering.make.Goals as goal
 
 pub returns-in-Begin-clause-tried : goal.returns-in-Begin-clause-tried
@@ -74,3 +76,27 @@ next-requires-clause-made c = (subst (IsCallIn (shape_of c.args.bank.now) c.args
 pub returns-in-Next-clause-tried : goal.returns-in-Next-clause-tried
 returns-in-Next-clause-tried c =
     subst (λ (x : Call). IsTryOf c.args.bank.now c.args.cursors.now.items x c.args.pass.now c.next.new.pass c.next.result) (sym c.in-Next.is) c.next.ensures.tried
+
+pub returns-in-Begin-clause-looked : goal.returns-in-Begin-clause-looked
+returns-in-Begin-clause-looked c = locked_looked c.args.call.now c.begin.result (view c.args.pass.now) (view c.begin.new.pass) (ap may_look c.in-Begin.is)
+
+pub returns-in-End-clause-looked : goal.returns-in-End-clause-looked
+returns-in-End-clause-looked c = locked_looked c.args.call.now c.end.result (view c.args.pass.now) (view c.end.new.pass) (ap may_look c.in-End.is)
+
+pub returns-in-Quiesce-clause-looked : goal.returns-in-Quiesce-clause-looked
+returns-in-Quiesce-clause-looked c = locked_looked c.args.call.now c.quiesce.result (view c.args.pass.now) (view c.quiesce.new.pass) (ap may_look c.in-Quiesce.is)
+
+pub returns-in-Next-clause-looked : goal.returns-in-Next-clause-looked
+returns-in-Next-clause-looked c = locked_looked c.args.call.now c.next.result (view c.args.pass.now) (view c.next.new.pass) (ap may_look c.in-Next.is)
+
+pub returns-in-Dict-clause-looked : goal.returns-in-Dict-clause-looked
+returns-in-Dict-clause-looked c =
+    subst (λ (x : Call). HasLooked x (view c.args.pass.now) (view c.make_dict.new.pass) c.make_dict.result) (sym c.in-Dict.is) c.make_dict.ensures.looked
+
+pub returns-in-List-clause-looked : goal.returns-in-List-clause-looked
+returns-in-List-clause-looked c =
+    subst (λ (x : Call). HasLooked x (view c.args.pass.now) (view c.make_list.new.pass) c.make_list.result) (sym c.in-List.is) c.make_list.ensures.looked
+
+pub returns-in-Set-clause-looked : goal.returns-in-Set-clause-looked
+returns-in-Set-clause-looked c =
+    subst (λ (x : Call). HasLooked x (view c.args.pass.now) (view c.make_set.new.pass) c.make_set.result) (sym c.in-Set.is) c.make_set.ensures.looked

@@ -4,13 +4,15 @@ use Rattle.ft_model.specs.declared.call.Call.TheVariants as call
 use Rattle.ft_model.specs.declared.call.SetCall.{SetCall}
 use Rattle.ft_model.specs.declared.call.SetCall.TheVariants as set
 use Rattle.ft_model.specs.Calls.{other_set}
-use Rattle.ft_bank.specs.Passes.{shape_of}
+use Rattle.ft_bank.specs.Passes.{shape_of, view}
 use Rattle.ft_section.specs.declared.answers.Objects.TheVariants.{One}
 use Rattle.ft_engine.specs.Answering.{IsTryOf}
+use Rattle.ft_engine.specs.Contentions.{may_look}
 use Rattle.ft_engine.specs.Flights.{objects_by, objects_of}
 use Rattle.ft_engine.specs.Names.{HasRoomFor}
 use Rattle.ft_engine.proofs.Callers.{hands_stay, leaves_same}
 use Rattle.ft_engine.proofs.IterCalls.{iter_set}
+use Rattle.ft_engine.proofs.LookFirst.{locked_looked}
 use Rattle.ft_engine.proofs.answering.make_set.Goals as goal
 
 pub iter-requires-clause-may : goal.iter-requires-clause-may
@@ -27,11 +29,16 @@ pub call_set-requires-clause-may : goal.call_set-requires-clause-may
 call_set-requires-clause-may c = c.requires.may.tries (objects_by c.args.s (other_set c.args.call.now)) refl
 
 pub returns-in-None-clause-tried : goal.returns-in-None-clause-tried
-returns-in-None-clause-tried c = c.call_set.ensures c.args.cursors.now.items
+returns-in-None-clause-tried c = c.call_set.ensures.tried c.args.cursors.now.items
 
 pub returns-in-None-clause-hands : goal.returns-in-None-clause-hands
 returns-in-None-clause-hands c =
-    hands_stay (shape_of c.args.bank.now) c.args.bank.now c.args.cursors.now.items (call.Set c.args.s c.args.call.now) c.args.pass.now c.call_set.new.pass c.call_set.result (sym c.in-None.ensures) (c.call_set.ensures c.args.cursors.now.items) c.requires.hands
+    hands_stay (shape_of c.args.bank.now) c.args.bank.now c.args.cursors.now.items (call.Set c.args.s c.args.call.now) c.args.pass.now c.call_set.new.pass c.call_set.result (sym c.in-None.ensures) (c.call_set.ensures.tried c.args.cursors.now.items) c.requires.hands
 
 pub returns-in-None-clause-stays : goal.returns-in-None-clause-stays
 returns-in-None-clause-stays c = leaves_same c.call_set.result c.args.cursors.now.items
+
+pub returns-in-Some-clause-looked : goal.returns-in-Some-clause-looked
+returns-in-Some-clause-looked c =
+    locked_looked (call.Set c.args.s c.args.call.now) c.iter.result (view c.args.pass.now) (view c.iter.new.pass)
+    (ap (λ (z : SetCall). may_look (call.Set c.args.s z)) (iter_set c.args.call.now c.in-Some.number (sym c.in-Some.ensures)))

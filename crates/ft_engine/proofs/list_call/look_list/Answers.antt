@@ -17,16 +17,16 @@ returns-in-Get-clause-looked c =
 
 pub returns-in-Has-clause-looked : goal.returns-in-Has-clause-looked
 returns-in-Has-clause-looked c =
-    list_looked c.args.l c.args.call.now (list.Has c.in-Has.value) (view c.args.pass.now) (view c.look_has.new.pass) c.look_has.result c.in-Has.is (glance_looked c.args.l (call.List c.args.l (list.Has c.in-Has.value)) (view c.args.pass.now) (view c.look_has.new.pass) c.look_has.result c.look_has.ensures.looked)
+    list_looked c.args.l c.args.call.now (list.Has c.in-Has.value) (view c.args.pass.now) (view c.look_has.new.pass) c.look_has.result c.in-Has.is (glance_looked c.args.l (call.List c.args.l (list.Has c.in-Has.value)) (view c.args.pass.now) (view c.look_has.new.pass) c.look_has.result (λ a b part s. s) c.look_has.ensures.looked)
 
 pub returns-in-Len-clause-looked : goal.returns-in-Len-clause-looked
 returns-in-Len-clause-looked c =
-    list_looked c.args.l c.args.call.now list.Len (view c.args.pass.now) (view c.look_len.new.pass) c.look_len.result c.in-Len.is (glance_looked c.args.l (call.List c.args.l list.Len) (view c.args.pass.now) (view c.look_len.new.pass) c.look_len.result c.look_len.ensures.looked)
+    list_looked c.args.l c.args.call.now list.Len (view c.args.pass.now) (view c.look_len.new.pass) c.look_len.result c.in-Len.is (glance_looked c.args.l (call.List c.args.l list.Len) (view c.args.pass.now) (view c.look_len.new.pass) c.look_len.result (λ a b part s. s) c.look_len.ensures.looked)
 
 pub returns-in-Items-clause-looked : goal.returns-in-Items-clause-looked
 returns-in-Items-clause-looked c =
-    list_looked c.args.l c.args.call.now list.Items (view c.args.pass.now) (view c.look_items.new.pass) c.look_items.result c.in-Items.is (copy_looked (shape_of c.args.bank.now) c.args.l (call.List c.args.l list.Items) (view c.args.pass.now) (view c.look_items.new.pass) c.look_items.result c.look_items.ensures.looked)
+    list_looked c.args.l c.args.call.now list.Items (view c.args.pass.now) (view c.look_items.new.pass) c.look_items.result c.in-Items.is (copy_looked (shape_of c.args.bank.now) c.args.l (call.List c.args.l list.Items) (view c.args.pass.now) (view c.look_items.new.pass) c.look_items.result (λ a b part s. s) c.look_items.ensures.looked)
 
 pub returns-in-Eq-clause-looked : goal.returns-in-Eq-clause-looked
 returns-in-Eq-clause-looked c =
-    list_looked c.args.l c.args.call.now (list.Eq c.in-Eq.other) (view c.args.pass.now) (view c.look_eq.new.pass) c.look_eq.result c.in-Eq.is (both_looked c.args.l c.in-Eq.other (call.List c.args.l (list.Eq c.in-Eq.other)) (view c.args.pass.now) (view c.look_eq.new.pass) c.look_eq.result c.look_eq.ensures.looked)
+    list_looked c.args.l c.args.call.now (list.Eq c.in-Eq.other) (view c.args.pass.now) (view c.look_eq.new.pass) c.look_eq.result c.in-Eq.is (both_looked c.args.l c.in-Eq.other (call.List c.args.l (list.Eq c.in-Eq.other)) (view c.args.pass.now) (view c.look_eq.new.pass) c.look_eq.result (λ a b part s. s) c.look_eq.ensures.looked)

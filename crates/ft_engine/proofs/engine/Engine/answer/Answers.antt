@@ -20,3 +20,6 @@ returns-in-Moved-clause-caller c =
     let old = c.args.caller.now in
     let t = c.in-Moved.ensures.tried in
     moved_caller c.args.self.now old (record { pass = c.make.new.pass; cursors = c.make.new.cursors; calls = old.calls; made = old.made; flight = flight.Tried c.args.call.now }) c.args.call.now t.0 c.requires.caller (ap (λ hands. objects_of hands c.args.call.now) c.in-Moved.ensures.stays ∙ t.1) t.2 c.in-Moved.ensures.hands refl refl refl
+
+pub returns-in-NotYet-clause-looked : goal.returns-in-NotYet-clause-looked
+returns-in-NotYet-clause-looked c may is = c.in-NotYet.ensures.looked may

@@ -1,0 +1,182 @@
+-- What a caller has after a look.
+use Rattle.std.proofs.Common.{◌≡◌, ◌<◌, ◌≤◌, ◌+◌, ◌-◌, ℕ, suc, true, false, List, [], ◌∷◌, ◌++◌, length, refl, sym, ap, ◌∙◌, subst, arith}
+use Rattle.std.specs.Prelude.{Some, None, Option, IfNone, not}
+use Rattle.ft_model.specs.declared.call.Call.{Call}
+use Rattle.ft_model.specs.declared.call.Call.TheVariants as call
+use Rattle.ft_model.specs.declared.call.DictCall.{DictCall}
+use Rattle.ft_model.specs.declared.call.ListCall.{ListCall}
+use Rattle.ft_model.specs.declared.call.SetCall.{SetCall}
+use Rattle.ft_model.specs.declared.entry.Entry.{Entry as NamedEntry}
+use Rattle.ft_model.specs.declared.reply.Reply.{Reply}
+use Rattle.ft_model.specs.Calls.{is_locked_dict, is_locked_list, is_locked_set, moved_cursor}
+use Rattle.ft_trace.specs.declared.Entry.{Entry}
+use Rattle.ft_trace.specs.declared.View.{View}
+use Rattle.ft_trace.specs.Acts.{has_lock}
+use Rattle.ft_bank.specs.declared.bank.Bank.{Bank}
+use Rattle.ft_bank.specs.declared.pass.Pass.{Pass}
+use Rattle.ft_bank.specs.declared.sections.Taking.{Taking}
+use Rattle.ft_bank.specs.Answered.{Answered}
+use Rattle.ft_bank.specs.Passes.{view, IsPassOf}
+use Rattle.ft_bank.specs.Sections.{Stack, nothing_taken, stack_of}
+use Rattle.ft_bank.specs.Whole.{OnlyLoaded}
+use Rattle.ft_section.specs.declared.answers.Look.{Look}
+use Rattle.ft_section.specs.declared.answers.Look.TheVariants as look
+use Rattle.ft_section.specs.declared.answers.Stamp.{Stamp}
+use Rattle.ft_section.specs.Locking.{TakenUp, with_own}
+use Rattle.ft_section.specs.Ready.{InCall, IsReady}
+use Rattle.ft_section.proofs.Making.{in_call_stays}
+use Rattle.ft_search.proofs.Trying.{LeavesSections, sections_read, still_read}
+use Rattle.ft_engine.specs.declared.caller.Caller.{Caller}
+use Rattle.ft_engine.specs.declared.caller.Flight.{Flight}
+use Rattle.ft_engine.specs.declared.caller.Flight.TheVariants as flight
+use Rattle.ft_engine.specs.declared.engine.Engine.{Engine}
+use Rattle.ft_engine.specs.Answering.{AddsEntry, IsLooked}
+use Rattle.ft_engine.specs.Attempts.{MayAttempt, StaysCaller, after_look, flight_looked, kept_looked}
+use Rattle.ft_engine.specs.Callers.{IsCallerOf, thread_of}
+use Rattle.ft_engine.specs.Contentions.{may_look}
+use Rattle.ft_engine.specs.Flights.{IsAnswered, IsIn}
+use Rattle.ft_engine.specs.Keeping.{AreKeptBy, IsKept, kept_entry, marks_in}
+use Rattle.ft_engine.proofs.IterCalls.{iter_dict, iter_set}
+use Rattle.ft_engine.proofs.ListCalls.{iter_list}
+use Rattle.ft_engine.proofs.Keeping.{kept_answered, kept_done, kept_refused, no_answer_idle}
+use Rattle.ft_engine.proofs.Looking.{IsPlain, loaded_in, loaded_ready}
+use Rattle.ft_engine.proofs.Outcomes.{answered_adds, loaded_nothing}
+
+-- ---- the pass
+
+pub read_ready : (b : Bank) (p q : Pass) (called : Call) (said : Reply) (n : ℕ) → LeavesSections called → IsReady b p → IsPassOf b q → stack_of q ≡ stack_of p → Answered called said n (view p) (view q) → IsReady b q
+read_ready b p q called said n leaves r pass stack a =
+    let same = sections_read called said n (view p) (view q) leaves a in
+    record {
+      inside = (pass, subst (InCall (view q)) (sym stack) (in_call_stays (view p) (view q) (stack_of p) r.inside.1 same.0 same.1 same.2 (still_read called said n (view p) (view q) a r.inside.1.still)));
+      own = ap (λ (s : Stack). s.own) stack ∙ r.own;
+      mark = ap (λ (s : Stack). s.mark) stack ∙ r.mark;
+      top = λ outer top split.
+          let t = r.top outer top (sym (ap (λ (s : Stack). s.sections) stack) ∙ split) in
+          (same.1 top.locks.lower ∙ t.0, same.1 top.locks.upper ∙ t.1);
+    }
+
+-- ---- calls that may be made so
+
+pub looks_plain : (called : Call) → may_look called ≡ true → IsPlain called
+looks_plain (call.Dict o dc) may = record { sections = λ n log sections. refl; begins = refl; marks = λ marks. refl; ends = λ marks said. tt }
+looks_plain (call.List o lc) may = record { sections = λ n log sections. refl; begins = refl; marks = λ marks. refl; ends = λ marks said. tt }
+looks_plain (call.Set o sc) may = record { sections = λ n log sections. refl; begins = refl; marks = λ marks. refl; ends = λ marks said. tt }
+looks_plain (call.Next number) may = absurd (let e : false ≡ true = may in cc)
+looks_plain (call.Begin first second) may = absurd (let e : false ≡ true = may in cc)
+looks_plain call.End may = absurd (let e : false ≡ true = may in cc)
+looks_plain call.Quiesce may = absurd (let e : false ≡ true = may in cc)
+
+-- none of them moves a cursor
+pub looks_none : (called : Call) → may_look called ≡ true → (number : ℕ) → moved_cursor called ≡ Some number → ⊥
+looks_none (call.Dict o dc) may number moves =
+    absurd (let e : false ≡ true = subst (λ (z : DictCall). not (is_locked_dict z) ≡ true) (iter_dict dc number moves) may in cc)
+looks_none (call.List o lc) may number moves =
+    absurd (let e : false ≡ true = subst (λ (z : ListCall). not (is_locked_list z) ≡ true) (iter_list lc number moves) may in cc)
+looks_none (call.Set o sc) may number moves =
+    absurd (let e : false ≡ true = subst (λ (z : SetCall). not (is_locked_set z) ≡ true) (iter_set sc number moves) may in cc)
+looks_none (call.Next n) may number moves = absurd (let e : false ≡ true = may in cc)
+looks_none (call.Begin first second) may number moves = absurd (let e : false ≡ true = may in cc)
+looks_none call.End may number moves = absurd (let e : false ≡ true = may in cc)
+looks_none call.Quiesce may number moves = absurd (let e : false ≡ true = may in cc)
+
+-- ---- the caller
+
+-- it has its answer
+pub looked_caller : (e : Engine) (c : Caller) (q : Pass) (called : Call) (said : Reply) (stamp : Stamp) → IsCallerOf e c → c.flight ≡ flight.Idle → 0 < c.calls - c.made → IsPlain called → IsPassOf e.bank q → stack_of q ≡ stack_of c.pass → AddsEntry called said stamp (view c.pass) (view q) → ((number : ℕ) → moved_cursor called ≡ Some number → ⊥) → Answered called said stamp.number (view c.pass) (view q) → IsCallerOf e (record c { pass = q; made = c.made + 1 })
+looked_caller e c q called said stamp is idle left plain pass stack entry moves a = record {
+  pass = pass;
+  inside = subst (IsIn e.bank q c.cursors.items) (sym idle) (read_ready e.bank c.pass q called said stamp.number plain.sections (subst (IsIn e.bank c.pass c.cursors.items) idle is.inside) pass stack a);
+  made = let m = is.made in let n = ap length entry.entries in omega (arith, m, n);
+  calls = is.calls;
+  few = omega (arith, left);
+  word = is.word;
+  left = let k = is.left in let l = entry.left in omega (arith, k, l);
+  cursors = λ number low. is.cursors number low ∙ sym (entry.cursors number (moves number));
+  over = is.over;
+}
+
+-- it loaded words, and was refused memory or not
+pub loaded_caller : (e : Engine) (c : Caller) (q : Pass) (f : Flight) → IsCallerOf e c → c.flight ≡ flight.Idle → IsPassOf e.bank q → stack_of q ≡ stack_of c.pass → OnlyLoaded (view c.pass) (view q) → IsIn e.bank q c.cursors.items f → IsCallerOf e (record c { pass = q; flight = f })
+loaded_caller e c q f is idle pass stack l inside =
+    let n = loaded_nothing (view c.pass) (view q) l in
+    record {
+      pass = pass;
+      inside = inside;
+      made = is.made ∙ sym (ap length n.entries);
+      calls = is.calls;
+      few = is.few;
+      word = is.word;
+      left = let a = n.left in let k = is.left in omega (arith, a, k);
+      cursors = λ number low. is.cursors number low ∙ sym (n.cursors number);
+      over = is.over;
+    }
+
+pub loaded_inside : (e : Engine) (c : Caller) (q : Pass) → IsCallerOf e c → c.flight ≡ flight.Idle → IsPassOf e.bank q → stack_of q ≡ stack_of c.pass → OnlyLoaded (view c.pass) (view q) → IsReady e.bank q
+loaded_inside e c q is idle pass stack l = loaded_ready e.bank c.pass q pass stack l (subst (IsIn e.bank c.pass c.cursors.items) idle is.inside)
+
+-- ---- the list
+
+-- the sections stay
+same_up : (s : Stack) → s.own ≡ nothing_taken → s.mark ≡ None → TakenUp s s
+same_up s own mark = record { none = λ nil. nil; top = λ outer top split. (top.locks.took_lower, top.locks.took_upper, split); own = own; mark = mark }
+
+pub looked_kept : (e : Engine) (c : Caller) (q : Pass) (called : Call) (said : Reply) (stamp : Stamp) (mine : List NamedEntry) → IsCallerOf e c → c.flight ≡ flight.Idle → IsPlain called → stack_of q ≡ stack_of c.pass → AddsEntry called said stamp (view c.pass) (view q) → IsKept c mine → IsKept (record c { pass = q; made = c.made + 1 }) (mine ++ kept_entry (thread_of c) mine called said stamp None ∷ [])
+looked_kept e c q called said stamp mine is idle plain stack entry kept =
+    let ready : IsReady e.bank c.pass = subst (IsIn e.bank c.pass c.cursors.items) idle is.inside in
+    let s = stack_of c.pass in
+    let unanswered = no_answer_idle c.flight idle in
+    let has = kept_answered (thread_of c) (view c.pass).entries s c.flight mine kept unanswered (view q).entries s called said stamp entry.entries (sym (plain.marks (marks_in s))) refl (λ end. ready.mark) (plain.ends (marks_in s) said) in
+    let done = kept_done (thread_of c) (view q).entries s called said stamp mine has s (same_up s ready.own ready.mark) in
+    let named = subst (λ (mark : Option ℕ). AreKeptBy (thread_of c) (view q).entries s flight.Idle (mine ++ kept_entry (thread_of c) mine called said stamp mark ∷ [])) ready.mark done in
+    subst (λ (x : ℕ × Stack × Flight). AreKeptBy x.0 (view q).entries x.1 x.2 (mine ++ kept_entry (thread_of c) mine called said stamp None ∷ [])) (λ d. (ap (λ (n : ℕ). n - 1) (sym entry.pass.number) d, sym stack d, sym idle d)) named
+
+pub loaded_kept : (c : Caller) (q : Pass) (f : Flight) (mine : List NamedEntry) → c.flight ≡ flight.Idle → stack_of q ≡ stack_of c.pass → OnlyLoaded (view c.pass) (view q) → (IsKept c mine → AreKeptBy (thread_of c) (view c.pass).entries (stack_of c.pass) f mine) → IsKept c mine → IsKept (record c { pass = q; flight = f }) mine
+loaded_kept c q f mine idle stack l flies kept =
+    let n = loaded_nothing (view c.pass) (view q) l in
+    subst (λ (x : ℕ × List Entry × Stack). AreKeptBy x.0 x.1 x.2 f mine) (λ d. (ap (λ (k : ℕ). k - 1) (sym n.pass.number) d, sym n.entries d, sym stack d)) (flies kept)
+
+-- it was refused memory
+own_same : (s : Stack) → s.own ≡ nothing_taken → s ≡ with_own s nothing_taken
+own_same s own = ap (λ (taking : Taking). with_own s taking) own
+
+pub refused_kept : (e : Engine) (c : Caller) (called : Call) (mine : List NamedEntry) → IsCallerOf e c → c.flight ≡ flight.Idle → IsKept c mine → AreKeptBy (thread_of c) (view c.pass).entries (stack_of c.pass) (flight.Refused called) mine
+refused_kept e c called mine is idle kept =
+    let ready : IsReady e.bank c.pass = subst (IsIn e.bank c.pass c.cursors.items) idle is.inside in
+    kept_refused (thread_of c) (view c.pass).entries (stack_of c.pass) c.flight mine kept (no_answer_idle c.flight idle) (stack_of c.pass) called (own_same (stack_of c.pass) ready.own)
+
+-- ---- all looks
+
+module _ (e : Engine) (c : Caller) (q : Pass) (called : Call) (is : IsCallerOf e c) (idle : c.flight ≡ flight.Idle) (left : 0 < c.calls - c.made) (looks : may_look called ≡ true) (pass : IsPassOf e.bank q) (stack : stack_of q ≡ stack_of c.pass) where
+  done_entry : (said : Reply) (stamp : Stamp) → IsLooked called (view c.pass) (view q) (look.Done said stamp) → AddsEntry called said stamp (view c.pass) (view q)
+  done_entry said stamp x = let k = is.left in answered_adds called said stamp (view c.pass) (view q) x.1 (omega (arith, left, k)) x.0
+
+  still_inside : OnlyLoaded (view c.pass) (view q) → IsReady e.bank q
+  still_inside l = loaded_inside e c q is idle pass stack l
+
+  pub after_caller : (answer : Look) → IsLooked called (view c.pass) (view q) answer → IsCallerOf e (after_look called answer (record c { pass = q }))
+  after_caller (look.Done said stamp) x = looked_caller e c q called said stamp is idle left (looks_plain called looks) pass stack (done_entry said stamp x) (looks_none called looks) x.0
+  after_caller (look.Contended a b) x =
+      subst (λ (f : Flight). IsCallerOf e (record c { pass = q; flight = f })) (sym idle) (loaded_caller e c q flight.Idle is idle pass stack x.2 (still_inside x.2))
+  after_caller look.NoMemory x = loaded_caller e c q (flight.Refused called) is idle pass stack x (still_inside x).inside
+
+  pub after_same : (answer : Look) → IsLooked called (view c.pass) (view q) answer → StaysCaller c (after_look called answer (record c { pass = q }))
+  after_same (look.Done said stamp) x = record { pass = (done_entry said stamp x).pass; room = refl }
+  after_same (look.Contended a b) x = record { pass = (loaded_nothing (view c.pass) (view q) x.2).pass; room = refl }
+  after_same look.NoMemory x = record { pass = (loaded_nothing (view c.pass) (view q) x).pass; room = refl }
+
+  pub after_flight : (answer : Look) → (after_look called answer (record c { pass = q })).flight ≡ flight_looked called answer
+  after_flight (look.Done said stamp) = idle
+  after_flight (look.Contended a b) = idle
+  after_flight look.NoMemory = refl
+
+  pub after_kept : (answer : Look) (mine : List NamedEntry) → IsLooked called (view c.pass) (view q) answer → IsKept c mine → IsKept (after_look called answer (record c { pass = q })) (kept_looked (thread_of c) called answer mine)
+  after_kept (look.Done said stamp) mine x kept = looked_kept e c q called said stamp mine is idle (looks_plain called looks) stack (done_entry said stamp x) kept
+  after_kept (look.Contended a b) mine x kept = loaded_kept c q c.flight mine idle stack x.2 (λ k. k) kept
+  after_kept look.NoMemory mine x kept = loaded_kept c q (flight.Refused called) mine idle stack x (refused_kept e c called mine is idle) kept
+
+-- the pass is that of the look
+pub after_pass : (called : Call) (answer : Look) (c : Caller) → (after_look called answer c).pass ≡ c.pass
+after_pass called (look.Done said stamp) c = refl
+after_pass called (look.Contended a b) c = refl
+after_pass called look.NoMemory c = refl

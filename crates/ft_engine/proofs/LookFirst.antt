@@ -1,0 +1,88 @@
+-- A call that may be made without a lock, and has no answer, waits only after a contended look.
+use Rattle.std.proofs.Common.{◌≡◌, ◌+◌, ℕ, true, false, true≢false, List, ◌∷◌, ◌++◌, sym, ap, ◌∙◌, subst, append_assoc}
+use Rattle.std.specs.Prelude.{IfNone, Option, Some, None, not}
+use Rattle.ft_model.specs.declared.call.Call.{Call}
+use Rattle.ft_model.specs.declared.call.Call.TheVariants as call
+use Rattle.ft_model.specs.declared.call.DictCall.{DictCall}
+use Rattle.ft_model.specs.declared.call.ListCall.{ListCall}
+use Rattle.ft_model.specs.declared.call.SetCall.{SetCall}
+use Rattle.ft_model.specs.declared.cursor.Cursor.{Cursor}
+use Rattle.ft_model.specs.Calls.{is_locked_dict, is_locked_list, is_locked_set}
+use Rattle.ft_trace.specs.declared.Act.{Act}
+use Rattle.ft_trace.specs.declared.Act.TheVariants.{Lock}
+use Rattle.ft_trace.specs.declared.View.{View}
+use Rattle.ft_bank.specs.declared.bank.Bank.{Bank}
+use Rattle.ft_bank.specs.declared.pass.Pass.{Pass}
+use Rattle.ft_bank.specs.Passes.{view, DidNothing}
+use Rattle.ft_section.specs.declared.answers.Look.{Look}
+use Rattle.ft_section.specs.declared.answers.Look.TheVariants as look
+use Rattle.ft_section.specs.declared.answers.Step.{Step}
+use Rattle.ft_section.specs.declared.answers.Step.TheVariants as step
+use Rattle.ft_engine.specs.declared.attempts.Tried.{Tried}
+use Rattle.ft_engine.specs.declared.attempts.Tried.TheVariants as tried
+use Rattle.ft_engine.specs.declared.caller.Caller.{Caller}
+use Rattle.ft_engine.specs.Answering.{HasLooked, IsTryOf, Looked, settled}
+use Rattle.ft_engine.specs.Attempts.{HasLookedFirst, IfWaits}
+use Rattle.ft_engine.specs.Contentions.{may_look}
+use Rattle.ft_engine.specs.Flights.{IsAnswered}
+
+-- ---- calls that no look is made for
+
+pub locked_dict : (d : ℕ) (dc : DictCall) (found : Option Look) → IfNone found (is_locked_dict dc ≡ true) → IfNone found (may_look (call.Dict d dc) ≡ false)
+locked_dict d dc None locked = ap not locked
+locked_dict d dc (Some answer) locked = tt
+
+pub locked_list : (l : ℕ) (lc : ListCall) (found : Option Look) → IfNone found (is_locked_list lc ≡ true) → IfNone found (may_look (call.List l lc) ≡ false)
+locked_list l lc None locked = ap not locked
+locked_list l lc (Some answer) locked = tt
+
+pub locked_set : (s : ℕ) (sc : SetCall) (found : Option Look) → IfNone found (is_locked_set sc ≡ true) → IfNone found (may_look (call.Set s sc) ≡ false)
+locked_set s sc None locked = ap not locked
+locked_set s sc (Some answer) locked = tt
+
+pub locked_looked : (called : Call) (result : Step) (v w : View) → may_look called ≡ false → HasLooked called v w result
+locked_looked called (step.Done said stamp) v w locked = tt
+locked_looked called (step.NotYet o owner) v w locked = λ may. absurd (true≢false (sym may ∙ locked))
+locked_looked called (step.Moved first second) v w locked = tt
+locked_looked called step.NoMemory v w locked = tt
+
+-- ---- calls that are looked first
+
+-- the look answers it
+pub settled_looked : (called : Call) (found : Option Look) (result : Step) (v w : View) → settled found ≡ Some result → HasLooked called v w result
+settled_looked called None result v w is = absurd (let e : None ≡ Some result = is in cc)
+settled_looked called (Some (look.Done said stamp)) result v w is = subst (HasLooked called v w) (let e : Some (step.Done said stamp) ≡ Some result = is in let f : step.Done said stamp ≡ result = cc in f) tt
+settled_looked called (Some (look.Contended first second)) result v w is = absurd (let e : None ≡ Some result = is in cc)
+settled_looked called (Some look.NoMemory) result v w is = subst (HasLooked called v w) (let e : Some step.NoMemory ≡ Some result = is in let f : step.NoMemory ≡ result = cc in f) tt
+
+-- it comes to the call under its locks, which waits
+waits_looked : (b : Bank) (hands : List (Option Cursor)) (called : Call) (p q r s : Pass) (found : Option Look) (o owner : ℕ) → settled found ≡ None → Looked called p q found → IfNone found (may_look called ≡ false) → DidNothing q r → IsTryOf b hands called r s (step.NotYet o owner) → HasLooked called (view p) (view s) (step.NotYet o owner)
+waits_looked b hands called p q r s None o owner none x locked same tried = λ may. absurd (true≢false (sym may ∙ locked))
+waits_looked b hands called p q r s (Some (look.Done said stamp)) o owner none x locked same tried = absurd (let e : Some (step.Done said stamp) ≡ None = none in cc)
+waits_looked b hands called p q r s (Some (look.Contended first second)) o owner none x locked same tried =
+    λ may.
+    let f = tried.2.found.1 in
+    let log : (view r).log ≡ x.0 ++ (view p).log = ap (λ (v : View). v.log) same.1 ∙ x.1 in
+    record {
+      first = first;
+      second = second;
+      newer = f.newer ++ Lock o (owner + 1) f.snap ∷ f.older;
+      part = x.0;
+      is = f.is ∙ ap (λ (z : List Act). f.newer ++ Lock o (owner + 1) f.snap ∷ (f.older ++ z)) log
+          ∙ sym (append_assoc f.newer (Lock o (owner + 1) f.snap ∷ f.older) (x.0 ++ (view p).log));
+      stops = x.3;
+    }
+waits_looked b hands called p q r s (Some look.NoMemory) o owner none x locked same tried = absurd (let e : Some step.NoMemory ≡ None = none in cc)
+
+pub contended_looked : (b : Bank) (hands : List (Option Cursor)) (called : Call) (p q r s : Pass) (found : Option Look) (result : Step) → settled found ≡ None → Looked called p q found → IfNone found (may_look called ≡ false) → DidNothing q r → IsTryOf b hands called r s result → HasLooked called (view p) (view s) result
+contended_looked b hands called p q r s found (step.Done said stamp) none x locked same tried = tt
+contended_looked b hands called p q r s found (step.NotYet o owner) none x locked same tried = waits_looked b hands called p q r s found o owner none x locked same tried
+contended_looked b hands called p q r s found (step.Moved first second) none x locked same tried = tt
+contended_looked b hands called p q r s found step.NoMemory none x locked same tried = tt
+
+-- a call that has its answer waits for its innermost section alone
+pub answered_looked : (called : Call) (result : Tried) (c d : Caller) → IfWaits result (IsAnswered d.flight) → HasLookedFirst called result c d
+answered_looked called (tried.Done said stamp mark) c d answered = tt
+answered_looked called (tried.NotYet o owner) c d answered = λ may is. absurd (subst IsAnswered is answered)
+answered_looked called (tried.Moved first second) c d answered = tt
+answered_looked called tried.NoMemory c d answered = tt

@@ -17,7 +17,7 @@ impl Engine {
     /// Ends every open section of a caller without an entry, lets go of every lock, and forgets the call that is in
     /// flight: after `NoMemory`, or wherever a caller is to make no more of its calls. It may make other calls then, go
     /// offline and be taken in. What it was answered stays as it is. The entries of a caller that gave up are those of
-    /// a history only if it had no section open, and no answer that it wasn't told.
+    /// a history only if it had no section open, and no answer that it wasn't given.
     pub fn abandon(&self, caller: &mut Caller)
         requires { IsCallerOf self.now caller.old }
         ensures caller { IsCallerOf self.now caller.new }

@@ -44,7 +44,7 @@ use Rattle.ft_search.proofs.Places.{slots_of_class}
 use Rattle.ft_adding.specs.declared.counts.Counts.{Counts}
 use Rattle.ft_adding.specs.Growing.{KnowsKeyed, IsFreeFor, use_of}
 use Rattle.ft_adding.specs.Placing.{AreCounts, StoresAs}
-use Rattle.ft_adding.proofs.Placed.{Fresh, way_of, use_with}
+use Rattle.ft_adding.proofs.Placed.{Fresh, entry_shut, way_of, use_with}
 
 -- what a block says of the content
 abbrev pub Heads : Type 0
@@ -131,6 +131,9 @@ module _ (heads : Heads) (k : Shape) (o : ℕ) (table : Table) (v : View) (shape
   content_kind : kind_of d ≡ kind_in k.kinds o
   content_kind = kind_is k v o shape possible keyed.locked
 
+  pub shut_here : Shut (version_at (kind_of d) (class_of t)) (rows (kind_of d) (class_of t)) (held o v).table
+  shut_here = shut_known k v o t shape possible keyed.container keyed.locked keyed.even keyed.root
+
   pub fresh_known : (slot : ℕ) (counts : Counts) (key : Key) (stored : Stored) → AreCounts (held o v).block counts → FitsKey key → hash_of k.texts key < 2 ^ 64 → StoresAs (kind_by by) stored → FitsStored stored → IsHeldAt d key None → IsFreeFor k.texts by table.class key (held o v).table slot → counts.fill < rows (kind_by by) (class_of t)
       → Fresh k.texts (held o v) t slot counts d key stored
   fresh_known slot counts key stored are fits low stores ok absent free room =
@@ -161,5 +164,5 @@ module _ (heads : Heads) (k : Shape) (o : ℕ) (table : Table) (v : View) (shape
         in_index = omega (arith, some, slot_low, last);
         free = subst (λ (z : Way × ℕ). FirstFree (0 ∷ 0 ∷ (held o v).table) (walk_slots z.0 (hash_of k.texts key) (class_mask z.1)) (Some slot)) (λ i. (sym (way_is d by kinds) i, sym same i)) free.1;
         absent = absent;
-        shut = shut_known k v o t shape possible keyed.container keyed.locked keyed.even keyed.root;
+        even = entry_shut (kind_of d) (subst IsKeyed (sym content_kind) keyed.keyed) (class_of t) (rows (kind_of d) (class_of t)) (held o v).table shut_here counts.fill (subst (λ (z : Kind). counts.fill < rows z (class_of t)) (sym kinds) room);
       }

@@ -245,7 +245,7 @@ pub record Fresh (texts : List ℕ) (x : Picture) (t slot : ℕ) (counts : Count
   pub in_index : slot < slots (class_of t)
   pub free : FirstFree (0 ∷ 0 ∷ x.table) (walk_slots (way_of d) (hash_of texts key) (class_mask (class_of t))) (Some slot)
   pub absent : IsHeldAt d key None
-  pub shut : Shut (version_at (kind_of d) (class_of t)) (rows (kind_of d) (class_of t)) x.table
+  pub even : entry_of (slots (class_of t)) x.table counts.fill 0 % 2 ≡ 0
 
 module _ (laws : PlaceLaws) (texts : List ℕ) (x : Picture) (t slot : ℕ) (counts : Counts) (d : Content) (key : Key) (stored : Stored) (fresh : Fresh texts x t slot counts d key stored) where
   abbrev c : ℕ
@@ -278,9 +278,6 @@ module _ (laws : PlaceLaws) (texts : List ℕ) (x : Picture) (t slot : ℕ) (cou
   size_is : n ≡ class_mask c + 1
   size_is = slots_of_class c
 
-  shut : Shut (λ q. entry_at n q 0) m ws
-  shut = entry_shut (kind_of d) fresh.keyed c m ws fresh.shut
-
   slot_free : index_of ws slot ≡ 0
   slot_free = sym (after_header ws slot) ∙ fresh.free.4
 
@@ -289,7 +286,7 @@ module _ (laws : PlaceLaws) (texts : List ℕ) (x : Picture) (t slot : ℕ) (cou
     low = fresh.room;
     in_index = fresh.in_index;
     long = fresh.long;
-    even = shut p fresh.room;
+    even = fresh.even;
     none = next_unused laws.first_pair laws.first_element texts fresh.before ws c p d fresh.keyed fresh.is_class fresh.says fresh.room;
     free = slot_free;
   }
@@ -303,7 +300,8 @@ module _ (laws : PlaceLaws) (texts : List ℕ) (x : Picture) (t slot : ℕ) (cou
   new_block : IsBlock y.block (Some c) (length_of d + 1) (p + 1) (serial_of d + 1)
   new_block = subst (λ (z : ℕ). IsBlock (counted x.block (counts.count + 1) (p + 1) (serial_of d + 1)) (Some c) (z + 1) (p + 1) (serial_of d + 1)) fresh.count_is (counted_head x.block (Some c) (length_of d) fresh.had (serial_of d) (counts.count + 1) (p + 1) (serial_of d + 1) fresh.head)
 
-  now : StandsAs texts y.block (0 ∷ 0 ∷ y.table) (use_with c (p + 1)) news × (kind_of news ≡ kind_of d)
+  -- what the words stand for then
+  pub now : StandsAs texts y.block (0 ∷ 0 ∷ y.table) (use_with c (p + 1)) news × (kind_of news ≡ kind_of d)
   now =
       let open_says = stands_raised laws.versions texts fresh.before ws c p d fresh.keyed fresh.is_class fresh.says p (ver + 1) in
       let free = still_free (class_mask c) n p (ver + 1) ws (way_of d) (hash_of texts key) slot size_is fresh.in_index fresh.free in
@@ -316,7 +314,7 @@ module _ (laws : PlaceLaws) (texts : List ℕ) (x : Picture) (t slot : ℕ) (cou
   abbrev un : IsUnused n m ws slot p
   un = place_unused
 
-  opened_now : entry_of n y.table p 0 ≡ ver + 1
+  pub opened_now : entry_of n y.table p 0 ≡ ver + 1
   opened_now =
       let s = body_stage n m ws slot p un (body p (entry_words pair)) (body_puts p (entry_words pair)) in
       let in_index = un.in_index in
@@ -340,18 +338,18 @@ module _ (laws : PlaceLaws) (texts : List ℕ) (x : Picture) (t slot : ℕ) (cou
       subst (λ (z : ℕ). CarefulAs (kind_of d) c y.table news (entry_at n p 0) z) next
       (as_careful (kind_of d) fresh.keyed c y.table news (entry_at n p 0) (ver + 2) (new_late n m ws p slot un.low un.in_index un.long un.even un.none un.free key l s (under news) right))
 
-  shut_then : Shut (version_at (kind_of d) c) m (raised_at t p y).table
-  shut_then =
+  shut_then : Shut (version_at (kind_of d) c) m ws → Shut (version_at (kind_of d) c) m (raised_at t p y).table
+  shut_then shut =
       let s = body_stage n m ws slot p un (body p (entry_words pair)) (body_puts p (entry_words pair)) in
       subst (λ (z : ℕ). Shut (version_at (kind_of d) c) m (slice_set y.table (entry_at n p 0) z)) next
-      (kind_shut (kind_of d) fresh.keyed c m (slice_set y.table (entry_at n p 0) (ver + 2)) (new_shut n m ws p slot un.low un.in_index un.long un.even un.none un.free key l s shut))
+      (kind_shut (kind_of d) fresh.keyed c m (slice_set y.table (entry_at n p 0) (ver + 2)) (new_shut n m ws p slot un.low un.in_index un.long un.even un.none un.free key l s (entry_shut (kind_of d) fresh.keyed c m ws shut)))
 
-  pub places_key : (was : TableUse) → Changing texts t y (record { content = d; table = was }) p [] (record { content = news; table = use_with c (p + 1) })
-  places_key was = record {
+  pub places_key : Shut (version_at (kind_of d) c) m ws → (was : TableUse) → Changing texts t y (record { content = d; table = was }) p [] (record { content = news; table = use_with c (p + 1) })
+  places_key shut was = record {
     puts = tt;
     clear = clear_in laws.first_pair laws.first_element texts y.block fresh.before c p (p + 1) d news ws y.table fresh.is_class fresh.keyed now.1 fresh.says now.0 same;
     odd = let o = opened_now in let e = un.even in omega (arith, o, e);
     close = close;
     stands = stands_raised laws.versions texts y.block y.table c (p + 1) news keyed_news fresh.is_class now.0 p (entry_of n y.table p 0 + 1);
-    shut = shut_then;
+    shut = shut_then shut;
   }

@@ -160,6 +160,10 @@ module _ (first_pair : FirstEntriesArePairs) (first_element : FirstEntriesAreEle
     early = λ e. absurd (true≢false (ap is_some e));
   }
 
+  -- no version is odd there
+  pub shut_rooted : Shut (version_at (kind_of d) c) (rows (kind_of d) c) ws
+  shut_rooted = kind_shut (kind_of d) keyed_d c (rows (kind_of d) c) ws (λ p less. let z = filled.versions p less in omega (arith, z))
+
   -- a new key there
   pub fresh_rooted : (by : Way) → kind_in k.kinds o ≡ kind_by by → (slot : ℕ) (counts : Counts) (key : Key) (stored : Stored) → AreCounts (held o v).block counts → FitsKey key → hash_of k.texts key < 2 ^ 64 → StoresAs (kind_by by) stored → FitsStored stored → IsHeldAt d key None → IsFreeFor k.texts by table.class key ws slot → counts.count < rows (kind_by by) c
       → Fresh k.texts (record { block = b; table = ws }) (name_of table) slot (record { count = counts.count; fill = counts.count; next = counts.next }) d key stored
@@ -188,5 +192,5 @@ module _ (first_pair : FirstEntriesArePairs) (first_element : FirstEntriesAreEle
         in_index = omega (arith, some, slot_low, last);
         free = subst (λ (z : Way × ℕ). FirstFree (0 ∷ 0 ∷ ws) (walk_slots z.0 (hash_of k.texts key) (class_mask z.1)) (Some slot)) (λ i. (sym (way_is d by kinds) i, sym same i)) free.1;
         absent = absent;
-        shut = kind_shut (kind_of d) keyed_d c (rows (kind_of d) c) ws (λ p less. let z = filled.versions p less in omega (arith, z));
+        even = let z = filled.versions counts.count (subst (λ (y : Kind). counts.count < rows y c) (sym kinds) room) in omega (arith, z);
       }

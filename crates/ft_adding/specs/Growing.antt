@@ -80,13 +80,17 @@ abbrev pub use_of : Option Table → ℕ → TableUse
 use_of None fill = record { class = None; fill = fill }
 use_of (Some t) fill = record { class = Some t.class; fill = fill }
 
--- the class that a dict or a set takes for one more key, if its table has no room for it
+-- the class that a dict or a set takes for that many more keys, if its table has no room for them (profile)
+abbrev pub keys_take : Content → TableUse → ℕ → Option ℕ
+keys_take (content.Dict dict) table more =
+    if outgrows_dict table more then Some (dict_class (length dict.pairs + more)) else None
+keys_take (content.Set set) table more =
+    if outgrows_set table more then Some (set_class (length set.elements + more)) else None
+keys_take (content.List values) table more = None
+
+-- and for one more key
 abbrev pub key_takes : Content → TableUse → Option ℕ
-key_takes (content.Dict dict) table =
-    if outgrows_dict table 1 then Some (dict_class (length dict.pairs + 1)) else None
-key_takes (content.Set set) table =
-    if outgrows_set table 1 then Some (set_class (length set.elements + 1)) else None
-key_takes (content.List values) table = None
+key_takes content table = keys_take content table 1
 
 -- how many pairs, elements or items it has at most
 abbrev pub most_of : Content → ℕ

@@ -100,7 +100,7 @@ fn copy_entries(
 }
 
 /// Fills a table that is fresh in hand with what a dict or a set has, which has this table or none.
-pub(crate) fn fill(
+pub fn fill(
     bank: &Bank,
     pass: &mut Pass,
     o: u32,

@@ -41,7 +41,7 @@ use ft_model::{Call, Key, Reply};
 use ft_search::{finish_entry, read_in};
 
 /// Makes the version of a dict or a set odd and puts a table into its root that has what it has.
-fn begin_in(bank: &Bank, pass: &mut Pass, o: u32, old: Option<Table>, table: Table)
+pub fn begin_in(bank: &Bank, pass: &mut Pass, o: u32, old: Option<Table>, table: Table)
     requires pass { IsPassOf bank.now pass.old }
     requires may { MayGrow (shape_of bank.now) o old table (view pass.old) }
     requires filled { IsFilledWith (shape_of bank.now).texts (class_of (name_of table)) (known o (view pass.old)).content

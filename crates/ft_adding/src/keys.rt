@@ -14,7 +14,7 @@ ghost use Rattle.ft_bank.specs.Sections.{stack_of};
 ghost use Rattle.ft_growth.specs.Adding.{IsAdded};
 ghost use Rattle.ft_search.specs.Held.{IsHeldAt};
 ghost use Rattle.ft_search.specs.Rounds.{kind_by};
-ghost use Rattle.ft_adding.specs.Growing.{AddsKey, AddsOne, IsFreeFor, MayAddKey, key_takes, most_of, use_of};
+ghost use Rattle.ft_adding.specs.Growing.{AddsKey, AddsOne, IsFreeFor, MayAddKey, key_takes, keys_take, most_of, use_of};
 ghost use Rattle.ft_adding.specs.Placing.{AreCounts, StoresAs};
 
 use crate::counts::{Counts, read_counts};
@@ -31,7 +31,7 @@ use ft_qsbr::take;
 use ft_section::Stamp;
 
 /// How many keys a container has at most that is searched this way: as many as the largest table holds.
-fn most_keys(way: Way) -> u64
+pub fn most_keys(way: Way) -> u64
     ensures most { (content : Content) → kind_of content ≡ kind_by way → result ≡ most_of content }
     ensures few { result < 65536 }
 {
@@ -41,12 +41,12 @@ fn most_keys(way: Way) -> u64
     }
 }
 
-/// The class of the table that a dict or a set takes for one more key, which has this table or none.
-fn class_wanted(way: Way, old: Option<Table>, counts: Counts) -> Option<u32>
+/// The class of the table that a dict or a set takes for that many more keys, which has this table or none.
+pub fn class_wanted(way: Way, old: Option<Table>, counts: Counts, more: u64) -> Option<u32>
     requires table { (t : Table) → old ≡ Some t → IsClass t.class }
-    requires few { counts.count < 65536 }
+    requires few { counts.count + more ≤ 65536 }
     ensures class { (content : Content) → kind_of content ≡ kind_by way → length_of content ≡ counts.count →
-        result ≡ key_takes content (use_of old counts.fill) }
+        result ≡ keys_take content (use_of old counts.fill) more }
     ensures range { IfSome result (λ class. IsClass class) }
 {
     let class = match old {
@@ -58,8 +58,8 @@ fn class_wanted(way: Way, old: Option<Table>, counts: Counts) -> Option<u32>
         fill: counts.fill,
     };
     match way {
-        Way::Dict => taken_by_dict(table, 1, counts.count + 1),
-        Way::Set => taken_by_set(table, 1, counts.count + 1),
+        Way::Dict => taken_by_dict(table, more, counts.count + more),
+        Way::Set => taken_by_set(table, more, counts.count + more),
     }
 }
 
@@ -204,7 +204,7 @@ pub fn add_key(
     if counts.count >= most_keys(way) {
         return Added::Over(answer_over(bank, pass, called));
     }
-    match class_wanted(way, old, counts) {
+    match class_wanted(way, old, counts, 1) {
         Some(class) => add_in_taken(
             bank, pass, o, way, old, class, counts, key, stored, called, said,
         ),

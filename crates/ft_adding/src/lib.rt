@@ -11,4 +11,7 @@ mod placing;
 mod room;
 
 pub use crate::counts::{Counts, read_counts};
-pub use crate::keys::add_key;
+pub use crate::filling::fill;
+pub use crate::growth::begin_in;
+pub use crate::keys::{add_key, class_wanted, most_keys};
+pub use crate::placing::{put_counts, put_key};

@@ -27,7 +27,7 @@ use ft_layout::Pair;
 use ft_search::{TableWords, mask_of, raise_version};
 
 /// Puts what a block counts, before the commit.
-fn put_counts(bank: &Bank, pass: &mut Pass, o: u32, table: Table, count: u64, fill: u64, next: u64)
+pub fn put_counts(bank: &Bank, pass: &mut Pass, o: u32, table: Table, count: u64, fill: u64, next: u64)
     requires pass { IsPassOf bank.now pass.old }
     requires writes { WritesEntries (shape_of bank.now) o table (view pass.old) }
     ensures pass { IsPassOf bank.now pass.new }
@@ -99,7 +99,7 @@ fn put_pair(bank: &Bank, pass: &mut Pass, o: u32, table: Table, slot: u64, place
 
 /// Puts a new pair after the entries that were used, before the commit: what the block counts then, the
 /// pair's entry, and the index word of a slot that names it.
-pub(crate) fn put_key(
+pub fn put_key(
     bank: &Bank,
     pass: &mut Pass,
     o: u32,

@@ -17,10 +17,18 @@ pub fn four(alloc: Global) -> Result<Shape, Fail>
     ensures { IfOk result (λ s. (s.kinds.items ≡ kind.Dict ∷ kind.Dict ∷ kind.Set ∷ kind.Set ∷ [])
         × (s.passes ≡ 1) × (s.calls ≡ 100)) }
 {
+    four_with(alloc, vec![in alloc; 4u32; 14]?)
+}
+
+/// The same, with that many tables of each class.
+pub fn four_with(alloc: Global, tables: Vec<u32>) -> Result<Shape, Fail>
+    ensures { IfOk result (λ s. (s.kinds.items ≡ kind.Dict ∷ kind.Dict ∷ kind.Set ∷ kind.Set ∷ [])
+        × (s.passes ≡ 1) × (s.calls ≡ 100)) }
+{
     Ok(Shape {
         kinds: vec![in alloc; Kind::Dict, Kind::Dict, Kind::Set, Kind::Set]?,
         texts: Vec::new(alloc),
-        tables: vec![in alloc; 4u32; 14]?,
+        tables,
         heap: 64,
         passes: 1,
         calls: 100,

@@ -10,13 +10,13 @@ ghost use Rattle.ft_section.specs.declared.answers.Stamp.{Stamp};
 ghost use Rattle.ft_section.specs.declared.answers.Step.TheVariants as steps;
 ghost use Rattle.ft_section.specs.Ready.{MayTry};
 
-use crate::rows::{elements, four, is_made, only};
+use crate::rows::{elements, four_with, is_made, only};
 use ft_bank::{Bank, Pass};
 use ft_model::{Key, Raise, Reply, Value};
 use ft_section::{Step, new_passes_are_ready};
 use ft_set::{
-    try_add, try_clear, try_discard, try_disjoint, try_eq, try_has, try_items, try_len, try_pop,
-    try_remove, try_subset,
+    try_add, try_clear, try_discard, try_disjoint, try_eq, try_has, try_items, try_len, try_or,
+    try_pop, try_remove, try_subset,
 };
 use std::alloc::Global;
 use std::test::Fail;
@@ -38,6 +38,9 @@ enum Call {
     Disjoint,
     /// `add` of set 3.
     AddOther(i64),
+    /// `|=` with set 3, and with itself.
+    Or,
+    OrItself,
 }
 
 /// A call, what it is to reply, its number, and whether it is a write.
@@ -90,6 +93,8 @@ fn attempt(bank: &Bank, pass: &mut Pass, alloc: Global, call: Call) -> Step
         Call::Subset => try_subset(bank, pass, 2, 3),
         Call::Disjoint => try_disjoint(bank, pass, 2, 3),
         Call::AddOther(key) => try_add(bank, pass, 3, Key::Int(key)),
+        Call::Or => try_or(bank, pass, 2, 3),
+        Call::OrItself => try_or(bank, pass, 2, 2),
     }
 }
 
@@ -114,7 +119,12 @@ fn first_wrong(bank: &Bank, pass: &mut Pass, alloc: Global, rows: &[Row]) -> Opt
 
 /// The place of the first row that isn't so in a new bank.
 fn in_new_bank(alloc: Global, rows: &[Row]) -> Result<Option<usize>, Fail> {
-    let shape = four(alloc)?;
+    in_bank_with(alloc, vec![in alloc; 4u32; 14]?, rows)
+}
+
+/// The place of the first row that isn't so in a new bank with that many tables of each class.
+fn in_bank_with(alloc: Global, tables: Vec<u32>, rows: &[Row]) -> Result<Option<usize>, Fail> {
+    let shape = four_with(alloc, tables)?;
     if !shape.fits() {
         return Err(Fail::from("a small shape fits"));
     }
@@ -178,5 +188,75 @@ fn sets_are_compared_by_their_elements(rt: HostRuntime) -> Result<(), Fail> {
         reads(Call::Has(7), Reply::Truth(false), 5),
     ]?;
     assert_eq!(rt; in_new_bank(alloc, rows.as_slice())?, None);
+    Ok(())
+}
+
+#[test]
+fn elements_of_another_set_go_last_in_their_order(rt: HostRuntime) -> Result<(), Fail> {
+    let alloc = rt.alloc();
+    // The hash of -1 is that of -2; 2^61 - 1 has the hash of 0. A table of class 3 has room for four elements.
+    let rows = vec![in alloc;
+        writes(Call::Or, Reply::Done, 0),
+        reads(Call::Items, elements(alloc, &[])?, 1),
+        writes(Call::AddOther(5), Reply::Done, 1),
+        writes(Call::AddOther(-2), Reply::Done, 2),
+        writes(Call::AddOther(9), Reply::Done, 3),
+        writes(Call::Add(9), Reply::Done, 4),
+        writes(Call::Or, Reply::Done, 5),
+        reads(Call::Items, elements(alloc, &[9, 5, -2])?, 6),
+        writes(Call::OrItself, Reply::Done, 6),
+        reads(Call::Items, elements(alloc, &[9, 5, -2])?, 7),
+        writes(Call::Add(-1), Reply::Done, 7),
+        writes(Call::AddOther(2305843009213693951), Reply::Done, 8),
+        writes(Call::AddOther(0), Reply::Done, 9),
+        writes(Call::Or, Reply::Done, 10),
+        reads(
+            Call::Items,
+            elements(alloc, &[9, 5, -2, -1, 2305843009213693951, 0])?,
+            11
+        ),
+        writes(Call::Discard(5), Reply::Done, 11),
+        writes(Call::Or, Reply::Done, 12),
+        reads(
+            Call::Items,
+            elements(alloc, &[9, -2, -1, 2305843009213693951, 0, 5])?,
+            13
+        ),
+        writes(Call::Clear, Reply::Done, 13),
+        writes(Call::Or, Reply::Done, 14),
+        reads(
+            Call::Items,
+            elements(alloc, &[5, -2, 9, 2305843009213693951, 0])?,
+            15
+        ),
+        reads(Call::Eq, Reply::Truth(true), 15),
+    ]?;
+    assert_eq!(rt; in_new_bank(alloc, rows.as_slice())?, None);
+    Ok(())
+}
+
+#[test]
+fn no_element_is_put_where_there_is_no_table(rt: HostRuntime) -> Result<(), Fail> {
+    let alloc = rt.alloc();
+    // Five elements take a table of class 5, of which the other set has the only one.
+    let tables = vec![in alloc; 4u32, 4, 1, 4, 4, 4, 4, 4, 4, 4, 4, 4, 4, 4]?;
+    let rows = vec![in alloc;
+        writes(Call::AddOther(1), Reply::Done, 0),
+        writes(Call::AddOther(2), Reply::Done, 1),
+        writes(Call::AddOther(3), Reply::Done, 2),
+        writes(Call::AddOther(4), Reply::Done, 3),
+        writes(Call::AddOther(5), Reply::Done, 4),
+        writes(Call::Add(9), Reply::Done, 5),
+        reads(Call::Or, Reply::Raised(Raise::Memory(5)), 6),
+        reads(Call::Items, elements(alloc, &[9])?, 6),
+        writes(Call::OrItself, Reply::Done, 6),
+        writes(Call::Clear, Reply::Done, 7),
+        reads(Call::Or, Reply::Raised(Raise::Memory(5)), 8),
+        reads(Call::Items, elements(alloc, &[])?, 8),
+        writes(Call::Add(2), Reply::Done, 8),
+        reads(Call::Or, Reply::Raised(Raise::Memory(5)), 9),
+        reads(Call::Items, elements(alloc, &[2])?, 9),
+    ]?;
+    assert_eq!(rt; in_bank_with(alloc, tables, rows.as_slice())?, None);
     Ok(())
 }

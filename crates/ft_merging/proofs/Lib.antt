@@ -1,4 +1,13 @@
 pub mod Ending
 pub mod Thinned
 pub mod Finished
+pub mod JoinedContents
+pub mod JoinedReads
+pub mod JoinedRoom
+pub mod JoinedStep
+pub mod Joined
+pub mod JoinedStarts
+pub mod JoinedNew
+pub mod JoinedCalls
+pub mod JoinedSearch
 pub mod Pairs

@@ -2,3 +2,4 @@
 -- is needed to say what a call does.
 pub mod Writing
 pub mod Thinning
+pub mod Joining

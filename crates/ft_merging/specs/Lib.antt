@@ -1,2 +1,3 @@
 pub mod Thinning
+pub mod Joining
 pub mod Internal

@@ -6,7 +6,11 @@
 #![tactic(auto)]
 
 mod closing;
+mod counting;
+mod joining;
+mod putting;
 mod reading;
 mod thinning;
 
+pub use crate::joining::join_by;
 pub use crate::thinning::thin_by;

@@ -1,8 +1,9 @@
 //! Single entries of the table of a dict or a set, read by a pass that has its lock.
-ghost use Rattle.std.specs.Prelude.{◌≡◌, ◌<◌, ◌↔◌, suc, Some};
+ghost use Rattle.std.specs.Prelude.{◌≡◌, ◌<◌, ◌↔◌, suc, Some, slice_index};
 ghost use Rattle.ft_layout.specs.declared.slot.Pair.{Pair};
+ghost use Rattle.ft_layout.specs.declared.slot.Slot.{Slot};
 ghost use Rattle.ft_layout.specs.declared.slot.Slot.TheVariants.{Live};
-ghost use Rattle.ft_layout.specs.Words.{IsKey};
+ghost use Rattle.ft_layout.specs.Words.{IsEntry, IsKey};
 ghost use Rattle.ft_model.specs.declared.data.Key.{Key};
 ghost use Rattle.ft_trace.specs.Addresses.{class_of, containers_in, slots};
 ghost use Rattle.ft_trace.specs.Holds.{held};
@@ -14,12 +15,15 @@ ghost use Rattle.ft_bank.specs.Sections.{stack_of};
 ghost use Rattle.ft_bank.specs.Tables.{name_of, IsTableIn};
 ghost use Rattle.ft_bank.specs.Whole.{OnlyLoaded};
 ghost use Rattle.ft_search.specs.Held.{KnowsTable};
+ghost use Rattle.ft_search.specs.Writing.{MayWriteEntries};
+ghost use Rattle.ft_adding.specs.Growing.{KnowsKeyed};
+ghost use Rattle.ft_merging.specs.Internal.Joining.{pair_in};
 
 use ft_bank::{Bank, Pass, Table};
-use ft_layout::entry_word::{KEY, KEY_KIND};
-use ft_layout::{Slot, entry_of};
+use ft_layout::entry_word::{HASH, KEY, KEY_KIND, SERIAL, VALUE, VALUE_KIND};
+use ft_layout::{Pair, Slot, entry_of};
 use ft_model::Key;
-use ft_search::mask_of;
+use ft_search::{mask_of, table_named};
 use ft_section::Object;
 
 /// The key of what an entry has, if one is there.
@@ -94,4 +98,64 @@ pub(crate) fn key_at(
     let kind = word_of(bank, pass, o, table, place, KEY_KIND);
     let payload = word_of(bank, pass, o, table, place, KEY);
     key_said(kind, payload)
+}
+
+/// The pair that is there, if one is.
+fn pair_there(slot: Option<Slot>) -> Option<Pair>
+    ensures { (said : Slot) → slot ≡ Some said → result ≡ pair_in said }
+{
+    match slot {
+        Some(Slot::Live(pair)) => Some(pair),
+        Some(Slot::Never | Slot::Gone(..)) | None => None,
+    }
+}
+
+/// The pair that these words of an entry say, if one is there.
+fn pair_said(words: &[u64; 8]) -> Option<Pair>
+    ensures { (said : Slot) → IsEntry (slice_index words.now) said → result ≡ pair_in said }
+{
+    pair_there(entry_of(words))
+}
+
+/// The pair of the entry at a place, if one is there.
+pub(crate) fn pair_at(
+    bank: &Bank,
+    pass: &mut Pass,
+    o: Object,
+    table: Table,
+    place: u64,
+) -> Option<Pair>
+    requires pass { IsPassOf bank.now pass.old }
+    requires container { o < containers_in (shape_of bank.now) }
+    requires keyed { IsKeyed (kind_in (shape_of bank.now).kinds o) }
+    requires table { IsTableIn (shape_of bank.now) table }
+    requires knows { KnowsTable o (name_of table) (view pass.old) }
+    requires place { place < rows (kind_in (shape_of bank.now).kinds o) (class_of (name_of table)) }
+    ensures pass { IsPassOf bank.now pass.new }
+    ensures stack { stack_of pass.new ≡ stack_of pass.old }
+    ensures only { OnlyLoaded (view pass.old) (view pass.new) }
+    ensures pair { (said : Slot) →
+        IsEntry (entry_of (slots (class_of (name_of table))) (held o (view pass.old)).table place) said →
+        result ≡ pair_in said }
+{
+    let hash = word_of(bank, pass, o, table, place, HASH);
+    let kind = word_of(bank, pass, o, table, place, KEY_KIND);
+    let payload = word_of(bank, pass, o, table, place, KEY);
+    let value_kind = word_of(bank, pass, o, table, place, VALUE_KIND);
+    let value = word_of(bank, pass, o, table, place, VALUE);
+    let serial = word_of(bank, pass, o, table, place, SERIAL);
+    pair_said(&[0, hash, kind, payload, value_kind, value, serial, 0])
+}
+
+/// The table that the root of a dict or a set names, or none.
+pub(crate) fn own_table(bank: &Bank, pass: &mut Pass, o: Object) -> Option<Table>
+    requires pass { IsPassOf bank.now pass.old }
+    requires may { MayWriteEntries (shape_of bank.now) o (view pass.old) }
+    ensures pass { IsPassOf bank.now pass.new }
+    ensures stack { stack_of pass.new ≡ stack_of pass.old }
+    ensures only { OnlyLoaded (view pass.old) (view pass.new) }
+    ensures knows { KnowsKeyed (shape_of bank.now) o result (view pass.new) }
+{
+    let root = bank.read_block(pass, o, 0);
+    table_named(root)
 }

@@ -1,8 +1,11 @@
-//! Calls on two sets that write the first one: those of its elements stay that the other one has, or hasn't.
-ghost use Rattle.std.specs.Prelude.{◌≡◌, ◌<◌};
+//! Calls on two sets that write the first one: those of its elements stay that the other one has, or hasn't, or it
+//! gets those of the other one too.
+ghost use Rattle.std.specs.Prelude.{◌≡◌, ◌<◌, false};
 ghost use Rattle.ft_model.specs.declared.call.Call.TheVariants as call;
 ghost use Rattle.ft_model.specs.declared.call.SetCall.TheVariants as set;
+ghost use Rattle.ft_model.specs.declared.reply.Reply.TheVariants as reply;
 ghost use Rattle.ft_model.specs.declared.script.Kind.TheVariants as kind;
+ghost use Rattle.ft_trace.specs.Acts.{flight, used};
 ghost use Rattle.ft_trace.specs.Addresses.{containers_in};
 ghost use Rattle.ft_trace.specs.Worlds.{kind_in};
 ghost use Rattle.ft_bank.specs.Passes.{shape_of, view, IsPassOf};
@@ -10,11 +13,16 @@ ghost use Rattle.ft_bank.specs.Sections.{stack_of};
 ghost use Rattle.ft_section.specs.declared.answers.Objects.TheVariants.{Two};
 ghost use Rattle.ft_section.specs.Ready.{MayTry};
 ghost use Rattle.ft_section.specs.Trying.{SectionsAfter};
+ghost use Rattle.ft_growth.specs.Adding.{IsTryOf, KeepsCursors};
 ghost use Rattle.ft_search.specs.Calls.{IsMadeOf, MadeAs};
 ghost use Rattle.ft_search.specs.Writing.{MayWriteEntries};
+ghost use Rattle.ft_merging.specs.Joining.{JoinsBy};
 
 use ft_bank::{Bank, Pass};
-use ft_merging::thin_by;
+use ft_growth::{Added, step_of};
+use ft_keys::Way;
+use ft_layout::used_entries_follow_a_set;
+use ft_merging::{join_by, thin_by};
 use ft_model::{Call, Reply, SetCall};
 use ft_search::written;
 use ft_section::{Got, Object, Objects, Stamp, Step, let_go, take_for};
@@ -107,6 +115,63 @@ pub fn try_sub(bank: &Bank, pass: &mut Pass, s: Object, t: Object) -> Step
             let (reply, stamp) = sub_locked(bank, pass, s, t);
             let_go(bank, pass);
             Step::Done(reply, stamp)
+        }
+        Got::NotYet(container, owner) => Step::NotYet(container, owner),
+    }
+}
+
+/// `s |= t` (Python manual, Set Types), by a pass that has both locks: those of t that s lacks are added, in their
+/// order; a set that is named twice stays as it is. All are added, or none.
+///
+/// # Errors
+///
+/// Those of [`join_by`].
+pub fn or_by(bank: &Bank, pass: &mut Pass, s: Object, t: Object) -> Added
+    requires pass { IsPassOf bank.now pass.old }
+    requires may { MayWriteEntries (shape_of bank.now) s (view pass.old) }
+    requires other { MayWriteEntries (shape_of bank.now) t (view pass.old) }
+    requires used { used (view pass.old).log ≡ false }
+    requires idle { flight (view pass.old).log ≡ 0 }
+    requires set { kind_in (shape_of bank.now).kinds s ≡ kind.Set }
+    requires other_set { kind_in (shape_of bank.now).kinds t ≡ kind.Set }
+    ensures pass { IsPassOf bank.now pass.new }
+    ensures stack { stack_of pass.new ≡ stack_of pass.old }
+    ensures added { JoinsBy (shape_of bank.now) s t (call.Set s (set.Or t)) (view pass.old) (view pass.new) result }
+{
+    used_entries_follow_a_set();
+    let called = Call::Set {
+        container: s,
+        call: SetCall::Or { other: t },
+    };
+    join_by(bank, pass, s, t, Way::Set, &called)
+}
+
+/// `s |= t` under the locks of both sets, the lower one taken first; a set named twice counts once, and stays as it is
+/// (Python manual, Set Types). It replies that it is done, or raises a MemoryError, and then no element is added.
+///
+/// # Errors
+///
+/// `NotYet` where a step of the call found another pass with the lock of one of the sets; `Moved` where two steps of
+/// it found a word of the free tables of one class changed. The same call comes next. It never answers `NoMemory`.
+/// Whatever it answers, the pass has the cursors that it had.
+pub fn try_or(bank: &Bank, pass: &mut Pass, s: Object, t: Object) -> Step
+    requires may { MayTry bank.now pass.old (Two s t) }
+    requires container { s < containers_in (shape_of bank.now) }
+    requires other { t < containers_in (shape_of bank.now) }
+    requires set { kind_in (shape_of bank.now).kinds s ≡ kind.Set }
+    requires other_set { kind_in (shape_of bank.now).kinds t ≡ kind.Set }
+    requires left { 0 < (view pass.old).left }
+    ensures may { MayTry bank.now pass.new (Two s t) }
+    ensures tried { IsTryOf (Two s t) (JoinsBy (shape_of bank.now) s t (call.Set s (set.Or t))) reply.Done (view pass.old)
+        (view pass.new) result }
+    ensures sections { SectionsAfter bank.now (Two s t) pass.old pass.new result }
+    ensures cursors { KeepsCursors (view pass.old) (view pass.new) }
+{
+    match take_for(bank, pass, Objects::Two(s, t)) {
+        Got::Have => {
+            let added = or_by(bank, pass, s, t);
+            let_go(bank, pass);
+            step_of(added, Reply::Done)
         }
         Got::NotYet(container, owner) => Step::NotYet(container, owner),
     }

@@ -31,7 +31,7 @@ use Rattle.ft_adding.proofs.Finishing.{Since, adds_leaves, key_finishes, since_r
 use Rattle.ft_adding.proofs.Grown.{grow_filled, grown_wrote, leaves_filled, same_filled, filled_has}
 use Rattle.ft_adding.proofs.Keyed.{counts_known, use_known}
 use Rattle.ft_adding.proofs.Placed.{Fresh, PlaceLaws, pair_for, place_unused, places_key, use_with}
-use Rattle.ft_adding.proofs.Rooted.{absent_in, filled_says, fresh_rooted}
+use Rattle.ft_adding.proofs.Rooted.{absent_in, filled_says, fresh_rooted, shut_rooted}
 use Rattle.ft_adding.proofs.Wanted.{grown_use}
 use Rattle.ft_adding.proofs.growth.add_in_new.Goals as goal
 use Rattle.ft_adding.proofs.growth.add_in_new.Goals.{After-fill, After-put_key}
@@ -181,7 +181,7 @@ finish_entry-requires-clause-may c =
     c.requires.adds.takes found (filled_has v x c.fill.ensures.only found has) ∙ (c.requires.takes ∙ ap (λ (n : ℕ). Some n) is))
     (kind_eq d) (known a.o x).table
     (subst (λ (z : Picture). Changing k.texts t z (known a.o x) a.counts.count [] (record { content = with_key content a.key a.stored; table = use_with (class_of t) (a.counts.count + 1) })) made
-    (places_key (laws d) k.texts (rooted d) t c.free_slot-slot.result (all d) content a.key a.stored (fresh d (held a.o y) c.free_slot-slot.result c.hash_of-hash.result c.begin_in.ensures.words c.hash_of-hash.ensures c.hash_of-hash.type_inv c.free_slot-slot.ensures.slot) (known a.o x).table))
+    (places_key (laws d) k.texts (rooted d) t c.free_slot-slot.result (all d) content a.key a.stored (fresh d (held a.o y) c.free_slot-slot.result c.hash_of-hash.result c.begin_in.ensures.words c.hash_of-hash.ensures c.hash_of-hash.type_inv c.free_slot-slot.ensures.slot) (shut_rooted (laws d).first_pair (laws d).first_element (laws d).head k a.o a.old a.table x (grow d) c.fill.ensures.pass.1 c.fill.new.pass.possible (filled d)) (known a.o x).table))
     e.writes.root
 
 pub returns-clause-wrote : goal.returns-clause-wrote

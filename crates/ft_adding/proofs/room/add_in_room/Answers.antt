@@ -15,7 +15,7 @@ use Rattle.ft_search.proofs.Endings.{whole_write}
 use Rattle.ft_adding.specs.Growing.{KnowsKeyed}
 use Rattle.ft_adding.specs.Placing.{IsUnused, with_entry, with_key}
 use Rattle.ft_adding.proofs.Finishing.{key_finishes, since_start}
-use Rattle.ft_adding.proofs.Keyed.{counts_known, fresh_known, knows_here}
+use Rattle.ft_adding.proofs.Keyed.{counts_known, fresh_known, knows_here, shut_here}
 use Rattle.ft_adding.proofs.Placed.{Fresh, PlaceLaws, pair_for, place_unused, places_key, use_with}
 use Rattle.ft_adding.proofs.room.add_in_room.Goals as goal
 use Rattle.ft_adding.proofs.room.add_in_room.Goals.{After-start_write}
@@ -75,7 +75,7 @@ finish_entry-requires-clause-may c =
     (λ found class has owed. absurd (omega (arith, none, owed)))
     (kind_is k v a.o c.requires.pass.1 a.pass.now.possible c.requires.may.locked) (known a.o v).table
     (subst (λ (x : Picture). Changing k.texts t x (known a.o v) a.counts.fill [] (record { content = with_key (known a.o v).content a.key a.stored; table = use_with (class_of t) (a.counts.fill + 1) })) words
-    (places_key (laws d) k.texts (held a.o v) t a.slot a.counts (known a.o v).content a.key a.stored (fresh d) (known a.o v).table))
+    (places_key (laws d) k.texts (held a.o v) t a.slot a.counts (known a.o v).content a.key a.stored (fresh d) (shut_here c.words_are_of_one_content.ensures.head k a.o a.table v c.requires.pass.1 a.pass.now.possible (knows d) a.way c.requires.way) (known a.o v).table))
     e.writes.root
 
 pub returns-clause-wrote : goal.returns-clause-wrote

@@ -1,0 +1,289 @@
+-- A dict or a set in the midst of a write that joins another one to it: before the first key, after each, at the end.
+use Rattle.std.proofs.Common.{◌≡◌, ℕ, suc, ◌+◌, ◌^◌, ◌<◌, ◌≤◌, true, false, true≢false, List, [], ◌∷◌, length, drop, Option, Some, None, refl, sym, ap, ◌∙◌, subst, arith, ltb-false}
+use Rattle.std.specs.Prelude.{slice_index_or}
+use Rattle.std.proofs.lemmas.List.{drop_all, drop_more}
+use Rattle.ft_model.specs.declared.call.Call.{Call}
+use Rattle.ft_model.specs.declared.content.Content.{Content}
+use Rattle.ft_model.specs.declared.content.Content.TheVariants as content
+use Rattle.ft_model.specs.declared.data.Key.{Key}
+use Rattle.ft_model.specs.declared.reply.Reply.TheVariants as reply
+use Rattle.ft_model.specs.declared.script.Kind.{Kind}
+use Rattle.ft_model.specs.declared.script.Kind.TheVariants as kind
+use Rattle.ft_model.specs.Tables.{StoredWorld, TableUse, after_stored, passes_cap, takes_in}
+use Rattle.ft_model.specs.Worlds.{kind_of, length_of, serial_of}
+use Rattle.ft_layout.specs.declared.slot.Stored.{Stored}
+use Rattle.ft_layout.specs.Containers.{class_mask}
+use Rattle.ft_layout.specs.Tables.{UsedEntry, hash_of}
+use Rattle.ft_layout.specs.Words.{FitsKey, FitsStored}
+use Rattle.ft_keys.specs.declared.walk.Way.{Way}
+use Rattle.ft_keys.specs.Ways.{IsTableOf}
+use Rattle.ft_trace.specs.declared.Shape.{Shape}
+use Rattle.ft_trace.specs.declared.View.{View}
+use Rattle.ft_trace.specs.Acts.{has_emptied, is_writing, owes}
+use Rattle.ft_trace.specs.Addresses.{class_of, containers_in}
+use Rattle.ft_trace.specs.Holds.{held, known}
+use Rattle.ft_trace.specs.Kinds.{ClearAs, IsKeyed, rows, under}
+use Rattle.ft_trace.specs.Words.{Picture, root_in}
+use Rattle.ft_trace.specs.Worlds.{Kept, changes, kept_at, kind_in, reply_in}
+use Rattle.ft_bank.specs.declared.table.Table.{Table}
+use Rattle.ft_bank.specs.Tables.{name_of}
+use Rattle.ft_bank.specs.Whole.{OnlyLoaded, OnlyPut}
+use Rattle.ft_bank.specs.Writes.{MayCommit, MayHave}
+use Rattle.ft_bank.proofs.Whole.{loaded_held, work_knows}
+use Rattle.ft_search.specs.Held.{IsHeldAt}
+use Rattle.ft_search.specs.Rounds.{kind_by}
+use Rattle.ft_search.specs.Writing.{WritesEntries}
+use Rattle.ft_search.proofs.Calling.{plain_replied}
+use Rattle.ft_search.proofs.Puts.{table_class}
+use Rattle.ft_adding.specs.declared.counts.Counts.{Counts}
+use Rattle.ft_adding.specs.Growing.{IsFreeFor, holds, most_of}
+use Rattle.ft_adding.specs.Placing.{StoresAs, with_entry, with_key}
+use Rattle.ft_adding.proofs.Finishing.{Since, has_since}
+use Rattle.ft_adding.proofs.Placed.{PlaceLaws, pair_for, use_with}
+use Rattle.ft_adding.proofs.Wanted.{most_few}
+use Rattle.ft_merging.specs.Joining.{JoinsKeys, joined, joined_kept, new_keys}
+use Rattle.ft_merging.specs.Internal.Joining.{AreLeft, IsJoining, NoneGone, lacking}
+use Rattle.ft_merging.specs.Internal.Writing.{IsMidway, MayFinishAll}
+use Rattle.ft_merging.proofs.Ending.{Laws, clear_of}
+use Rattle.ft_merging.proofs.JoinedContents.{counts_more, joined_counts, kind_with, left_dead, left_new, left_stores, left_there, set_same}
+use Rattle.ft_merging.proofs.JoinedReads.{Source, holds_none}
+use Rattle.ft_merging.proofs.JoinedStep.{alive_put, midway_put}
+use Rattle.ft_merging.proofs.Thinned.{midway_loaded}
+
+-- ---- after loads
+
+pub joining_loaded : (k : Shape) (o : ℕ) (by : Way) (own : Table) (t : ℕ) (table : Table) (goal : Content) (end place : ℕ) (counts : Counts) (v w : View) → OnlyLoaded v w → IsJoining k o by own t table goal end place counts v → IsJoining k o by own t table goal end place counts w
+joining_loaded k o by own t table goal end place counts v w only j =
+    let other : held t v ≡ held t w = sym (loaded_held v w t only) in
+    let mine : held o v ≡ held o w = sym (loaded_held v w o only) in
+    record {
+      mid = j.mid;
+      midway = midway_loaded k o own (record { content = j.mid; table = use_with (class_of (name_of own)) counts.fill }) v w only j.midway;
+      same_kind = j.same_kind;
+      kind_is = j.kind_is;
+      count_is = j.count_is;
+      next_is = j.next_is;
+      alive = subst (λ (x : Picture). NoneGone (name_of own) (rows (kind_in k.kinds o) (class_of (name_of own))) x) mine j.alive;
+      room = j.room;
+      used = j.used;
+      filled = j.filled ∙ ap (λ (z : Kept). z.table.fill) (sym (work_knows v w t only.work));
+      source = subst (λ (x : Picture). IsTableOf by k.texts (class_mask (class_of (name_of table))) j.used (0 ∷ 0 ∷ x.table)) other j.source;
+      left = j.left;
+    }
+
+-- ---- one more entry
+
+module _ (k : Shape) (o : ℕ) (by : Way) (own : Table) (t : ℕ) (table : Table) (goal : Content) (end place : ℕ) (counts : Counts) (v : View) (j : IsJoining k o by own t table goal end place counts v) (low : place < (known t v).table.fill) (any : UsedEntry) where
+  abbrev e : UsedEntry
+  e = slice_index_or j.used place any
+
+  abbrev later : List UsedEntry
+  later = drop (place + 1) j.used
+
+  pub inside : place < length j.used
+  inside = let f = j.filled in omega (arith, low, f)
+
+  step : (key : Key) (s : Option Stored) → e.key ≡ key → e.stored ≡ s → AreLeft (kind_by by) j.mid goal counts.fill end (record { key = key; serial = e.serial; stored = s } ∷ later)
+  step key s same is = subst (AreLeft (kind_by by) j.mid goal counts.fill end) (drop_more j.used place any inside ∙ (λ i. record { key = same i; serial = e.serial; stored = is i } ∷ later)) j.left
+
+  -- it was deleted
+  pub joining_dead : e.stored ≡ None → IsJoining k o by own t table goal end (place + 1) counts v
+  joining_dead dead = record {
+    mid = j.mid;
+    midway = j.midway;
+    same_kind = j.same_kind;
+    kind_is = j.kind_is;
+    count_is = j.count_is;
+    next_is = j.next_is;
+    alive = j.alive;
+    room = j.room;
+    used = j.used;
+    filled = j.filled;
+    source = j.source;
+    left = left_dead (kind_by by) j.mid goal j.same_kind counts.fill end e.key e.serial later (step e.key None refl dead);
+  }
+
+  module _ (key : Key) (stored : Stored) (same : e.key ≡ key) (is : e.stored ≡ Some stored) where
+    pub stores : StoresAs (kind_of j.mid) stored
+    stores = left_stores (kind_by by) j.mid goal j.same_kind counts.fill end key e.serial later stored (step key (Some stored) same is)
+
+    -- its element is there
+    pub joining_there : kind_by by ≡ kind.Set → holds j.mid key ≡ true → IsJoining k o by own t table goal end (place + 1) counts v
+    joining_there sets there = record {
+      mid = j.mid;
+      midway = j.midway;
+      same_kind = j.same_kind;
+      kind_is = j.kind_is;
+      count_is = j.count_is;
+      next_is = j.next_is;
+      alive = j.alive;
+      room = j.room;
+      used = j.used;
+      filled = j.filled;
+      source = j.source;
+      left = subst (λ (z : Content). AreLeft (kind_by by) z goal counts.fill end later) (set_same j.mid key stored (j.same_kind ∙ sets) there)
+          (left_there (kind_by by) j.mid goal j.same_kind counts.fill end key e.serial later stored (step key (Some stored) same is) there);
+    }
+
+    -- its key is new
+    module _ (absent : IsHeldAt j.mid key None) where
+      abbrev next : AreLeft (kind_by by) (with_key j.mid key stored) goal (counts.fill + 1) end later × (counts.fill < end) × (length_of j.mid < 65536) × (serial_of j.mid + 1 < 2 ^ 63)
+      next = left_new (kind_by by) j.mid goal j.same_kind counts.fill end key e.serial later stored (step key (Some stored) same is) (holds_none j.mid key absent)
+
+      pub new_room : counts.fill < rows (kind_in k.kinds o) (class_of (name_of own))
+      new_room = let n = next.1 in let r = j.room in omega (arith, n, r)
+
+      pub new_few : (counts.count < 65536) × (counts.next + 1 < 2 ^ 63)
+      new_few = let a = next.2 in let b = next.3 in let c = j.count_is in let d = j.next_is in (omega (arith, a, c), omega (arith, b, d))
+
+      module _ (laws : PlaceLaws) (slot : ℕ) (fits : FitsKey key) (hash : hash_of k.texts key < 2 ^ 64) (ok : FitsStored stored) (free : IsFreeFor k.texts by own.class key (held o v).table slot) (z : View) (only : OnlyPut o v z) (words : held o z ≡ with_entry (name_of own) slot counts (pair_for k.texts j.mid key stored) (held o v)) (writes : WritesEntries k o own z) (other : held t z ≡ held t v) where
+        room_by : counts.fill < rows (kind_by by) (class_of (name_of own))
+        room_by = subst (λ (y : Kind). counts.fill < rows y (class_of (name_of own))) j.kind_is new_room
+
+        pub joining_new : IsJoining k o by own t table goal end (place + 1) (record { count = counts.count + 1; fill = counts.fill + 1; next = counts.next + 1 }) z
+        joining_new =
+            let more = counts_more j.mid key stored stores (holds_none j.mid key absent) in
+            let c = j.count_is in
+            let d = j.next_is in
+            let c1 = more.0 in
+            let d1 = more.1 in
+            record {
+              mid = with_key j.mid key stored;
+              midway = midway_put laws k o by own j.mid counts v j.midway j.same_kind j.kind_is j.count_is j.alive slot key stored fits hash stores ok absent free room_by z only words writes;
+              same_kind = kind_with j.mid key stored stores ∙ j.same_kind;
+              kind_is = j.kind_is;
+              count_is = omega (arith, c, c1);
+              next_is = omega (arith, d, d1);
+              alive = alive_put laws k o by own j.mid counts v j.midway j.same_kind j.kind_is j.count_is j.alive slot key stored fits hash stores ok absent free room_by z only words writes;
+              room = j.room;
+              used = j.used;
+              filled = j.filled ∙ ap (λ (y : Kept). y.table.fill) (sym (work_knows v z t only.work));
+              source = subst (λ (x : Picture). IsTableOf by k.texts (class_mask (class_of (name_of table))) j.used (0 ∷ 0 ∷ x.table)) (sym other) j.source;
+              left = next.0;
+            }
+
+-- ---- before the first one
+
+-- how many there are at most
+pub cap_few : (d : Content) → passes_cap d ≡ false → length_of d ≤ most_of d
+cap_few (content.Dict pairs) not = ltb-false _ _ not
+cap_few (content.Set elements) not = ltb-false _ _ not
+cap_few (content.List values) not = ltb-false _ _ not
+
+-- what there is then
+pub joined_more : (k : Shape) (by : Way) (t : ℕ) (table : Table) (v : View) (s : Source k by t table v) (d : Content) → kind_of d ≡ kind_by by → (length_of (joined d (known t v).content) ≡ length_of d + lacking d s.used) × (new_keys d (known t v).content ≡ lacking d s.used) × (serial_of (joined d (known t v).content) ≡ serial_of d + lacking d s.used)
+joined_more k by t table v s d same_kind =
+    let comes = s.comes d same_kind in
+    let counts = joined_counts (kind_by by) s.used d same_kind s.apart s.stores in
+    let n : length_of (joined d (known t v).content) ≡ length_of d + lacking d s.used = ap length_of (sym comes) ∙ counts.0 in
+    let r : serial_of (joined d (known t v).content) ≡ serial_of d + lacking d s.used = ap serial_of (sym comes) ∙ counts.1 in
+    (n, omega (arith, r), r)
+
+pub joining_begins : (k : Shape) (o : ℕ) (by : Way) (own : Table) (t : ℕ) (table : Table) (d : Content) (counts : Counts) (more : ℕ) (u : View) → IsMidway k o own (record { content = d; table = use_with (class_of (name_of own)) counts.fill }) u → kind_of d ≡ kind_by by → kind_in k.kinds o ≡ kind_by by → counts.count ≡ length_of d → counts.next ≡ serial_of d
+    → NoneGone (name_of own) (rows (kind_in k.kinds o) (class_of (name_of own))) (held o u) → Source k by t table u → passes_cap (joined d (known t u).content) ≡ false → serial_of d + 65536 < 2 ^ 63 → more ≡ new_keys d (known t u).content → counts.fill + more ≤ rows (kind_in k.kinds o) (class_of (name_of own))
+    → IsJoining k o by own t table (joined d (known t u).content) (counts.fill + more) 0 counts u
+joining_begins k o by own t table d counts more u midway same_kind kind_eq count_is next_is alive s cap serials more_is room =
+    let j = joined_more k by t table u s d same_kind in
+    let n = j.0 in
+    let m = j.1 in
+    let few = cap_few (joined d (known t u).content) cap in
+    let most = most_few (joined d (known t u).content) in
+    record {
+      mid = d;
+      midway = midway;
+      same_kind = same_kind;
+      kind_is = kind_eq;
+      count_is = count_is;
+      next_is = next_is;
+      alive = alive;
+      room = room;
+      used = s.used;
+      filled = s.filled;
+      source = s.table_is;
+      left = record {
+        comes = s.comes d same_kind;
+        fits = omega (arith, m, more_is);
+        few = omega (arith, n, few, most);
+        serials = omega (arith, n, few, most, serials);
+        apart = s.apart;
+        stores = s.stores;
+      };
+    }
+
+-- ---- after the last one
+
+module _ (laws : Laws) (k : Shape) (o : ℕ) (by : Way) (own : Table) (t : ℕ) (table : Table) (end fill : ℕ) (counts : Counts) (v u : View) (since : Since o v u) (shape : v.shape ≡ k) (low : o < containers_in k) (some : 0 < v.left) (called : Call) (joins : JoinsKeys o t called v) (cap : passes_cap (joined (known o v).content (known t v).content) ≡ false)
+    (takes : (found : StoredWorld) (class : ℕ) → MayHave v found → owes v.log ≡ suc class → takes_in found called ≡ Some class) (left_table : (joined_kept (known o v) (known t v).content).table ≡ use_with (class_of (name_of own)) end) (j : IsJoining k o by own t table (joined (known o v).content (known t v).content) end fill counts u) (all : fill ≡ (known t u).table.fill) where
+  abbrev c : ℕ
+  c = class_of (name_of own)
+
+  abbrev goal : Content
+  goal = joined (known o v).content (known t v).content
+
+  abbrev left : Kept
+  left = joined_kept (known o v) (known t v).content
+
+  none_left : drop fill j.used ≡ []
+  none_left = drop_all fill j.used (let f = j.filled in omega (arith, f, all))
+
+  at_end : AreLeft (kind_by by) j.mid goal counts.fill end []
+  at_end = subst (AreLeft (kind_by by) j.mid goal counts.fill end) none_left j.left
+
+  midway : IsMidway k o own left u
+  midway =
+      let comes = at_end.comes in
+      let fits = at_end.fits in
+      let f : counts.fill ≡ end = omega (arith, fits) in
+      subst (λ (z : Kept). IsMidway k o own z u) ((λ i. record { content = comes i; table = use_with c (f i) }) ∙ (λ i. record { content = goal; table = sym left_table i })) j.midway
+
+  kind_goal : kind_of goal ≡ kind_by by
+  kind_goal = ap kind_of (sym at_end.comes) ∙ j.same_kind
+
+  kind_u : kind_of goal ≡ kind_in u.shape.kinds o
+  kind_u = kind_goal ∙ (sym j.kind_is ∙ sym (ap (λ (z : Shape). kind_in z.kinds o) (since.shape ∙ shape)))
+
+  texts_u : k.texts ≡ u.shape.texts
+  texts_u = sym (ap (λ (z : Shape). z.texts) (since.shape ∙ shape))
+
+  left_since : (found : StoredWorld) → MayHave u found → kept_at (after_stored found called) o ≡ left
+  left_since found has = joins.left_is found (has_since o v u since found has)
+
+  here : ClearAs (kind_of goal) k.texts c (held o u).table (known o v).content goal
+  here =
+      clear_of laws k.texts (held o u) (name_of own) (table_class k own midway.writes.table_in) midway.writes.root goal left refl (subst IsKeyed (sym (kind_goal ∙ sym j.kind_is)) midway.writes.keyed) midway.stands (known o v).content
+      (λ p key less even live. midway.same p key (subst (λ (z : Kind). p < rows z c) (kind_goal ∙ sym j.kind_is) less) even live ∙ ap (λ (z : Kept). under z.content key) (since.knows o))
+
+  clears : (found : StoredWorld) (q : ℕ) → MayHave u found → root_in (held o u) ≡ suc q → ClearAs (kind_in u.shape.kinds o) u.shape.texts (class_of q) (held o u).table (known o u).content (kept_at (after_stored found called) o).content
+  clears found q has names =
+      let same : name_of own ≡ q = let e : suc (name_of own) ≡ suc q = sym midway.writes.root ∙ names in omega (arith, e) in
+      let l = left_since found has in
+      subst (λ (n : ℕ). ClearAs (kind_in u.shape.kinds o) u.shape.texts (class_of n) (held o u).table (known o u).content (kept_at (after_stored found called) o).content) same
+      (subst (λ (z : Kind × List ℕ × Kept × Kept). ClearAs z.0 z.1 c (held o u).table z.2.content z.3.content) (λ d. (kind_u d, texts_u d, sym (since.knows o) d, sym l d)) here)
+
+  commits : MayCommit u called reply.Done
+  commits =
+      let name : o ≡ changes called = sym joins.changed in
+      record {
+        write = joins.write;
+        container = subst (λ (n : ℕ). n < containers_in u.shape) name (subst (λ (z : Shape). o < containers_in z) (sym (since.shape ∙ shape)) low);
+        odd = subst (λ (n : ℕ). is_writing n u.log ≡ true) name since.odd;
+        left = subst (λ (n : ℕ). 0 < n) (sym since.left) some;
+        words = joins.words;
+        reply_is = λ found has. plain_replied called reply.Done (reply_in found called) joins.write (joins.replied found (has_since o v u since found has));
+        declared = λ found has. joins.declared found (has_since o v u since found has);
+        fits = λ found has. joins.over found (has_since o v u since found has) ∙ cap;
+        clear = subst (λ (n : ℕ). (found : StoredWorld) (q : ℕ) → MayHave u found → root_in (held n u) ≡ suc q → ClearAs (kind_in u.shape.kinds n) u.shape.texts (class_of q) (held n u).table (known n u).content (kept_at (after_stored found called) n).content) name clears;
+        takes = λ found class has owed. takes found class (has_since o v u since found has) (sym since.owes ∙ owed);
+        empties = λ e. absurd (true≢false (sym e ∙ subst (λ (n : ℕ). has_emptied n u.log ≡ false) name since.emptied));
+        locks = λ p e. since.locks p ∙ joins.locks p e;
+      }
+
+  pub joined_finishes : MayFinishAll k o own end called reply.Done u
+  joined_finishes = record {
+    may = commits;
+    changed = joins.changed;
+    left = left;
+    left_is = left_since;
+    used = ap (λ (z : TableUse). z.fill) left_table;
+    midway = midway;
+  }

@@ -1,0 +1,193 @@
+-- Calls that join two dicts or two sets: what is known of them later, and what they come to.
+use Rattle.std.proofs.Common.{◌≡◌, ℕ, zero, suc, ◌+◌, ◌<◌, ◌≤◌, Bool, true, false, List, [], ◌∷◌, map, ◌++◌, length, filter, Option, Some, None, refl, sym, ap, ◌∙◌, subst, arith, le-ltb, lt-ltb}
+use Rattle.ft_model.specs.declared.call.Call.{Call}
+use Rattle.ft_model.specs.declared.content.Content.{Content}
+use Rattle.ft_model.specs.declared.content.Content.TheVariants as content
+use Rattle.ft_model.specs.declared.content.Element.{Element}
+use Rattle.ft_model.specs.declared.reply.Reply.TheVariants as reply
+use Rattle.ft_model.specs.declared.script.Kind.{Kind}
+use Rattle.ft_model.specs.declared.script.Kind.TheVariants as kind
+use Rattle.ft_model.specs.Classes.{most_elements}
+use Rattle.ft_model.specs.Contents.{SetContent, elements_from, set_or, those_not_in}
+use Rattle.ft_model.specs.Tables.{StoredWorld, passes_cap}
+use Rattle.ft_model.specs.Worlds.{kind_of, length_of, set_of}
+use Rattle.ft_layout.specs.Containers.{IsSetWords, used_element}
+use Rattle.ft_layout.specs.Tables.{is_live}
+use Rattle.ft_keys.specs.declared.walk.Way.{Way}
+use Rattle.ft_trace.specs.declared.Shape.{Shape}
+use Rattle.ft_trace.specs.declared.View.{View}
+use Rattle.ft_trace.specs.Acts.{has_lock}
+use Rattle.ft_trace.specs.Addresses.{class_of}
+use Rattle.ft_trace.specs.Holds.{held, known}
+use Rattle.ft_trace.specs.Kinds.{IsKeyed, rows}
+use Rattle.ft_trace.specs.Traces.{Possible}
+use Rattle.ft_trace.specs.Words.{root_in, Stands}
+use Rattle.ft_trace.specs.Worlds.{Kept, changes, kind_in}
+use Rattle.ft_trace.proofs.SetKnown as set
+use Rattle.ft_bank.specs.declared.table.Table.{Table}
+use Rattle.ft_bank.specs.Tables.{name_of, IsTableIn}
+use Rattle.ft_bank.specs.Whole.{OnlyLoaded, Wrote}
+use Rattle.ft_bank.specs.Writes.{MayHave}
+use Rattle.ft_bank.proofs.Whole.{loaded_then, work_knows}
+use Rattle.ft_growth.specs.declared.adding.Added.{Added}
+use Rattle.ft_growth.specs.declared.adding.Added.TheVariants as added
+use Rattle.ft_growth.specs.Adding.{IsAdded, KeepsCursors}
+use Rattle.ft_growth.proofs.Cursors.{added_cursors}
+use Rattle.ft_section.specs.declared.answers.Stamp.{Stamp}
+use Rattle.ft_search.specs.Rounds.{kind_by}
+use Rattle.ft_search.specs.Writing.{Leaves, MayWriteEntries}
+use Rattle.ft_search.proofs.Puts.{few_places}
+use Rattle.ft_adding.specs.Growing.{KnowsKeyed, most_of}
+use Rattle.ft_merging.specs.Joining.{JoinsBy, JoinsKeys, join_takes, joined, joined_kept, new_keys}
+use Rattle.ft_merging.proofs.Finished.{is_set}
+use Rattle.ft_merging.proofs.Joined.{cap_few, joined_more}
+use Rattle.ft_merging.proofs.JoinedContents.{or_itself, or_none}
+use Rattle.ft_merging.proofs.JoinedReads.{Source}
+use Rattle.ft_merging.proofs.JoinedRoom.{cap_is, most_joined, same_kept, taken_room}
+
+-- a call that joins the two joins them later too, where the pass knows the same
+pub joins_later : (o t : ℕ) (called : Call) (v u : View) → ((found : StoredWorld) → MayHave u found → MayHave v found) → ((p : ℕ) → has_lock p u.log ≡ has_lock p v.log) → known o u ≡ known o v → known t u ≡ known t v → JoinsKeys o t called v → JoinsKeys o t called u
+joins_later o t called v u has locks mine other joins = record {
+  write = joins.write;
+  changed = joins.changed;
+  words = joins.words;
+  locks = λ p e. locks p ∙ joins.locks p e;
+  replied = λ found h. joins.replied found (has found h);
+  declared = λ found h. joins.declared found (has found h);
+  lacks = λ found h. joins.lacks found (has found h);
+  over = λ found h. joins.over found (has found h) ∙ (λ i. passes_cap (joined (sym mine i).content (sym other i).content));
+  takes = λ found h. joins.takes found (has found h) ∙ (λ i. join_takes (sym mine i) (sym other i).content);
+  left_is = λ found h. joins.left_is found (has found h) ∙ (λ i. joined_kept (sym mine i) (sym other i).content);
+}
+
+-- where nothing is new it leaves what there was
+pub joins_leaves : (o t : ℕ) (called : Call) (v : View) → JoinsKeys o t called v → joined (known o v).content (known t v).content ≡ (known o v).content → passes_cap (known o v).content ≡ false → Leaves o called reply.Done (known o v) v
+joins_leaves o t called v joins same few = record {
+  write = joins.write;
+  changed = joins.changed;
+  words = joins.words;
+  locks = joins.locks;
+  replied = joins.replied;
+  declared = joins.declared;
+  fits = λ found has. joins.over found has ∙ (ap passes_cap same ∙ few);
+  left_is = λ found has. joins.left_is found has ∙ (same_kept (known o v) (known t v).content same).0;
+}
+
+-- a set has no more elements than the largest table holds
+pub set_cap : set.FirstEntriesAreElements → (k : Shape) (o : ℕ) (v : View) → v.shape ≡ k → ∥ Possible v ∥₁ → MayWriteEntries k o v → kind_in k.kinds o ≡ kind.Set → passes_cap (known o v).content ≡ false
+set_cap elements k o v shape possible may is =
+    let known_is = is_set k v o shape possible may.locked is in
+    let stands : Stands k.texts (held o v) (record { content = content.Set (set_of (known o v).content); table = (known o v).table }) = subst (λ (z : Content). Stands k.texts (held o v) (record { content = z; table = (known o v).table })) known_is may.stands in
+    ap passes_cap known_is ∙ le-ltb most_elements (length (set_of (known o v).content).elements) (by (known o v).table.class (set_of (known o v).content) stands)
+  where
+    none_long : (es : List Element) → map used_element es ≡ [] → length es ≤ most_elements
+    none_long [] e = omega arith
+    none_long (x ∷ xs) e = absurd (cc)
+
+    by : (class : Option ℕ) (others : SetContent) → IsSetWords k.texts (held o v).block (0 ∷ 0 ∷ (held o v).table) class (known o v).table.fill others → length others.elements ≤ most_elements
+    by None others says = none_long others.elements (sym says.entries.live ∙ ap (filter is_live) says.table)
+    by (Some class) others says = set.set_short elements k.texts (held o v).block class (known o v).table.fill says.head.root.1.0 others (held o v).table says
+
+-- ---- what a set has where nothing is new
+
+no_length : (es : List Element) → length es ≡ 0 → es ≡ []
+no_length [] none = refl
+no_length (x ∷ xs) none = absurd (omega (arith, none))
+
+pub set_no_more : (d others : Content) → kind_of d ≡ kind.Set → new_keys d others ≡ 0 → joined d others ≡ d
+set_no_more (content.Set base) others is none =
+    let ys = those_not_in base.elements (set_of others).elements in
+    let empty : ys ≡ [] = no_length ys (omega (arith, none)) in
+    ap content.Set ((λ i. record { next = base.next + length (empty i); elements = base.elements ++ elements_from base.next (empty i) }) ∙ or_none base)
+set_no_more (content.Dict pairs) others is none = absurd (cc)
+set_no_more (content.List values) others is none = absurd (cc)
+
+-- ---- the calls
+
+pub made_here : (k : Shape) (o : ℕ) (called : Call) (v w : View) (stamp : Stamp) (number : ℕ) → stamp ≡ record { number = number; wrote = true } → changes called ≡ o → Wrote called reply.Done number v w → root_in (held o w) ≡ root_in (held o v) → IsAdded k None false called reply.Done v w (added.Made stamp)
+made_here k o called v w stamp number is changed wrote root = (
+  refl,
+  ap (λ (z : Stamp). z.wrote) is,
+  record {
+    wrote = subst (λ (z : Stamp). Wrote called reply.Done z.number v w) (sym is) wrote;
+    root = subst (λ (n : ℕ). root_in (held n w) ≡ root_in (held n v)) (sym changed) root;
+  },
+)
+
+-- a call that joins nothing new comes to that
+pub joins_nothing : (k : Shape) (o t : ℕ) (called : Call) (v w : View) (what : Added) → joined (known o v).content (known t v).content ≡ (known o v).content → passes_cap (known o v).content ≡ false → IsAdded k None false called reply.Done v w what → IsAdded k (join_takes (known o v) (known t v).content) (passes_cap (joined (known o v).content (known t v).content)) called reply.Done v w what
+joins_nothing k o t called v w what same few is =
+    let takes = (same_kept (known o v) (known t v).content same).1 in
+    let over = ap passes_cap same ∙ few in
+    subst (λ (z : Option ℕ × Bool). IsAdded k z.0 z.1 called reply.Done v w what) (λ i. (sym takes i, sym over i)) is
+
+-- and what it comes to after loads, seen from before them
+pub joins_by : (k : Shape) (o t : ℕ) (called : Call) (v u w : View) (what : Added) → OnlyLoaded v u → IsAdded k (join_takes (known o u) (known t u).content) (passes_cap (joined (known o u).content (known t u).content)) called reply.Done u w what → JoinsBy k o t called v w what
+joins_by k o t called v u w what only is =
+    let mine = work_knows v u o only.work in
+    let other = work_knows v u t only.work in
+    (u, only, subst (λ (z : Kept × Kept). IsAdded k (join_takes z.0 z.1.content) (passes_cap (joined z.0.content z.1.content)) called reply.Done u w what) (λ i. (mine i, other i)) is)
+
+pub joins_then : (k : Shape) (o t : ℕ) (called : Call) (v u w : View) (what : Added) → OnlyLoaded v u → JoinsBy k o t called u w what → JoinsBy k o t called v w what
+joins_then k o t called v u w what only is = joins_by k o t called v is.0 w what (loaded_then v u is.0 only is.1)
+    (subst (λ (z : Kept × Kept). IsAdded k (join_takes z.0 z.1.content) (passes_cap (joined z.0.content z.1.content)) called reply.Done is.0 w what) (λ i. (sym (work_knows u is.0 o is.1.work) i, sym (work_knows u is.0 t is.1.work) i)) is.2)
+
+-- it leaves the cursors of its pass
+pub joins_cursors : (k : Shape) (o t : ℕ) (called : Call) (v w : View) (what : Added) → JoinsBy k o t called v w what → KeepsCursors v w
+joins_cursors k o t called v w what x number =
+    added_cursors k (join_takes (known o v) (known t v).content) (passes_cap (joined (known o v).content (known t v).content)) called reply.Done x.0 w what x.2 number ∙ x.1.work.pass.cursors number
+
+-- ---- numbers
+
+-- entries of a table are few
+pub few_rows : (k : Shape) (table : Table) (kind : Kind) (n : ℕ) → IsTableIn k table → IsKeyed kind → n ≤ rows kind (class_of (name_of table)) → n ≤ 65536
+few_rows k table kind zero table_in keyed low = omega arith
+few_rows k table kind (suc n) table_in keyed low = let f = few_places k table kind n table_in keyed (omega (arith, low)) in omega (arith, f)
+
+-- there are as many more as are new
+pub many_joined : (k : Shape) (by : Way) (t : ℕ) (table : Table) (v : View) (s : Source k by t table v) (d : Content) → kind_of d ≡ kind_by by → length_of (joined d (known t v).content) ≡ length_of d + new_keys d (known t v).content
+many_joined k by t table v s d same =
+    let j = joined_more k by t table v s d same in
+    let n = j.0 in
+    let m = j.1 in
+    omega (arith, n, m)
+
+-- they aren't too many, or they are
+pub few_joined : (d others : Content) (n : ℕ) → length_of (joined d others) ≡ n → passes_cap (joined d others) ≡ false → n ≤ most_of d
+few_joined d others n is cap = let f = cap_few (joined d others) cap in let m = most_joined d others in omega (arith, f, m, is)
+
+pub cap_joined : (d others : Content) (n : ℕ) → length_of (joined d others) ≡ n → n ≤ most_of d → passes_cap (joined d others) ≡ false
+cap_joined d others n is few = cap_is (joined d others) ∙ le-ltb (most_of (joined d others)) (length_of (joined d others)) (let m = most_joined d others in omega (arith, few, m, is))
+
+pub over_joined : (d others : Content) (n : ℕ) → length_of (joined d others) ≡ n → most_of d < n → passes_cap (joined d others) ≡ true
+over_joined d others n is many = cap_is (joined d others) ∙ lt-ltb (most_of (joined d others)) (length_of (joined d others)) (let m = most_joined d others in omega (arith, many, m, is))
+
+-- the table that is taken has room
+pub new_room : (k : Shape) (by : Way) (t : ℕ) (table : Table) (v : View) (s : Source k by t table v) (kept : Kept) (class : ℕ) → kind_of kept.content ≡ kind_by by → passes_cap (joined kept.content (known t v).content) ≡ false → join_takes kept (known t v).content ≡ Some class → length_of kept.content + new_keys kept.content (known t v).content ≤ rows (kind_by by) class
+new_room k by t table v s kept class same cap takes = taken_room kept.content by kept.table class (new_keys kept.content (known t v).content) same (few_joined kept.content (known t v).content _ (many_joined k by t table v s kept.content same) cap) takes
+
+-- ---- a set that is named twice, and one that has no table
+
+pub set_itself : (d : Content) → kind_of d ≡ kind.Set → joined d d ≡ d
+set_itself (content.Set base) is = ap content.Set (or_itself base)
+set_itself (content.Dict pairs) is = absurd (cc)
+set_itself (content.List values) is = absurd (cc)
+
+pub bare_joined : (k : Shape) (t : ℕ) (u : View) → u.shape ≡ k → ∥ Possible u ∥₁ → KnowsKeyed k t None u → kind_in k.kinds t ≡ kind.Set → (d : Content) → kind_of d ≡ kind.Set → joined d (known t u).content ≡ d
+bare_joined k t u shape possible knows is d same =
+    let known_is = is_set k u t shape possible knows.locked is in
+    let stands : Stands k.texts (held t u) (record { content = content.Set (set_of (known t u).content); table = (known t u).table }) = subst (λ (z : Content). Stands k.texts (held t u) (record { content = z; table = (known t u).table })) known_is knows.stands in
+    none d same (set_of (known t u).content) refl (empty (known t u).table.class (set_of (known t u).content) stands)
+  where
+    no_map : (es : List Element) → map used_element es ≡ [] → es ≡ []
+    no_map [] e = refl
+    no_map (x ∷ xs) e = absurd (cc)
+
+    empty : (class : Option ℕ) (others : SetContent) → IsSetWords k.texts (held t u).block (0 ∷ 0 ∷ (held t u).table) class (known t u).table.fill others → others.elements ≡ []
+    empty None others says = no_map others.elements (sym says.entries.live ∙ ap (filter is_live) says.table)
+    empty (Some class) others says = absurd (let r = says.head.root.1.2 in let e = knows.root in omega (arith, r, e))
+
+    none : (x : Content) → kind_of x ≡ kind.Set → (others : SetContent) → set_of (known t u).content ≡ others → others.elements ≡ [] → joined x (known t u).content ≡ x
+    none (content.Set base) eq others is_them bare = ap content.Set (ap (set_or base) (ap (λ (z : SetContent). z.elements) is_them ∙ bare) ∙ or_none base)
+    none (content.Dict pairs) eq others is_them bare = absurd (cc)
+    none (content.List values) eq others is_them bare = absurd (cc)

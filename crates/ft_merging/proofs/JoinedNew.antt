@@ -1,0 +1,109 @@
+-- The beginning of a write that joins another container to a dict or a set, in a new table.
+use Rattle.std.proofs.Common.{◌≡◌, ◌≢◌, ℕ, suc, ◌+◌, ◌^◌, ◌%◌, ◌<◌, ◌≤◌, false, ◌∷◌, Option, Some, sym, ap, ◌∙◌, subst, arith}
+use Rattle.std.specs.Prelude.{slice_set}
+use Rattle.ft_model.specs.declared.content.Content.{Content}
+use Rattle.ft_model.specs.declared.script.Kind.{Kind}
+use Rattle.ft_model.specs.declared.script.Kind.TheVariants as kind
+use Rattle.ft_model.specs.Tables.{passes_cap}
+use Rattle.ft_model.specs.Worlds.{kind_of, length_of, serial_of}
+use Rattle.ft_layout.specs.Containers.{StandsAs}
+use Rattle.ft_keys.specs.declared.walk.Way.{Way}
+use Rattle.ft_trace.specs.declared.Act.TheVariants.{PutRoot, StartWrite}
+use Rattle.ft_trace.specs.declared.Shape.{Shape}
+use Rattle.ft_trace.specs.declared.View.{View}
+use Rattle.ft_trace.specs.Acts.{has_committed, noted}
+use Rattle.ft_trace.specs.Addresses.{class_of, slots}
+use Rattle.ft_trace.specs.Holds.{held, in_hand, known}
+use Rattle.ft_trace.specs.Kinds.{rows, under}
+use Rattle.ft_trace.specs.Traces.{Possible}
+use Rattle.ft_trace.specs.Words.{Picture, entry_of, Stands}
+use Rattle.ft_trace.specs.Worlds.{Kept, kind_in}
+use Rattle.ft_trace.proofs.Cases.{hit}
+use Rattle.ft_trace.proofs.SetKnown as set
+use Rattle.ft_trace.proofs.DictWrites.{FirstEntriesArePairs}
+use Rattle.ft_bank.specs.declared.table.Table.{Table}
+use Rattle.ft_bank.specs.Tables.{name_of}
+use Rattle.ft_bank.specs.Whole.{OnlyPut}
+use Rattle.ft_bank.specs.Writes.{KeepsUnwritten}
+use Rattle.ft_bank.proofs.Whole.{work_knows}
+use Rattle.ft_search.specs.Rounds.{kind_by}
+use Rattle.ft_search.specs.Writing.{WritesEntries}
+use Rattle.ft_search.proofs.Changing.{kind_is}
+use Rattle.ft_adding.specs.declared.counts.Counts.{Counts}
+use Rattle.ft_adding.specs.Fresh.{IsFilledWith}
+use Rattle.ft_adding.specs.Growing.{KnowsKeyed, MayGrow}
+use Rattle.ft_adding.specs.Placing.{AreCounts, counted}
+use Rattle.ft_adding.proofs.Keyed.{Heads, counts_known}
+use Rattle.ft_adding.proofs.Placed.{use_with}
+use Rattle.ft_adding.proofs.Rooted.{filled_says}
+use Rattle.ft_merging.specs.Joining.{joined, new_keys}
+use Rattle.ft_merging.specs.Internal.Joining.{IsJoining, NoneGone}
+use Rattle.ft_merging.specs.Internal.Writing.{IsMidway, version_of}
+use Rattle.ft_merging.proofs.Joined.{joining_begins}
+use Rattle.ft_merging.proofs.JoinedReads.{knows_put, source_known}
+use Rattle.ft_merging.proofs.JoinedStarts.{knows_rooted}
+
+module _ (pairs : FirstEntriesArePairs) (heads : Heads) (elements : set.FirstEntriesAreElements) (k : Shape) (o : ℕ) (by : Way) (old : Option Table) (new : Table) (t : ℕ) (table : Table) (counts : Counts) (more : ℕ) (x y z : View) (f was : ℕ) (shape : x.shape ≡ k) (possible : ∥ Possible x ∥₁) (two : o ≢ t) (may : MayGrow k o old new x) (other : KnowsKeyed k t (Some table) x) (kind_eq : kind_in k.kinds o ≡ kind_by by) (kind_t : kind_in k.kinds t ≡ kind_by by) (sets : kind_by by ≡ kind.Set)
+    (filled : IsFilledWith k.texts (class_of (name_of new)) (known o x).content (in_hand (name_of new) x)) (are : AreCounts (held o x).block counts) (more_is : more ≡ new_keys (known o x).content (known t x).content) (cap : passes_cap (joined (known o x).content (known t x).content) ≡ false) (serials : serial_of (known o x).content + 65536 < 2 ^ 63) (room : counts.count + more ≤ rows (kind_in k.kinds o) (class_of (name_of new)))
+    (did : y ≡ noted (PutRoot o (suc (name_of new)) was) (noted (StartWrite o f) x)) (keeps : KeepsUnwritten (noted (StartWrite o f) x) y) (words : held o y ≡ record { block = slice_set (held o x).block 0 (suc (name_of new)); table = in_hand (name_of new) x }) (shape_y : y.shape ≡ k)
+    (only : OnlyPut o y z) (put : held o z ≡ record { block = counted (held o y).block counts.count counts.count counts.next; table = (held o y).table }) (writes : WritesEntries k o new z) (shape_z : z.shape ≡ k) (possible_z : ∥ Possible z ∥₁) where
+  abbrev c : ℕ
+  c = class_of (name_of new)
+
+  abbrev d : Content
+  d = (known o x).content
+
+  abbrev all : Counts
+  all = record { count = counts.count; fill = counts.count; next = counts.next }
+
+  kinds : kind_of d ≡ kind_in k.kinds o
+  kinds = kind_is k x o shape possible may.keyed.locked
+
+  many : (counts.count ≡ length_of d) × (counts.next ≡ serial_of d)
+  many = counts_known heads k o old x counts may.keyed are
+
+  known_on : (p : ℕ) → known p x ≡ known p z
+  known_on p = sym (work_knows y z p only.work ∙ ap (known p) did)
+
+  words_on : held o z ≡ record { block = counted (slice_set (held o x).block 0 (suc (name_of new))) counts.count counts.count counts.next; table = in_hand (name_of new) x }
+  words_on = put ∙ (λ i. record { block = counted (words i).block counts.count counts.count counts.next; table = (words i).table })
+
+  stands : Stands k.texts (held o z) (record { content = d; table = use_with c counts.count })
+  stands =
+      let says = filled_says pairs elements heads k o old new x may shape possible filled in
+      let n = many.0 in
+      let r = many.1 in
+      let here : StandsAs k.texts (counted (slice_set (held o x).block 0 (suc (name_of new))) counts.count counts.count counts.next) (0 ∷ 0 ∷ in_hand (name_of new) x) (use_with c counts.count) d =
+      subst (λ (w : ℕ × ℕ). StandsAs k.texts (counted (slice_set (held o x).block 0 (suc (name_of new))) w.0 w.0 w.1) (0 ∷ 0 ∷ in_hand (name_of new) x) (use_with c w.0) d) (λ i. (sym n i, sym r i)) says in
+      subst (λ (w : Picture). Stands k.texts w (record { content = d; table = use_with c counts.count })) (sym words_on) here
+
+  evens : (p : ℕ) → p < rows (kind_in k.kinds o) c → version_of (name_of new) (held o z) p % 2 ≡ 0
+  evens p less =
+      let zero = filled.versions p (subst (λ (w : Kind). p < rows w c) (sym kinds) less) in
+      let same : version_of (name_of new) (held o z) p ≡ entry_of (slots c) (in_hand (name_of new) x) p 0 = ap (λ (w : Picture). version_of (name_of new) w p) words_on in
+      omega (arith, zero, same)
+
+  alive : NoneGone (name_of new) (rows (kind_in k.kinds o) c) (held o z)
+  alive p key less odd dead = let e = evens p less in omega (arith, e, odd)
+
+  midway : IsMidway k o new (record { content = d; table = use_with c counts.count }) z
+  midway = record {
+    writes = writes;
+    early = only.work.committed o ∙ (ap (λ (w : View). has_committed o w.log) did ∙ hit o false (has_committed o x.log));
+    stands = stands;
+    same = λ p key less even live. ap (λ (w : Kept). under w.content key) (known_on o);
+    gone = λ p key less odd dead. absurd (alive p key less odd dead);
+    opened = λ p less odd. let e = evens p less in absurd (omega (arith, e, odd));
+  }
+
+  pub other_on : KnowsKeyed k t (Some table) z
+  other_on = knows_put k o t (Some table) y z shape_y two only (knows_rooted k o t (suc (name_of new)) was (Some table) x y f shape did keeps two other)
+
+  pub new_begins : IsJoining k o by new t table (joined (known o z).content (known t z).content) (counts.count + more) 0 all z
+  new_begins =
+      let source = source_known elements k t table z shape_z possible_z other_on by sets kind_t in
+      let goal : joined d (known t z).content ≡ joined (known o z).content (known t z).content = ap (λ (w : Kept). joined w.content (known t z).content) (known_on o) in
+      subst (λ (w : Content). IsJoining k o by new t table w (counts.count + more) 0 all z) goal
+      (joining_begins k o by new t table d all more z midway (kinds ∙ kind_eq) kind_eq many.0 many.1 alive source
+      (subst (λ (w : Kept). passes_cap (joined d w.content) ≡ false) (known_on t) cap) serials
+      (more_is ∙ ap (λ (w : Kept). new_keys d w.content) (known_on t)) room)

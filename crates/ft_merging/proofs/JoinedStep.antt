@@ -1,0 +1,219 @@
+-- A new key that is put into a dict or a set in the midst of a write of several: what its entry leaves.
+use Rattle.std.proofs.Common.{◌≡◌, ◌≢◌, ℕ, ◌+◌, ◌*◌, ◌^◌, ◌%◌, ◌<◌, ◌≤◌, List, [], ◌∷◌, length, Some, None, sym, ap, ◌∙◌, subst, ⊎_elim, arith, get_or-set_same, get_or-set_other}
+use Rattle.std.specs.Prelude.{slice_set}
+use mathlib.Core.Logic.{dite}
+use native.Mathlib.Decide.{ℕ_discrete}
+use Rattle.ft_model.specs.declared.content.Content.{Content}
+use Rattle.ft_model.specs.declared.data.Key.{Key}
+use Rattle.ft_model.specs.declared.script.Kind.{Kind}
+use Rattle.ft_model.specs.Worlds.{kind_of, length_of}
+use Rattle.ft_layout.specs.declared.slot.Pair.{Pair}
+use Rattle.ft_layout.specs.declared.slot.Stored.{Stored}
+use Rattle.ft_layout.specs.Containers.{class_mask, StandsAs}
+use Rattle.ft_layout.specs.Tables.{hash_of}
+use Rattle.ft_layout.specs.Words.{FitsKey, FitsStored, entry_words, gone_kind, key_kind}
+use Rattle.ft_layout.proofs.WordLaws.{gone_is, kind_range}
+use Rattle.ft_keys.specs.declared.walk.Way.{Way}
+use Rattle.ft_keys.specs.Changes.{FirstFree}
+use Rattle.ft_keys.specs.Ways.{walk_slots}
+use Rattle.ft_trace.specs.declared.Shape.{Shape}
+use Rattle.ft_trace.specs.declared.View.{View}
+use Rattle.ft_trace.specs.Addresses.{class_of, slots}
+use Rattle.ft_trace.specs.Carefuls.{IsDead, IsLive, said_of}
+use Rattle.ft_trace.specs.Holds.{held, known}
+use Rattle.ft_trace.specs.Kinds.{IsKeyed, rows, under}
+use Rattle.ft_trace.specs.Words.{Picture, entry_at, entry_of, Stands}
+use Rattle.ft_trace.specs.Worlds.{Kept, kind_in}
+use Rattle.ft_trace.proofs.ByKind.{keyed_fit}
+use Rattle.ft_trace.proofs.Known.{table_is_long}
+use Rattle.ft_bank.specs.declared.table.Table.{Table}
+use Rattle.ft_bank.specs.Tables.{name_of}
+use Rattle.ft_bank.specs.Whole.{OnlyPut}
+use Rattle.ft_bank.proofs.Tables.{class_is}
+use Rattle.ft_bank.proofs.Whole.{work_knows}
+use Rattle.ft_search.specs.Held.{IsHeldAt}
+use Rattle.ft_search.specs.Rounds.{kind_by}
+use Rattle.ft_search.specs.Writing.{WritesEntries}
+use Rattle.ft_search.proofs.Places.{slots_of_class}
+use Rattle.ft_search.proofs.Puts.{table_class}
+use Rattle.ft_adding.specs.declared.counts.Counts.{Counts}
+use Rattle.ft_adding.specs.Growing.{IsFreeFor}
+use Rattle.ft_adding.specs.Placing.{IsUnused, StoresAs, laid, with_entry, with_key}
+use Rattle.ft_adding.proofs.Keyed.{way_is}
+use Rattle.ft_adding.proofs.Placed.{Fresh, PlaceLaws, now, opened_now, pair_for, place_unused, right_in, use_with}
+use Rattle.ft_adding.proofs.Stages.{At, body, body_puts, body_stage, opened}
+use Rattle.ft_merging.specs.Internal.Joining.{NoneGone}
+use Rattle.ft_merging.specs.Internal.Writing.{IsMidway, version_of}
+use Rattle.ft_merging.proofs.Ending.{parity}
+
+module _ (laws : PlaceLaws) (k : Shape) (o : ℕ) (by : Way) (own : Table) (mid : Content) (counts : Counts) (v : View) (midway : IsMidway k o own (record { content = mid; table = use_with (class_of (name_of own)) counts.fill }) v) (same_kind : kind_of mid ≡ kind_by by) (kind_eq : kind_in k.kinds o ≡ kind_by by) (count_is : counts.count ≡ length_of mid)
+    (alive : NoneGone (name_of own) (rows (kind_in k.kinds o) (class_of (name_of own))) (held o v)) (slot : ℕ) (key : Key) (stored : Stored) (fits : FitsKey key) (low : hash_of k.texts key < 2 ^ 64) (stores : StoresAs (kind_of mid) stored) (ok : FitsStored stored) (absent : IsHeldAt mid key None) (free : IsFreeFor k.texts by own.class key (held o v).table slot) (room : counts.fill < rows (kind_by by) (class_of (name_of own))) where
+  abbrev t : ℕ
+  t = name_of own
+
+  abbrev x : Picture
+  x = held o v
+
+  abbrev c : ℕ
+  c = class_of t
+
+  abbrev n : ℕ
+  n = slots c
+
+  abbrev m : ℕ
+  m = rows (kind_of mid) c
+
+  abbrev p : ℕ
+  p = counts.fill
+
+  class_same : class_of t ≡ own.class
+  class_same = class_is own midway.writes.table_in.2
+
+  kinds : kind_of mid ≡ kind_in k.kinds o
+  kinds = same_kind ∙ sym kind_eq
+
+  row : (q : ℕ) → q < m → q < rows (kind_in k.kinds o) c
+  row q less = subst (λ (z : Kind). q < rows z c) kinds less
+
+  unrow : (q : ℕ) → q < rows (kind_in k.kinds o) c → q < m
+  unrow q less = subst (λ (z : Kind). q < rows z c) (sym kinds) less
+
+  room_here : p < m
+  room_here = subst (λ (z : Kind). p < rows z c) (sym same_kind) room
+
+  pub even_here : version_of t x p % 2 ≡ 0
+  even_here = ⊎_elim (λ (e : version_of t x p % 2 ≡ 0). e) (λ (odd : version_of t x p % 2 ≡ 1). let up = midway.opened p (row p room_here) odd in absurd (omega (arith, up))) (parity (version_of t x p))
+
+  keyed : IsKeyed (kind_of mid)
+  keyed = subst IsKeyed (sym kinds) midway.writes.keyed
+
+  -- what the key finds there
+  pub fresh_midway : Fresh k.texts x t slot counts mid key stored
+  fresh_midway =
+      let some = slots_of_class c in
+      let slot_low = free.0 in
+      let last : class_mask own.class ≡ class_mask c = ap class_mask (sym class_same) in
+      let long = table_is_long v o t midway.writes.root in
+      record {
+        is_class = table_class k own midway.writes.table_in;
+        keyed = keyed;
+        fits = fits;
+        low = low;
+        stores = stores;
+        ok = ok;
+        before = x.block;
+        says = midway.stands;
+        had = counts.fill;
+        head = laws.head k.texts x.block (0 ∷ 0 ∷ x.table) (use_with c counts.fill) mid midway.stands;
+        count_is = count_is;
+        room = room_here;
+        long = subst (λ (z : Kind). n + 8 * rows z c ≤ length x.table) (sym kinds) (let f = keyed_fit (kind_in k.kinds o) midway.writes.keyed c in omega (arith, f, long));
+        in_index = omega (arith, some, slot_low, last);
+        free = subst (λ (z : Way × ℕ). FirstFree (0 ∷ 0 ∷ x.table) (walk_slots z.0 (hash_of k.texts key) (class_mask z.1)) (Some slot)) (λ i. (sym (way_is mid by same_kind) i, sym class_same i)) free.1;
+        absent = absent;
+        even = even_here;
+      }
+
+  abbrev pair : Pair
+  pair = pair_for k.texts mid key stored
+
+  abbrev y : Picture
+  y = with_entry t slot counts pair x
+
+  abbrev news : Content
+  news = with_key mid key stored
+
+  un : IsUnused n m x.table slot p
+  un = place_unused laws k.texts x t slot counts mid key stored fresh_midway
+
+  pub unused_here : IsUnused n (rows (kind_in k.kinds o) c) x.table slot p
+  unused_here = subst (λ (z : Kind). IsUnused n (rows z c) x.table slot p) kinds un
+
+  abbrev l : List ℕ
+  l = laid n (body p (entry_words pair)) (opened n m x.table slot p un)
+
+  stage : At n m x.table slot p un l
+  stage = body_stage n m x.table slot p un (body p (entry_words pair)) (body_puts p (entry_words pair))
+
+  -- the words of the other entries
+  others_same : (q w : ℕ) → q ≢ p → w < 8 → entry_of n y.table q w ≡ entry_of n x.table q w
+  others_same q w ne few =
+      let in_index = un.in_index in
+      get_or-set_other (slice_set l (entry_at n p 2) (key_kind key)) slot (entry_at n q w) (p + 1) 0 (λ e. absurd (omega (arith, e, in_index)))
+      ∙ (get_or-set_other l (entry_at n p 2) (entry_at n q w) (key_kind key) 0 (λ e. ne (omega (arith, e, few))) ∙ stage.rest q w ne few)
+
+  kind_now : entry_of n y.table p 2 ≡ key_kind key
+  kind_now =
+      let in_index = un.in_index in
+      let less = un.low in
+      let long = stage.size in
+      get_or-set_other (slice_set l (entry_at n p 2) (key_kind key)) slot (entry_at n p 2) (p + 1) 0 (λ e. absurd (omega (arith, e, in_index))) ∙ get_or-set_same l (entry_at n p 2) (key_kind key) 0 (omega (arith, less, long))
+
+  odd_now : version_of t y p % 2 ≡ 1
+  odd_now = let o = opened_now laws k.texts x t slot counts mid key stored fresh_midway in let e = even_here in omega (arith, o, e)
+
+  says_now : StandsAs k.texts y.block (0 ∷ 0 ∷ y.table) (use_with c (p + 1)) news × (kind_of news ≡ kind_of mid)
+  says_now = now laws k.texts x t slot counts mid key stored fresh_midway
+
+  live_before : (q : ℕ) (a : Key) → q ≢ p → IsLive n y.table q a → IsLive n x.table q a
+  live_before q a ne live = (sym (others_same q 2 ne (omega arith)) ∙ live.0, sym (others_same q 3 ne (omega arith)) ∙ live.1)
+
+  dead_before : (q : ℕ) (a : Key) → q ≢ p → IsDead n y.table q a → IsDead n x.table q a
+  dead_before q a ne dead = (sym (others_same q 2 ne (omega arith)) ∙ dead.0, sym (others_same q 3 ne (omega arith)) ∙ dead.1)
+
+  apart : (q : ℕ) → version_of t y q % 2 ≡ 0 → q ≢ p
+  apart q even e = let o = odd_now in let same : version_of t y q ≡ version_of t y p = ap (version_of t y) e in omega (arith, o, same, even)
+
+  -- an entry with an even version says what the container had
+  same_now : (q : ℕ) (a : Key) → q < rows (kind_in k.kinds o) c → version_of t y q % 2 ≡ 0 → IsLive n y.table q a → under news a ≡ under (known o v).content a
+  same_now q a less even live =
+      let ne = apart q even in
+      let was = others_same q 0 ne (omega arith) in
+      let old = live_before q a ne live in
+      let e4 = others_same q 4 ne (omega arith) in
+      let e5 = others_same q 5 ne (omega arith) in
+      let e6 = others_same q 6 ne (omega arith) in
+      let said : said_of n y.table q ≡ said_of n x.table q = λ i. e4 i ∷ (e5 i ∷ (e6 i ∷ [])) in
+      let here : q < rows (kind_of news) c = subst (λ (z : Kind). q < rows z c) (sym says_now.1) (unrow q less) in
+      right_in laws.first_pair laws.first_element k.texts y.block y.table c (p + 1) news (subst IsKeyed (sym says_now.1) keyed) fresh_midway.is_class says_now.0 q a here live
+      ∙ (said ∙ (sym (right_in laws.first_pair laws.first_element k.texts x.block x.table c p mid keyed fresh_midway.is_class midway.stands q a (unrow q less) old)
+      ∙ midway.same q a less (omega (arith, was, even)) old))
+
+  opened_then : (q : ℕ) → q < rows (kind_in k.kinds o) c → version_of t y q % 2 ≡ 1 → q < p + 1
+  opened_then q less odd =
+      dite (ℕ_discrete q p)
+      (λ (e : q ≡ p). omega (arith, e))
+      (λ ne. let was = others_same q 0 ne (omega arith) in let up = midway.opened q less (omega (arith, was, odd)) in omega (arith, up))
+
+  alive_then : NoneGone t (rows (kind_in k.kinds o) c) y
+  alive_then q a less odd dead =
+      dite (ℕ_discrete q p)
+      (λ (e : q ≡ p).
+      let here : entry_of n y.table p 2 ≡ gone_kind a = subst (λ (z : ℕ). entry_of n y.table z 2 ≡ gone_kind a) e dead.0 in
+      let kind = kind_now in
+      let g = gone_is a in
+      let b = (kind_range a).0 in
+      let h = (kind_range key).1 in
+      let no : ⊥ = omega (arith, here, kind, g, b, h) in
+      no)
+      (λ ne. let was = others_same q 0 ne (omega arith) in alive q a less (omega (arith, was, odd)) (dead_before q a ne dead))
+
+  module _ (z : View) (only : OnlyPut o v z) (words : held o z ≡ y) (writes : WritesEntries k o own z) where
+    back : y ≡ held o z
+    back = sym words
+
+    knows : known o v ≡ known o z
+    knows = sym (work_knows v z o only.work)
+
+    pub alive_put : NoneGone t (rows (kind_in k.kinds o) c) (held o z)
+    alive_put = subst (λ (w : Picture). NoneGone t (rows (kind_in k.kinds o) c) w) back alive_then
+
+    pub midway_put : IsMidway k o own (record { content = news; table = use_with c (p + 1) }) z
+    midway_put = record {
+      writes = writes;
+      early = only.work.committed o ∙ midway.early;
+      stands = subst (λ (w : Picture). Stands k.texts w (record { content = news; table = use_with c (p + 1) })) back says_now.0;
+      same = subst (λ (w : Picture × Kept). (q : ℕ) (a : Key) → q < rows (kind_in k.kinds o) c → version_of t w.0 q % 2 ≡ 0 → IsLive n w.0.table q a → under news a ≡ under w.1.content a) (λ i. (back i, knows i)) same_now;
+      gone = λ q a less odd dead. absurd (alive_put q a less odd dead);
+      opened = subst (λ (w : Picture). (q : ℕ) → q < rows (kind_in k.kinds o) c → version_of t w q % 2 ≡ 1 → q < p + 1) back opened_then;
+    }

@@ -1,0 +1,79 @@
+use Rattle.std.proofs.Common.{◌≡◌, ℕ, Some, None, Option, refl, sym, ap, ◌∙◌, subst}
+use Rattle.ft_trace.specs.Holds.{known}
+use Rattle.ft_bank.specs.declared.table.Table.{Table}
+use Rattle.ft_bank.specs.Passes.{shape_of, view}
+use Rattle.ft_bank.proofs.Whole.{loaded_held, work_knows}
+use Rattle.ft_search.proofs.Calling.{loaded_same}
+use Rattle.ft_search.proofs.Changing.{kind_is}
+use Rattle.ft_search.proofs.Spotting.{may_loaded}
+use Rattle.ft_adding.specs.Growing.{KnowsKeyed}
+use Rattle.ft_adding.proofs.Taken.{has_loaded}
+use Rattle.ft_merging.specs.Joining.{JoinsKeys, joined}
+use Rattle.ft_merging.proofs.JoinedCalls.{bare_joined, joins_by, joins_later, joins_then, set_itself}
+use Rattle.ft_merging.proofs.joining.join_by.Goals as goal
+use Rattle.ft_merging.proofs.joining.join_by.Goals.{After-own_table}
+
+pub join_nothing-requires-clause-set : goal.join_nothing-requires-clause-set
+join_nothing-requires-clause-set c = c.requires.way ∙ c.requires.sets
+
+pub join_nothing-requires-clause-same : goal.join_nothing-requires-clause-same
+join_nothing-requires-clause-same c =
+    let a = c.args in
+    let v = view a.pass.now in
+    ap (λ (p : ℕ). joined (known a.o v).content (known p v).content) (sym c.if-o-t.true)
+    ∙ set_itself (known a.o v).content (kind_is (shape_of a.bank.now) v a.o c.requires.pass.1 a.pass.now.possible c.requires.may.locked ∙ (c.requires.way ∙ c.requires.sets))
+
+pub returns-then-o-t-clause-added : goal.returns-then-o-t-clause-added
+returns-then-o-t-clause-added c = let v = view c.args.pass.now in (v, loaded_same v, c.join_nothing.ensures.added)
+
+-- ---- after the load of the root
+
+joins : (c : After-own_table) → JoinsKeys c.args.o c.args.t c.args.called.now (view c.own_table.new.pass)
+joins c =
+    let a = c.args in
+    let v = view a.pass.now in
+    let u = view c.own_table.new.pass in
+    let l = c.own_table.ensures.only in
+    joins_later a.o a.t a.called.now v u (has_loaded (shape_of a.bank.now) a.o None v u l (loaded_held v u a.o l)) l.work.pass.locks (work_knows v u a.o l.work) (work_knows v u a.t l.work) c.requires.joins
+
+pub join_nothing-requires-in_default-clause-may : goal.join_nothing-requires-in_default-clause-may
+join_nothing-requires-in_default-clause-may c = may_loaded (shape_of c.args.bank.now) c.args.o (view c.args.pass.now) (view c.own_table.new.pass) c.own_table.ensures.only c.requires.may
+
+pub join_nothing-requires-in_default-clause-set : goal.join_nothing-requires-in_default-clause-set
+join_nothing-requires-in_default-clause-set c = c.requires.way ∙ c.requires.sets
+
+pub join_nothing-requires-in_default-clause-joins : goal.join_nothing-requires-in_default-clause-joins
+join_nothing-requires-in_default-clause-joins c = joins (goal.at.join_nothing-requires-in_default-clause-joins c).After-own_table
+
+none_named : (old : Option Table) → ((table : Table) → old ≡ Some table → ⊥) → old ≡ None
+none_named None never = refl
+none_named (Some table) never = absurd (never table refl)
+
+pub join_nothing-requires-in_default-clause-same : goal.join_nothing-requires-in_default-clause-same
+join_nothing-requires-in_default-clause-same c =
+    let a = c.args in
+    let k = shape_of a.bank.now in
+    let u = view c.own_table.new.pass in
+    let e = c.own_table.ensures in
+    let bare = subst (λ (z : Option Table). KnowsKeyed k a.t z u) (none_named c.own_table.result c.in_default.not-Some) e.knows in
+    bare_joined k a.t u e.pass.1 c.own_table.new.pass.possible bare (c.requires.other_way ∙ c.requires.sets) (known a.o u).content
+    (kind_is k u a.o e.pass.1 c.own_table.new.pass.possible (e.only.work.pass.locks a.o ∙ c.requires.may.locked) ∙ (c.requires.way ∙ c.requires.sets))
+
+pub returns-in_default-clause-added : goal.returns-in_default-clause-added
+returns-in_default-clause-added c =
+    let a = c.args in
+    joins_by (shape_of a.bank.now) a.o a.t a.called.now (view a.pass.now) (view c.own_table.new.pass) (view c.join_nothing-in_default.new.pass) c.join_nothing-in_default.result c.own_table.ensures.only c.join_nothing-in_default.ensures.added
+
+pub join_from-requires-clause-may : goal.join_from-requires-clause-may
+join_from-requires-clause-may c = may_loaded (shape_of c.args.bank.now) c.args.o (view c.args.pass.now) (view c.own_table.new.pass) c.own_table.ensures.only c.requires.may
+
+pub join_from-requires-clause-other : goal.join_from-requires-clause-other
+join_from-requires-clause-other c = subst (λ (z : Option Table). KnowsKeyed (shape_of c.args.bank.now) c.args.t z (view c.own_table.new.pass)) c.in-Some.is c.own_table.ensures.knows
+
+pub join_from-requires-clause-joins : goal.join_from-requires-clause-joins
+join_from-requires-clause-joins c = joins (goal.at.join_from-requires-clause-joins c).After-own_table
+
+pub returns-clause-added : goal.returns-clause-added
+returns-clause-added c =
+    let a = c.args in
+    joins_then (shape_of a.bank.now) a.o a.t a.called.now (view a.pass.now) (view c.own_table.new.pass) (view c.join_from.new.pass) c.join_from.result c.own_table.ensures.only c.join_from.ensures.added

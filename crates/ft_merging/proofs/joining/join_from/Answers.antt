@@ -1,0 +1,115 @@
+use Rattle.std.proofs.Common.{◌≡◌, ◌∷◌, Some, refl, sym, ap, ◌∙◌, subst, arith}
+use Rattle.ft_model.specs.Worlds.{kind_of, length_of}
+use Rattle.ft_trace.specs.Holds.{held, known}
+use Rattle.ft_trace.specs.Kinds.{IsKeyed}
+use Rattle.ft_trace.specs.Words.{Picture}
+use Rattle.ft_trace.specs.Worlds.{Kept}
+use Rattle.ft_bank.specs.Passes.{shape_of, view}
+use Rattle.ft_bank.specs.Whole.{OnlyLoaded}
+use Rattle.ft_bank.proofs.Whole.{loaded_held, loaded_then, work_knows}
+use Rattle.ft_search.specs.Rounds.{kind_by}
+use Rattle.ft_search.proofs.Changing.{kind_is}
+use Rattle.ft_search.proofs.Spotting.{may_loaded}
+use Rattle.ft_adding.specs.Growing.{KnowsKeyed}
+use Rattle.ft_adding.specs.Placing.{AreCounts}
+use Rattle.ft_adding.proofs.Keyed.{counts_known}
+use Rattle.ft_adding.proofs.Present.{may_add}
+use Rattle.ft_adding.proofs.Taken.{has_loaded}
+use Rattle.ft_adding.proofs.Wanted.{most_few}
+use Rattle.ft_merging.specs.Joining.{new_keys}
+use Rattle.ft_merging.proofs.Joined.{cap_few, joined_more}
+use Rattle.ft_merging.proofs.JoinedCalls.{few_rows, joins_by, joins_later, set_cap}
+use Rattle.ft_merging.proofs.JoinedReads.{Source, knows_loaded, source_known}
+use Rattle.ft_merging.proofs.joining.join_from.Goals as goal
+use Rattle.ft_merging.proofs.joining.join_from.Goals.{After-own_table-old}
+
+-- ---- the loads
+
+one : (c : After-own_table-old) → OnlyLoaded (view c.args.pass.now) (view c.read_counts-counts.new.pass)
+one c = loaded_then (view c.args.pass.now) (view c.read_counts-others.new.pass) (view c.read_counts-counts.new.pass) c.read_counts-others.ensures.only c.read_counts-counts.ensures.only
+
+two : (c : After-own_table-old) → OnlyLoaded (view c.read_counts-counts.new.pass) (view c.own_table-old.new.pass)
+two c = loaded_then (view c.read_counts-counts.new.pass) (view c.count_new-more.new.pass) (view c.own_table-old.new.pass) c.count_new-more.ensures.only c.own_table-old.ensures.only
+
+all : (c : After-own_table-old) → OnlyLoaded (view c.args.pass.now) (view c.own_table-old.new.pass)
+all c = loaded_then (view c.args.pass.now) (view c.read_counts-counts.new.pass) (view c.own_table-old.new.pass) (one c) (two c)
+
+-- ---- how many are new
+
+mid : (c : After-own_table-old) → KnowsKeyed (shape_of c.args.bank.now) c.args.t (Some c.args.table) (view c.read_counts-counts.new.pass)
+mid c = knows_loaded (shape_of c.args.bank.now) c.args.t (Some c.args.table) (view c.args.pass.now) (view c.read_counts-counts.new.pass) (one c) c.requires.other
+
+source : (c : After-own_table-old) → Source (shape_of c.args.bank.now) c.args.way c.args.t c.args.table (view c.read_counts-counts.new.pass)
+source c =
+    let a = c.args in
+    source_known c.used_entries_follow_a_set.ensures.first (shape_of a.bank.now) a.t a.table (view c.read_counts-counts.new.pass) c.read_counts-counts.ensures.pass.1 c.read_counts-counts.new.pass.possible (mid c) a.way c.requires.sets c.requires.other_way
+
+kinds : (c : After-own_table-old) → kind_of (known c.args.o (view c.read_counts-counts.new.pass)).content ≡ kind_by c.args.way
+kinds c =
+    let a = c.args in
+    kind_is (shape_of a.bank.now) (view c.read_counts-counts.new.pass) a.o c.read_counts-counts.ensures.pass.1 c.read_counts-counts.new.pass.possible ((one c).work.pass.locks a.o ∙ c.requires.may.locked) ∙ c.requires.way
+
+more : (c : After-own_table-old) → c.count_new-more.result ≡ new_keys (known c.args.o (view c.own_table-old.new.pass)).content (known c.args.t (view c.own_table-old.new.pass)).content
+more c =
+    let a = c.args in
+    let s = source c in
+    let x = view c.read_counts-counts.new.pass in
+    let u = view c.own_table-old.new.pass in
+    c.count_new-more.ensures.count s.used s.table_is s.filled
+    ∙ (sym (joined_more (shape_of a.bank.now) a.way a.t a.table x s (known a.o x).content (kinds c)).1
+    ∙ (λ i. new_keys (sym (work_knows x u a.o (two c).work) i).content (sym (work_knows x u a.t (two c).work) i).content))
+
+pub join_more-requires-clause-may : goal.join_more-requires-clause-may
+join_more-requires-clause-may c =
+    let a = c.args in
+    let d = (goal.at.join_more-requires-clause-may c).After-own_table-old in
+    let k = shape_of a.bank.now in
+    may_add k a.o c.own_table-old.result (view a.pass.now) (view c.own_table-old.new.pass) (all d) c.requires.used c.requires.idle (may_loaded k a.o (view a.pass.now) (view c.own_table-old.new.pass) (all d) c.requires.may) c.own_table-old.ensures.knows
+
+pub join_more-requires-clause-more : goal.join_more-requires-clause-more
+join_more-requires-clause-more c = more (goal.at.join_more-requires-clause-more c).After-own_table-old
+
+counts : (c : After-own_table-old) → AreCounts (held c.args.o (view c.own_table-old.new.pass)).block c.read_counts-counts.result
+counts c =
+    let a = c.args in
+    let v0 = view c.read_counts-others.new.pass in
+    subst (λ (z : Picture). AreCounts z.block c.read_counts-counts.result) (sym (loaded_held v0 (view c.read_counts-counts.new.pass) a.o c.read_counts-counts.ensures.only) ∙ sym (loaded_held (view c.read_counts-counts.new.pass) (view c.own_table-old.new.pass) a.o (two c))) c.read_counts-counts.ensures.counts
+
+pub join_more-requires-clause-counts : goal.join_more-requires-clause-counts
+join_more-requires-clause-counts c = counts (goal.at.join_more-requires-clause-counts c).After-own_table-old
+
+full : (c : After-own_table-old) → c.read_counts-others.result.fill ≡ (known c.args.t (view c.args.pass.now)).table.fill
+full c =
+    let a = c.args in
+    let v = view a.pass.now in
+    sym c.read_counts-others.ensures.counts.1 ∙ (c.words_are_of_one_content.ensures.head (shape_of a.bank.now).texts (held a.t v).block (0 ∷ 0 ∷ (held a.t v).table) (known a.t v).table (known a.t v).content c.requires.other.stands).fill_is
+
+pub join_more-requires-clause-few : goal.join_more-requires-clause-few
+join_more-requires-clause-few c =
+    let a = c.args in
+    let d = (goal.at.join_more-requires-clause-few c).After-own_table-old in
+    let k = shape_of a.bank.now in
+    let v = view a.pass.now in
+    let u = view c.own_table-old.new.pass in
+    let n = (counts_known c.words_are_of_one_content.ensures.head k a.o c.own_table-old.result u c.read_counts-counts.result c.own_table-old.ensures.knows (counts d)).0 in
+    let same = ap (λ (z : Kept). length_of z.content) (work_knows v u a.o (all d).work) in
+    let cap = cap_few (known a.o v).content (set_cap c.used_entries_follow_a_set.ensures.first k a.o v c.requires.pass.1 a.pass.now.possible c.requires.may (c.requires.way ∙ c.requires.sets)) in
+    let most = most_few (known a.o v).content in
+    let s = source_known c.used_entries_follow_a_set.ensures.first k a.t a.table v c.requires.pass.1 a.pass.now.possible c.requires.other a.way c.requires.sets c.requires.other_way in
+    let rows_few = few_rows k a.table (kind_by a.way) (known a.t v).table.fill (c.requires.other.table_in a.table refl) (subst IsKeyed c.requires.other_way c.requires.other.keyed) s.few in
+    let less = c.count_new-more.ensures.few in
+    let f = full d in
+    omega (arith, n, same, cap, most, rows_few, less, f)
+
+pub join_more-requires-clause-joins : goal.join_more-requires-clause-joins
+join_more-requires-clause-joins c =
+    let a = c.args in
+    let d = (goal.at.join_more-requires-clause-joins c).After-own_table-old in
+    let v = view a.pass.now in
+    let u = view c.own_table-old.new.pass in
+    joins_later a.o a.t a.called.now v u (has_loaded (shape_of a.bank.now) a.o c.own_table-old.result v u (all d) (loaded_held v u a.o (all d))) (all d).work.pass.locks (work_knows v u a.o (all d).work) (work_knows v u a.t (all d).work) c.requires.joins
+
+pub returns-clause-added : goal.returns-clause-added
+returns-clause-added c =
+    let a = c.args in
+    joins_by (shape_of a.bank.now) a.o a.t a.called.now (view a.pass.now) (view c.own_table-old.new.pass) (view c.join_more.new.pass) c.join_more.result (all (goal.at.returns-clause-added c).After-own_table-old) c.join_more.ensures.added

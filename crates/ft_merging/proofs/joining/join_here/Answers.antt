@@ -1,0 +1,77 @@
+use Rattle.std.proofs.Common.{◌≡◌, ◌+◌, ◌≤◌, refl, sym, ap, ◌∙◌, subst, arith}
+use Rattle.ft_model.specs.declared.reply.Reply.TheVariants as reply
+use Rattle.ft_trace.specs.declared.View.{View}
+use Rattle.ft_trace.specs.Addresses.{class_of}
+use Rattle.ft_trace.specs.Holds.{known}
+use Rattle.ft_trace.specs.Kinds.{rows}
+use Rattle.ft_trace.specs.Worlds.{Kept, kind_in}
+use Rattle.ft_bank.specs.Passes.{shape_of, view}
+use Rattle.ft_bank.specs.Tables.{name_of}
+use Rattle.ft_bank.proofs.Tables.{class_is}
+use Rattle.ft_bank.proofs.Whole.{work_knows}
+use Rattle.ft_search.proofs.Endings.{whole_root, whole_write}
+use Rattle.ft_adding.proofs.Finishing.{since_start}
+use Rattle.ft_merging.specs.Joining.{joined}
+use Rattle.ft_merging.specs.Internal.Joining.{IsJoining}
+use Rattle.ft_merging.proofs.Joined.{joined_finishes}
+use Rattle.ft_merging.proofs.JoinedCalls.{few_rows, made_here}
+use Rattle.ft_merging.proofs.JoinedRoom.{stays_table}
+use Rattle.ft_merging.proofs.JoinedStarts.{here_begins, here_room, here_table}
+use Rattle.ft_merging.proofs.joining.join_here.Goals as goal
+use Rattle.ft_merging.proofs.joining.join_here.Goals.{After-start_write}
+
+shape : (c : After-start_write) → (view c.start_write.new.pass).shape ≡ shape_of c.args.bank.now
+shape c = ap (λ (z : View). z.shape) c.start_write.ensures.1 ∙ c.requires.pass.1
+
+room : (c : After-start_write) → c.args.counts.fill + c.args.more ≤ rows (kind_in (shape_of c.args.bank.now).kinds c.args.o) (class_of (name_of c.args.own))
+room c =
+    let a = c.args in
+    here_room c.words_are_of_one_content.ensures.head c.used_entries_follow_a_set.ensures.first (shape_of a.bank.now) a.o a.way a.own a.t a.table a.counts a.more (view a.pass.now) (view c.start_write.new.pass) c.start_write.result c.requires.pass.1 a.pass.now.possible c.requires.two c.requires.may c.requires.other c.requires.way c.requires.other_way c.requires.sets
+    c.requires.counts c.requires.more c.requires.few c.requires.serials c.requires.room c.start_write.ensures.1 (shape c) c.start_write.new.pass.possible
+
+pub overflow_add-end : goal.overflow_add-end
+overflow_add-end c =
+    let a = c.args in
+    let k = shape_of a.bank.now in
+    let few = few_rows k a.own (kind_in k.kinds a.o) (a.counts.fill + a.more) (c.requires.may.keyed.table_in a.own refl) c.requires.may.keyed.keyed (room (goal.at.overflow_add-end c).After-start_write) in
+    omega (arith, few)
+
+pub join_table-number-requires-clause-joining : goal.join_table-number-requires-clause-joining
+join_table-number-requires-clause-joining c =
+    let a = c.args in
+    let s = (goal.at.join_table-number-requires-clause-joining c).After-start_write in
+    here_begins c.words_are_of_one_content.ensures.head c.used_entries_follow_a_set.ensures.first (shape_of a.bank.now) a.o a.way a.own a.t a.table a.counts a.more (view a.pass.now) (view c.start_write.new.pass) c.start_write.result c.requires.pass.1 a.pass.now.possible c.requires.two c.requires.may c.requires.other c.requires.way c.requires.other_way c.requires.sets
+    c.requires.counts c.requires.more c.requires.few c.requires.serials c.requires.room c.start_write.ensures.1 (shape s) c.start_write.new.pass.possible
+
+pub join_table-number-requires-clause-finishes : goal.join_table-number-requires-clause-finishes
+join_table-number-requires-clause-finishes c w counts only joining =
+    let a = c.args in
+    let k = shape_of a.bank.now in
+    let v = view a.pass.now in
+    let u = view c.start_write.new.pass in
+    let begun = c.start_write.ensures.1 in
+    let at = (goal.at.join_table-number-requires-clause-finishes c).After-start_write in
+    let may = c.requires.may in
+    let none = may.owes in
+    let table = here_table c.words_are_of_one_content.ensures.head c.used_entries_follow_a_set.ensures.first k a.o a.way a.own a.t a.table a.counts a.more v u c.start_write.result c.requires.pass.1 a.pass.now.possible c.requires.two may c.requires.other c.requires.way c.requires.other_way c.requires.sets
+    c.requires.counts c.requires.more c.requires.few c.requires.serials c.requires.room begun (shape at) c.start_write.new.pass.possible in
+    joined_finishes (record { pairs = c.used_entries_follow_a_dict.ensures.first; elements = c.used_entries_follow_a_set.ensures.first }) k a.o a.way a.own a.t a.table (a.counts.fill + a.more) a.others counts v w (since_start a.o v u w c.start_write.result begun only) c.requires.pass.1 may.keyed.container may.left a.called.now c.requires.joins c.requires.few
+    (λ found class has owed. absurd (omega (arith, none, owed)))
+    (stays_table (known a.o v) (known a.t v).content a.own a.counts.fill a.more table c.requires.room c.requires.more (class_is a.own (may.keyed.table_in a.own refl).2))
+    (subst (λ (z : Kept × Kept). IsJoining k a.o a.way a.own a.t a.table (joined z.0.content z.1.content) (a.counts.fill + a.more) a.others counts w) (λ i. (ap (known a.o) begun i, ap (known a.t) begun i)) joining)
+    (c.requires.others ∙ sym (ap (λ (z : Kept). z.table.fill) (work_knows u w a.t only.work ∙ ap (known a.t) begun)))
+
+pub returns-clause-added : goal.returns-clause-added
+returns-clause-added c =
+    let a = c.args in
+    let v = view a.pass.now in
+    let u = view c.start_write.new.pass in
+    let w = view c.join_table-number.new.pass in
+    let e = c.join_table-number.ensures.ends in
+    let begun = c.start_write.ensures.1 in
+    let may = c.requires.may in
+    let changed = c.requires.joins.changed in
+    let root = e.2 ∙ sym may.keyed.root in
+    made_here (shape_of a.bank.now) a.o a.called.now v w c.written.result c.join_table-number.result c.written.ensures changed
+    (whole_write a.o v u e.0 c.start_write.result begun e.1 a.called.now reply.Done c.join_table-number.result w changed may.keyed.even e.3 root)
+    (whole_root a.o v u e.0 c.start_write.result begun e.1 a.called.now reply.Done c.join_table-number.result w changed e.3 root)

@@ -1,0 +1,16 @@
+use Rattle.std.proofs.Common.{◌≡◌}
+use Rattle.ft_trace.specs.Holds.{known}
+use Rattle.ft_bank.specs.Passes.{shape_of, view, IsPassOf}
+use Rattle.ft_bank.specs.Sections.{stack_of}
+use Rattle.ft_bank.specs.Whole.{OnlyPut}
+use Rattle.ft_merging.specs.Joining.{joined}
+use Rattle.ft_merging.specs.Internal.Joining.{IsJoining}
+use Rattle.ft_merging.proofs.putting.join_all.Given as goal
+
+abbrev pub invariant-loop-place : goal.invariant-loop-place
+invariant-loop-place l = record {
+  pass : IsPassOf l.bank l.pass;
+  stack : stack_of l.pass ≡ stack_of l.initial.pass;
+  only : OnlyPut l.o (view l.initial.pass) (view l.pass);
+  joining : IsJoining (shape_of l.bank) l.o l.way l.own l.t l.table (joined (known l.o (view l.initial.pass)).content (known l.t (view l.initial.pass)).content) l.end l.place l.counts (view l.pass);
+}

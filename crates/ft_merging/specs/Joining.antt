@@ -1,0 +1,76 @@
+-- Dicts and sets that get the keys of another one: what they have then, which table they take, and what a call comes
+-- to that joins them.
+use Rattle.std.specs.Prelude.{◌≡◌, ℕ, ◌-◌, true, Option}
+use Rattle.ft_model.specs.declared.call.Call.{Call}
+use Rattle.ft_model.specs.declared.content.Content.{Content}
+use Rattle.ft_model.specs.declared.content.Content.TheVariants as content
+use Rattle.ft_model.specs.declared.reply.Reply.TheVariants as reply
+use Rattle.ft_model.specs.Answers.{is_write}
+use Rattle.ft_model.specs.Contents.{dict_update, set_or}
+use Rattle.ft_model.specs.Tables.{CanLackMemory, StoredWorld, after_stored, grown_table, passes_cap, takes_in, would_pass}
+use Rattle.ft_model.specs.Worlds.{IsDeclared, dict_of, length_of, no_hands, serial_of, set_of}
+use Rattle.ft_trace.specs.declared.Shape.{Shape}
+use Rattle.ft_trace.specs.declared.View.{View}
+use Rattle.ft_trace.specs.FitCalls.{FitsCall}
+use Rattle.ft_trace.specs.Holds.{known}
+use Rattle.ft_trace.specs.Sections.{HasLocksOf}
+use Rattle.ft_trace.specs.Worlds.{Kept, changes, kept_at}
+use Rattle.ft_bank.specs.Whole.{OnlyLoaded}
+use Rattle.ft_bank.specs.Writes.{MayHave}
+use Rattle.ft_growth.specs.declared.adding.Added.{Added}
+use Rattle.ft_growth.specs.Adding.{IsAdded}
+use Rattle.ft_search.specs.Calls.{IsReplyTo}
+use Rattle.ft_adding.specs.Growing.{keys_take}
+
+-- what a dict has once it is updated with another one, and a set that gets the elements of another one (Python manual,
+-- Mapping Types, Set Types)
+abbrev pub joined : Content → Content → Content
+joined (content.Dict dict) others = content.Dict (dict_update dict (dict_of others).pairs)
+joined (content.Set set) others = content.Set (set_or set (set_of others).elements)
+joined (content.List values) others = content.List values
+
+-- how many new keys it has then: each draws a serial (profile)
+abbrev pub new_keys : Content → Content → ℕ
+new_keys content others = serial_of (joined content others) - serial_of content
+
+-- the class of the table that it takes for them, if its own has no room (profile)
+abbrev pub join_takes : Kept → Content → Option ℕ
+join_takes kept others = keys_take kept.content kept.table (new_keys kept.content others)
+
+-- it, and the table that it has then
+abbrev pub joined_kept : Kept → Content → Kept
+joined_kept kept others =
+    record {
+      content = joined kept.content others;
+      table = grown_table
+          kept.table
+          (join_takes kept others)
+          (new_keys kept.content others)
+          (length_of (joined kept.content others));
+    }
+
+-- A call joins the container t to the container o: it replies that it is done, and o has these keys and this table
+-- then, whatever else the bank has that agrees with what the pass knows; the pass has the locks of both. (Python
+-- manual, Mapping Types, Set Types)
+pub record JoinsKeys (o t : ℕ) (called : Call) (v : View) : Type 0 where
+  pub write : is_write called reply.Done ≡ true
+  pub changed : changes called ≡ o
+  pub words : FitsCall called
+  pub locks : HasLocksOf called v.log
+  pub replied : IsReplyTo called reply.Done v
+  pub declared : (found : StoredWorld) → MayHave v found → IsDeclared found.world no_hands called
+  pub lacks : (found : StoredWorld) → MayHave v found → CanLackMemory found.world called
+  pub over : (found : StoredWorld) → MayHave v found
+      → would_pass found.world called ≡ passes_cap (joined (known o v).content (known t v).content)
+  pub takes : (found : StoredWorld) → MayHave v found
+      → takes_in found called ≡ join_takes (known o v) (known t v).content
+  pub left_is : (found : StoredWorld) → MayHave v found
+      → kept_at (after_stored found called) o ≡ joined_kept (known o v) (known t v).content
+
+-- What such a call comes to under the locks: after loads, by the class of the table that o takes for the new keys, if
+-- it takes one, and by whether it would have more keys than the largest table holds.
+abbrev pub JoinsBy : Shape → ℕ → ℕ → Call → View → View → Added → Type 0
+JoinsBy k o t called v w what =
+    (u : View) × OnlyLoaded v u
+    × IsAdded k (join_takes (known o v) (known t v).content)
+    (passes_cap (joined (known o v).content (known t v).content)) called reply.Done u w what

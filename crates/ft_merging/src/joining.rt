@@ -1,0 +1,366 @@
+//! The keys of one dict or set are put into another one: as one whole write, in the table that it has, or in another
+//! one that is filled with what it has. It is known before the first key is put that there is a table. A container that
+//! is named twice is read as it stood before.
+ghost use Rattle.std.specs.Prelude.{◌≡◌, ◌≢◌, ◌+◌, ◌^◌, ◌<◌, ◌≤◌, false, Some, None, suc};
+ghost use Rattle.ft_model.specs.declared.reply.Reply.TheVariants as reply;
+ghost use Rattle.ft_model.specs.declared.script.Kind.TheVariants as kind;
+ghost use Rattle.ft_model.specs.Classes.{IsClass};
+ghost use Rattle.ft_model.specs.Tables.{passes_cap};
+ghost use Rattle.ft_model.specs.Worlds.{length_of, serial_of};
+ghost use Rattle.ft_trace.specs.Acts.{flight, used};
+ghost use Rattle.ft_trace.specs.Addresses.{class_of};
+ghost use Rattle.ft_trace.specs.Holds.{held, known};
+ghost use Rattle.ft_trace.specs.Words.{root_in};
+ghost use Rattle.ft_trace.specs.Worlds.{kind_in};
+ghost use Rattle.ft_bank.specs.Passes.{shape_of, view, IsPassOf};
+ghost use Rattle.ft_bank.specs.Sections.{stack_of};
+ghost use Rattle.ft_bank.specs.Tables.{name_of};
+ghost use Rattle.ft_bank.specs.Whole.{Wrote};
+ghost use Rattle.ft_growth.specs.Adding.{IsAdded};
+ghost use Rattle.ft_search.specs.Rounds.{kind_by};
+ghost use Rattle.ft_search.specs.Writing.{MayWriteEntries};
+ghost use Rattle.ft_adding.specs.Growing.{KnowsKeyed, MayAddKey, MayGrow};
+ghost use Rattle.ft_adding.specs.Placing.{AreCounts};
+ghost use Rattle.ft_merging.specs.Joining.{JoinsBy, JoinsKeys, join_takes, joined, new_keys};
+
+use crate::counting::count_new;
+use crate::putting::join_table;
+use crate::reading::own_table;
+use ft_adding::{Counts, begin_in, class_wanted, fill, most_keys, put_counts, read_counts};
+use ft_bank::{Bank, Pass, Table, Took};
+use ft_growth::{Added, answer_no_table, answer_over, retire_old};
+use ft_keys::Way;
+use ft_layout::{used_entries_follow_a_dict, used_entries_follow_a_set, words_are_of_one_content};
+use ft_model::{Call, Reply};
+use ft_qsbr::take;
+use ft_search::{write_nothing, written};
+use ft_section::Object;
+
+/// Puts the keys of another container into one whose table has room for those that are new, as many as this.
+fn join_here(
+    bank: &Bank,
+    pass: &mut Pass,
+    o: Object,
+    way: Way,
+    own: Table,
+    t: Object,
+    table: Table,
+    others: u64,
+    counts: Counts,
+    more: u64,
+    called: &Call,
+) -> Added
+    requires pass { IsPassOf bank.now pass.old }
+    requires two { o ≢ t }
+    requires may { MayAddKey (shape_of bank.now) o (Some own) (view pass.old) }
+    requires other { KnowsKeyed (shape_of bank.now) t (Some table) (view pass.old) }
+    requires way { kind_in (shape_of bank.now).kinds o ≡ kind_by way }
+    requires other_way { kind_in (shape_of bank.now).kinds t ≡ kind_by way }
+    requires sets { kind_by way ≡ kind.Set }
+    requires others { others ≡ (known t (view pass.old)).table.fill }
+    requires counts { AreCounts (held o (view pass.old)).block counts }
+    requires more { more ≡ new_keys (known o (view pass.old)).content (known t (view pass.old)).content }
+    requires few { passes_cap (joined (known o (view pass.old)).content (known t (view pass.old)).content) ≡ false }
+    requires serials { serial_of (known o (view pass.old)).content + 65536 < 2 ^ 63 }
+    requires joins { JoinsKeys o t called.now (view pass.old) }
+    requires room { join_takes (known o (view pass.old)) (known t (view pass.old)).content ≡ None }
+    ensures pass { IsPassOf bank.now pass.new }
+    ensures stack { stack_of pass.new ≡ stack_of pass.old }
+    ensures added { IsAdded (shape_of bank.now) None false called.now reply.Done (view pass.old) (view pass.new) result }
+{
+    used_entries_follow_a_dict();
+    used_entries_follow_a_set();
+    words_are_of_one_content();
+    bank.start_write(pass, o);
+    let end = counts.fill + more;
+    let number = join_table(
+        bank, pass, o, way, own, t, table, others, end, counts, called,
+    );
+    Added::Made(written(number))
+}
+
+/// Puts the keys of another container into one that gets this table. Answers the number of the write.
+fn join_in_new(
+    bank: &Bank,
+    pass: &mut Pass,
+    o: Object,
+    way: Way,
+    old: Option<Table>,
+    new: Table,
+    t: Object,
+    table: Table,
+    others: u64,
+    counts: Counts,
+    more: u64,
+    called: &Call,
+) -> u64
+    requires pass { IsPassOf bank.now pass.old }
+    requires two { o ≢ t }
+    requires may { MayGrow (shape_of bank.now) o old new (view pass.old) }
+    requires apart { root_in (held o (view pass.old)) ≢ suc (name_of new) }
+    requires other { KnowsKeyed (shape_of bank.now) t (Some table) (view pass.old) }
+    requires way { kind_in (shape_of bank.now).kinds o ≡ kind_by way }
+    requires other_way { kind_in (shape_of bank.now).kinds t ≡ kind_by way }
+    requires sets { kind_by way ≡ kind.Set }
+    requires others { others ≡ (known t (view pass.old)).table.fill }
+    requires counts { AreCounts (held o (view pass.old)).block counts }
+    requires more { more ≡ new_keys (known o (view pass.old)).content (known t (view pass.old)).content }
+    requires few { passes_cap (joined (known o (view pass.old)).content (known t (view pass.old)).content) ≡ false }
+    requires serials { serial_of (known o (view pass.old)).content + 65536 < 2 ^ 63 }
+    requires joins { JoinsKeys o t called.now (view pass.old) }
+    requires takes { join_takes (known o (view pass.old)) (known t (view pass.old)).content
+        ≡ Some (class_of (name_of new)) }
+    ensures pass { IsPassOf bank.now pass.new }
+    ensures stack { stack_of pass.new ≡ stack_of pass.old }
+    ensures wrote { Wrote called.now reply.Done result (view pass.old) (view pass.new) }
+    ensures root { root_in (held o (view pass.new)) ≡ suc (name_of new) }
+{
+    used_entries_follow_a_dict();
+    used_entries_follow_a_set();
+    words_are_of_one_content();
+    fill(bank, pass, o, way, old, new, counts.fill);
+    begin_in(bank, pass, o, old, new);
+    put_counts(bank, pass, o, new, counts.count, counts.count, counts.next);
+    let all = Counts {
+        count: counts.count,
+        fill: counts.count,
+        next: counts.next,
+    };
+    let end = counts.count + more;
+    join_table(bank, pass, o, way, new, t, table, others, end, all, called)
+}
+
+/// Takes a table of a class for a container and puts the keys of another one there too; the table that it had is
+/// retired.
+fn join_in_taken(
+    bank: &Bank,
+    pass: &mut Pass,
+    o: Object,
+    way: Way,
+    old: Option<Table>,
+    class: u32,
+    t: Object,
+    table: Table,
+    others: u64,
+    counts: Counts,
+    more: u64,
+    called: &Call,
+) -> Added
+    requires pass { IsPassOf bank.now pass.old }
+    requires two { o ≢ t }
+    requires may { MayAddKey (shape_of bank.now) o old (view pass.old) }
+    requires other { KnowsKeyed (shape_of bank.now) t (Some table) (view pass.old) }
+    requires way { kind_in (shape_of bank.now).kinds o ≡ kind_by way }
+    requires other_way { kind_in (shape_of bank.now).kinds t ≡ kind_by way }
+    requires sets { kind_by way ≡ kind.Set }
+    requires others { others ≡ (known t (view pass.old)).table.fill }
+    requires counts { AreCounts (held o (view pass.old)).block counts }
+    requires more { more ≡ new_keys (known o (view pass.old)).content (known t (view pass.old)).content }
+    requires few { passes_cap (joined (known o (view pass.old)).content (known t (view pass.old)).content) ≡ false }
+    requires serials { serial_of (known o (view pass.old)).content + 65536 < 2 ^ 63 }
+    requires joins { JoinsKeys o t called.now (view pass.old) }
+    requires class { IsClass class }
+    requires takes { join_takes (known o (view pass.old)) (known t (view pass.old)).content ≡ Some class }
+    ensures pass { IsPassOf bank.now pass.new }
+    ensures stack { stack_of pass.new ≡ stack_of pass.old }
+    ensures added { IsAdded (shape_of bank.now) (Some class) false called.now reply.Done (view pass.old) (view pass.new)
+        result }
+{
+    match take(bank, pass, class) {
+        Took::Taken(new) => {
+            let number = join_in_new(
+                bank, pass, o, way, old, new, t, table, others, counts, more, called,
+            );
+            retire_old(bank, pass, old);
+            Added::Made(written(number))
+        }
+        Took::AllTaken => Added::NoTable(class, answer_no_table(bank, pass, called, class)),
+        Took::Moved(first, second) => Added::Moved(first, second),
+    }
+}
+
+/// Puts the keys of another container, which has none that is new, into one that has this table or none.
+fn join_in_old(
+    bank: &Bank,
+    pass: &mut Pass,
+    o: Object,
+    way: Way,
+    old: Option<Table>,
+    t: Object,
+    table: Table,
+    others: u64,
+    counts: Counts,
+    more: u64,
+    called: &Call,
+) -> Added
+    requires pass { IsPassOf bank.now pass.old }
+    requires two { o ≢ t }
+    requires may { MayAddKey (shape_of bank.now) o old (view pass.old) }
+    requires other { KnowsKeyed (shape_of bank.now) t (Some table) (view pass.old) }
+    requires way { kind_in (shape_of bank.now).kinds o ≡ kind_by way }
+    requires other_way { kind_in (shape_of bank.now).kinds t ≡ kind_by way }
+    requires sets { kind_by way ≡ kind.Set }
+    requires others { others ≡ (known t (view pass.old)).table.fill }
+    requires counts { AreCounts (held o (view pass.old)).block counts }
+    requires more { more ≡ new_keys (known o (view pass.old)).content (known t (view pass.old)).content }
+    requires few { passes_cap (joined (known o (view pass.old)).content (known t (view pass.old)).content) ≡ false }
+    requires serials { serial_of (known o (view pass.old)).content + 65536 < 2 ^ 63 }
+    requires joins { JoinsKeys o t called.now (view pass.old) }
+    requires room { join_takes (known o (view pass.old)) (known t (view pass.old)).content ≡ None }
+    ensures pass { IsPassOf bank.now pass.new }
+    ensures stack { stack_of pass.new ≡ stack_of pass.old }
+    ensures added { IsAdded (shape_of bank.now) None false called.now reply.Done (view pass.old) (view pass.new) result }
+{
+    words_are_of_one_content();
+    match old {
+        Some(own) => join_here(
+            bank, pass, o, way, own, t, table, others, counts, more, called,
+        ),
+        None => Added::Made(written(write_nothing(bank, pass, o, called, &Reply::Done))),
+    }
+}
+
+/// Puts the keys of another container into one that has this table or none, where so many are new.
+fn join_more(
+    bank: &Bank,
+    pass: &mut Pass,
+    o: Object,
+    way: Way,
+    old: Option<Table>,
+    t: Object,
+    table: Table,
+    others: u64,
+    counts: Counts,
+    more: u64,
+    called: &Call,
+) -> Added
+    requires pass { IsPassOf bank.now pass.old }
+    requires two { o ≢ t }
+    requires may { MayAddKey (shape_of bank.now) o old (view pass.old) }
+    requires other { KnowsKeyed (shape_of bank.now) t (Some table) (view pass.old) }
+    requires way { kind_in (shape_of bank.now).kinds o ≡ kind_by way }
+    requires other_way { kind_in (shape_of bank.now).kinds t ≡ kind_by way }
+    requires sets { kind_by way ≡ kind.Set }
+    requires others { others ≡ (known t (view pass.old)).table.fill }
+    requires counts { AreCounts (held o (view pass.old)).block counts }
+    requires more { more ≡ new_keys (known o (view pass.old)).content (known t (view pass.old)).content }
+    requires few { counts.count + more < 2 ^ 63 }
+    requires serials { serial_of (known o (view pass.old)).content + 65536 < 2 ^ 63 }
+    requires joins { JoinsKeys o t called.now (view pass.old) }
+    ensures pass { IsPassOf bank.now pass.new }
+    ensures stack { stack_of pass.new ≡ stack_of pass.old }
+    ensures added { IsAdded (shape_of bank.now) (join_takes (known o (view pass.old)) (known t (view pass.old)).content)
+        (passes_cap (joined (known o (view pass.old)).content (known t (view pass.old)).content)) called.now reply.Done
+        (view pass.old) (view pass.new) result }
+{
+    used_entries_follow_a_set();
+    words_are_of_one_content();
+    if counts.count + more > most_keys(way) {
+        return Added::Over(answer_over(bank, pass, called));
+    }
+    match class_wanted(way, old, counts, more) {
+        Some(class) => join_in_taken(
+            bank, pass, o, way, old, class, t, table, others, counts, more, called,
+        ),
+        None => join_in_old(
+            bank, pass, o, way, old, t, table, others, counts, more, called,
+        ),
+    }
+}
+
+/// Puts the keys of another container, which has this table, into one.
+fn join_from(
+    bank: &Bank,
+    pass: &mut Pass,
+    o: Object,
+    way: Way,
+    t: Object,
+    table: Table,
+    called: &Call,
+) -> Added
+    requires pass { IsPassOf bank.now pass.old }
+    requires two { o ≢ t }
+    requires may { MayWriteEntries (shape_of bank.now) o (view pass.old) }
+    requires other { KnowsKeyed (shape_of bank.now) t (Some table) (view pass.old) }
+    requires used { used (view pass.old).log ≡ false }
+    requires idle { flight (view pass.old).log ≡ 0 }
+    requires way { kind_in (shape_of bank.now).kinds o ≡ kind_by way }
+    requires other_way { kind_in (shape_of bank.now).kinds t ≡ kind_by way }
+    requires sets { kind_by way ≡ kind.Set }
+    requires serials { serial_of (known o (view pass.old)).content + 65536 < 2 ^ 63 }
+    requires joins { JoinsKeys o t called.now (view pass.old) }
+    ensures pass { IsPassOf bank.now pass.new }
+    ensures stack { stack_of pass.new ≡ stack_of pass.old }
+    ensures added { JoinsBy (shape_of bank.now) o t called.now (view pass.old) (view pass.new) result }
+{
+    used_entries_follow_a_set();
+    words_are_of_one_content();
+    let others = read_counts(bank, pass, t);
+    let counts = read_counts(bank, pass, o);
+    let more = count_new(bank, pass, o, way, t, table, others.fill);
+    let old = own_table(bank, pass, o);
+    join_more(
+        bank,
+        pass,
+        o,
+        way,
+        old,
+        t,
+        table,
+        others.fill,
+        counts,
+        more,
+        called,
+    )
+}
+
+/// Makes a call that joins no new keys, as a write that changes nothing.
+fn join_nothing(bank: &Bank, pass: &mut Pass, o: Object, t: Object, called: &Call) -> Added
+    requires pass { IsPassOf bank.now pass.old }
+    requires may { MayWriteEntries (shape_of bank.now) o (view pass.old) }
+    requires set { kind_in (shape_of bank.now).kinds o ≡ kind.Set }
+    requires joins { JoinsKeys o t called.now (view pass.old) }
+    requires same { joined (known o (view pass.old)).content (known t (view pass.old)).content
+        ≡ (known o (view pass.old)).content }
+    ensures pass { IsPassOf bank.now pass.new }
+    ensures stack { stack_of pass.new ≡ stack_of pass.old }
+    ensures added { IsAdded (shape_of bank.now) (join_takes (known o (view pass.old)) (known t (view pass.old)).content)
+        (passes_cap (joined (known o (view pass.old)).content (known t (view pass.old)).content)) called.now reply.Done
+        (view pass.old) (view pass.new) result }
+{
+    used_entries_follow_a_set();
+    Added::Made(written(write_nothing(bank, pass, o, called, &Reply::Done)))
+}
+
+/// Puts the keys of a set into another one, as the write of the call, by a pass that has the locks of both: those that
+/// are new, in their order. A set that is named twice stays as it is. The version of each new entry is odd while it is
+/// written, and no other.
+///
+/// # Errors
+///
+/// `NoTable` where the set needs another table, of the class for its new size, and the count of the class was 0;
+/// `Over` where it would have more than the largest table holds; `Moved` where two steps found a word of the class's
+/// free tables changed. No key is put then.
+pub fn join_by(bank: &Bank, pass: &mut Pass, o: Object, t: Object, way: Way, called: &Call) -> Added
+    requires pass { IsPassOf bank.now pass.old }
+    requires may { MayWriteEntries (shape_of bank.now) o (view pass.old) }
+    requires other { MayWriteEntries (shape_of bank.now) t (view pass.old) }
+    requires used { used (view pass.old).log ≡ false }
+    requires idle { flight (view pass.old).log ≡ 0 }
+    requires way { kind_in (shape_of bank.now).kinds o ≡ kind_by way }
+    requires other_way { kind_in (shape_of bank.now).kinds t ≡ kind_by way }
+    requires sets { kind_by way ≡ kind.Set }
+    requires serials { serial_of (known o (view pass.old)).content + 65536 < 2 ^ 63 }
+    requires joins { JoinsKeys o t called.now (view pass.old) }
+    ensures pass { IsPassOf bank.now pass.new }
+    ensures stack { stack_of pass.new ≡ stack_of pass.old }
+    ensures added { JoinsBy (shape_of bank.now) o t called.now (view pass.old) (view pass.new) result }
+{
+    if o == t {
+        return join_nothing(bank, pass, o, t, called);
+    }
+    let Some(table) = own_table(bank, pass, t) else {
+        return join_nothing(bank, pass, o, t, called);
+    };
+    join_from(bank, pass, o, way, t, table, called)
+}

@@ -55,7 +55,7 @@ use Rattle.ft_adding.proofs.Placed.{Fresh, way_of, use_with, none_used, counted_
 
 -- ---- readers of a table that stands for a content
 
-sound_in : (first_pair : FirstEntriesArePairs) (first_element : FirstEntriesAreElements) (texts b l : List ℕ) (class fill : ℕ) (d : Content) → IsKeyed (kind_of d) → IsClass class → StandsAs texts b (0 ∷ 0 ∷ l) (use_with class fill) d → SoundAs (kind_of d) texts class l d
+pub sound_in : (first_pair : FirstEntriesArePairs) (first_element : FirstEntriesAreElements) (texts b l : List ℕ) (class fill : ℕ) (d : Content) → IsKeyed (kind_of d) → IsClass class → StandsAs texts b (0 ∷ 0 ∷ l) (use_with class fill) d → SoundAs (kind_of d) texts class l d
 sound_in first_pair first_element texts b l class fill (content.Dict pairs) keyed is_class is = record {
   right = λ p key low even live. dict.dict_right first_pair texts b class fill is_class pairs l is p key low live;
   named = λ s p less low e. dict.dict_named first_pair texts b class fill is_class pairs l is s p less e;

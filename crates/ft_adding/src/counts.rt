@@ -11,12 +11,14 @@ ghost use Rattle.ft_adding.specs.Placing.{AreCounts};
 use ft_bank::{Bank, Pass};
 use ft_layout::block_word;
 
-/// Which words of a block these are, as a bank counts them.
-pub(crate) const COUNT: u64 = block_word::USED - block_word::ROOT;
+/// Which word of a block, as a bank counts them, is the number of pairs or elements.
+pub const COUNT: u64 = block_word::USED - block_word::ROOT;
 
-pub(crate) const FILL: u64 = block_word::FILL - block_word::ROOT;
+/// Which one is the number of entries that were used.
+pub const FILL: u64 = block_word::FILL - block_word::ROOT;
 
-pub(crate) const NEXT: u64 = block_word::NEXT - block_word::ROOT;
+/// Which one is the next serial.
+pub const NEXT: u64 = block_word::NEXT - block_word::ROOT;
 
 /// What the block of a dict or a set counts.
 #[derive(Clone, Copy, Debug, PartialEq, Eq)]

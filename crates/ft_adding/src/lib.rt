@@ -10,7 +10,7 @@ mod keys;
 mod placing;
 mod room;
 
-pub use crate::counts::{Counts, read_counts};
+pub use crate::counts::{COUNT, Counts, FILL, NEXT, read_counts};
 pub use crate::filling::fill;
 pub use crate::growth::begin_in;
 pub use crate::keys::{add_key, class_wanted, most_keys};

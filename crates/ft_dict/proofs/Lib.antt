@@ -4,3 +4,4 @@ mod Deleted
 mod NewKeys
 mod Showing
 mod Popping
+mod Copied

@@ -1,11 +1,12 @@
 //! Dicts of a bank (Python manual, Mapping Types): calls that look up a key, `len`, all pairs and `==`, without the
-//! locks and with them, and calls under the lock that put a value at a key, take a pair out or clear the dict.
+//! locks and with them, and calls under the lock that put a value at a key, take a pair out, clear the dict or copy it.
 //!
 //! Between any two steps of any passes it keeps true, for whoever runs calls, that each call adds one
 //! entry to the pass at most, and that this entry has the reply of the plain dict at its stamp.
 #![tactic(auto)]
 
 mod clears;
+mod copies;
 mod deletes;
 mod equals;
 mod items;
@@ -18,6 +19,7 @@ mod tries;
 mod values;
 
 pub use crate::clears::{clear_by, try_clear};
+pub use crate::copies::{copyto_by, try_copyto};
 pub use crate::deletes::{del_locked, pop_locked, popd_locked};
 pub use crate::equals::{look_eq, try_eq};
 pub use crate::items::{look_items, try_items};

@@ -28,7 +28,7 @@ const COUNT: u64 = block_word::USED - block_word::ROOT;
 pub(crate) const FILL: u64 = block_word::FILL - block_word::ROOT;
 
 /// The table of a dict or a set whose lock the pass has, or none.
-fn root_table(bank: &Bank, pass: &mut Pass, o: Object) -> Option<Table>
+pub fn root_table(bank: &Bank, pass: &mut Pass, o: Object) -> Option<Table>
     requires pass { IsPassOf bank.now pass.old }
     requires may { MayWriteEntries (shape_of bank.now) o (view pass.old) }
     ensures pass { IsPassOf bank.now pass.new }

@@ -13,7 +13,7 @@ mod finding;
 mod places;
 mod values;
 
-pub use crate::clearing::clear_keyed;
+pub use crate::clearing::{clear_keyed, root_table};
 pub use crate::comparing::{are_same_dicts, are_same_sets, is_apart, is_within};
 pub use crate::copies::{copy_elements, copy_pairs};
 pub use crate::entries::{hash_at, key_at, value_at};

@@ -12,11 +12,12 @@ ghost use Rattle.ft_section.specs.Ready.{MayTry};
 use crate::rows::{four, is_made, only, pair, pairs};
 use ft_bank::{Bank, Pass};
 use ft_dict::{
-    try_clear, try_del, try_eq, try_get, try_getd, try_has, try_items, try_len, try_pop, try_popd,
-    try_popitem, try_set, try_setdefault,
+    try_clear, try_copyto, try_del, try_eq, try_get, try_getd, try_has, try_items, try_len,
+    try_pop, try_popd, try_popitem, try_set, try_setdefault,
 };
 use ft_model::{Key, Raise, Reply, Value};
 use ft_section::{Step, new_passes_are_ready};
+use ft_set::try_add;
 use std::alloc::Global;
 use std::test::Fail;
 
@@ -39,6 +40,18 @@ enum Call {
     Eq,
     /// `set` of dict 1.
     SetOther(i64, i64),
+    /// `items` of dict 1.
+    ItemsOther,
+    /// `copyto` from dict 0 to dict 1.
+    Copy,
+    /// `copyto` from dict 1 to dict 0.
+    CopyBack,
+    /// `copyto` from dict 0 to itself.
+    CopySelf,
+    /// `add` of set 2.
+    Add(i64),
+    /// `add` of set 3.
+    AddOther(i64),
 }
 
 /// A call, what it is to reply, its number, and whether it is a write.
@@ -95,6 +108,12 @@ fn attempt(bank: &Bank, pass: &mut Pass, alloc: Global, call: Call) -> Step
         Call::Clear => try_clear(bank, pass, 0),
         Call::Eq => try_eq(bank, pass, 0, 1),
         Call::SetOther(key, value) => try_set(bank, pass, 1, Key::Int(key), Value::Int(value)),
+        Call::ItemsOther => try_items(bank, pass, alloc, 1),
+        Call::Copy => try_copyto(bank, pass, 0, 1),
+        Call::CopyBack => try_copyto(bank, pass, 1, 0),
+        Call::CopySelf => try_copyto(bank, pass, 0, 0),
+        Call::Add(key) => try_add(bank, pass, 2, Key::Int(key)),
+        Call::AddOther(key) => try_add(bank, pass, 3, Key::Int(key)),
     }
 }
 
@@ -213,6 +232,61 @@ fn dicts_are_equal_in_any_order(rt: HostRuntime) -> Result<(), Fail> {
         reads(Call::Eq, Reply::Truth(true), 5),
         writes(Call::PopItem, pair(2, 20), 5),
         reads(Call::Eq, Reply::Truth(false), 6),
+    ]?;
+    assert_eq!(rt; in_new_bank(alloc, rows.as_slice())?, None);
+    Ok(())
+}
+
+#[test]
+fn a_copy_takes_the_place_of_what_was_there(rt: HostRuntime) -> Result<(), Fail> {
+    let alloc = rt.alloc();
+    let rows = vec![in alloc;
+        writes(Call::Copy, Reply::Done, 0),
+        writes(Call::CopySelf, Reply::Done, 1),
+        writes(Call::Set(1, 10), Reply::Done, 2),
+        writes(Call::Set(2, 20), Reply::Done, 3),
+        writes(Call::Set(3, 30), Reply::Done, 4),
+        writes(Call::Del(2), Reply::Done, 5),
+        writes(Call::SetOther(2, 5), Reply::Done, 6),
+        writes(Call::Copy, Reply::Done, 7),
+        reads(Call::ItemsOther, pairs(alloc, &[(1, 10), (3, 30)])?, 8),
+        reads(Call::Eq, Reply::Truth(true), 8),
+        writes(Call::SetOther(2, 6), Reply::Done, 8),
+        writes(Call::CopyBack, Reply::Done, 9),
+        reads(Call::Items, pairs(alloc, &[(1, 10), (3, 30), (2, 6)])?, 10),
+        reads(Call::Get(2), Reply::Value(Value::Int(6)), 10),
+        writes(Call::CopySelf, Reply::Done, 10),
+        reads(Call::Items, pairs(alloc, &[(1, 10), (3, 30), (2, 6)])?, 11),
+        writes(Call::Pop(3), Reply::Value(Value::Int(30)), 11),
+        writes(Call::Set(3, 31), Reply::Done, 12),
+        reads(Call::Items, pairs(alloc, &[(1, 10), (2, 6), (3, 31)])?, 13),
+        writes(Call::Clear, Reply::Done, 13),
+        writes(Call::Copy, Reply::Done, 14),
+        reads(Call::ItemsOther, pairs(alloc, &[])?, 15),
+        writes(Call::SetOther(4, 40), Reply::Done, 15),
+        reads(Call::ItemsOther, pairs(alloc, &[(4, 40)])?, 16),
+    ]?;
+    assert_eq!(rt; in_new_bank(alloc, rows.as_slice())?, None);
+    Ok(())
+}
+
+#[test]
+fn a_copy_takes_a_table_in_any_case(rt: HostRuntime) -> Result<(), Fail> {
+    let alloc = rt.alloc();
+    // four tables of class 3, one for each container; a table that is given up is free when the next one is taken
+    let rows = vec![in alloc;
+        writes(Call::Set(1, 10), Reply::Done, 0),
+        writes(Call::SetOther(2, 20), Reply::Done, 1),
+        writes(Call::Add(5), Reply::Done, 2),
+        writes(Call::AddOther(6), Reply::Done, 3),
+        reads(Call::Copy, Reply::Raised(Raise::Memory(3)), 4),
+        reads(Call::CopySelf, Reply::Raised(Raise::Memory(3)), 4),
+        reads(Call::ItemsOther, pairs(alloc, &[(2, 20)])?, 4),
+        reads(Call::Items, pairs(alloc, &[(1, 10)])?, 4),
+        writes(Call::Clear, Reply::Done, 4),
+        writes(Call::CopyBack, Reply::Done, 5),
+        reads(Call::Items, pairs(alloc, &[(2, 20)])?, 6),
+        reads(Call::CopySelf, Reply::Raised(Raise::Memory(3)), 6),
     ]?;
     assert_eq!(rt; in_new_bank(alloc, rows.as_slice())?, None);
     Ok(())

@@ -1,0 +1,77 @@
+use Rattle.std.proofs.Common.{ap, ◌∙◌}
+use Rattle.ft_trace.specs.declared.View.{View}
+use Rattle.ft_trace.specs.Holds.{held}
+use Rattle.ft_trace.specs.Words.{root_in}
+use Rattle.ft_bank.specs.Passes.{shape_of, view}
+use Rattle.ft_replacing.proofs.Swaps.{Swapping, committed_u, may_put_none, may_put_table, odd_u, root_u, shut_u, stands_u, swapping_commits, swapping_wrote}
+use Rattle.ft_replacing.proofs.swapping.swap_table.Goals as goal
+use Rattle.ft_replacing.proofs.swapping.swap_table.Goals.{After-put_root}
+
+pub put_root-requires-clause-may : goal.put_root-requires-clause-may
+put_root-requires-clause-may c =
+    let a = c.args in
+    may_put_none (shape_of a.bank.now) a.o a.old a.table (view a.pass.now) (view c.start_write.new.pass) c.start_write.result c.requires.pass.1 a.pass.now.possible c.requires.may c.start_write.ensures.1
+
+swapping : (c : After-put_root) → Swapping (shape_of c.args.bank.now) c.args.o c.args.old c.args.table c.args.called.now c.requires.gets.0 c.start_write.result (view c.args.pass.now) (view c.start_write.new.pass) (view c.put_root.new.pass)
+swapping c = record {
+  first_pair = c.used_entries_follow_a_dict.ensures.first;
+  first_element = c.used_entries_follow_a_set.ensures.first;
+  heads = c.words_are_of_one_content.ensures.head;
+  may = c.requires.may;
+  shape = c.requires.pass.1;
+  possible = c.args.pass.now.possible;
+  other = c.requires.other;
+  kind_is = c.requires.gets.1;
+  filled = c.requires.gets.4;
+  replaces = c.requires.gets.5;
+  started = c.start_write.ensures.1;
+  rooted = c.put_root.ensures.did.1;
+  root_held = c.put_root.ensures.held;
+}
+
+pub commit-number-requires-clause-may : goal.commit-number-requires-clause-may
+commit-number-requires-clause-may c =
+    let a = c.args in
+    swapping_commits (shape_of a.bank.now) a.o a.old a.table a.called.now c.requires.gets.0 c.start_write.result (view a.pass.now) (view c.start_write.new.pass) (view c.put_root.new.pass) (swapping (goal.at.commit-number-requires-clause-may c).After-put_root)
+
+pub put_root-requires-2-clause-may : goal.put_root-requires-2-clause-may
+put_root-requires-2-clause-may c =
+    let a = c.args in
+    let n = c.commit-number in
+    may_put_table (shape_of a.bank.now) a.o a.old a.table a.called.now c.requires.gets.0 c.start_write.result (view a.pass.now) (view c.start_write.new.pass) (view c.put_root.new.pass) (swapping (goal.at.put_root-requires-2-clause-may c).After-put_root) n.result n.ensures.did.0 (view n.new.pass) n.ensures.did.1.1 n.ensures.committed
+
+pub stop_write-requires-clause-odd : goal.stop_write-requires-clause-odd
+stop_write-requires-clause-odd c =
+    let a = c.args in
+    let n = c.commit-number in
+    odd_u (shape_of a.bank.now) a.o a.old a.table a.called.now c.requires.gets.0 c.start_write.result (view a.pass.now) (view c.start_write.new.pass) (view c.put_root.new.pass) (swapping (goal.at.stop_write-requires-clause-odd c).After-put_root) n.result n.ensures.did.0 (view n.new.pass) n.ensures.did.1.1 n.ensures.committed (view c.put_root-2.new.pass) (view c.put_counts.new.pass) c.put_root-2.ensures.did.1 c.put_root-2.ensures.held c.put_counts.ensures.only a.count a.next c.requires.gets.2 c.requires.gets.3 c.put_counts.ensures.words
+
+pub stop_write-requires-clause-committed : goal.stop_write-requires-clause-committed
+stop_write-requires-clause-committed c =
+    let a = c.args in
+    let n = c.commit-number in
+    committed_u (shape_of a.bank.now) a.o a.old a.table a.called.now c.requires.gets.0 c.start_write.result (view a.pass.now) (view c.start_write.new.pass) (view c.put_root.new.pass) (swapping (goal.at.stop_write-requires-clause-committed c).After-put_root) n.result n.ensures.did.0 (view n.new.pass) n.ensures.did.1.1 n.ensures.committed (view c.put_root-2.new.pass) (view c.put_counts.new.pass) c.put_root-2.ensures.did.1 c.put_root-2.ensures.held c.put_counts.ensures.only a.count a.next c.requires.gets.2 c.requires.gets.3 c.put_counts.ensures.words
+
+pub stop_write-requires-clause-stands : goal.stop_write-requires-clause-stands
+stop_write-requires-clause-stands c =
+    let a = c.args in
+    let n = c.commit-number in
+    stands_u (shape_of a.bank.now) a.o a.old a.table a.called.now c.requires.gets.0 c.start_write.result (view a.pass.now) (view c.start_write.new.pass) (view c.put_root.new.pass) (swapping (goal.at.stop_write-requires-clause-stands c).After-put_root) n.result n.ensures.did.0 (view n.new.pass) n.ensures.did.1.1 n.ensures.committed (view c.put_root-2.new.pass) (view c.put_counts.new.pass) c.put_root-2.ensures.did.1 c.put_root-2.ensures.held c.put_counts.ensures.only a.count a.next c.requires.gets.2 c.requires.gets.3 c.put_counts.ensures.words
+
+pub stop_write-requires-clause-shut : goal.stop_write-requires-clause-shut
+stop_write-requires-clause-shut c =
+    let a = c.args in
+    let n = c.commit-number in
+    shut_u (shape_of a.bank.now) a.o a.old a.table a.called.now c.requires.gets.0 c.start_write.result (view a.pass.now) (view c.start_write.new.pass) (view c.put_root.new.pass) (swapping (goal.at.stop_write-requires-clause-shut c).After-put_root) n.result n.ensures.did.0 (view n.new.pass) n.ensures.did.1.1 n.ensures.committed (view c.put_root-2.new.pass) (view c.put_counts.new.pass) c.put_root-2.ensures.did.1 c.put_root-2.ensures.held c.put_counts.ensures.only a.count a.next c.requires.gets.2 c.requires.gets.3 c.put_counts.ensures.words
+
+pub returns-clause-wrote : goal.returns-clause-wrote
+returns-clause-wrote c =
+    let a = c.args in
+    let n = c.commit-number in
+    swapping_wrote (shape_of a.bank.now) a.o a.old a.table a.called.now c.requires.gets.0 c.start_write.result (view a.pass.now) (view c.start_write.new.pass) (view c.put_root.new.pass) (swapping (goal.at.returns-clause-wrote c).After-put_root) n.result n.ensures.did.0 (view n.new.pass) n.ensures.did.1.1 n.ensures.committed (view c.put_root-2.new.pass) (view c.put_counts.new.pass) c.put_root-2.ensures.did.1 c.put_root-2.ensures.held c.put_counts.ensures.only a.count a.next c.requires.gets.2 c.requires.gets.3 c.put_counts.ensures.words c.stop_write.result (view c.stop_write.new.pass) c.put_root.ensures.keeps c.put_root-2.ensures.keeps n.ensures.seen c.stop_write.ensures.1
+
+pub returns-clause-root : goal.returns-clause-root
+returns-clause-root c =
+    let a = c.args in
+    let n = c.commit-number in
+    ap (λ (z : View). root_in (held a.o z)) c.stop_write.ensures.1 ∙ root_u (shape_of a.bank.now) a.o a.old a.table a.called.now c.requires.gets.0 c.start_write.result (view a.pass.now) (view c.start_write.new.pass) (view c.put_root.new.pass) (swapping (goal.at.returns-clause-root c).After-put_root) n.result n.ensures.did.0 (view n.new.pass) n.ensures.did.1.1 n.ensures.committed (view c.put_root-2.new.pass) (view c.put_counts.new.pass) c.put_root-2.ensures.did.1 c.put_root-2.ensures.held c.put_counts.ensures.only a.count a.next c.requires.gets.2 c.requires.gets.3 c.put_counts.ensures.words

@@ -1,0 +1,78 @@
+//! The write of a call that puts another table in the place of the one that a dict or a set has.
+ghost use Rattle.std.specs.Prelude.{◌≡◌, ◌≢◌, suc, ◌<◌, true, Option, Some};
+ghost use Rattle.ft_model.specs.declared.content.Content.{Content};
+ghost use Rattle.ft_model.specs.declared.reply.Reply.TheVariants as reply;
+ghost use Rattle.ft_model.specs.Worlds.{kind_of, length_of, serial_of};
+ghost use Rattle.ft_trace.specs.Acts.{is_writing};
+ghost use Rattle.ft_trace.specs.Addresses.{containers_in, class_of};
+ghost use Rattle.ft_trace.specs.Holds.{held, in_hand};
+ghost use Rattle.ft_trace.specs.Words.{root_in};
+ghost use Rattle.ft_trace.specs.Worlds.{kind_in};
+ghost use Rattle.ft_bank.specs.Passes.{shape_of, view, IsPassOf};
+ghost use Rattle.ft_bank.specs.Sections.{stack_of};
+ghost use Rattle.ft_bank.specs.Tables.{name_of};
+ghost use Rattle.ft_bank.specs.Whole.{OnlyPut, Wrote};
+ghost use Rattle.ft_adding.specs.Fresh.{IsFilledWith};
+ghost use Rattle.ft_adding.specs.Growing.{MayGrow};
+ghost use Rattle.ft_adding.specs.Placing.{counted};
+ghost use Rattle.ft_replacing.specs.Replacing.{Replaces};
+
+use ft_adding::{COUNT, FILL, NEXT};
+use ft_bank::{Bank, Pass, Table};
+use ft_layout::{used_entries_follow_a_dict, used_entries_follow_a_set, words_are_of_one_content};
+use ft_model::{Call, Reply};
+
+/// Puts into the block how many pairs or elements there are, each in an entry, and the next serial.
+fn put_counts(bank: &Bank, pass: &mut Pass, o: u32, count: u64, next: u64)
+    requires pass { IsPassOf bank.now pass.old }
+    requires container { o < containers_in (shape_of bank.now) }
+    requires odd { is_writing o (view pass.old).log ≡ true }
+    ensures pass { IsPassOf bank.now pass.new }
+    ensures stack { stack_of pass.new ≡ stack_of pass.old }
+    ensures only { OnlyPut o (view pass.old) (view pass.new) }
+    ensures words { held o (view pass.new) ≡ record {
+      block = counted (held o (view pass.old)).block count count next;
+      table = (held o (view pass.old)).table;
+    } }
+{
+    bank.put_block(pass, o, COUNT, count);
+    bank.put_block(pass, o, FILL, count);
+    bank.put_block(pass, o, NEXT, next);
+}
+
+/// Gives a dict or a set this table, which has what it gets, as the write of the call. Answers the number of the write.
+pub(crate) fn swap_table(
+    bank: &Bank,
+    pass: &mut Pass,
+    o: u32,
+    old: Option<Table>,
+    table: Table,
+    count: u64,
+    next: u64,
+    called: &Call,
+) -> u64
+    requires pass { IsPassOf bank.now pass.old }
+    requires may { MayGrow (shape_of bank.now) o old table (view pass.old) }
+    requires other { root_in (held o (view pass.old)) ≢ suc (name_of table) }
+    requires gets { (left : Content) × (kind_of left ≡ kind_in (shape_of bank.now).kinds o)
+        × (count ≡ length_of left) × (next ≡ serial_of left)
+        × IsFilledWith (shape_of bank.now).texts (class_of (name_of table)) left
+        (in_hand (name_of table) (view pass.old))
+        × Replaces o called.now left (Some (class_of (name_of table))) (view pass.old) }
+    ensures pass { IsPassOf bank.now pass.new }
+    ensures stack { stack_of pass.new ≡ stack_of pass.old }
+    ensures wrote { Wrote called.now reply.Done result (view pass.old) (view pass.new) }
+    ensures root { root_in (held o (view pass.new)) ≡ suc (name_of table) }
+{
+    let _ = old;
+    words_are_of_one_content();
+    used_entries_follow_a_dict();
+    used_entries_follow_a_set();
+    bank.start_write(pass, o);
+    bank.put_root(pass, o, None);
+    let number = bank.commit(pass, called, &Reply::Done);
+    bank.put_root(pass, o, Some(table));
+    put_counts(bank, pass, o, count, next);
+    bank.stop_write(pass, o);
+    number
+}

@@ -1,6 +1,6 @@
 -- What calls on dicts and sets come to, and looks at them, in the words that all calls share.
-use Rattle.std.proofs.Common.{◌≡◌, ◌<◌, ℕ, List, refl, sym, ap, subst}
-use Rattle.std.specs.Prelude.{Option, Some}
+use Rattle.std.proofs.Common.{◌≡◌, ◌<◌, ℕ, false, List, refl, sym, ap, subst}
+use Rattle.std.specs.Prelude.{Option, None, Some}
 use Rattle.ft_model.specs.declared.call.Call.{Call}
 use Rattle.ft_model.specs.declared.call.Call.TheVariants as call
 use Rattle.ft_model.specs.declared.call.DictCall.{DictCall}
@@ -22,22 +22,27 @@ use Rattle.ft_bank.specs.Passes.{view}
 use Rattle.ft_section.specs.declared.answers.Look.{Look}
 use Rattle.ft_section.specs.declared.answers.Look.TheVariants as look
 use Rattle.ft_section.specs.declared.answers.Objects.{Objects}
-use Rattle.ft_section.specs.declared.answers.Objects.TheVariants.{One}
+use Rattle.ft_section.specs.declared.answers.Objects.TheVariants.{One, Two}
 use Rattle.ft_section.specs.declared.answers.Step.{Step}
 use Rattle.ft_section.specs.declared.answers.Step.TheVariants as step
 use Rattle.ft_section.specs.Trying.{SectionsAfter}
-use Rattle.ft_growth.specs.Adding.{IsTryOf as IsAddTryOf}
+use Rattle.ft_growth.specs.declared.adding.Added.{Added}
+use Rattle.ft_growth.specs.declared.adding.Added.TheVariants as added
+use Rattle.ft_growth.specs.Adding.{IsTryOf as IsAddTryOf, step_after}
 use Rattle.ft_search.specs.Looks.{IsLookOf, Stops}
 use Rattle.ft_adding.specs.Growing.{PutsKey}
 use Rattle.ft_keyed.specs.Clearing.{IsClearOf}
 use Rattle.ft_keyed.specs.Copies.{IsCopyGlanceOf, IsCopyOf}
+use Rattle.ft_dict.specs.Copies.{CopiesTo}
 use Rattle.ft_dict.specs.Values.{SetsDefault}
+use Rattle.ft_merging.specs.Joining.{JoinsBy}
+use Rattle.ft_replacing.specs.Replacing.{IsReplaced}
 use Rattle.ft_engine.specs.Answering.{IsLooked, IsTryOf}
 use Rattle.ft_engine.specs.Contentions.{StopsCall}
 use Rattle.ft_engine.specs.Flights.{objects_by}
 use Rattle.ft_engine.proofs.ListLooks.{StopsAt}
 use Rattle.ft_engine.proofs.Looking.{IsPlain, tried_of}
-use Rattle.ft_engine.proofs.Outcomes.{Outcome, add_outcome, gave_up_adds, loaded_comes, loaded_nothing, locked_entry, under_locks}
+use Rattle.ft_engine.proofs.Outcomes.{Comes, Outcome, add_outcome, gave_up_adds, loaded_comes, loaded_nothing, locked_entry, under_locks}
 use Rattle.ft_engine.proofs.SectionCalls.{nothing_then, only_nothing}
 
 -- ---- tries
@@ -68,6 +73,24 @@ pub default_outcome : (k : Shape) (d : ℕ) (key : Key) (default : Value) (said 
 default_outcome k d key default said v w result left x =
     let called = call.Dict d (dict.SetDefault key default) in
     add_outcome (One d) (SetsDefault k d key default said) called said v w result (λ u z what some y. loaded_comes k _ _ called said u y.1.0 z what some y.1.1 y.1.2) left x
+
+-- ---- calls on two containers that may take a table
+
+pub joins_outcome : (k : Shape) (o t : ℕ) (called : Call) (v w : View) (result : Step) → 0 < v.left → IsAddTryOf (Two o t) (JoinsBy k o t called) reply.Done v w result → Outcome called (Two o t) v w result
+joins_outcome k o t called v w result left x =
+    add_outcome (Two o t) (JoinsBy k o t called) called reply.Done v w result (λ u z what some y. loaded_comes k _ _ called reply.Done u y.0 z what some y.1 y.2) left x
+
+replaced_comes : (k : Shape) (takes : Option ℕ) (called : Call) (v w : View) (what : Added) → 0 < v.left → IsReplaced k takes called v w what → Comes called v w (step_after what reply.Done)
+replaced_comes k None called v w (added.Made stamp) left x = gave_up_adds called reply.Done stamp v x.1.0 w x.0 x.1.1 x.1.2
+replaced_comes k None called v w (added.NoTable class stamp) left x = absurd x
+replaced_comes k None called v w (added.Over stamp) left x = absurd x
+replaced_comes k None called v w (added.Moved a b) left x = absurd x
+replaced_comes k (Some class) called v w what left x = loaded_comes k (Some class) false called reply.Done v x.0 w what left x.1 x.2
+
+pub copies_outcome : (k : Shape) (d e : ℕ) (v w : View) (result : Step) → 0 < v.left → IsAddTryOf (Two d e) (CopiesTo k d e) reply.Done v w result → Outcome (call.Dict d (dict.CopyTo e)) (Two d e) v w result
+copies_outcome k d e v w result left x =
+    let called = call.Dict d (dict.CopyTo e) in
+    add_outcome (Two d e) (CopiesTo k d e) called reply.Done v w result (λ u z what some y. replaced_comes k _ called u z what some y) left x
 
 -- ---- clears
 

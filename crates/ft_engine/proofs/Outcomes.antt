@@ -143,7 +143,7 @@ with_adds k (Some class) called said stamp v w is x =
     write_adds called said stamp v x.taken x.done w is (tried_nothing k class (took.Taken x.table) v x.taken x.tried) x.wrote (retired_nothing _ x.done w x.retired)
 
 -- what a call under its locks comes to
-abbrev Comes : Call → View → View → Step → Type 0
+abbrev pub Comes : Call → View → View → Step → Type 0
 Comes called v w (step.Done said stamp) = AddsEntry called said stamp v w
 Comes called v w (step.NotYet o owner) = ⊥
 Comes called v w (step.Moved a b) = AddsNothing v w

@@ -91,7 +91,7 @@ FitsSections s (call.Set o sc) = Unit {0}
 FitsSections s (call.Next number) = Unit {0}
 FitsSections s call.Quiesce = Unit {0}
 
--- the calls on dicts and sets that an engine makes so far: all but `update`, `copyto`, `or` and `xor`
+-- the calls on dicts and sets that an engine makes so far: all but `update` and `xor`
 abbrev pub IsBuiltDict : DictCall → Type 0
 IsBuiltDict (dict.Get key) = Unit {0}
 IsBuiltDict (dict.GetOr key default) = Unit {0}
@@ -106,7 +106,7 @@ IsBuiltDict dict.Len = Unit {0}
 IsBuiltDict dict.Items = Unit {0}
 IsBuiltDict (dict.Update other) = ⊥
 IsBuiltDict dict.Clear = Unit {0}
-IsBuiltDict (dict.CopyTo other) = ⊥
+IsBuiltDict (dict.CopyTo other) = Unit {0}
 IsBuiltDict (dict.Eq other) = Unit {0}
 IsBuiltDict (dict.Iter cursor) = Unit {0}
 
@@ -119,7 +119,7 @@ IsBuiltSet (set.Has key) = Unit {0}
 IsBuiltSet set.Len = Unit {0}
 IsBuiltSet set.Items = Unit {0}
 IsBuiltSet (set.Eq other) = Unit {0}
-IsBuiltSet (set.Or other) = ⊥
+IsBuiltSet (set.Or other) = Unit {0}
 IsBuiltSet (set.And other) = Unit {0}
 IsBuiltSet (set.Sub other) = Unit {0}
 IsBuiltSet (set.Xor other) = ⊥

@@ -15,9 +15,9 @@ ghost use Rattle.ft_engine.specs.Names.{AreOfKindIn, HasKey, IsBuiltDict, key_of
 use crate::settling::settle;
 use ft_bank::{Bank, Pass};
 use ft_dict::{
-    look_eq, look_get, look_getd, look_has, look_items, look_len, try_clear, try_del, try_eq,
-    try_get, try_getd, try_has, try_items, try_len, try_pop, try_popd, try_popitem, try_set,
-    try_setdefault,
+    look_eq, look_get, look_getd, look_has, look_items, look_len, try_clear, try_copyto, try_del,
+    try_eq, try_get, try_getd, try_has, try_items, try_len, try_pop, try_popd, try_popitem,
+    try_set, try_setdefault,
 };
 use ft_model::DictCall;
 use ft_section::{Look, Object, Step};
@@ -87,7 +87,7 @@ fn try_dict(bank: &Bank, pass: &mut Pass, alloc: Global, d: Object, call: &DictC
         DictCall::Items => try_items(bank, pass, alloc, d),
         DictCall::Eq { other } => try_eq(bank, pass, d, other),
         DictCall::Update { .. } => unreachable!(),
-        DictCall::CopyTo { .. } => unreachable!(),
+        DictCall::CopyTo { other } => try_copyto(bank, pass, d, other),
         DictCall::Iter { .. } => unreachable!(),
     }
 }

@@ -57,14 +57,14 @@ fn is_built(call: &Call) -> bool
 fn is_built_dict(call: &DictCall) -> bool
     ensures { IsTrue result ↔ IsBuiltDict call.now }
 {
-    !matches!(*call, DictCall::Update { .. } | DictCall::CopyTo { .. })
+    !matches!(*call, DictCall::Update { .. })
 }
 
 /// Whether it makes the call on a set.
 fn is_built_set(call: &SetCall) -> bool
     ensures { IsTrue result ↔ IsBuiltSet call.now }
 {
-    !matches!(*call, SetCall::Or { .. } | SetCall::Xor { .. })
+    !matches!(*call, SetCall::Xor { .. })
 }
 
 impl Engine {

@@ -18,7 +18,8 @@ use ft_model::SetCall;
 use ft_section::{Look, Object, Step};
 use ft_set::{
     look_eq, look_has, look_items, look_len, try_add, try_and, try_clear, try_discard,
-    try_disjoint, try_eq, try_has, try_items, try_len, try_pop, try_remove, try_sub, try_subset,
+    try_disjoint, try_eq, try_has, try_items, try_len, try_or, try_pop, try_remove, try_sub,
+    try_subset,
 };
 use std::alloc::Global;
 
@@ -81,7 +82,7 @@ fn try_set_call(bank: &Bank, pass: &mut Pass, alloc: Global, s: Object, call: &S
         SetCall::Pop => try_pop(bank, pass, s),
         SetCall::Items => try_items(bank, pass, alloc, s),
         SetCall::Eq { other } => try_eq(bank, pass, s, other),
-        SetCall::Or { .. } => unreachable!(),
+        SetCall::Or { other } => try_or(bank, pass, s, other),
         SetCall::And { other } => try_and(bank, pass, s, other),
         SetCall::Sub { other } => try_sub(bank, pass, s, other),
         SetCall::Xor { .. } => unreachable!(),

@@ -1,6 +1,6 @@
 -- What a copy of one dict to another one leaves of that one, in the words of the plain containers.
-use Rattle.std.proofs.Common.{◌≡◌, ◌≢◌, ℕ, ◌<◌, ◌≤◌, le-ltb, Bool, true, false, List, [], ◌∷◌, map, length, Option, Some, None, refl, sym, ap, ◌∙◌, subst, inl, inr, get_or-set_same, get_or-set_other}
-use Rattle.std.specs.Prelude.{◌==◌, ◌||◌, slice_index_or, slice_set, if◌then◌else◌}
+use Rattle.std.proofs.Common.{◌≡◌, ℕ, ◌<◌, ◌≤◌, le-ltb, Bool, true, false, List, [], ◌∷◌, map, length, Some, refl, sym, ap, ◌∙◌, subst, inl, inr, get_or-set_same, get_or-set_other}
+use Rattle.std.specs.Prelude.{◌==◌, ◌||◌, slice_index_or, if◌then◌else◌}
 use Rattle.std.specs.List.{list_any}
 use Rattle.std.proofs.lemmas.Bool.{cases_eq}
 use Rattle.ft_model.specs.declared.call.Call.{Call}
@@ -8,20 +8,17 @@ use Rattle.ft_model.specs.declared.call.Call.TheVariants as call
 use Rattle.ft_model.specs.declared.call.DictCall.TheVariants as dict
 use Rattle.ft_model.specs.declared.content.Content.{Content}
 use Rattle.ft_model.specs.declared.content.Content.TheVariants as content
-use Rattle.ft_model.specs.declared.reply.Reply.TheVariants as reply
 use Rattle.ft_model.specs.declared.script.Kind.TheVariants as kind
 use Rattle.ft_model.specs.Answers.{after_write}
 use Rattle.ft_model.specs.Classes.{most_pairs}
 use Rattle.ft_model.specs.Contents.{DictContent, dict_copy}
-use Rattle.ft_model.specs.Tables.{StoredWorld, CanLackMemory, copy_leaves, copy_takes, no_table, passes_cap, takes_in, would_pass, after_stored}
+use Rattle.ft_model.specs.Tables.{StoredWorld, copy_leaves, copy_takes, no_table, passes_cap, takes_in, would_pass, after_stored}
 use Rattle.ft_model.specs.Worlds.{dict_at, length_of}
 use Rattle.ft_model.proofs.Copies.{length-pairs_from}
 use Rattle.ft_layout.specs.Containers.{StandsAs}
 use Rattle.ft_trace.specs.declared.Shape.{Shape}
 use Rattle.ft_trace.specs.declared.View.{View}
-use Rattle.ft_trace.specs.Acts.{has_lock}
 use Rattle.ft_trace.specs.Addresses.{containers_in}
-use Rattle.ft_trace.specs.Hands.{cursor_in}
 use Rattle.ft_trace.specs.Holds.{held, known}
 use Rattle.ft_trace.specs.Traces.{Possible}
 use Rattle.ft_trace.specs.Worlds.{kept_at, kind_in}

@@ -46,6 +46,16 @@ pub fn three(bank: &Bank, passes: Vec<Pass>) -> Option<(Pass, Pass, Pass)>
     Some((first, second, third))
 }
 
+/// The pass of a bank that has one, or `None` where it has none.
+pub fn only(bank: &Bank, passes: Vec<Pass>) -> Option<Pass>
+    requires { AreOpening bank.now 0 passes.items }
+    ensures { IfSome result (λ p. IsOpening bank.now 0 p) }
+{
+    let _ = bank;
+    let mut each = passes.into_iter();
+    each.next()
+}
+
 /// Has a pass announce that it is online; `false` where the write number is 0, which it never is.
 pub fn go_online(bank: &Bank, pass: &mut Pass) -> bool
     requires pass { IsPassOf bank.now pass.old }

@@ -1,4 +1,4 @@
-use Rattle.ft_keyed_tests.proofs.sets.first_wrong.Goals as goal
+use Rattle.ft_dict_tests.proofs.dicts.first_wrong.Goals as goal
 
 pub loop-place-preserved : goal.loop-place-preserved
 loop-place-preserved c objects =

@@ -1,0 +1,15 @@
+//! Calls on dicts of one bank, worked by hand, and what such tests share with those of sets. Beside the code of
+//! `ft_dict` the tests would have it proved a second time.
+#![tactic(auto)]
+
+#[cfg(test)]
+mod dicts;
+#[cfg(test)]
+mod looks;
+mod opened;
+mod rows;
+#[cfg(test)]
+mod takes;
+
+pub use crate::opened::{go_online, only, small, three};
+pub use crate::rows::{Wanted, four, is_made, reads, writes};

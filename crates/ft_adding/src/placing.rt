@@ -27,7 +27,15 @@ use ft_layout::Pair;
 use ft_search::{TableWords, mask_of, raise_version};
 
 /// Puts what a block counts, before the commit.
-pub fn put_counts(bank: &Bank, pass: &mut Pass, o: u32, table: Table, count: u64, fill: u64, next: u64)
+pub fn put_counts(
+    bank: &Bank,
+    pass: &mut Pass,
+    o: u32,
+    table: Table,
+    count: u64,
+    fill: u64,
+    next: u64,
+)
     requires pass { IsPassOf bank.now pass.old }
     requires writes { WritesEntries (shape_of bank.now) o table (view pass.old) }
     ensures pass { IsPassOf bank.now pass.new }

@@ -262,7 +262,6 @@ fn elements_stay_that_the_other_set_has_or_has_not(rt: HostRuntime) -> Result<()
 #[test]
 fn elements_of_another_set_go_last_in_their_order(rt: HostRuntime) -> Result<(), Fail> {
     let alloc = rt.alloc();
-    // The hash of -1 is that of -2; 2^61 - 1 has the hash of 0. A table of class 3 has room for four elements.
     let rows = vec![in alloc;
         (Call::Or, writes(Reply::Done, 0)),
         (Call::Items, reads(elements(alloc, &[])?, 1)),
@@ -274,33 +273,38 @@ fn elements_of_another_set_go_last_in_their_order(rt: HostRuntime) -> Result<(),
         (Call::Items, reads(elements(alloc, &[9, 5, -2])?, 6)),
         (Call::OrItself, writes(Reply::Done, 6)),
         (Call::Items, reads(elements(alloc, &[9, 5, -2])?, 7)),
-        (Call::Add(-1), writes(Reply::Done, 7)),
-        (Call::AddOther(2305843009213693951), writes(Reply::Done, 8)),
-        (Call::AddOther(0), writes(Reply::Done, 9)),
-        (Call::Or, writes(Reply::Done, 10)),
+        (Call::Discard(5), writes(Reply::Done, 7)),
+        (Call::Or, writes(Reply::Done, 8)),
+        (Call::Items, reads(elements(alloc, &[9, -2, 5])?, 9)),
+    ]?;
+    assert_eq!(rt; in_new_bank(alloc, 4, 4, rows.as_slice())?, None);
+    Ok(())
+}
+
+#[test]
+fn many_elements_of_another_set_take_a_greater_table(rt: HostRuntime) -> Result<(), Fail> {
+    let alloc = rt.alloc();
+    // The hash of -1 is that of -2; 2^61 - 1 has the hash of 0. A table of class 3 has room for four elements.
+    let rows = vec![in alloc;
+        (Call::AddOther(5), writes(Reply::Done, 0)),
+        (Call::AddOther(-2), writes(Reply::Done, 1)),
+        (Call::AddOther(9), writes(Reply::Done, 2)),
+        (Call::AddOther(2305843009213693951), writes(Reply::Done, 3)),
+        (Call::AddOther(0), writes(Reply::Done, 4)),
+        (Call::Add(9), writes(Reply::Done, 5)),
+        (Call::Add(-1), writes(Reply::Done, 6)),
+        (Call::Or, writes(Reply::Done, 7)),
         (
             Call::Items,
-            reads(
-                elements(alloc, &[9, 5, -2, -1, 2305843009213693951, 0])?,
-                11
-            )
+            reads(elements(alloc, &[9, -1, 5, -2, 2305843009213693951, 0])?, 8)
         ),
-        (Call::Discard(5), writes(Reply::Done, 11)),
-        (Call::Or, writes(Reply::Done, 12)),
+        (Call::Clear, writes(Reply::Done, 8)),
+        (Call::Or, writes(Reply::Done, 9)),
         (
             Call::Items,
-            reads(
-                elements(alloc, &[9, -2, -1, 2305843009213693951, 0, 5])?,
-                13
-            )
+            reads(elements(alloc, &[5, -2, 9, 2305843009213693951, 0])?, 10)
         ),
-        (Call::Clear, writes(Reply::Done, 13)),
-        (Call::Or, writes(Reply::Done, 14)),
-        (
-            Call::Items,
-            reads(elements(alloc, &[5, -2, 9, 2305843009213693951, 0])?, 15)
-        ),
-        (Call::Eq, reads(Reply::Truth(true), 15)),
+        (Call::Eq, reads(Reply::Truth(true), 10)),
     ]?;
     assert_eq!(rt; in_new_bank(alloc, 4, 4, rows.as_slice())?, None);
     Ok(())

@@ -1,0 +1,12 @@
+//! Scripts and what their calls are answered by an engine, as the manual, the order of turns and the sizes of tables
+//! say it, worked by hand: tests alone.
+#![tactic(auto)]
+
+#[cfg(test)]
+mod keys;
+#[cfg(test)]
+mod lists;
+#[cfg(test)]
+mod sections;
+#[cfg(test)]
+mod tables;

@@ -1,0 +1,18 @@
+//! Scripts whose threads are callers of one engine, in one thread and in orders of turns that are given: what each
+//! caller is answered, and that all of it is a legal history. Tests alone stand on this crate.
+#![tactic(auto)]
+
+mod cases;
+#[cfg(test)]
+mod giving_up;
+#[cfg(test)]
+mod looking;
+#[cfg(test)]
+mod many;
+#[cfg(test)]
+mod orders;
+mod starting;
+mod turns;
+mod workers;
+
+pub use crate::cases::{Case, comes_out};

@@ -30,6 +30,7 @@ only_tried v o f s free keeps =
       learnt = refl;
       lists = refl;
       floor = refl;
+      since = refl;
       writes = λ p. refl;
       committed = λ p. refl;
       emptied = λ p. refl;

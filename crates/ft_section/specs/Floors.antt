@@ -5,8 +5,10 @@ use Rattle.ft_section.specs.declared.answers.Began.{Began}
 use Rattle.ft_section.specs.declared.answers.Began.TheVariants as began
 use Rattle.ft_section.specs.declared.answers.Got.{Got}
 use Rattle.ft_section.specs.declared.answers.Got.TheVariants as got
+use Rattle.ft_section.specs.declared.answers.Objects.{Objects}
 use Rattle.ft_section.specs.declared.answers.Resumed.{Resumed}
 use Rattle.ft_section.specs.declared.answers.Resumed.TheVariants as resumed
+use Rattle.ft_section.specs.Takings.{lower_of, upper_of}
 use Rattle.ft_trace.specs.declared.View.{View}
 use Rattle.ft_trace.specs.Acts.{has_lock, floor_words}
 use Rattle.ft_trace.specs.Addresses.{Word, counter, lock_of, at, containers_in}
@@ -37,6 +39,11 @@ first_owned lower upper v = owner_or lower (owner_of lower v) (owner_or upper (o
 abbrev pub got_by : Option (ℕ × ℕ) → Got
 got_by None = got.Have
 got_by (Some found) = got.NotYet found.0 found.1
+
+-- whoever needs the locks of these containers and has the floor is answered what the lock words known say
+abbrev pub KnewOwners : Objects → View → Got → Type 0
+KnewOwners objects v answer =
+    v.has_floor ≡ true → answer ≡ got_by (first_owned (lower_of objects) (upper_of objects) v)
 
 -- at the number that the counter has
 abbrev pub began_by : ℕ → Option (ℕ × ℕ) → Began

@@ -1,11 +1,11 @@
 -- What taking locks and letting them go leaves of what a pass knows.
-use Rattle.std.specs.Prelude.{◌≡◌, ◌<◌, ◌≤◌, ◌+◌, ◌==◌, ◌≢◌, ◌++◌, ℕ, Bool, true, false, List, [], ◌∷◌, map, Option, Some, None, if◌then◌else◌}
+use Rattle.std.specs.Prelude.{◌≡◌, ◌<◌, ◌≤◌, ◌+◌, ◌==◌, ◌≢◌, ◌||◌, ◌++◌, ℕ, Bool, true, false, List, [], ◌∷◌, map, Option, Some, None, if◌then◌else◌}
 use Rattle.ft_bank.specs.declared.bank.Bank.{Bank}
 use Rattle.ft_bank.specs.declared.pass.Pass.{Pass}
 use Rattle.ft_bank.specs.declared.sections.OpenSection.{OpenSection}
 use Rattle.ft_bank.specs.Passes.{shape_of, view, IsPassOf}
 use Rattle.ft_bank.specs.declared.sections.Taking.{Taking}
-use Rattle.ft_bank.specs.Sections.{Stack, stack_of, noted_in, suspended, nothing_taken}
+use Rattle.ft_bank.specs.Sections.{Stack, stack_of, noted_in, taken_in, suspended, nothing_taken}
 use Rattle.ft_section.specs.Ready.{lock_count, AreBegun}
 use Rattle.ft_trace.specs.declared.Act.{Act}
 use Rattle.ft_trace.specs.declared.Act.TheVariants.{Lock}
@@ -13,6 +13,7 @@ use Rattle.ft_trace.specs.declared.Snap.{Snap}
 use Rattle.ft_trace.specs.declared.View.{View}
 use Rattle.ft_trace.specs.Addresses.{containers_in}
 use Rattle.ft_trace.specs.Acts.{has_lock, is_writing, has_committed, has_emptied, stage, announces, used, debt, owes, flight}
+use Rattle.ft_trace.specs.Floors.{at_floor}
 use Rattle.ft_trace.specs.Hands.{cursor_in}
 use Rattle.ft_trace.specs.Holds.{held, known}
 use Rattle.ft_trace.specs.Sections.{begun}
@@ -34,6 +35,7 @@ pub record OnlyLocked (v w : View) : Type 0 where
   pub learnt : w.learnt ≡ v.learnt
   pub lists : w.lists ≡ v.lists
   pub floor : w.has_floor ≡ v.has_floor
+  pub since : at_floor w.log ≡ at_floor v.log
   pub writes : (p : ℕ) → is_writing p w.log ≡ is_writing p v.log
   pub committed : (p : ℕ) → has_committed p w.log ≡ has_committed p v.log
   pub emptied : (p : ℕ) → has_emptied p w.log ≡ has_emptied p v.log
@@ -94,6 +96,14 @@ with_own s own = record s { own = own }
 -- the stack is the same, and the pass is of the same bank
 abbrev pub KeepsStack : Pass → Pass → Type 0
 KeepsStack p q = (q.seat.table_id ≡ p.seat.table_id) × (stack_of q ≡ stack_of p)
+
+-- Which lock a call that has to wait has taken itself in this try: that of the lower container, where the pass lacked it
+-- and it is the other one that a step found with another pass. Beside it the call keeps what it had taken itself in
+-- earlier tries. (profile)
+abbrev pub KeepsLower : ℕ → ℕ → Pass → Pass → Type 0
+KeepsLower lower o p q =
+    (r : ℕ) → taken_in r (stack_of q).own
+    ≡ taken_in r (stack_of p).own + (if (o == lower) || has_lock lower (view p).log then 0 else at_one lower r)
 
 -- the pass that a call waited for first, where it has now found this one
 abbrev pub first_mark : Option ℕ → ℕ → ℕ

@@ -7,10 +7,11 @@ ghost use Rattle.ft_bank.specs.Sections.{stack_of, nothing_taken};
 ghost use Rattle.ft_model.specs.declared.reply.Reply.TheVariants as reply;
 ghost use Rattle.ft_section.specs.Answers.{IfEntered, IfBeginWaits};
 ghost use Rattle.ft_section.specs.Floors.{began_by, first_owned, floor_word};
-ghost use Rattle.ft_section.specs.Locking.{OnlyLocked, KeepsLocks, FoundOwner, with_own, waiting};
-ghost use Rattle.ft_section.specs.Ready.{IsReady, IsMaking, IsWaiting, MayTry, MayResume};
+ghost use Rattle.ft_section.specs.Locking.{OnlyLocked, KeepsLocks, FoundOwner};
+ghost use Rattle.ft_section.specs.Ready.{IsReady, IsMaking, MayTry, MayResume};
 ghost use Rattle.ft_section.specs.Sectioning.{IsSaid, AreNoted, begin_of, answered_view};
 ghost use Rattle.ft_section.specs.Takings.{IsOf, AreIn, HasLocks, lower_of, upper_of};
+ghost use Rattle.ft_section.specs.Trying.{WaitsFor};
 ghost use Rattle.ft_trace.specs.declared.Act.{Act};
 ghost use Rattle.ft_trace.specs.declared.View.{View};
 ghost use Rattle.ft_trace.specs.Acts.{seen_writes};
@@ -106,8 +107,7 @@ pub fn try_begin(bank: &Bank, pass: &mut Pass, objects: Objects) -> Began
     ensures resume { IfEntered result (λ s. MayResume bank.now pass.new) }
     ensures locked { IfBeginWaits result (λ o q. OnlyLocked (view pass.old) (view pass.new)) }
     ensures found { IfBeginWaits result (λ o q. IsOf o objects × FoundOwner o q (view pass.old) (view pass.new)) }
-    ensures waiting { IfBeginWaits result (λ o q. IsWaiting bank.now pass.new objects
-        × (stack_of pass.new ≡ waiting (with_own (stack_of pass.old) (stack_of pass.new).own) q)) }
+    ensures waiting { IfBeginWaits result (λ o q. WaitsFor bank.now objects o q pass.old pass.new) }
     ensures known { (view pass.old).has_floor ≡ true → result ≡ began_by (floor_word counter (view pass.old))
         (first_owned (lower_of objects) (upper_of objects) (view pass.old)) }
 {

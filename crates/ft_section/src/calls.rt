@@ -6,10 +6,11 @@ ghost use Rattle.ft_bank.specs.Sections.{stack_of, nothing_taken, taken_in};
 ghost use Rattle.ft_section.specs.declared.answers.Objects.{Objects};
 ghost use Rattle.ft_section.specs.Answers.{IfHave, IfNotYet};
 ghost use Rattle.ft_section.specs.Locking.{OnlyLocked, KeepsLocks, FoundOwner, with_own, waiting, first_mark, marks_more};
-ghost use Rattle.ft_section.specs.Ready.{IsInCall, IsMarked, AreSuspended, IsMaking, IsWaiting, MayTry, MayResume, lock_count};
-ghost use Rattle.ft_section.specs.Floors.{FindsSame, first_owned, got_by};
+ghost use Rattle.ft_section.specs.Ready.{IsInCall, IsMarked, AreSuspended, IsMaking, MayTry, MayResume, lock_count};
+ghost use Rattle.ft_section.specs.Floors.{FindsSame, KnewOwners};
 ghost use Rattle.ft_section.specs.Sectioning.{AreNoted};
-ghost use Rattle.ft_section.specs.Takings.{lower_of, upper_of, IsOf, AreIn, IsOwnFor, HasLocks};
+ghost use Rattle.ft_section.specs.Takings.{IsOf, AreIn, HasLocks};
+ghost use Rattle.ft_section.specs.Trying.{HasTaken, WaitsFor};
 ghost use Rattle.ft_trace.specs.Addresses.{containers_in};
 ghost use Rattle.ft_trace.specs.Acts.{has_lock};
 
@@ -66,13 +67,11 @@ pub fn take_for(bank: &Bank, pass: &mut Pass, objects: Objects) -> Got
     ensures locked { OnlyLocked (view pass.old) (view pass.new) }
     ensures making { IfHave result (IsMaking bank.now pass.new) }
     ensures has { IfHave result (HasLocks (view pass.new) objects × KeepsLocks (view pass.old) (view pass.new)) }
-    ensures took { IfHave result (stack_of pass.new ≡ with_own (stack_of pass.old) (stack_of pass.new).own) }
+    ensures took { IfHave result (HasTaken objects pass.old pass.new) }
     ensures noted { IfHave result (AreNoted objects (stack_of pass.new).own) }
     ensures found { IfNotYet result (λ o q. IsOf o objects × FoundOwner o q (view pass.old) (view pass.new)) }
-    ensures waiting { IfNotYet result (λ o q. IsWaiting bank.now pass.new objects
-        × (stack_of pass.new ≡ waiting (with_own (stack_of pass.old) (stack_of pass.new).own) q)) }
-    ensures known { (view pass.old).has_floor ≡ true →
-        result ≡ got_by (first_owned (lower_of objects) (upper_of objects) (view pass.old)) }
+    ensures waiting { IfNotYet result (λ o q. WaitsFor bank.now objects o q pass.old pass.new) }
+    ensures known { KnewOwners objects (view pass.old) result }
     ensures finds { IfHave result (FindsSame (view pass.old) (view pass.new)) }
 {
     let (lower, upper) = objects.in_order();

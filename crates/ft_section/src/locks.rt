@@ -5,7 +5,7 @@ ghost use Rattle.ft_bank.specs.declared.sections.Taking.{Taking};
 ghost use Rattle.ft_bank.specs.Passes.{shape_of, view, IsPassOf};
 ghost use Rattle.ft_bank.specs.Sections.{Stack, stack_of, taken_in, noted_in};
 ghost use Rattle.ft_section.specs.Ready.{IsInCall, lock_count};
-ghost use Rattle.ft_section.specs.Locking.{Took, OnlyLocked, KeepsLocks, FoundOwner, KeepsStack, at_one, with_own};
+ghost use Rattle.ft_section.specs.Locking.{Took, OnlyLocked, KeepsLocks, FoundOwner, KeepsLower, KeepsStack, at_one, with_own};
 ghost use Rattle.ft_section.specs.Floors.{FindsSame, first_found, first_owned, owner_found, owner_of, owner_or};
 ghost use Rattle.ft_section.specs.Takings.{IsOwnFor};
 ghost use Rattle.ft_trace.specs.Addresses.{containers_in};
@@ -107,6 +107,8 @@ fn take_lower(bank: &Bank, pass: &mut Pass) -> Result<(), (Object, Owner)>
     ensures locked { OnlyLocked (view pass.old) (view pass.new) }
     ensures keeps { KeepsLocks (view pass.old) (view pass.new) }
     ensures stack { (took : Bool) × (stack_of pass.new ≡ with_own (stack_of pass.old) (record (stack_of pass.old).own { took_lower = took })) }
+    ensures noted { OnOk result ((r : ℕ) → taken_in r (stack_of pass.new).own ≡ taken_in r (stack_of pass.old).own
+        + (if has_lock (stack_of pass.old).own.lower (view pass.old).log then 0 else at_one (stack_of pass.old).own.lower r)) }
     ensures has { OnOk result (has_lock (stack_of pass.old).own.lower (view pass.new).log ≡ true) }
     ensures none { OnErr result (stack_of pass.new ≡ stack_of pass.old) }
     ensures lacked { OnErr result (has_lock (stack_of pass.old).own.lower (view pass.old).log ≡ false) }
@@ -172,6 +174,7 @@ pub(crate) fn take_both(
     ensures has { OnOk result ((has_lock lower (view pass.new).log ≡ true) × (has_lock upper (view pass.new).log ≡ true)) }
     ensures once { lower ≡ upper → (stack_of pass.new).own.took_upper ≡ false }
     ensures none { OnErr result ((stack_of pass.new).own.took_upper ≡ false) }
+    ensures kept { IfErr result (λ e. KeepsLower lower e.0 pass.old pass.new) }
     ensures lacked { OnErr result ((has_lock lower (view pass.old).log ≡ false) ⊎ (has_lock upper (view pass.old).log ≡ false)) }
     ensures found { IfErr result (λ e. ((e.0 ≡ lower) ⊎ (e.0 ≡ upper)) × FoundOwner e.0 e.1 (view pass.old) (view pass.new)) }
     ensures known { (view pass.old).has_floor ≡ true → first_found result ≡ first_owned lower upper (view pass.old) }

@@ -6,7 +6,7 @@ ghost use Rattle.ft_bank.specs.Sections.{stack_of, taken_in, nothing_taken};
 ghost use Rattle.ft_section.specs.declared.answers.Resumed.TheVariants as resumed;
 ghost use Rattle.ft_section.specs.Answers.{IfBack, IfStillWaits};
 ghost use Rattle.ft_section.specs.Floors.{first_owned, resumed_by};
-ghost use Rattle.ft_section.specs.Locking.{OnlyLocked, FoundOwner, TakenUp, with_own, waiting};
+ghost use Rattle.ft_section.specs.Locking.{OnlyLocked, FoundOwner, KeepsLower, TakenUp, with_own, waiting};
 ghost use Rattle.ft_section.specs.Ready.{HasTop, IsReady, MayResume};
 
 use crate::answers::Resumed;
@@ -42,6 +42,8 @@ pub fn resume(bank: &Bank, pass: &mut Pass) -> Resumed
     ensures needed { IfStillWaits result (λ o q. (outer : List OpenSection) × (top : OpenSection) ×
         ((stack_of pass.old).sections ≡ outer ++ top ∷ []) × ((o ≡ top.locks.lower) ⊎ (o ≡ top.locks.upper))) }
     ensures found { IfStillWaits result (λ o q. FoundOwner o q (view pass.old) (view pass.new)) }
+    ensures kept { IfStillWaits result (λ o q. (outer : List OpenSection) (top : OpenSection) →
+        (stack_of pass.old).sections ≡ outer ++ top ∷ [] → KeepsLower top.locks.lower o pass.old pass.new) }
     ensures lacked { IfStillWaits result (λ o q. HasTop pass.old → ⊥) }
     ensures may { IfStillWaits result (λ o q. MayResume bank.now pass.new) }
     ensures known { (view pass.old).has_floor ≡ true → (outer : List OpenSection) (top : OpenSection) →

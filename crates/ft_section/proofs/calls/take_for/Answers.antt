@@ -1,8 +1,9 @@
-use Rattle.std.proofs.Common.{◌≡◌, inl, inr, ⊎_elim, ap, sym, ◌∙◌}
+use Rattle.std.proofs.Common.{◌≡◌, ℕ, inl, inr, ⊎_elim, ap, sym, subst, ◌∙◌}
 use Rattle.ft_bank.specs.Passes.{view}
 use Rattle.ft_bank.specs.declared.sections.Taking.{Taking}
-use Rattle.ft_bank.specs.Sections.{Stack, stack_of}
-use Rattle.ft_section.specs.Locking.{with_own, waiting, first_mark}
+use Rattle.ft_bank.specs.Sections.{Stack, stack_of, taken_in}
+use Rattle.ft_section.specs.Locking.{KeepsLower, with_own, waiting, first_mark}
+use Rattle.ft_section.specs.Floors.{first_owned, got_by}
 use Rattle.ft_section.proofs.Goings.{found_then}
 use Rattle.ft_section.proofs.Releases.{only_then}
 use Rattle.ft_section.proofs.calls.take_for.Goals as goal
@@ -27,13 +28,16 @@ returns-in-Err-clause-waiting c =
     let named = c.take_both.ensures.containers in
     let lower = ap (λ (t : Taking). t.lower) own ∙ (named.0 ∙ order.0) in
     let upper = ap (λ (t : Taking). t.upper) own ∙ (named.1 ∙ order.1) in
-    let took = ap (λ (t : Taking). t.took_upper) own ∙ c.in-Err.ensures.none in (
-      record {
+    let took = ap (λ (t : Taking). t.took_upper) own ∙ c.in-Err.ensures.none in
+    record {
+      waits = record {
         inside = c.wait.ensures.inside;
         owner = first_mark (stack_of c.take_both.new.pass).mark c.in-Err.owner;
         mark = ap (λ (s : Stack). s.mark) stack;
         suspended = c.wait.ensures.suspended;
         own = inr (lower, upper, took);
-      },
-      stack ∙ ap (λ (s : Stack). waiting s c.in-Err.owner) (c.take_both.ensures.stack ∙ ap (λ (t : Taking). with_own (stack_of c.args.pass.now) t) (sym own)),
-    )
+      };
+      stack = stack ∙ ap (λ (s : Stack). waiting s c.in-Err.owner) (c.take_both.ensures.stack ∙ ap (λ (t : Taking). with_own (stack_of c.args.pass.now) t) (sym own));
+      kept = subst (λ (l : ℕ). KeepsLower l c.in-Err.o c.args.pass.now c.wait.new.pass) order.0 (λ r. ap (taken_in r) own ∙ c.in-Err.ensures.kept r);
+      known = λ has. ap got_by (c.in-Err.ensures.known has ∙ (λ i. first_owned (order.0 i) (order.1 i) (view c.args.pass.now)));
+    }

@@ -7,7 +7,7 @@ use Rattle.ft_bank.specs.declared.sections.OpenSection.{OpenSection}
 use Rattle.ft_bank.specs.declared.sections.Taking.{Taking}
 use Rattle.ft_bank.specs.Passes.{view}
 use Rattle.ft_bank.specs.Sections.{Stack, stack_of, taken_in, nothing_taken}
-use Rattle.ft_section.specs.Locking.{OnlyLocked, marks_more}
+use Rattle.ft_section.specs.Locking.{OnlyLocked, KeepsLower, marks_more}
 use Rattle.ft_section.specs.Ready.{IsMarked}
 use Rattle.ft_section.specs.Takings.{HasBoth}
 use Rattle.ft_section.proofs.Goings.{found_then}
@@ -156,3 +156,10 @@ pub returns-in-Err-clause-none : goal.returns-in-Err-clause-none
 returns-in-Err-clause-none c nil =
     let split = sym (c.copied-sections.ensures ∙ c.sections.ensures) ∙ c.pop.ensures.some c.in-Some.top c.in-Some.is in
     absurd (push_some c.pop.new.self c.in-Some.top (sym split ∙ nil))
+
+pub returns-in-Err-clause-kept : goal.returns-in-Err-clause-kept
+returns-in-Err-clause-kept c outer top cut =
+    let split = sym (c.copied-sections.ensures ∙ c.sections.ensures) ∙ c.pop.ensures.some c.in-Some.top c.in-Some.is in
+    let same = same_from_push c.pop.new.self outer c.in-Some.top top (sym split ∙ cut) in
+    let own = ap (λ (s : Stack). s.own) c.wait.ensures.stack in
+    subst (λ (s : OpenSection). KeepsLower s.locks.lower c.in-Err.o c.args.pass.now c.wait.new.pass) same.1 (λ r. ap (taken_in r) own ∙ c.in-Err.ensures.kept r)

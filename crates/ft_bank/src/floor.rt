@@ -4,7 +4,7 @@ ghost use Rattle.std.specs.Prelude.{◌≡◌, ◌≢◌, ◌<◌, ℕ, true, []
 ghost use Rattle.ft_trace.specs.declared.Act.TheVariants.{ReadCounter, TakeFloor};
 ghost use Rattle.ft_trace.specs.declared.Snap.{Snap};
 ghost use Rattle.ft_trace.specs.Acts.{noted, both, sender, note, floor_words};
-ghost use Rattle.ft_trace.specs.Traces.{IsFree};
+ghost use Rattle.ft_trace.specs.Traces.{IsFree, IsQuiet};
 ghost use Rattle.ft_bank.specs.Retired.{TakesOver};
 ghost use Rattle.ft_bank.specs.Floors.{rests, carried, IsRestingOf, AreTokensOf, stack_at_rest};
 
@@ -19,9 +19,11 @@ impl Bank {
     ghost use Rattle.ft_bank.specs.Passes.{shape_of, view, IsPassOf, Did};
     ghost use Rattle.ft_bank.specs.Sections.{stack_of};
 
-    /// Gives all tokens of a pass away, which rests from then on.
+    /// Gives all tokens of a pass away, which rests from then on: it is in the midst of no write, and of no taking
+    /// or giving of a table.
     pub fn rest(&self, pass: Pass) -> (Resting, Tokens)
         requires pass { IsPassOf self.now pass }
+        requires quiet { IsQuiet (view pass) }
         ensures resting { IsRestingOf self.now result.0 × (rests result.0 ≡ sender (view pass).tokens (view pass)) }
         ensures sections { stack_at_rest result.0 ≡ stack_of pass }
         ensures tokens { AreTokensOf self.now result.1 × (carried result.1 ≡ note (view pass).tokens (view pass)) }

@@ -156,7 +156,7 @@ module _ (k : Shape) (es : List Event) (id : ℕ) (v : View) where
   tells_own (TookOver hs) found words old has = old has
   tells_own act found words old has = (subst (λ (ws : List ℕ). Reports act (slice_index ws (at k (place act)))) (sym (words has)) found, old has)
 
-by_given : (b c : Bool) → cond b c false ≡ true → c ≡ true
+pub by_given : (b c : Bool) → cond b c false ≡ true → c ≡ true
 by_given true c e = e
 by_given false c e = off e
 

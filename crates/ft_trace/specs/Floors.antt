@@ -1,14 +1,14 @@
 -- The floor: one pass has all tokens, so no other may take a step, and the words are those that its log gives.
-use Rattle.std.specs.Prelude.{◌≡◌, ◌≢◌, ℕ, true, List, [], ◌∷◌, slice_index}
+use Rattle.std.specs.Prelude.{◌≡◌, ◌≢◌, ℕ, ◌%◌, ◌<◌, ◌==◌, true, false, cond, List, [], ◌∷◌, slice_index}
 use Rattle.ft_trace.specs.declared.Act.{Act}
 use Rattle.ft_trace.specs.declared.Act.TheVariants.{TakeFloor, TookOver}
 use Rattle.ft_trace.specs.declared.Shape.{Shape}
 use Rattle.ft_trace.specs.declared.View.{View}
-use Rattle.ft_trace.specs.Addresses.{at}
-use Rattle.ft_trace.specs.Acts.{place, Reports, floor_words}
+use Rattle.ft_trace.specs.Addresses.{lock_of, version_of, containers_in, at}
+use Rattle.ft_trace.specs.Acts.{place, Reports, has_lock, is_writing, floor_words}
 use Rattle.ft_trace.specs.Entries.{total}
 use Rattle.ft_trace.specs.Laws.{HasView}
-use Rattle.ft_trace.specs.Traces.{Event, run, Valid}
+use Rattle.ft_trace.specs.Traces.{Event, run, Valid, IsQuiet, Possible}
 
 -- the words of the bank when the pass last took the floor
 abbrev pub at_floor_next : Act → List ℕ → List ℕ
@@ -52,3 +52,50 @@ abbrev pub FloorTells : Type 0
 FloorTells =
     (k : Shape) (es : List Event) → Valid k es → (j : ℕ) (u : View) → HasView k es j u → u.has_floor ≡ true
     → FoundAsKnown k u.number u.log
+
+-- the words of the bank when the pass last took the floor
+abbrev pub at_floor_next : Act → List ℕ → List ℕ
+at_floor_next (TakeFloor f s) ws = s.words
+at_floor_next act ws = ws
+
+abbrev pub at_floor : List Act → List ℕ
+at_floor [] = []
+at_floor (a ∷ l) = at_floor_next a (at_floor l)
+
+-- the lock word n, where it names another pass than the one with this number, and else 0
+abbrev pub lock_of_another : ℕ → ℕ → ℕ
+lock_of_another number n = cond (n == number) 0 n
+
+-- while the pass has the floor, whoever else has a lock has had it since the floor was taken, and no one else has let
+-- go of one
+abbrev pub KeepsOwners : Shape → View → Type 0
+KeepsOwners k u =
+    u.has_floor ≡ true → (o : ℕ) → o < containers_in k → has_lock o u.log ≡ false
+    → slice_index (floor_words k u.number u.log) (at k (lock_of o))
+    ≡ lock_of_another u.number (slice_index (at_floor u.log) (at k (lock_of o)))
+
+abbrev pub OwnersStay : Type 0
+OwnersStay = (k : Shape) (es : List Event) → Valid k es → (j : ℕ) (u : View) → HasView k es j u → KeepsOwners k u
+
+-- the same of what a pass may know
+abbrev pub KnownOwnersStay : Type 0
+KnownOwnersStay = (v : View) → Possible v → KeepsOwners v.shape v
+
+-- a pass with no token is quiet: it gave its last one away so, and takes no step without
+abbrev pub RestingPassesAreQuiet : Type 0
+RestingPassesAreQuiet =
+    (k : Shape) (es : List Event) → Valid k es → (j : ℕ) (u : View) → HasView k es j u → u.tokens ≡ 0 → IsQuiet u
+
+-- while the pass has the floor, each version is even but those that the pass itself has made odd
+abbrev pub HasEvenVersions : Shape → View → Type 0
+HasEvenVersions k u =
+    u.has_floor ≡ true → (o : ℕ) → o < containers_in k → is_writing o u.log ≡ false
+    → slice_index (floor_words k u.number u.log) (at k (version_of o)) % 2 ≡ 0
+
+abbrev pub FloorVersionsAreEven : Type 0
+FloorVersionsAreEven =
+    (k : Shape) (es : List Event) → Valid k es → (j : ℕ) (u : View) → HasView k es j u → HasEvenVersions k u
+
+-- the same of what a pass may know
+abbrev pub KnownVersionsAreEven : Type 0
+KnownVersionsAreEven = (v : View) → Possible v → HasEvenVersions v.shape v

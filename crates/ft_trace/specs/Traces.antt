@@ -258,9 +258,14 @@ IsFree v =
     × (owes v.log ≡ 0)
     × (announces v.log ≡ 0)
 
+-- the pass writes no container, has no fresh table in hand, and is in the midst of no taking or giving
+abbrev pub IsQuiet : View → Type 0
+IsQuiet v =
+    ((o : ℕ) → is_writing o v.log ≡ false) × ((t : ℕ) → stage t v.log ≢ 1) × (flight v.log ≡ 0)
+
 -- An event of a view that stands where the event says it does: an action that reports what was there, and that the pass
 -- may do, which has a token; a fork by the first pass, which has parts, tokens and calls for another; a join of a pass
--- that is free, or of a note; a note of a pass, with some of its tokens.
+-- that is free, or of a note; a note of a pass, with some of its tokens, and who gives the last one is quiet.
 abbrev pub Might : Shape → Moment → List Call → Event → Type 0
 Might k m cs (did id v a) =
     (get_elem? m.views id ≡ some v) × (v.number ≢ 0) × Reports a (word_in k m (place a)) × May k m cs v a
@@ -271,7 +276,9 @@ Might k m cs (forked id v) =
 Might k m cs (joined id v other w) =
     (get_elem? m.views id ≡ some v) × (other ≢ id) × (get_elem? m.views other ≡ some w) × (v.number ≢ 0)
     × (w.next ≡ 0) × IsFree w
-Might k m cs (sent id v given) = (get_elem? m.views id ≡ some v) × (v.number ≢ 0) × (given ≤ v.tokens)
+Might k m cs (sent id v given) =
+    (get_elem? m.views id ≡ some v) × (v.number ≢ 0) × (given ≤ v.tokens)
+    × (given ≡ v.tokens → 0 < v.tokens → IsQuiet v)
 
 abbrev pub Valid : Shape → List Event → Type 0
 Valid k [] = Fits k

@@ -1,7 +1,7 @@
 //! What notes, joins and the floor give: laws on every valid trace, for callers that meet and for one caller
 //! that holds all passes.
 ghost use Rattle.ft_trace.specs.Notes.{SeenIsLow, SeenIsHandedOn, LoadsSeeAll};
-ghost use Rattle.ft_trace.specs.Floors.{TokensAreAll, AllTokensAreAlone, FloorStands, FloorTells};
+ghost use Rattle.ft_trace.specs.Floors.{TokensAreAll, AllTokensAreAlone, FloorStands, FloorTells, OwnersStay, KnownOwnersStay, RestingPassesAreQuiet, FloorVersionsAreEven, KnownVersionsAreEven};
 
 /// A pass has seen no more writes than the counter says: its next load of the counter, and its next write,
 /// gives at least what it has seen.
@@ -37,4 +37,22 @@ pub fn floor_stands()
 /// Who has the floor knows what each of its steps finds.
 pub fn floor_tells()
     ensures { FloorTells }
+{}
+
+/// Whoever else has a lock has had it since the floor was taken.
+pub fn owners_stay()
+    ensures traces { OwnersStay }
+    ensures passes { KnownOwnersStay }
+{}
+
+/// A pass with no token writes no container, has no fresh table in hand, and is in the midst of no taking or
+/// giving.
+pub fn resting_passes_are_quiet()
+    ensures { RestingPassesAreQuiet }
+{}
+
+/// Who has the floor finds each version even but those that it has made odd itself.
+pub fn floor_versions_are_even()
+    ensures traces { FloorVersionsAreEven }
+    ensures passes { KnownVersionsAreEven }
 {}

@@ -10,15 +10,6 @@ use Rattle.ft_trace.specs.Entries.{total}
 use Rattle.ft_trace.specs.Laws.{HasView}
 use Rattle.ft_trace.specs.Traces.{Event, run, Valid, IsQuiet, Possible}
 
--- the words of the bank when the pass last took the floor
-abbrev pub at_floor_next : Act → List ℕ → List ℕ
-at_floor_next (TakeFloor f s) ws = s.words
-at_floor_next act ws = ws
-
-abbrev pub at_floor : List Act → List ℕ
-at_floor [] = []
-at_floor (a ∷ l) = at_floor_next a (at_floor l)
-
 -- there are as many tokens as passes
 abbrev pub TokensAreAll : Type 0
 TokensAreAll =

@@ -50,15 +50,15 @@ some_same x y e = cc
 pub tried_of : (b : Bank) (p q : Pass) (hands : List (Option Cursor)) (called : Call) (objects : Objects) → IsPlain called → objects_of hands called ≡ Some objects → (result : Step) → SectionsAfter b objects p q result → Outcome called objects (view p) (view q) result → IsTryOf b hands called p q result
 tried_of b p q hands called objects plain names (step.Done said stamp) after came = record {
   entry = came;
-  resume = after.resume;
+  resume = after.0.resume;
   top = λ begins. absurd (true≢false (sym begins ∙ plain.begins));
-  marks = ap marks_in after.stack ∙ sym (plain.marks (marks_in (stack_of p)));
-  mark = ap (λ (s : Stack). s.mark) after.stack;
+  marks = ap marks_in after.0.stack ∙ sym (plain.marks (marks_in (stack_of p)));
+  mark = ap (λ (s : Stack). s.mark) after.0.stack;
   ends = plain.ends (marks_in (stack_of p)) said;
 }
-tried_of b p q hands called objects plain names (step.NotYet o owner) after came = (objects, names, record { entry = only_nothing (view p) (view q) came.0; waits = after.0; stack = after.1; found = (came.1, came.2) })
-tried_of b p q hands called objects plain names (step.Moved first second) after came = (objects, names, record { entry = came; gone = after })
-tried_of b p q hands called objects plain names step.NoMemory after came = record { entry = came; gone = after }
+tried_of b p q hands called objects plain names (step.NotYet o owner) after came = (objects, names, record { entry = only_nothing (view p) (view q) came.0; waits = after.waits; stack = after.stack; found = (came.1, came.2) })
+tried_of b p q hands called objects plain names (step.Moved first second) after came = (objects, names, record { entry = came; gone = after.0 })
+tried_of b p q hands called objects plain names step.NoMemory after came = record { entry = came; gone = after.0 }
 
 -- what was found after loads was found after what came before them
 found_before : (u v w : View) (o q : ℕ) (part : List Act) → v.log ≡ part ++ u.log → v.number ≡ u.number → FoundOwner o q v w → FoundOwner o q u w

@@ -25,7 +25,7 @@ use Rattle.ft_bank.specs.Tables.{name_of}
 use Rattle.ft_bank.specs.Whole.{OnlyLoaded, SamePass, Wrote, hand_after}
 use Rattle.ft_bank.proofs.Whole.{same_pass, pass_then}
 use Rattle.ft_section.specs.Ready.{IsStill, IsMaking}
-use Rattle.ft_section.specs.Trying.{HasLetGo, SectionsAfter}
+use Rattle.ft_section.specs.Trying.{HasHadLocks, SectionsAfter}
 use Rattle.ft_section.proofs.Making.{making_stays}
 use Rattle.ft_search.proofs.Trying.{LeavesSections, still_loaded, still_read, sections_read}
 use Rattle.ft_growth.specs.declared.adding.Added.{Added}
@@ -289,7 +289,7 @@ tried_as objects F said v w (added.Over stamp) under = (added.Over stamp, refl, 
 tried_as objects F said v w (added.Moved a b) under = (added.Moved a b, refl, under)
 
 -- and its sections are as they are after a call that let go of its locks
-pub gone_as : (b : Bank) (objects : Objects) (p q : Pass) (said : Reply) (what : Added) → HasLetGo b p q → SectionsAfter b objects p q (step_after what said)
+pub gone_as : (b : Bank) (objects : Objects) (p q : Pass) (said : Reply) (what : Added) → HasHadLocks b objects p q → SectionsAfter b objects p q (step_after what said)
 gone_as b objects p q said (added.Made stamp) gone = gone
 gone_as b objects p q said (added.NoTable class stamp) gone = gone
 gone_as b objects p q said (added.Over stamp) gone = gone

@@ -26,4 +26,4 @@ list_in kinds is l = ap (λ (z : List Kind). kind_in z l) is ∙ two_lists l
 -- after a call that was made any other may be tried
 pub may_again : (b : Bank) (objects : Objects) (p q : Pass) (asked : Step) (result : Option (Reply × Stamp)) → SectionsAfter b objects p q asked → IfSome result (λ (made : Reply × Stamp). asked ≡ step.Done made.0 made.1) → IfSome result (λ (made : Reply × Stamp). MayCall b q)
 may_again b objects p q asked None after made = tt
-may_again b objects p q asked (Some made) after is = (subst (SectionsAfter b objects p q) is after).may
+may_again b objects p q asked (Some made) after is = (subst (SectionsAfter b objects p q) is after).0.may

@@ -56,7 +56,7 @@ returns-in-Have-clause-moved c = (
 )
 
 pub returns-in-NotYet-clause-may : goal.returns-in-NotYet-clause-may
-returns-in-NotYet-clause-may c = inr c.in-NotYet.ensures.waiting.0
+returns-in-NotYet-clause-may c = inr c.in-NotYet.ensures.waiting.waits
 
 pub returns-in-NotYet-clause-moved : goal.returns-in-NotYet-clause-moved
 returns-in-NotYet-clause-moved c = (refl, c.in-NotYet.ensures.locked, c.in-NotYet.ensures.found.0, c.in-NotYet.ensures.found.1)

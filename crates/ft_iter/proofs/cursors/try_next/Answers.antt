@@ -8,6 +8,7 @@ use Rattle.ft_bank.specs.Passes.{shape_of, view}
 use Rattle.ft_section.specs.declared.answers.Objects.TheVariants.{One}
 use Rattle.ft_section.specs.Ready.{IsWaiting}
 use Rattle.ft_section.specs.Takings.{IsOf}
+use Rattle.ft_section.specs.Trying.{HasTaken, WaitsFor}
 use Rattle.ft_section.proofs.Tries.{let_gone}
 use Rattle.ft_search.proofs.Trying.{making_stands}
 use Rattle.ft_iter.proofs.Answering.{cursor-left, cursors-kept, making-moved}
@@ -65,7 +66,7 @@ returns-in-Have-clause-moved c = (
 )
 
 pub returns-in-NotYet-clause-may : goal.returns-in-NotYet-clause-may
-returns-in-NotYet-clause-may c = inr (subst (λ (z : ℕ). IsWaiting c.args.bank.now c.take_for.new.pass (One z)) c.container-container.ensures c.in-NotYet.ensures.waiting.0)
+returns-in-NotYet-clause-may c = inr (subst (λ (z : ℕ). IsWaiting c.args.bank.now c.take_for.new.pass (One z)) c.container-container.ensures c.in-NotYet.ensures.waiting.waits)
 
 pub returns-in-NotYet-clause-cursor : goal.returns-in-NotYet-clause-cursor
 returns-in-NotYet-clause-cursor c = c.in-NotYet.ensures.locked.cursors c.args.number ∙ c.requires.cursor
@@ -83,7 +84,7 @@ pub returns-in-NotYet-clause-others : goal.returns-in-NotYet-clause-others
 returns-in-NotYet-clause-others c other differs = c.in-NotYet.ensures.locked.cursors other
 
 pub returns-in-Have-clause-sections : goal.returns-in-Have-clause-sections
-returns-in-Have-clause-sections c = let_gone c.args.bank.now c.args.pass.now c.take_for.new.pass c.next_locked-reply.new.pass c.let_go.new.pass c.in-Have.ensures.took c.next_locked-reply.ensures.sections c.let_go.ensures.stack c.let_go.ensures.may c.let_go.ensures.resume
+returns-in-Have-clause-sections c = let_gone c.args.bank.now c.args.pass.now c.take_for.new.pass c.next_locked-reply.new.pass c.let_go.new.pass (subst (λ (z : ℕ). HasTaken (One z) c.args.pass.now c.take_for.new.pass) c.container-container.ensures c.in-Have.ensures.took) c.next_locked-reply.ensures.sections c.let_go.ensures.stack c.let_go.ensures.may c.let_go.ensures.resume
 
 pub returns-in-NotYet-clause-sections : goal.returns-in-NotYet-clause-sections
-returns-in-NotYet-clause-sections c = (subst (λ (z : ℕ). IsWaiting c.args.bank.now c.take_for.new.pass (One z)) c.container-container.ensures c.in-NotYet.ensures.waiting.0, c.in-NotYet.ensures.waiting.1)
+returns-in-NotYet-clause-sections c = subst (λ (z : ℕ). WaitsFor c.args.bank.now (One z) c.in-NotYet.container c.in-NotYet.owner c.args.pass.now c.take_for.new.pass) c.container-container.ensures c.in-NotYet.ensures.waiting

@@ -54,7 +54,7 @@ returns-in-Have-clause-read c =
     )
 
 pub returns-in-NotYet-clause-may : goal.returns-in-NotYet-clause-may
-returns-in-NotYet-clause-may c = inr c.in-NotYet.ensures.waiting.0
+returns-in-NotYet-clause-may c = inr c.in-NotYet.ensures.waiting.waits
 
 pub returns-in-NotYet-clause-read : goal.returns-in-NotYet-clause-read
 returns-in-NotYet-clause-read c = (c.in-NotYet.ensures.locked, c.in-NotYet.ensures.found.0, c.in-NotYet.ensures.found.1)

@@ -45,7 +45,7 @@ returns-in-Have-clause-made c = record {
 }
 
 pub returns-in-NotYet-clause-may : goal.returns-in-NotYet-clause-may
-returns-in-NotYet-clause-may c = inr c.in-NotYet.ensures.waiting.0
+returns-in-NotYet-clause-may c = inr c.in-NotYet.ensures.waiting.waits
 
 pub returns-in-NotYet-clause-made : goal.returns-in-NotYet-clause-made
 returns-in-NotYet-clause-made c = (c.in-NotYet.ensures.locked, c.in-NotYet.ensures.found.0, c.in-NotYet.ensures.found.1)

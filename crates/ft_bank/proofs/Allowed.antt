@@ -13,7 +13,7 @@ use Rattle.ft_trace.specs.declared.Act.{Act}
 use Rattle.ft_trace.specs.declared.Snap.{Snap}
 use Rattle.ft_trace.specs.Addresses.{at}
 use Rattle.ft_trace.specs.Acts.{place, word_after, Reports, noted, maker, made, both, spent, sender, note, shown}
-use Rattle.ft_trace.specs.Traces.{Event, did, forked, joined, sent, run, history, snap, Valid, Knows, Possible, Ready, ReadyAs, Does, DoesAs, MayFork, IsFree, IsAwake}
+use Rattle.ft_trace.specs.Traces.{Event, did, forked, joined, sent, run, history, snap, Valid, Knows, Possible, Ready, ReadyAs, Does, DoesAs, MayFork, IsFree, IsQuiet, IsAwake}
 use Rattle.ft_trace.proofs.Sizes.{sized, set_at}
 use Rattle.ft_trace.proofs.Seeing.{shown_up}
 use Rattle.ft_bank.specs.Rules.{Holds, Notes, Acted}
@@ -145,7 +145,7 @@ glues k id v other w live last free s h at ne there =
     let its : get_elem? (run k h.0).views other ≡ some w = subst (λ (l : List View). get_elem? l other ≡ some w) (sym h.3) it in
     (joined id v other w ∷ h.0, (h.1, (here, ne, its, live, last, free)), h.2, ap (λ (l : List View). set (set l id (both v w)) other spent) h.3)
 
-pub sends : {S : Type 0} (k : Shape) (id : ℕ) (v : View) (given : ℕ) → v.number ≢ 0 → given ≤ v.tokens → Splits (Holds {S = S} k) id v (sender given v) (note given v)
-sends k id v given live low s h at =
+pub sends : {S : Type 0} (k : Shape) (id : ℕ) (v : View) (given : ℕ) → v.number ≢ 0 → given ≤ v.tokens → (given ≡ v.tokens → 0 < v.tokens → IsQuiet v) → Splits (Holds {S = S} k) id v (sender given v) (note given v)
+sends k id v given live low quiet s h at =
     let here : get_elem? (run k h.0).views id ≡ some v = subst (λ (l : List View). get_elem? l id ≡ some v) (sym h.3) at in
-    (sent id v given ∷ h.0, (h.1, (here, live, low)), h.2, ap (λ (l : List View). set l id (sender given v) ++ note given v ∷ []) h.3)
+    (sent id v given ∷ h.0, (h.1, (here, live, low, quiet)), h.2, ap (λ (l : List View). set l id (sender given v) ++ note given v ∷ []) h.3)

@@ -10,7 +10,7 @@ use Rattle.ft_trace.specs.declared.Snap.{Snap}
 use Rattle.ft_trace.specs.declared.Act.TheVariants.{TakeFloor}
 use Rattle.ft_trace.specs.Acts.{noted, both, sender, note, shown, floor_words}
 use Rattle.ft_trace.specs.Floors.{FoundNext, FoundAsKnown}
-use Rattle.ft_trace.specs.Traces.{sent, run, Possible, IsFree}
+use Rattle.ft_trace.specs.Traces.{sent, run, Possible, IsFree, IsQuiet}
 use Rattle.ft_trace.proofs.Cases.{miss}
 use Rattle.ft_trace.proofs.Sizes.{set_at}
 use Rattle.ft_trace.proofs.Seeing.{seen_low}
@@ -20,11 +20,11 @@ use Rattle.ft_bank.specs.Rules.{Acted}
 use Rattle.ft_bank.proofs.Allowed.{same_settled}
 
 -- who gives tokens away may still be there
-pub sender_possible : (v : View) (given : ℕ) → v.number ≢ 0 → given ≤ v.tokens → Possible v → Possible (sender given v)
-sender_possible v given live low p =
+pub sender_possible : (v : View) (given : ℕ) → v.number ≢ 0 → given ≤ v.tokens → (given ≡ v.tokens → 0 < v.tokens → IsQuiet v) → Possible v → Possible (sender given v)
+sender_possible v given live low quiet p =
     let es = p.0 in
     let at = set_at (run v.shape es).views p.1 v (sender given v) p.2.1 in
-    (sent p.1 v given ∷ es, p.1, ((p.2.0, (p.2.1, live, low)), at_longer (set (run v.shape es).views p.1 (sender given v)) (note given v ∷ []) p.1 (sender given v) at))
+    (sent p.1 v given ∷ es, p.1, ((p.2.0, (p.2.1, live, low, quiet)), at_longer (set (run v.shape es).views p.1 (sender given v)) (note given v ∷ []) p.1 (sender given v) at))
 
 pub no_words : (v : View) → 0 < v.tokens → (sender v.tokens v).floor ≡ []
 no_words v token = miss v.tokens 0 v.floor [] (λ e. omega (arith, e, token))

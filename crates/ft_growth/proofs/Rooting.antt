@@ -122,6 +122,8 @@ module _ (called : Call) (said : Reply) (number f root : ℕ) (v r u w : View) w
           seen = let low = le_trans p1.seen ends.seen in let more = ends.shows in omega (arith, low, more);
           tokens = ends.tokens ∙ p1.tokens;
           lists = ends.lists ∙ p1.lists;
+          floor = ends.floor ∙ p1.floor;
+          since = ends.since ∙ p1.since;
           learnt = ends.learnt ∙ p1.learnt;
         };
         left = sym w1.left ∙ ends.left;

@@ -3,9 +3,10 @@ use Rattle.std.proofs.Common.{◌≡◌, ◌⊎◌, ℕ, zero, suc, ◌≤◌, l
 use mathlib.Core.Logic.{dite}
 use native.Mathlib.Decide.{ℕ_discrete}
 use Rattle.ft_trace.specs.declared.Act.{Act}
-use Rattle.ft_trace.specs.declared.Act.TheVariants.{Unlock, Answer, AnswerCursor, ReadHeader, GiveTable, RaiseCount, PutHeader, Retire}
+use Rattle.ft_trace.specs.declared.Act.TheVariants.{Unlock, Answer, AnswerCursor, TakeFloor, ReadHeader, GiveTable, RaiseCount, PutHeader, Retire}
 use Rattle.ft_trace.specs.declared.View.{View}
 use Rattle.ft_trace.specs.Acts.{flight, seen_writes, stage}
+use Rattle.ft_trace.specs.Floors.{at_floor}
 use Rattle.ft_trace.specs.Hands.{cursor_in}
 use Rattle.ft_trace.specs.Sections.{begun}
 use Rattle.ft_trace.proofs.Cases.{miss, here}
@@ -18,34 +19,54 @@ use Rattle.ft_bank.specs.Takings.{Cleared, IsTaking, KeepsBut, loads_of_none, lo
 use Rattle.ft_bank.specs.Whole.{SamePass}
 use Rattle.ft_qsbr.specs.Collecting.{AreGivings, StaysOrGoes, loads_of}
 
--- none of these adds an entry or lets go of a lock
-abbrev pub LeaveSections : List Act → Type 0
-LeaveSections [] = Unit {0}
-LeaveSections (Answer c r n ∷ l) = ⊥
-LeaveSections (AnswerCursor c r n m x y ∷ l) = ⊥
-LeaveSections (Unlock o ∷ l) = ⊥
-LeaveSections (act ∷ l) = LeaveSections l
+-- none of these adds an entry, lets go of a lock or takes the floor
+abbrev pub LeavePass : List Act → Type 0
+LeavePass [] = Unit {0}
+LeavePass (Answer c r n ∷ l) = ⊥
+LeavePass (AnswerCursor c r n m x y ∷ l) = ⊥
+LeavePass (Unlock o ∷ l) = ⊥
+LeavePass (TakeFloor f s ∷ l) = ⊥
+LeavePass (act ∷ l) = LeavePass l
 
-leave_then : (xs ys : List Act) → LeaveSections xs → LeaveSections ys → LeaveSections (xs ++ ys)
+leave_then : (xs ys : List Act) → LeavePass xs → LeavePass ys → LeavePass (xs ++ ys)
 leave_then [] ys x y = y
 leave_then (Answer c r n ∷ xs) ys x y = absurd x
 leave_then (AnswerCursor c r n m f t ∷ xs) ys x y = absurd x
 leave_then (Unlock o ∷ xs) ys x y = absurd x
+leave_then (TakeFloor f s ∷ xs) ys x y = absurd x
 leave_then (a ∷ xs) ys x y = leave_then xs ys x y
 
-pub begun_stays : (acts : List Act) (v : View) → LeaveSections acts → begun (noted_all acts v).log ≡ begun v.log
+pub begun_stays : (acts : List Act) (v : View) → LeavePass acts → begun (noted_all acts v).log ≡ begun v.log
 begun_stays [] v ok = refl
 begun_stays (Answer c r n ∷ l) v ok = absurd ok
 begun_stays (AnswerCursor c r n m f t ∷ l) v ok = absurd ok
 begun_stays (Unlock o ∷ l) v ok = absurd ok
+begun_stays (TakeFloor f s ∷ l) v ok = absurd ok
 begun_stays (a ∷ l) v ok = begun_stays l v ok
 
-pub cursors_stay : (acts : List Act) (v : View) (number : ℕ) → LeaveSections acts → cursor_in number (noted_all acts v).log ≡ cursor_in number v.log
+pub cursors_stay : (acts : List Act) (v : View) (number : ℕ) → LeavePass acts → cursor_in number (noted_all acts v).log ≡ cursor_in number v.log
 cursors_stay [] v number ok = refl
 cursors_stay (Answer c r n ∷ l) v number ok = absurd ok
 cursors_stay (AnswerCursor c r n m f t ∷ l) v number ok = absurd ok
 cursors_stay (Unlock o ∷ l) v number ok = absurd ok
+cursors_stay (TakeFloor f s ∷ l) v number ok = absurd ok
 cursors_stay (a ∷ l) v number ok = cursors_stay l v number ok
+
+pub floor_stays : (acts : List Act) (v : View) → LeavePass acts → (noted_all acts v).has_floor ≡ v.has_floor
+floor_stays [] v ok = refl
+floor_stays (Answer c r n ∷ l) v ok = absurd ok
+floor_stays (AnswerCursor c r n m f t ∷ l) v ok = absurd ok
+floor_stays (Unlock o ∷ l) v ok = absurd ok
+floor_stays (TakeFloor f s ∷ l) v ok = absurd ok
+floor_stays (a ∷ l) v ok = floor_stays l v ok
+
+pub since_stays : (acts : List Act) (v : View) → LeavePass acts → at_floor (noted_all acts v).log ≡ at_floor v.log
+since_stays [] v ok = refl
+since_stays (Answer c r n ∷ l) v ok = absurd ok
+since_stays (AnswerCursor c r n m f t ∷ l) v ok = absurd ok
+since_stays (Unlock o ∷ l) v ok = absurd ok
+since_stays (TakeFloor f s ∷ l) v ok = absurd ok
+since_stays (a ∷ l) v ok = since_stays l v ok
 
 pub seen_stays : (acts : List Act) (v : View) → seen_writes v ≤ seen_writes (noted_all acts v)
 seen_stays [] v = le_refl (seen_writes v)
@@ -57,18 +78,18 @@ learnt_stays (a ∷ l) v = learnt_stays l v
 
 -- ---- collections
 
-givings_leave : (acts : List Act) → AreGivings acts → LeaveSections acts
+givings_leave : (acts : List Act) → AreGivings acts → LeavePass acts
 givings_leave [] ok = tt
 givings_leave (ReadHeader t g ∷ l) ok = givings_leave l ok
 givings_leave (GiveTable t ∷ l) ok = givings_leave l ok
 givings_leave (RaiseCount c n ∷ l) ok = givings_leave l ok
 givings_leave (a ∷ l) ok = absurd ok
 
-loads_leave : (numbers : List ℕ) → LeaveSections (loads_of numbers)
+loads_leave : (numbers : List ℕ) → LeavePass (loads_of numbers)
 loads_leave [] = tt
 loads_leave (n ∷ ns) = loads_leave ns
 
-pub collection_leaves : (acts : List Act) (numbers : List ℕ) → AreGivings acts → LeaveSections (acts ++ loads_of numbers)
+pub collection_leaves : (acts : List Act) (numbers : List ℕ) → AreGivings acts → LeavePass (acts ++ loads_of numbers)
 collection_leaves acts numbers ok = leave_then acts (loads_of numbers) (givings_leave acts ok) (loads_leave numbers)
 
 loads_stage : (numbers : List ℕ) (v : View) (t : ℕ) → stage t (noted_all (loads_of numbers) v).log ≡ stage t v.log
@@ -89,28 +110,28 @@ given_or_kept (a ∷ l) numbers v t ok = absurd ok
 
 -- ---- takings
 
-none_leave : (class n : ℕ) → LeaveSections (loads_of_none class n)
+none_leave : (class n : ℕ) → LeavePass (loads_of_none class n)
 none_leave class zero = tt
 none_leave class (suc n) = none_leave class n
 
-cleared_leaves : (class : ℕ) (t : Table) (loaded found : ℕ) (acts : List Act) → Cleared class t loaded found acts → LeaveSections acts
-cleared_leaves class t loaded found acts x = subst LeaveSections (sym x.is) (none_leave class x.word)
+cleared_leaves : (class : ℕ) (t : Table) (loaded found : ℕ) (acts : List Act) → Cleared class t loaded found acts → LeavePass acts
+cleared_leaves class t loaded found acts x = subst LeavePass (sym x.is) (none_leave class x.word)
 
-pub taking_leaves : (class : ℕ) (r : Took) (acts : List Act) → IsTaking class r acts → LeaveSections acts
-taking_leaves class (took.Taken t) acts x = subst LeaveSections (sym x.4) (leave_then x.1 (lowered class x.0) (cleared_leaves class t x.3.0 x.3.1 x.1 x.3.3) tt)
-taking_leaves class took.AllTaken acts x = subst LeaveSections (sym x) tt
+pub taking_leaves : (class : ℕ) (r : Took) (acts : List Act) → IsTaking class r acts → LeavePass acts
+taking_leaves class (took.Taken t) acts x = subst LeavePass (sym x.4) (leave_then x.1 (lowered class x.0) (cleared_leaves class t x.3.0 x.3.1 x.1 x.3.3) tt)
+taking_leaves class took.AllTaken acts x = subst LeavePass (sym x) tt
 taking_leaves class (took.Moved a b) acts x =
     ⊎_elim
-    (λ y. subst LeaveSections (sym y.1) tt)
+    (λ y. subst LeavePass (sym y.1) tt)
     (λ z.
     ⊎_elim
-    (λ y. subst LeaveSections (sym y.4) (leave_then y.2 (lowered class y.0) (cleared_leaves class y.3.1 a b y.2 y.3.2) tt))
-    (λ y. subst LeaveSections (sym y.2) (leave_then (loads_of_none class 16) (lowered class a) (none_leave class 16) tt)) z) x
+    (λ y. subst LeavePass (sym y.4) (leave_then y.2 (lowered class y.0) (cleared_leaves class y.3.1 a b y.2 y.3.2) tt))
+    (λ y. subst LeavePass (sym y.2) (leave_then (loads_of_none class 16) (lowered class a) (none_leave class 16) tt)) z) x
 
 -- ---- the pass
 
-pub same_by : (F : ℕ → Type 0) (v w : View) → KeepsBut F v w → flight w.log ≡ flight v.log → begun w.log ≡ begun v.log → ((n : ℕ) → cursor_in n w.log ≡ cursor_in n v.log) → w.learnt ≡ v.learnt → seen_writes v ≤ seen_writes w → SamePass v w
-same_by F v w keeps idle sections cursors learnt seen = record {
+pub same_by : (F : ℕ → Type 0) (v w : View) → KeepsBut F v w → flight w.log ≡ flight v.log → begun w.log ≡ begun v.log → ((n : ℕ) → cursor_in n w.log ≡ cursor_in n v.log) → w.has_floor ≡ v.has_floor → at_floor w.log ≡ at_floor v.log → w.learnt ≡ v.learnt → seen_writes v ≤ seen_writes w → SamePass v w
+same_by F v w keeps idle sections cursors floor since learnt seen = record {
   number = keeps.held.number;
   next = keeps.held.next;
   parts = keeps.held.parts;
@@ -123,6 +144,8 @@ same_by F v w keeps idle sections cursors learnt seen = record {
   cursors = cursors;
   tokens = keeps.held.tokens;
   lists = keeps.held.lists;
+  floor = floor;
+  since = since;
   learnt = learnt;
   seen = seen;
 }
@@ -130,4 +153,4 @@ same_by F v w keeps idle sections cursors learnt seen = record {
 pub retirement_same : (t n g : ℕ) (v w : View) → w ≡ noted_all (PutHeader t g ∷ Retire t n ∷ []) v → SamePass v w
 retirement_same t n g v w is =
     subst (SamePass v) (sym is)
-    (record { number = refl; next = refl; parts = refl; shape = refl; locks = λ p. refl; writes = λ p. refl; announced = refl; flight = refl; begun = refl; cursors = λ n. refl; tokens = refl; lists = refl; learnt = refl; seen = le_refl (seen_writes v) })
+    (record { number = refl; next = refl; parts = refl; shape = refl; locks = λ p. refl; writes = λ p. refl; announced = refl; flight = refl; begun = refl; cursors = λ n. refl; tokens = refl; lists = refl; floor = refl; since = refl; learnt = refl; seen = le_refl (seen_writes v) })

@@ -88,6 +88,8 @@ module _ (called : Call) (said : Reply) (number f t g : ℕ) (snap : Snap) (v u 
           tokens = p1.tokens;
           learnt = p1.learnt;
           lists = p1.lists;
+          floor = p1.floor;
+          since = p1.since;
           seen = omega (arith, low, shows_it);
         };
         seen = low;

@@ -16,7 +16,7 @@ use Rattle.ft_bank.proofs.bank.Bank.note.Goals as goal
 pub split_seat-seat-requires : goal.split_seat-seat-requires
 split_seat-seat-requires c =
     let p = c.args.pass.now in
-    (c.requires.pass.0, omega (arith, c.args.self.now.wide, at_low (plan c.args.self.now.shape) counter tt), sends (plan c.args.self.now.table.shared.key) _ p.seat.me.0 0 (alive _ p.seat.me.0 p.numbered p.awake).0 (omega arith))
+    (c.requires.pass.0, omega (arith, c.args.self.now.wide, at_low (plan c.args.self.now.shape) counter tt), sends (plan c.args.self.now.table.shared.key) _ p.seat.me.0 0 (alive _ p.seat.me.0 p.numbered p.awake).0 (omega arith) (λ none token. absurd (omega (arith, none, token))))
 
 pub invariant_of-pass : goal.invariant_of-pass
 invariant_of-pass c =

@@ -22,7 +22,7 @@ use Rattle.ft_bank.proofs.bank.Bank.rest.Goals as goal
 pub split_seat-tokens-requires : goal.split_seat-tokens-requires
 split_seat-tokens-requires c =
     let p = c.args.pass in
-    (c.requires.pass.0, omega (arith, c.args.self.now.wide, at_low (plan c.args.self.now.shape) counter tt), sends (plan c.args.self.now.table.shared.key) _ p.seat.me.0 p.seat.me.0.tokens (alive _ p.seat.me.0 p.numbered p.awake).0 (le_refl p.seat.me.0.tokens))
+    (c.requires.pass.0, omega (arith, c.args.self.now.wide, at_low (plan c.args.self.now.shape) counter tt), sends (plan c.args.self.now.table.shared.key) _ p.seat.me.0 p.seat.me.0.tokens (alive _ p.seat.me.0 p.numbered p.awake).0 (le_refl p.seat.me.0.tokens) (λ all token. c.requires.quiet))
 
 pub invariant_of-resting : goal.invariant_of-resting
 invariant_of-resting c =
@@ -38,7 +38,7 @@ invariant_of-resting c =
       still = ap (λ (v : View). v.tokens) same ∙ nothing_left v.tokens;
       wordless = ap (λ (v : View). v.floor) same ∙ no_words v p.awake;
       retiring = retired_same _ _ _ (ap (λ (v : View). v.shape) same) (λ t. ap (λ (v : View). has_goal t v.log) same) p.retiring;
-      possible = ∥∥₁_map p.possible (λ x. subst Possible (sym same) (sender_possible v v.tokens (alive _ v p.numbered p.awake).0 (le_refl v.tokens) x));
+      possible = ∥∥₁_map p.possible (λ x. subst Possible (sym same) (sender_possible v v.tokens (alive _ v p.numbered p.awake).0 (le_refl v.tokens) (λ all token. c.requires.quiet) x));
     }
   where
     nothing_left : (n : ℕ) → n - n ≡ 0

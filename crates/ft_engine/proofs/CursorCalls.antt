@@ -17,6 +17,7 @@ use Rattle.ft_trace.specs.declared.Entry.{Entry}
 use Rattle.ft_trace.specs.declared.Shape.{Shape}
 use Rattle.ft_trace.specs.declared.View.{View}
 use Rattle.ft_trace.specs.Acts.{announces, seen_writes}
+use Rattle.ft_trace.specs.Floors.{at_floor}
 use Rattle.ft_trace.specs.Hands.{cursor_in}
 use Rattle.ft_trace.proofs.Seeing.{seen_up}
 use Rattle.ft_bank.specs.declared.bank.Bank.{Bank}
@@ -57,6 +58,8 @@ moved_adds called said stamp number left v w is some moves others m =
         shape = after.pass.shape ∙ (ap (λ (z : View). z.shape) x.answered ∙ (l.pass.shape ∙ before.pass.shape));
         lists = after.pass.lists ∙ (ap (λ (z : View). z.lists) x.answered ∙ (l.pass.lists ∙ before.pass.lists));
         online = λ on. after.pass.online (subst (λ (n : ℕ). 0 < n) (sym (ap (λ (z : View). announces z.log) x.answered ∙ l.pass.announced)) (before.pass.online on));
+        floor = after.pass.floor ∙ (ap (λ (z : View). z.has_floor) x.answered ∙ (l.pass.floor ∙ before.pass.floor));
+        since = after.pass.since ∙ (ap (λ (z : View). at_floor z.log) x.answered ∙ (l.pass.since ∙ before.pass.since));
         seen = le_trans before.pass.seen (le_trans (subst (λ (z : View). seen_writes m.before ≤ seen_writes z) (sym x.answered) (le_trans l.pass.seen (seen_up act u))) after.pass.seen);
       };
       entries = after.entries ∙ (ap (λ (z : View). z.entries) x.answered ∙ (ap (λ (b : Bool). record { call = called; reply = said; stamp = stamp.number; wrote = b } ∷ u.entries) (sym is) ∙ ap (λ (es : List Entry). made_entry called said stamp ∷ es) (l.entries ∙ before.entries)));

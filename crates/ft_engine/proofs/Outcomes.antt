@@ -12,6 +12,7 @@ use Rattle.ft_trace.specs.declared.Entry.{Entry}
 use Rattle.ft_trace.specs.declared.Shape.{Shape}
 use Rattle.ft_trace.specs.declared.View.{View}
 use Rattle.ft_trace.specs.Acts.{announces, noted, seen_writes}
+use Rattle.ft_trace.specs.Floors.{at_floor}
 use Rattle.ft_trace.specs.Hands.{cursor_in}
 use Rattle.ft_trace.proofs.Seeing.{seen_up}
 use Rattle.ft_bank.specs.declared.takings.Took.{Took}
@@ -44,7 +45,7 @@ Outcome called objects v w step.NoMemory = AddsNothing v w
 -- ---- parts of calls
 
 stays_same : (v w : View) → SamePass v w → StaysPass v w
-stays_same v w p = record { number = p.number; next = p.next; parts = p.parts; shape = p.shape; lists = p.lists; online = λ on. subst (λ (n : ℕ). 0 < n) (sym p.announced) on; seen = p.seen }
+stays_same v w p = record { number = p.number; next = p.next; parts = p.parts; shape = p.shape; lists = p.lists; online = λ on. subst (λ (n : ℕ). 0 < n) (sym p.announced) on; floor = p.floor; since = p.since; seen = p.seen }
 
 pub loaded_nothing : (v w : View) → OnlyLoaded v w → AddsNothing v w
 loaded_nothing v w l = record { pass = stays_same v w l.work.pass; entries = l.work.entries; left = l.work.left; cursors = l.work.pass.cursors }
@@ -73,6 +74,8 @@ answered_adds called said stamp v w is left x =
         shape = ap (λ (z : View). z.shape) x.answered ∙ l.pass.shape;
         lists = ap (λ (z : View). z.lists) x.answered ∙ l.pass.lists;
         online = λ on. subst (λ (n : ℕ). 0 < n) (sym (ap (λ (z : View). announces z.log) x.answered ∙ l.pass.announced)) on;
+        floor = ap (λ (z : View). z.has_floor) x.answered ∙ l.pass.floor;
+        since = ap (λ (z : View). at_floor z.log) x.answered ∙ l.pass.since;
         seen = subst (λ (z : View). seen_writes v ≤ seen_writes z) (sym x.answered) (le_trans l.pass.seen (seen_up (Answer called said stamp.number) u));
       };
       entries = ap (λ (z : View). z.entries) x.answered ∙ (ap (λ (e : Entry). e ∷ u.entries) (entry_as called said stamp false is) ∙ ap (λ (es : List Entry). made_entry called said stamp ∷ es) l.entries);
@@ -120,11 +123,11 @@ tried_nothing : (k : Shape) (class : ℕ) (result : Took) (v w : View) → Tried
 tried_nothing k class result v w t = record { pass = stays_same v w t.same; entries = t.keeps.held.entries; left = t.keeps.held.left; cursors = t.same.cursors }
 
 pub retired_nothing : (root : ℕ) (v w : View) → Retires root v w → AddsNothing v w
-retired_nothing zero v w is = subst (AddsNothing v) (sym is) (record { pass = record { number = refl; next = refl; parts = refl; shape = refl; lists = refl; online = λ on. on; seen = omega arith }; entries = refl; left = refl; cursors = λ n. refl })
+retired_nothing zero v w is = subst (AddsNothing v) (sym is) (record { pass = record { number = refl; next = refl; parts = refl; shape = refl; lists = refl; online = λ on. on; floor = refl; since = refl; seen = omega arith }; entries = refl; left = refl; cursors = λ n. refl })
 retired_nothing (suc t) v w (n, is) =
     subst (AddsNothing v) (sym is)
     (record {
-      pass = record { number = refl; next = refl; parts = refl; shape = refl; lists = refl; online = λ on. on; seen = le_trans (seen_up (Retire t n) v) (seen_up (PutHeader t (n + 1)) (noted (Retire t n) v)) };
+      pass = record { number = refl; next = refl; parts = refl; shape = refl; lists = refl; online = λ on. on; floor = refl; since = refl; seen = le_trans (seen_up (Retire t n) v) (seen_up (PutHeader t (n + 1)) (noted (Retire t n) v)) };
       entries = refl;
       left = refl;
       cursors = λ number. refl;

@@ -7,6 +7,7 @@ use Rattle.ft_trace.specs.declared.Shape.{Shape}
 use Rattle.ft_trace.specs.declared.View.{View}
 use Rattle.ft_trace.specs.Acts.{both, hands_over, has_lock, is_handed, noted, seen_writes, shown, stage}
 use Rattle.ft_trace.specs.Addresses.{containers_in}
+use Rattle.ft_trace.specs.Floors.{at_floor}
 use Rattle.ft_trace.specs.Hands.{cursor_in}
 use Rattle.ft_trace.specs.Holds.{held, known}
 use Rattle.ft_trace.specs.Sections.{begun}
@@ -19,7 +20,7 @@ use Rattle.ft_bank.specs.Notes.{knowing}
 use Rattle.ft_bank.specs.Passes.{view, IsPassOf}
 use Rattle.ft_bank.specs.Sections.{Stack, stack_of}
 use Rattle.ft_qsbr.specs.Collecting.{Collected, StaysOrGoes, loads_of}
-use Rattle.ft_qsbr.proofs.Passing.{begun_stays, collection_leaves, cursors_stay, given_or_kept, seen_stays}
+use Rattle.ft_qsbr.proofs.Passing.{begun_stays, collection_leaves, cursors_stay, floor_stays, given_or_kept, seen_stays, since_stays}
 use Rattle.ft_section.specs.Ready.{InCall, IsReady, IsStill}
 use Rattle.ft_section.proofs.Making.{in_call_stays}
 
@@ -35,6 +36,8 @@ pub record IsCalm (v w : View) : Type 0 where
   pub locks : (o : ℕ) → has_lock o w.log ≡ has_lock o v.log
   pub begun : begun w.log ≡ begun v.log
   pub cursors : (n : ℕ) → cursor_in n w.log ≡ cursor_in n v.log
+  pub floor : w.has_floor ≡ v.has_floor
+  pub since : at_floor w.log ≡ at_floor v.log
   pub seen : seen_writes v ≤ seen_writes w
   pub still : IsStill w
 
@@ -61,6 +64,8 @@ calm_then u v w a b = record {
   locks = λ o. b.locks o ∙ a.locks o;
   begun = b.begun ∙ a.begun;
   cursors = λ n. b.cursors n ∙ a.cursors n;
+  floor = b.floor ∙ a.floor;
+  since = b.since ∙ a.since;
   seen = le_trans a.seen b.seen;
   still = b.still;
 }
@@ -87,6 +92,8 @@ counted_calm v n s = record {
   locks = λ o. refl;
   begun = refl;
   cursors = λ k. refl;
+  floor = refl;
+  since = refl;
   seen = seen_up (ReadCounter n) v;
   still = record { even = s.even; hands = s.hands; used = s.used; owes = s.owes; flight = s.flight; stands = s.stands };
 }
@@ -103,6 +110,8 @@ offline_calm v m s = record {
   locks = λ o. refl;
   begun = refl;
   cursors = λ k. refl;
+  floor = refl;
+  since = refl;
   seen = seen_up (Announce m 0) v;
   still = record { even = s.even; hands = s.hands; used = s.used; owes = s.owes; flight = s.flight; stands = s.stands };
 }
@@ -122,6 +131,8 @@ collected_calm v w freed s x =
       locks = keeps.locks;
       begun = ap (λ (u : View). begun u.log) x.did ∙ begun_stays (x.acts ++ loads_of x.numbers) v leaves;
       cursors = λ k. ap (λ (u : View). cursor_in k u.log) x.did ∙ cursors_stay (x.acts ++ loads_of x.numbers) v k leaves;
+      floor = ap (λ (u : View). u.has_floor) x.did ∙ floor_stays (x.acts ++ loads_of x.numbers) v leaves;
+      since = ap (λ (u : View). at_floor u.log) x.did ∙ since_stays (x.acts ++ loads_of x.numbers) v leaves;
       seen = subst (λ (u : View). seen_writes v ≤ seen_writes u) (sym x.did) (seen_stays (x.acts ++ loads_of x.numbers) v);
       still = record {
         even = λ o. keeps.writes o ∙ s.even o;
@@ -149,6 +160,8 @@ same_calm v s = record {
   locks = λ o. refl;
   begun = refl;
   cursors = λ k. refl;
+  floor = refl;
+  since = refl;
   seen = le_refl (seen_writes v);
   still = s;
 }
@@ -166,6 +179,8 @@ learnt_calm v m n s = record {
   locks = λ o. refl;
   begun = refl;
   cursors = λ k. refl;
+  floor = refl;
+  since = refl;
   seen = le_trans (max-le (le_trans (le-max_left v.learnt m) (le-max_left (max v.learnt m) (shown v.log))) (le-max_right (max v.learnt m) (shown v.log))) (seen_up (ReadCounter n) (knowing m v));
   still = record { even = s.even; hands = s.hands; used = s.used; owes = s.owes; flight = s.flight; stands = s.stands };
 }
@@ -204,6 +219,8 @@ enters_calm v n m s = record {
   locks = λ o. refl;
   begun = refl;
   cursors = λ k. refl;
+  floor = refl;
+  since = refl;
   seen = le_trans (seen_up (WriteNumber n) v) (seen_up (Announce m n) (noted (WriteNumber n) v));
   still = record { even = s.even; hands = s.hands; used = s.used; owes = s.owes; flight = s.flight; stands = s.stands };
 }

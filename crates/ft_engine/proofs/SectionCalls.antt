@@ -12,6 +12,7 @@ use Rattle.ft_trace.specs.declared.Act.TheVariants.{Answer, ReadCounter}
 use Rattle.ft_trace.specs.declared.Entry.{Entry}
 use Rattle.ft_trace.specs.declared.View.{View}
 use Rattle.ft_trace.specs.Acts.{announces, has_lock, noted, seen_writes}
+use Rattle.ft_trace.specs.Floors.{at_floor}
 use Rattle.ft_trace.specs.Hands.{cursor_in}
 use Rattle.ft_trace.specs.Sections.{begun}
 use Rattle.ft_trace.proofs.Seeing.{seen_up}
@@ -26,7 +27,7 @@ use Rattle.ft_section.specs.declared.answers.Ended.TheVariants as ended
 use Rattle.ft_section.specs.declared.answers.Objects.{Objects}
 use Rattle.ft_section.specs.declared.answers.Stamp.{Stamp}
 use Rattle.ft_section.specs.Answers.{stamp_of}
-use Rattle.ft_section.specs.Locking.{KeepsLocks, OnlyLocked}
+use Rattle.ft_section.specs.Locking.{KeepsLocks, OnlyLocked, with_own}
 use Rattle.ft_section.specs.Ready.{InCall, IsReady, IsStill, MayResume}
 use Rattle.ft_section.specs.Sectioning.{AreNoted, answered_view, begin_of, ended_by, reply_of}
 use Rattle.ft_section.specs.Takings.{HasBoth, HasLocks}
@@ -35,6 +36,7 @@ use Rattle.ft_section.proofs.Making.{in_call_stays}
 use Rattle.ft_engine.specs.Answering.{AddsEntry, AddsNothing, HasAnswer, StaysPass}
 use Rattle.ft_engine.specs.Flights.{objects_by}
 use Rattle.ft_engine.specs.Keeping.{made_entry, marks_in}
+use Rattle.ft_engine.specs.Stacks.{Opens}
 use Rattle.ft_engine.proofs.Marks.{last_of}
 use Rattle.ft_engine.proofs.Passing.{IsCalm, ready_calm}
 
@@ -48,6 +50,8 @@ only_stays v w only = record {
   shape = only.shape;
   lists = only.lists;
   online = λ on. subst (λ (n : ℕ). 0 < n) (sym only.announced) on;
+  floor = only.floor;
+  since = only.since;
   seen = only_sees v w only;
 }
 
@@ -62,6 +66,8 @@ stays_then u v w a b = record {
   shape = b.shape ∙ a.shape;
   lists = b.lists ∙ a.lists;
   online = λ on. b.online (a.online on);
+  floor = b.floor ∙ a.floor;
+  since = b.since ∙ a.since;
   seen = le_trans a.seen b.seen;
 }
 
@@ -93,6 +99,8 @@ answered_pass called said n v = record {
   shape = refl;
   lists = refl;
   online = λ on. on;
+  floor = refl;
+  since = refl;
   seen = le_trans (seen_up (ReadCounter n) v) (seen_up (Answer called said n) (noted (ReadCounter n) v));
 }
 
@@ -115,7 +123,7 @@ pub entry_by : (called : Call) (said : Reply) (stamp : Stamp) (v w : View) → s
 entry_by called said stamp v w read left seen is = subst (AddsEntry called said stamp v) (sym is) (answered_entry called said stamp v read left seen)
 
 pub same_nothing : (v : View) → AddsNothing v v
-same_nothing v = record { pass = record { number = refl; next = refl; parts = refl; shape = refl; lists = refl; online = λ on. on; seen = omega arith }; entries = refl; left = refl; cursors = λ number. refl }
+same_nothing v = record { pass = record { number = refl; next = refl; parts = refl; shape = refl; lists = refl; online = λ on. on; floor = refl; since = refl; seen = omega arith }; entries = refl; left = refl; cursors = λ number. refl }
 
 -- ---- begin
 
@@ -125,10 +133,6 @@ begin_same first (Some other) = refl
 
 push_marks : (xs : List OpenSection) (x : OpenSection) → reverse (map (λ section. section.marks) (xs ++ x ∷ [])) ≡ x.marks ∷ reverse (map (λ section. section.marks) xs)
 push_marks xs x = ap reverse (map-append (λ section. section.marks) xs (x ∷ [])) ∙ reverse-append (map (λ section. section.marks) xs) (x.marks ∷ [])
-
-abbrev pub Opens : Objects → Stack → Stack → Type 0
-Opens objects s t =
-    (own : Taking) × AreNoted objects own × (t ≡ record s { sections = s.sections ++ record { locks = own; marks = 0 } ∷ []; own = nothing_taken })
 
 abbrev pub Enters : Objects → ℕ → View → View → Type 0
 Enters objects n v w =
@@ -157,6 +161,7 @@ begin_answer b p q first second stamp left enters seen read opens resume =
           let has : HasBoth u here.locks = (subst (λ (o : ℕ). has_lock o u.log ≡ true) (sym opens.1.lower) enters.3.0, subst (λ (o : ℕ). has_lock o u.log ≡ true) (sym opens.1.upper) enters.3.1) in
           let now : HasBoth (view q) here.locks = (ap (λ (z : View). has_lock here.locks.lower z.log) is ∙ has.0, ap (λ (z : View). has_lock here.locks.upper z.log) is ∙ has.1) in
           subst (λ (x : OpenSection). HasBoth (view q) x.locks) same.1 now;
+      stack = opens;
       marks = ap (λ (xs : List OpenSection). reverse (map (λ section. section.marks) xs)) sections ∙ push_marks (stack_of p).sections here;
       mark = ap (λ (s : Stack). s.mark) opens.2;
       ends = tt;
@@ -169,12 +174,13 @@ counted_by zero stamp = refl
 counted_by (suc n) stamp =
     subst (λ (b : Bool). IsCountedAs (suc n) (reply_of (if b then ended.Kept stamp else ended.Suspended (suc n) stamp))) (sym (ne_eqb (suc n) 0 (λ e. absurd (omega (arith, e))))) (let one : 1 ≤ suc n = omega arith in (one, refl))
 
-abbrev pub Closes : Ended → Stack → Stack → Type 0
-Closes result s t =
+-- how an `end` counts, and which section it closes
+abbrev pub Ends : Ended → Stack → Stack → Type 0
+Ends result s t =
     (outer : List OpenSection) (top : OpenSection) → s.sections ≡ outer ++ top ∷ []
     → (result ≡ ended_by top.marks (stamp_of result)) × (t ≡ record s { sections = outer })
 
-pub end_answer : (b : Bank) (p q : Pass) (result : Ended) → 0 < (view p).left → 0 < length (stack_of p).sections → OnlyLocked (answered_view call.End (reply_of result) (stamp_of result).number (view p)) (view q) → seen_writes (view p) ≤ (stamp_of result).number → (stamp_of result).wrote ≡ false → Closes result (stack_of p) (stack_of q) → MayResume b q → HasAnswer b call.End (reply_of result) (stamp_of result) p q
+pub end_answer : (b : Bank) (p q : Pass) (result : Ended) → 0 < (view p).left → 0 < length (stack_of p).sections → OnlyLocked (answered_view call.End (reply_of result) (stamp_of result).number (view p)) (view q) → seen_writes (view p) ≤ (stamp_of result).number → (stamp_of result).wrote ≡ false → Ends result (stack_of p) (stack_of q) → MayResume b q → HasAnswer b call.End (reply_of result) (stamp_of result) p q
 end_answer b p q result left depth only seen read closes resume =
     let v = view p in
     let n = (stamp_of result).number in
@@ -187,6 +193,7 @@ end_answer b p q result left depth only seen read closes resume =
       entry = nothing_entry call.End (reply_of result) (stamp_of result) v v mid (view q) (same_nothing v) seen made (only_nothing mid (view q) only);
       resume = resume;
       top = λ none. absurd (true≢false (sym none));
+      stack = (r.0, r.1, r.2, x.1);
       marks = ap marks_in x.1 ∙ sym (ap (drop 1) marks);
       mark = ap (λ (s : Stack). s.mark) x.1;
       ends = subst (λ (l : List ℕ). IsCountedAs (slice_index_or l 0 0) (reply_of result)) (sym marks)
@@ -235,6 +242,8 @@ quiesce_answer b p q r stamp ready left pass_q stack_q calm on pass_r stack_r is
           shape = ap (λ (z : View). z.shape) is ∙ calm.shape;
           lists = ap (λ (z : View). z.lists) is ∙ calm.lists;
           online = λ _. subst (λ (z : View). 0 < announces z.log) (sym is) on;
+          floor = ap (λ (z : View). z.has_floor) is ∙ calm.floor;
+          since = ap (λ (z : View). at_floor z.log) is ∙ calm.since;
           seen = subst (λ (z : View). seen_writes v ≤ seen_writes z) (sym is) (le_trans calm.seen made.pass.seen);
         };
         entries = ap (λ (z : View). z.entries) is ∙ (made.entries ∙ ap (λ (es : List Entry). made_entry call.Quiesce reply.Done stamp ∷ es) calm.entries);
@@ -244,6 +253,7 @@ quiesce_answer b p q r stamp ready left pass_q stack_q calm on pass_r stack_r is
       };
       resume = ready_resumes b r now;
       top = λ none. absurd (true≢false (sym none));
+      stack = stack ∙ ap (λ (t : Taking). with_own (stack_of p) t) ready.own;
       marks = ap marks_in stack;
       mark = ap (λ (s : Stack). s.mark) stack;
       ends = tt;

@@ -11,6 +11,7 @@ use Rattle.ft_trace.specs.declared.Shape.{Shape}
 use Rattle.ft_trace.specs.declared.Act.{Act}
 use Rattle.ft_trace.specs.declared.View.{View}
 use Rattle.ft_trace.specs.Acts.{announces, seen_writes}
+use Rattle.ft_trace.specs.Floors.{at_floor}
 use Rattle.ft_trace.specs.Hands.{cursor_in}
 use Rattle.ft_bank.specs.declared.bank.Bank.{Bank}
 use Rattle.ft_bank.specs.declared.pass.Pass.{Pass}
@@ -18,23 +19,28 @@ use Rattle.ft_bank.specs.Answered.{Answered}
 use Rattle.ft_bank.specs.Passes.{shape_of, view, DidNothing}
 use Rattle.ft_bank.specs.Sections.{stack_of}
 use Rattle.ft_bank.specs.Whole.{OnlyLoaded}
+use Rattle.ft_section.specs.declared.answers.Got.{Got}
+use Rattle.ft_section.specs.declared.answers.Got.TheVariants as got
 use Rattle.ft_section.specs.declared.answers.Look.{Look}
 use Rattle.ft_section.specs.declared.answers.Look.TheVariants as look
 use Rattle.ft_section.specs.declared.answers.Objects.{Objects}
 use Rattle.ft_section.specs.declared.answers.Stamp.{Stamp}
 use Rattle.ft_section.specs.declared.answers.Step.{Step}
 use Rattle.ft_section.specs.declared.answers.Step.TheVariants as step
-use Rattle.ft_section.specs.Locking.{FoundOwner, with_own, waiting}
+use Rattle.ft_section.specs.Floors.{KnewOwners}
+use Rattle.ft_section.specs.Locking.{FoundOwner, KeepsLower, with_own, waiting}
 use Rattle.ft_section.specs.Ready.{HasTop, IsReady, IsWaiting, MayTry, MayResume}
-use Rattle.ft_section.specs.Takings.{IsOf}
+use Rattle.ft_section.specs.Takings.{IsOf, lower_of}
 use Rattle.ft_section.specs.Trying.{HasLetGo}
 use Rattle.ft_engine.specs.Callers.{AreOver}
 use Rattle.ft_engine.specs.Contentions.{StopsCall, WasContended, may_look}
 use Rattle.ft_engine.specs.Flights.{is_begin, objects_of}
 use Rattle.ft_engine.specs.Names.{FitsSections, IsBuilt, IsCallIn}
 use Rattle.ft_engine.specs.Keeping.{made_entry, marks_in, marks_after}
+use Rattle.ft_engine.specs.Stacks.{StackAfter}
 
--- It is the same pass: it is online where it was, has taken in the same passes, and has seen no fewer writes. (profile)
+-- It is the same pass: it is online where it was, has taken in the same passes, has the floor where it had it, and no
+-- other since, and has seen no fewer writes. (profile)
 pub record StaysPass (v w : View) : Type 0 where
   pub number : w.number ≡ v.number
   pub next : w.next ≡ v.next
@@ -42,6 +48,8 @@ pub record StaysPass (v w : View) : Type 0 where
   pub shape : w.shape ≡ v.shape
   pub lists : w.lists ≡ v.lists
   pub online : 0 < announces v.log → 0 < announces w.log
+  pub floor : w.has_floor ≡ v.has_floor
+  pub since : at_floor w.log ≡ at_floor v.log
   pub seen : seen_writes v ≤ seen_writes w
 
 -- The same pass has made no entry, and has the same cursors. (profile)
@@ -77,6 +85,7 @@ pub record HasAnswer (b : Bank) (called : Call) (said : Reply) (stamp : Stamp) (
   pub entry : AddsEntry called said stamp (view p) (view q)
   pub resume : MayResume b q
   pub top : is_begin called ≡ true → HasTop q
+  pub stack : StackAfter called (stack_of p) (stack_of q)
   pub marks : marks_in (stack_of q) ≡ marks_after called (marks_in (stack_of p))
   pub mark : (stack_of q).mark ≡ (stack_of p).mark
   pub ends : IsEndOf called (marks_in (stack_of p)) said
@@ -87,6 +96,7 @@ pub record HasToWait (b : Bank) (objects : Objects) (o owner : ℕ) (p q : Pass)
   pub entry : AddsNothing (view p) (view q)
   pub waits : IsWaiting b q objects
   pub stack : stack_of q ≡ waiting (with_own (stack_of p) (stack_of q).own) owner
+  pub kept : KeepsLower (lower_of objects) o p q
   pub found : IsOf o objects × FoundOwner o owner (view p) (view q)
 
 -- the call has let go of its own locks, and has no answer
@@ -117,13 +127,25 @@ LeavesHands (step.NotYet o owner) before after = after ≡ before
 LeavesHands (step.Moved first second) before after = after ≡ before
 LeavesHands step.NoMemory before after = after ≡ before
 
+-- A call that isn't looked first needs the locks of its containers: with the floor its try was answered what the lock
+-- words known say. (C API, critical sections)
+abbrev pub KnewLocks : Call → Objects → Pass → Got → Type 0
+KnewLocks called objects p answer = may_look called ≡ false → KnewOwners objects (view p) answer
+
+abbrev pub KnewNone : List (Option Cursor) → Call → Pass → Type 0
+KnewNone hands called p =
+    (objects : Objects) → objects_of hands called ≡ Some objects → KnewLocks called objects p got.Have
+
 -- what one try of a call of a thread with these cursors comes to
 abbrev pub IsTryOf : Bank → List (Option Cursor) → Call → Pass → Pass → Step → Type 0
-IsTryOf b hands called p q (step.Done said stamp) = HasAnswer b called said stamp p q
+IsTryOf b hands called p q (step.Done said stamp) =
+    HasAnswer b called said stamp p q × KnewNone hands called p
 IsTryOf b hands called p q (step.NotYet o owner) =
     (objects : Objects) × (objects_of hands called ≡ Some objects) × HasToWait b objects o owner p q
+    × KnewLocks called objects p (got.NotYet o owner)
 IsTryOf b hands called p q (step.Moved first second) =
     (objects : Objects) × (objects_of hands called ≡ Some objects) × HasNone b p q
+    × KnewLocks called objects p got.Have
 IsTryOf b hands called p q step.NoMemory = HasNone b p q
 
 -- ---- looks

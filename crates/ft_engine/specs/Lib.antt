@@ -3,6 +3,7 @@ pub mod Callers
 pub mod Names
 pub mod Contentions
 pub mod Keeping
+pub mod Stacks
 pub mod Answering
 pub mod Attempts
 pub mod Visits

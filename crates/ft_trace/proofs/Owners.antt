@@ -12,7 +12,7 @@ use Rattle.ft_trace.specs.declared.View.{View}
 use Rattle.ft_trace.specs.declared.Act.{Act}
 use Rattle.ft_trace.specs.declared.Act.TheVariants.{Lock, Unlock, TakeFloor}
 use Rattle.ft_trace.specs.Addresses.{at, lock_of, containers_in}
-use Rattle.ft_trace.specs.Acts.{place, Reports, has_lock, starter, noted, maker, made, both, spent, sender, note, floor_words, has_floor_next}
+use Rattle.ft_trace.specs.Acts.{place, Reports, has_lock, starter, noted, maker, made, both, spent, sender, note, has_floor_next}
 use Rattle.ft_trace.specs.Floors.{at_floor, lock_of_another, OwnersStay, KnownOwnersStay}
 use Rattle.ft_trace.specs.Traces.{Event, did, forked, joined, sent, run, word, history, May, Valid}
 use Rattle.ft_trace.proofs.Sizes.{set_views, one_more, one_view}

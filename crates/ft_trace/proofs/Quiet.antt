@@ -1,16 +1,15 @@
 -- A pass with no token is quiet, so who has the floor finds each version even but its own.
 use Rattle.std.proofs.Common.{◌≡◌, ◌≢◌, ℕ, ◌%◌, Bool, true, false, cond, List, [], ◌∷◌, refl, sym, ap, ◌∙◌, arith}
 use Rattle.std.specs.Prelude.{slice_index}
-use mathlib.Core.Option.{some, some-injective}
+use mathlib.Core.Option.{some-injective}
 use mathlib.Core.Logic.{dite}
 use native.Mathlib.Decide.{ℕ_discrete}
 use lib.ListN.{get_elem?}
-use Rattle.ft_trace.specs.declared.Shape.{Shape}
 use Rattle.ft_trace.specs.declared.View.{View}
 use Rattle.ft_trace.specs.Addresses.{version_of, at}
 use Rattle.ft_trace.specs.Acts.{is_writing, floor_words, is_handed, hands_over, stage, starter, noted, maker, made, both, spent, sender, note}
 use Rattle.ft_trace.specs.Floors.{RestingPassesAreQuiet, FloorVersionsAreEven, KnownVersionsAreEven}
-use Rattle.ft_trace.specs.Traces.{did, forked, joined, sent, run, Valid, IsQuiet}
+use Rattle.ft_trace.specs.Traces.{did, forked, joined, sent, run, IsQuiet}
 use Rattle.ft_trace.proofs.Sizes.{set_views, one_more, one_view}
 use Rattle.ft_trace.proofs.Cases.{off}
 use Rattle.ft_trace.proofs.Versions.{version, versioned}

@@ -134,9 +134,9 @@ hands_by k v w hands kind o number called left step.NoMemory are low others of x
 -- ---- the calls
 
 plain_iter : (kind : Kind) (o number : ℕ) → IsPlain (iter_call kind o number)
-plain_iter kind.Dict o number = record { sections = λ n log sections. refl; begins = refl; marks = λ marks. refl; ends = λ marks said. tt }
-plain_iter kind.List o number = record { sections = λ n log sections. refl; begins = refl; marks = λ marks. refl; ends = λ marks said. tt }
-plain_iter kind.Set o number = record { sections = λ n log sections. refl; begins = refl; marks = λ marks. refl; ends = λ marks said. tt }
+plain_iter kind.Dict o number = record { sections = λ n log sections. refl; begins = refl; marks = λ marks. refl; ends = λ marks said. tt; leaves = λ s. refl }
+plain_iter kind.List o number = record { sections = λ n log sections. refl; begins = refl; marks = λ marks. refl; ends = λ marks said. tt; leaves = λ s. refl }
+plain_iter kind.Set o number = record { sections = λ n log sections. refl; begins = refl; marks = λ marks. refl; ends = λ marks said. tt; leaves = λ s. refl }
 
 iter_names : (hands : List (Option Cursor)) (kind : Kind) (o number : ℕ) → objects_of hands (iter_call kind o number) ≡ Some (One o)
 iter_names hands kind.Dict o number = refl
@@ -153,7 +153,7 @@ iter_tried b p q hands kind o number had left result some after others x =
     tried_of b p q hands (iter_call kind o number) (One o) (plain_iter kind o number) (iter_names hands kind o number) result after (move_outcome kind o (iter_call kind o number) number had left (view p) (view q) result some (iter_moves kind o number) others x)
 
 plain_next : (number : ℕ) → IsPlain (call.Next number)
-plain_next number = record { sections = λ n log sections. refl; begins = refl; marks = λ marks. refl; ends = λ marks said. tt }
+plain_next number = record { sections = λ n log sections. refl; begins = refl; marks = λ marks. refl; ends = λ marks said. tt; leaves = λ s. refl }
 
 pub next_names : (hands : List (Option Cursor)) (number : ℕ) (walker : Cursor) → cursor_at hands number ≡ Some walker → objects_of hands (call.Next number) ≡ Some (One (container_of walker))
 next_names hands number walker at = ap (λ (z : Option Cursor). option_map (λ w. One (container_of w)) z) at

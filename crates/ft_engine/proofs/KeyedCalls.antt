@@ -48,10 +48,10 @@ use Rattle.ft_engine.proofs.SectionCalls.{nothing_then, only_nothing}
 -- ---- tries
 
 pub plain_dict : (d : ℕ) (dc : DictCall) → IsPlain (call.Dict d dc)
-plain_dict d dc = record { sections = λ n log sections. refl; begins = refl; marks = λ marks. refl; ends = λ marks said. tt }
+plain_dict d dc = record { sections = λ n log sections. refl; begins = refl; marks = λ marks. refl; ends = λ marks said. tt; leaves = λ s. refl }
 
 pub plain_set : (s : ℕ) (sc : SetCall) → IsPlain (call.Set s sc)
-plain_set s sc = record { sections = λ n log sections. refl; begins = refl; marks = λ marks. refl; ends = λ marks said. tt }
+plain_set s sc = record { sections = λ n log sections. refl; begins = refl; marks = λ marks. refl; ends = λ marks said. tt; leaves = λ s. refl }
 
 pub dict_tried : (b : Bank) (p q : Pass) (hands : List (Option Cursor)) (d : ℕ) (given dc : DictCall) (objects : Objects) (result : Step) → given ≡ dc → objects_by d (other_dict dc) ≡ objects → SectionsAfter b objects p q result → Outcome (call.Dict d dc) objects (view p) (view q) result → IsTryOf b hands (call.Dict d given) p q result
 dict_tried b p q hands d given dc objects result is names after came =

@@ -30,7 +30,7 @@ use Rattle.ft_engine.proofs.Outcomes.{Outcome, add_outcome, gave_up_adds, loaded
 use Rattle.ft_engine.proofs.SectionCalls.{nothing_then, only_nothing}
 
 pub plain_list : (l : ℕ) (lc : ListCall) → IsPlain (call.List l lc)
-plain_list l lc = record { sections = λ n log sections. refl; begins = refl; marks = λ marks. refl; ends = λ marks said. tt }
+plain_list l lc = record { sections = λ n log sections. refl; begins = refl; marks = λ marks. refl; ends = λ marks said. tt; leaves = λ s. refl }
 
 pub list_tried : (b : Bank) (p q : Pass) (hands : List (Option Cursor)) (l : ℕ) (given lc : ListCall) (objects : Objects) (result : Step) → given ≡ lc → objects_by l (other_list lc) ≡ objects → SectionsAfter b objects p q result → Outcome (call.List l lc) objects (view p) (view q) result → IsTryOf b hands (call.List l given) p q result
 list_tried b p q hands l given lc objects result is names after came =

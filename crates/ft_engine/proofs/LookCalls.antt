@@ -59,9 +59,9 @@ read_ready b p q called said n leaves r pass stack a =
 -- ---- calls that may be made so
 
 pub looks_plain : (called : Call) → may_look called ≡ true → IsPlain called
-looks_plain (call.Dict o dc) may = record { sections = λ n log sections. refl; begins = refl; marks = λ marks. refl; ends = λ marks said. tt }
-looks_plain (call.List o lc) may = record { sections = λ n log sections. refl; begins = refl; marks = λ marks. refl; ends = λ marks said. tt }
-looks_plain (call.Set o sc) may = record { sections = λ n log sections. refl; begins = refl; marks = λ marks. refl; ends = λ marks said. tt }
+looks_plain (call.Dict o dc) may = record { sections = λ n log sections. refl; begins = refl; marks = λ marks. refl; ends = λ marks said. tt; leaves = λ s. refl }
+looks_plain (call.List o lc) may = record { sections = λ n log sections. refl; begins = refl; marks = λ marks. refl; ends = λ marks said. tt; leaves = λ s. refl }
+looks_plain (call.Set o sc) may = record { sections = λ n log sections. refl; begins = refl; marks = λ marks. refl; ends = λ marks said. tt; leaves = λ s. refl }
 looks_plain (call.Next number) may = absurd (let e : false ≡ true = may in cc)
 looks_plain (call.Begin first second) may = absurd (let e : false ≡ true = may in cc)
 looks_plain call.End may = absurd (let e : false ≡ true = may in cc)

@@ -28,17 +28,9 @@ use Rattle.ft_engine.specs.Flights.{IsAnswered}
 
 -- ---- calls that no look is made for
 
-pub locked_dict : (d : ℕ) (dc : DictCall) (found : Option Look) → IfNone found (is_locked_dict dc ≡ true) → IfNone found (may_look (call.Dict d dc) ≡ false)
-locked_dict d dc None locked = ap not locked
-locked_dict d dc (Some answer) locked = tt
-
-pub locked_list : (l : ℕ) (lc : ListCall) (found : Option Look) → IfNone found (is_locked_list lc ≡ true) → IfNone found (may_look (call.List l lc) ≡ false)
-locked_list l lc None locked = ap not locked
-locked_list l lc (Some answer) locked = tt
-
-pub locked_set : (s : ℕ) (sc : SetCall) (found : Option Look) → IfNone found (is_locked_set sc ≡ true) → IfNone found (may_look (call.Set s sc) ≡ false)
-locked_set s sc None locked = ap not locked
-locked_set s sc (Some answer) locked = tt
+pub none_looked : (called : Call) (found : Option Look) → may_look called ≡ is_some found → IfNone found (may_look called ≡ false)
+none_looked called None made = made
+none_looked called (Some answer) made = tt
 
 pub locked_looked : (called : Call) (result : Step) (v w : View) → may_look called ≡ false → HasLooked called v w result
 locked_looked called (step.Done said stamp) v w locked = tt

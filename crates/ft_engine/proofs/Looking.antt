@@ -1,6 +1,6 @@
 -- A look comes before the try of its call: the pass may try the call after it, and what the try comes to is what both do.
 use Rattle.std.proofs.Common.{◌≡◌, ◌<◌, ◌+◌, ℕ, Bool, true, false, true≢false, List, [], ◌∷◌, ◌++◌, refl, sym, ap, ◌∙◌, subst, inl, inr, ⊎_elim, append_assoc, le_refl}
-use Rattle.std.specs.Prelude.{Option, Some, None}
+use Rattle.std.specs.Prelude.{◌==◌, ◌||◌, Option, Some, None, is_some, if◌then◌else◌}
 use Rattle.ft_model.specs.declared.call.Call.{Call}
 use Rattle.ft_model.specs.declared.cursor.Cursor.{Cursor}
 use Rattle.ft_model.specs.declared.reply.Reply.{Reply}
@@ -12,16 +12,19 @@ use Rattle.ft_trace.specs.Sections.{begun}
 use Rattle.ft_bank.specs.declared.bank.Bank.{Bank}
 use Rattle.ft_bank.specs.declared.pass.Pass.{Pass}
 use Rattle.ft_bank.specs.Passes.{view, DidNothing, IsPassOf}
-use Rattle.ft_bank.specs.Sections.{Stack, stack_of, nothing_taken}
+use Rattle.ft_bank.specs.Sections.{Stack, stack_of, taken_in, nothing_taken}
 use Rattle.ft_bank.specs.Whole.{OnlyLoaded}
 use Rattle.ft_bank.proofs.Whole.{loaded_then, same_work}
+use Rattle.ft_section.specs.declared.answers.Got.{Got}
+use Rattle.ft_section.specs.declared.answers.Got.TheVariants as got
 use Rattle.ft_section.specs.declared.answers.Look.{Look}
 use Rattle.ft_section.specs.declared.answers.Look.TheVariants as look
 use Rattle.ft_section.specs.declared.answers.Objects.{Objects}
 use Rattle.ft_section.specs.declared.answers.Stamp.{Stamp}
 use Rattle.ft_section.specs.declared.answers.Step.{Step}
 use Rattle.ft_section.specs.declared.answers.Step.TheVariants as step
-use Rattle.ft_section.specs.Locking.{FoundOwner, OnlyLocked, waiting, with_own}
+use Rattle.ft_section.specs.Floors.{KnewOwners}
+use Rattle.ft_section.specs.Locking.{FoundOwner, OnlyLocked, at_one, waiting, with_own}
 use Rattle.ft_section.specs.Ready.{AreSuspended, InCall, IsMaking, IsReady, IsStill, IsWaiting, MayTry, NotesTop}
 use Rattle.ft_section.specs.Takings.{IsOwnFor, lower_of, upper_of}
 use Rattle.ft_section.specs.Trying.{HasLetGo, SectionsAfter}
@@ -29,9 +32,11 @@ use Rattle.ft_section.proofs.Goings.{notes_top}
 use Rattle.ft_section.proofs.Making.{in_call_stays}
 use Rattle.ft_section.proofs.Resumes.{none_some}
 use Rattle.ft_search.proofs.Trying.{LeavesSections, making_read, still_loaded}
-use Rattle.ft_engine.specs.Answering.{AddsEntry, AddsNothing, HasAnswer, HasNone, HasToWait, IsEndOf, IsTryOf, Looked, settled}
+use Rattle.ft_engine.specs.Answering.{AddsEntry, AddsNothing, HasAnswer, HasNone, HasToWait, IsEndOf, IsTryOf, KnewLocks, Looked, settled}
+use Rattle.ft_engine.specs.Contentions.{may_look}
 use Rattle.ft_engine.specs.Flights.{is_begin, objects_of}
 use Rattle.ft_engine.specs.Keeping.{marks_after, marks_in}
+use Rattle.ft_engine.specs.Stacks.{StackAfter}
 use Rattle.ft_engine.proofs.Outcomes.{Outcome, answered_adds, before_adds, loaded_nothing, locked_entry}
 use Rattle.ft_engine.proofs.SectionCalls.{nothing_entry, nothing_then, only_nothing, same_nothing}
 
@@ -41,23 +46,33 @@ pub record IsPlain (called : Call) : Type 0 where
   pub begins : is_begin called ≡ false
   pub marks : (l : List ℕ) → marks_after called l ≡ l
   pub ends : (l : List ℕ) (said : Reply) → IsEndOf called l said
+  pub leaves : (s : Stack) → StackAfter called s (with_own s nothing_taken)
 
 some_same : (x y : Step) → Some x ≡ Some y → x ≡ y
 some_same x y e = cc
 
 -- ---- what a try comes to
 
+pub one_objects : (x y : Objects) → Some x ≡ Some y → x ≡ y
+one_objects x y e = cc
+
 pub tried_of : (b : Bank) (p q : Pass) (hands : List (Option Cursor)) (called : Call) (objects : Objects) → IsPlain called → objects_of hands called ≡ Some objects → (result : Step) → SectionsAfter b objects p q result → Outcome called objects (view p) (view q) result → IsTryOf b hands called p q result
-tried_of b p q hands called objects plain names (step.Done said stamp) after came = record {
+tried_of b p q hands called objects plain names (step.Done said stamp) after came = (record {
   entry = came;
   resume = after.0.resume;
   top = λ begins. absurd (true≢false (sym begins ∙ plain.begins));
+  stack = subst (StackAfter called (stack_of p)) (sym after.0.stack) (plain.leaves (stack_of p));
   marks = ap marks_in after.0.stack ∙ sym (plain.marks (marks_in (stack_of p)));
   mark = ap (λ (s : Stack). s.mark) after.0.stack;
   ends = plain.ends (marks_in (stack_of p)) said;
-}
-tried_of b p q hands called objects plain names (step.NotYet o owner) after came = (objects, names, record { entry = only_nothing (view p) (view q) came.0; waits = after.waits; stack = after.stack; found = (came.1, came.2) })
-tried_of b p q hands called objects plain names (step.Moved first second) after came = (objects, names, record { entry = came; gone = after.0 })
+}, λ named is locked. subst (λ (x : Objects). KnewOwners x (view p) got.Have) (one_objects objects named (sym names ∙ is)) after.1)
+tried_of b p q hands called objects plain names (step.NotYet o owner) after came = (
+  objects,
+  names,
+  record { entry = only_nothing (view p) (view q) came.0; waits = after.waits; stack = after.stack; kept = after.kept; found = (came.1, came.2) },
+  λ locked. after.known,
+)
+tried_of b p q hands called objects plain names (step.Moved first second) after came = (objects, names, record { entry = came; gone = after.0 }, λ locked. after.1)
 tried_of b p q hands called objects plain names step.NoMemory after came = record { entry = came; gone = after.0 }
 
 -- what was found after loads was found after what came before them
@@ -70,34 +85,42 @@ found_before u v w o q part log number f = record {
   other = λ e. f.other (e ∙ sym number);
 }
 
-pub try_after : (b : Bank) (hands : List (Option Cursor)) (called : Call) (p q r : Pass) (part : List Act) (result : Step) → AddsNothing (view p) (view q) → (view q).log ≡ part ++ (view p).log → stack_of q ≡ stack_of p → IsTryOf b hands called q r result → IsTryOf b hands called p r result
-try_after b hands called p q r part (step.Done said stamp) before log stack x = record {
-  entry = before_adds called said stamp (view p) (view q) (view r) before x.entry;
-  resume = x.resume;
-  top = x.top;
-  marks = x.marks ∙ ap (λ (s : Stack). marks_after called (marks_in s)) stack;
-  mark = x.mark ∙ ap (λ (s : Stack). s.mark) stack;
-  ends = subst (λ (s : Stack). IsEndOf called (marks_in s) said) stack x.ends;
-}
-try_after b hands called p q r part (step.NotYet o owner) before log stack x = (
+-- what a pass knew after loads it knew before them
+knew_before : (called : Call) (objects : Objects) (p q : Pass) (answer : Got) → (may_look called ≡ false → view q ≡ view p) → KnewLocks called objects q answer → KnewLocks called objects p answer
+knew_before called objects p q answer same knew locked = subst (λ (v : View). KnewOwners objects v answer) (same locked) (knew locked)
+
+pub try_after : (b : Bank) (hands : List (Option Cursor)) (called : Call) (p q r : Pass) (part : List Act) (result : Step) → AddsNothing (view p) (view q) → (view q).log ≡ part ++ (view p).log → stack_of q ≡ stack_of p → ((o : ℕ) → has_lock o (view q).log ≡ has_lock o (view p).log) → (may_look called ≡ false → view q ≡ view p) → IsTryOf b hands called q r result → IsTryOf b hands called p r result
+try_after b hands called p q r part (step.Done said stamp) before log stack locks same x = (record {
+  entry = before_adds called said stamp (view p) (view q) (view r) before x.0.entry;
+  resume = x.0.resume;
+  top = x.0.top;
+  stack = subst (λ (s : Stack). StackAfter called s (stack_of r)) stack x.0.stack;
+  marks = x.0.marks ∙ ap (λ (s : Stack). marks_after called (marks_in s)) stack;
+  mark = x.0.mark ∙ ap (λ (s : Stack). s.mark) stack;
+  ends = subst (λ (s : Stack). IsEndOf called (marks_in s) said) stack x.0.ends;
+}, λ named is. knew_before called named p q got.Have same (x.1 named is))
+try_after b hands called p q r part (step.NotYet o owner) before log stack locks same x = (
   x.0,
   x.1,
   record {
     entry = nothing_then (view p) (view q) (view r) before x.2.entry;
     waits = x.2.waits;
     stack = x.2.stack ∙ ap (λ (s : Stack). waiting (with_own s (stack_of r).own) owner) stack;
+    kept = λ n. x.2.kept n ∙ (λ i. taken_in n (stack i).own + (if (o == lower_of x.0) || locks (lower_of x.0) i then 0 else at_one (lower_of x.0) n));
     found = (x.2.found.0, found_before (view p) (view q) (view r) o owner part log before.pass.number x.2.found.1);
   },
+  knew_before called x.0 p q (got.NotYet o owner) same x.3,
 )
-try_after b hands called p q r part (step.Moved first second) before log stack x = (
+try_after b hands called p q r part (step.Moved first second) before log stack locks same x = (
   x.0,
   x.1,
   record {
     entry = nothing_then (view p) (view q) (view r) before x.2.entry;
     gone = record { stack = x.2.gone.stack ∙ ap (λ (s : Stack). with_own s nothing_taken) stack; may = x.2.gone.may; resume = x.2.gone.resume };
   },
+  knew_before called x.0 p q got.Have same x.3,
 )
-try_after b hands called p q r part step.NoMemory before log stack x = record {
+try_after b hands called p q r part step.NoMemory before log stack locks same x = record {
   entry = nothing_then (view p) (view q) (view r) before x.entry;
   gone = record { stack = x.gone.stack ∙ ap (λ (s : Stack). with_own s nothing_taken) stack; may = x.gone.may; resume = x.gone.resume };
 }
@@ -166,20 +189,21 @@ after_nothing : (called : Call) (said : Reply) (stamp : Stamp) (u v w : View) �
 after_nothing called said stamp u v w made after = nothing_entry called said stamp u u v w (same_nothing u) made.seen made after
 
 -- it has its answer by the look
-pub looked_tried : (b : Bank) (p q r : Pass) (hands : List (Option Cursor)) (called : Call) (found : Option Look) (result : Step) → IsPlain called → 0 < (view p).left → settled found ≡ Some result → Looked called p q found → stack_of q ≡ stack_of p → OnlyLocked (view q) (view r) → HasLetGo b q r → IsTryOf b hands called p r result
-looked_tried b p q r hands called None result plain left is x stack gone let_go = absurd (let e : None ≡ Some result = is in cc)
-looked_tried b p q r hands called (Some (look.Contended first second)) result plain left is x stack gone let_go = absurd (let e : None ≡ Some result = is in cc)
-looked_tried b p q r hands called (Some (look.Done said stamp)) result plain left is x stack gone let_go =
+pub looked_tried : (b : Bank) (p q r : Pass) (hands : List (Option Cursor)) (called : Call) (found : Option Look) (result : Step) → IsPlain called → 0 < (view p).left → may_look called ≡ is_some found → settled found ≡ Some result → Looked called p q found → stack_of q ≡ stack_of p → OnlyLocked (view q) (view r) → HasLetGo b q r → IsTryOf b hands called p r result
+looked_tried b p q r hands called None result plain left made is x stack gone let_go = absurd (let e : None ≡ Some result = is in cc)
+looked_tried b p q r hands called (Some (look.Contended first second)) result plain left made is x stack gone let_go = absurd (let e : None ≡ Some result = is in cc)
+looked_tried b p q r hands called (Some (look.Done said stamp)) result plain left made is x stack gone let_go =
     let same : step.Done said stamp ≡ result = some_same (step.Done said stamp) result is in
     subst (IsTryOf b hands called p r) same (record {
       entry = after_nothing called said stamp (view p) (view q) (view r) (answered_adds called said stamp (view p) (view q) x.1 left x.0) (only_nothing (view q) (view r) gone);
       resume = let_go.resume;
       top = λ begins. absurd (true≢false (sym begins ∙ plain.begins));
+      stack = subst (StackAfter called (stack_of p)) (sym (let_go.stack ∙ ap (λ (s : Stack). with_own s nothing_taken) stack)) (plain.leaves (stack_of p));
       marks = ap marks_in let_go.stack ∙ (ap marks_in stack ∙ sym (plain.marks (marks_in (stack_of p))));
       mark = ap (λ (s : Stack). s.mark) let_go.stack ∙ ap (λ (s : Stack). s.mark) stack;
       ends = plain.ends (marks_in (stack_of p)) said;
-    })
-looked_tried b p q r hands called (Some look.NoMemory) result plain left is x stack gone let_go =
+    }, λ named names locked. absurd (true≢false (sym made ∙ locked)))
+looked_tried b p q r hands called (Some look.NoMemory) result plain left made is x stack gone let_go =
     let same : step.NoMemory ≡ result = some_same step.NoMemory result is in
     subst (IsTryOf b hands called p r) same (record {
       entry = nothing_then (view p) (view q) (view r) (loaded_nothing (view p) (view q) x) (only_nothing (view q) (view r) gone);
@@ -201,7 +225,13 @@ looked_left p q r called found none x same left =
     let l = looked_loaded p q called found none x in
     subst (λ (n : ℕ). 0 < n) (sym (ap (λ (v : View). v.left) same.1 ∙ l.2.work.left)) left
 
-pub looked_then : (b : Bank) (hands : List (Option Cursor)) (called : Call) (p q r s : Pass) (found : Option Look) (result : Step) → settled found ≡ None → Looked called p q found → stack_of q ≡ stack_of p → DidNothing q r → IsTryOf b hands called r s result → IsTryOf b hands called p s result
-looked_then b hands called p q r s found result none x stack same tried =
+-- a call that isn't looked first
+unlooked : (called : Call) (p q r : Pass) (found : Option Look) → may_look called ≡ is_some found → Looked called p q found → DidNothing q r → may_look called ≡ false → view r ≡ view p
+unlooked called p q r None made x same locked = same.1 ∙ x.1
+unlooked called p q r (Some answer) made x same locked = absurd (true≢false (sym made ∙ locked))
+
+pub looked_then : (b : Bank) (hands : List (Option Cursor)) (called : Call) (p q r s : Pass) (found : Option Look) (result : Step) → may_look called ≡ is_some found → settled found ≡ None → Looked called p q found → stack_of q ≡ stack_of p → DidNothing q r → IsTryOf b hands called r s result → IsTryOf b hands called p s result
+looked_then b hands called p q r s found result made none x stack same tried =
     let l = looked_loaded p q called found none x in
-    try_after b hands called p r s l.0 result (subst (AddsNothing (view p)) (sym same.1) (loaded_nothing (view p) (view q) l.2)) (ap (λ (v : View). v.log) same.1 ∙ l.1) (same.2 ∙ stack) tried
+    try_after b hands called p r s l.0 result (subst (AddsNothing (view p)) (sym same.1) (loaded_nothing (view p) (view q) l.2)) (ap (λ (v : View). v.log) same.1 ∙ l.1) (same.2 ∙ stack)
+    (λ o. ap (λ (v : View). has_lock o v.log) same.1 ∙ l.2.work.pass.locks o) (unlooked called p q r found made x same) tried

@@ -5,6 +5,7 @@ use Rattle.std.proofs.lemmas.Bool.{ne_eqb}
 use Rattle.std.proofs.lemmas.List.{map-append, reverse-append, same_from_push}
 use Rattle.ft_model.specs.declared.call.Call.{Call}
 use Rattle.ft_model.specs.declared.call.Call.TheVariants as call
+use Rattle.ft_model.specs.declared.cursor.Cursor.{Cursor}
 use Rattle.ft_model.specs.declared.reply.Reply.{Reply}
 use Rattle.ft_model.specs.declared.reply.Reply.TheVariants as reply
 use Rattle.ft_model.specs.Histories.{IsCountedAs}
@@ -33,8 +34,8 @@ use Rattle.ft_section.specs.Sectioning.{AreNoted, answered_view, begin_of, ended
 use Rattle.ft_section.specs.Takings.{HasBoth, HasLocks}
 use Rattle.ft_section.proofs.Goings.{only_sees}
 use Rattle.ft_section.proofs.Making.{in_call_stays}
-use Rattle.ft_engine.specs.Answering.{AddsEntry, AddsNothing, HasAnswer, StaysPass}
-use Rattle.ft_engine.specs.Flights.{objects_by}
+use Rattle.ft_engine.specs.Answering.{AddsEntry, AddsNothing, HasAnswer, KnewNone, StaysPass}
+use Rattle.ft_engine.specs.Flights.{objects_by, objects_of}
 use Rattle.ft_engine.specs.Keeping.{made_entry, marks_in}
 use Rattle.ft_engine.specs.Stacks.{Opens}
 use Rattle.ft_engine.proofs.Marks.{last_of}
@@ -124,6 +125,10 @@ entry_by called said stamp v w read left seen is = subst (AddsEntry called said 
 
 pub same_nothing : (v : View) → AddsNothing v v
 same_nothing v = record { pass = record { number = refl; next = refl; parts = refl; shape = refl; lists = refl; online = λ on. on; floor = refl; since = refl; seen = omega arith }; entries = refl; left = refl; cursors = λ number. refl }
+
+-- a call that names no containers needs no locks
+pub no_containers : (hands : List (Option Cursor)) (called : Call) (p : Pass) → objects_of hands called ≡ None → KnewNone hands called p
+no_containers hands called p none objects is = absurd (let e : None ≡ Some objects = sym none ∙ is in cc)
 
 -- ---- begin
 

@@ -6,5 +6,6 @@ pub mod Keeping
 pub mod Stacks
 pub mod Answering
 pub mod Attempts
+pub mod Halves
 pub mod Visits
 pub mod Closings

@@ -6,7 +6,9 @@ ghost use Rattle.ft_bank.specs.Sections.{stack_of};
 ghost use Rattle.ft_engine.specs.Attempts.{MayAttempt, flight_after, kept_after, IsMarkOf, FoundIn, HasFoundOwner, HasLookedFirst, IfWaits, StaysCaller};
 ghost use Rattle.ft_engine.specs.Callers.{IsCallerOf, pass_of, flight_of, thread_of};
 ghost use Rattle.ft_engine.specs.Flights.{IsAnswered, IsNext};
+ghost use Rattle.ft_engine.specs.Halves.{HasHalves, IsTakenUp};
 ghost use Rattle.ft_engine.specs.Keeping.{IsKept};
+ghost use Rattle.ft_engine.specs.declared.caller.Flight.TheVariants as flight;
 
 use crate::caller::{Caller, Flight};
 use crate::engine::Engine;
@@ -41,6 +43,8 @@ impl Engine {
         ensures mark { IsMarkOf result (stack_of caller.old.pass).mark (stack_of caller.new.pass).mark }
         ensures found { FoundIn result (view caller.old.pass) (view caller.new.pass) }
         ensures answered { IfWaits result (IsAnswered caller.new.flight) }
+        ensures taken { (called : Call) (said : Reply) (stamp : Stamp) → caller.old.flight ≡ flight.Answered called said stamp →
+            IsTakenUp said stamp caller.old.pass caller.new.pass result }
     {
         match resume(&self.bank, &mut caller.pass) {
             Resumed::Back(mark) => {
@@ -75,6 +79,7 @@ impl Engine {
         ensures mark { IsMarkOf result (stack_of (pass_of caller.old)).mark (stack_of (pass_of caller.new)).mark }
         ensures found { HasFoundOwner result caller.old caller.new }
         ensures looked { HasLookedFirst call.now result caller.old caller.new }
+        ensures halves { HasHalves self.now call.now caller.old caller.new result }
     {
         if caller.is_answered() {
             return self.take_up(caller);

@@ -1,15 +1,16 @@
 //! Tries of calls on lists: a look without the lock, where the call may be made so, and then the call under its
 //! locks.
-ghost use Rattle.std.specs.Prelude.{◌≡◌, ◌<◌, List, Option, None, length, IfNone, true};
+ghost use Rattle.std.specs.Prelude.{◌≡◌, ◌<◌, List, Option, None, length, is_some};
 ghost use Rattle.ft_model.specs.declared.call.Call.TheVariants as calls;
 ghost use Rattle.ft_model.specs.declared.cursor.Cursor.{Cursor};
 ghost use Rattle.ft_model.specs.declared.script.Kind.TheVariants as kind;
-ghost use Rattle.ft_model.specs.Calls.{cursor_of_list, is_locked_list, other_list};
+ghost use Rattle.ft_model.specs.Calls.{cursor_of_list, other_list};
 ghost use Rattle.ft_trace.specs.Acts.{announces};
 ghost use Rattle.ft_bank.specs.Passes.{shape_of, view, IsPassOf};
 ghost use Rattle.ft_bank.specs.Sections.{stack_of};
 ghost use Rattle.ft_section.specs.Ready.{MayTry};
 ghost use Rattle.ft_engine.specs.Answering.{HasLooked, IsTryOf, Looked};
+ghost use Rattle.ft_engine.specs.Contentions.{may_look};
 ghost use Rattle.ft_engine.specs.Flights.{objects_by};
 ghost use Rattle.ft_engine.specs.Names.{AreOfKindIn};
 
@@ -39,7 +40,7 @@ pub(crate) fn look_list(
     ensures pass { IsPassOf bank.now pass.new }
     ensures sections { stack_of pass.new ≡ stack_of pass.old }
     ensures looked { Looked (calls.List l call.now) pass.old pass.new result }
-    ensures made { IfNone result (is_locked_list call.now ≡ true) }
+    ensures made { may_look (calls.List l call.now) ≡ is_some result }
 {
     match *call {
         ListCall::Get { index } => Some(look_get(bank, pass, l, index)),

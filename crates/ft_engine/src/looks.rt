@@ -1,5 +1,5 @@
 //! Looks: calls that read, and are made without a lock.
-ghost use Rattle.std.specs.Prelude.{◌≡◌, ◌<◌, ◌↔◌, IsTrue, List, Option, IfNone, true, false};
+ghost use Rattle.std.specs.Prelude.{◌≡◌, ◌<◌, ◌↔◌, IsTrue, List, Option, is_some, true, false};
 ghost use Rattle.ft_model.specs.declared.cursor.Cursor.{Cursor};
 ghost use Rattle.ft_model.specs.declared.entry.Entry.{Entry as NamedEntry};
 ghost use Rattle.ft_trace.specs.Acts.{announces};
@@ -47,7 +47,7 @@ fn look_call(bank: &Bank, pass: &mut Pass, alloc: Global, call: &Call) -> Option
     ensures pass { IsPassOf bank.now pass.new }
     ensures sections { stack_of pass.new ≡ stack_of pass.old }
     ensures looked { Looked call.now pass.old pass.new result }
-    ensures made { IfNone result (may_look call.now ≡ false) }
+    ensures made { may_look call.now ≡ is_some result }
 {
     match *call {
         Call::Dict { container, call } => look_dict(bank, pass, alloc, container, &call),

@@ -1,14 +1,15 @@
 //! Tries of calls on sets.
-ghost use Rattle.std.specs.Prelude.{◌≡◌, ◌<◌, None, List, Option, IfNone, true};
+ghost use Rattle.std.specs.Prelude.{◌≡◌, ◌<◌, None, List, Option, is_some};
 ghost use Rattle.ft_model.specs.declared.call.Call.TheVariants as calls;
 ghost use Rattle.ft_model.specs.declared.cursor.Cursor.{Cursor};
 ghost use Rattle.ft_model.specs.declared.script.Kind.TheVariants as kind;
-ghost use Rattle.ft_model.specs.Calls.{cursor_of_set, is_locked_set, other_set};
+ghost use Rattle.ft_model.specs.Calls.{cursor_of_set, other_set};
 ghost use Rattle.ft_trace.specs.Acts.{announces};
 ghost use Rattle.ft_bank.specs.Passes.{shape_of, view, IsPassOf};
 ghost use Rattle.ft_bank.specs.Sections.{stack_of};
 ghost use Rattle.ft_section.specs.Ready.{MayTry};
 ghost use Rattle.ft_engine.specs.Answering.{HasLooked, IsTryOf, Looked};
+ghost use Rattle.ft_engine.specs.Contentions.{may_look};
 ghost use Rattle.ft_engine.specs.Flights.{objects_by};
 ghost use Rattle.ft_engine.specs.Names.{AreOfKindIn, HasKey, IsBuiltSet, key_of_set};
 
@@ -40,7 +41,7 @@ pub(crate) fn look_set(
     ensures pass { IsPassOf bank.now pass.new }
     ensures sections { stack_of pass.new ≡ stack_of pass.old }
     ensures looked { Looked (calls.Set s call.now) pass.old pass.new result }
-    ensures made { IfNone result (is_locked_set call.now ≡ true) }
+    ensures made { may_look (calls.Set s call.now) ≡ is_some result }
 {
     match *call {
         SetCall::Has { key } => Some(look_has(bank, pass, s, key)),

@@ -7,7 +7,9 @@ use Rattle.std.proofs.lemmas.Bool.{eq-eqb, ne_eqb}
 use Rattle.ft_bank.proofs.Floors.{floor_found}
 use Rattle.ft_section.specs.declared.answers.Began.TheVariants as began
 use Rattle.ft_section.specs.declared.answers.Got.TheVariants as got
-use Rattle.ft_section.specs.Floors.{floor_word, owner_named, owner_of, owner_or, began_by, got_by, FindsSame}
+use Rattle.ft_section.specs.declared.answers.Resumed.TheVariants as resumed
+use Rattle.ft_section.specs.declared.answers.Stamp.{Stamp}
+use Rattle.ft_section.specs.Floors.{floor_word, owner_named, owner_of, owner_or, began_by, got_by, resumed_by, FindsSame}
 use Rattle.ft_trace.specs.declared.Act.TheVariants.{Lock, ReadCounter}
 use Rattle.ft_trace.specs.declared.Snap.{Snap}
 use Rattle.ft_trace.specs.declared.View.{View}
@@ -65,3 +67,17 @@ owner_none o (Some q) rest none = absurd cc
 pub not_yet_began : (n o q : ℕ) (first : Option (ℕ × ℕ)) → got.NotYet o q ≡ got_by first → began.NotYet o q ≡ began_by n first
 not_yet_began n o q None is = absurd cc
 not_yet_began n o q (Some found) is = cc
+
+-- and is entered where they are there
+pub entered_had : (n : ℕ) (s : Stamp) (first : Option (ℕ × ℕ)) → began.Entered s ≡ began_by n first → got.Have ≡ got_by first
+entered_had n s None is = refl
+entered_had n s (Some found) is = absurd cc
+
+-- the innermost section is there where nobody else has its locks, and waits where somebody has
+pub back_had : (m mark : Option ℕ) (first : Option (ℕ × ℕ)) → resumed.Back mark ≡ resumed_by m first → first ≡ None
+back_had m mark None is = refl
+back_had m mark (Some found) is = absurd cc
+
+pub not_yet_back : (m : Option ℕ) (o q : ℕ) (first : Option (ℕ × ℕ)) → resumed.NotYet o q ≡ resumed_by m first → first ≡ Some (o, q)
+not_yet_back m o q None is = absurd cc
+not_yet_back m o q (Some found) is = cc

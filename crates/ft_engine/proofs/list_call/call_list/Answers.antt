@@ -5,7 +5,7 @@ use Rattle.ft_bank.specs.Passes.{view}
 use Rattle.ft_engine.specs.Flights.{objects_by}
 use Rattle.ft_engine.proofs.ListCalls.{plain_list}
 use Rattle.ft_engine.proofs.Looking.{looked_left, looked_making, looked_may, looked_then, looked_tried}
-use Rattle.ft_engine.proofs.LookFirst.{contended_looked, locked_list, settled_looked}
+use Rattle.ft_engine.proofs.LookFirst.{contended_looked, none_looked, settled_looked}
 use Rattle.ft_engine.proofs.list_call.call_list.Goals as goal
 
 pub settle-requires : goal.settle-requires
@@ -29,12 +29,12 @@ pub returns-in-Some-clause-tried : goal.returns-in-Some-clause-tried
 returns-in-Some-clause-tried c hands =
     let e = c.look_list-look.ensures in
     let lc = c.args.call.now in
-    looked_tried c.args.bank.now c.args.pass.now c.look_list-look.new.pass c.settle.new.pass hands (call.List c.args.l lc) c.look_list-look.result c.in-Some.step (plain_list c.args.l lc) c.requires.left (sym c.in-Some.ensures.answer) e.looked e.sections c.in-Some.ensures.locked c.in-Some.ensures.gone
+    looked_tried c.args.bank.now c.args.pass.now c.look_list-look.new.pass c.settle.new.pass hands (call.List c.args.l lc) c.look_list-look.result c.in-Some.step (plain_list c.args.l lc) c.requires.left e.made (sym c.in-Some.ensures.answer) e.looked e.sections c.in-Some.ensures.locked c.in-Some.ensures.gone
 
 pub returns-in-None-clause-tried : goal.returns-in-None-clause-tried
 returns-in-None-clause-tried c hands =
     let e = c.look_list-look.ensures in
-    looked_then c.args.bank.now hands (call.List c.args.l c.args.call.now) c.args.pass.now c.look_list-look.new.pass c.settle.new.pass c.try_list.new.pass c.look_list-look.result c.try_list.result (sym c.in-None.ensures.answer) e.looked e.sections c.in-None.ensures.none (c.try_list.ensures hands)
+    looked_then c.args.bank.now hands (call.List c.args.l c.args.call.now) c.args.pass.now c.look_list-look.new.pass c.settle.new.pass c.try_list.new.pass c.look_list-look.result c.try_list.result e.made (sym c.in-None.ensures.answer) e.looked e.sections c.in-None.ensures.none (c.try_list.ensures hands)
 
 pub returns-in-Some-clause-looked : goal.returns-in-Some-clause-looked
 returns-in-Some-clause-looked c =
@@ -44,4 +44,4 @@ pub returns-in-None-clause-looked : goal.returns-in-None-clause-looked
 returns-in-None-clause-looked c =
     let e = c.look_list-look.ensures in
     contended_looked c.args.bank.now [] (call.List c.args.l c.args.call.now) c.args.pass.now c.look_list-look.new.pass c.settle.new.pass c.try_list.new.pass c.look_list-look.result c.try_list.result (sym c.in-None.ensures.answer) e.looked
-    (locked_list c.args.l c.args.call.now c.look_list-look.result e.made) c.in-None.ensures.none (c.try_list.ensures [])
+    (none_looked (call.List c.args.l c.args.call.now) c.look_list-look.result e.made) c.in-None.ensures.none (c.try_list.ensures [])

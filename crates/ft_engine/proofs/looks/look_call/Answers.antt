@@ -6,7 +6,6 @@ use Rattle.ft_bank.specs.Passes.{shape_of}
 use Rattle.ft_engine.specs.Answering.{Looked}
 use Rattle.ft_engine.specs.Contentions.{may_look}
 use Rattle.ft_engine.specs.Names.{IsBuilt, IsCallIn}
-use Rattle.ft_engine.proofs.LookFirst.{locked_dict, locked_list, locked_set}
 use Rattle.ft_engine.proofs.looks.look_call.Goals as goal
 
 pub look_dict-requires-clause-names : goal.look_dict-requires-clause-names
@@ -22,7 +21,7 @@ pub returns-in-Dict-clause-looked : goal.returns-in-Dict-clause-looked
 returns-in-Dict-clause-looked c = subst (λ (x : Call). Looked x c.args.pass.now c.look_dict.new.pass c.look_dict.result) (sym c.in-Dict.is) c.look_dict.ensures.looked
 
 pub returns-in-Dict-clause-made : goal.returns-in-Dict-clause-made
-returns-in-Dict-clause-made c = subst (λ (x : Call). IfNone c.look_dict.result (may_look x ≡ false)) (sym c.in-Dict.is) (locked_dict c.in-Dict.container c.in-Dict.call c.look_dict.result c.look_dict.ensures.made)
+returns-in-Dict-clause-made c = subst (λ (x : Call). may_look x ≡ is_some c.look_dict.result) (sym c.in-Dict.is) c.look_dict.ensures.made
 
 pub look_list-requires-clause-names : goal.look_list-requires-clause-names
 look_list-requires-clause-names c = (subst (IsCallIn (shape_of c.args.bank.now) c.requires.names.0) c.in-List.is c.requires.names.1).0
@@ -31,7 +30,7 @@ pub returns-in-List-clause-looked : goal.returns-in-List-clause-looked
 returns-in-List-clause-looked c = subst (λ (x : Call). Looked x c.args.pass.now c.look_list.new.pass c.look_list.result) (sym c.in-List.is) c.look_list.ensures.looked
 
 pub returns-in-List-clause-made : goal.returns-in-List-clause-made
-returns-in-List-clause-made c = subst (λ (x : Call). IfNone c.look_list.result (may_look x ≡ false)) (sym c.in-List.is) (locked_list c.in-List.container c.in-List.call c.look_list.result c.look_list.ensures.made)
+returns-in-List-clause-made c = subst (λ (x : Call). may_look x ≡ is_some c.look_list.result) (sym c.in-List.is) c.look_list.ensures.made
 
 pub look_set-requires-clause-names : goal.look_set-requires-clause-names
 look_set-requires-clause-names c = (subst (IsCallIn (shape_of c.args.bank.now) c.requires.names.0) c.in-Set.is c.requires.names.1).0
@@ -46,7 +45,7 @@ pub returns-in-Set-clause-looked : goal.returns-in-Set-clause-looked
 returns-in-Set-clause-looked c = subst (λ (x : Call). Looked x c.args.pass.now c.look_set.new.pass c.look_set.result) (sym c.in-Set.is) c.look_set.ensures.looked
 
 pub returns-in-Set-clause-made : goal.returns-in-Set-clause-made
-returns-in-Set-clause-made c = subst (λ (x : Call). IfNone c.look_set.result (may_look x ≡ false)) (sym c.in-Set.is) (locked_set c.in-Set.container c.in-Set.call c.look_set.result c.look_set.ensures.made)
+returns-in-Set-clause-made c = subst (λ (x : Call). may_look x ≡ is_some c.look_set.result) (sym c.in-Set.is) c.look_set.ensures.made
 
 pub returns-in-Next-clause-made : goal.returns-in-Next-clause-made
 returns-in-Next-clause-made c = ap may_look c.in-Next.is

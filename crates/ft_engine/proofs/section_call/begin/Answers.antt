@@ -1,11 +1,16 @@
-use Rattle.std.proofs.Common.{refl, subst}
+use Rattle.std.proofs.Common.{◌∙◌, refl, subst}
 use Rattle.ft_bank.specs.Passes.{view}
 use Rattle.ft_bank.specs.Sections.{stack_of}
 use Rattle.ft_section.specs.declared.answers.Objects.{Objects}
-use Rattle.ft_section.specs.Ready.{IsWaiting}
-use Rattle.ft_section.specs.Takings.{IsOf}
+use Rattle.ft_section.specs.declared.answers.Got.TheVariants as got
+use Rattle.ft_section.specs.Floors.{KnewOwners, first_owned}
+use Rattle.ft_section.specs.Takings.{IsOf, lower_of, upper_of}
+use Rattle.ft_section.specs.Trying.{WaitsFor}
+use Rattle.ft_section.proofs.Floors.{entered_had}
 use Rattle.ft_engine.specs.Flights.{objects_by}
-use Rattle.ft_engine.proofs.SectionCalls.{Enters, Opens, begin_answer, only_nothing}
+use Rattle.ft_engine.specs.Stacks.{Opens}
+use Rattle.ft_engine.proofs.Looking.{one_objects}
+use Rattle.ft_engine.proofs.SectionCalls.{Enters, begin_answer, only_nothing}
 use Rattle.ft_engine.proofs.section_call.begin.Goals as goal
 
 pub returns-in-Entered : goal.returns-in-Entered
@@ -13,19 +18,24 @@ returns-in-Entered c hands =
     let e = c.in-Entered.ensures in
     let p = c.args.pass.now in
     let q = c.try_begin.new.pass in
-    begin_answer c.args.bank.now p q c.args.first c.args.second c.in-Entered.stamp c.requires.left
+    (begin_answer c.args.bank.now p q c.args.first c.args.second c.in-Entered.stamp c.requires.left
     (subst (λ (x : Objects). Enters x c.in-Entered.stamp.number (view p) (view q)) c.objects.ensures e.entry) e.seen e.read
-    (subst (λ (x : Objects). Opens x (stack_of p) (stack_of q)) c.objects.ensures e.section) e.resume
+    (subst (λ (x : Objects). Opens x (stack_of p) (stack_of q)) c.objects.ensures e.section) e.resume,
+    λ named names locked. subst (λ (x : Objects). KnewOwners x (view p) got.Have) (c.objects.ensures ∙ one_objects (objects_by c.args.first c.args.second) named names)
+    (λ has. entered_had _ c.in-Entered.stamp (first_owned (lower_of c.objects.result) (upper_of c.objects.result) (view p)) (e.known has)))
 
 pub returns-in-NotYet : goal.returns-in-NotYet
 returns-in-NotYet c hands =
-    let e = c.in-NotYet.ensures in (
+    let e = c.in-NotYet.ensures in
+    let w = subst (λ (x : Objects). WaitsFor c.args.bank.now x c.in-NotYet.object c.in-NotYet.owner c.args.pass.now c.try_begin.new.pass) c.objects.ensures e.waiting in (
       objects_by c.args.first c.args.second,
       refl,
       record {
         entry = only_nothing (view c.args.pass.now) (view c.try_begin.new.pass) e.locked;
-        waits = subst (IsWaiting c.args.bank.now c.try_begin.new.pass) c.objects.ensures e.waiting.0;
-        stack = e.waiting.1;
+        waits = w.waits;
+        stack = w.stack;
+        kept = w.kept;
         found = (subst (IsOf c.in-NotYet.object) c.objects.ensures e.found.0, e.found.1);
       },
+      λ locked. w.known,
     )

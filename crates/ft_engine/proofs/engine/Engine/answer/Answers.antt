@@ -7,7 +7,7 @@ use Rattle.ft_engine.proofs.engine.Engine.answer.Goals as goal
 pub returns-in-Done-clause-kept : goal.returns-in-Done-clause-kept
 returns-in-Done-clause-kept c mine kept =
     let old = c.args.caller.now in
-    answered_kept c.args.self.now old (record { pass = c.make.new.pass; cursors = c.make.new.cursors; calls = old.calls; made = old.made + 1; flight = flight.Answered c.args.call.now c.in-Done.reply c.in-Done.stamp }) c.args.call.now c.in-Done.reply c.in-Done.stamp mine c.requires.caller c.requires.unanswered c.requires.may.next c.in-Done.ensures.tried refl kept
+    answered_kept c.args.self.now old (record { pass = c.make.new.pass; cursors = c.make.new.cursors; calls = old.calls; made = old.made + 1; flight = flight.Answered c.args.call.now c.in-Done.reply c.in-Done.stamp }) c.args.call.now c.in-Done.reply c.in-Done.stamp mine c.requires.caller c.requires.unanswered c.requires.may.next c.in-Done.ensures.tried.0 refl kept
 
 pub returns-in-NotYet-clause-told : goal.returns-in-NotYet-clause-told
 returns-in-NotYet-clause-told c mine kept =

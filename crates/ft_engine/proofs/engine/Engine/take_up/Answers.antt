@@ -1,6 +1,9 @@
-use Rattle.std.proofs.Common.{◌-◌, refl, sym, ap, ◌∙◌}
+use Rattle.std.proofs.Common.{◌≡◌, ◌-◌, refl, sym, ap, ◌∙◌}
 use Rattle.ft_bank.specs.Passes.{view}
 use Rattle.ft_bank.specs.Sections.{stack_of}
+use Rattle.ft_section.specs.Floors.{first_owned}
+use Rattle.ft_section.proofs.Floors.{back_had, not_yet_back}
+use Rattle.ft_engine.specs.declared.caller.Flight.TheVariants as flight
 use Rattle.ft_engine.specs.Callers.{thread_of}
 use Rattle.ft_engine.proofs.Callers.{ended_kept, waits_caller, waits_kept}
 use Rattle.ft_engine.proofs.SectionCalls.{only_stays}
@@ -26,3 +29,23 @@ returns-in-NotYet-clause-same c = record { pass = only_stays (view c.args.caller
 pub returns-in-NotYet-clause-kept : goal.returns-in-NotYet-clause-kept
 returns-in-NotYet-clause-kept c called mine next kept =
     waits_kept c.args.self.now c.args.caller.now c.resume.new.pass c.in-NotYet.owner mine c.requires.caller c.requires.answered c.in-NotYet.ensures.locked c.in-NotYet.ensures.lacked c.in-NotYet.ensures.waiting kept
+
+pub returns-in-Answered-clause-taken : goal.returns-in-Answered-clause-taken
+returns-in-Answered-clause-taken c called said stamp is =
+    let same : flight.Answered called said stamp ≡ flight.Answered c.in-Answered.field-0 c.in-Answered.reply c.in-Answered.stamp =
+    sym is ∙ (sym c.replace-flight.ensures.value ∙ c.in-Answered.is) in
+    let s = stack_of c.args.caller.now.pass in (
+      cc,
+      cc,
+      c.in-Back.ensures.mark,
+      c.in-Back.ensures.stack,
+      λ has outer top cut. back_had s.mark c.in-Back.mark (first_owned top.locks.lower top.locks.upper (view c.args.caller.now.pass)) (c.in-Back.ensures.known has outer top cut),
+    )
+
+pub returns-in-NotYet-clause-taken : goal.returns-in-NotYet-clause-taken
+returns-in-NotYet-clause-taken c called said stamp is =
+    let s = stack_of c.args.caller.now.pass in (
+      c.in-NotYet.ensures.waiting,
+      c.in-NotYet.ensures.kept,
+      λ has outer top cut. not_yet_back s.mark c.in-NotYet.object c.in-NotYet.owner (first_owned top.locks.lower top.locks.upper (view c.args.caller.now.pass)) (c.in-NotYet.ensures.known has outer top cut),
+    )

@@ -80,4 +80,7 @@ back_had m mark (Some found) is = absurd cc
 
 pub not_yet_back : (m : Option ℕ) (o q : ℕ) (first : Option (ℕ × ℕ)) → resumed.NotYet o q ≡ resumed_by m first → first ≡ Some (o, q)
 not_yet_back m o q None is = absurd cc
-not_yet_back m o q (Some found) is = cc
+not_yet_back m o q (Some found) is =
+    let a : o ≡ found.0 = cc in
+    let b : q ≡ found.1 = cc in
+    λ i. Some (sym a i, sym b i)

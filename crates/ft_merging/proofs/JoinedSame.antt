@@ -80,8 +80,8 @@ module _ (k : Shape) (o : ℕ) (v : View) (shape : v.shape ≡ k) (possible : �
   known_way : (by : Way) × IsOfWay by (known o v).content
   known_way = let w = keyed_way (kind_in k.kinds o) keyed in (w.0, of_way w.0 v o possible mine (ap (λ (z : Shape). kind_in z.kinds o) shape ∙ w.1))
 
-  as : (d : Content) → (known o v).content ≡ d → StandsAs k.texts (held o v).block words (known o v).table d
-  as d is = subst (λ (z : Content). StandsAs k.texts (held o v).block words (known o v).table z) is stands
+  stands_as : (d : Content) → (known o v).content ≡ d → StandsAs k.texts (held o v).block words (known o v).table d
+  stands_as d is = subst (λ (z : Content). StandsAs k.texts (held o v).block words (known o v).table z) is stands
 
   -- it has no more keys than the largest table holds
   pub known_cap : Laws → passes_cap (known o v).content ≡ false
@@ -96,8 +96,8 @@ module _ (k : Shape) (o : ℕ) (v : View) (shape : v.shape ≡ k) (possible : �
       elements (Some class) d says = set.set_short laws.elements k.texts (held o v).block class (known o v).table.fill says.head.root.1.0 d (held o v).table says
 
       by : (w : Way) → IsOfWay w (known o v).content → passes_cap (known o v).content ≡ false
-      by way.Dict is = ap passes_cap is.1 ∙ le-ltb most_pairs (length is.0.pairs) (pairs (known o v).table.class is.0 (as (content.Dict is.0) is.1))
-      by way.Set is = ap passes_cap is.1 ∙ le-ltb most_elements (length is.0.elements) (elements (known o v).table.class is.0 (as (content.Set is.0) is.1))
+      by way.Dict is = ap passes_cap is.1 ∙ le-ltb most_pairs (length is.0.pairs) (pairs (known o v).table.class is.0 (stands_as (content.Dict is.0) is.1))
+      by way.Set is = ap passes_cap is.1 ∙ le-ltb most_elements (length is.0.elements) (elements (known o v).table.class is.0 (stands_as (content.Set is.0) is.1))
 
   -- it has none, where it has no table
   pub known_bare : root_in (held o v) ≡ 0 → length_of (known o v).content ≡ 0
@@ -112,8 +112,8 @@ module _ (k : Shape) (o : ℕ) (v : View) (shape : v.shape ≡ k) (possible : �
       elements (Some class) d says = absurd (let r = says.head.root.1.2 in omega (arith, r, bare))
 
       by : (w : Way) → IsOfWay w (known o v).content → length_of (known o v).content ≡ 0
-      by way.Dict is = ap length_of is.1 ∙ pairs (known o v).table.class is.0 (as (content.Dict is.0) is.1)
-      by way.Set is = ap length_of is.1 ∙ elements (known o v).table.class is.0 (as (content.Set is.0) is.1)
+      by way.Dict is = ap length_of is.1 ∙ pairs (known o v).table.class is.0 (stands_as (content.Dict is.0) is.1)
+      by way.Set is = ap length_of is.1 ∙ elements (known o v).table.class is.0 (stands_as (content.Set is.0) is.1)
 
   -- one that is named twice
   pub known_itself : joined (known o v).content (known o v).content ≡ (known o v).content
@@ -123,5 +123,5 @@ module _ (k : Shape) (o : ℕ) (v : View) (shape : v.shape ≡ k) (possible : �
       twice d is same = subst (λ (z : Content). joined z z ≡ z) (sym is) same
 
       by : (w : Way) → IsOfWay w (known o v).content → joined (known o v).content (known o v).content ≡ (known o v).content
-      by way.Dict is = twice (content.Dict is.0) is.1 (ap content.Dict (update_itself is.0 (stands_for_dict k.texts (held o v).block words (known o v).table.class (known o v).table.fill is.0 (as (content.Dict is.0) is.1))))
+      by way.Dict is = twice (content.Dict is.0) is.1 (ap content.Dict (update_itself is.0 (stands_for_dict k.texts (held o v).block words (known o v).table.class (known o v).table.fill is.0 (stands_as (content.Dict is.0) is.1))))
       by way.Set is = twice (content.Set is.0) is.1 (ap content.Set (or_itself is.0))

@@ -128,7 +128,7 @@ module _ (heads : Heads) (laws : Laws) (k : Shape) (o : ℕ) (by : Way) (own : T
   pub here_begins : IsJoining k o by own t table (joined (known o u).content (known t u).content) (counts.fill + more) 0 counts u
   here_begins =
       let n = counts_known heads k o (Some own) v counts may.keyed are in
-      let source = source_known elements k t table u shape_u possible_u (knows_begun k o t (Some table) v u f begun two other) by kind_t in
+      let source = source_known laws k t table u shape_u possible_u (knows_begun k o t (Some table) v u f begun two other) by kind_t in
       let goal : joined d (known t u).content ≡ joined (known o u).content (known t u).content = ap (λ (z : Kept). joined z.content (known t u).content) (known_back o) in
       subst (λ (z : Content). IsJoining k o by own t table z (counts.fill + more) 0 counts u) goal
       (joining_begins k o by own t table d counts more u midway (kinds ∙ kind_eq) kind_eq n.0 n.1 alive evens_on source

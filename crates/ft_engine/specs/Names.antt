@@ -91,25 +91,7 @@ FitsSections s (call.Set o sc) = Unit {0}
 FitsSections s (call.Next number) = Unit {0}
 FitsSections s call.Quiesce = Unit {0}
 
--- the calls on dicts and sets that an engine makes so far: all but `update` and `xor`
-abbrev pub IsBuiltDict : DictCall → Type 0
-IsBuiltDict (dict.Get key) = Unit {0}
-IsBuiltDict (dict.GetOr key default) = Unit {0}
-IsBuiltDict (dict.Set key value) = Unit {0}
-IsBuiltDict (dict.Del key) = Unit {0}
-IsBuiltDict (dict.Pop key) = Unit {0}
-IsBuiltDict (dict.PopOr key default) = Unit {0}
-IsBuiltDict dict.PopItem = Unit {0}
-IsBuiltDict (dict.SetDefault key default) = Unit {0}
-IsBuiltDict (dict.Has key) = Unit {0}
-IsBuiltDict dict.Len = Unit {0}
-IsBuiltDict dict.Items = Unit {0}
-IsBuiltDict (dict.Update other) = ⊥
-IsBuiltDict dict.Clear = Unit {0}
-IsBuiltDict (dict.CopyTo other) = Unit {0}
-IsBuiltDict (dict.Eq other) = Unit {0}
-IsBuiltDict (dict.Iter cursor) = Unit {0}
-
+-- the calls on sets that an engine makes so far: all but `xor`
 abbrev pub IsBuiltSet : SetCall → Type 0
 IsBuiltSet (set.Add key) = Unit {0}
 IsBuiltSet (set.Discard key) = Unit {0}
@@ -128,9 +110,9 @@ IsBuiltSet (set.Disjoint other) = Unit {0}
 IsBuiltSet set.Clear = Unit {0}
 IsBuiltSet (set.Iter cursor) = Unit {0}
 
--- the calls that an engine makes so far: all on lists, of cursors and of sections, `quiesce`, and those on dicts and sets
+-- the calls that an engine makes so far: all but those on sets that it doesn't
 abbrev pub IsBuilt : Call → Type 0
-IsBuilt (call.Dict o dc) = IsBuiltDict dc
+IsBuilt (call.Dict o dc) = Unit {0}
 IsBuilt (call.List o lc) = Unit {0}
 IsBuilt (call.Set o sc) = IsBuiltSet sc
 IsBuilt (call.Next number) = Unit {0}

@@ -29,17 +29,8 @@ use Rattle.ft_adding.specs.Growing.{keys_take}
 use Rattle.ft_merging.specs.Joining.{JoinsKeys, join_takes, joined, joined_kept, new_keys}
 use Rattle.ft_merging.proofs.Finished.{is_set}
 use Rattle.ft_merging.proofs.JoinedContents.{or_length}
+use Rattle.ft_merging.proofs.Pairs.{named_cap}
 use Rattle.ft_set.proofs.Leaving.{many, many_tables, set_is, table_is, there}
-
--- whether one of two containers has too many, where the other one hasn't if the first has few; or of one named twice
-named_cap : (f : ℕ → Content) (s t : ℕ) (b over : Bool) → passes_cap (f s) ≡ over → (over ≡ false → passes_cap (f t) ≡ false) → list_any passes_cap (map f (cond b (s ∷ []) (s ∷ t ∷ []))) ≡ over
-named_cap f s t true over one other = ap (λ (z : Bool). z || false) one ∙ by over
-  where
-    by : (z : Bool) → (z || false) ≡ z
-    by true = refl
-    by false = refl
-named_cap f s t false true one other = ap (λ (z : Bool). z || (passes_cap (f t) || false)) one
-named_cap f s t false false one other = λ i. one i || (other refl i || false)
 
 module _ (k : Shape) (s t : ℕ) (v : View) (shape : v.shape ≡ k) (possible : ∥ Possible v ∥₁) (may : MayWriteEntries k s v) (other : MayWriteEntries k t v) (is : kind_in k.kinds s ≡ kind.Set) (other_is : kind_in k.kinds t ≡ kind.Set) (few : passes_cap (known t v).content ≡ false) where
   abbrev elements : SetContent

@@ -21,7 +21,7 @@ ghost use Rattle.ft_merging.specs.Joining.{JoinsBy};
 use ft_bank::{Bank, Pass};
 use ft_growth::{Added, step_of};
 use ft_keys::Way;
-use ft_layout::used_entries_follow_a_set;
+use ft_layout::{used_entries_follow_a_dict, used_entries_follow_a_set};
 use ft_merging::{join_by, thin_by};
 use ft_model::{Call, Reply, SetCall};
 use ft_search::written;
@@ -138,6 +138,7 @@ pub fn or_by(bank: &Bank, pass: &mut Pass, s: Object, t: Object) -> Added
     ensures stack { stack_of pass.new ≡ stack_of pass.old }
     ensures added { JoinsBy (shape_of bank.now) s t (call.Set s (set.Or t)) (view pass.old) (view pass.new) result }
 {
+    used_entries_follow_a_dict();
     used_entries_follow_a_set();
     let called = Call::Set {
         container: s,

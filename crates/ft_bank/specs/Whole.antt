@@ -18,7 +18,7 @@ use Rattle.ft_bank.specs.Writes.{MayHave}
 
 -- It is the same pass: it has the same locks, has made the same versions odd, announces the same, is in the midst of
 -- the same taking or giving, has begun the same sections, has the same cursors and the same entries of passes that it
--- took in, has taken the floor no more and lost it no more, and has seen no fewer writes. (profile)
+-- took in, has the floor as before and since the same moment, and has seen no fewer writes. (profile)
 pub record SamePass (v w : View) : Type 0 where
   pub number : w.number ≡ v.number
   pub next : w.next ≡ v.next

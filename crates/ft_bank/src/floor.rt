@@ -19,8 +19,8 @@ impl Bank {
     ghost use Rattle.ft_bank.specs.Passes.{shape_of, view, IsPassOf, Did};
     ghost use Rattle.ft_bank.specs.Sections.{stack_of};
 
-    /// Gives all tokens of a pass away, which rests from then on: it is in the midst of no write, and of no taking
-    /// or giving of a table.
+    /// Gives all tokens of a pass away, which rests from then on: it writes no container, has no fresh table in
+    /// hand, and is in the midst of no taking or giving.
     pub fn rest(&self, pass: Pass) -> (Resting, Tokens)
         requires pass { IsPassOf self.now pass }
         requires quiet { IsQuiet (view pass) }

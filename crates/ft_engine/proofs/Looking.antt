@@ -57,15 +57,18 @@ pub one_objects : (x y : Objects) → Some x ≡ Some y → x ≡ y
 one_objects x y e = cc
 
 pub tried_of : (b : Bank) (p q : Pass) (hands : List (Option Cursor)) (called : Call) (objects : Objects) → IsPlain called → objects_of hands called ≡ Some objects → (result : Step) → SectionsAfter b objects p q result → Outcome called objects (view p) (view q) result → IsTryOf b hands called p q result
-tried_of b p q hands called objects plain names (step.Done said stamp) after came = (record {
-  entry = came;
-  resume = after.0.resume;
-  top = λ begins. absurd (true≢false (sym begins ∙ plain.begins));
-  stack = subst (StackAfter called (stack_of p)) (sym after.0.stack) (plain.leaves (stack_of p));
-  marks = ap marks_in after.0.stack ∙ sym (plain.marks (marks_in (stack_of p)));
-  mark = ap (λ (s : Stack). s.mark) after.0.stack;
-  ends = plain.ends (marks_in (stack_of p)) said;
-}, λ named is locked. subst (λ (x : Objects). KnewOwners x (view p) got.Have) (one_objects objects named (sym names ∙ is)) after.1)
+tried_of b p q hands called objects plain names (step.Done said stamp) after came = (
+  record {
+    entry = came;
+    resume = after.0.resume;
+    top = λ begins. absurd (true≢false (sym begins ∙ plain.begins));
+    stack = subst (StackAfter called (stack_of p)) (sym after.0.stack) (plain.leaves (stack_of p));
+    marks = ap marks_in after.0.stack ∙ sym (plain.marks (marks_in (stack_of p)));
+    mark = ap (λ (s : Stack). s.mark) after.0.stack;
+    ends = plain.ends (marks_in (stack_of p)) said;
+  },
+  λ named is locked. subst (λ (x : Objects). KnewOwners x (view p) got.Have) (one_objects objects named (sym names ∙ is)) after.1,
+)
 tried_of b p q hands called objects plain names (step.NotYet o owner) after came = (
   objects,
   names,
@@ -90,15 +93,18 @@ knew_before : (called : Call) (objects : Objects) (p q : Pass) (answer : Got) �
 knew_before called objects p q answer same knew locked = subst (λ (v : View). KnewOwners objects v answer) (same locked) (knew locked)
 
 pub try_after : (b : Bank) (hands : List (Option Cursor)) (called : Call) (p q r : Pass) (part : List Act) (result : Step) → AddsNothing (view p) (view q) → (view q).log ≡ part ++ (view p).log → stack_of q ≡ stack_of p → ((o : ℕ) → has_lock o (view q).log ≡ has_lock o (view p).log) → (may_look called ≡ false → view q ≡ view p) → IsTryOf b hands called q r result → IsTryOf b hands called p r result
-try_after b hands called p q r part (step.Done said stamp) before log stack locks same x = (record {
-  entry = before_adds called said stamp (view p) (view q) (view r) before x.0.entry;
-  resume = x.0.resume;
-  top = x.0.top;
-  stack = subst (λ (s : Stack). StackAfter called s (stack_of r)) stack x.0.stack;
-  marks = x.0.marks ∙ ap (λ (s : Stack). marks_after called (marks_in s)) stack;
-  mark = x.0.mark ∙ ap (λ (s : Stack). s.mark) stack;
-  ends = subst (λ (s : Stack). IsEndOf called (marks_in s) said) stack x.0.ends;
-}, λ named is. knew_before called named p q got.Have same (x.1 named is))
+try_after b hands called p q r part (step.Done said stamp) before log stack locks same x = (
+  record {
+    entry = before_adds called said stamp (view p) (view q) (view r) before x.0.entry;
+    resume = x.0.resume;
+    top = x.0.top;
+    stack = subst (λ (s : Stack). StackAfter called s (stack_of r)) stack x.0.stack;
+    marks = x.0.marks ∙ ap (λ (s : Stack). marks_after called (marks_in s)) stack;
+    mark = x.0.mark ∙ ap (λ (s : Stack). s.mark) stack;
+    ends = subst (λ (s : Stack). IsEndOf called (marks_in s) said) stack x.0.ends;
+  },
+  λ named is. knew_before called named p q got.Have same (x.1 named is),
+)
 try_after b hands called p q r part (step.NotYet o owner) before log stack locks same x = (
   x.0,
   x.1,
@@ -194,15 +200,18 @@ looked_tried b p q r hands called None result plain left made is x stack gone le
 looked_tried b p q r hands called (Some (look.Contended first second)) result plain left made is x stack gone let_go = absurd (let e : None ≡ Some result = is in cc)
 looked_tried b p q r hands called (Some (look.Done said stamp)) result plain left made is x stack gone let_go =
     let same : step.Done said stamp ≡ result = some_same (step.Done said stamp) result is in
-    subst (IsTryOf b hands called p r) same (record {
-      entry = after_nothing called said stamp (view p) (view q) (view r) (answered_adds called said stamp (view p) (view q) x.1 left x.0) (only_nothing (view q) (view r) gone);
-      resume = let_go.resume;
-      top = λ begins. absurd (true≢false (sym begins ∙ plain.begins));
-      stack = subst (StackAfter called (stack_of p)) (sym (let_go.stack ∙ ap (λ (s : Stack). with_own s nothing_taken) stack)) (plain.leaves (stack_of p));
-      marks = ap marks_in let_go.stack ∙ (ap marks_in stack ∙ sym (plain.marks (marks_in (stack_of p))));
-      mark = ap (λ (s : Stack). s.mark) let_go.stack ∙ ap (λ (s : Stack). s.mark) stack;
-      ends = plain.ends (marks_in (stack_of p)) said;
-    }, λ named names locked. absurd (true≢false (sym made ∙ locked)))
+    subst (IsTryOf b hands called p r) same (
+      record {
+        entry = after_nothing called said stamp (view p) (view q) (view r) (answered_adds called said stamp (view p) (view q) x.1 left x.0) (only_nothing (view q) (view r) gone);
+        resume = let_go.resume;
+        top = λ begins. absurd (true≢false (sym begins ∙ plain.begins));
+        stack = subst (StackAfter called (stack_of p)) (sym (let_go.stack ∙ ap (λ (s : Stack). with_own s nothing_taken) stack)) (plain.leaves (stack_of p));
+        marks = ap marks_in let_go.stack ∙ (ap marks_in stack ∙ sym (plain.marks (marks_in (stack_of p))));
+        mark = ap (λ (s : Stack). s.mark) let_go.stack ∙ ap (λ (s : Stack). s.mark) stack;
+        ends = plain.ends (marks_in (stack_of p)) said;
+      },
+      λ named names locked. absurd (true≢false (sym made ∙ locked)),
+    )
 looked_tried b p q r hands called (Some look.NoMemory) result plain left made is x stack gone let_go =
     let same : step.NoMemory ≡ result = some_same step.NoMemory result is in
     subst (IsTryOf b hands called p r) same (record {

@@ -10,9 +10,11 @@ use Rattle.ft_section.specs.Trying.{HasHadLocks, HasTaken}
 
 -- it took the locks of its call, did what leaves its sections, and let go of the locks
 pub let_gone : {objects : Objects} (b : Bank) (p q r s : Pass) → HasTaken objects p q → stack_of r ≡ stack_of q → stack_of s ≡ with_own (stack_of r) nothing_taken → ((objects : Objects) → MayTry b s objects) → MayResume b s → HasHadLocks b objects p s
-let_gone b p q r s took same gone may resume =
-    (record {
-      stack = gone ∙ (ap (λ (x : Stack). with_own x nothing_taken) same ∙ ap (λ (x : Stack). with_own x nothing_taken) took.stack);
-      may = may;
-      resume = resume;
-    }, took.known)
+let_gone b p q r s took same gone may resume = (
+  record {
+    stack = gone ∙ (ap (λ (x : Stack). with_own x nothing_taken) same ∙ ap (λ (x : Stack). with_own x nothing_taken) took.stack);
+    may = may;
+    resume = resume;
+  },
+  took.known,
+)

@@ -17,12 +17,13 @@ pub returns-in-Entered : goal.returns-in-Entered
 returns-in-Entered c hands =
     let e = c.in-Entered.ensures in
     let p = c.args.pass.now in
-    let q = c.try_begin.new.pass in
-    (begin_answer c.args.bank.now p q c.args.first c.args.second c.in-Entered.stamp c.requires.left
-    (subst (λ (x : Objects). Enters x c.in-Entered.stamp.number (view p) (view q)) c.objects.ensures e.entry) e.seen e.read
-    (subst (λ (x : Objects). Opens x (stack_of p) (stack_of q)) c.objects.ensures e.section) e.resume,
-    λ named names locked. subst (λ (x : Objects). KnewOwners x (view p) got.Have) (c.objects.ensures ∙ one_objects (objects_by c.args.first c.args.second) named names)
-    (λ has. entered_had _ c.in-Entered.stamp (first_owned (lower_of c.objects.result) (upper_of c.objects.result) (view p)) (e.known has)))
+    let q = c.try_begin.new.pass in (
+      begin_answer c.args.bank.now p q c.args.first c.args.second c.in-Entered.stamp c.requires.left
+          (subst (λ (x : Objects). Enters x c.in-Entered.stamp.number (view p) (view q)) c.objects.ensures e.entry) e.seen e.read
+          (subst (λ (x : Objects). Opens x (stack_of p) (stack_of q)) c.objects.ensures e.section) e.resume,
+      λ named names locked. subst (λ (x : Objects). KnewOwners x (view p) got.Have) (c.objects.ensures ∙ one_objects (objects_by c.args.first c.args.second) named names)
+          (λ has. entered_had _ c.in-Entered.stamp (first_owned (lower_of c.objects.result) (upper_of c.objects.result) (view p)) (e.known has)),
+    )
 
 pub returns-in-NotYet : goal.returns-in-NotYet
 returns-in-NotYet c hands =

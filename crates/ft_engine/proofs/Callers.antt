@@ -1,5 +1,5 @@
 -- Callers stay callers of their engine, whatever their calls come to.
-use Rattle.std.proofs.Common.{◌≡◌, ◌≤◌, ◌<◌, ◌+◌, ◌-◌, ◌^◌, ℕ, zero, suc, Bool, true, false, List, [], ◌∷◌, ◌++◌, map, reverse, length, replicate, refl, sym, ap, ◌∙◌, subst, arith}
+use Rattle.std.proofs.Common.{◌≡◌, ◌≤◌, ◌<◌, ◌+◌, ◌-◌, ◌^◌, ℕ, zero, suc, Bool, true, false, List, [], ◌∷◌, ◌++◌, map, reverse, length, replicate, refl, sym, ap, ◌∙◌, subst, arith, inr}
 use Rattle.std.specs.Prelude.{Option, Some, None}
 use Rattle.std.proofs.lemmas.List.{length-map, length-append, length-reverse}
 use Rattle.ft_model.specs.declared.call.Call.{Call}
@@ -26,6 +26,7 @@ use Rattle.ft_section.specs.declared.answers.Step.TheVariants as step
 use Rattle.ft_section.specs.Locking.{OnlyLocked, TakenUp, waiting, with_own}
 use Rattle.ft_section.specs.Ready.{HasTop, IsReady, MayResume}
 use Rattle.ft_section.proofs.Fresh.{fresh_ready}
+use Rattle.ft_engine.specs.declared.attempts.Tried.{Tried}
 use Rattle.ft_engine.specs.declared.caller.Caller.{Caller}
 use Rattle.ft_engine.specs.declared.caller.Flight.{Flight}
 use Rattle.ft_engine.specs.declared.caller.Flight.TheVariants as flight
@@ -33,6 +34,7 @@ use Rattle.ft_engine.specs.declared.engine.Engine.{Engine}
 use Rattle.ft_engine.specs.Answering.{AreHandsOf, HasAnswer, HasNone, HasToWait, IsTryOf, LeavesHands}
 use Rattle.ft_engine.specs.Callers.{AreFresh, IsCallerOf, IsFresh, thread_of}
 use Rattle.ft_engine.specs.Flights.{IsAnswered, IsIn, IsNext, is_begin, objects_of}
+use Rattle.ft_engine.specs.Halves.{HasBothHalves, IsInHalves}
 use Rattle.ft_engine.specs.Keeping.{AreKeptBy, IsKept, kept_entry, pending}
 use Rattle.ft_engine.specs.Visits.{SameWork}
 use Rattle.ft_engine.proofs.Passing.{IsCalm, ready_calm}
@@ -164,6 +166,13 @@ waiting_kept e c d called objects o owner mine is unanswered left x flies kept =
     let low : length mine + 1 ≤ 2 ^ 32 - 1 = omega (arith, word, made, count, none, left) in
     let k = kept_waits (thread_of c) (view c.pass).entries (stack_of c.pass) c.flight mine kept unanswered (stack_of d.pass) (stack_of d.pass).own owner called x.stack low in
     subst (λ (y : ℕ × List Entry × Flight). AreKeptBy y.0 y.1 (stack_of d.pass) y.2 mine) (λ i. (ap (λ (n : ℕ). n - 1) (sym x.entry.pass.number) i, sym x.entry.entries i, sym flies i)) k
+
+-- the call has its answer now, which it hadn't before
+pub both_halves : (f : Flight) (b : Bank) (hands : List (Option Cursor)) (called : Call) (p q : Pass) (t : Tried) → (IsAnswered f → ⊥) → IsNext f called → HasBothHalves b hands called p q t → IsInHalves f b hands called p q t
+both_halves flight.Idle b hands called p q t unanswered next both = inr both
+both_halves (flight.Tried first) b hands called p q t unanswered next both = inr both
+both_halves (flight.Answered first said stamp) b hands called p q t unanswered next both = absurd (unanswered tt)
+both_halves (flight.Refused first) b hands called p q t unanswered next both = absurd next
 
 -- ---- cursors
 

@@ -1,13 +1,8 @@
 -- A call that may be made without a lock, and has no answer, waits only after a contended look.
 use Rattle.std.proofs.Common.{◌≡◌, ◌+◌, ℕ, true, false, true≢false, List, ◌∷◌, ◌++◌, sym, ap, ◌∙◌, subst, append_assoc}
-use Rattle.std.specs.Prelude.{IfNone, Option, Some, None, not}
+use Rattle.std.specs.Prelude.{IfNone, Option, Some, None, is_some}
 use Rattle.ft_model.specs.declared.call.Call.{Call}
-use Rattle.ft_model.specs.declared.call.Call.TheVariants as call
-use Rattle.ft_model.specs.declared.call.DictCall.{DictCall}
-use Rattle.ft_model.specs.declared.call.ListCall.{ListCall}
-use Rattle.ft_model.specs.declared.call.SetCall.{SetCall}
 use Rattle.ft_model.specs.declared.cursor.Cursor.{Cursor}
-use Rattle.ft_model.specs.Calls.{is_locked_dict, is_locked_list, is_locked_set}
 use Rattle.ft_trace.specs.declared.Act.{Act}
 use Rattle.ft_trace.specs.declared.Act.TheVariants.{Lock}
 use Rattle.ft_trace.specs.declared.View.{View}

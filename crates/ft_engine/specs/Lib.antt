@@ -5,5 +5,6 @@ pub mod Contentions
 pub mod Keeping
 pub mod Answering
 pub mod Attempts
+pub mod Calling
 pub mod Visits
 pub mod Closings

@@ -8,7 +8,7 @@ pub mod Outcomes
 pub mod Looking
 pub mod LookFirst
 pub mod Again
-pub mod Calling
+pub mod Retrying
 pub mod ListCalls
 pub mod ListLooks
 pub mod CursorCalls

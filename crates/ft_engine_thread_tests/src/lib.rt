@@ -8,8 +8,8 @@ mod legal;
 mod running;
 mod scripts;
 mod starting;
-mod working;
 mod workers;
+mod working;
 
 pub use crate::closing::close_all;
 pub use crate::running::run;

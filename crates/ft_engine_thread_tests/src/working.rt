@@ -1,6 +1,6 @@
 //! Threads that make the calls of a script, each with its own caller.
-ghost use Rattle.std.specs.Prelude.{◌≡◌, IsTrue, length};
-ghost use denote.Param.Rows.{IsSync};
+ghost use Rattle.std.specs.Prelude.{◌≡◌, ◌+◌, IfSome, IsTrue, length};
+ghost use Rattle.std.specs.Thread.{IsSync};
 ghost use Rattle.ft_engine_thread_tests.specs.Workers.{AreEach, IsFree, IsReady, IsWorker};
 
 use crate::workers::Worker;
@@ -10,6 +10,13 @@ use std::alloc::Global;
 use std::sync::Wait;
 use std::thread;
 use std::thread::Threads;
+
+/// The index of the entry that comes after these.
+fn next_index(entries: &Vec<Entry>) -> Option<u32>
+    ensures { IfSome result (λ index. index ≡ length entries.now.items + 1) }
+{
+    u32::try_from(entries.len()).ok()?.checked_add(1)
+}
 
 /// Makes a call, and keeps its entry. It answers whether the call has ended.
 fn make<R: Wait>(
@@ -25,13 +32,10 @@ fn make<R: Wait>(
     ensures ended { IsTrue result → IsReady engine.now thread worker.new }
 {
     let _ = thread;
-    let Ok(made) = u32::try_from(worker.entries.len()) else {
+    let Some(index) = next_index(&worker.entries) else {
         return false;
     };
-    let Some(index) = made.checked_add(1) else {
-        return false;
-    };
-    if worker.entries.reserve(1).is_err() || !engine.may_attempt(&worker.caller, call) {
+    if !engine.may_attempt(&worker.caller, call) || worker.entries.reserve(1).is_err() {
         return false;
     }
     worker.done = false;

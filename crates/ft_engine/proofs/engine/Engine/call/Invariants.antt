@@ -1,4 +1,4 @@
-use Rattle.ft_engine.proofs.Calling.{IsBetween}
+use Rattle.ft_engine.proofs.Retrying.{IsBetween}
 use Rattle.ft_engine.proofs.engine.Engine.call.Given as goal
 
 abbrev pub invariant-loop : goal.invariant-loop

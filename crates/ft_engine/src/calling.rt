@@ -62,13 +62,7 @@ impl Engine {
     /// # Errors
     ///
     /// `NoMemory` where memory for a copy ran out: the caller is to give up.
-    pub fn call<R: Wait>(
-        &self,
-        rt: &R,
-        alloc: Global,
-        caller: &mut Caller,
-        call: &Call,
-    ) -> Called
+    pub fn call<R: Wait>(&self, rt: &R, alloc: Global, caller: &mut Caller, call: &Call) -> Called
         requires caller { IsCallerOf self.now caller.old }
         requires may { MayAttempt self.now caller.old call.now }
         ensures caller { IsCallerOf self.now caller.new }

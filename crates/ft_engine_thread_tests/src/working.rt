@@ -1,6 +1,5 @@
 //! Threads that make the calls of a script, each with its own caller.
 ghost use Rattle.std.specs.Prelude.{◌≡◌, ◌+◌, IfSome, IsTrue, length};
-ghost use Rattle.std.specs.Thread.{IsSync};
 ghost use Rattle.ft_engine_thread_tests.specs.Workers.{AreEach, IsFree, IsReady, IsWorker};
 
 use crate::workers::Worker;
@@ -94,7 +93,7 @@ pub fn work_all<R: Threads + Wait + Sync>(
         return;
     }
     let each = |thread: usize, worker: &mut Worker|
-        requires { IsSync R.row × IsFree engine.now thread worker.now }
+        requires { IsFree engine.now thread worker.now }
         ensures { IsWorker engine.entry.now thread worker.exit.now }
     {
         if let Some(own) = script.threads.as_slice().get(thread) {

@@ -7,6 +7,8 @@ pub mod KeptLists
 pub mod Outcomes
 pub mod Looking
 pub mod LookFirst
+pub mod Again
+pub mod Retrying
 pub mod ListCalls
 pub mod ListLooks
 pub mod CursorCalls

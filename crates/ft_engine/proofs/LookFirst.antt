@@ -17,7 +17,7 @@ use Rattle.ft_engine.specs.declared.attempts.Tried.{Tried}
 use Rattle.ft_engine.specs.declared.attempts.Tried.TheVariants as tried
 use Rattle.ft_engine.specs.declared.caller.Caller.{Caller}
 use Rattle.ft_engine.specs.Answering.{HasLooked, IsTryOf, Looked, settled}
-use Rattle.ft_engine.specs.Attempts.{HasLookedFirst, IfWaits}
+use Rattle.ft_engine.specs.Attempts.{ComesAgain, HasLookedFirst}
 use Rattle.ft_engine.specs.Contentions.{may_look}
 use Rattle.ft_engine.specs.Flights.{IsAnswered}
 
@@ -68,8 +68,8 @@ contended_looked b hands called p q r s found (step.Moved first second) none x l
 contended_looked b hands called p q r s found step.NoMemory none x locked same tried = tt
 
 -- a call that has its answer waits for its innermost section alone
-pub answered_looked : (called : Call) (result : Tried) (c d : Caller) → IfWaits result (IsAnswered d.flight) → HasLookedFirst called result c d
+pub answered_looked : (called : Call) (result : Tried) (c d : Caller) → (ComesAgain result → IsAnswered d.flight) → HasLookedFirst called result c d
 answered_looked called (tried.Done said stamp mark) c d answered = tt
-answered_looked called (tried.NotYet o owner) c d answered = λ may is. absurd (subst IsAnswered is answered)
+answered_looked called (tried.NotYet o owner) c d answered = λ may is. absurd (subst IsAnswered is (answered tt))
 answered_looked called (tried.Moved first second) c d answered = tt
 answered_looked called tried.NoMemory c d answered = tt

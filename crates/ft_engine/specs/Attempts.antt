@@ -24,11 +24,11 @@ use Rattle.ft_engine.specs.Names.{FitsSections, IsBuilt, IsCallIn}
 
 -- ---- what it asks
 
--- The call comes next. Where it has no answer yet, the caller has a call left, and the sections allow it. What it names
--- is there, and the pass is online.
+-- The call comes next, and the pass is online. Where the call has no answer yet, what it names is there, the caller has a
+-- call left, and the sections allow it.
 pub record MayAttempt (e : Engine) (c : Caller) (called : Call) : Type 0 where
   pub next : IsNext c.flight called
-  pub names : IsCallIn (shape_of e.bank) c.cursors.items called
+  pub names : (IsAnswered c.flight → ⊥) → IsCallIn (shape_of e.bank) c.cursors.items called
   pub left : (IsAnswered c.flight → ⊥) → 0 < left_of c
   pub sections : (IsAnswered c.flight → ⊥) → FitsSections (stack_of c.pass) called
   pub online : 0 < announces (view c.pass).log
@@ -80,12 +80,12 @@ HasLookedFirst called (tried.Done said stamp mark) c d = Unit {0}
 HasLookedFirst called (tried.Moved first second) c d = Unit {0}
 HasLookedFirst called tried.NoMemory c d = Unit {0}
 
--- it waits
-abbrev pub IfWaits : Tried → Type 0 → Type 0
-IfWaits (tried.NotYet o owner) P = P
-IfWaits (tried.Done said stamp mark) P = Unit {0}
-IfWaits (tried.Moved first second) P = Unit {0}
-IfWaits tried.NoMemory P = Unit {0}
+-- the same call comes next
+abbrev pub ComesAgain : Tried → Type 0
+ComesAgain (tried.NotYet o owner) = Unit {0}
+ComesAgain (tried.Moved first second) = Unit {0}
+ComesAgain (tried.Done said stamp mark) = ⊥
+ComesAgain tried.NoMemory = ⊥
 
 -- it is the same caller, with as many cursors; it is online where it was, has taken in the same callers, and has seen
 -- no fewer writes (profile)

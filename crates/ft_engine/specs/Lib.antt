@@ -7,5 +7,6 @@ pub mod Stacks
 pub mod Answering
 pub mod Attempts
 pub mod Halves
+pub mod Calling
 pub mod Visits
 pub mod Closings

@@ -5,7 +5,7 @@ ghost use Rattle.ft_model.specs.declared.entry.Entry.{Entry as NamedEntry};
 ghost use Rattle.ft_bank.specs.Passes.{shape_of, view};
 ghost use Rattle.ft_bank.specs.Sections.{stack_of};
 ghost use Rattle.ft_engine.specs.Answering.{AreHandsOf, HasLooked, IsTryOf, LeavesHands, MayMake};
-ghost use Rattle.ft_engine.specs.Attempts.{MayAttempt, flight_after, kept_after, IsMarkOf, FoundIn, HasLookedFirst, StaysCaller};
+ghost use Rattle.ft_engine.specs.Attempts.{MayAttempt, flight_after, kept_after, IsMarkOf, FoundIn, HasLookedFirst, ComesAgain, StaysCaller};
 ghost use Rattle.ft_engine.specs.Callers.{IsCallerOf, thread_of};
 ghost use Rattle.ft_engine.specs.Flights.{IsAnswered, IsNext};
 ghost use Rattle.ft_engine.specs.Halves.{HasNoAnswer};
@@ -136,6 +136,7 @@ impl Engine {
         ensures flight { IfSome result (λ tried. flight_after call.now tried caller.new.flight) }
         ensures told { IfSome result (λ tried. (mine : List NamedEntry) → IsKept caller.old mine →
             IsKept caller.new (kept_after (thread_of caller.old) call.now tried mine)) }
+        ensures again { IfSome result (λ tried. ComesAgain tried → MayAttempt self.now caller.new call.now) }
         ensures mark { IfSome result (λ tried. IsMarkOf tried (stack_of caller.old.pass).mark (stack_of caller.new.pass).mark) }
         ensures found { IfSome result (λ tried. FoundIn tried (view caller.old.pass) (view caller.new.pass)) }
         ensures tries { IfSome result (λ tried. HasNoAnswer self.now.bank caller.old.cursors.items call.now caller.old.pass caller.new.pass tried) }

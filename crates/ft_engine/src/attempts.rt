@@ -3,7 +3,7 @@ ghost use Rattle.std.specs.Prelude.{◌≡◌, ◌<◌, List};
 ghost use Rattle.ft_model.specs.declared.entry.Entry.{Entry as NamedEntry};
 ghost use Rattle.ft_bank.specs.Passes.{view};
 ghost use Rattle.ft_bank.specs.Sections.{stack_of};
-ghost use Rattle.ft_engine.specs.Attempts.{MayAttempt, flight_after, kept_after, IsMarkOf, FoundIn, HasFoundOwner, HasLookedFirst, IfWaits, StaysCaller};
+ghost use Rattle.ft_engine.specs.Attempts.{MayAttempt, flight_after, kept_after, IsMarkOf, FoundIn, HasFoundOwner, HasLookedFirst, ComesAgain, StaysCaller};
 ghost use Rattle.ft_engine.specs.Callers.{IsCallerOf, pass_of, flight_of, thread_of};
 ghost use Rattle.ft_engine.specs.Flights.{IsAnswered, IsNext};
 ghost use Rattle.ft_engine.specs.Halves.{HasHalves, IsTakenUp};
@@ -42,7 +42,7 @@ impl Engine {
             IsKept caller.new (kept_after (thread_of caller.old) called result mine) }
         ensures mark { IsMarkOf result (stack_of caller.old.pass).mark (stack_of caller.new.pass).mark }
         ensures found { FoundIn result (view caller.old.pass) (view caller.new.pass) }
-        ensures answered { IfWaits result (IsAnswered caller.new.flight) }
+        ensures answered { ComesAgain result → IsAnswered caller.new.flight }
         ensures taken { (called : Call) (said : Reply) (stamp : Stamp) → caller.old.flight ≡ flight.Answered called said stamp →
             IsTakenUp said stamp caller.old.pass caller.new.pass result }
     {
@@ -80,6 +80,7 @@ impl Engine {
         ensures found { HasFoundOwner result caller.old caller.new }
         ensures looked { HasLookedFirst call.now result caller.old caller.new }
         ensures halves { HasHalves self.now call.now caller.old caller.new result }
+        ensures again { ComesAgain result → MayAttempt self.now caller.new call.now }
     {
         if caller.is_answered() {
             return self.take_up(caller);

@@ -9,6 +9,7 @@
 mod answering;
 mod attempts;
 mod caller;
+mod calling;
 mod closing;
 mod cursor_call;
 mod dict_call;
@@ -25,4 +26,5 @@ mod visits;
 
 pub use crate::attempts::Tried;
 pub use crate::caller::{Caller, Flight};
+pub use crate::calling::Called;
 pub use crate::engine::Engine;

@@ -53,6 +53,7 @@ impl Engine {
         requires done { IsDone other }
         requires last { (view (pass_of other)).next ≡ 0 }
         ensures caller { IsCallerOf self.now caller.new }
+        ensures thread { thread_of caller.new ≡ thread_of caller.old }
         ensures idle { IsIdle caller.new }
         ensures announced { announces (view (pass_of caller.new)).log ≡ announces (view (pass_of caller.old)).log }
         ensures sections { stack_of (pass_of caller.new) ≡ stack_of (pass_of caller.old) }

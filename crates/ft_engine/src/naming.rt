@@ -128,15 +128,15 @@ impl Engine {
         }
     }
 
-    /// Whether a call of a caller that is online may be tried: no other call is in flight, the caller has a call left,
-    /// its sections allow it, and what it names is there.
+    /// Whether a call of a caller that is online may be tried: no other call is in flight, and where it has no answer
+    /// yet, the caller has a call left, its sections allow it, and what it names is there.
     pub fn may_attempt(&self, caller: &Caller, call: &Call) -> bool
         requires online { 0 < announces (view (pass_of caller.now)).log }
         ensures { IsTrue result ↔ MayAttempt self.now caller.now call.now }
     {
         caller.comes_next(call)
-            && (caller.is_answered() || caller.left() > 0 && caller.fits(call))
-            && self.has_named(caller, call)
+            && (caller.is_answered()
+                || caller.left() > 0 && caller.fits(call) && self.has_named(caller, call))
             && is_built(call)
     }
 }

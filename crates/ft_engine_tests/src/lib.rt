@@ -16,3 +16,4 @@ mod turns;
 mod workers;
 
 pub use crate::cases::{Case, comes_out};
+pub use crate::starting::shape_for;

@@ -154,7 +154,7 @@ fn looks_wait_for_no_lock(rt: HostRuntime) -> Result<(), Fail> {
     }
     assert_eq!(rt; workers[0].caller.depth(), 1);
     // three looks are three calls
-    assert_eq!(rt; workers[1].caller.left(), 197);
+    assert_eq!(rt; workers[1].caller.left(), 997);
     Ok(())
 }
 

@@ -15,7 +15,7 @@ use std::test::Fail;
 const CURSORS: u32 = 4;
 
 /// How many calls each thread may make.
-const CALLS: u32 = 200;
+const CALLS: u32 = 1_000;
 
 /// The kinds of the script's containers.
 fn kinds_of(alloc: Global, script: &ScriptParts) -> Result<Vec<Kind>, Fail> {
@@ -48,7 +48,7 @@ fn tables_of(alloc: Global, script: &ScriptParts) -> Result<Vec<u32>, Fail> {
 }
 
 /// The shape of the script's bank.
-fn shape_of(alloc: Global, script: &ScriptParts) -> Result<Shape, Fail> {
+pub fn shape_for(alloc: Global, script: &ScriptParts) -> Result<Shape, Fail> {
     let Ok(passes) = u32::try_from(script.threads.len()) else {
         return Err(Fail::from("there are few threads"));
     };
@@ -98,5 +98,5 @@ pub(crate) fn begin(alloc: Global, shape: Shape) -> Result<(Engine, Vec<Worker>)
 pub(crate) fn start(alloc: Global, script: &ScriptParts) -> Result<(Engine, Vec<Worker>), Fail>
     ensures { IfOk result (λ made. AreWorkersOf made.0 made.1.items) }
 {
-    begin(alloc, shape_of(alloc, script)?)
+    begin(alloc, shape_for(alloc, script)?)
 }

@@ -1,6 +1,7 @@
 use Rattle.std.proofs.Common.{◌+◌, ◌∙◌, ap, refl}
 use Rattle.ft_engine.specs.declared.caller.Flight.TheVariants as flight
 use Rattle.ft_engine.specs.Flights.{objects_of}
+use Rattle.ft_engine.proofs.Again.{moved_again, waiting_again}
 use Rattle.ft_engine.proofs.Callers.{answered_kept, moved_caller, waiting_kept}
 use Rattle.ft_engine.proofs.engine.Engine.answer.Goals as goal
 
@@ -23,3 +24,15 @@ returns-in-Moved-clause-caller c =
 
 pub returns-in-NotYet-clause-looked : goal.returns-in-NotYet-clause-looked
 returns-in-NotYet-clause-looked c may is = c.in-NotYet.ensures.looked may
+
+pub returns-in-NotYet-clause-again : goal.returns-in-NotYet-clause-again
+returns-in-NotYet-clause-again c again =
+    let old = c.args.caller.now in
+    let t = c.in-NotYet.ensures.tried in
+    waiting_again c.args.self.now old (record { pass = c.make.new.pass; cursors = c.make.new.cursors; calls = old.calls; made = old.made; flight = flight.Tried c.args.call.now }) c.args.call.now t.0 c.in-NotYet.object c.in-NotYet.owner c.requires.may c.requires.unanswered t.2 c.in-NotYet.ensures.stays refl refl refl
+
+pub returns-in-Moved-clause-again : goal.returns-in-Moved-clause-again
+returns-in-Moved-clause-again c again =
+    let old = c.args.caller.now in
+    let t = c.in-Moved.ensures.tried in
+    moved_again c.args.self.now old (record { pass = c.make.new.pass; cursors = c.make.new.cursors; calls = old.calls; made = old.made; flight = flight.Tried c.args.call.now }) c.args.call.now c.requires.may c.requires.unanswered t.2 c.in-Moved.ensures.stays refl refl refl

@@ -1,6 +1,10 @@
-use Rattle.std.proofs.Common.{refl, arith}
+use Rattle.std.proofs.Common.{◌-◌, ap, refl, arith}
+use Rattle.ft_trace.specs.declared.View.{View}
 use Rattle.ft_engine.proofs.KeptLists.{joined_kept}
 use Rattle.ft_engine.proofs.engine.Engine.join.Goals as goal
+
+pub returns-clause-thread : goal.returns-clause-thread
+returns-clause-thread c = ap (λ (v : View). v.number - 1) c.join.ensures.view.1
 
 pub returns-clause-kept : goal.returns-clause-kept
 returns-clause-kept c mine theirs are more next =

@@ -13,7 +13,7 @@ use Rattle.ft_engine.proofs.engine.Engine.look.Goals as goal
 use Rattle.ft_engine.proofs.engine.Engine.look.Goals.{After-take_look}
 
 pub look_call-requires-clause-names : goal.look_call-requires-clause-names
-look_call-requires-clause-names c = (c.args.caller.now.cursors.items, c.requires.may.names)
+look_call-requires-clause-names c = (c.args.caller.now.cursors.items, c.requires.may.names (no_answer_idle c.args.caller.now.flight c.requires.idle))
 
 pub look_call-requires-clause-left : goal.look_call-requires-clause-left
 look_call-requires-clause-left c =

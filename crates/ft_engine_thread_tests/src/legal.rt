@@ -1,0 +1,83 @@
+//! Histories of threads that run at the same time are legal.
+
+use crate::running::run;
+use crate::scripts::repeated;
+use ft_history::{Verdict, judge};
+use ft_model::Storage;
+use ft_script::parse;
+use std::alloc::Global;
+use std::process::Abort;
+use std::sync::Wait;
+use std::test::Fail;
+use std::thread::Threads;
+
+/// How many entries the history of the script has. It is legal.
+fn legal_entries<R: Threads + Wait + Sync>(
+    rt: &R,
+    alloc: Global,
+    containers: &str,
+    threads: &[(&str, &str)],
+    times: u32,
+) -> Result<usize, Fail> {
+    let text = repeated(alloc, containers, threads, times)?;
+    let script = parse(alloc, text.as_bytes())?;
+    let history = run(rt, alloc, script.parts())?;
+    let verdict = judge(alloc, Storage::Tables, &script, history.as_slice())?;
+    if verdict != Verdict::Legal {
+        return Err(Fail::from("the history is legal"));
+    }
+    Ok(history.len())
+}
+
+#[test]
+fn four_threads_on_one_dict(rt: HostRuntime) -> Result<(), Fail> {
+    let writer = "set d 1 5\nget d 1\nset d 2 6\ndel d 1\n";
+    let reader = "get d 1\nhas d 2\nlen d\nsetdefault d 3 1\n";
+    let threads = [("A", writer), ("B", reader), ("C", writer), ("D", reader)];
+    let entries = legal_entries(&rt, rt.alloc(), "dict d\n", &threads, 100)?;
+    assert_eq!(rt; entries, 1600);
+    Ok(())
+}
+
+#[test]
+fn sections_on_two_dicts_in_both_orders(rt: HostRuntime) -> Result<(), Fail> {
+    let one = "begin d e\nset d 1 1\nset e 1 1\nend\n";
+    let other = "begin e d\nget d 1\nset e 2 2\nend\n";
+    let entries = legal_entries(
+        &rt,
+        rt.alloc(),
+        "dict d\ndict e\n",
+        &[("A", one), ("B", other)],
+        100,
+    )?;
+    assert_eq!(rt; entries, 800);
+    Ok(())
+}
+
+#[test]
+fn nested_sections_in_opposite_orders(rt: HostRuntime) -> Result<(), Fail> {
+    // Each pair of threads takes the same two containers, one in the other, in the two orders.
+    let containers = "dict d\nlist l\nset s\n";
+    let threads = [
+        ("A", "begin d\nbegin l\nappend l 1\nset d 1 1\nend\nend\n"),
+        ("B", "begin l\nbegin d\nget d 1\nlen l\nend\nend\n"),
+        ("C", "begin l\nbegin s\nadd s 1\npop l\nend\nend\n"),
+        ("D", "begin s\nbegin l\ndiscard s 1\nlen l\nend\nend\n"),
+    ];
+    let entries = legal_entries(&rt, rt.alloc(), containers, &threads, 50)?;
+    assert_eq!(rt; entries, 1200);
+    Ok(())
+}
+
+#[test]
+fn three_threads_on_a_dict_a_list_and_a_set(rt: HostRuntime) -> Result<(), Fail> {
+    let containers = "dict d\nlist l\nset s\n";
+    let threads = [
+        ("A", "set d 1 1\nappend l 1\nadd s 1\nquiesce\n"),
+        ("B", "pop l\nremove s 1\ndel d 1\nquiesce\n"),
+        ("C", "iter d c\nnext c\nitems l\nitems s\nquiesce\n"),
+    ];
+    let entries = legal_entries(&rt, rt.alloc(), containers, &threads, 100)?;
+    assert_eq!(rt; entries, 1300);
+    Ok(())
+}

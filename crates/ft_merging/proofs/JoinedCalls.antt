@@ -1,18 +1,11 @@
 -- Calls that join two dicts or two sets: what is known of them later, and what they come to.
-use Rattle.std.proofs.Common.{◌≡◌, ℕ, zero, suc, ◌+◌, ◌<◌, ◌≤◌, Bool, true, false, List, [], ◌∷◌, map, ◌++◌, length, filter, Option, Some, None, refl, sym, ap, ◌∙◌, subst, arith, le-ltb, lt-ltb}
+use Rattle.std.proofs.Common.{◌≡◌, ℕ, zero, suc, ◌+◌, ◌<◌, ◌≤◌, Bool, true, false, [], ◌∷◌, ◌++◌, Option, Some, None, refl, sym, ap, ◌∙◌, subst, arith, le-ltb, lt-ltb}
 use Rattle.ft_model.specs.declared.call.Call.{Call}
 use Rattle.ft_model.specs.declared.content.Content.{Content}
-use Rattle.ft_model.specs.declared.content.Content.TheVariants as content
-use Rattle.ft_model.specs.declared.content.Element.{Element}
 use Rattle.ft_model.specs.declared.reply.Reply.TheVariants as reply
 use Rattle.ft_model.specs.declared.script.Kind.{Kind}
-use Rattle.ft_model.specs.declared.script.Kind.TheVariants as kind
-use Rattle.ft_model.specs.Classes.{most_elements}
-use Rattle.ft_model.specs.Contents.{SetContent, elements_from, set_or, those_not_in}
 use Rattle.ft_model.specs.Tables.{StoredWorld, passes_cap}
-use Rattle.ft_model.specs.Worlds.{kind_of, length_of, set_of}
-use Rattle.ft_layout.specs.Containers.{IsSetWords, used_element}
-use Rattle.ft_layout.specs.Tables.{is_live}
+use Rattle.ft_model.specs.Worlds.{kind_of, length_of}
 use Rattle.ft_keys.specs.declared.walk.Way.{Way}
 use Rattle.ft_trace.specs.declared.Shape.{Shape}
 use Rattle.ft_trace.specs.declared.View.{View}
@@ -20,10 +13,8 @@ use Rattle.ft_trace.specs.Acts.{has_lock}
 use Rattle.ft_trace.specs.Addresses.{class_of}
 use Rattle.ft_trace.specs.Holds.{held, known}
 use Rattle.ft_trace.specs.Kinds.{IsKeyed, rows}
-use Rattle.ft_trace.specs.Traces.{Possible}
-use Rattle.ft_trace.specs.Words.{root_in, Stands}
-use Rattle.ft_trace.specs.Worlds.{Kept, changes, kind_in}
-use Rattle.ft_trace.proofs.SetKnown as set
+use Rattle.ft_trace.specs.Words.{root_in}
+use Rattle.ft_trace.specs.Worlds.{Kept, changes}
 use Rattle.ft_bank.specs.declared.table.Table.{Table}
 use Rattle.ft_bank.specs.Tables.{name_of, IsTableIn}
 use Rattle.ft_bank.specs.Whole.{OnlyLoaded, Wrote}
@@ -35,13 +26,11 @@ use Rattle.ft_growth.specs.Adding.{IsAdded, KeepsCursors}
 use Rattle.ft_growth.proofs.Cursors.{added_cursors}
 use Rattle.ft_section.specs.declared.answers.Stamp.{Stamp}
 use Rattle.ft_search.specs.Rounds.{kind_by}
-use Rattle.ft_search.specs.Writing.{Leaves, MayWriteEntries}
+use Rattle.ft_search.specs.Writing.{Leaves}
 use Rattle.ft_search.proofs.Puts.{few_places}
-use Rattle.ft_adding.specs.Growing.{KnowsKeyed, most_of}
+use Rattle.ft_adding.specs.Growing.{most_of}
 use Rattle.ft_merging.specs.Joining.{JoinsBy, JoinsKeys, join_takes, joined, joined_kept, new_keys}
-use Rattle.ft_merging.proofs.Finished.{is_set}
 use Rattle.ft_merging.proofs.Joined.{cap_few, joined_more}
-use Rattle.ft_merging.proofs.JoinedContents.{or_itself, or_none}
 use Rattle.ft_merging.proofs.JoinedReads.{Source}
 use Rattle.ft_merging.proofs.JoinedRoom.{cap_is, most_joined, same_kept, taken_room}
 

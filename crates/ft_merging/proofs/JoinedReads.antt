@@ -7,7 +7,7 @@ use Rattle.ft_model.specs.declared.content.Element.{Element}
 use Rattle.ft_model.specs.declared.data.Key.{Key}
 use Rattle.ft_model.specs.declared.script.Kind.TheVariants as kind
 use Rattle.ft_model.specs.Contents.{SetContent, is_at}
-use Rattle.ft_model.specs.Worlds.{kind_of, set_of}
+use Rattle.ft_model.specs.Worlds.{kind_of}
 use Rattle.ft_layout.specs.declared.slot.Pair.{Pair}
 use Rattle.ft_layout.specs.declared.slot.Slot.{Slot}
 use Rattle.ft_layout.specs.declared.slot.Stored.{Stored}
@@ -24,9 +24,8 @@ use Rattle.ft_trace.specs.declared.View.{View}
 use Rattle.ft_trace.specs.Addresses.{class_of, containers_in, slots}
 use Rattle.ft_trace.specs.Holds.{held, known}
 use Rattle.ft_trace.specs.Kinds.{rows}
-use Rattle.ft_trace.specs.Traces.{Possible}
 use Rattle.ft_trace.specs.Words.{Picture, entry_of, root_in, Stands}
-use Rattle.ft_trace.specs.Worlds.{Kept, kind_in}
+use Rattle.ft_trace.specs.Worlds.{Kept}
 use Rattle.ft_trace.proofs.FitCalls.{dict_fits_words, set_fits_words}
 use Rattle.ft_trace.proofs.Known.{class_known}
 use Rattle.ft_trace.proofs.LookReplies as replies
@@ -41,14 +40,12 @@ use Rattle.ft_bank.proofs.Whole.{loaded_held, work_knows}
 use Rattle.ft_search.specs.Held.{IsHeldAt, KnowsTable}
 use Rattle.ft_search.specs.Rounds.{kind_by}
 use Rattle.ft_search.specs.Writing.{HasTable, MayWriteEntries}
-use Rattle.ft_search.proofs.Changing.{kind_is}
 use Rattle.ft_search.proofs.Puts.{table_class}
 use Rattle.ft_adding.specs.Growing.{KnowsKeyed, holds}
 use Rattle.ft_adding.specs.Placing.{StoresAs}
 use Rattle.ft_adding.proofs.Grown.{knows_on}
 use Rattle.ft_merging.specs.Joining.{joined}
 use Rattle.ft_merging.specs.Internal.Joining.{Apart, StoresIn, joined_used, pair_in}
-use Rattle.ft_merging.proofs.Finished.{is_set}
 use Rattle.ft_merging.proofs.JoinedContents.{joined_elements}
 
 -- ---- after loads

@@ -3,7 +3,6 @@ use Rattle.std.proofs.Common.{◌≡◌, ℕ, ◌+◌, ◌-◌, ◌≤◌, true,
 use Rattle.ft_model.specs.declared.content.Content.{Content}
 use Rattle.ft_model.specs.declared.content.Content.TheVariants as content
 use Rattle.ft_model.specs.declared.content.DictPair.{DictPair}
-use Rattle.ft_model.specs.declared.content.Element.{Element}
 use Rattle.ft_model.specs.declared.script.Kind.{Kind}
 use Rattle.ft_model.specs.declared.script.Kind.TheVariants as kind
 use Rattle.ft_model.specs.Classes.{most_elements, most_pairs}
@@ -11,7 +10,7 @@ use Rattle.ft_model.specs.Contents.{DictContent, SetContent, dict_update, elemen
 use Rattle.ft_model.specs.Tables.{passes_cap}
 use Rattle.ft_model.specs.Worlds.{dict_of, kind_of, length_of, set_of}
 use Rattle.ft_layout.specs.Containers.{IsDictWords, IsSetWords, StandsAs, used_element, used_pair}
-use Rattle.ft_layout.specs.Tables.{UsedEntry, is_live}
+use Rattle.ft_layout.specs.Tables.{is_live}
 use Rattle.ft_layout.proofs.ContentLaws.{stands_for_dict}
 use Rattle.ft_keys.specs.declared.walk.Way.{Way}
 use Rattle.ft_keys.specs.declared.walk.Way.TheVariants as way

@@ -15,7 +15,7 @@ use Rattle.ft_layout.specs.declared.slot.Stored.{Stored}
 use Rattle.ft_layout.specs.declared.slot.Stored.TheVariants.{Boxed, Empty, Plain}
 use Rattle.ft_layout.specs.Containers.{IsDictWords}
 use Rattle.ft_layout.specs.Tables.{UsedEntry}
-use Rattle.ft_layout.specs.Words.{FitsKey, FitsStored, gone_kind, key_kind, stored_kind, stored_payload}
+use Rattle.ft_layout.specs.Words.{FitsKey, FitsStored, gone_kind, stored_kind, stored_payload}
 use Rattle.ft_layout.proofs.WordLaws.{gone_is, kind_range, same_key}
 use Rattle.ft_trace.specs.declared.Shape.{Shape}
 use Rattle.ft_trace.specs.declared.View.{View}

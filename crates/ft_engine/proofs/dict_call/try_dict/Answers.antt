@@ -1,9 +1,7 @@
-use Rattle.std.proofs.Common.{◌≡◌, refl, sym, ap, ◌∙◌, subst}
-use Rattle.std.specs.Prelude.{None, Some}
+use Rattle.std.proofs.Common.{◌≡◌, refl, ◌∙◌}
 use Rattle.ft_model.specs.declared.call.Call.TheVariants as call
 use Rattle.ft_model.specs.declared.call.DictCall.TheVariants as dict
 use Rattle.ft_model.specs.declared.reply.Reply.TheVariants as reply
-use Rattle.ft_model.specs.Calls.{cursor_of_dict}
 use Rattle.ft_bank.specs.Passes.{shape_of, view}
 use Rattle.ft_section.specs.declared.answers.Objects.TheVariants.{One, Two}
 use Rattle.ft_engine.proofs.KeyedCalls.{copies_outcome, default_outcome, dict_tried, joins_outcome, keyed_clear_outcome, keyed_copy_outcome, puts_outcome}

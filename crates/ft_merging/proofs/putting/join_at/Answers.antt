@@ -1,4 +1,4 @@
-use Rattle.std.proofs.Common.{◌≡◌, ◌<◌, ◌+◌, ℕ, false, Option, Some, None, refl, sym, ap, ◌∙◌, subst, arith}
+use Rattle.std.proofs.Common.{◌≡◌, ◌<◌, ◌+◌, false, Some, None, refl, sym, ap, ◌∙◌, subst, arith}
 use Rattle.std.specs.Prelude.{pos, slice_index_or}
 use Rattle.ft_model.specs.declared.content.Content.{Content}
 use Rattle.ft_model.specs.declared.data.Key.{Key}
@@ -21,12 +21,10 @@ use Rattle.ft_bank.proofs.Whole.{loaded_held, loaded_put, loaded_then, put_then}
 use Rattle.ft_search.proofs.Puts.{writes_on}
 use Rattle.ft_search.specs.declared.spots.Spot.{Spot}
 use Rattle.ft_search.specs.declared.spots.Spot.TheVariants as spot
-use Rattle.ft_search.specs.Held.{IsHeldAt}
 use Rattle.ft_search.specs.Rounds.{kind_by}
 use Rattle.ft_search.specs.Writing.{WritesEntries}
 use Rattle.ft_search.proofs.Values.{ValueLaws}
 use Rattle.ft_adding.specs.declared.counts.Counts.{Counts}
-use Rattle.ft_adding.specs.Growing.{IsFreeFor}
 use Rattle.ft_adding.specs.Placing.{IsUnused, with_entry}
 use Rattle.ft_adding.proofs.Placed.{PlaceLaws, pair_for}
 use Rattle.ft_merging.specs.Joining.{joined}

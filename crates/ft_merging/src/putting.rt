@@ -1,6 +1,6 @@
 //! The keys of one dict or set are put into another one that is written, one by one, in the order of their entries:
 //! the version of each new entry is odd until all are there.
-ghost use Rattle.std.specs.Prelude.{◌≡◌, ◌≢◌, ℕ, suc, ◌+◌, ◌^◌, ◌<◌, true, Some, None};
+ghost use Rattle.std.specs.Prelude.{◌≡◌, ◌≢◌, ℕ, suc, ◌+◌, ◌^◌, ◌<◌, ◌≤◌, true, Some, None};
 ghost use Rattle.ft_layout.specs.Tables.{hash_of};
 ghost use Rattle.ft_layout.specs.Words.{FitsKey};
 ghost use Rattle.ft_model.specs.declared.reply.Reply.TheVariants as reply;
@@ -22,7 +22,7 @@ ghost use Rattle.ft_search.specs.Writing.{WritesEntries};
 ghost use Rattle.ft_adding.specs.declared.counts.Counts.{Counts};
 ghost use Rattle.ft_adding.specs.Growing.{IsFreeFor, KnowsKeyed, holds};
 ghost use Rattle.ft_merging.specs.Joining.{joined};
-ghost use Rattle.ft_merging.specs.Internal.Joining.{IsJoining};
+ghost use Rattle.ft_merging.specs.Internal.Joining.{IsJoining, KeepsBelow};
 ghost use Rattle.ft_merging.specs.Internal.Writing.{MayFinishAll};
 
 use crate::closing::finish_entries;
@@ -116,6 +116,8 @@ fn join_at(
     ensures joining { IsJoining (shape_of bank.now) o way own t table
         (joined (known o (view pass.old)).content (known t (view pass.old)).content) end (place + 1) result
         (view pass.new) }
+    ensures more { counts.fill ≤ result.fill }
+    ensures keeps { KeepsBelow (name_of own) counts.fill (held o (view pass.old)) (held o (view pass.new)) }
 {
     let _ = end;
     versions_change_nothing();
@@ -142,7 +144,7 @@ fn join_at(
 }
 
 /// Puts the pairs of as many entries into a container that is written. Answers what it counts then.
-fn join_all(
+pub(crate) fn join_all(
     bank: &Bank,
     pass: &mut Pass,
     o: Object,
@@ -167,6 +169,7 @@ fn join_all(
     ensures only { OnlyPut o (view pass.old) (view pass.new) }
     ensures joining { IsJoining (shape_of bank.now) o way own t table
         (joined (known o (view pass.old)).content (known t (view pass.old)).content) end fill result (view pass.new) }
+    ensures keeps { KeepsBelow (name_of own) first.fill (held o (view pass.old)) (held o (view pass.new)) }
 {
     let mut counts = first;
     for place in 0..fill {

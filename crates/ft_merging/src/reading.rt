@@ -49,7 +49,7 @@ fn key_said(kind: u64, payload: u64) -> Option<Key>
 }
 
 /// Loads a word of an entry.
-pub(crate) fn word_of(
+pub fn word_of(
     bank: &Bank,
     pass: &mut Pass,
     o: Object,
@@ -75,7 +75,7 @@ pub(crate) fn word_of(
 }
 
 /// The key of the entry at a place, if one is there.
-pub(crate) fn key_at(
+pub fn key_at(
     bank: &Bank,
     pass: &mut Pass,
     o: Object,
@@ -148,7 +148,7 @@ pub(crate) fn pair_at(
 }
 
 /// The table that the root of a dict or a set names, or none.
-pub(crate) fn own_table(bank: &Bank, pass: &mut Pass, o: Object) -> Option<Table>
+pub fn own_table(bank: &Bank, pass: &mut Pass, o: Object) -> Option<Table>
     requires pass { IsPassOf bank.now pass.old }
     requires may { MayWriteEntries (shape_of bank.now) o (view pass.old) }
     ensures pass { IsPassOf bank.now pass.new }

@@ -18,7 +18,7 @@ use Rattle.ft_trace.specs.Addresses.{class_of, slots}
 use Rattle.ft_trace.specs.Carefuls.{IsDead}
 use Rattle.ft_trace.specs.Holds.{held, known}
 use Rattle.ft_trace.specs.Kinds.{rows}
-use Rattle.ft_trace.specs.Words.{Picture}
+use Rattle.ft_trace.specs.Words.{Picture, entry_of}
 use Rattle.ft_trace.specs.Worlds.{kind_in}
 use Rattle.ft_bank.specs.declared.table.Table.{Table}
 use Rattle.ft_bank.specs.Tables.{name_of}
@@ -75,6 +75,12 @@ pub record AreLeft (kind : Kind) (content goal : Content) (fill end : ℕ) (left
 abbrev pub NoneGone : ℕ → ℕ → Picture → Type 0
 NoneGone t m x =
     (p : ℕ) (key : Key) → p < m → version_of t x p % 2 ≡ 1 → IsDead (slots (class_of t)) x.table p key → ⊥
+
+-- the words of entries before this place are as they were
+abbrev pub KeepsBelow : ℕ → ℕ → Picture → Picture → Type 0
+KeepsBelow t place before after =
+    (p word : ℕ) → p < place → word < 8
+    → entry_of (slots (class_of t)) after.table p word ≡ entry_of (slots (class_of t)) before.table p word
 
 -- In the container o, which counts this, the keys of the container t are put whose entries come before this place of
 -- its table; when all are, o has this content and so many used entries. (profile)

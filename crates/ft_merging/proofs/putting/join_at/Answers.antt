@@ -6,6 +6,7 @@ use Rattle.ft_model.specs.declared.script.Kind.{Kind}
 use Rattle.ft_layout.specs.Tables.{UsedEntry, hash_of, slot_of}
 use Rattle.ft_layout.specs.Words.{FitsKey, FitsStored}
 use Rattle.ft_trace.specs.declared.Shape.{Shape}
+use Rattle.ft_trace.specs.declared.View.{View}
 use Rattle.ft_trace.specs.Addresses.{class_of, containers_in, slots}
 use Rattle.ft_trace.specs.Holds.{held, known}
 use Rattle.ft_trace.specs.Kinds.{rows}
@@ -22,12 +23,16 @@ use Rattle.ft_adding.specs.Growing.{IsFreeFor}
 use Rattle.ft_adding.specs.Placing.{IsUnused, with_entry}
 use Rattle.ft_adding.proofs.Placed.{PlaceLaws, pair_for}
 use Rattle.ft_merging.specs.Joining.{joined}
-use Rattle.ft_merging.specs.Internal.Joining.{IsJoining, pair_in}
+use Rattle.ft_merging.specs.Internal.Joining.{IsJoining, KeepsBelow, pair_in}
 use Rattle.ft_merging.proofs.Joined.{inside, joining_dead, joining_loaded, joining_new, joining_there, new_room, stores}
 use Rattle.ft_merging.proofs.JoinedReads.{entry_used, none_found, none_used, pair_used, source_known}
-use Rattle.ft_merging.proofs.JoinedStep.{unused_here}
+use Rattle.ft_merging.proofs.JoinedStep.{others_same, unused_here}
 use Rattle.ft_merging.proofs.putting.join_at.Goals as goal
 use Rattle.ft_merging.proofs.putting.join_at.Goals.{After-pair_at, After-words_follow_a_set, In-Some, In-Some-free_in}
+
+-- loads change no words
+same_below : (t place : ℕ) (v w : View) (o : ℕ) → OnlyLoaded v w → KeepsBelow t place (held o v) (held o w)
+same_below t place v w o only p word less few = ap (λ (x : Picture). entry_of (slots (class_of t)) x.table p word) (loaded_held v w o only)
 
 abbrev done : After-words_follow_a_set → Content
 done c = joined (known c.args.o (view c.args.pass.now)).content (known c.args.t (view c.args.pass.now)).content
@@ -110,6 +115,9 @@ returns-in_default-clause-joining c =
     joining_loaded k a.o a.way a.own a.t a.table _ a.end (a.place + 1) a.counts v (view c.pair_at.new.pass) c.pair_at.ensures.only
     (joining_dead k a.o a.way a.own a.t a.table _ a.end a.place a.counts v j c.requires.place any dead)
 
+pub returns-in_default-clause-keeps : goal.returns-in_default-clause-keeps
+returns-in_default-clause-keeps c = same_below (name_of c.args.own) c.args.counts.fill (view c.args.pass.now) (view c.pair_at.new.pass) c.args.o c.pair_at.ensures.only
+
 -- ---- the search
 
 pub free_in-requires-clause-writes : goal.free_in-requires-clause-writes
@@ -130,6 +138,11 @@ pub returns-in_default-free_in-clause-only : goal.returns-in_default-free_in-cla
 returns-in_default-free_in-clause-only c =
     let v = view c.args.pass.now in
     loaded_put v (view c.free_in.new.pass) c.args.o (loaded_then v (view c.pair_at.new.pass) (view c.free_in.new.pass) c.pair_at.ensures.only c.free_in.ensures.only)
+
+pub returns-in_default-free_in-clause-keeps : goal.returns-in_default-free_in-clause-keeps
+returns-in_default-free_in-clause-keeps c =
+    let v = view c.args.pass.now in
+    same_below (name_of c.args.own) c.args.counts.fill v (view c.free_in.new.pass) c.args.o (loaded_then v (view c.pair_at.new.pass) (view c.free_in.new.pass) c.pair_at.ensures.only c.free_in.ensures.only)
 
 no_slot : (o : Option ℕ) → ((slot : ℕ) → o ≡ Some slot → ⊥) → o ≡ None
 no_slot None never = refl
@@ -213,3 +226,30 @@ returns-clause-joining c =
     let words : held a.o z ≡ with_entry (name_of a.own) c.in-Some-free_in.slot a.counts (pair_for k.texts j.mid key stored) (held a.o v) = e.words ∙ (λ i. with_entry (name_of a.own) c.in-Some-free_in.slot a.counts (record { hash = hash i; key = key; value = stored; serial = next i }) (same i)) in
     subst (λ (y : Counts). IsJoining k a.o a.way a.own a.t a.table (done d) a.end (a.place + 1) y z) (sym c.one_more.ensures)
     (joining_new k a.o a.way a.own a.t a.table (done d) a.end a.place a.counts v j c.requires.place any key stored p.1 p.0 f.1 (laws d) c.in-Some-free_in.slot p.3 c.free_in.ensures.low p.4 f.0 z only words e.writes other)
+
+pub returns-clause-more : goal.returns-clause-more
+returns-clause-more c = let f : c.one_more.result.fill ≡ c.args.counts.fill + 1 = ap (λ (z : Counts). z.fill) c.one_more.ensures in omega (arith, f)
+
+pub returns-clause-keeps : goal.returns-clause-keeps
+returns-clause-keeps c q w less few =
+    let a = c.args in
+    let k = shape_of a.bank.now in
+    let v = view a.pass.now in
+    let u = view c.free_in.new.pass in
+    let at = goal.at.returns-clause-keeps c in
+    let d = at.After-words_follow_a_set in
+    let s = at.In-Some-free_in in
+    let j = c.requires.joining in
+    let p = there at.In-Some in
+    let f = free s in
+    let e = c.put_key.ensures in
+    let key = c.in-Some.pair.key in
+    let stored = c.in-Some.pair.value in
+    let same = loaded_held v u a.o (loads s) in
+    let hash = p.2 in
+    let next = j.next_is in
+    let words : held a.o (view c.put_key.new.pass) ≡ with_entry (name_of a.own) c.in-Some-free_in.slot a.counts (pair_for k.texts j.mid key stored) (held a.o v) = e.words ∙ (λ i. with_entry (name_of a.own) c.in-Some-free_in.slot a.counts (record { hash = hash i; key = key; value = stored; serial = next i }) (same i)) in
+    let ok = stores k a.o a.way a.own a.t a.table (done d) a.end a.place a.counts v j c.requires.place any key stored p.1 p.0 in
+    let room = new_room k a.o a.way a.own a.t a.table (done d) a.end a.place a.counts v j c.requires.place any key stored p.1 p.0 f.1 in
+    ap (λ (x : Picture). entry_of (slots (class_of (name_of a.own))) x.table q w) words
+    ∙ others_same (laws d) k a.o a.way a.own j.mid a.counts v j.midway j.same_kind j.kind_is j.count_is j.alive c.in-Some-free_in.slot key stored p.3 c.free_in.ensures.low ok p.4 f.1 f.0 (subst (λ (z : Kind). a.counts.fill < rows z (class_of (name_of a.own))) j.kind_is room) q w (λ e. omega (arith, e, less)) few

@@ -1,10 +1,11 @@
 -- Two sets that are parted in the table of the first one: once the elements of the other one are joined to it, those go
 -- that both had.
-use Rattle.std.proofs.Common.{◌≡◌, ◌≢◌, ℕ, suc, ◌+◌, ◌*◌, ◌-◌, ◌%◌, ◌<◌, ◌≤◌, Bool, true, false, true≢false, List, [], ◌∷◌, ◌++◌, length, drop, filter, cond, Option, Some, None, refl, sym, ap, ◌∙◌, subst, arith}
+use Rattle.std.proofs.Common.{◌≡◌, ◌≢◌, ℕ, suc, ◌+◌, ◌*◌, ◌-◌, ◌%◌, ◌<◌, ◌≤◌, Bool, true, false, true≢false, List, [], ◌∷◌, ◌++◌, length, drop, filter, cond, Option, Some, None, refl, sym, ap, ◌∙◌, subst, inl, inr, arith}
 use Rattle.std.specs.Prelude.{◌||◌, not, is_some, if◌then◌else◌}
 use Rattle.std.specs.List.{list_any}
 use Rattle.std.proofs.lemmas.Bool.{cases_lt}
 use Rattle.std.proofs.lemmas.List.{drop_all}
+use Rattle.std.proofs.lemmas.List.Elements.{filter-append}
 use mathlib.Core.Logic.{dite}
 use Rattle.std.proofs.Math.Decide.{dec_lt}
 use Rattle.ft_model.specs.declared.content.Content.{Content}
@@ -13,7 +14,7 @@ use Rattle.ft_model.specs.declared.content.Element.{Element}
 use Rattle.ft_model.specs.declared.data.Key.{Key}
 use Rattle.ft_model.specs.declared.script.Kind.{Kind}
 use Rattle.ft_model.specs.declared.script.Kind.TheVariants as kind
-use Rattle.ft_model.specs.Classes.{set_entries}
+use Rattle.ft_model.specs.Classes.{IsClass, set_entries}
 use Rattle.ft_model.specs.Contents.{SetContent, elements_from, has_element, set_or, set_xor, those_not_in}
 use Rattle.ft_model.specs.Keys.{same_key}
 use Rattle.ft_model.specs.Worlds.{set_of}
@@ -56,39 +57,28 @@ use Rattle.ft_merging.proofs.Thinned.{found_words, spared_own}
 
 -- ---- elements
 
-filter_append : (f : Element → Bool) (xs ys : List Element) → filter f (xs ++ ys) ≡ filter f xs ++ filter f ys
-filter_append f [] ys = refl
-filter_append f (x ∷ xs) ys = elim (f x) as (λ b. cond b (x ∷ filter f (xs ++ ys)) (filter f (xs ++ ys)) ≡ cond b (x ∷ filter f xs) (filter f xs) ++ filter f ys) [
-  | true ↦ ap (λ (l : List Element). x ∷ l) (filter_append f xs ys)
-  | false ↦ filter_append f xs ys
-]
-
 -- new ones are spared
-spared_new : (others first : SetContent) (n : ℕ) (es : List Element) → filter (λ (e : Element). spared false others first e.key) (elements_from n (those_not_in first.elements es)) ≡ elements_from n (those_not_in first.elements es)
-spared_new others first n [] = refl
-spared_new others first n (e ∷ es) = by (has_element first.elements e.key) refl
-  where
-    test : Element → Bool
-    test x = spared false others first x.key
+abbrev AreSpared : SetContent → SetContent → ℕ → List Element → Type 0
+AreSpared others first n es = filter (λ (e : Element). spared false others first e.key) (elements_from n es) ≡ elements_from n es
 
-    by : (b : Bool) → has_element first.elements e.key ≡ b → filter (λ (x : Element). spared false others first x.key) (elements_from n (those_not_in first.elements (e ∷ es))) ≡ elements_from n (those_not_in first.elements (e ∷ es))
-    by true there =
-        let list : those_not_in first.elements (e ∷ es) ≡ those_not_in first.elements es = ap (λ (b : Bool). cond (not b) (e ∷ those_not_in first.elements es) (those_not_in first.elements es)) there in
-        ap (λ (l : List Element). filter (λ (x : Element). spared false others first x.key) (elements_from n l)) list ∙ (spared_new others first n es ∙ ap (elements_from n) (sym list))
-    by false missing =
+spared_new : (others first : SetContent) (n : ℕ) (es : List Element) → AreSpared others first n (those_not_in first.elements es)
+spared_new others first n [] = refl
+spared_new others first n (e ∷ es) = by (λ m. spared_new others first m es) (has_element first.elements e.key) refl
+  where
+    by : ((m : ℕ) → AreSpared others first m (those_not_in first.elements es)) → (b : Bool) → has_element first.elements e.key ≡ b → AreSpared others first n (those_not_in first.elements (e ∷ es))
+    by rest true there = subst (AreSpared others first n) (sym (ap (λ (b : Bool). cond (not b) (e ∷ those_not_in first.elements es) (those_not_in first.elements es)) there)) (rest n)
+    by rest false missing =
         let ys = those_not_in first.elements es in
         let new : Element = record { serial = n; key = e.key } in
-        let list : those_not_in first.elements (e ∷ es) ≡ e ∷ ys = ap (λ (b : Bool). cond (not b) (e ∷ ys) ys) missing in
+        let left : List Element = filter (λ (x : Element). spared false others first x.key) (elements_from (n + 1) ys) in
         let here : spared false others first e.key ≡ true = ap (λ (b : Bool). not b || stays false others e.key) missing in
-        let rest = spared_new others first (n + 1) es in
-        ap (λ (l : List Element). filter (λ (x : Element). spared false others first x.key) (elements_from n l)) list
-        ∙ (ap (λ (b : Bool). cond b (new ∷ filter (λ (x : Element). spared false others first x.key) (elements_from (n + 1) ys)) (filter (λ (x : Element). spared false others first x.key) (elements_from (n + 1) ys))) here
-        ∙ (ap (λ (l : List Element). new ∷ l) rest ∙ ap (elements_from n) (sym list)))
+        subst (AreSpared others first n) (sym (ap (λ (b : Bool). cond (not b) (e ∷ ys) ys) missing))
+        (ap (λ (b : Bool). cond b (new ∷ left) left) here ∙ ap (λ (l : List Element). new ∷ l) (rest (n + 1)))
 
 xor_comes : (others first : SetContent) → content.Set (record { next = (set_or first others.elements).next; elements = filter (λ (e : Element). spared false others first e.key) (set_or first others.elements).elements }) ≡ content.Set (set_xor first others.elements)
 xor_comes others first =
     let news = elements_from first.next (those_not_in first.elements others.elements) in
-    let all = filter_append (λ (e : Element). spared false others first e.key) first.elements news in
+    let all = filter-append (λ (e : Element). spared false others first e.key) first.elements news in
     let old = spared_own false others first first.elements (λ key there. there) in
     let new = spared_new others first first.next others.elements in
     ap (λ (es : List Element). content.Set (record { next = (set_or first others.elements).next; elements = es })) (all ∙ (λ i. old i ++ new i))
@@ -96,15 +86,15 @@ xor_comes others first =
 -- what is there has its words
 has_words : (es : List Element) (key : Key) → has_element es key ≡ true → list_any (λ (e : Element). is_key e.key key) es ≡ true
 has_words [] key there = absurd (cc)
-has_words (e ∷ es) key there = by (same_key e.key key) refl there
+has_words (e ∷ es) key there = by (λ is. has_words es key is) (same_key e.key key) refl there
   where
     later : (a b : Bool) → b ≡ true → (a || b) ≡ true
     later true b e = refl
     later false b e = e
 
-    by : (b : Bool) → same_key e.key key ≡ b → (b || has_element es key) ≡ true → list_any (λ (x : Element). is_key x.key key) (e ∷ es) ≡ true
-    by true same is = ap (λ (b : Bool). b || list_any (λ (x : Element). is_key x.key key) es) (subst (λ (z : Key). is_key e.key z ≡ true) (same_key-true e.key key same) (key_is e.key e.key refl refl))
-    by false same is = later (is_key e.key key) (list_any (λ (x : Element). is_key x.key key) es) (has_words es key is)
+    by : (has_element es key ≡ true → list_any (λ (x : Element). is_key x.key key) es ≡ true) → (b : Bool) → same_key e.key key ≡ b → (b || has_element es key) ≡ true → list_any (λ (x : Element). is_key x.key key) (e ∷ es) ≡ true
+    by rest true same is = ap (λ (b : Bool). b || list_any (λ (x : Element). is_key x.key key) es) (subst (λ (z : Key). is_key e.key z ≡ true) (same_key-true e.key key same) (key_is e.key e.key refl refl))
+    by rest false same is = later (is_key e.key key) (list_any (λ (x : Element). is_key x.key key) es) (rest is)
 
 -- ---- once all are joined
 

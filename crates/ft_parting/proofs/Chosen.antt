@@ -9,9 +9,9 @@ use Rattle.ft_model.specs.declared.content.Element.{Element}
 use Rattle.ft_model.specs.declared.data.Key.{Key}
 use Rattle.ft_model.specs.declared.data.Key.TheVariants as key
 use Rattle.ft_model.specs.declared.script.Kind.TheVariants as kind
-use Rattle.ft_model.specs.Contents.{SetContent, has_element}
+use Rattle.ft_model.specs.Contents.{IsSet, SetContent, has_element}
 use Rattle.ft_model.specs.Keys.{same_key}
-use Rattle.ft_model.specs.Worlds.{kind_of, set_of}
+use Rattle.ft_model.specs.Worlds.{set_of}
 use Rattle.ft_model.proofs.KeyLemmas.{same_key-true}
 use Rattle.ft_layout.specs.declared.slot.Slot.TheVariants.{Never}
 use Rattle.ft_layout.specs.declared.slot.Stored.{Stored}
@@ -19,6 +19,7 @@ use Rattle.ft_layout.specs.declared.slot.Stored.TheVariants.{Empty}
 use Rattle.ft_layout.specs.Containers.{class_mask, used_element, IsSetWords}
 use Rattle.ft_layout.specs.Tables.{UsedEntry, is_live, hash_of, slot_with, entry_word, set_room, IsSetTable}
 use Rattle.ft_layout.specs.Words.{IsEntry, IsKey, key_kind, gone_kind}
+use Rattle.ft_layout.proofs.ContentLaws.{stands_for_set}
 use Rattle.ft_trace.specs.declared.Shape.{Shape}
 use Rattle.ft_trace.specs.declared.View.{View}
 use Rattle.ft_trace.specs.Addresses.{class_of}
@@ -29,34 +30,48 @@ use Rattle.ft_trace.specs.Worlds.{kind_in}
 use Rattle.ft_trace.proofs.Known.{class_known}
 use Rattle.ft_bank.specs.declared.table.Table.{Table}
 use Rattle.ft_bank.specs.Tables.{name_of}
-use Rattle.ft_search.proofs.Changing.{kind_is}
 use Rattle.ft_adding.specs.Growing.{KnowsKeyed}
+use Rattle.ft_adding.proofs.Keyed.{no_class}
 use Rattle.ft_adding.proofs.Placed.{none_used}
+use Rattle.ft_merging.proofs.Finished.{is_set}
 use Rattle.ft_parting.specs.Choosing.{apart_pair, is_apart}
 
 -- ---- a set
 
-set_of_kind : (c : Content) → kind_of c ≡ kind.Set → c ≡ content.Set (set_of c)
-set_of_kind (content.Set elements) e = refl
-set_of_kind (content.List values) e = absurd (cc)
-set_of_kind (content.Dict pairs) e = absurd (cc)
-
 module _ (k : Shape) (t : ℕ) (v : View) (shape : v.shape ≡ k) (possible : ∥ Possible v ∥₁) (is : kind_in k.kinds t ≡ kind.Set) where
-  abbrev elements : List Element
-  elements = (set_of (known t v).content).elements
+  abbrev set : SetContent
+  set = set_of (known t v).content
 
-  set_known : (own : Option Table) → KnowsKeyed k t own v → (known t v).content ≡ content.Set (set_of (known t v).content)
-  set_known own keyed = set_of_kind (known t v).content (kind_is k v t shape possible keyed.locked ∙ is)
+  pub set_stands : (own : Option Table) → KnowsKeyed k t own v → IsSetWords k.texts (held t v).block (0 ∷ 0 ∷ (held t v).table) (known t v).table.class (known t v).table.fill set
+  set_stands own keyed =
+      let here : Stands k.texts (held t v) (record { content = content.Set set; table = (known t v).table }) = subst (λ (z : Content). Stands k.texts (held t v) (record { content = z; table = (known t v).table })) (is_set k v t shape possible keyed.locked is) keyed.stands in
+      here
 
-  stands_as : (own : Option Table) → KnowsKeyed k t own v → Stands k.texts (held t v) (record { content = content.Set (set_of (known t v).content); table = (known t v).table })
-  stands_as own keyed = subst (λ (z : Content). Stands k.texts (held t v) (record { content = z; table = (known t v).table })) (set_known own keyed) keyed.stands
+  pub set_words : (table : Table) → KnowsKeyed k t (Some table) v → IsSetWords k.texts (held t v).block (0 ∷ 0 ∷ (held t v).table) (Some (class_of (name_of table))) (known t v).table.fill set
+  set_words table keyed =
+      subst (λ (z : Option ℕ). IsSetWords k.texts (held t v).block (0 ∷ 0 ∷ (held t v).table) z (known t v).table.fill set) (class_known k.texts (held t v) (known t v) (name_of table) keyed.stands keyed.root) (set_stands (Some table) keyed)
 
   -- its table's entries
-  pub set_says : (table : Table) → KnowsKeyed k t (Some table) v → (used : List UsedEntry) × IsSetTable k.texts (class_mask (class_of (name_of table))) used (0 ∷ 0 ∷ (held t v).table) × (filter is_live used ≡ map used_element elements)
-  set_says table keyed =
-      let says : IsSetWords k.texts (held t v).block (0 ∷ 0 ∷ (held t v).table) (Some (class_of (name_of table))) (known t v).table.fill (set_of (known t v).content) =
-      subst (λ (z : Option ℕ). IsSetWords k.texts (held t v).block (0 ∷ 0 ∷ (held t v).table) z (known t v).table.fill (set_of (known t v).content)) (class_known k.texts (held t v) (known t v) (name_of table) keyed.stands keyed.root) (stands_as (Some table) keyed) in
-      (says.used, says.table, says.entries.live)
+  pub set_says : (table : Table) → KnowsKeyed k t (Some table) v → (used : List UsedEntry) × IsSetTable k.texts (class_mask (class_of (name_of table))) used (0 ∷ 0 ∷ (held t v).table) × (filter is_live used ≡ map used_element set.elements)
+  set_says table keyed = let says = set_words table keyed in (says.used, says.table, says.entries.live)
+
+  -- it is a set, also where it has no table
+  pub set_rule : (own : Option Table) → KnowsKeyed k t own v → IsSet set.next set.elements
+  set_rule own keyed = stands_for_set k.texts (held t v).block (0 ∷ 0 ∷ (held t v).table) (known t v).table.class (known t v).table.fill set (set_stands own keyed)
+
+  -- where it has none it has no elements
+  pub none_there : KnowsKeyed k t None v → set.elements ≡ []
+  none_there keyed =
+      let says = set_stands None keyed in
+      by (known t v).table.class set says (no_class (held t v).block (known t v).table.class (length set.elements) (known t v).table.fill set.next says.head keyed.root)
+    where
+      no_map : (es : List Element) → map used_element es ≡ [] → es ≡ []
+      no_map [] e = refl
+      no_map (x ∷ xs) e = absurd (cc)
+
+      by : (class : Option ℕ) (others : SetContent) → IsSetWords k.texts (held t v).block (0 ∷ 0 ∷ (held t v).table) class (known t v).table.fill others → class ≡ None → others.elements ≡ []
+      by None others says e = no_map others.elements (sym says.entries.live ∙ ap (filter is_live) says.table)
+      by (Some class) others says e = absurd (cc)
 
 -- ---- which keys it has
 

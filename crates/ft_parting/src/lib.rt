@@ -6,3 +6,6 @@
 #![tactic(auto)]
 
 mod choosing;
+mod parting;
+
+pub use crate::parting::part_by;

@@ -1,4 +1,4 @@
-use Rattle.std.proofs.Common.{◌≡◌, ◌≢◌, ◌+◌, ◌<◌, ◌≤◌, ℕ, false, Some, None, refl, sym, ap, ◌∙◌, subst, arith}
+use Rattle.std.proofs.Common.{◌≡◌, ◌≢◌, ◌+◌, ◌<◌, ◌≤◌, ℕ, ◌∷◌, false, Some, None, refl, sym, ap, ◌∙◌, subst, arith}
 use Rattle.ft_model.specs.declared.content.Content.{Content}
 use Rattle.ft_model.specs.declared.content.Content.TheVariants as content
 use Rattle.ft_model.specs.declared.reply.Reply.TheVariants as reply
@@ -77,10 +77,10 @@ room c =
     let v = view a.pass.now in
     let d = (known a.s v).content in
     let same = class_is a.own (c.requires.may.keyed.table_in a.own refl).2 in
-    let use = use_known c.words_are_of_one_content.ensures.head (shape_of a.bank.now) a.s (Some a.own) v a.counts c.requires.may.keyed c.requires.counts in
+    let uses = use_known c.words_are_of_one_content.ensures.head (shape_of a.bank.now) a.s (Some a.own) v a.counts c.requires.may.keyed c.requires.counts in
     subst (λ (n : ℕ). a.counts.fill + a.more ≤ rows kind.Set n) (sym same)
     (keys_room d way.Set a.own a.counts.fill a.more (kind_is (shape_of a.bank.now) v a.s c.requires.pass.1 a.pass.now.possible c.requires.may.keyed.locked ∙ c.requires.set) (subst (λ (n : ℕ). a.counts.fill ≤ rows kind.Set n) same (low c))
-    ((λ i. keys_take d (sym use i) (c.requires.more i)) ∙ none c))
+    ((λ i. keys_take d (sym uses i) (c.requires.more i)) ∙ none c))
 
 cap : (c : After-start_write) → passes_cap (joined (known c.args.s (view c.args.pass.now)).content (known c.args.t (view c.args.pass.now)).content) ≡ false
 cap c =

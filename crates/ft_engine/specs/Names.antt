@@ -91,7 +91,7 @@ FitsSections s (call.Set o sc) = Unit {0}
 FitsSections s (call.Next number) = Unit {0}
 FitsSections s call.Quiesce = Unit {0}
 
--- the calls on dicts and sets that an engine makes so far: all but `update` and `xor`
+-- the calls on dicts that an engine makes so far: all but `update`
 abbrev pub IsBuiltDict : DictCall → Type 0
 IsBuiltDict (dict.Get key) = Unit {0}
 IsBuiltDict (dict.GetOr key default) = Unit {0}
@@ -110,29 +110,11 @@ IsBuiltDict (dict.CopyTo other) = Unit {0}
 IsBuiltDict (dict.Eq other) = Unit {0}
 IsBuiltDict (dict.Iter cursor) = Unit {0}
 
-abbrev pub IsBuiltSet : SetCall → Type 0
-IsBuiltSet (set.Add key) = Unit {0}
-IsBuiltSet (set.Discard key) = Unit {0}
-IsBuiltSet (set.Remove key) = Unit {0}
-IsBuiltSet set.Pop = Unit {0}
-IsBuiltSet (set.Has key) = Unit {0}
-IsBuiltSet set.Len = Unit {0}
-IsBuiltSet set.Items = Unit {0}
-IsBuiltSet (set.Eq other) = Unit {0}
-IsBuiltSet (set.Or other) = Unit {0}
-IsBuiltSet (set.And other) = Unit {0}
-IsBuiltSet (set.Sub other) = Unit {0}
-IsBuiltSet (set.Xor other) = ⊥
-IsBuiltSet (set.Subset other) = Unit {0}
-IsBuiltSet (set.Disjoint other) = Unit {0}
-IsBuiltSet set.Clear = Unit {0}
-IsBuiltSet (set.Iter cursor) = Unit {0}
-
--- the calls that an engine makes so far: all on lists, of cursors and of sections, `quiesce`, and those on dicts and sets
+-- the calls that an engine makes so far: all on lists and sets, of cursors and of sections, `quiesce`, and those on dicts
 abbrev pub IsBuilt : Call → Type 0
 IsBuilt (call.Dict o dc) = IsBuiltDict dc
 IsBuilt (call.List o lc) = Unit {0}
-IsBuilt (call.Set o sc) = IsBuiltSet sc
+IsBuilt (call.Set o sc) = Unit {0}
 IsBuilt (call.Next number) = Unit {0}
 IsBuilt (call.Begin first second) = Unit {0}
 IsBuilt call.End = Unit {0}

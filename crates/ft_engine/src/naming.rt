@@ -5,7 +5,7 @@ ghost use Rattle.ft_trace.specs.Addresses.{containers_in};
 ghost use Rattle.ft_bank.specs.Passes.{shape_of, view};
 ghost use Rattle.ft_engine.specs.Attempts.{MayAttempt};
 ghost use Rattle.ft_engine.specs.Callers.{IsOfKindIn, bank_of, hands_of, pass_of};
-ghost use Rattle.ft_engine.specs.Names.{AreOfKindIn, HasKey, IsBuilt, IsBuiltDict, IsBuiltSet, IsCallIn, key_of_dict, key_of_set};
+ghost use Rattle.ft_engine.specs.Names.{AreOfKindIn, HasKey, IsBuilt, IsBuiltDict, IsCallIn, key_of_dict, key_of_set};
 
 use crate::caller::Caller;
 use crate::engine::Engine;
@@ -48,7 +48,6 @@ fn is_built(call: &Call) -> bool
 {
     match *call {
         Call::Dict { call, .. } => is_built_dict(&call),
-        Call::Set { call, .. } => is_built_set(&call),
         _ => true,
     }
 }
@@ -58,13 +57,6 @@ fn is_built_dict(call: &DictCall) -> bool
     ensures { IsTrue result ↔ IsBuiltDict call.now }
 {
     !matches!(*call, DictCall::Update { .. })
-}
-
-/// Whether it makes the call on a set.
-fn is_built_set(call: &SetCall) -> bool
-    ensures { IsTrue result ↔ IsBuiltSet call.now }
-{
-    !matches!(*call, SetCall::Xor { .. })
 }
 
 impl Engine {

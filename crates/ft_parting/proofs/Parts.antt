@@ -13,7 +13,7 @@ use Rattle.ft_model.specs.declared.script.Kind.TheVariants as kind
 use Rattle.ft_model.specs.Classes.{most_elements, set_class, set_entries}
 use Rattle.ft_model.specs.Contents.{SetContent, elements_from, has_element, set_xor, those_not_in}
 use Rattle.ft_model.specs.Tables.{StoredWorld, TableUse, grown_table, outgrows_set, passes_cap}
-use Rattle.ft_model.specs.Worlds.{set_of}
+use Rattle.ft_model.specs.Worlds.{serial_of, set_of}
 use Rattle.ft_model.proofs.ClassRooms.{set_fits}
 use Rattle.ft_model.proofs.KnownKeys.{length-filter-le}
 use Rattle.ft_trace.specs.declared.Shape.{Shape}
@@ -26,9 +26,10 @@ use Rattle.ft_bank.specs.Whole.{OnlyLoaded}
 use Rattle.ft_bank.specs.Writes.{MayHave}
 use Rattle.ft_bank.proofs.Whole.{loaded_then, work_knows}
 use Rattle.ft_growth.specs.declared.adding.Added.{Added}
-use Rattle.ft_growth.specs.Adding.{IsAdded}
+use Rattle.ft_growth.specs.Adding.{IsAdded, KeepsCursors}
+use Rattle.ft_growth.proofs.Cursors.{added_cursors}
 use Rattle.ft_search.specs.Writing.{Leaves}
-use Rattle.ft_merging.specs.Joining.{new_keys}
+use Rattle.ft_merging.specs.Joining.{joined, new_keys}
 use Rattle.ft_merging.specs.Parting.{PartsBy, PartsSets, part_takes, parted, parted_kept}
 use Rattle.ft_merging.specs.Thinning.{thinned, thinned_kept}
 use Rattle.ft_replacing.specs.Replacing.{Replaces}
@@ -41,6 +42,10 @@ new_length d others first is =
     let n = length (those_not_in first.elements (set_of others).elements) in
     let e : first.next + n - first.next ≡ n = omega arith in
     ap (λ (z : Content). new_keys z others) is ∙ e
+
+-- none is, where joining the other one changes nothing
+pub none_drawn : (d others : Content) → joined d others ≡ d → new_keys d others ≡ 0
+none_drawn d others same = let s = ap serial_of same in omega (arith, s)
 
 from_length : (next : ℕ) (es : List Element) → length (elements_from next es) ≡ length es
 from_length next [] = refl
@@ -59,6 +64,13 @@ pub parted_next : (d others : Content) (first : SetContent) (next more : ℕ) �
 parted_next d others first next more is starts news =
     let n = new_length d others first is in
     ap (λ (z : Content). (parted z others).next) is ∙ omega (arith, n, news, starts)
+
+-- those of a set that another one hasn't are few
+pub few_apart : (d : Content) (first : SetContent) (others : List Element) → d ≡ content.Set first → passes_cap d ≡ false → length (those_not_in others first.elements) ≤ 65536
+few_apart d first others is few =
+    let had = ltb-false most_elements (length first.elements) (sym (ap passes_cap is) ∙ few) in
+    let less = length-filter-le (λ (element : Element). not (has_element others element.key)) first.elements in
+    omega (arith, had, less)
 
 -- the new ones are few
 pub part_few : (d others : Content) (first : SetContent) (more : ℕ) → d ≡ content.Set first → more ≡ new_keys d others → passes_cap (content.Set (parted d others)) ≡ false → more ≤ 65536
@@ -181,3 +193,8 @@ pub parts_then : (k : Shape) (s t : ℕ) (called : Call) (v u w : View) (what : 
 parts_then k s t called v u w what only is =
     parts_by k s t called v is.0 w what (loaded_then v u is.0 only is.1)
     (subst (λ (z : Kept × Kept). IsAdded k (part_takes z.0 z.1.content) (passes_cap (content.Set (parted z.0.content z.1.content))) called reply.Done is.0 w what) (λ i. (sym (work_knows u is.0 s is.1.work) i, sym (work_knows u is.0 t is.1.work) i)) is.2)
+
+-- it leaves the cursors of its pass
+pub parts_cursors : (k : Shape) (s t : ℕ) (called : Call) (v w : View) (what : Added) → PartsBy k s t called v w what → KeepsCursors v w
+parts_cursors k s t called v w what x number =
+    added_cursors k (part_takes (known s v) (known t v).content) (passes_cap (content.Set (parted (known s v).content (known t v).content))) called reply.Done x.0 w what x.2 number ∙ x.1.work.pass.cursors number

@@ -251,13 +251,23 @@ fn part_from(
 {
     used_entries_follow_a_set();
     words_are_of_one_content();
-    let others = read_counts(bank, pass, t).fill;
+    let others = read_counts(bank, pass, t);
     let counts = read_counts(bank, pass, s);
     let old = own_table(bank, pass, s);
-    let more = count_lacking(bank, pass, s, t, table, others);
+    let more = count_lacking(bank, pass, s, t, table, others.fill);
     let stay = count_staying(bank, pass, s, old, counts.fill, t);
     part_more(
-        bank, pass, s, old, t, table, others, counts, stay, more, called,
+        bank,
+        pass,
+        s,
+        old,
+        t,
+        table,
+        others.fill,
+        counts,
+        stay,
+        more,
+        called,
     )
 }
 

@@ -39,9 +39,6 @@ look_set-requires-clause-names c = (subst (IsCallIn (shape_of c.args.bank.now) c
 pub look_set-requires-clause-key : goal.look_set-requires-clause-key
 look_set-requires-clause-key c = (subst (IsCallIn (shape_of c.args.bank.now) c.requires.names.0) c.in-Set.is c.requires.names.1).2
 
-pub look_set-requires-clause-built : goal.look_set-requires-clause-built
-look_set-requires-clause-built c = subst IsBuilt c.in-Set.is c.requires.built
-
 pub returns-in-Set-clause-looked : goal.returns-in-Set-clause-looked
 returns-in-Set-clause-looked c = subst (λ (x : Call). Looked x c.args.pass.now c.look_set.new.pass c.look_set.result) (sym c.in-Set.is) c.look_set.ensures.looked
 

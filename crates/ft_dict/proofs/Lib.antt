@@ -5,3 +5,4 @@ mod NewKeys
 mod Showing
 mod Popping
 mod Copied
+mod Updated

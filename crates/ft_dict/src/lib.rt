@@ -1,5 +1,6 @@
 //! Dicts of a bank (Python manual, Mapping Types): calls that look up a key, `len`, all pairs and `==`, without the
-//! locks and with them, and calls under the lock that put a value at a key, take a pair out, clear the dict or copy it.
+//! locks and with them, and calls under the lock that put a value at a key, take a pair out, clear the dict,
+//! copy it or update it with another one.
 //!
 //! Between any two steps of any passes it keeps true, for whoever runs calls, that each call adds one
 //! entry to the pass at most, and that this entry has the reply of the plain dict at its stamp.
@@ -14,6 +15,7 @@ mod lasts;
 mod lens;
 mod locked;
 mod looks;
+mod merges;
 mod pops;
 mod tries;
 mod values;
@@ -26,6 +28,7 @@ pub use crate::items::{look_items, try_items};
 pub use crate::lasts::{popitem_locked, try_popitem};
 pub use crate::lens::{look_len, try_len};
 pub use crate::looks::{look_get, look_getd, look_has};
+pub use crate::merges::{try_update, update_by};
 pub use crate::pops::{try_del, try_pop, try_popd};
 pub use crate::tries::{try_get, try_getd, try_has};
 pub use crate::values::{set_by, setdefault_by, try_set, try_setdefault};

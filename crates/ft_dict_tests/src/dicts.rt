@@ -13,7 +13,7 @@ use crate::{Wanted, four, is_made, only, reads, writes};
 use ft_bank::{Bank, Pass};
 use ft_dict::{
     try_clear, try_copyto, try_del, try_eq, try_get, try_getd, try_has, try_items, try_len,
-    try_pop, try_popd, try_popitem, try_set, try_setdefault,
+    try_pop, try_popd, try_popitem, try_set, try_setdefault, try_update,
 };
 use ft_model::{Key, Pairs, Raise, Reply, Value};
 use ft_section::{Step, new_passes_are_ready};
@@ -42,6 +42,9 @@ enum Call {
     DefaultOther(i64, i64),
     GetOther(i64),
     ItemsOther,
+    /// Updates it with dict 1, and with itself.
+    Update,
+    UpdateSelf,
     /// `copyto` from dict 0 to dict 1, back, and to itself.
     Copy,
     CopyBack,
@@ -97,6 +100,8 @@ fn attempt(bank: &Bank, pass: &mut Pass, alloc: Global, call: Call) -> Step
         }
         Call::GetOther(key) => try_get(bank, pass, 1, Key::Int(key)),
         Call::ItemsOther => try_items(bank, pass, alloc, 1),
+        Call::Update => try_update(bank, pass, 0, 1),
+        Call::UpdateSelf => try_update(bank, pass, 0, 0),
         Call::Copy => try_copyto(bank, pass, 0, 1),
         Call::CopyBack => try_copyto(bank, pass, 1, 0),
         Call::CopySelf => try_copyto(bank, pass, 0, 0),
@@ -405,5 +410,93 @@ fn a_copy_takes_a_table_in_any_case(rt: HostRuntime) -> Result<(), Fail> {
         (Call::CopySelf, reads(Reply::Raised(Raise::Memory(3)), 4)),
     ]?;
     assert_eq!(rt; in_new_bank(alloc, 2, 4, rows.as_slice())?, None);
+    Ok(())
+}
+
+#[test]
+fn an_update_puts_values_at_keys_and_new_keys_last(rt: HostRuntime) -> Result<(), Fail> {
+    let alloc = rt.alloc();
+    // The hash of -1 is that of -2.
+    let rows = vec![in alloc;
+        (Call::Update, writes(Reply::Done, 0)),
+        (Call::Items, reads(pairs(alloc, &[])?, 1)),
+        (Call::SetOther(5, 50), writes(Reply::Done, 1)),
+        (Call::SetOther(-2, 20), writes(Reply::Done, 2)),
+        (Call::SetOther(9, 90), writes(Reply::Done, 3)),
+        (Call::Set(9, 1), writes(Reply::Done, 4)),
+        (Call::Set(-1, 2), writes(Reply::Done, 5)),
+        (Call::Update, writes(Reply::Done, 6)),
+        (Call::Items, reads(pairs(alloc, &[(9, 90), (-1, 2), (5, 50), (-2, 20)])?, 7)),
+        (Call::UpdateSelf, writes(Reply::Done, 7)),
+        (Call::Items, reads(pairs(alloc, &[(9, 90), (-1, 2), (5, 50), (-2, 20)])?, 8)),
+        (Call::ItemsOther, reads(pairs(alloc, &[(5, 50), (-2, 20), (9, 90)])?, 8)),
+        (Call::Del(5), writes(Reply::Done, 8)),
+        (Call::SetOther(-1, 7), writes(Reply::Done, 9)),
+        (Call::Set(9, 3), writes(Reply::Done, 10)),
+        (Call::Update, writes(Reply::Done, 11)),
+        (Call::Items, reads(pairs(alloc, &[(9, 90), (-1, 7), (-2, 20), (5, 50)])?, 12)),
+        (Call::Eq, reads(Reply::Truth(true), 12)),
+        (Call::Get(-1), reads(value(7), 12)),
+    ]?;
+    assert_eq!(rt; in_new_bank(alloc, 4, 4, rows.as_slice())?, None);
+    Ok(())
+}
+
+#[test]
+fn many_keys_of_another_dict_take_a_greater_table(rt: HostRuntime) -> Result<(), Fail> {
+    let alloc = rt.alloc();
+    // Multiples of 2^61 - 1 have the hash of 0. A table of class 3 has room for five keys, also deleted ones.
+    let rows = vec![in alloc;
+        (Call::SetOther(5, 50), writes(Reply::Done, 0)),
+        (Call::SetOther(-2, 20), writes(Reply::Done, 1)),
+        (Call::SetOther(9, 90), writes(Reply::Done, 2)),
+        (Call::SetOther(2305843009213693951, 1), writes(Reply::Done, 3)),
+        (Call::SetOther(0, 2), writes(Reply::Done, 4)),
+        (Call::Set(8, 80), writes(Reply::Done, 5)),
+        (Call::Set(9, 91), writes(Reply::Done, 6)),
+        (Call::Set(-1, 10), writes(Reply::Done, 7)),
+        (Call::Del(8), writes(Reply::Done, 8)),
+        (Call::Update, writes(Reply::Done, 9)),
+        (Call::Items, reads(pairs(alloc, &[(9, 90), (-1, 10), (5, 50), (-2, 20), (2305843009213693951, 1), (0, 2)])?, 10)),
+        (Call::Get(-2), reads(value(20), 10)),
+        (Call::Get(2305843009213693951), reads(value(1), 10)),
+        (Call::Clear, writes(Reply::Done, 10)),
+        (Call::Update, writes(Reply::Done, 11)),
+        (Call::Items, reads(pairs(alloc, &[(5, 50), (-2, 20), (9, 90), (2305843009213693951, 1), (0, 2)])?, 12)),
+        (Call::Eq, reads(Reply::Truth(true), 12)),
+        (Call::SetOther(4611686018427387902, 3), writes(Reply::Done, 12)),
+        (Call::SetOther(9, 92), writes(Reply::Done, 13)),
+        (Call::Update, writes(Reply::Done, 14)),
+        (Call::Items, reads(pairs(alloc, &[(5, 50), (-2, 20), (9, 92), (2305843009213693951, 1), (0, 2), (4611686018427387902, 3)])?, 15)),
+        (Call::Eq, reads(Reply::Truth(true), 15)),
+    ]?;
+    assert_eq!(rt; in_new_bank(alloc, 4, 4, rows.as_slice())?, None);
+    Ok(())
+}
+
+#[test]
+fn no_value_is_put_where_there_is_no_table(rt: HostRuntime) -> Result<(), Fail> {
+    let alloc = rt.alloc();
+    // Six keys take a table of class 4, of which the other dict has the only one.
+    let rows = vec![in alloc;
+        (Call::SetOther(1, 10), writes(Reply::Done, 0)),
+        (Call::SetOther(2, 20), writes(Reply::Done, 1)),
+        (Call::SetOther(3, 30), writes(Reply::Done, 2)),
+        (Call::SetOther(4, 40), writes(Reply::Done, 3)),
+        (Call::SetOther(5, 50), writes(Reply::Done, 4)),
+        (Call::SetOther(6, 60), writes(Reply::Done, 5)),
+        (Call::Set(9, 90), writes(Reply::Done, 6)),
+        (Call::Set(2, 0), writes(Reply::Done, 7)),
+        (Call::Update, reads(Reply::Raised(Raise::Memory(4)), 8)),
+        (Call::Items, reads(pairs(alloc, &[(9, 90), (2, 0)])?, 8)),
+        (Call::UpdateSelf, writes(Reply::Done, 8)),
+        (Call::Clear, writes(Reply::Done, 9)),
+        (Call::Update, reads(Reply::Raised(Raise::Memory(4)), 10)),
+        (Call::Items, reads(pairs(alloc, &[])?, 10)),
+        (Call::Set(2, 1), writes(Reply::Done, 10)),
+        (Call::Update, reads(Reply::Raised(Raise::Memory(4)), 11)),
+        (Call::Items, reads(pairs(alloc, &[(2, 1)])?, 11)),
+    ]?;
+    assert_eq!(rt; in_new_bank(alloc, 4, 1, rows.as_slice())?, None);
     Ok(())
 }

@@ -90,32 +90,3 @@ FitsSections s (call.List o lc) = Unit {0}
 FitsSections s (call.Set o sc) = Unit {0}
 FitsSections s (call.Next number) = Unit {0}
 FitsSections s call.Quiesce = Unit {0}
-
--- the calls on dicts that an engine makes so far: all but `update`
-abbrev pub IsBuiltDict : DictCall → Type 0
-IsBuiltDict (dict.Get key) = Unit {0}
-IsBuiltDict (dict.GetOr key default) = Unit {0}
-IsBuiltDict (dict.Set key value) = Unit {0}
-IsBuiltDict (dict.Del key) = Unit {0}
-IsBuiltDict (dict.Pop key) = Unit {0}
-IsBuiltDict (dict.PopOr key default) = Unit {0}
-IsBuiltDict dict.PopItem = Unit {0}
-IsBuiltDict (dict.SetDefault key default) = Unit {0}
-IsBuiltDict (dict.Has key) = Unit {0}
-IsBuiltDict dict.Len = Unit {0}
-IsBuiltDict dict.Items = Unit {0}
-IsBuiltDict (dict.Update other) = ⊥
-IsBuiltDict dict.Clear = Unit {0}
-IsBuiltDict (dict.CopyTo other) = Unit {0}
-IsBuiltDict (dict.Eq other) = Unit {0}
-IsBuiltDict (dict.Iter cursor) = Unit {0}
-
--- the calls that an engine makes so far: all on lists and sets, of cursors and of sections, `quiesce`, and those on dicts
-abbrev pub IsBuilt : Call → Type 0
-IsBuilt (call.Dict o dc) = IsBuiltDict dc
-IsBuilt (call.List o lc) = Unit {0}
-IsBuilt (call.Set o sc) = Unit {0}
-IsBuilt (call.Next number) = Unit {0}
-IsBuilt (call.Begin first second) = Unit {0}
-IsBuilt call.End = Unit {0}
-IsBuilt call.Quiesce = Unit {0}

@@ -10,14 +10,14 @@ ghost use Rattle.ft_bank.specs.Sections.{stack_of};
 ghost use Rattle.ft_section.specs.Ready.{MayTry};
 ghost use Rattle.ft_engine.specs.Answering.{HasLooked, IsTryOf, Looked};
 ghost use Rattle.ft_engine.specs.Flights.{objects_by};
-ghost use Rattle.ft_engine.specs.Names.{AreOfKindIn, HasKey, IsBuiltDict, key_of_dict};
+ghost use Rattle.ft_engine.specs.Names.{AreOfKindIn, HasKey, key_of_dict};
 
 use crate::settling::settle;
 use ft_bank::{Bank, Pass};
 use ft_dict::{
     look_eq, look_get, look_getd, look_has, look_items, look_len, try_clear, try_copyto, try_del,
     try_eq, try_get, try_getd, try_has, try_items, try_len, try_pop, try_popd, try_popitem,
-    try_set, try_setdefault,
+    try_set, try_setdefault, try_update,
 };
 use ft_model::DictCall;
 use ft_section::{Look, Object, Step};
@@ -34,7 +34,6 @@ pub(crate) fn look_dict(
     requires pass { IsPassOf bank.now pass.old }
     requires names { AreOfKindIn (shape_of bank.now) kind.Dict d (other_dict call.now) }
     requires key { HasKey (shape_of bank.now) (key_of_dict call.now) }
-    requires built { IsBuiltDict call.now }
     requires online { 0 < announces (view pass.old).log }
     requires left { 0 < (view pass.old).left }
     ensures pass { IsPassOf bank.now pass.new }
@@ -68,7 +67,6 @@ fn try_dict(bank: &Bank, pass: &mut Pass, alloc: Global, d: Object, call: &DictC
     requires names { AreOfKindIn (shape_of bank.now) kind.Dict d (other_dict call.now) }
     requires key { HasKey (shape_of bank.now) (key_of_dict call.now) }
     requires no_cursor { cursor_of_dict call.now ≡ None }
-    requires built { IsBuiltDict call.now }
     requires left { 0 < (view pass.old).left }
     ensures { (hands : List (Option Cursor)) → IsTryOf bank.now hands (calls.Dict d call.now) pass.old pass.new result }
 {
@@ -86,7 +84,7 @@ fn try_dict(bank: &Bank, pass: &mut Pass, alloc: Global, d: Object, call: &DictC
         DictCall::PopItem => try_popitem(bank, pass, d),
         DictCall::Items => try_items(bank, pass, alloc, d),
         DictCall::Eq { other } => try_eq(bank, pass, d, other),
-        DictCall::Update { .. } => unreachable!(),
+        DictCall::Update { other } => try_update(bank, pass, d, other),
         DictCall::CopyTo { other } => try_copyto(bank, pass, d, other),
         DictCall::Iter { .. } => unreachable!(),
     }
@@ -104,7 +102,6 @@ pub(crate) fn call_dict(
     requires names { AreOfKindIn (shape_of bank.now) kind.Dict d (other_dict call.now) }
     requires key { HasKey (shape_of bank.now) (key_of_dict call.now) }
     requires no_cursor { cursor_of_dict call.now ≡ None }
-    requires built { IsBuiltDict call.now }
     requires online { 0 < announces (view pass.old).log }
     requires left { 0 < (view pass.old).left }
     ensures tried { (hands : List (Option Cursor)) → IsTryOf bank.now hands (calls.Dict d call.now) pass.old pass.new result }

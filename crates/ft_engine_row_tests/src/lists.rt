@@ -1,10 +1,11 @@
-//! Calls on lists, and calls on two containers (Python manual, Sequence Types, Set Types).
+//! Calls on lists, and calls on two containers (Python manual, Sequence Types, Set Types, Mapping
+//! Types).
 
 use ft_engine_tests::{Case, comes_out};
 use std::process::Abort;
 use std::test::Fail;
 
-const LISTS: [Case<'static>; 5] = [
+const LISTS: [Case<'static>; 6] = [
     // A list from both ends.
     Case {
         script: "list l\n\
@@ -164,6 +165,30 @@ const LISTS: [Case<'static>; 5] = [
             A.7 w5 or s s = ok\n\
             A.8 r6 len s = 3\n\
             A.9 r6 len t = 2\n",
+    },
+    // A dict that gets the pairs of another one, and its own.
+    Case {
+        script: "dict d\n\
+            dict e\n\
+            thread A\n\
+            set d 1 1\n\
+            set d 2 2\n\
+            set e 3 8\n\
+            set e 2 9\n\
+            update d e\n\
+            items d\n\
+            update d d\n\
+            items d\n\
+            len e\n",
+        transcript: "A.1 w0 set d 1 1 = ok\n\
+            A.2 w1 set d 2 2 = ok\n\
+            A.3 w2 set e 3 8 = ok\n\
+            A.4 w3 set e 2 9 = ok\n\
+            A.5 w4 update d e = ok\n\
+            A.6 r5 items d = {1: 1, 2: 9, 3: 8}\n\
+            A.7 w5 update d d = ok\n\
+            A.8 r6 items d = {1: 1, 2: 9, 3: 8}\n\
+            A.9 r6 len e = 2\n",
     },
 ];
 

@@ -4,7 +4,7 @@ use ft_engine_tests::{Case, comes_out};
 use std::process::Abort;
 use std::test::Fail;
 
-const DICTS: [Case<'static>; 8] = [
+const DICTS: [Case<'static>; 9] = [
     // A dict that has grown since the cursor was made, and has its old size again.
     Case {
         script: "dict d\n\
@@ -229,6 +229,36 @@ const DICTS: [Case<'static>; 8] = [
             A.8 r5 next c = 1: 1\n\
             A.9 r5 next c = RuntimeError keys\n\
             A.10 r5 items e = {1: 1, 2: 2}\n",
+    },
+    // A dict that is updated: with a key that it has, and with a new one.
+    Case {
+        script: "dict d\n\
+            dict e\n\
+            thread A\n\
+            set d 1 1\n\
+            set d 2 2\n\
+            set d 3 3\n\
+            set e 2 9\n\
+            iter d c\n\
+            next c\n\
+            update d e\n\
+            next c\n\
+            set e 4 4\n\
+            update d e\n\
+            next c\n\
+            items d\n",
+        transcript: "A.1 w0 set d 1 1 = ok\n\
+            A.2 w1 set d 2 2 = ok\n\
+            A.3 w2 set d 3 3 = ok\n\
+            A.4 w3 set e 2 9 = ok\n\
+            A.5 r4 iter d c = ok\n\
+            A.6 r4 next c = 1: 1\n\
+            A.7 w4 update d e = ok\n\
+            A.8 r5 next c = 2: 9\n\
+            A.9 w5 set e 4 4 = ok\n\
+            A.10 w6 update d e = ok\n\
+            A.11 r7 next c = RuntimeError size\n\
+            A.12 r7 items d = {1: 1, 2: 9, 3: 3, 4: 4}\n",
     },
 ];
 

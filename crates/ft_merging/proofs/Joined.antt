@@ -1,6 +1,6 @@
 -- A dict or a set in the midst of a write that joins another one to it: before the first key, after each, at the end.
-use Rattle.std.proofs.Common.{◌≡◌, ℕ, suc, ◌+◌, ◌^◌, ◌<◌, ◌≤◌, true, false, true≢false, List, [], ◌∷◌, length, drop, Option, Some, None, refl, sym, ap, ◌∙◌, subst, arith, ltb-false}
-use Rattle.std.specs.Prelude.{slice_index_or}
+use Rattle.std.proofs.Common.{◌≡◌, ℕ, suc, ◌+◌, ◌^◌, ◌%◌, ◌<◌, ◌≤◌, ⊎_elim, true, false, true≢false, List, [], ◌∷◌, length, drop, Option, Some, None, refl, sym, ap, ◌∙◌, subst, arith, ltb-false}
+use Rattle.std.specs.Prelude.{is_some, slice_index_or}
 use Rattle.std.proofs.lemmas.List.{drop_all, drop_more}
 use Rattle.ft_model.specs.declared.call.Call.{Call}
 use Rattle.ft_model.specs.declared.content.Content.{Content}
@@ -20,11 +20,13 @@ use Rattle.ft_keys.specs.Ways.{IsTableOf}
 use Rattle.ft_trace.specs.declared.Shape.{Shape}
 use Rattle.ft_trace.specs.declared.View.{View}
 use Rattle.ft_trace.specs.Acts.{has_emptied, is_writing, owes}
-use Rattle.ft_trace.specs.Addresses.{class_of, containers_in}
+use Rattle.ft_trace.specs.Addresses.{class_of, containers_in, slots}
+use Rattle.ft_trace.specs.Carefuls.{IsLive}
 use Rattle.ft_trace.specs.Holds.{held, known}
 use Rattle.ft_trace.specs.Kinds.{ClearAs, IsKeyed, rows, under}
 use Rattle.ft_trace.specs.Words.{Picture, root_in}
 use Rattle.ft_trace.specs.Worlds.{Kept, changes, kept_at, kind_in, reply_in}
+use Rattle.ft_trace.specs.Writes.{MayPuts, with_puts}
 use Rattle.ft_bank.specs.declared.table.Table.{Table}
 use Rattle.ft_bank.specs.Tables.{name_of}
 use Rattle.ft_bank.specs.Whole.{OnlyLoaded, OnlyPut}
@@ -35,6 +37,7 @@ use Rattle.ft_search.specs.Rounds.{kind_by}
 use Rattle.ft_search.specs.Writing.{WritesEntries}
 use Rattle.ft_search.proofs.Calling.{plain_replied}
 use Rattle.ft_search.proofs.Puts.{table_class}
+use Rattle.ft_search.proofs.Values.{ValueLaws}
 use Rattle.ft_adding.specs.declared.counts.Counts.{Counts}
 use Rattle.ft_adding.specs.Growing.{IsFreeFor, holds, most_of}
 use Rattle.ft_adding.specs.Placing.{StoresAs, with_entry, with_key}
@@ -42,12 +45,13 @@ use Rattle.ft_adding.proofs.Finishing.{Since, has_since}
 use Rattle.ft_adding.proofs.Placed.{PlaceLaws, pair_for, use_with}
 use Rattle.ft_adding.proofs.Wanted.{most_few}
 use Rattle.ft_merging.specs.Joining.{JoinsKeys, joined, joined_kept, new_keys}
-use Rattle.ft_merging.specs.Internal.Joining.{AreLeft, IsJoining, NoneGone, lacking}
-use Rattle.ft_merging.specs.Internal.Writing.{IsMidway, MayFinishAll}
-use Rattle.ft_merging.proofs.Ending.{Laws, clear_of}
-use Rattle.ft_merging.proofs.JoinedContents.{counts_more, joined_counts, kind_with, left_dead, left_new, left_stores, left_there, set_same}
+use Rattle.ft_merging.specs.Internal.Joining.{AreLeft, IsJoining, NoneAhead, NoneGone, NoneOf, lacking, stored_puts}
+use Rattle.ft_merging.specs.Internal.Writing.{IsMidway, MayFinishAll, version_of}
+use Rattle.ft_merging.proofs.Ending.{Laws, clear_of, parity}
+use Rattle.ft_merging.proofs.JoinedContents.{counts_more, counts_same, joined_counts, kind_with, left_dead, left_new, left_stores, left_there, rest_none}
 use Rattle.ft_merging.proofs.JoinedReads.{Source, holds_none}
-use Rattle.ft_merging.proofs.JoinedStep.{alive_put, midway_put}
+use Rattle.ft_merging.proofs.JoinedStep.{ahead_put, alive_put, midway_put}
+use Rattle.ft_merging.proofs.JoinedValues.{ahead_there, there_may, there_put}
 use Rattle.ft_merging.proofs.Thinned.{midway_loaded}
 
 -- ---- after loads
@@ -69,6 +73,7 @@ joining_loaded k o by own t table goal end place counts v w only j =
       filled = j.filled ∙ ap (λ (z : Kept). z.table.fill) (sym (work_knows v w t only.work));
       source = subst (λ (x : Picture). IsTableOf by k.texts (class_mask (class_of (name_of table))) j.used (0 ∷ 0 ∷ x.table)) other j.source;
       left = j.left;
+      ahead = subst (λ (x : Picture). NoneAhead (name_of own) (rows (kind_in k.kinds o) (class_of (name_of own))) x (drop place j.used)) mine j.ahead;
     }
 
 -- ---- one more entry
@@ -86,6 +91,16 @@ module _ (k : Shape) (o : ℕ) (by : Way) (own : Table) (t : ℕ) (table : Table
   step : (key : Key) (s : Option Stored) → e.key ≡ key → e.stored ≡ s → AreLeft (kind_by by) j.mid goal counts.fill end (record { key = key; serial = e.serial; stored = s } ∷ later)
   step key s same is = subst (AreLeft (kind_by by) j.mid goal counts.fill end) (drop_more j.used place any inside ∙ (λ i. record { key = same i; serial = e.serial; stored = is i } ∷ later)) j.left
 
+  -- the entries that are left after it
+  abbrev m : ℕ
+  m = rows (kind_in k.kinds o) (class_of (name_of own))
+
+  ahead_here : NoneAhead (name_of own) m (held o v) (e ∷ later)
+  ahead_here = subst (NoneAhead (name_of own) m (held o v)) (drop_more j.used place any inside) j.ahead
+
+  ahead_later : NoneAhead (name_of own) m (held o v) later
+  ahead_later p key less odd fits live i d few = ahead_here p key less odd fits live (suc i) d (omega (arith, few))
+
   -- it was deleted
   pub joining_dead : e.stored ≡ None → IsJoining k o by own t table goal end (place + 1) counts v
   joining_dead dead = record {
@@ -101,29 +116,58 @@ module _ (k : Shape) (o : ℕ) (by : Way) (own : Table) (t : ℕ) (table : Table
     filled = j.filled;
     source = j.source;
     left = left_dead (kind_by by) j.mid goal j.same_kind counts.fill end e.key e.serial later (step e.key None refl dead);
+    ahead = ahead_later;
   }
 
   module _ (key : Key) (stored : Stored) (same : e.key ≡ key) (is : e.stored ≡ Some stored) where
     pub stores : StoresAs (kind_of j.mid) stored
     stores = left_stores (kind_by by) j.mid goal j.same_kind counts.fill end key e.serial later stored (step key (Some stored) same is)
 
-    -- its element is there
-    pub joining_there : kind_by by ≡ kind.Set → holds j.mid key ≡ true → IsJoining k o by own t table goal end (place + 1) counts v
-    joining_there sets there = record {
-      mid = j.mid;
-      midway = j.midway;
-      same_kind = j.same_kind;
-      kind_is = j.kind_is;
-      count_is = j.count_is;
-      next_is = j.next_is;
-      alive = j.alive;
-      room = j.room;
-      used = j.used;
-      filled = j.filled;
-      source = j.source;
-      left = subst (λ (z : Content). AreLeft (kind_by by) z goal counts.fill end later) (set_same j.mid key stored (j.same_kind ∙ sets) there)
-          (left_there (kind_by by) j.mid goal j.same_kind counts.fill end key e.serial later stored (step key (Some stored) same is) there);
-    }
+    -- no entry that is left has the key
+    none_later : NoneOf key later
+    none_later = rest_none (record { key = key; serial = e.serial; stored = Some stored }) later refl (step key (Some stored) same is).apart
+
+    -- its key is there, at this place
+    module _ (laws : ValueLaws) (fits : FitsKey key) (ok : FitsStored stored) (at : ℕ) (room : at < rows (kind_by by) (class_of (name_of own))) (live : IsLive (slots (class_of (name_of own))) (held o v).table at key) where
+      pub there_low : at < m
+      there_low = subst (λ (y : Kind). at < rows y (class_of (name_of own))) (sym j.kind_is) room
+
+      -- it isn't written yet
+      even : version_of (name_of own) (held o v) at % 2 ≡ 0
+      even =
+          ⊎_elim (λ (two : version_of (name_of own) (held o v) at % 2 ≡ 0). two)
+          (λ (odd : version_of (name_of own) (held o v) at % 2 ≡ 1). absurd (ahead_here at key there_low odd fits live 0 e (omega arith) (ap is_some is) (sym same)))
+          (parity (version_of (name_of own) (held o v) at))
+
+      kinds : kind_of j.mid ≡ kind_in k.kinds o
+      kinds = j.same_kind ∙ sym j.kind_is
+
+      pub joining_may : (before : Content) → MayPuts (kind_in k.kinds o) (name_of own) before false (held o v) (stored_puts (slots (class_of (name_of own))) (held o v).table at stored)
+      joining_may before = there_may laws k o own counts.fill v at key fits there_low live even j.mid stored j.midway kinds stores ok before
+
+      pub joining_there : holds j.mid key ≡ true → (z : View) → OnlyPut o v z → held o z ≡ with_puts (held o v) (stored_puts (slots (class_of (name_of own))) (held o v).table at stored) → WritesEntries k o own z → held t z ≡ held t v → IsJoining k o by own t table goal end (place + 1) counts z
+      joining_there there z only words writes other =
+          let put = there_put laws k o own counts.fill v at key fits there_low live even j.mid stored j.midway kinds stores ok there j.alive z only words writes in
+          let more = counts_same j.mid key stored stores there in
+          let c = j.count_is in
+          let d = j.next_is in
+          let c1 = more.0 in
+          let d1 = more.1 in
+          record {
+            mid = with_key j.mid key stored;
+            midway = put.midway;
+            same_kind = kind_with j.mid key stored stores ∙ j.same_kind;
+            kind_is = j.kind_is;
+            count_is = omega (arith, c, c1);
+            next_is = omega (arith, d, d1);
+            alive = put.alive;
+            room = j.room;
+            used = j.used;
+            filled = j.filled ∙ ap (λ (y : Kept). y.table.fill) (sym (work_knows v z t only.work));
+            source = subst (λ (x : Picture). IsTableOf by k.texts (class_mask (class_of (name_of table))) j.used (0 ∷ 0 ∷ x.table)) (sym other) j.source;
+            left = left_there (kind_by by) j.mid goal j.same_kind counts.fill end key e.serial later stored (step key (Some stored) same is) there;
+            ahead = ahead_there k o own (with_key j.mid key stored) counts.fill at v z put key fits live later ahead_later none_later;
+          }
 
     -- its key is new
     module _ (absent : IsHeldAt j.mid key None) where
@@ -160,6 +204,7 @@ module _ (k : Shape) (o : ℕ) (by : Way) (own : Table) (t : ℕ) (table : Table
               filled = j.filled ∙ ap (λ (y : Kept). y.table.fill) (sym (work_knows v z t only.work));
               source = subst (λ (x : Picture). IsTableOf by k.texts (class_mask (class_of (name_of table))) j.used (0 ∷ 0 ∷ x.table)) (sym other) j.source;
               left = next.0;
+              ahead = ahead_put laws k o by own j.mid counts v j.midway j.same_kind j.kind_is j.count_is j.alive slot key stored fits hash stores ok absent free room_by z only words writes later ahead_later none_later;
             }
 
 -- ---- before the first one
@@ -180,9 +225,9 @@ joined_more k by t table v s d same_kind =
     (n, omega (arith, r), r)
 
 pub joining_begins : (k : Shape) (o : ℕ) (by : Way) (own : Table) (t : ℕ) (table : Table) (d : Content) (counts : Counts) (more : ℕ) (u : View) → IsMidway k o own (record { content = d; table = use_with (class_of (name_of own)) counts.fill }) u → kind_of d ≡ kind_by by → kind_in k.kinds o ≡ kind_by by → counts.count ≡ length_of d → counts.next ≡ serial_of d
-    → NoneGone (name_of own) (rows (kind_in k.kinds o) (class_of (name_of own))) (held o u) → Source k by t table u → passes_cap (joined d (known t u).content) ≡ false → serial_of d + 65536 < 2 ^ 63 → more ≡ new_keys d (known t u).content → counts.fill + more ≤ rows (kind_in k.kinds o) (class_of (name_of own))
+    → NoneGone (name_of own) (rows (kind_in k.kinds o) (class_of (name_of own))) (held o u) → ((p : ℕ) → p < rows (kind_in k.kinds o) (class_of (name_of own)) → version_of (name_of own) (held o u) p % 2 ≡ 0) → Source k by t table u → passes_cap (joined d (known t u).content) ≡ false → serial_of d + 65536 < 2 ^ 63 → more ≡ new_keys d (known t u).content → counts.fill + more ≤ rows (kind_in k.kinds o) (class_of (name_of own))
     → IsJoining k o by own t table (joined d (known t u).content) (counts.fill + more) 0 counts u
-joining_begins k o by own t table d counts more u midway same_kind kind_eq count_is next_is alive s cap serials more_is room =
+joining_begins k o by own t table d counts more u midway same_kind kind_eq count_is next_is alive evens s cap serials more_is room =
     let j = joined_more k by t table u s d same_kind in
     let n = j.0 in
     let m = j.1 in
@@ -208,6 +253,7 @@ joining_begins k o by own t table d counts more u midway same_kind kind_eq count
         apart = s.apart;
         stores = s.stores;
       };
+      ahead = λ p key less odd fits live. let e = evens p less in absurd (omega (arith, e, odd));
     }
 
 -- ---- after the last one

@@ -73,35 +73,6 @@ joins_leaves o t called v joins same few = record {
   left_is = λ found has. joins.left_is found has ∙ (same_kept (known o v) (known t v).content same).0;
 }
 
--- a set has no more elements than the largest table holds
-pub set_cap : set.FirstEntriesAreElements → (k : Shape) (o : ℕ) (v : View) → v.shape ≡ k → ∥ Possible v ∥₁ → MayWriteEntries k o v → kind_in k.kinds o ≡ kind.Set → passes_cap (known o v).content ≡ false
-set_cap elements k o v shape possible may is =
-    let known_is = is_set k v o shape possible may.locked is in
-    let stands : Stands k.texts (held o v) (record { content = content.Set (set_of (known o v).content); table = (known o v).table }) = subst (λ (z : Content). Stands k.texts (held o v) (record { content = z; table = (known o v).table })) known_is may.stands in
-    ap passes_cap known_is ∙ le-ltb most_elements (length (set_of (known o v).content).elements) (by (known o v).table.class (set_of (known o v).content) stands)
-  where
-    none_long : (es : List Element) → map used_element es ≡ [] → length es ≤ most_elements
-    none_long [] e = omega arith
-    none_long (x ∷ xs) e = absurd (cc)
-
-    by : (class : Option ℕ) (others : SetContent) → IsSetWords k.texts (held o v).block (0 ∷ 0 ∷ (held o v).table) class (known o v).table.fill others → length others.elements ≤ most_elements
-    by None others says = none_long others.elements (sym says.entries.live ∙ ap (filter is_live) says.table)
-    by (Some class) others says = set.set_short elements k.texts (held o v).block class (known o v).table.fill says.head.root.1.0 others (held o v).table says
-
--- ---- what a set has where nothing is new
-
-no_length : (es : List Element) → length es ≡ 0 → es ≡ []
-no_length [] none = refl
-no_length (x ∷ xs) none = absurd (omega (arith, none))
-
-pub set_no_more : (d others : Content) → kind_of d ≡ kind.Set → new_keys d others ≡ 0 → joined d others ≡ d
-set_no_more (content.Set base) others is none =
-    let ys = those_not_in base.elements (set_of others).elements in
-    let empty : ys ≡ [] = no_length ys (omega (arith, none)) in
-    ap content.Set ((λ i. record { next = base.next + length (empty i); elements = base.elements ++ elements_from base.next (empty i) }) ∙ or_none base)
-set_no_more (content.Dict pairs) others is none = absurd (cc)
-set_no_more (content.List values) others is none = absurd (cc)
-
 -- ---- the calls
 
 pub made_here : (k : Shape) (o : ℕ) (called : Call) (v w : View) (stamp : Stamp) (number : ℕ) → stamp ≡ record { number = number; wrote = true } → changes called ≡ o → Wrote called reply.Done number v w → root_in (held o w) ≡ root_in (held o v) → IsAdded k None false called reply.Done v w (added.Made stamp)
@@ -165,29 +136,3 @@ over_joined d others n is many = cap_is (joined d others) ∙ lt-ltb (most_of (j
 -- the table that is taken has room
 pub new_room : (k : Shape) (by : Way) (t : ℕ) (table : Table) (v : View) (s : Source k by t table v) (kept : Kept) (class : ℕ) → kind_of kept.content ≡ kind_by by → passes_cap (joined kept.content (known t v).content) ≡ false → join_takes kept (known t v).content ≡ Some class → length_of kept.content + new_keys kept.content (known t v).content ≤ rows (kind_by by) class
 new_room k by t table v s kept class same cap takes = taken_room kept.content by kept.table class (new_keys kept.content (known t v).content) same (few_joined kept.content (known t v).content _ (many_joined k by t table v s kept.content same) cap) takes
-
--- ---- a set that is named twice, and one that has no table
-
-pub set_itself : (d : Content) → kind_of d ≡ kind.Set → joined d d ≡ d
-set_itself (content.Set base) is = ap content.Set (or_itself base)
-set_itself (content.Dict pairs) is = absurd (cc)
-set_itself (content.List values) is = absurd (cc)
-
-pub bare_joined : (k : Shape) (t : ℕ) (u : View) → u.shape ≡ k → ∥ Possible u ∥₁ → KnowsKeyed k t None u → kind_in k.kinds t ≡ kind.Set → (d : Content) → kind_of d ≡ kind.Set → joined d (known t u).content ≡ d
-bare_joined k t u shape possible knows is d same =
-    let known_is = is_set k u t shape possible knows.locked is in
-    let stands : Stands k.texts (held t u) (record { content = content.Set (set_of (known t u).content); table = (known t u).table }) = subst (λ (z : Content). Stands k.texts (held t u) (record { content = z; table = (known t u).table })) known_is knows.stands in
-    none d same (set_of (known t u).content) refl (empty (known t u).table.class (set_of (known t u).content) stands)
-  where
-    no_map : (es : List Element) → map used_element es ≡ [] → es ≡ []
-    no_map [] e = refl
-    no_map (x ∷ xs) e = absurd (cc)
-
-    empty : (class : Option ℕ) (others : SetContent) → IsSetWords k.texts (held t u).block (0 ∷ 0 ∷ (held t u).table) class (known t u).table.fill others → others.elements ≡ []
-    empty None others says = no_map others.elements (sym says.entries.live ∙ ap (filter is_live) says.table)
-    empty (Some class) others says = absurd (let r = says.head.root.1.2 in let e = knows.root in omega (arith, r, e))
-
-    none : (x : Content) → kind_of x ≡ kind.Set → (others : SetContent) → set_of (known t u).content ≡ others → others.elements ≡ [] → joined x (known t u).content ≡ x
-    none (content.Set base) eq others is_them bare = ap content.Set (ap (set_or base) (ap (λ (z : SetContent). z.elements) is_them ∙ bare) ∙ or_none base)
-    none (content.Dict pairs) eq others is_them bare = absurd (cc)
-    none (content.List values) eq others is_them bare = absurd (cc)

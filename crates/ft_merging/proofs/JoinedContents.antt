@@ -25,7 +25,7 @@ use Rattle.ft_trace.proofs.SameKeys.{any_found}
 use Rattle.ft_trace.proofs.SetGrowing as set
 use Rattle.ft_adding.specs.Growing.{holds}
 use Rattle.ft_adding.specs.Placing.{StoresAs, with_key}
-use Rattle.ft_merging.specs.Internal.Joining.{Apart, AreLeft, StoresIn, joined_used, lacking, with_used}
+use Rattle.ft_merging.specs.Internal.Joining.{Apart, AreLeft, NoneOf, StoresIn, joined_used, lacking, with_used}
 
 or_false : (b : Bool) → (b || false) ≡ b
 or_false true = refl
@@ -73,7 +73,7 @@ counts_more (content.List values) key stored stores missing = absurd stores
 set_there : (elements : SetContent) (key : Key) → has_element elements.elements key ≡ true → set_add elements key ≡ elements
 set_there elements key there = ap (λ (b : Bool). if b then elements else record { next = elements.next + 1; elements = elements.elements ++ record { serial = elements.next; key = key } ∷ [] }) there
 
-dict_there : (pairs : DictContent) (key : Key) (value : Value) → has_key pairs.pairs key ≡ true → dict_set pairs key value ≡ record { next = pairs.next; pairs = with_value pairs.pairs key value }
+pub dict_there : (pairs : DictContent) (key : Key) (value : Value) → has_key pairs.pairs key ≡ true → dict_set pairs key value ≡ record { next = pairs.next; pairs = with_value pairs.pairs key value }
 dict_there pairs key value there = ap (λ (b : Bool). if b then record { next = pairs.next; pairs = with_value pairs.pairs key value } else record { next = pairs.next + 1; pairs = pairs.pairs ++ record { serial = pairs.next; key = key; value = value } ∷ [] }) there
 
 pub counts_same : (d : Content) (key : Key) (stored : Stored) → StoresAs (kind_of d) stored → holds d key ≡ true → (length_of (with_key d key stored) ≡ length_of d) × (serial_of (with_key d key stored) ≡ serial_of d)
@@ -104,11 +104,7 @@ kind_with (content.List values) key stored stores = absurd stores
 
 -- ---- entries that are left
 
--- none of them is there with the key
-abbrev NoneOf : Key → List UsedEntry → Type 0
-NoneOf key = All (λ (e : UsedEntry). is_live e ≡ true → key ≢ e.key)
-
-rest_none : (e : UsedEntry) (es : List UsedEntry) → is_live e ≡ true → AllPairs Apart (e ∷ es) → NoneOf e.key es
+pub rest_none : (e : UsedEntry) (es : List UsedEntry) → is_live e ≡ true → AllPairs Apart (e ∷ es) → NoneOf e.key es
 rest_none e es live apart i d low = λ is. apart 0 (suc i) d (omega arith) (omega (arith, low)) live is
 
 rest_apart : (e : UsedEntry) (es : List UsedEntry) → AllPairs Apart (e ∷ es) → AllPairs Apart es
@@ -340,7 +336,7 @@ joined_elements (e ∷ es) base others apart live = by (λ s xs eq. joined_eleme
 
 -- ---- a set that is named twice
 
-later : (a b : Bool) → b ≡ true → (a || b) ≡ true
+pub later : (a b : Bool) → b ≡ true → (a || b) ≡ true
 later true b e = refl
 later false b e = e
 

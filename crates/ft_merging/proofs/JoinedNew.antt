@@ -3,7 +3,6 @@ use Rattle.std.proofs.Common.{◌≡◌, ◌≢◌, ℕ, suc, ◌+◌, ◌^◌, 
 use Rattle.std.specs.Prelude.{slice_set}
 use Rattle.ft_model.specs.declared.content.Content.{Content}
 use Rattle.ft_model.specs.declared.script.Kind.{Kind}
-use Rattle.ft_model.specs.declared.script.Kind.TheVariants as kind
 use Rattle.ft_model.specs.Tables.{passes_cap}
 use Rattle.ft_model.specs.Worlds.{kind_of, length_of, serial_of}
 use Rattle.ft_layout.specs.Containers.{StandsAs}
@@ -19,8 +18,6 @@ use Rattle.ft_trace.specs.Traces.{Possible}
 use Rattle.ft_trace.specs.Words.{Picture, entry_of, Stands}
 use Rattle.ft_trace.specs.Worlds.{Kept, kind_in}
 use Rattle.ft_trace.proofs.Cases.{hit}
-use Rattle.ft_trace.proofs.SetKnown as set
-use Rattle.ft_trace.proofs.DictWrites.{FirstEntriesArePairs}
 use Rattle.ft_bank.specs.declared.table.Table.{Table}
 use Rattle.ft_bank.specs.Tables.{name_of}
 use Rattle.ft_bank.specs.Whole.{OnlyPut}
@@ -39,11 +36,13 @@ use Rattle.ft_adding.proofs.Rooted.{filled_says}
 use Rattle.ft_merging.specs.Joining.{joined, new_keys}
 use Rattle.ft_merging.specs.Internal.Joining.{IsJoining, NoneGone}
 use Rattle.ft_merging.specs.Internal.Writing.{IsMidway, version_of}
+use Rattle.ft_merging.proofs.Ending.{Laws}
 use Rattle.ft_merging.proofs.Joined.{joining_begins}
-use Rattle.ft_merging.proofs.JoinedReads.{knows_put, source_known}
+use Rattle.ft_merging.proofs.JoinedPairs.{source_known}
+use Rattle.ft_merging.proofs.JoinedReads.{knows_put}
 use Rattle.ft_merging.proofs.JoinedStarts.{knows_rooted}
 
-module _ (pairs : FirstEntriesArePairs) (heads : Heads) (elements : set.FirstEntriesAreElements) (k : Shape) (o : ℕ) (by : Way) (old : Option Table) (new : Table) (t : ℕ) (table : Table) (counts : Counts) (more : ℕ) (x y z : View) (f was : ℕ) (shape : x.shape ≡ k) (possible : ∥ Possible x ∥₁) (two : o ≢ t) (may : MayGrow k o old new x) (other : KnowsKeyed k t (Some table) x) (kind_eq : kind_in k.kinds o ≡ kind_by by) (kind_t : kind_in k.kinds t ≡ kind_by by) (sets : kind_by by ≡ kind.Set)
+module _ (heads : Heads) (laws : Laws) (k : Shape) (o : ℕ) (by : Way) (old : Option Table) (new : Table) (t : ℕ) (table : Table) (counts : Counts) (more : ℕ) (x y z : View) (f was : ℕ) (shape : x.shape ≡ k) (possible : ∥ Possible x ∥₁) (two : o ≢ t) (may : MayGrow k o old new x) (other : KnowsKeyed k t (Some table) x) (kind_eq : kind_in k.kinds o ≡ kind_by by) (kind_t : kind_in k.kinds t ≡ kind_by by)
     (filled : IsFilledWith k.texts (class_of (name_of new)) (known o x).content (in_hand (name_of new) x)) (are : AreCounts (held o x).block counts) (more_is : more ≡ new_keys (known o x).content (known t x).content) (cap : passes_cap (joined (known o x).content (known t x).content) ≡ false) (serials : serial_of (known o x).content + 65536 < 2 ^ 63) (room : counts.count + more ≤ rows (kind_in k.kinds o) (class_of (name_of new)))
     (did : y ≡ noted (PutRoot o (suc (name_of new)) was) (noted (StartWrite o f) x)) (keeps : KeepsUnwritten (noted (StartWrite o f) x) y) (words : held o y ≡ record { block = slice_set (held o x).block 0 (suc (name_of new)); table = in_hand (name_of new) x }) (shape_y : y.shape ≡ k)
     (only : OnlyPut o y z) (put : held o z ≡ record { block = counted (held o y).block counts.count counts.count counts.next; table = (held o y).table }) (writes : WritesEntries k o new z) (shape_z : z.shape ≡ k) (possible_z : ∥ Possible z ∥₁) where
@@ -70,7 +69,7 @@ module _ (pairs : FirstEntriesArePairs) (heads : Heads) (elements : set.FirstEnt
 
   stands : Stands k.texts (held o z) (record { content = d; table = use_with c counts.count })
   stands =
-      let says = filled_says pairs elements heads k o old new x may shape possible filled in
+      let says = filled_says laws.pairs laws.elements heads k o old new x may shape possible filled in
       let n = many.0 in
       let r = many.1 in
       let here : StandsAs k.texts (counted (slice_set (held o x).block 0 (suc (name_of new))) counts.count counts.count counts.next) (0 ∷ 0 ∷ in_hand (name_of new) x) (use_with c counts.count) d =
@@ -101,9 +100,9 @@ module _ (pairs : FirstEntriesArePairs) (heads : Heads) (elements : set.FirstEnt
 
   pub new_begins : IsJoining k o by new t table (joined (known o z).content (known t z).content) (counts.count + more) 0 all z
   new_begins =
-      let source = source_known elements k t table z shape_z possible_z other_on by sets kind_t in
+      let source = source_known laws k t table z shape_z possible_z other_on by kind_t in
       let goal : joined d (known t z).content ≡ joined (known o z).content (known t z).content = ap (λ (w : Kept). joined w.content (known t z).content) (known_on o) in
       subst (λ (w : Content). IsJoining k o by new t table w (counts.count + more) 0 all z) goal
-      (joining_begins k o by new t table d all more z midway (kinds ∙ kind_eq) kind_eq many.0 many.1 alive source
+      (joining_begins k o by new t table d all more z midway (kinds ∙ kind_eq) kind_eq many.0 many.1 alive evens source
       (subst (λ (w : Kept). passes_cap (joined d w.content) ≡ false) (known_on t) cap) serials
       (more_is ∙ ap (λ (w : Kept). new_keys d w.content) (known_on t)) room)

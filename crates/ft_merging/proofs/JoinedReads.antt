@@ -6,7 +6,7 @@ use Rattle.ft_model.specs.declared.content.Content.TheVariants as content
 use Rattle.ft_model.specs.declared.content.Element.{Element}
 use Rattle.ft_model.specs.declared.data.Key.{Key}
 use Rattle.ft_model.specs.declared.script.Kind.TheVariants as kind
-use Rattle.ft_model.specs.Contents.{SetContent}
+use Rattle.ft_model.specs.Contents.{SetContent, is_at}
 use Rattle.ft_model.specs.Worlds.{kind_of, set_of}
 use Rattle.ft_layout.specs.declared.slot.Pair.{Pair}
 use Rattle.ft_layout.specs.declared.slot.Slot.{Slot}
@@ -27,9 +27,11 @@ use Rattle.ft_trace.specs.Kinds.{rows}
 use Rattle.ft_trace.specs.Traces.{Possible}
 use Rattle.ft_trace.specs.Words.{Picture, entry_of, root_in, Stands}
 use Rattle.ft_trace.specs.Worlds.{Kept, kind_in}
-use Rattle.ft_trace.proofs.FitCalls.{set_fits_words}
+use Rattle.ft_trace.proofs.FitCalls.{dict_fits_words, set_fits_words}
 use Rattle.ft_trace.proofs.Known.{class_known}
+use Rattle.ft_trace.proofs.LookReplies as replies
 use Rattle.ft_trace.proofs.LookReplies.{element_there}
+use Rattle.ft_trace.proofs.SameKeys.{any_found}
 use Rattle.ft_trace.proofs.SetKnown as set
 use Rattle.ft_trace.proofs.Tellings.{word_is}
 use Rattle.ft_bank.specs.declared.table.Table.{Table}
@@ -106,7 +108,7 @@ entry_used by texts k table table_in used ws says place any low =
 -- ---- where the keys of a container come from
 
 -- live entries are apart
-apart_used : (used : List UsedEntry) → AllPairs (λ a b. a.key ≢ b.key) (filter is_live used) → AllPairs Apart used
+pub apart_used : (used : List UsedEntry) → AllPairs (λ a b. a.key ≢ b.key) (filter is_live used) → AllPairs Apart used
 apart_used used distinct i j d less low = λ one two. distinct-used used distinct i j d less low (true_is one) (true_is two)
   where
     true_is : {b : Bool} → b ≡ true → IsTrue b
@@ -166,22 +168,24 @@ set_source elements k t table v knows others is =
 -- ---- keys that were sought
 
 -- a key that is held is there
-pub holds_some : (k : Shape) (x : Picture) (kept : Kept) (class : ℕ) → Stands k.texts x kept → kept.table.class ≡ Some class → kind_of kept.content ≡ kind.Set → (key : Key) (a b : ℕ) → FitsKey key → IsHeldAt kept.content key (Some (a, b)) → holds kept.content key ≡ true
-holds_some k x kept class stands class_is kind_eq key a b fits there = by kept.content kind_eq (subst (λ (z : Option ℕ). StandsAs k.texts x.block (0 ∷ 0 ∷ x.table) (record { class = z; fill = kept.table.fill }) kept.content) class_is stands) there
+pub holds_some : (k : Shape) (x : Picture) (kept : Kept) (class : ℕ) → Stands k.texts x kept → kept.table.class ≡ Some class → (key : Key) (a b : ℕ) → FitsKey key → IsHeldAt kept.content key (Some (a, b)) → holds kept.content key ≡ true
+holds_some k x kept class stands class_is key a b fits there = by kept.content (subst (λ (z : Option ℕ). StandsAs k.texts x.block (0 ∷ 0 ∷ x.table) (record { class = z; fill = kept.table.fill }) kept.content) class_is stands) there
   where
-    by : (d : Content) → kind_of d ≡ kind.Set → StandsAs k.texts x.block (0 ∷ 0 ∷ x.table) (record { class = Some class; fill = kept.table.fill }) d → IsHeldAt d key (Some (a, b)) → holds d key ≡ true
-    by (content.Set others) eq says h = element_there others key fits (set_fits_words k.texts x.block (0 ∷ 0 ∷ x.table) class kept.table.fill others says) (λ none. absurd (let e = sym h.1 ∙ none in cc))
-    by (content.Dict pairs) eq says h = absurd (cc)
-    by (content.List values) eq says h = absurd (cc)
+    by : (d : Content) → StandsAs k.texts x.block (0 ∷ 0 ∷ x.table) (record { class = Some class; fill = kept.table.fill }) d → IsHeldAt d key (Some (a, b)) → holds d key ≡ true
+    by (content.Set others) says h = element_there others key fits (set_fits_words k.texts x.block (0 ∷ 0 ∷ x.table) class kept.table.fill others says) (λ none. absurd (let e = sym h.1 ∙ none in cc))
+    by (content.Dict pairs) says h =
+        let found = replies.there pairs key fits (dict_fits_words k.texts x.block (0 ∷ 0 ∷ x.table) class kept.table.fill pairs says) (λ none. absurd (let e = sym h.1 ∙ none in cc)) in
+        any_found (is_at key) pairs.pairs ∙ ap is_some found.1
+    by (content.List values) says h = absurd h
 
 pub holds_none : (d : Content) (key : Key) → IsHeldAt d key None → holds d key ≡ false
 holds_none (content.Dict pairs) key none = none
 holds_none (content.Set elements) key none = none
 holds_none (content.List values) key none = absurd none
 
--- where a key was found in the table of a set
-pub holds_at : (k : Shape) (v : View) (o : ℕ) (table : Table) (key : Key) (a b : ℕ) → v.shape ≡ k → ∥ Possible v ∥₁ → MayWriteEntries k o v → HasTable k o table v → kind_in k.kinds o ≡ kind.Set → FitsKey key → IsHeldAt (known o v).content key (Some (a, b)) → holds (known o v).content key ≡ true
-holds_at k v o table key a b shape possible may has sets fits there = holds_some k (held o v) (known o v) (class_of (name_of table)) may.stands (class_known k.texts (held o v) (known o v) (name_of table) may.stands has.root) (kind_is k v o shape possible may.locked ∙ sets) key a b fits there
+-- where a key was found in the table
+pub holds_at : (k : Shape) (v : View) (o : ℕ) (table : Table) (key : Key) (a b : ℕ) → MayWriteEntries k o v → HasTable k o table v → FitsKey key → IsHeldAt (known o v).content key (Some (a, b)) → holds (known o v).content key ≡ true
+holds_at k v o table key a b may has fits there = holds_some k (held o v) (known o v) (class_of (name_of table)) may.stands (class_known k.texts (held o v) (known o v) (name_of table) may.stands has.root) key a b fits there
 
 pub none_found : (found : Option Pair) → ((pair : Pair) → found ≡ Some pair → ⊥) → found ≡ None
 none_found None never = refl
@@ -190,8 +194,3 @@ none_found (Some pair) never = absurd (never pair refl)
 -- whether an entry that is there has a new key
 pub new_is : (d : Content) (e : UsedEntry) (key : Key) (stored : Stored) (b : Bool) → e.stored ≡ Some stored → e.key ≡ key → holds d key ≡ b → not b ≡ (is_live e && not (holds d e.key))
 new_is d e key stored b is same has = sym (λ i. is_some (is i) && not ((ap (holds d) same ∙ has) i))
-
--- of a set whose lock the pass has
-pub source_known : set.FirstEntriesAreElements → (k : Shape) (t : ℕ) (table : Table) (v : View) → v.shape ≡ k → ∥ Possible v ∥₁ → KnowsKeyed k t (Some table) v → (by : Way) → kind_by by ≡ kind.Set → kind_in k.kinds t ≡ kind_by by → Source k by t table v
-source_known elements k t table v shape possible knows way.Set sets kind_eq = set_source elements k t table v knows (set_of (known t v).content) (is_set k v t shape possible knows.locked kind_eq)
-source_known elements k t table v shape possible knows way.Dict sets kind_eq = absurd (cc)

@@ -1,11 +1,10 @@
--- What a search finds in the table of a set that is written.
+-- What a search finds in the table of a container that is written.
 use Rattle.std.proofs.Common.{◌≡◌, ◌≢◌, ℕ, suc, ◌^◌, ◌<◌, true, List, ◌∷◌, Option, Some, None, refl, ap, ◌∙◌, subst}
 use Rattle.ft_model.specs.declared.content.Content.{Content}
 use Rattle.ft_model.specs.declared.content.Content.TheVariants as content
 use Rattle.ft_model.specs.declared.data.Key.{Key}
-use Rattle.ft_model.specs.declared.script.Kind.TheVariants as kind
 use Rattle.ft_model.specs.Worlds.{kind_of}
-use Rattle.ft_layout.specs.Containers.{class_mask, IsSetWords, StandsAs}
+use Rattle.ft_layout.specs.Containers.{class_mask}
 use Rattle.ft_layout.specs.Tables.{hash_of}
 use Rattle.ft_layout.specs.Words.{FitsKey}
 use Rattle.ft_keys.specs.Searches.{IsWithin, Searched}
@@ -25,9 +24,11 @@ use Rattle.ft_bank.specs.Tables.{name_of, IsTableIn}
 use Rattle.ft_bank.proofs.Tables.{class_is}
 use Rattle.ft_search.specs.Held.{IsHeldAt, ReadsEntry}
 use Rattle.ft_search.specs.Rounds.{kind_by}
+use Rattle.ft_search.specs.Spots.{spot_in}
 use Rattle.ft_search.proofs.Holding.{IsOfWay, MissingElements, MissingKeys, key_held}
-use Rattle.ft_search.proofs.Spotting.{FirstFreeSlots}
+use Rattle.ft_search.proofs.Spotting.{FirstFreeSlots, entry_found, none_spent, value_read}
 use Rattle.ft_adding.specs.Growing.{IsFreeFor, holds}
+use Rattle.ft_merging.specs.Internal.Joining.{IsSought}
 use Rattle.ft_merging.proofs.JoinedReads.{holds_some}
 
 of_kind : (by : Way) (d : Content) → kind_of d ≡ kind_by by → IsOfWay by d
@@ -38,7 +39,7 @@ of_kind way.Dict (content.List values) is = absurd (cc)
 of_kind way.Set (content.Dict pairs) is = absurd (cc)
 of_kind way.Set (content.List values) is = absurd (cc)
 
-module _ (missing_key : MissingKeys) (missing_element : MissingElements) (first_pair : dict.FirstEntriesArePairs) (first_element : set.FirstEntriesAreElements) (free : FirstFreeSlots) (k : Shape) (x : Picture) (by : Way) (table : Table) (in_bank : IsTableIn k table) (names : root_in x ≡ suc (name_of table)) (key : Key) (fits : FitsKey key) (low : hash_of k.texts key < 2 ^ 64) (sets : kind_by by ≡ kind.Set) (left : List ℕ) (kept : Kept) (kind_eq : kind_of kept.content ≡ kind_by by) (stands : Stands k.texts x kept) where
+module _ (missing_key : MissingKeys) (missing_element : MissingElements) (first_pair : dict.FirstEntriesArePairs) (first_element : set.FirstEntriesAreElements) (free : FirstFreeSlots) (k : Shape) (x : Picture) (by : Way) (table : Table) (in_bank : IsTableIn k table) (names : root_in x ≡ suc (name_of table)) (key : Key) (fits : FitsKey key) (low : hash_of k.texts key < 2 ^ 64) (left : List ℕ) (kept : Kept) (kind_eq : kind_of kept.content ≡ kind_by by) (stands : Stands k.texts x kept) where
   abbrev mask : ℕ
   mask = class_mask table.class
 
@@ -53,7 +54,7 @@ module _ (missing_key : MissingKeys) (missing_element : MissingElements) (first_
 
   -- the key is there
   pub search_there : (slot place : ℕ) (read : Option (ℕ × ℕ)) → ReadsEntry mask words (At slot place) read → ((s p : ℕ) → At slot place ≢ Was s p) → Ends (At slot place) → holds kept.content key ≡ true
-  search_there slot place (Some read) reads live s = holds_some k x kept table.class stands class_some (kind_eq ∙ sets) key read.0 read.1 fits (key_held missing_key missing_element k.texts x kept stands key first_pair first_element k table in_bank names low left (At slot place) (Some read) live reads by (of_kind by kept.content kind_eq) s)
+  search_there slot place (Some read) reads live s = holds_some k x kept table.class stands class_some key read.0 read.1 fits (key_held missing_key missing_element k.texts x kept stands key first_pair first_element k table in_bank names low left (At slot place) (Some read) live reads by (of_kind by kept.content kind_eq) s)
   search_there slot place None reads live s = absurd reads
 
   -- it isn't, and this is the slot for it
@@ -62,13 +63,13 @@ module _ (missing_key : MissingKeys) (missing_element : MissingElements) (first_
   search_free slot (Some read) reads live within s = absurd reads
 
   -- no search ends otherwise
-  pub search_spent : Ends Spent → ⊥
-  search_spent s = by_set by sets kept.content (kind_eq ∙ sets) stands s
-    where
-      by_set : (w : Way) → kind_by w ≡ kind.Set → (d : Content) → kind_of d ≡ kind.Set → StandsAs k.texts x.block words kept.table d → Searched mask words key (walk_slots w (hash_of k.texts key) mask) left Spent → ⊥
-      by_set way.Set is (content.Set elements) eq says s =
-          let here : IsSetWords k.texts x.block words (Some table.class) kept.table.fill elements = subst (λ (z : Option ℕ). IsSetWords k.texts x.block words z kept.table.fill elements) class_some says in
-          s.finds way.Set k.texts here.used here.table low refl
-      by_set way.Set is (content.Dict pairs) eq says s = absurd (cc)
-      by_set way.Set is (content.List values) eq says s = absurd (cc)
-      by_set way.Dict is d eq says s = absurd (cc)
+  pub sought : (found : Found) (read : Option (ℕ × ℕ)) → IsWithin mask found → ((s p : ℕ) → found ≢ Was s p) → ReadsEntry mask words found read → Ends found → IsSought k by table key x kept.content (spot_in table found read)
+  sought (At slot place) (Some read) within live reads s =
+      let of = of_kind by kept.content kind_eq in
+      let e = entry_found first_pair first_element k x kept key table in_bank names stands low left by of slot place s in
+      let value = value_read first_pair first_element k x kept key table in_bank names stands low left slot place read reads in
+      (e.0, e.1, search_there slot place (Some read) reads live s, value.0, value.1)
+  sought (At slot place) None within live reads s = absurd reads
+  sought (Was slot place) read within live reads s = absurd (live slot place refl)
+  sought (Free slot) read within live reads s = search_free slot read reads live within s
+  sought Spent read within live reads s = absurd (none_spent first_pair first_element k x kept key table in_bank names stands low left by (of_kind by kept.content kind_eq) s)

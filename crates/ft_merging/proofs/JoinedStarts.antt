@@ -2,7 +2,6 @@
 use Rattle.std.proofs.Common.{◌≡◌, ◌≢◌, ℕ, ◌+◌, ◌^◌, ◌%◌, ◌<◌, ◌≤◌, Bool, true, false, cond, ne_eqb, Option, Some, None, refl, sym, ap, ◌∙◌, subst, arith}
 use Rattle.ft_model.specs.declared.content.Content.{Content}
 use Rattle.ft_model.specs.declared.script.Kind.{Kind}
-use Rattle.ft_model.specs.declared.script.Kind.TheVariants as kind
 use Rattle.ft_model.specs.Tables.{TableUse, passes_cap}
 use Rattle.ft_model.specs.Worlds.{kind_of, serial_of}
 use Rattle.ft_keys.specs.declared.walk.Way.{Way}
@@ -17,7 +16,6 @@ use Rattle.ft_trace.specs.Traces.{Possible}
 use Rattle.ft_trace.specs.Words.{Picture, Stands}
 use Rattle.ft_trace.specs.Worlds.{Kept, kind_in}
 use Rattle.ft_trace.proofs.Cases.{hit}
-use Rattle.ft_trace.proofs.SetKnown as set
 use Rattle.ft_bank.specs.declared.table.Table.{Table}
 use Rattle.ft_bank.specs.Tables.{name_of, IsTableIn}
 use Rattle.ft_bank.specs.Writes.{KeepsUnwritten}
@@ -36,7 +34,8 @@ use Rattle.ft_merging.specs.Joining.{join_takes, joined, new_keys}
 use Rattle.ft_merging.specs.Internal.Joining.{IsJoining, NoneGone}
 use Rattle.ft_merging.specs.Internal.Writing.{IsMidway, version_of}
 use Rattle.ft_merging.proofs.Joined.{joining_begins}
-use Rattle.ft_merging.proofs.JoinedReads.{source_known}
+use Rattle.ft_merging.proofs.Ending.{Laws}
+use Rattle.ft_merging.proofs.JoinedPairs.{source_known}
 use Rattle.ft_merging.proofs.JoinedRoom.{keys_room}
 
 -- another container is known as it was, once the version of the one that is written is odd
@@ -66,7 +65,7 @@ may_write k o old v may = record {
 
 -- ---- in the table that it has
 
-module _ (heads : Heads) (elements : set.FirstEntriesAreElements) (k : Shape) (o : ℕ) (by : Way) (own : Table) (t : ℕ) (table : Table) (counts : Counts) (more : ℕ) (v u : View) (f : ℕ) (shape : v.shape ≡ k) (possible : ∥ Possible v ∥₁) (two : o ≢ t) (may : MayAddKey k o (Some own) v) (other : KnowsKeyed k t (Some table) v) (kind_eq : kind_in k.kinds o ≡ kind_by by) (kind_t : kind_in k.kinds t ≡ kind_by by) (sets : kind_by by ≡ kind.Set)
+module _ (heads : Heads) (laws : Laws) (k : Shape) (o : ℕ) (by : Way) (own : Table) (t : ℕ) (table : Table) (counts : Counts) (more : ℕ) (v u : View) (f : ℕ) (shape : v.shape ≡ k) (possible : ∥ Possible v ∥₁) (two : o ≢ t) (may : MayAddKey k o (Some own) v) (other : KnowsKeyed k t (Some table) v) (kind_eq : kind_in k.kinds o ≡ kind_by by) (kind_t : kind_in k.kinds t ≡ kind_by by)
     (are : AreCounts (held o v).block counts) (more_is : more ≡ new_keys (known o v).content (known t v).content) (cap : passes_cap (joined (known o v).content (known t v).content) ≡ false) (serials : serial_of (known o v).content + 65536 < 2 ^ 63) (none : join_takes (known o v) (known t v).content ≡ None) (begun : u ≡ noted (StartWrite o f) v) (shape_u : u.shape ≡ k) (possible_u : ∥ Possible u ∥₁) where
   abbrev c : ℕ
   c = class_of (name_of own)
@@ -101,8 +100,11 @@ module _ (heads : Heads) (elements : set.FirstEntriesAreElements) (k : Shape) (o
   known_back : (p : ℕ) → known p v ≡ known p u
   known_back p = sym (ap (known p) begun)
 
+  evens_on : (p : ℕ) → p < rows (kind_in k.kinds o) c → version_of (name_of own) (held o u) p % 2 ≡ 0
+  evens_on = subst (λ (x : Picture). (p : ℕ) → p < rows (kind_in k.kinds o) c → version_of (name_of own) x p % 2 ≡ 0) held_back evens
+
   alive : NoneGone (name_of own) (rows (kind_in k.kinds o) c) (held o u)
-  alive = subst (λ (x : Picture). NoneGone (name_of own) (rows (kind_in k.kinds o) c) x) held_back (λ p key less odd dead. let e = evens p less in absurd (omega (arith, e, odd)))
+  alive p key less odd dead = let e = evens_on p less in omega (arith, e, odd)
 
   midway : IsMidway k o own (record { content = d; table = use_with c counts.fill }) u
   midway = record {
@@ -111,12 +113,12 @@ module _ (heads : Heads) (elements : set.FirstEntriesAreElements) (k : Shape) (o
     stands = subst (λ (x : Picture). Stands k.texts x (record { content = d; table = use_with c counts.fill })) held_back (subst (λ (z : TableUse). Stands k.texts (held o v) (record { content = d; table = z })) use_is may.keyed.stands);
     same = λ p key less even live. ap (λ (z : Kept). under z.content key) (known_back o);
     gone = λ p key less odd dead. absurd (alive p key less odd dead);
-    opened = subst (λ (x : Picture). (p : ℕ) → p < rows (kind_in k.kinds o) c → version_of (name_of own) x p % 2 ≡ 1 → p < counts.fill) held_back (λ p less odd. let e = evens p less in absurd (omega (arith, e, odd)));
+    opened = λ p less odd. let e = evens_on p less in absurd (omega (arith, e, odd));
   }
 
   pub here_room : counts.fill + more ≤ rows (kind_in k.kinds o) c
   here_room =
-      let s = source_known elements k o own v shape possible may.keyed by sets kind_eq in
+      let s = source_known laws k o own v shape possible may.keyed by kind_eq in
       let few = s.few in
       let full : (known o v).table.fill ≡ counts.fill = ap (λ (z : TableUse). z.fill) here_table in
       let low : counts.fill ≤ rows (kind_by by) own.class = subst (λ (n : ℕ). counts.fill ≤ rows (kind_by by) n) class_same (omega (arith, few, full)) in
@@ -126,9 +128,9 @@ module _ (heads : Heads) (elements : set.FirstEntriesAreElements) (k : Shape) (o
   pub here_begins : IsJoining k o by own t table (joined (known o u).content (known t u).content) (counts.fill + more) 0 counts u
   here_begins =
       let n = counts_known heads k o (Some own) v counts may.keyed are in
-      let source = source_known elements k t table u shape_u possible_u (knows_begun k o t (Some table) v u f begun two other) by sets kind_t in
+      let source = source_known laws k t table u shape_u possible_u (knows_begun k o t (Some table) v u f begun two other) by kind_t in
       let goal : joined d (known t u).content ≡ joined (known o u).content (known t u).content = ap (λ (z : Kept). joined z.content (known t u).content) (known_back o) in
       subst (λ (z : Content). IsJoining k o by own t table z (counts.fill + more) 0 counts u) goal
-      (joining_begins k o by own t table d counts more u midway (kinds ∙ kind_eq) kind_eq n.0 n.1 alive source
+      (joining_begins k o by own t table d counts more u midway (kinds ∙ kind_eq) kind_eq n.0 n.1 alive evens_on source
       (subst (λ (z : Kept). passes_cap (joined d z.content) ≡ false) (known_back t) cap) serials
       (more_is ∙ ap (λ (z : Kept). new_keys d z.content) (known_back t)) here_room)

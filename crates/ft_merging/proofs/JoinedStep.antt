@@ -1,20 +1,25 @@
 -- A new key that is put into a dict or a set in the midst of a write of several: what its entry leaves.
-use Rattle.std.proofs.Common.{◌≡◌, ◌≢◌, ℕ, ◌+◌, ◌*◌, ◌^◌, ◌%◌, ◌<◌, ◌≤◌, List, [], ◌∷◌, length, Some, None, sym, ap, ◌∙◌, subst, ⊎_elim, arith, get_or-set_same, get_or-set_other}
-use Rattle.std.specs.Prelude.{slice_set}
+use Rattle.std.proofs.Common.{◌≡◌, ◌≢◌, ℕ, zero, suc, ◌+◌, ◌++◌, refl, length-set, ◌*◌, ◌^◌, ◌%◌, ◌<◌, ◌≤◌, List, [], ◌∷◌, length, Some, None, sym, ap, ◌∙◌, subst, ⊎_elim, arith, get_or-set_same, get_or-set_other}
+use Rattle.std.specs.Prelude.{slice_index, slice_set}
 use mathlib.Core.Logic.{dite}
 use native.Mathlib.Decide.{ℕ_discrete}
 use Rattle.ft_model.specs.declared.content.Content.{Content}
+use Rattle.ft_model.specs.declared.content.Content.TheVariants as content
 use Rattle.ft_model.specs.declared.data.Key.{Key}
 use Rattle.ft_model.specs.declared.script.Kind.{Kind}
+use Rattle.ft_model.specs.Classes.{IsClass}
 use Rattle.ft_model.specs.Worlds.{kind_of, length_of}
+use Rattle.ft_hash.specs.Probes.{dict_walk, set_walk}
 use Rattle.ft_layout.specs.declared.slot.Pair.{Pair}
 use Rattle.ft_layout.specs.declared.slot.Stored.{Stored}
 use Rattle.ft_layout.specs.Containers.{class_mask, StandsAs}
-use Rattle.ft_layout.specs.Tables.{hash_of}
-use Rattle.ft_layout.specs.Words.{FitsKey, FitsStored, entry_words, gone_kind, key_kind}
-use Rattle.ft_layout.proofs.WordLaws.{gone_is, kind_range}
+use Rattle.ft_layout.specs.Tables.{UsedEntry, dict_room, hash_of, set_room}
+use Rattle.ft_layout.specs.Words.{FitsKey, FitsStored, entry_words, gone_kind, key_kind, key_payload}
+use Rattle.ft_layout.proofs.WordLaws.{gone_is, kind_range, same_key}
 use Rattle.ft_keys.specs.declared.walk.Way.{Way}
-use Rattle.ft_keys.specs.Changes.{FirstFree}
+use Rattle.ft_keys.specs.declared.words.Access.{Access}
+use Rattle.ft_keys.specs.declared.words.Access.TheVariants.{PutEntry}
+use Rattle.ft_keys.specs.Changes.{FirstFree, unless_zero}
 use Rattle.ft_keys.specs.Ways.{walk_slots}
 use Rattle.ft_trace.specs.declared.Shape.{Shape}
 use Rattle.ft_trace.specs.declared.View.{View}
@@ -25,7 +30,12 @@ use Rattle.ft_trace.specs.Kinds.{IsKeyed, rows, under}
 use Rattle.ft_trace.specs.Words.{Picture, entry_at, entry_of, Stands}
 use Rattle.ft_trace.specs.Worlds.{Kept, kind_in}
 use Rattle.ft_trace.proofs.ByKind.{keyed_fit}
+use Rattle.ft_trace.proofs.DictWrites as dict
+use Rattle.ft_trace.proofs.DictWrites.{FirstEntriesArePairs}
 use Rattle.ft_trace.proofs.Known.{table_is_long}
+use Rattle.ft_trace.proofs.SetKnown as set
+use Rattle.ft_trace.proofs.SetKnown.{FirstEntriesAreElements}
+use Rattle.ft_trace.proofs.Tellings.{word_is}
 use Rattle.ft_bank.specs.declared.table.Table.{Table}
 use Rattle.ft_bank.specs.Tables.{name_of}
 use Rattle.ft_bank.specs.Whole.{OnlyPut}
@@ -42,9 +52,46 @@ use Rattle.ft_adding.specs.Placing.{IsUnused, StoresAs, laid, with_entry, with_k
 use Rattle.ft_adding.proofs.Keyed.{way_is}
 use Rattle.ft_adding.proofs.Placed.{Fresh, PlaceLaws, now, opened_now, pair_for, place_unused, right_in, use_with}
 use Rattle.ft_adding.proofs.Stages.{At, body, body_puts, body_stage, opened}
-use Rattle.ft_merging.specs.Internal.Joining.{NoneGone}
+use Rattle.ft_merging.specs.Internal.Joining.{NoneAhead, NoneGone, NoneOf}
 use Rattle.ft_merging.specs.Internal.Writing.{IsMidway, version_of}
 use Rattle.ft_merging.proofs.Ending.{parity}
+
+-- ---- the payload of the key's words
+
+-- the entry after those that were used has none yet
+next_payload : (first_pair : FirstEntriesArePairs) (first_element : FirstEntriesAreElements) (texts b l : List ℕ) (class fill : ℕ) (d : Content) → IsKeyed (kind_of d) → IsClass class → StandsAs texts b (0 ∷ 0 ∷ l) (use_with class fill) d → fill < rows (kind_of d) class → entry_of (slots class) l fill 3 ≡ 0
+next_payload first_pair first_element texts b l class fill (content.Dict pairs) keyed is_class is low =
+    let room = dict.room_is first_pair texts b class fill is_class pairs l is in
+    let filled = is.filled in
+    let u = is.table.unused fill (omega (arith, filled)) (omega (arith, room, low)) in
+    sym (word_is (λ hash. dict_walk hash (class_mask class) (class_mask class + 14)) (dict_room (class_mask class)) texts class is_class is.used l is.table fill 3) ∙ u.payload
+next_payload first_pair first_element texts b l class fill (content.Set elements) keyed is_class is low =
+    let room = set.room_is first_element texts b class fill is_class elements l is in
+    let filled = is.filled in
+    let u = is.table.unused fill (omega (arith, filled)) (omega (arith, room, low)) in
+    sym (word_is (λ hash. set_walk hash (class_mask class) (class_mask class + 14)) (set_room (class_mask class)) texts class is_class is.used l is.table fill 3) ∙ u.payload
+next_payload first_pair first_element texts b l class fill (content.List values) keyed is_class is low = absurd keyed
+
+laid_other : (n p word value : ℕ) (calls : List Access) (l : List ℕ) → word ≢ 3 → slice_index (laid n (unless_zero p word value ++ calls) l) (entry_at n p 3) ≡ slice_index (laid n calls l) (entry_at n p 3)
+laid_other n p word zero calls l ne = refl
+laid_other n p word (suc value) calls l ne = get_or-set_other (laid n calls l) (entry_at n p word) (entry_at n p 3) (suc value) 0 (λ e. ne (omega (arith, e)))
+
+laid_here : (n p value : ℕ) (calls : List Access) (l : List ℕ) → slice_index (laid n calls l) (entry_at n p 3) ≡ 0 → entry_at n p 3 < length (laid n calls l) → slice_index (laid n (unless_zero p 3 value ++ calls) l) (entry_at n p 3) ≡ value
+laid_here n p zero calls l none long = none
+laid_here n p (suc value) calls l none long = get_or-set_same (laid n calls l) (entry_at n p 3) (suc value) 0 long
+
+payload_laid : (n p : ℕ) (entry l : List ℕ) → entry_of n l p 3 ≡ 0 → entry_at n p 3 < length l → entry_of n (laid n (body p entry) l) p 3 ≡ slice_index entry 3
+payload_laid n p entry l none long =
+    let word : ℕ → ℕ = slice_index entry in
+    let one : List Access = PutEntry p 1 (word 1) ∷ [] in
+    let three : List Access = unless_zero p 3 (word 3) ++ one in
+    let four : List Access = unless_zero p 4 (word 4) ++ three in
+    let five : List Access = unless_zero p 5 (word 5) ++ four in
+    let size = length-set l (entry_at n p 1) (word 1) in
+    get_or-set_other (laid n five l) (entry_at n p 6) (entry_at n p 3) (word 6) 0 (λ e. absurd (omega (arith, e)))
+    ∙ (laid_other n p 5 (word 5) four l (λ e. absurd (omega (arith, e)))
+    ∙ (laid_other n p 4 (word 4) three l (λ e. absurd (omega (arith, e)))
+    ∙ laid_here n p (word 3) one l (get_or-set_other l (entry_at n p 1) (entry_at n p 3) (word 1) 0 (λ e. absurd (omega (arith, e))) ∙ none) (omega (arith, long, size))))
 
 module _ (laws : PlaceLaws) (k : Shape) (o : ℕ) (by : Way) (own : Table) (mid : Content) (counts : Counts) (v : View) (midway : IsMidway k o own (record { content = mid; table = use_with (class_of (name_of own)) counts.fill }) v) (same_kind : kind_of mid ≡ kind_by by) (kind_eq : kind_in k.kinds o ≡ kind_by by) (count_is : counts.count ≡ length_of mid)
     (alive : NoneGone (name_of own) (rows (kind_in k.kinds o) (class_of (name_of own))) (held o v)) (slot : ℕ) (key : Key) (stored : Stored) (fits : FitsKey key) (low : hash_of k.texts key < 2 ^ 64) (stores : StoresAs (kind_of mid) stored) (ok : FitsStored stored) (absent : IsHeldAt mid key None) (free : IsFreeFor k.texts by own.class key (held o v).table slot) (room : counts.fill < rows (kind_by by) (class_of (name_of own))) where
@@ -149,6 +196,17 @@ module _ (laws : PlaceLaws) (k : Shape) (o : ℕ) (by : Way) (own : Table) (mid 
       let long = stage.size in
       get_or-set_other (slice_set l (entry_at n p 2) (key_kind key)) slot (entry_at n p 2) (p + 1) 0 (λ e. absurd (omega (arith, e, in_index))) ∙ get_or-set_same l (entry_at n p 2) (key_kind key) 0 (omega (arith, less, long))
 
+  payload_now : entry_of n y.table p 3 ≡ key_payload key
+  payload_now =
+      let in_index = un.in_index in
+      let less = un.low in
+      let size = length-set x.table (entry_at n p 0) (entry_of n x.table p 0 + 1) in
+      let long = un.long in
+      let none : entry_of n (opened n m x.table slot p un) p 3 ≡ 0 = get_or-set_other x.table (entry_at n p 0) (entry_at n p 3) (entry_of n x.table p 0 + 1) 0 (λ e. absurd (omega (arith, e))) ∙ next_payload laws.first_pair laws.first_element k.texts x.block x.table c p mid keyed fresh_midway.is_class midway.stands room_here in
+      get_or-set_other (slice_set l (entry_at n p 2) (key_kind key)) slot (entry_at n p 3) (p + 1) 0 (λ e. absurd (omega (arith, e, in_index)))
+      ∙ (get_or-set_other l (entry_at n p 2) (entry_at n p 3) (key_kind key) 0 (λ e. absurd (omega (arith, e)))
+      ∙ payload_laid n p (entry_words pair) (opened n m x.table slot p un) none (omega (arith, less, long, size)))
+
   odd_now : version_of t y p % 2 ≡ 1
   odd_now = let o = opened_now laws k.texts x t slot counts mid key stored fresh_midway in let e = even_here in omega (arith, o, e)
 
@@ -198,6 +256,16 @@ module _ (laws : PlaceLaws) (k : Shape) (o : ℕ) (by : Way) (own : Table) (mid 
       no)
       (λ ne. let was = others_same q 0 ne (omega arith) in alive q a less (omega (arith, was, odd)) (dead_before q a ne dead))
 
+  -- the key that is put is none of those that are left
+  ahead_then : (left : List UsedEntry) → NoneAhead t (rows (kind_in k.kinds o) c) x left → NoneOf key left → NoneAhead t (rows (kind_in k.kinds o) c) y left
+  ahead_then left before none q a less odd fits_a live =
+      dite (ℕ_discrete q p)
+      (λ (e : q ≡ p).
+      let kind : key_kind key ≡ key_kind a = sym kind_now ∙ subst (λ (i : ℕ). entry_of n y.table i 2 ≡ key_kind a) e live.0 in
+      let payload : key_payload key ≡ key_payload a = sym payload_now ∙ subst (λ (i : ℕ). entry_of n y.table i 3 ≡ key_payload a) e live.1 in
+      subst (λ (i : Key). NoneOf i left) (same_key key a fits fits_a kind payload) none)
+      (λ ne. let was = others_same q 0 ne (omega arith) in before q a less (omega (arith, was, odd)) fits_a (live_before q a ne live))
+
   module _ (z : View) (only : OnlyPut o v z) (words : held o z ≡ y) (writes : WritesEntries k o own z) where
     back : y ≡ held o z
     back = sym words
@@ -207,6 +275,9 @@ module _ (laws : PlaceLaws) (k : Shape) (o : ℕ) (by : Way) (own : Table) (mid 
 
     pub alive_put : NoneGone t (rows (kind_in k.kinds o) c) (held o z)
     alive_put = subst (λ (w : Picture). NoneGone t (rows (kind_in k.kinds o) c) w) back alive_then
+
+    pub ahead_put : (left : List UsedEntry) → NoneAhead t (rows (kind_in k.kinds o) c) x left → NoneOf key left → NoneAhead t (rows (kind_in k.kinds o) c) (held o z) left
+    ahead_put left before none = subst (λ (w : Picture). NoneAhead t (rows (kind_in k.kinds o) c) w left) back (ahead_then left before none)
 
     pub midway_put : IsMidway k o own (record { content = news; table = use_with c (p + 1) }) z
     midway_put = record {

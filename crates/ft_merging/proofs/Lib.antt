@@ -5,11 +5,14 @@ pub mod Parted
 pub mod PartedHere
 pub mod JoinedContents
 pub mod JoinedReads
+pub mod JoinedPairs
 pub mod JoinedRoom
 pub mod JoinedStep
+pub mod JoinedValues
 pub mod Joined
 pub mod JoinedStarts
 pub mod JoinedNew
 pub mod JoinedCalls
+pub mod JoinedSame
 pub mod JoinedSearch
 pub mod Pairs

@@ -1,6 +1,9 @@
--- The locks of two containers, of which a call takes the lower one first.
-use Rattle.std.proofs.Common.{◌≡◌, ℕ, ◌<◌, Bool, true, false}
-use Rattle.std.specs.Prelude.{nat_lt, if◌then◌else◌}
+-- Two containers that a call names: their locks, of which it takes the lower one first, and how many keys they have.
+use Rattle.std.proofs.Common.{◌≡◌, ℕ, ◌<◌, Bool, true, false, [], ◌∷◌, refl, ap, ◌∙◌}
+use Rattle.std.specs.Prelude.{◌||◌, cond, map, nat_lt, if◌then◌else◌}
+use Rattle.std.specs.List.{list_any}
+use Rattle.ft_model.specs.declared.content.Content.{Content}
+use Rattle.ft_model.specs.Tables.{passes_cap}
 use Rattle.ft_trace.specs.declared.Shape.{Shape}
 use Rattle.ft_trace.specs.declared.View.{View}
 use Rattle.ft_trace.specs.Acts.{has_lock}
@@ -21,3 +24,13 @@ are_in k a b low high = by (nat_lt b a)
     by : (c : Bool) → ((if c then b else a) < containers_in k) × ((if c then a else b) < containers_in k)
     by true = (high, low)
     by false = (low, high)
+
+-- whether one of two containers has too many, where the other one hasn't if the first has few; or of one named twice
+pub named_cap : (f : ℕ → Content) (s t : ℕ) (b over : Bool) → passes_cap (f s) ≡ over → (over ≡ false → passes_cap (f t) ≡ false) → list_any passes_cap (map f (cond b (s ∷ []) (s ∷ t ∷ []))) ≡ over
+named_cap f s t true over one other = ap (λ (z : Bool). z || false) one ∙ by over
+  where
+    by : (z : Bool) → (z || false) ≡ z
+    by true = refl
+    by false = refl
+named_cap f s t false true one other = ap (λ (z : Bool). z || (passes_cap (f t) || false)) one
+named_cap f s t false false one other = λ i. one i || (other refl i || false)

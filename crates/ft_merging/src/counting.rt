@@ -3,7 +3,6 @@ ghost use Rattle.std.specs.Prelude.{◌≡◌, ◌&&◌, ◌<◌, ◌≤◌, ◌
 ghost use Rattle.ft_layout.specs.Containers.{class_mask};
 ghost use Rattle.ft_layout.specs.Tables.{UsedEntry, is_live};
 ghost use Rattle.ft_keys.specs.Ways.{IsTableOf};
-ghost use Rattle.ft_model.specs.declared.script.Kind.TheVariants as kind;
 ghost use Rattle.ft_trace.specs.Addresses.{class_of};
 ghost use Rattle.ft_trace.specs.Holds.{held, known};
 ghost use Rattle.ft_trace.specs.Worlds.{kind_in};
@@ -38,7 +37,6 @@ fn is_new_at(
     requires other { KnowsKeyed (shape_of bank.now) t (Some table) (view pass.old) }
     requires way { kind_in (shape_of bank.now).kinds o ≡ kind_by way }
     requires other_way { kind_in (shape_of bank.now).kinds t ≡ kind_by way }
-    requires sets { kind_by way ≡ kind.Set }
     requires place { place < (known t (view pass.old)).table.fill }
     ensures pass { IsPassOf bank.now pass.new }
     ensures stack { stack_of pass.new ≡ stack_of pass.old }
@@ -77,7 +75,6 @@ pub(crate) fn count_new(
     requires other { KnowsKeyed (shape_of bank.now) t (Some table) (view pass.old) }
     requires way { kind_in (shape_of bank.now).kinds o ≡ kind_by way }
     requires other_way { kind_in (shape_of bank.now).kinds t ≡ kind_by way }
-    requires sets { kind_by way ≡ kind.Set }
     requires fill { fill ≡ (known t (view pass.old)).table.fill }
     ensures pass { IsPassOf bank.now pass.new }
     ensures stack { stack_of pass.new ≡ stack_of pass.old }

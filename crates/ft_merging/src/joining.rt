@@ -3,7 +3,6 @@
 //! is named twice is read as it stood before.
 ghost use Rattle.std.specs.Prelude.{◌≡◌, ◌≢◌, ◌+◌, ◌^◌, ◌<◌, ◌≤◌, false, Some, None, suc};
 ghost use Rattle.ft_model.specs.declared.reply.Reply.TheVariants as reply;
-ghost use Rattle.ft_model.specs.declared.script.Kind.TheVariants as kind;
 ghost use Rattle.ft_model.specs.Classes.{IsClass};
 ghost use Rattle.ft_model.specs.Tables.{passes_cap};
 ghost use Rattle.ft_model.specs.Worlds.{length_of, serial_of};
@@ -56,7 +55,6 @@ fn join_here(
     requires other { KnowsKeyed (shape_of bank.now) t (Some table) (view pass.old) }
     requires way { kind_in (shape_of bank.now).kinds o ≡ kind_by way }
     requires other_way { kind_in (shape_of bank.now).kinds t ≡ kind_by way }
-    requires sets { kind_by way ≡ kind.Set }
     requires others { others ≡ (known t (view pass.old)).table.fill }
     requires counts { AreCounts (held o (view pass.old)).block counts }
     requires more { more ≡ new_keys (known o (view pass.old)).content (known t (view pass.old)).content }
@@ -101,7 +99,6 @@ fn join_in_new(
     requires other { KnowsKeyed (shape_of bank.now) t (Some table) (view pass.old) }
     requires way { kind_in (shape_of bank.now).kinds o ≡ kind_by way }
     requires other_way { kind_in (shape_of bank.now).kinds t ≡ kind_by way }
-    requires sets { kind_by way ≡ kind.Set }
     requires others { others ≡ (known t (view pass.old)).table.fill }
     requires counts { AreCounts (held o (view pass.old)).block counts }
     requires more { more ≡ new_keys (known o (view pass.old)).content (known t (view pass.old)).content }
@@ -152,7 +149,6 @@ fn join_in_taken(
     requires other { KnowsKeyed (shape_of bank.now) t (Some table) (view pass.old) }
     requires way { kind_in (shape_of bank.now).kinds o ≡ kind_by way }
     requires other_way { kind_in (shape_of bank.now).kinds t ≡ kind_by way }
-    requires sets { kind_by way ≡ kind.Set }
     requires others { others ≡ (known t (view pass.old)).table.fill }
     requires counts { AreCounts (held o (view pass.old)).block counts }
     requires more { more ≡ new_keys (known o (view pass.old)).content (known t (view pass.old)).content }
@@ -199,7 +195,6 @@ fn join_in_old(
     requires other { KnowsKeyed (shape_of bank.now) t (Some table) (view pass.old) }
     requires way { kind_in (shape_of bank.now).kinds o ≡ kind_by way }
     requires other_way { kind_in (shape_of bank.now).kinds t ≡ kind_by way }
-    requires sets { kind_by way ≡ kind.Set }
     requires others { others ≡ (known t (view pass.old)).table.fill }
     requires counts { AreCounts (held o (view pass.old)).block counts }
     requires more { more ≡ new_keys (known o (view pass.old)).content (known t (view pass.old)).content }
@@ -211,6 +206,8 @@ fn join_in_old(
     ensures stack { stack_of pass.new ≡ stack_of pass.old }
     ensures added { IsAdded (shape_of bank.now) None false called.now reply.Done (view pass.old) (view pass.new) result }
 {
+    used_entries_follow_a_dict();
+    used_entries_follow_a_set();
     words_are_of_one_content();
     match old {
         Some(own) => join_here(
@@ -240,7 +237,6 @@ fn join_more(
     requires other { KnowsKeyed (shape_of bank.now) t (Some table) (view pass.old) }
     requires way { kind_in (shape_of bank.now).kinds o ≡ kind_by way }
     requires other_way { kind_in (shape_of bank.now).kinds t ≡ kind_by way }
-    requires sets { kind_by way ≡ kind.Set }
     requires others { others ≡ (known t (view pass.old)).table.fill }
     requires counts { AreCounts (held o (view pass.old)).block counts }
     requires more { more ≡ new_keys (known o (view pass.old)).content (known t (view pass.old)).content }
@@ -253,6 +249,7 @@ fn join_more(
         (passes_cap (joined (known o (view pass.old)).content (known t (view pass.old)).content)) called.now reply.Done
         (view pass.old) (view pass.new) result }
 {
+    used_entries_follow_a_dict();
     used_entries_follow_a_set();
     words_are_of_one_content();
     if counts.count + more > most_keys(way) {
@@ -286,13 +283,13 @@ fn join_from(
     requires idle { flight (view pass.old).log ≡ 0 }
     requires way { kind_in (shape_of bank.now).kinds o ≡ kind_by way }
     requires other_way { kind_in (shape_of bank.now).kinds t ≡ kind_by way }
-    requires sets { kind_by way ≡ kind.Set }
     requires serials { serial_of (known o (view pass.old)).content + 65536 < 2 ^ 63 }
     requires joins { JoinsKeys o t called.now (view pass.old) }
     ensures pass { IsPassOf bank.now pass.new }
     ensures stack { stack_of pass.new ≡ stack_of pass.old }
     ensures added { JoinsBy (shape_of bank.now) o t called.now (view pass.old) (view pass.new) result }
 {
+    used_entries_follow_a_dict();
     used_entries_follow_a_set();
     words_are_of_one_content();
     let others = read_counts(bank, pass, t);
@@ -318,7 +315,6 @@ fn join_from(
 fn join_nothing(bank: &Bank, pass: &mut Pass, o: Object, t: Object, called: &Call) -> Added
     requires pass { IsPassOf bank.now pass.old }
     requires may { MayWriteEntries (shape_of bank.now) o (view pass.old) }
-    requires set { kind_in (shape_of bank.now).kinds o ≡ kind.Set }
     requires joins { JoinsKeys o t called.now (view pass.old) }
     requires same { joined (known o (view pass.old)).content (known t (view pass.old)).content
         ≡ (known o (view pass.old)).content }
@@ -328,19 +324,20 @@ fn join_nothing(bank: &Bank, pass: &mut Pass, o: Object, t: Object, called: &Cal
         (passes_cap (joined (known o (view pass.old)).content (known t (view pass.old)).content)) called.now reply.Done
         (view pass.old) (view pass.new) result }
 {
+    used_entries_follow_a_dict();
     used_entries_follow_a_set();
     Added::Made(written(write_nothing(bank, pass, o, called, &Reply::Done)))
 }
 
-/// Puts the keys of a set into another one, as the write of the call, by a pass that has the locks of both: those that
-/// are new, in their order. A set that is named twice stays as it is. The version of each new entry is odd while it is
-/// written, and no other.
+/// Puts the keys of a dict or a set into another one of the same kind, as the write of the call, by a pass that has the
+/// locks of both: those that are new in their order, after the others, and in a dict its values at those that are there.
+/// One that is named twice stays as it is. The version of each entry that is written is odd meanwhile, and no other.
 ///
 /// # Errors
 ///
-/// `NoTable` where the set needs another table, of the class for its new size, and the count of the class was 0;
+/// `NoTable` where it needs another table, of the class for its new size, and the count of the class was 0;
 /// `Over` where it would have more than the largest table holds; `Moved` where two steps found a word of the class's
-/// free tables changed. No key is put then.
+/// free tables changed. Nothing is put then.
 pub fn join_by(bank: &Bank, pass: &mut Pass, o: Object, t: Object, way: Way, called: &Call) -> Added
     requires pass { IsPassOf bank.now pass.old }
     requires may { MayWriteEntries (shape_of bank.now) o (view pass.old) }
@@ -349,7 +346,6 @@ pub fn join_by(bank: &Bank, pass: &mut Pass, o: Object, t: Object, way: Way, cal
     requires idle { flight (view pass.old).log ≡ 0 }
     requires way { kind_in (shape_of bank.now).kinds o ≡ kind_by way }
     requires other_way { kind_in (shape_of bank.now).kinds t ≡ kind_by way }
-    requires sets { kind_by way ≡ kind.Set }
     requires serials { serial_of (known o (view pass.old)).content + 65536 < 2 ^ 63 }
     requires joins { JoinsKeys o t called.now (view pass.old) }
     ensures pass { IsPassOf bank.now pass.new }

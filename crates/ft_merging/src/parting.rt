@@ -50,6 +50,7 @@ pub fn count_lacking(
     ensures few { result ≤ fill }
     ensures count { result ≡ new_keys (known s (view pass.old)).content (known t (view pass.old)).content }
 {
+    used_entries_follow_a_dict();
     used_entries_follow_a_set();
     count_new(bank, pass, s, Way::Set, t, table, fill)
 }

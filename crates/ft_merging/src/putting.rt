@@ -1,45 +1,46 @@
-//! The keys of one dict or set are put into another one that is written, one by one, in the order of their entries:
-//! the version of each new entry is odd until all are there.
-ghost use Rattle.std.specs.Prelude.{◌≡◌, ◌≢◌, ℕ, suc, ◌+◌, ◌^◌, ◌<◌, ◌≤◌, true, Some, None};
+//! The keys of one dict or set are put into another one that is written, one by one, in the order of their entries, and
+//! its values at those that are there: the version of each entry that is written is odd until all are put.
+ghost use Rattle.std.specs.Prelude.{◌≡◌, ◌≢◌, suc, ◌+◌, ◌^◌, ◌<◌, ◌≤◌, false, Some};
 ghost use Rattle.ft_layout.specs.Tables.{hash_of};
 ghost use Rattle.ft_layout.specs.Words.{FitsKey};
 ghost use Rattle.ft_model.specs.declared.reply.Reply.TheVariants as reply;
 ghost use Rattle.ft_model.specs.declared.script.Kind.TheVariants as kind;
 ghost use Rattle.ft_model.specs.Worlds.{kind_of};
 ghost use Rattle.ft_trace.specs.declared.View.{View};
-ghost use Rattle.ft_trace.specs.Addresses.{class_of};
+ghost use Rattle.ft_trace.specs.Acts.{has_committed};
+ghost use Rattle.ft_trace.specs.Addresses.{class_of, slots};
 ghost use Rattle.ft_trace.specs.Holds.{held, known};
 ghost use Rattle.ft_trace.specs.Kinds.{rows};
-ghost use Rattle.ft_trace.specs.Words.{Stands, root_in};
+ghost use Rattle.ft_trace.specs.Words.{Stands, entry_of, root_in};
 ghost use Rattle.ft_trace.specs.Worlds.{Kept, kind_in};
+ghost use Rattle.ft_trace.specs.Writes.{MayPuts, with_puts};
 ghost use Rattle.ft_bank.specs.Passes.{shape_of, view, IsPassOf};
 ghost use Rattle.ft_bank.specs.Sections.{stack_of};
 ghost use Rattle.ft_bank.specs.Tables.{name_of};
 ghost use Rattle.ft_bank.specs.Whole.{EndsWrite, OnlyLoaded, OnlyPut};
-ghost use Rattle.ft_search.specs.Held.{IsHeldAt};
 ghost use Rattle.ft_search.specs.Rounds.{kind_by};
 ghost use Rattle.ft_search.specs.Writing.{WritesEntries};
 ghost use Rattle.ft_adding.specs.declared.counts.Counts.{Counts};
-ghost use Rattle.ft_adding.specs.Growing.{IsFreeFor, KnowsKeyed, holds};
+ghost use Rattle.ft_adding.specs.Growing.{KnowsKeyed};
 ghost use Rattle.ft_merging.specs.Joining.{joined};
-ghost use Rattle.ft_merging.specs.Internal.Joining.{IsJoining, KeepsBelow};
+ghost use Rattle.ft_merging.specs.Internal.Joining.{IsJoining, IsSought, KeepsBelow, stored_puts};
 ghost use Rattle.ft_merging.specs.Internal.Writing.{MayFinishAll};
 
 use crate::closing::finish_entries;
 use crate::reading::pair_at;
 use ft_adding::{Counts, put_key};
 use ft_bank::{Bank, Pass, Table};
-use ft_keys::{Found, Way, placed_pairs_are_of_a_table, searches_end_at_the_first_free_slot};
+use ft_keys::{Way, placed_pairs_are_of_a_table, searches_end_at_the_first_free_slot};
 use ft_layout::{
-    Pair, used_entries_follow_a_dict, used_entries_follow_a_set, versions_change_nothing,
+    Pair, Stored, used_entries_follow_a_dict, used_entries_follow_a_set, versions_change_nothing,
     words_are_of_one_content, words_follow_a_dict, words_follow_a_set,
 };
 use ft_model::{Call, Key, Reply};
-use ft_search::read_by;
+use ft_search::{Spot, put_value, read_by, spot_of};
 use ft_section::Object;
 
-/// The first slot for a key that was never used, in the table of a container that is written and hasn't the key.
-fn free_in(
+/// Where a key is in the table of a container that is written.
+fn seek_in(
     bank: &Bank,
     pass: &mut Pass,
     o: Object,
@@ -47,32 +48,55 @@ fn free_in(
     own: Table,
     key: Key,
     hash: u64,
-) -> Option<u64>
+) -> Spot
     requires pass { IsPassOf bank.now pass.old }
     requires writes { WritesEntries (shape_of bank.now) o own (view pass.old) }
     requires hash { hash ≡ hash_of (shape_of bank.now).texts key }
     requires fits { FitsKey key }
-    requires sets { kind_by way ≡ kind.Set }
     ensures pass { IsPassOf bank.now pass.new }
     ensures stack { stack_of pass.new ≡ stack_of pass.old }
     ensures only { OnlyLoaded (view pass.old) (view pass.new) }
     ensures low { hash_of (shape_of bank.now).texts key < 2 ^ 64 }
-    ensures free { (slot : ℕ) → result ≡ Some slot → (mid : Kept) → kind_of mid.content ≡ kind_by way →
+    ensures spot { (mid : Kept) → kind_of mid.content ≡ kind_by way →
         Stands (shape_of bank.now).texts (held o (view pass.old)) mid →
-        IsFreeFor (shape_of bank.now).texts way own.class key (held o (view pass.old)).table slot
-        × IsHeldAt mid.content key None }
-    ensures there { result ≡ None → (mid : Kept) → kind_of mid.content ≡ kind_by way →
-        Stands (shape_of bank.now).texts (held o (view pass.old)) mid → holds mid.content key ≡ true }
+        IsSought (shape_of bank.now) way own key (held o (view pass.old)) mid.content result }
 {
     used_entries_follow_a_dict();
     used_entries_follow_a_set();
     searches_end_at_the_first_free_slot();
-    let (found, _) = read_by(bank, pass, o, way, key, hash, own);
-    match found {
-        Found::Free(slot) => Some(slot),
-        Found::At(..) => None,
-        Found::Was(..) => None,
-        Found::Spent => None,
+    let (found, read) = read_by(bank, pass, o, way, key, hash, own);
+    spot_of(own, found, read)
+}
+
+/// Puts what is stored at a key into the entry that has the key: another value. An element of a set has none.
+fn put_stored(
+    bank: &Bank,
+    pass: &mut Pass,
+    o: Object,
+    own: Table,
+    place: u64,
+    stored: Stored,
+    old: (u64, u64),
+)
+    requires pass { IsPassOf bank.now pass.old }
+    requires writes { WritesEntries (shape_of bank.now) o own (view pass.old) }
+    requires place { place < rows (kind_in (shape_of bank.now).kinds o) (class_of (name_of own)) }
+    requires early { has_committed o (view pass.old).log ≡ false }
+    requires old_kind { old.0 ≡ entry_of (slots (class_of (name_of own))) (held o (view pass.old)).table place 4 }
+    requires old_payload { old.1 ≡ entry_of (slots (class_of (name_of own))) (held o (view pass.old)).table place 5 }
+    requires may { MayPuts (kind_in (shape_of bank.now).kinds o) (name_of own) (known o (view pass.old)).content false
+        (held o (view pass.old))
+        (stored_puts (slots (class_of (name_of own))) (held o (view pass.old)).table place stored) }
+    ensures pass { IsPassOf bank.now pass.new }
+    ensures stack { stack_of pass.new ≡ stack_of pass.old }
+    ensures writes { WritesEntries (shape_of bank.now) o own (view pass.new) }
+    ensures only { OnlyPut o (view pass.old) (view pass.new) }
+    ensures words { held o (view pass.new) ≡ with_puts (held o (view pass.old))
+        (stored_puts (slots (class_of (name_of own))) (held o (view pass.old)).table place stored) }
+{
+    match stored {
+        Stored::Plain(value) => put_value(bank, pass, o, own, place, value, old),
+        Stored::Empty | Stored::Boxed(..) => (),
     }
 }
 
@@ -106,7 +130,6 @@ fn join_at(
     requires two { o ≢ t }
     requires other { KnowsKeyed (shape_of bank.now) t (Some table) (view pass.old) }
     requires other_way { kind_in (shape_of bank.now).kinds t ≡ kind_by way }
-    requires sets { kind_by way ≡ kind.Set }
     requires place { place < (known t (view pass.old)).table.fill }
     requires joining { IsJoining (shape_of bank.now) o way own t table
         (joined (known o (view pass.old)).content (known t (view pass.old)).content) end place counts (view pass.old) }
@@ -117,7 +140,8 @@ fn join_at(
         (joined (known o (view pass.old)).content (known t (view pass.old)).content) end (place + 1) result
         (view pass.new) }
     ensures more { counts.fill ≤ result.fill }
-    ensures keeps { KeepsBelow (name_of own) counts.fill (held o (view pass.old)) (held o (view pass.new)) }
+    ensures keeps { kind_by way ≡ kind.Set →
+        KeepsBelow (name_of own) counts.fill (held o (view pass.old)) (held o (view pass.new)) }
 {
     let _ = end;
     versions_change_nothing();
@@ -130,17 +154,21 @@ fn join_at(
     let Some(pair) = pair_at(bank, pass, t, table, place) else {
         return counts;
     };
-    let Some(slot) = free_in(bank, pass, o, way, own, pair.key, pair.hash) else {
-        return counts;
-    };
-    let new = Pair {
-        hash: pair.hash,
-        key: pair.key,
-        value: pair.value,
-        serial: counts.next,
-    };
-    put_key(bank, pass, o, own, slot, counts, &new);
-    one_more(counts)
+    match seek_in(bank, pass, o, way, own, pair.key, pair.hash) {
+        Spot::At(_, at, kind, payload) => {
+            put_stored(bank, pass, o, own, at, pair.value, (kind, payload));
+            counts
+        }
+        Spot::Free(_, slot) => {
+            let new = Pair {
+                serial: counts.next,
+                ..pair
+            };
+            put_key(bank, pass, o, own, slot, counts, &new);
+            one_more(counts)
+        }
+        Spot::Bare => counts,
+    }
 }
 
 /// Puts the pairs of as many entries into a container that is written. Answers what it counts then.
@@ -160,7 +188,6 @@ pub(crate) fn join_all(
     requires two { o ≢ t }
     requires other { KnowsKeyed (shape_of bank.now) t (Some table) (view pass.old) }
     requires other_way { kind_in (shape_of bank.now).kinds t ≡ kind_by way }
-    requires sets { kind_by way ≡ kind.Set }
     requires fill { fill ≡ (known t (view pass.old)).table.fill }
     requires joining { IsJoining (shape_of bank.now) o way own t table
         (joined (known o (view pass.old)).content (known t (view pass.old)).content) end 0 first (view pass.old) }
@@ -169,7 +196,8 @@ pub(crate) fn join_all(
     ensures only { OnlyPut o (view pass.old) (view pass.new) }
     ensures joining { IsJoining (shape_of bank.now) o way own t table
         (joined (known o (view pass.old)).content (known t (view pass.old)).content) end fill result (view pass.new) }
-    ensures keeps { KeepsBelow (name_of own) first.fill (held o (view pass.old)) (held o (view pass.new)) }
+    ensures keeps { kind_by way ≡ kind.Set →
+        KeepsBelow (name_of own) first.fill (held o (view pass.old)) (held o (view pass.new)) }
 {
     let mut counts = first;
     for place in 0..fill {
@@ -197,7 +225,6 @@ pub(crate) fn join_table(
     requires two { o ≢ t }
     requires other { KnowsKeyed (shape_of bank.now) t (Some table) (view pass.old) }
     requires other_way { kind_in (shape_of bank.now).kinds t ≡ kind_by way }
-    requires sets { kind_by way ≡ kind.Set }
     requires fill { fill ≡ (known t (view pass.old)).table.fill }
     requires joining { IsJoining (shape_of bank.now) o way own t table
         (joined (known o (view pass.old)).content (known t (view pass.old)).content) end 0 first (view pass.old) }

@@ -26,7 +26,7 @@ use ft_adding::{Counts, class_wanted, most_keys, read_counts};
 use ft_bank::{Bank, Pass, Table, Took};
 use ft_growth::{Added, answer_no_table, answer_over, retire_old};
 use ft_keys::Way;
-use ft_layout::{used_entries_follow_a_set, words_are_of_one_content};
+use ft_layout::{used_entries_follow_a_dict, used_entries_follow_a_set, words_are_of_one_content};
 use ft_merging::{count_lacking, own_table, part_here, thin_by};
 use ft_model::Call;
 use ft_qsbr::take;
@@ -77,6 +77,7 @@ fn part_thin(bank: &Bank, pass: &mut Pass, s: Object, t: Object, called: &Call) 
         (passes_cap (content.Set (parted (known s (view pass.old)).content (known t (view pass.old)).content))) called.now
         reply.Done (view pass.old) (view pass.new) result }
 {
+    used_entries_follow_a_dict();
     used_entries_follow_a_set();
     Added::Made(written(thin_by(bank, pass, s, t, false, called)))
 }
@@ -249,6 +250,7 @@ fn part_from(
     ensures stack { stack_of pass.new ≡ stack_of pass.old }
     ensures added { PartsBy (shape_of bank.now) s t called.now (view pass.old) (view pass.new) result }
 {
+    used_entries_follow_a_dict();
     used_entries_follow_a_set();
     words_are_of_one_content();
     let others = read_counts(bank, pass, t);

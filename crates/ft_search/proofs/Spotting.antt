@@ -2,8 +2,10 @@
 use Rattle.std.proofs.Common.{◌≡◌, ◌≢◌, ℕ, suc, ◌+◌, ◌*◌, ◌^◌, ◌<◌, List, ◌∷◌, Option, Some, None, refl, sym, ap, ◌∙◌, subst, arith}
 use Rattle.std.specs.Prelude.{slice_index}
 use Rattle.ft_model.specs.declared.content.Content.{Content}
+use Rattle.ft_model.specs.declared.content.Content.TheVariants as content
 use Rattle.ft_model.specs.declared.data.Key.{Key}
 use Rattle.ft_model.specs.declared.script.Kind.{Kind}
+use Rattle.ft_model.specs.Contents.{DictContent, SetContent}
 use Rattle.ft_layout.specs.Containers.{class_mask, IsDictWords, IsSetWords, StandsAs}
 use Rattle.ft_layout.specs.Tables.{hash_of, entry_word}
 use Rattle.ft_layout.specs.Words.{FitsKey}
@@ -43,13 +45,13 @@ use Rattle.ft_search.proofs.Places.{slots_of_class}
 abbrev pub FirstFreeSlots : Type 0
 FirstFreeSlots = (mask : ℕ) (words : List ℕ) (key : Key) (first left : List ℕ) (slot : ℕ) → EndsAt mask words key first left (Free slot) → FirstFree words first (Some slot)
 
-module _ (missing_key : MissingKeys) (missing_element : MissingElements) (first_pair : dict.FirstEntriesArePairs) (first_element : set.FirstEntriesAreElements) (free : FirstFreeSlots) (k : Shape) (o : ℕ) (key : Key) (v : View) (by : Way) (table : Table) (in_bank : IsTableIn k table) (names : root_in (held o v) ≡ suc (name_of table)) (stands : Stands k.texts (held o v) (known o v))
-    (of : IsOfWay by (known o v).content) (kind_eq : kind_in k.kinds o ≡ kind_by by) (fits : FitsKey key) (low : hash_of k.texts key < 2 ^ 64) (left : List ℕ) where
+-- in the table of a container whose words stand for this
+module _ (first_pair : dict.FirstEntriesArePairs) (first_element : set.FirstEntriesAreElements) (k : Shape) (x : Picture) (kept : Kept) (key : Key) (table : Table) (in_bank : IsTableIn k table) (names : root_in x ≡ suc (name_of table)) (stands : Stands k.texts x kept) (low : hash_of k.texts key < 2 ^ 64) (left : List ℕ) where
   abbrev c : ℕ
   c = table.class
 
   abbrev ws : List ℕ
-  ws = (held o v).table
+  ws = x.table
 
   abbrev words : List ℕ
   words = 0 ∷ 0 ∷ ws
@@ -60,47 +62,75 @@ module _ (missing_key : MissingKeys) (missing_element : MissingElements) (first_
   same_class : class_of (name_of table) ≡ c
   same_class = class_is table in_bank.2
 
-  class_some : (known o v).table.class ≡ Some c
-  class_some = class_known k.texts (held o v) (known o v) (name_of table) stands names ∙ ap Some same_class
+  class_some : kept.table.class ≡ Some c
+  class_some = class_known k.texts x kept (name_of table) stands names ∙ ap Some same_class
 
   word_is : (place w : ℕ) → entry_word mask words place w ≡ entry_of (slots c) ws place w
   word_is place w = entry_after_header ws mask place w ∙ ap (slice_index ws) (let n = slots_of_class c in let e : 8 * place + w + mask + 1 ≡ 8 * place + w + slots c = omega (arith, n) in e)
 
+  dict_says : (pairs : DictContent) → kept.content ≡ content.Dict pairs → IsDictWords k.texts x.block words (Some c) kept.table.fill pairs
+  dict_says pairs is = subst (λ (z : Option ℕ). IsDictWords k.texts x.block words z kept.table.fill pairs) class_some (subst (λ (z : Content). StandsAs k.texts x.block words kept.table z) is stands)
+
+  set_says : (elements : SetContent) → kept.content ≡ content.Set elements → IsSetWords k.texts x.block words (Some c) kept.table.fill elements
+  set_says elements is = subst (λ (z : Option ℕ). IsSetWords k.texts x.block words z kept.table.fill elements) class_some (subst (λ (z : Content). StandsAs k.texts x.block words kept.table z) is stands)
+
+  here_is : (w : Way) (slot place : ℕ) → place < rows (kind_by w) c → Searched mask words key (walk_slots w (hash_of k.texts key) mask) left (At slot place) → (place < rows (kind_by w) (class_of (name_of table))) × IsLive (slots (class_of (name_of table))) ws place key
+  here_is w slot place inside s =
+      let has = s.ends.4 in
+      subst (λ (z : ℕ). (place < rows (kind_by w) z) × IsLive (slots z) ws place key) (sym same_class) (inside, (sym (word_is place 2) ∙ has.0, sym (word_is place 3) ∙ has.1))
+
   -- the entry at which a search ended
-  entry_at_end : (w : Way) → IsOfWay w (known o v).content → (slot place : ℕ) → Searched mask words key (walk_slots w (hash_of k.texts key) mask) left (At slot place) → (place < rows (kind_by w) c) × IsLive (slots c) ws place key
-  entry_at_end way.Dict is slot place s =
-      let says : IsDictWords k.texts (held o v).block words (Some c) (known o v).table.fill is.0 = subst (λ (z : Option ℕ). IsDictWords k.texts (held o v).block words z (known o v).table.fill is.0) class_some (subst (λ (z : Content). StandsAs k.texts (held o v).block words (known o v).table z) is.1 stands) in
+  pub entry_found : (w : Way) → IsOfWay w kept.content → (slot place : ℕ) → Searched mask words key (walk_slots w (hash_of k.texts key) mask) left (At slot place) → (place < rows (kind_by w) (class_of (name_of table))) × IsLive (slots (class_of (name_of table))) ws place key
+  entry_found way.Dict is slot place s =
+      let says = dict_says is.0 is.1 in
       let finds = s.finds way.Dict k.texts says.used says.table low refl in
-      let has = s.ends.4 in
-      let room = dict.room_is first_pair k.texts (held o v).block c (known o v).table.fill in_bank.0 is.0 ws says in
+      let room = dict.room_is first_pair k.texts x.block c kept.table.fill in_bank.0 is.0 ws says in
       let few = says.table.fill in
       let inside = finds.0 in
-      (omega (arith, room, few, inside), (sym (word_is place 2) ∙ has.0, sym (word_is place 3) ∙ has.1))
-  entry_at_end way.Set is slot place s =
-      let says : IsSetWords k.texts (held o v).block words (Some c) (known o v).table.fill is.0 = subst (λ (z : Option ℕ). IsSetWords k.texts (held o v).block words z (known o v).table.fill is.0) class_some (subst (λ (z : Content). StandsAs k.texts (held o v).block words (known o v).table z) is.1 stands) in
+      here_is way.Dict slot place (omega (arith, room, few, inside)) s
+  entry_found way.Set is slot place s =
+      let says = set_says is.0 is.1 in
       let finds = s.finds way.Set k.texts says.used says.table low refl in
-      let has = s.ends.4 in
-      let room = set.room_is first_element k.texts (held o v).block c (known o v).table.fill in_bank.0 is.0 ws says in
+      let room = set.room_is first_element k.texts x.block c kept.table.fill in_bank.0 is.0 ws says in
       let few = says.table.fill in
       let inside = finds.0 in
-      (omega (arith, room, few, inside), (sym (word_is place 2) ∙ has.0, sym (word_is place 3) ∙ has.1))
+      here_is way.Set slot place (omega (arith, room, few, inside)) s
+
+  -- the words of its value
+  pub value_read : (slot place : ℕ) (read : ℕ × ℕ) → ReadsEntry mask words (At slot place) (Some read) → (read.0 ≡ entry_of (slots (class_of (name_of table))) ws place 4) × (read.1 ≡ entry_of (slots (class_of (name_of table))) ws place 5)
+  value_read slot place read reads =
+      let at : c ≡ class_of (name_of table) = sym same_class in
+      (reads.0 ∙ (word_is place 4 ∙ ap (λ (z : ℕ). entry_of (slots z) ws place 4) at), reads.1 ∙ (word_is place 5 ∙ ap (λ (z : ℕ). entry_of (slots z) ws place 5) at))
+
+  -- no search is spent
+  pub none_spent : (w : Way) → IsOfWay w kept.content → Searched mask words key (walk_slots w (hash_of k.texts key) mask) left Spent → ⊥
+  none_spent way.Dict is s = let says = dict_says is.0 is.1 in s.finds way.Dict k.texts says.used says.table low refl
+  none_spent way.Set is s = let says = set_says is.0 is.1 in s.finds way.Set k.texts says.used says.table low refl
+
+module _ (missing_key : MissingKeys) (missing_element : MissingElements) (first_pair : dict.FirstEntriesArePairs) (first_element : set.FirstEntriesAreElements) (free : FirstFreeSlots) (k : Shape) (o : ℕ) (key : Key) (v : View) (by : Way) (table : Table) (in_bank : IsTableIn k table) (names : root_in (held o v) ≡ suc (name_of table)) (stands : Stands k.texts (held o v) (known o v))
+    (of : IsOfWay by (known o v).content) (kind_eq : kind_in k.kinds o ≡ kind_by by) (fits : FitsKey key) (low : hash_of k.texts key < 2 ^ 64) (left : List ℕ) where
+  abbrev x : Picture
+  x = held o v
+
+  abbrev last : ℕ
+  last = class_mask table.class
 
   has_it : HasTable k o table v
   has_it = record { table_in = in_bank; root = names }
 
-  pub spot_is : (found : Found) (read : Option (ℕ × ℕ)) → IsWithin mask found → ((slot place : ℕ) → found ≢ Was slot place) → ReadsEntry mask words found read → Searched mask words key (walk_slots by (hash_of k.texts key) mask) left found → IsSpot k o by key v (spot_in table found read)
+  pub spot_is : (found : Found) (read : Option (ℕ × ℕ)) → IsWithin last found → ((slot place : ℕ) → found ≢ Was slot place) → ReadsEntry last (0 ∷ 0 ∷ x.table) found read → Searched last (0 ∷ 0 ∷ x.table) key (walk_slots by (hash_of k.texts key) last) left found → IsSpot k o by key v (spot_in table found read)
   spot_is (At slot place) (Some read) within live reads s =
-      let e = entry_at_end by of slot place s in
-      let at : c ≡ class_of (name_of table) = sym same_class in (
+      let e = entry_found first_pair first_element k x (known o v) key table in_bank names stands low left by of slot place s in
+      let value = value_read first_pair first_element k x (known o v) key table in_bank names stands low left slot place read reads in (
         has_it,
         record {
-          low = subst (λ (z : Kind × ℕ). place < rows z.0 z.1) (sym (λ d. (kind_eq d, same_class d))) e.0;
-          live = subst (λ (z : ℕ). IsLive (slots z) ws place key) at e.1;
+          low = subst (λ (z : Kind). place < rows z (class_of (name_of table))) (sym kind_eq) e.0;
+          live = e.1;
           fits = fits;
         },
-        key_held missing_key missing_element k.texts (held o v) (known o v) stands key first_pair first_element k table in_bank names low left (At slot place) (Some read) live reads by of s,
-        reads.0 ∙ (word_is place 4 ∙ ap (λ (z : ℕ). entry_of (slots z) ws place 4) at),
-        reads.1 ∙ (word_is place 5 ∙ ap (λ (z : ℕ). entry_of (slots z) ws place 5) at),
+        key_held missing_key missing_element k.texts x (known o v) stands key first_pair first_element k table in_bank names low left (At slot place) (Some read) live reads by of s,
+        value.0,
+        value.1,
       )
   spot_is (At slot place) None within live reads s = absurd reads
   spot_is (Was slot place) read within live reads s = absurd (live slot place refl)
@@ -108,18 +138,10 @@ module _ (missing_key : MissingKeys) (missing_element : MissingElements) (first_
   spot_is (Free slot) None within live reads s = (
     has_it,
     within,
-    free mask words key (walk_slots by (hash_of k.texts key) mask) left slot s.ends,
-    key_held missing_key missing_element k.texts (held o v) (known o v) stands key first_pair first_element k table in_bank names low left (Free slot) None live reads by of s,
+    free last (0 ∷ 0 ∷ x.table) key (walk_slots by (hash_of k.texts key) last) left slot s.ends,
+    key_held missing_key missing_element k.texts x (known o v) stands key first_pair first_element k table in_bank names low left (Free slot) None live reads by of s,
   )
-  spot_is Spent read within live reads s = absurd (ends_none by of s)
-    where
-      ends_none : (w : Way) → IsOfWay w (known o v).content → Searched mask words key (walk_slots w (hash_of k.texts key) mask) left Spent → ⊥
-      ends_none way.Dict is s =
-          let says : IsDictWords k.texts (held o v).block words (Some c) (known o v).table.fill is.0 = subst (λ (z : Option ℕ). IsDictWords k.texts (held o v).block words z (known o v).table.fill is.0) class_some (subst (λ (z : Content). StandsAs k.texts (held o v).block words (known o v).table z) is.1 stands) in
-          s.finds way.Dict k.texts says.used says.table low refl
-      ends_none way.Set is s =
-          let says : IsSetWords k.texts (held o v).block words (Some c) (known o v).table.fill is.0 = subst (λ (z : Option ℕ). IsSetWords k.texts (held o v).block words z (known o v).table.fill is.0) class_some (subst (λ (z : Content). StandsAs k.texts (held o v).block words (known o v).table z) is.1 stands) in
-          s.finds way.Set k.texts says.used says.table low refl
+  spot_is Spent read within live reads s = absurd (none_spent first_pair first_element k x (known o v) key table in_bank names stands low left by of s)
 
 -- ---- after loads
 

@@ -1,6 +1,7 @@
 -- What another value at a key of a dict leaves of its words, and that readers aren't misled by it.
 use Rattle.std.proofs.Common.{◌≡◌, ◌≢◌, ℕ, zero, suc, ◌+◌, ◌*◌, ◌%◌, ◌<◌, ◌≤◌, false, List, [], ◌∷◌, length, Option, Some, refl, sym, ap, ◌∙◌, subst, arith, get_or-set_other}
 use Rattle.std.specs.Prelude.{All, slice_index, slice_set, slice_get}
+use Rattle.std.proofs.lemmas.Option.{slice_get_within}
 use Rattle.ft_model.specs.declared.content.Content.{Content}
 use Rattle.ft_model.specs.declared.content.Content.TheVariants as content
 use Rattle.ft_model.specs.declared.content.DictPair.{DictPair}
@@ -65,7 +66,7 @@ pub record ValueLaws : Type 0 where
   pub follow : WordsFollowAValue
 
 module _ (laws : ValueLaws) (texts : List ℕ) (x : Picture) (tab : TableUse) (t : ℕ) (is_class : IsClass (class_of t)) (pairs : DictContent) (says : IsDictWords texts x.block (0 ∷ 0 ∷ x.table) (Some (class_of t)) tab.fill pairs) (class_eq : tab.class ≡ Some (class_of t)) (names : root_in x ≡ suc t) (long : slots (class_of t) + 8 * places (class_of t) ≤ length x.table)
-    (shut : Shut (λ q. entry_at (slots (class_of t)) q 0) (places (class_of t)) x.table) (p : ℕ) (key : Key) (value : Value) (low : p < places (class_of t)) (live : IsLive (slots (class_of t)) x.table p key) (fits_key : FitsKey key) (fits : FitsStored (Plain value)) where
+    (p : ℕ) (key : Key) (value : Value) (even : entry_of (slots (class_of t)) x.table p 0 % 2 ≡ 0) (low : p < places (class_of t)) (live : IsLive (slots (class_of t)) x.table p key) (fits_key : FitsKey key) (fits : FitsStored (Plain value)) where
   abbrev c : ℕ
   c = class_of t
 
@@ -104,9 +105,6 @@ module _ (laws : ValueLaws) (texts : List ℕ) (x : Picture) (tab : TableUse) (t
 
   abbrev put : List ℕ
   put = slice_set second (entry_at n p 5) pw
-
-  even : ver % 2 ≡ 0
-  even = shut p low
 
   odd : entry_of n put p 0 ≡ ver + 1
   odd = ver3 n m ws (under (content.Dict pairs)) (under (content.Dict news)) p key kw pw low long even live
@@ -148,9 +146,9 @@ module _ (laws : ValueLaws) (texts : List ℕ) (x : Picture) (tab : TableUse) (t
       ap (λ (l : List ℕ). slice_set l (layout.entry_at (class_mask c) p 5) pw) (after_header opened (layout.entry_at (class_mask c) p 4) (entry_at n p 4) kw (omega (arith, r)))
       ∙ after_header second (layout.entry_at (class_mask c) p 5) (entry_at n p 5) pw (omega (arith, r))
 
-  now : IsDictWords texts b (0 ∷ 0 ∷ put) (Some c) fill news
+  pub value_stands : IsDictWords texts b (0 ∷ 0 ∷ put) (Some c) fill news
   unfolding open_says version_put
-  now =
+  value_stands =
       let used : slice_get open_says.used p ≡ Some (used_pair mine.0) = mine.1 in
       subst (λ (z : List ℕ × Key). IsDictWords texts b z.0 (Some c) fill (dict_set pairs z.1 value)) (λ d. (same_words d, mine.2 d)) (laws.follow texts b (0 ∷ 0 ∷ opened) c fill pairs open_says p mine.0 value used fits)
 
@@ -158,23 +156,28 @@ module _ (laws : ValueLaws) (texts : List ℕ) (x : Picture) (tab : TableUse) (t
   right_before q a less l = dict.dict_right laws.first texts b c fill is_class pairs ws says q a less l
 
   right_now : (q : ℕ) (a : Key) → q < m → IsLive n put q a → under (content.Dict news) a ≡ said_of n put q
-  right_now q a less l = dict.dict_right laws.first texts b c fill is_class news put now q a less l
+  right_now q a less l = dict.dict_right laws.first texts b c fill is_class news put value_stands q a less l
 
   live_now : (a : Key) → under (content.Dict news) a ≢ [] → (q : ℕ) × (q < m) × IsLive n put q a
-  live_now a some = dict.dict_live laws.first texts b c fill is_class news put now a some
+  live_now a some = dict.dict_live laws.first texts b c fill is_class news put value_stands a some
 
   inside : (w : ℕ) → w < 8 → entry_at n p w < size c
   inside w few = keyed_low kind.Dict tt c p w low few
 
-  early : MayPuts kind.Dict t (content.Dict pairs) false x (value_puts n ws p value)
-  early =
+  -- the place is one of a used entry
+  pub value_used : p < fill
+  value_used = let low_here = slice_get_within says.used p (used_pair mine.0) mine.1 in let f = says.filled in omega (arith, low_here, f)
+
+  -- the puts may be made whatever the dict had before the write
+  pub value_early : (before : Content) → MayPuts kind.Dict t before false x (value_puts n ws p value)
+  value_early before =
       let e = even in
-      let was = under (content.Dict pairs) in
+      let was = under before in
       let will = under (content.Dict news) in
       let time = value_time n m ws was will p key kw pw low long even live (version_at kind.Dict c) (λ q. refl) in
-      let p3 : MayPut kind.Dict t (content.Dict pairs) false (record { block = b; table = second }) (to_table (entry_at n p 5) pw) = (names, inside 5 (omega arith), value_payload n m ws was will p key kw pw low long even live, time 5 pw (omega arith) (λ e. absurd (omega (arith, e)))) in
-      let p2 : MayPut kind.Dict t (content.Dict pairs) false (record { block = b; table = opened }) (to_table (entry_at n p 4) kw) = (names, inside 4 (omega arith), value_kind n m ws was will p key kw pw low long even live, time 4 kw (omega arith) (λ e. absurd (omega (arith, e)))) in
-      let p1 : MayPut kind.Dict t (content.Dict pairs) false x (to_table (entry_at n p 0) (ver + 1)) = (names, inside 0 (omega arith), value_open n m ws was will p key kw pw low long even live, time 0 (ver + 1) (omega arith) (λ _. omega (arith, e))) in
+      let p3 : MayPut kind.Dict t before false (record { block = b; table = second }) (to_table (entry_at n p 5) pw) = (names, inside 5 (omega arith), value_payload n m ws was will p key kw pw low long even live, time 5 pw (omega arith) (λ e. absurd (omega (arith, e)))) in
+      let p2 : MayPut kind.Dict t before false (record { block = b; table = opened }) (to_table (entry_at n p 4) kw) = (names, inside 4 (omega arith), value_kind n m ws was will p key kw pw low long even live, time 4 kw (omega arith) (λ e. absurd (omega (arith, e)))) in
+      let p1 : MayPut kind.Dict t before false x (to_table (entry_at n p 0) (ver + 1)) = (names, inside 0 (omega arith), value_open n m ws was will p key kw pw low long even live, time 0 (ver + 1) (omega arith) (λ _. omega (arith, e))) in
       (p1, (p2, (p3, tt)))
 
   clear : ClearAs kind.Dict texts c put (content.Dict pairs) (content.Dict news)
@@ -184,19 +187,19 @@ module _ (laws : ValueLaws) (texts : List ℕ) (x : Picture) (tab : TableUse) (t
   close = subst (λ (z : ℕ). CarefulAs kind.Dict c put (content.Dict news) (entry_at n p 0) z) next (value_late n m ws (under (content.Dict pairs)) (under (content.Dict news)) p key kw pw low long even live right_before right_now live_now)
 
   ends : Stands texts (raised_at t p (record { block = b; table = put })) (record { content = content.Dict news; table = tab })
-  ends = subst (λ (z : Option ℕ). IsDictWords texts b (0 ∷ 0 ∷ slice_set put (entry_at n p 0) (entry_of n put p 0 + 1)) z fill news) (sym class_eq) (version_put put (entry_of n put p 0 + 1) news now)
+  ends = subst (λ (z : Option ℕ). IsDictWords texts b (0 ∷ 0 ∷ slice_set put (entry_at n p 0) (entry_of n put p 0 + 1)) z fill news) (sym class_eq) (version_put put (entry_of n put p 0 + 1) news value_stands)
 
-  shut_after : Shut (version_at kind.Dict c) (rows kind.Dict c) (slice_set put (entry_at n p 0) (entry_of n put p 0 + 1))
-  shut_after = subst (λ (z : ℕ). Shut (version_at kind.Dict c) (rows kind.Dict c) (slice_set put (entry_at n p 0) z)) next (value_shut n m ws (under (content.Dict pairs)) (under (content.Dict news)) p key kw pw low long even live shut)
+  shut_after : Shut (λ q. entry_at n q 0) m ws → Shut (version_at kind.Dict c) (rows kind.Dict c) (slice_set put (entry_at n p 0) (entry_of n put p 0 + 1))
+  shut_after shut = subst (λ (z : ℕ). Shut (version_at kind.Dict c) (rows kind.Dict c) (slice_set put (entry_at n p 0) z)) next (value_shut n m ws (under (content.Dict pairs)) (under (content.Dict news)) p key kw pw low long even live shut)
 
-  value_changes : Changing texts t x (record { content = content.Dict pairs; table = tab }) p (value_puts n ws p value) (record { content = content.Dict news; table = tab })
-  value_changes = record {
-    puts = early;
+  pub value_changes : Shut (λ q. entry_at n q 0) m ws → Changing texts t x (record { content = content.Dict pairs; table = tab }) p (value_puts n ws p value) (record { content = content.Dict news; table = tab })
+  value_changes shut = record {
+    puts = value_early (content.Dict pairs);
     clear = clear;
     odd = let o = odd in let e = even in omega (arith, o, e);
     close = close;
     stands = ends;
-    shut = shut_after;
+    shut = shut_after shut;
   }
 
 -- as the pass knows the dict
@@ -214,7 +217,7 @@ values_known laws k o table v shape possible may is has place key value fits ent
         let class = class_known k.texts (held o v) (record { content = content.Dict pairs; table = u }) t stands has.root in
         let says : IsDictWords k.texts (held o v).block (0 ∷ 0 ∷ (held o v).table) (Some (class_of t)) u.fill pairs = subst (λ (z : Option ℕ). IsDictWords k.texts (held o v).block (0 ∷ 0 ∷ (held o v).table) z u.fill pairs) class stands in
         let long = table_is_long v o t has.root in
-        value_changes laws k.texts (held o v) u t (table_class k table has.table_in) pairs says class has.root (omega (arith, long)) shut place key value low entry.live entry.fits fits
+        value_changes laws k.texts (held o v) u t (table_class k table has.table_in) pairs says class has.root (omega (arith, long)) place key value (shut place low) low entry.live entry.fits fits shut
     by (content.Set elements) u e stands low shut = absurd (cc)
     by (content.List values) u e stands low shut = absurd (cc)
 

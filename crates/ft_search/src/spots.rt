@@ -34,7 +34,7 @@ pub enum Spot {
 }
 
 /// What the end of a search and the words that were read there come to.
-fn spot_of(table: Table, found: Found, read: Option<(u64, u64)>) -> Spot
+pub fn spot_of(table: Table, found: Found, read: Option<(u64, u64)>) -> Spot
     ensures { result ≡ spot_in table found read }
 {
     match found {

@@ -58,8 +58,8 @@ fn put_other(
     }
 }
 
-/// Puts a value into the entry at a place, whose words were read, before the commit.
-fn put_value(
+/// Puts a value into the entry at a place, whose words were read, before the commit. Other entries may be written too.
+pub fn put_value(
     bank: &Bank,
     pass: &mut Pass,
     o: u32,

@@ -29,17 +29,8 @@ use Rattle.ft_merging.specs.Joining.{JoinsKeys, join_takes, joined, new_keys}
 use Rattle.ft_merging.specs.Parting.{PartsSets}
 use Rattle.ft_merging.proofs.Finished.{is_set}
 use Rattle.ft_merging.proofs.JoinedContents.{or_length}
+use Rattle.ft_merging.proofs.Pairs.{named_cap}
 use Rattle.ft_set.proofs.Leaving.{many, many_tables, set_is, table_is, there}
-
--- whether one of two containers has too many, where the other one hasn't if the first has few; or of one named twice
-named_cap : (f : ℕ → Content) (s t : ℕ) (b over : Bool) → passes_cap (f s) ≡ over → (over ≡ false → passes_cap (f t) ≡ false) → list_any passes_cap (map f (cond b (s ∷ []) (s ∷ t ∷ []))) ≡ over
-named_cap f s t true over one other = ap (λ (z : Bool). z || false) one ∙ by over
-  where
-    by : (z : Bool) → (z || false) ≡ z
-    by true = refl
-    by false = refl
-named_cap f s t false true one other = ap (λ (z : Bool). z || (passes_cap (f t) || false)) one
-named_cap f s t false false one other = λ i. one i || (other refl i || false)
 
 -- ---- what such a call leaves, whatever it makes of the two
 

@@ -22,7 +22,7 @@ ghost use Rattle.ft_merging.specs.Parting.{PartsBy};
 use ft_bank::{Bank, Pass};
 use ft_growth::{Added, step_of};
 use ft_keys::Way;
-use ft_layout::used_entries_follow_a_set;
+use ft_layout::{used_entries_follow_a_dict, used_entries_follow_a_set};
 use ft_merging::{join_by, thin_by};
 use ft_model::{Call, Reply, SetCall};
 use ft_parting::part_by;
@@ -140,6 +140,7 @@ pub fn or_by(bank: &Bank, pass: &mut Pass, s: Object, t: Object) -> Added
     ensures stack { stack_of pass.new ≡ stack_of pass.old }
     ensures added { JoinsBy (shape_of bank.now) s t (call.Set s (set.Or t)) (view pass.old) (view pass.new) result }
 {
+    used_entries_follow_a_dict();
     used_entries_follow_a_set();
     let called = Call::Set {
         container: s,
@@ -197,6 +198,7 @@ pub fn xor_by(bank: &Bank, pass: &mut Pass, s: Object, t: Object) -> Added
     ensures stack { stack_of pass.new ≡ stack_of pass.old }
     ensures added { PartsBy (shape_of bank.now) s t (call.Set s (set.Xor t)) (view pass.old) (view pass.new) result }
 {
+    used_entries_follow_a_dict();
     used_entries_follow_a_set();
     let called = Call::Set {
         container: s,

@@ -8,23 +8,30 @@ use Rattle.ft_layout.specs.declared.slot.Pair.{Pair}
 use Rattle.ft_layout.specs.declared.slot.Slot.{Slot}
 use Rattle.ft_layout.specs.declared.slot.Slot.TheVariants.{Gone, Live, Never}
 use Rattle.ft_layout.specs.declared.slot.Stored.{Stored}
+use Rattle.ft_layout.specs.declared.slot.Stored.TheVariants.{Boxed, Empty, Plain}
 use Rattle.ft_layout.specs.Containers.{class_mask}
 use Rattle.ft_layout.specs.Tables.{UsedEntry, is_live}
+use Rattle.ft_layout.specs.Words.{FitsKey}
 use Rattle.ft_keys.specs.declared.walk.Way.{Way}
 use Rattle.ft_keys.specs.Ways.{IsTableOf}
 use Rattle.ft_trace.specs.declared.Shape.{Shape}
 use Rattle.ft_trace.specs.declared.View.{View}
 use Rattle.ft_trace.specs.Addresses.{class_of, slots}
-use Rattle.ft_trace.specs.Carefuls.{IsDead}
+use Rattle.ft_trace.specs.Carefuls.{IsDead, IsLive}
+use Rattle.ft_trace.specs.EntryWrites.{value_puts}
 use Rattle.ft_trace.specs.Holds.{held, known}
 use Rattle.ft_trace.specs.Kinds.{rows}
 use Rattle.ft_trace.specs.Words.{Picture, entry_of}
 use Rattle.ft_trace.specs.Worlds.{kind_in}
+use Rattle.ft_trace.specs.Writes.{Put}
 use Rattle.ft_bank.specs.declared.table.Table.{Table}
 use Rattle.ft_bank.specs.Tables.{name_of}
+use Rattle.ft_search.specs.declared.spots.Spot.{Spot}
+use Rattle.ft_search.specs.declared.spots.Spot.TheVariants as spot
+use Rattle.ft_search.specs.Held.{IsHeldAt}
 use Rattle.ft_search.specs.Rounds.{kind_by}
 use Rattle.ft_adding.specs.declared.counts.Counts.{Counts}
-use Rattle.ft_adding.specs.Growing.{holds}
+use Rattle.ft_adding.specs.Growing.{IsFreeFor, holds}
 use Rattle.ft_adding.specs.Placing.{StoresAs, with_key}
 use Rattle.ft_merging.specs.Internal.Writing.{IsMidway, version_of}
 
@@ -55,6 +62,10 @@ lacking content (entry ∷ later) =
 abbrev pub Apart : UsedEntry → UsedEntry → Type 0
 Apart a b = is_live a ≡ true → is_live b ≡ true → a.key ≢ b.key
 
+-- none of them is there with the key
+abbrev pub NoneOf : Key → List UsedEntry → Type 0
+NoneOf key = All (λ (entry : UsedEntry). is_live entry ≡ true → key ≢ entry.key)
+
 -- an entry stores what a dict has at a key, or nothing as a set does
 abbrev pub StoresIn : Kind → UsedEntry → Type 0
 StoresIn kind entry = (stored : Stored) → entry.stored ≡ Some stored → StoresAs kind stored
@@ -75,6 +86,12 @@ pub record AreLeft (kind : Kind) (content goal : Content) (fill end : ℕ) (left
 abbrev pub NoneGone : ℕ → ℕ → Picture → Type 0
 NoneGone t m x =
     (p : ℕ) (key : Key) → p < m → version_of t x p % 2 ≡ 1 → IsDead (slots (class_of t)) x.table p key → ⊥
+
+-- an entry whose version is odd has a key that none of these has, which are still to be put
+abbrev pub NoneAhead : ℕ → ℕ → Picture → List UsedEntry → Type 0
+NoneAhead t m x left =
+    (p : ℕ) (key : Key) → p < m → version_of t x p % 2 ≡ 1 → FitsKey key → IsLive (slots (class_of t)) x.table p key
+    → NoneOf key left
 
 -- the words of entries before this place are as they were
 abbrev pub KeepsBelow : ℕ → ℕ → Picture → Picture → Type 0
@@ -101,3 +118,24 @@ pub record IsJoining (k : Shape) (o : ℕ) (way : Way) (own : Table) (t : ℕ) (
   pub filled : length used ≡ (known t v).table.fill
   pub source : IsTableOf way k.texts (class_mask (class_of (name_of table))) used (0 ∷ 0 ∷ (held t v).table)
   pub left : AreLeft (kind_by way) mid goal counts.fill end (drop place used)
+  pub ahead : NoneAhead (name_of own) (rows (kind_in k.kinds o) (class_of (name_of own))) (held o v) (drop place used)
+
+-- Where a key is in the table of a container that is written, whose words stand for this content: in the entry at this
+-- place, with these words of its value; or nowhere, and this slot is the one for it. No search there ends otherwise.
+abbrev pub IsSought : Shape → Way → Table → Key → Picture → Content → Spot → Type 0
+IsSought k way own key x mid (spot.At table place kind payload) =
+    (place < rows (kind_by way) (class_of (name_of own)))
+    × IsLive (slots (class_of (name_of own))) x.table place key
+    × (holds mid key ≡ true)
+    × (kind ≡ entry_of (slots (class_of (name_of own))) x.table place 4)
+    × (payload ≡ entry_of (slots (class_of (name_of own))) x.table place 5)
+IsSought k way own key x mid (spot.Free table slot) =
+    IsFreeFor k.texts way own.class key x.table slot × IsHeldAt mid key None
+IsSought k way own key x mid spot.Bare = ⊥
+
+-- what is put before the commit where a key is that is there: another value, with the entry's version odd; an element
+-- of a set has none
+abbrev pub stored_puts : ℕ → List ℕ → ℕ → Stored → List Put
+stored_puts n words place (Plain value) = value_puts n words place value
+stored_puts n words place Empty = []
+stored_puts n words place (Boxed block) = []

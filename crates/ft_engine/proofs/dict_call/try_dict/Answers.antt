@@ -6,8 +6,7 @@ use Rattle.ft_model.specs.declared.reply.Reply.TheVariants as reply
 use Rattle.ft_model.specs.Calls.{cursor_of_dict}
 use Rattle.ft_bank.specs.Passes.{shape_of, view}
 use Rattle.ft_section.specs.declared.answers.Objects.TheVariants.{One, Two}
-use Rattle.ft_engine.specs.Names.{IsBuiltDict}
-use Rattle.ft_engine.proofs.KeyedCalls.{copies_outcome, default_outcome, dict_tried, keyed_clear_outcome, keyed_copy_outcome, puts_outcome}
+use Rattle.ft_engine.proofs.KeyedCalls.{copies_outcome, default_outcome, dict_tried, joins_outcome, keyed_clear_outcome, keyed_copy_outcome, puts_outcome}
 use Rattle.ft_engine.proofs.Outcomes.{made_outcome, read_outcome}
 use Rattle.ft_engine.proofs.dict_call.try_dict.Goals as goal
 
@@ -80,3 +79,8 @@ pub returns-in-CopyTo : goal.returns-in-CopyTo
 returns-in-CopyTo c hands =
     dict_tried c.args.bank.now c.args.pass.now c.try_copyto.new.pass hands c.args.d c.args.call.now (dict.CopyTo c.in-CopyTo.other) (Two c.args.d c.in-CopyTo.other) c.try_copyto.result c.in-CopyTo.is refl c.try_copyto.ensures.sections
     (copies_outcome (shape_of c.args.bank.now) c.args.d c.in-CopyTo.other (view c.args.pass.now) (view c.try_copyto.new.pass) c.try_copyto.result c.requires.left c.try_copyto.ensures.tried)
+
+pub returns-in-Update : goal.returns-in-Update
+returns-in-Update c hands =
+    dict_tried c.args.bank.now c.args.pass.now c.try_update.new.pass hands c.args.d c.args.call.now (dict.Update c.in-Update.other) (Two c.args.d c.in-Update.other) c.try_update.result c.in-Update.is refl c.try_update.ensures.sections
+    (joins_outcome (shape_of c.args.bank.now) c.args.d c.in-Update.other (call.Dict c.args.d (dict.Update c.in-Update.other)) (view c.args.pass.now) (view c.try_update.new.pass) c.try_update.result c.requires.left c.try_update.ensures.tried)

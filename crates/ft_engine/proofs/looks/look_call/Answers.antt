@@ -5,7 +5,7 @@ use Rattle.ft_model.specs.declared.call.Call.TheVariants as call
 use Rattle.ft_bank.specs.Passes.{shape_of}
 use Rattle.ft_engine.specs.Answering.{Looked}
 use Rattle.ft_engine.specs.Contentions.{may_look}
-use Rattle.ft_engine.specs.Names.{IsBuilt, IsCallIn}
+use Rattle.ft_engine.specs.Names.{IsCallIn}
 use Rattle.ft_engine.proofs.LookFirst.{locked_dict, locked_list, locked_set}
 use Rattle.ft_engine.proofs.looks.look_call.Goals as goal
 
@@ -14,9 +14,6 @@ look_dict-requires-clause-names c = (subst (IsCallIn (shape_of c.args.bank.now) 
 
 pub look_dict-requires-clause-key : goal.look_dict-requires-clause-key
 look_dict-requires-clause-key c = (subst (IsCallIn (shape_of c.args.bank.now) c.requires.names.0) c.in-Dict.is c.requires.names.1).2
-
-pub look_dict-requires-clause-built : goal.look_dict-requires-clause-built
-look_dict-requires-clause-built c = subst IsBuilt c.in-Dict.is c.requires.built
 
 pub returns-in-Dict-clause-looked : goal.returns-in-Dict-clause-looked
 returns-in-Dict-clause-looked c = subst (λ (x : Call). Looked x c.args.pass.now c.look_dict.new.pass c.look_dict.result) (sym c.in-Dict.is) c.look_dict.ensures.looked

@@ -15,14 +15,15 @@ use Rattle.ft_bank.specs.Tables.{name_of}
 use Rattle.ft_bank.proofs.Whole.{loaded_then, work_knows}
 use Rattle.ft_adding.specs.Growing.{holds}
 use Rattle.ft_merging.specs.Internal.Joining.{pair_in}
-use Rattle.ft_merging.proofs.JoinedReads.{Source, entry_used, holds_at, holds_none, new_is, none_found, none_used, pair_used, source_known}
+use Rattle.ft_merging.proofs.JoinedPairs.{source_known}
+use Rattle.ft_merging.proofs.JoinedReads.{Source, entry_used, holds_at, holds_none, new_is, none_found, none_used, pair_used}
 use Rattle.ft_merging.proofs.counting.is_new_at.Goals as goal
 use Rattle.ft_merging.proofs.counting.is_new_at.Goals.{After-pair_at, After-seek_by, After-used_entries_follow_a_set}
 
 source : (c : After-used_entries_follow_a_set) → Source (shape_of c.args.bank.now) c.args.way c.args.t c.args.table (view c.args.pass.now)
 source c =
     let a = c.args in
-    source_known c.used_entries_follow_a_set.ensures.first (shape_of a.bank.now) a.t a.table (view a.pass.now) c.requires.pass.1 a.pass.now.possible c.requires.other a.way c.requires.sets c.requires.other_way
+    source_known (record { pairs = c.used_entries_follow_a_dict.ensures.first; elements = c.used_entries_follow_a_set.ensures.first }) (shape_of a.bank.now) a.t a.table (view a.pass.now) c.requires.pass.1 a.pass.now.possible c.requires.other a.way c.requires.other_way
 
 -- what was found at the place
 found : (c : After-pair_at) (used : List UsedEntry) → IsTableOf c.args.way (shape_of c.args.bank.now).texts (class_mask (class_of (name_of c.args.table))) used (0 ∷ 0 ∷ (held c.args.t (view c.args.pass.now)).table) → length used ≡ (known c.args.t (view c.args.pass.now)).table.fill → (any : UsedEntry)
@@ -89,7 +90,7 @@ returns-in-At-clause-new c used says filled any =
     let s = c.in-At.ensures.spot in
     let e = c.seek_by.ensures in
     told at.After-seek_by true
-    (holds_at (shape_of a.bank.now) (view c.seek_by.new.pass) a.o _ c.in-Some.pair.key _ _ e.pass.1 c.seek_by.new.pass.possible e.may s.0 (c.requires.way ∙ c.requires.sets) e.key s.2)
+    (holds_at (shape_of a.bank.now) (view c.seek_by.new.pass) a.o _ c.in-Some.pair.key _ _ e.may s.0 e.key s.2)
     used says filled any (found at.After-pair_at used says filled any)
 
 pub returns-in-Free-clause-new : goal.returns-in-Free-clause-new

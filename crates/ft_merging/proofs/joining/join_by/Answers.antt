@@ -9,19 +9,17 @@ use Rattle.ft_search.proofs.Spotting.{may_loaded}
 use Rattle.ft_adding.specs.Growing.{KnowsKeyed}
 use Rattle.ft_adding.proofs.Taken.{has_loaded}
 use Rattle.ft_merging.specs.Joining.{JoinsKeys, joined}
-use Rattle.ft_merging.proofs.JoinedCalls.{bare_joined, joins_by, joins_later, joins_then, set_itself}
+use Rattle.ft_merging.proofs.JoinedCalls.{joins_by, joins_later, joins_then}
+use Rattle.ft_merging.proofs.JoinedSame.{known_bare, known_itself, none_joined}
 use Rattle.ft_merging.proofs.joining.join_by.Goals as goal
 use Rattle.ft_merging.proofs.joining.join_by.Goals.{After-own_table}
-
-pub join_nothing-requires-clause-set : goal.join_nothing-requires-clause-set
-join_nothing-requires-clause-set c = c.requires.way ∙ c.requires.sets
 
 pub join_nothing-requires-clause-same : goal.join_nothing-requires-clause-same
 join_nothing-requires-clause-same c =
     let a = c.args in
     let v = view a.pass.now in
     ap (λ (p : ℕ). joined (known a.o v).content (known p v).content) (sym c.if-o-t.true)
-    ∙ set_itself (known a.o v).content (kind_is (shape_of a.bank.now) v a.o c.requires.pass.1 a.pass.now.possible c.requires.may.locked ∙ (c.requires.way ∙ c.requires.sets))
+    ∙ known_itself (shape_of a.bank.now) a.o v c.requires.pass.1 a.pass.now.possible c.requires.may.keyed c.requires.may.locked c.requires.may.stands
 
 pub returns-then-o-t-clause-added : goal.returns-then-o-t-clause-added
 returns-then-o-t-clause-added c = let v = view c.args.pass.now in (v, loaded_same v, c.join_nothing.ensures.added)
@@ -39,9 +37,6 @@ joins c =
 pub join_nothing-requires-in_default-clause-may : goal.join_nothing-requires-in_default-clause-may
 join_nothing-requires-in_default-clause-may c = may_loaded (shape_of c.args.bank.now) c.args.o (view c.args.pass.now) (view c.own_table.new.pass) c.own_table.ensures.only c.requires.may
 
-pub join_nothing-requires-in_default-clause-set : goal.join_nothing-requires-in_default-clause-set
-join_nothing-requires-in_default-clause-set c = c.requires.way ∙ c.requires.sets
-
 pub join_nothing-requires-in_default-clause-joins : goal.join_nothing-requires-in_default-clause-joins
 join_nothing-requires-in_default-clause-joins c = joins (goal.at.join_nothing-requires-in_default-clause-joins c).After-own_table
 
@@ -56,8 +51,9 @@ join_nothing-requires-in_default-clause-same c =
     let u = view c.own_table.new.pass in
     let e = c.own_table.ensures in
     let bare = subst (λ (z : Option Table). KnowsKeyed k a.t z u) (none_named c.own_table.result c.in_default.not-Some) e.knows in
-    bare_joined k a.t u e.pass.1 c.own_table.new.pass.possible bare (c.requires.other_way ∙ c.requires.sets) (known a.o u).content
-    (kind_is k u a.o e.pass.1 c.own_table.new.pass.possible (e.only.work.pass.locks a.o ∙ c.requires.may.locked) ∙ (c.requires.way ∙ c.requires.sets))
+    let kinds = kind_is k u a.o e.pass.1 c.own_table.new.pass.possible (e.only.work.pass.locks a.o ∙ c.requires.may.locked) ∙ c.requires.way in
+    let others = kind_is k u a.t e.pass.1 c.own_table.new.pass.possible bare.locked ∙ c.requires.other_way in
+    none_joined (known a.o u).content (known a.t u).content (others ∙ sym kinds) (known_bare k a.t u e.pass.1 c.own_table.new.pass.possible bare.keyed bare.locked bare.stands bare.root)
 
 pub returns-in_default-clause-added : goal.returns-in_default-clause-added
 returns-in_default-clause-added c =

@@ -18,8 +18,10 @@ use Rattle.ft_adding.proofs.Taken.{has_loaded}
 use Rattle.ft_adding.proofs.Wanted.{most_few}
 use Rattle.ft_merging.specs.Joining.{new_keys}
 use Rattle.ft_merging.proofs.Joined.{cap_few, joined_more}
-use Rattle.ft_merging.proofs.JoinedCalls.{few_rows, joins_by, joins_later, set_cap}
-use Rattle.ft_merging.proofs.JoinedReads.{Source, knows_loaded, source_known}
+use Rattle.ft_merging.proofs.JoinedCalls.{few_rows, joins_by, joins_later}
+use Rattle.ft_merging.proofs.JoinedSame.{known_cap}
+use Rattle.ft_merging.proofs.JoinedPairs.{source_known}
+use Rattle.ft_merging.proofs.JoinedReads.{Source, knows_loaded}
 use Rattle.ft_merging.proofs.joining.join_from.Goals as goal
 use Rattle.ft_merging.proofs.joining.join_from.Goals.{After-own_table-old}
 
@@ -42,7 +44,7 @@ mid c = knows_loaded (shape_of c.args.bank.now) c.args.t (Some c.args.table) (vi
 source : (c : After-own_table-old) → Source (shape_of c.args.bank.now) c.args.way c.args.t c.args.table (view c.read_counts-counts.new.pass)
 source c =
     let a = c.args in
-    source_known c.used_entries_follow_a_set.ensures.first (shape_of a.bank.now) a.t a.table (view c.read_counts-counts.new.pass) c.read_counts-counts.ensures.pass.1 c.read_counts-counts.new.pass.possible (mid c) a.way c.requires.sets c.requires.other_way
+    source_known (record { pairs = c.used_entries_follow_a_dict.ensures.first; elements = c.used_entries_follow_a_set.ensures.first }) (shape_of a.bank.now) a.t a.table (view c.read_counts-counts.new.pass) c.read_counts-counts.ensures.pass.1 c.read_counts-counts.new.pass.possible (mid c) a.way c.requires.other_way
 
 kinds : (c : After-own_table-old) → kind_of (known c.args.o (view c.read_counts-counts.new.pass)).content ≡ kind_by c.args.way
 kinds c =
@@ -93,9 +95,9 @@ join_more-requires-clause-few c =
     let u = view c.own_table-old.new.pass in
     let n = (counts_known c.words_are_of_one_content.ensures.head k a.o c.own_table-old.result u c.read_counts-counts.result c.own_table-old.ensures.knows (counts d)).0 in
     let same = ap (λ (z : Kept). length_of z.content) (work_knows v u a.o (all d).work) in
-    let cap = cap_few (known a.o v).content (set_cap c.used_entries_follow_a_set.ensures.first k a.o v c.requires.pass.1 a.pass.now.possible c.requires.may (c.requires.way ∙ c.requires.sets)) in
+    let cap = cap_few (known a.o v).content (known_cap k a.o v c.requires.pass.1 a.pass.now.possible c.requires.may.keyed c.requires.may.locked c.requires.may.stands (record { pairs = c.used_entries_follow_a_dict.ensures.first; elements = c.used_entries_follow_a_set.ensures.first })) in
     let most = most_few (known a.o v).content in
-    let s = source_known c.used_entries_follow_a_set.ensures.first k a.t a.table v c.requires.pass.1 a.pass.now.possible c.requires.other a.way c.requires.sets c.requires.other_way in
+    let s = source_known (record { pairs = c.used_entries_follow_a_dict.ensures.first; elements = c.used_entries_follow_a_set.ensures.first }) k a.t a.table v c.requires.pass.1 a.pass.now.possible c.requires.other a.way c.requires.other_way in
     let rows_few = few_rows k a.table (kind_by a.way) (known a.t v).table.fill (c.requires.other.table_in a.table refl) (subst IsKeyed c.requires.other_way c.requires.other.keyed) s.few in
     let less = c.count_new-more.ensures.few in
     let f = full d in

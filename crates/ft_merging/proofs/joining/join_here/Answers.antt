@@ -26,7 +26,7 @@ shape c = ap (λ (z : View). z.shape) c.start_write.ensures.1 ∙ c.requires.pas
 room : (c : After-start_write) → c.args.counts.fill + c.args.more ≤ rows (kind_in (shape_of c.args.bank.now).kinds c.args.o) (class_of (name_of c.args.own))
 room c =
     let a = c.args in
-    here_room c.words_are_of_one_content.ensures.head c.used_entries_follow_a_set.ensures.first (shape_of a.bank.now) a.o a.way a.own a.t a.table a.counts a.more (view a.pass.now) (view c.start_write.new.pass) c.start_write.result c.requires.pass.1 a.pass.now.possible c.requires.two c.requires.may c.requires.other c.requires.way c.requires.other_way c.requires.sets
+    here_room c.words_are_of_one_content.ensures.head (record { pairs = c.used_entries_follow_a_dict.ensures.first; elements = c.used_entries_follow_a_set.ensures.first }) (shape_of a.bank.now) a.o a.way a.own a.t a.table a.counts a.more (view a.pass.now) (view c.start_write.new.pass) c.start_write.result c.requires.pass.1 a.pass.now.possible c.requires.two c.requires.may c.requires.other c.requires.way c.requires.other_way
     c.requires.counts c.requires.more c.requires.few c.requires.serials c.requires.room c.start_write.ensures.1 (shape c) c.start_write.new.pass.possible
 
 pub overflow_add-end : goal.overflow_add-end
@@ -40,7 +40,7 @@ pub join_table-number-requires-clause-joining : goal.join_table-number-requires-
 join_table-number-requires-clause-joining c =
     let a = c.args in
     let s = (goal.at.join_table-number-requires-clause-joining c).After-start_write in
-    here_begins c.words_are_of_one_content.ensures.head c.used_entries_follow_a_set.ensures.first (shape_of a.bank.now) a.o a.way a.own a.t a.table a.counts a.more (view a.pass.now) (view c.start_write.new.pass) c.start_write.result c.requires.pass.1 a.pass.now.possible c.requires.two c.requires.may c.requires.other c.requires.way c.requires.other_way c.requires.sets
+    here_begins c.words_are_of_one_content.ensures.head (record { pairs = c.used_entries_follow_a_dict.ensures.first; elements = c.used_entries_follow_a_set.ensures.first }) (shape_of a.bank.now) a.o a.way a.own a.t a.table a.counts a.more (view a.pass.now) (view c.start_write.new.pass) c.start_write.result c.requires.pass.1 a.pass.now.possible c.requires.two c.requires.may c.requires.other c.requires.way c.requires.other_way
     c.requires.counts c.requires.more c.requires.few c.requires.serials c.requires.room c.start_write.ensures.1 (shape s) c.start_write.new.pass.possible
 
 pub join_table-number-requires-clause-finishes : goal.join_table-number-requires-clause-finishes
@@ -53,7 +53,7 @@ join_table-number-requires-clause-finishes c w counts only joining =
     let at = (goal.at.join_table-number-requires-clause-finishes c).After-start_write in
     let may = c.requires.may in
     let none = may.owes in
-    let table = here_table c.words_are_of_one_content.ensures.head c.used_entries_follow_a_set.ensures.first k a.o a.way a.own a.t a.table a.counts a.more v u c.start_write.result c.requires.pass.1 a.pass.now.possible c.requires.two may c.requires.other c.requires.way c.requires.other_way c.requires.sets
+    let table = here_table c.words_are_of_one_content.ensures.head (record { pairs = c.used_entries_follow_a_dict.ensures.first; elements = c.used_entries_follow_a_set.ensures.first }) k a.o a.way a.own a.t a.table a.counts a.more v u c.start_write.result c.requires.pass.1 a.pass.now.possible c.requires.two may c.requires.other c.requires.way c.requires.other_way
     c.requires.counts c.requires.more c.requires.few c.requires.serials c.requires.room begun (shape at) c.start_write.new.pass.possible in
     joined_finishes (record { pairs = c.used_entries_follow_a_dict.ensures.first; elements = c.used_entries_follow_a_set.ensures.first }) k a.o a.way a.own a.t a.table (a.counts.fill + a.more) a.others counts v w (since_start a.o v u w c.start_write.result begun only) c.requires.pass.1 may.keyed.container may.left a.called.now c.requires.joins c.requires.few
     (λ found class has owed. absurd (omega (arith, none, owed)))

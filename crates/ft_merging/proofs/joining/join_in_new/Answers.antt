@@ -24,7 +24,8 @@ use Rattle.ft_merging.specs.Internal.Joining.{IsJoining}
 use Rattle.ft_merging.proofs.Joined.{joined_finishes}
 use Rattle.ft_merging.proofs.JoinedCalls.{few_rows, joins_later, many_joined, new_room}
 use Rattle.ft_merging.proofs.JoinedNew.{new_begins, other_on}
-use Rattle.ft_merging.proofs.JoinedReads.{Source, source_known}
+use Rattle.ft_merging.proofs.JoinedPairs.{source_known}
+use Rattle.ft_merging.proofs.JoinedReads.{Source}
 use Rattle.ft_merging.proofs.JoinedRoom.{taken_table}
 use Rattle.ft_merging.proofs.joining.join_in_new.Goals as goal
 use Rattle.ft_merging.proofs.joining.join_in_new.Goals.{After-fill, After-put_counts, After-words_are_of_one_content}
@@ -44,7 +45,7 @@ kinds c =
 source : (c : After-words_are_of_one_content) → Source (shape_of c.args.bank.now) c.args.way c.args.t c.args.table (view c.args.pass.now)
 source c =
     let a = c.args in
-    source_known c.used_entries_follow_a_set.ensures.first (shape_of a.bank.now) a.t a.table (view a.pass.now) c.requires.pass.1 a.pass.now.possible c.requires.other a.way c.requires.sets c.requires.other_way
+    source_known (record { pairs = c.used_entries_follow_a_dict.ensures.first; elements = c.used_entries_follow_a_set.ensures.first }) (shape_of a.bank.now) a.t a.table (view a.pass.now) c.requires.pass.1 a.pass.now.possible c.requires.other a.way c.requires.other_way
 
 -- it has room for all
 room : (c : After-words_are_of_one_content) → c.args.counts.count + c.args.more ≤ rows (kind_by c.args.way) (class_of (name_of c.args.new))
@@ -135,7 +136,7 @@ join_table-requires-clause-other c =
     let w = (goal.at.join_table-requires-clause-other c).After-words_are_of_one_content in
     let did = c.begin_in.ensures.did in
     let x = view c.fill.new.pass in
-    other_on c.used_entries_follow_a_dict.ensures.first c.words_are_of_one_content.ensures.head c.used_entries_follow_a_set.ensures.first (shape_of a.bank.now) a.o a.way a.old a.new a.t a.table a.counts a.more x (view c.begin_in.new.pass) (view c.put_counts.new.pass) did.0 (root_in (held a.o x)) c.fill.ensures.pass.1 c.fill.new.pass.possible c.requires.two (grow f) (knows f) c.requires.way c.requires.other_way c.requires.sets
+    other_on c.words_are_of_one_content.ensures.head (record { pairs = c.used_entries_follow_a_dict.ensures.first; elements = c.used_entries_follow_a_set.ensures.first }) (shape_of a.bank.now) a.o a.way a.old a.new a.t a.table a.counts a.more x (view c.begin_in.new.pass) (view c.put_counts.new.pass) did.0 (root_in (held a.o x)) c.fill.ensures.pass.1 c.fill.new.pass.possible c.requires.two (grow f) (knows f) c.requires.way c.requires.other_way
     (filled f) (counts f) (more f) (cap f) (serials f) (row w) did.1.1 did.2 c.begin_in.ensures.words c.begin_in.ensures.pass.1 c.put_counts.ensures.only c.put_counts.ensures.words c.put_counts.ensures.writes c.put_counts.ensures.pass.1 c.put_counts.new.pass.possible
 
 pub join_table-requires-clause-joining : goal.join_table-requires-clause-joining
@@ -145,7 +146,7 @@ join_table-requires-clause-joining c =
     let w = (goal.at.join_table-requires-clause-joining c).After-words_are_of_one_content in
     let did = c.begin_in.ensures.did in
     let x = view c.fill.new.pass in
-    new_begins c.used_entries_follow_a_dict.ensures.first c.words_are_of_one_content.ensures.head c.used_entries_follow_a_set.ensures.first (shape_of a.bank.now) a.o a.way a.old a.new a.t a.table a.counts a.more x (view c.begin_in.new.pass) (view c.put_counts.new.pass) did.0 (root_in (held a.o x)) c.fill.ensures.pass.1 c.fill.new.pass.possible c.requires.two (grow f) (knows f) c.requires.way c.requires.other_way c.requires.sets
+    new_begins c.words_are_of_one_content.ensures.head (record { pairs = c.used_entries_follow_a_dict.ensures.first; elements = c.used_entries_follow_a_set.ensures.first }) (shape_of a.bank.now) a.o a.way a.old a.new a.t a.table a.counts a.more x (view c.begin_in.new.pass) (view c.put_counts.new.pass) did.0 (root_in (held a.o x)) c.fill.ensures.pass.1 c.fill.new.pass.possible c.requires.two (grow f) (knows f) c.requires.way c.requires.other_way
     (filled f) (counts f) (more f) (cap f) (serials f) (row w) did.1.1 did.2 c.begin_in.ensures.words c.begin_in.ensures.pass.1 c.put_counts.ensures.only c.put_counts.ensures.words c.put_counts.ensures.writes c.put_counts.ensures.pass.1 c.put_counts.new.pass.possible
 
 -- the pass knows the same contents as after the filling

@@ -7,8 +7,9 @@ use Rattle.ft_search.proofs.Changing.{kind_is}
 use Rattle.ft_adding.specs.Growing.{MayAddKey, keys_take}
 use Rattle.ft_adding.proofs.Keyed.{use_known}
 use Rattle.ft_merging.specs.Joining.{joined, new_keys}
-use Rattle.ft_merging.proofs.JoinedCalls.{joins_leaves, made_here, set_no_more}
+use Rattle.ft_merging.proofs.JoinedCalls.{joins_leaves, made_here}
 use Rattle.ft_merging.proofs.JoinedRoom.{bare_none}
+use Rattle.ft_merging.proofs.JoinedSame.{bare_joined, known_bare}
 use Rattle.ft_merging.proofs.joining.join_in_old.Goals as goal
 use Rattle.ft_merging.proofs.joining.join_in_old.Goals.{In-None}
 
@@ -23,7 +24,7 @@ same c =
     let kinds = kind_is k v a.o c.requires.pass.1 a.pass.now.possible may.keyed.locked ∙ c.requires.way in
     let table = use_known c.words_are_of_one_content.ensures.head k a.o None v a.counts may.keyed c.requires.counts in
     let none = bare_none d a.way a.counts.fill (new_keys d e) kinds ((λ i. keys_take d (sym table i) (new_keys d e)) ∙ c.requires.room) in
-    set_no_more d e (kinds ∙ c.requires.sets) none
+    bare_joined d e (known_bare k a.o v c.requires.pass.1 a.pass.now.possible may.keyed.keyed may.keyed.locked may.keyed.stands may.keyed.root) none
 
 pub write_nothing-requires-clause-leaves : goal.write_nothing-requires-clause-leaves
 write_nothing-requires-clause-leaves c =

@@ -12,7 +12,7 @@ use Rattle.ft_adding.specs.Growing.{keys_take, most_of, use_of}
 use Rattle.ft_adding.proofs.Keyed.{counts_known, use_known}
 use Rattle.ft_merging.specs.Joining.{join_takes, joined}
 use Rattle.ft_merging.proofs.JoinedCalls.{cap_joined, many_joined, over_joined}
-use Rattle.ft_merging.proofs.JoinedReads.{source_known}
+use Rattle.ft_merging.proofs.JoinedPairs.{source_known}
 use Rattle.ft_merging.proofs.joining.join_more.Goals as goal
 use Rattle.ft_merging.proofs.joining.join_more.Goals.{After-words_are_of_one_content}
 
@@ -32,7 +32,7 @@ many c =
     let a = c.args in
     let k = shape_of a.bank.now in
     let v = view a.pass.now in
-    let s = source_known c.used_entries_follow_a_set.ensures.first k a.t a.table v c.requires.pass.1 a.pass.now.possible c.requires.other a.way c.requires.sets c.requires.other_way in
+    let s = source_known (record { pairs = c.used_entries_follow_a_dict.ensures.first; elements = c.used_entries_follow_a_set.ensures.first }) k a.t a.table v c.requires.pass.1 a.pass.now.possible c.requires.other a.way c.requires.other_way in
     let m = many_joined k a.way a.t a.table v s (known a.o v).content (kinds c) in
     let n = count c in
     let r = c.requires.more in

@@ -3,12 +3,13 @@ use Rattle.ft_model.specs.Tables.{passes_cap}
 use Rattle.ft_growth.specs.declared.adding.Added.TheVariants as added
 use Rattle.ft_trace.specs.Holds.{known}
 use Rattle.ft_bank.specs.Passes.{shape_of, view}
-use Rattle.ft_merging.proofs.JoinedCalls.{joins_leaves, joins_nothing, made_here, set_cap}
+use Rattle.ft_merging.proofs.JoinedCalls.{joins_leaves, joins_nothing, made_here}
+use Rattle.ft_merging.proofs.JoinedSame.{known_cap}
 use Rattle.ft_merging.proofs.joining.join_nothing.Goals as goal
 use Rattle.ft_merging.proofs.joining.join_nothing.Goals.{After-used_entries_follow_a_set}
 
 few : (c : After-used_entries_follow_a_set) → passes_cap (known c.args.o (view c.args.pass.now)).content ≡ false
-few c = set_cap c.used_entries_follow_a_set.ensures.first (shape_of c.args.bank.now) c.args.o (view c.args.pass.now) c.requires.pass.1 c.args.pass.now.possible c.requires.may c.requires.set
+few c = known_cap (shape_of c.args.bank.now) c.args.o (view c.args.pass.now) c.requires.pass.1 c.args.pass.now.possible c.requires.may.keyed c.requires.may.locked c.requires.may.stands (record { pairs = c.used_entries_follow_a_dict.ensures.first; elements = c.used_entries_follow_a_set.ensures.first })
 
 pub write_nothing-requires-clause-leaves : goal.write_nothing-requires-clause-leaves
 write_nothing-requires-clause-leaves c = joins_leaves c.args.o c.args.t c.args.called.now (view c.args.pass.now) c.requires.joins c.requires.same (few (goal.at.write_nothing-requires-clause-leaves c).After-used_entries_follow_a_set)

@@ -117,7 +117,7 @@ pub join_all-requires-clause-joining : goal.join_all-requires-clause-joining
 join_all-requires-clause-joining c =
     let a = c.args in
     let d = (goal.at.join_all-requires-clause-joining c).After-start_write in
-    here_begins c.words_are_of_one_content.ensures.head c.used_entries_follow_a_set.ensures.first (shape_of a.bank.now) a.s way.Set a.own a.t a.table a.counts a.more (view a.pass.now) (view c.start_write.new.pass) c.start_write.result c.requires.pass.1 a.pass.now.possible c.requires.two c.requires.may c.requires.other c.requires.set c.requires.other_set refl
+    here_begins c.words_are_of_one_content.ensures.head (record { pairs = c.used_entries_follow_a_dict.ensures.first; elements = c.used_entries_follow_a_set.ensures.first }) (shape_of a.bank.now) a.s way.Set a.own a.t a.table a.counts a.more (view a.pass.now) (view c.start_write.new.pass) c.start_write.result c.requires.pass.1 a.pass.now.possible c.requires.two c.requires.may c.requires.other c.requires.set c.requires.other_set
     c.requires.counts c.requires.more (cap d) c.requires.serials (none d) c.start_write.ensures.1 (shape d) c.start_write.new.pass.possible
 
 -- ---- those that both had
@@ -164,7 +164,7 @@ begins c m h table =
     let j = subst (λ (z : Kept × Kept). IsJoining k a.s way.Set a.own a.t a.table (joined z.0.content z.1.content) (a.counts.fill + a.more) a.others c.join_all.result w) (λ i. (ap (known a.s) begun i, ap (known a.t) begun i)) e.joining in
     subst (λ (z : Kept × Kept). IsThinned k a.s a.own false (set_of z.0.content) (set_of z.1.content) (to c) a.counts.fill 0 w) (sym (λ i. (knows c a.t i, knows c a.s i)))
     (parting_begins c.used_entries_follow_a_set.ensures.first k a.s a.t a.own a.table v u w c.start_write.result c.requires.pass.1 a.pass.now.possible m c.requires.set h begun e.only a.counts.fill (a.counts.fill + a.more) a.others c.join_all.result (ap (λ (z : TableUse). z.fill) (sym table))
-    j (c.requires.others ∙ sym (ap (λ (z : Kept). z.table.fill) (knows c a.t))) e.keeps)
+    j (c.requires.others ∙ sym (ap (λ (z : Kept). z.table.fill) (knows c a.t))) (e.keeps refl))
 
 pub thin_all-requires-clause-thinned : goal.thin_all-requires-clause-thinned
 thin_all-requires-clause-thinned c =

@@ -15,5 +15,5 @@ invariant-loop-place l = record {
   only : OnlyPut l.o (view l.initial.pass) (view l.pass);
   joining : IsJoining (shape_of l.bank) l.o l.way l.own l.t l.table (joined (known l.o (view l.initial.pass)).content (known l.t (view l.initial.pass)).content) l.end l.place l.counts (view l.pass);
   more : l.fn.first.fill ≤ l.counts.fill;
-  keeps : KeepsBelow (name_of l.own) l.fn.first.fill (held l.o (view l.initial.pass)) (held l.o (view l.pass));
+  keeps : kind_by l.way ≡ kind.Set → KeepsBelow (name_of l.own) l.fn.first.fill (held l.o (view l.initial.pass)) (held l.o (view l.pass));
 }

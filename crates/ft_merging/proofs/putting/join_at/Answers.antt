@@ -1,10 +1,15 @@
-use Rattle.std.proofs.Common.{◌≡◌, ◌<◌, ◌+◌, ℕ, Option, Some, None, refl, sym, ap, ◌∙◌, subst, arith}
+use Rattle.std.proofs.Common.{◌≡◌, ◌<◌, ◌≤◌, ◌+◌, ℕ, false, Option, Some, None, refl, sym, ap, ◌∙◌, subst, arith}
 use Rattle.std.specs.Prelude.{pos, slice_index_or}
 use Rattle.ft_model.specs.declared.content.Content.{Content}
+use Rattle.ft_model.specs.declared.data.Key.{Key}
 use Rattle.ft_model.specs.declared.data.Key.TheVariants.{Int}
+use Rattle.ft_model.specs.Worlds.{kind_of}
 use Rattle.ft_model.specs.declared.script.Kind.{Kind}
+use Rattle.ft_model.specs.declared.script.Kind.TheVariants as kind
 use Rattle.ft_layout.specs.Tables.{UsedEntry, hash_of, slot_of}
 use Rattle.ft_layout.specs.Words.{FitsKey, FitsStored}
+use Rattle.ft_layout.specs.declared.slot.Stored.{Stored}
+use Rattle.ft_layout.specs.declared.slot.Stored.TheVariants.{Boxed, Empty, Plain}
 use Rattle.ft_trace.specs.declared.Shape.{Shape}
 use Rattle.ft_trace.specs.declared.View.{View}
 use Rattle.ft_trace.specs.Addresses.{class_of, containers_in, slots}
@@ -12,23 +17,30 @@ use Rattle.ft_trace.specs.Holds.{held, known}
 use Rattle.ft_trace.specs.Kinds.{rows}
 use Rattle.ft_trace.specs.Words.{Picture, entry_of, root_in, Stands}
 use Rattle.ft_trace.specs.Worlds.{Kept, kind_in}
+use Rattle.ft_trace.specs.Writes.{MayPuts, with_puts}
 use Rattle.ft_bank.specs.Passes.{shape_of, view}
 use Rattle.ft_bank.specs.Tables.{name_of}
 use Rattle.ft_bank.specs.Whole.{OnlyLoaded}
 use Rattle.ft_bank.proofs.Whole.{loaded_held, loaded_put, loaded_then, put_then}
 use Rattle.ft_search.proofs.Puts.{writes_on}
+use Rattle.ft_search.specs.declared.spots.Spot.{Spot}
+use Rattle.ft_search.specs.declared.spots.Spot.TheVariants as spot
 use Rattle.ft_search.specs.Held.{IsHeldAt}
+use Rattle.ft_search.specs.Rounds.{kind_by}
+use Rattle.ft_search.specs.Writing.{WritesEntries}
+use Rattle.ft_search.proofs.Values.{ValueLaws}
 use Rattle.ft_adding.specs.declared.counts.Counts.{Counts}
 use Rattle.ft_adding.specs.Growing.{IsFreeFor}
-use Rattle.ft_adding.specs.Placing.{IsUnused, with_entry}
+use Rattle.ft_adding.specs.Placing.{IsUnused, StoresAs, with_entry}
 use Rattle.ft_adding.proofs.Placed.{PlaceLaws, pair_for}
 use Rattle.ft_merging.specs.Joining.{joined}
-use Rattle.ft_merging.specs.Internal.Joining.{IsJoining, KeepsBelow, pair_in}
-use Rattle.ft_merging.proofs.Joined.{inside, joining_dead, joining_loaded, joining_new, joining_there, new_room, stores}
-use Rattle.ft_merging.proofs.JoinedReads.{entry_used, none_found, none_used, pair_used, source_known}
+use Rattle.ft_merging.specs.Internal.Joining.{IsJoining, IsSought, KeepsBelow, pair_in, stored_puts}
+use Rattle.ft_merging.proofs.Joined.{inside, joining_dead, joining_loaded, joining_may, joining_new, joining_there, new_room, stores, there_low}
+use Rattle.ft_merging.proofs.JoinedPairs.{source_known}
+use Rattle.ft_merging.proofs.JoinedReads.{entry_used, none_found, none_used, pair_used}
 use Rattle.ft_merging.proofs.JoinedStep.{others_same, unused_here}
 use Rattle.ft_merging.proofs.putting.join_at.Goals as goal
-use Rattle.ft_merging.proofs.putting.join_at.Goals.{After-pair_at, After-words_follow_a_set, In-Some, In-Some-free_in}
+use Rattle.ft_merging.proofs.putting.join_at.Goals.{After-pair_at, After-seek_in, After-words_follow_a_set, In-Some}
 
 -- loads change no words
 same_below : (t place : ℕ) (v w : View) (o : ℕ) → OnlyLoaded v w → KeepsBelow t place (held o v) (held o w)
@@ -73,7 +85,7 @@ pair_at-requires-clause-knows c = (c.requires.other.locked, c.requires.other.roo
 pub pair_at-requires-clause-place : goal.pair_at-requires-clause-place
 pair_at-requires-clause-place c =
     let a = c.args in
-    let s = source_known c.used_entries_follow_a_set.ensures.first (shape_of a.bank.now) a.t a.table (view a.pass.now) c.requires.pass.1 a.pass.now.possible c.requires.other a.way c.requires.sets c.requires.other_way in
+    let s = source_known (record { pairs = c.used_entries_follow_a_dict.ensures.first; elements = c.used_entries_follow_a_set.ensures.first }) (shape_of a.bank.now) a.t a.table (view a.pass.now) c.requires.pass.1 a.pass.now.possible c.requires.other a.way c.requires.other_way in
     let few = s.few in
     let low = c.requires.place in
     subst (λ (z : Kind). a.place < rows z (class_of (name_of a.table))) (sym c.requires.other_way) (omega (arith, few, low))
@@ -116,71 +128,146 @@ returns-in_default-clause-joining c =
     (joining_dead k a.o a.way a.own a.t a.table _ a.end a.place a.counts v j c.requires.place any dead)
 
 pub returns-in_default-clause-keeps : goal.returns-in_default-clause-keeps
-returns-in_default-clause-keeps c = same_below (name_of c.args.own) c.args.counts.fill (view c.args.pass.now) (view c.pair_at.new.pass) c.args.o c.pair_at.ensures.only
+returns-in_default-clause-keeps c sets = same_below (name_of c.args.own) c.args.counts.fill (view c.args.pass.now) (view c.pair_at.new.pass) c.args.o c.pair_at.ensures.only
 
 -- ---- the search
 
-pub free_in-requires-clause-writes : goal.free_in-requires-clause-writes
-free_in-requires-clause-writes c =
+writes : (c : After-pair_at) → WritesEntries (shape_of c.args.bank.now) c.args.o c.args.own (view c.pair_at.new.pass)
+writes c =
     let a = c.args in
     let v = view a.pass.now in
     writes_on (shape_of a.bank.now) a.o a.own v (view c.pair_at.new.pass) (loaded_put v (view c.pair_at.new.pass) a.o c.pair_at.ensures.only) (ap root_in (loaded_held v (view c.pair_at.new.pass) a.o c.pair_at.ensures.only)) c.requires.joining.midway.writes
 
-pub free_in-requires-clause-hash : goal.free_in-requires-clause-hash
-free_in-requires-clause-hash c = (there (goal.at.free_in-requires-clause-hash c).In-Some).2
+pub seek_in-requires-clause-writes : goal.seek_in-requires-clause-writes
+seek_in-requires-clause-writes c = writes (goal.at.seek_in-requires-clause-writes c).After-pair_at
 
-pub free_in-requires-clause-fits : goal.free_in-requires-clause-fits
-free_in-requires-clause-fits c = (there (goal.at.free_in-requires-clause-fits c).In-Some).3
+pub seek_in-requires-clause-hash : goal.seek_in-requires-clause-hash
+seek_in-requires-clause-hash c = (there (goal.at.seek_in-requires-clause-hash c).In-Some).2
+
+pub seek_in-requires-clause-fits : goal.seek_in-requires-clause-fits
+seek_in-requires-clause-fits c = (there (goal.at.seek_in-requires-clause-fits c).In-Some).3
+
+loads : (c : After-seek_in) → OnlyLoaded (view c.args.pass.now) (view c.seek_in.new.pass)
+loads c = loaded_then (view c.args.pass.now) (view c.pair_at.new.pass) (view c.seek_in.new.pass) c.pair_at.ensures.only c.seek_in.ensures.only
+
+held_on : (c : After-seek_in) → held c.args.o (view c.seek_in.new.pass) ≡ held c.args.o (view c.args.pass.now)
+held_on c = loaded_held (view c.args.pass.now) (view c.seek_in.new.pass) c.args.o (loads c)
+
+-- what it came to
+came : (c : After-seek_in) (key : Key) (found : Spot) → ((mid : Kept) → kind_of mid.content ≡ kind_by c.args.way → Stands (shape_of c.args.bank.now).texts (held c.args.o (view c.pair_at.new.pass)) mid → IsSought (shape_of c.args.bank.now) c.args.way c.args.own key (held c.args.o (view c.pair_at.new.pass)) mid.content found)
+    → IsSought (shape_of c.args.bank.now) c.args.way c.args.own key (held c.args.o (view c.args.pass.now)) c.requires.joining.mid found
+came c key found is =
+    let a = c.args in
+    let k = shape_of a.bank.now in
+    let j = c.requires.joining in
+    let same = loaded_held (view a.pass.now) (view c.pair_at.new.pass) a.o c.pair_at.ensures.only in
+    let mid : Kept = record { content = j.mid; table = record { class = Some (class_of (name_of a.own)); fill = a.counts.fill } } in
+    subst (λ (x : Picture). IsSought k a.way a.own key x j.mid found) same (is mid j.same_kind (subst (λ (x : Picture). Stands k.texts x mid) (sym same) j.midway.stands))
+
+pub returns-in-Bare-clause-only : goal.returns-in-Bare-clause-only
+returns-in-Bare-clause-only c = loaded_put (view c.args.pass.now) (view c.seek_in.new.pass) c.args.o (loads (goal.at.returns-in-Bare-clause-only c).After-seek_in)
+
+pub returns-in-Bare-clause-joining : goal.returns-in-Bare-clause-joining
+returns-in-Bare-clause-joining c = let at = goal.at.returns-in-Bare-clause-joining c in absurd (came at.After-seek_in c.in-Some.pair.key spot.Bare c.in-Bare.ensures.spot)
+
+pub returns-in-Bare-clause-keeps : goal.returns-in-Bare-clause-keeps
+returns-in-Bare-clause-keeps c sets = same_below (name_of c.args.own) c.args.counts.fill (view c.args.pass.now) (view c.seek_in.new.pass) c.args.o (loads (goal.at.returns-in-Bare-clause-keeps c).After-seek_in)
 
 -- ---- its key is there
 
-pub returns-in_default-free_in-clause-only : goal.returns-in_default-free_in-clause-only
-returns-in_default-free_in-clause-only c =
+value_laws : After-words_follow_a_set → ValueLaws
+value_laws c =
+    let v = c.versions_change_nothing.ensures in
+    record {
+      versions = λ walk room texts mask used words place version within table. v.entries walk room texts mask used words _ within (v.entry mask words place version) table;
+      first = c.used_entries_follow_a_dict.ensures.first;
+      lives = c.used_entries_follow_a_dict.ensures.live;
+      follow = c.words_follow_a_dict.ensures.changed;
+    }
+
+pub put_stored-requires-clause-writes : goal.put_stored-requires-clause-writes
+put_stored-requires-clause-writes c =
+    let a = c.args in
+    let v = view a.pass.now in
+    let s = (goal.at.put_stored-requires-clause-writes c).After-seek_in in
+    writes_on (shape_of a.bank.now) a.o a.own v (view c.seek_in.new.pass) (loaded_put v (view c.seek_in.new.pass) a.o (loads s)) (ap root_in (held_on s)) c.requires.joining.midway.writes
+
+pub put_stored-requires-clause-place : goal.put_stored-requires-clause-place
+put_stored-requires-clause-place c =
+    let a = c.args in
+    let d = goal.at.put_stored-requires-clause-place c in
+    let p = there d.In-Some in
+    let f = came d.After-seek_in c.in-Some.pair.key (spot.At c.in-At.field-0 c.in-At.at c.in-At.kind c.in-At.payload) c.in-At.ensures.spot in
+    there_low (shape_of a.bank.now) a.o a.way a.own a.t a.table (done d.After-words_follow_a_set) a.end a.place a.counts (view a.pass.now) c.requires.joining c.requires.place any c.in-Some.pair.key c.in-Some.pair.value p.1 p.0 (value_laws d.After-words_follow_a_set) p.3 p.4 c.in-At.at f.0 f.1
+
+pub put_stored-requires-clause-early : goal.put_stored-requires-clause-early
+put_stored-requires-clause-early c = (loads (goal.at.put_stored-requires-clause-early c).After-seek_in).work.committed c.args.o ∙ c.requires.joining.midway.early
+
+pub put_stored-requires-clause-old_kind : goal.put_stored-requires-clause-old_kind
+put_stored-requires-clause-old_kind c =
+    let s = (goal.at.put_stored-requires-clause-old_kind c).After-seek_in in
+    (came s c.in-Some.pair.key (spot.At c.in-At.field-0 c.in-At.at c.in-At.kind c.in-At.payload) c.in-At.ensures.spot).3 ∙ sym (ap (λ (x : Picture). entry_of (slots (class_of (name_of c.args.own))) x.table c.in-At.at 4) (held_on s))
+
+pub put_stored-requires-clause-old_payload : goal.put_stored-requires-clause-old_payload
+put_stored-requires-clause-old_payload c =
+    let s = (goal.at.put_stored-requires-clause-old_payload c).After-seek_in in
+    (came s c.in-Some.pair.key (spot.At c.in-At.field-0 c.in-At.at c.in-At.kind c.in-At.payload) c.in-At.ensures.spot).4 ∙ sym (ap (λ (x : Picture). entry_of (slots (class_of (name_of c.args.own))) x.table c.in-At.at 5) (held_on s))
+
+pub put_stored-requires-clause-may : goal.put_stored-requires-clause-may
+put_stored-requires-clause-may c =
+    let a = c.args in
+    let k = shape_of a.bank.now in
+    let d = goal.at.put_stored-requires-clause-may c in
+    let p = there d.In-Some in
+    let f = came d.After-seek_in c.in-Some.pair.key (spot.At c.in-At.field-0 c.in-At.at c.in-At.kind c.in-At.payload) c.in-At.ensures.spot in
+    let u = view c.seek_in.new.pass in
+    subst (λ (x : Picture). MayPuts (kind_in k.kinds a.o) (name_of a.own) (known a.o u).content false x (stored_puts (slots (class_of (name_of a.own))) x.table c.in-At.at c.in-Some.pair.value)) (sym (held_on d.After-seek_in))
+    (joining_may k a.o a.way a.own a.t a.table (done d.After-words_follow_a_set) a.end a.place a.counts (view a.pass.now) c.requires.joining c.requires.place any c.in-Some.pair.key c.in-Some.pair.value p.1 p.0 (value_laws d.After-words_follow_a_set) p.3 p.4 c.in-At.at f.0 f.1 (known a.o u).content)
+
+pub returns-in-At-clause-only : goal.returns-in-At-clause-only
+returns-in-At-clause-only c =
     let v = view c.args.pass.now in
-    loaded_put v (view c.free_in.new.pass) c.args.o (loaded_then v (view c.pair_at.new.pass) (view c.free_in.new.pass) c.pair_at.ensures.only c.free_in.ensures.only)
+    let u = view c.seek_in.new.pass in
+    put_then v u (view c.put_stored.new.pass) c.args.o (loaded_put v u c.args.o (loads (goal.at.returns-in-At-clause-only c).After-seek_in)) c.put_stored.ensures.only
 
-pub returns-in_default-free_in-clause-keeps : goal.returns-in_default-free_in-clause-keeps
-returns-in_default-free_in-clause-keeps c =
-    let v = view c.args.pass.now in
-    same_below (name_of c.args.own) c.args.counts.fill v (view c.free_in.new.pass) c.args.o (loaded_then v (view c.pair_at.new.pass) (view c.free_in.new.pass) c.pair_at.ensures.only c.free_in.ensures.only)
-
-no_slot : (o : Option ℕ) → ((slot : ℕ) → o ≡ Some slot → ⊥) → o ≡ None
-no_slot None never = refl
-no_slot (Some slot) never = absurd (never slot refl)
-
-pub returns-in_default-free_in-clause-joining : goal.returns-in_default-free_in-clause-joining
-returns-in_default-free_in-clause-joining c =
+pub returns-in-At-clause-joining : goal.returns-in-At-clause-joining
+returns-in-At-clause-joining c =
     let a = c.args in
     let k = shape_of a.bank.now in
     let v = view a.pass.now in
-    let u = view c.pair_at.new.pass in
+    let u = view c.seek_in.new.pass in
+    let z = view c.put_stored.new.pass in
+    let d = goal.at.returns-in-At-clause-joining c in
+    let p = there d.In-Some in
+    let f = came d.After-seek_in c.in-Some.pair.key (spot.At c.in-At.field-0 c.in-At.at c.in-At.kind c.in-At.payload) c.in-At.ensures.spot in
+    let e = c.put_stored.ensures in
+    let stored = c.in-Some.pair.value in
+    let n = slots (class_of (name_of a.own)) in
+    let only = put_then v u z a.o (loaded_put v u a.o (loads d.After-seek_in)) e.only in
+    let same = held_on d.After-seek_in in
+    let other = only.others a.t (subst (λ (y : Shape). a.t < containers_in y) (sym c.requires.pass.1) c.requires.other.container) (λ eq. c.requires.two (sym eq)) c.requires.other.locked c.requires.other.even in
+    let words : held a.o z ≡ with_puts (held a.o v) (stored_puts n (held a.o v).table c.in-At.at stored) = e.words ∙ (λ i. with_puts (same i) (stored_puts n (same i).table c.in-At.at stored)) in
+    joining_there k a.o a.way a.own a.t a.table (done d.After-words_follow_a_set) a.end a.place a.counts v c.requires.joining c.requires.place any c.in-Some.pair.key stored p.1 p.0 (value_laws d.After-words_follow_a_set) p.3 p.4 c.in-At.at f.0 f.1 f.2 z only words e.writes other
+
+-- an element of a set has no value, and so nothing is put
+no_puts : (stored : Stored) → StoresAs kind.Set stored → (n place : ℕ) (x : Picture) → with_puts x (stored_puts n x.table place stored) ≡ x
+no_puts Empty ok n place x = refl
+no_puts (Plain value) ok n place x = absurd ok
+no_puts (Boxed block) ok n place x = absurd ok
+
+pub returns-in-At-clause-keeps : goal.returns-in-At-clause-keeps
+returns-in-At-clause-keeps c sets q w less few =
+    let a = c.args in
+    let k = shape_of a.bank.now in
+    let at = goal.at.returns-in-At-clause-keeps c in
     let j = c.requires.joining in
-    let p = there (goal.at.returns-in_default-free_in-clause-joining c).In-Some in
-    let only = loaded_then v u (view c.free_in.new.pass) c.pair_at.ensures.only c.free_in.ensures.only in
-    let mid : Kept = record { content = j.mid; table = record { class = Some (class_of (name_of a.own)); fill = a.counts.fill } } in
-    let stands = subst (λ (x : Picture). Stands k.texts x mid) (sym (loaded_held v u a.o c.pair_at.ensures.only)) j.midway.stands in
-    let has = c.free_in.ensures.there (no_slot c.free_in.result c.in_default-free_in.not-Some) mid j.same_kind stands in
-    joining_loaded k a.o a.way a.own a.t a.table _ a.end (a.place + 1) a.counts v (view c.free_in.new.pass) only
-    (joining_there k a.o a.way a.own a.t a.table _ a.end a.place a.counts v j c.requires.place any c.in-Some.pair.key c.in-Some.pair.value p.1 p.0 c.requires.sets has)
+    let p = there at.In-Some in
+    let stored = c.in-Some.pair.value in
+    let ok = stores k a.o a.way a.own a.t a.table (done at.After-words_follow_a_set) a.end a.place a.counts (view a.pass.now) j c.requires.place any c.in-Some.pair.key stored p.1 p.0 in
+    let none = no_puts stored (subst (λ (z : Kind). StoresAs z stored) (j.same_kind ∙ sets) ok) (slots (class_of (name_of a.own))) c.in-At.at (held a.o (view c.seek_in.new.pass)) in
+    ap (λ (x : Picture). entry_of (slots (class_of (name_of a.own))) x.table q w) (c.put_stored.ensures.words ∙ (none ∙ held_on at.After-seek_in))
 
 -- ---- it is new
-
--- the slot for it
-free : (c : In-Some-free_in) → IsFreeFor (shape_of c.args.bank.now).texts c.args.way c.args.own.class c.in-Some.pair.key (held c.args.o (view c.args.pass.now)).table c.in-Some-free_in.slot × IsHeldAt c.requires.joining.mid c.in-Some.pair.key None
-free c =
-    let a = c.args in
-    let k = shape_of a.bank.now in
-    let v = view a.pass.now in
-    let u = view c.pair_at.new.pass in
-    let j = c.requires.joining in
-    let same = loaded_held v u a.o c.pair_at.ensures.only in
-    let mid : Kept = record { content = j.mid; table = record { class = Some (class_of (name_of a.own)); fill = a.counts.fill } } in
-    let stands = subst (λ (x : Picture). Stands k.texts x mid) (sym same) j.midway.stands in
-    let f = c.free_in.ensures.free c.in-Some-free_in.slot c.in-Some-free_in.is mid j.same_kind stands in
-    (subst (λ (x : Picture). IsFreeFor k.texts a.way a.own.class c.in-Some.pair.key x.table c.in-Some-free_in.slot) same f.0, f.1)
-
-loads : (c : In-Some-free_in) → OnlyLoaded (view c.args.pass.now) (view c.free_in.new.pass)
-loads c = loaded_then (view c.args.pass.now) (view c.pair_at.new.pass) (view c.free_in.new.pass) c.pair_at.ensures.only c.free_in.ensures.only
 
 pub put_key-requires-clause-unused : goal.put_key-requires-clause-unused
 put_key-requires-clause-unused c =
@@ -189,67 +276,63 @@ put_key-requires-clause-unused c =
     let v = view a.pass.now in
     let at = goal.at.put_key-requires-clause-unused c in
     let d = at.After-words_follow_a_set in
-    let s = at.In-Some-free_in in
     let j = c.requires.joining in
     let p = there at.In-Some in
-    let f = free s in
+    let f = came at.After-seek_in c.in-Some.pair.key (spot.Free c.in-Free.field-0 c.in-Free.slot) c.in-Free.ensures.spot in
     let n = slots (class_of (name_of a.own)) in
     let ok = stores k a.o a.way a.own a.t a.table (done d) a.end a.place a.counts v j c.requires.place any c.in-Some.pair.key c.in-Some.pair.value p.1 p.0 in
     let room = new_room k a.o a.way a.own a.t a.table (done d) a.end a.place a.counts v j c.requires.place any c.in-Some.pair.key c.in-Some.pair.value p.1 p.0 f.1 in
-    subst (λ (x : Picture). IsUnused n (rows (kind_in k.kinds a.o) (class_of (name_of a.own))) x.table c.in-Some-free_in.slot a.counts.fill) (sym (loaded_held v (view c.free_in.new.pass) a.o (loads s)))
-    (unused_here (laws d) k a.o a.way a.own j.mid a.counts v j.midway j.same_kind j.kind_is j.count_is j.alive c.in-Some-free_in.slot c.in-Some.pair.key c.in-Some.pair.value p.3 c.free_in.ensures.low ok p.4 f.1 f.0 (subst (λ (z : Kind). a.counts.fill < rows z (class_of (name_of a.own))) j.kind_is room))
+    subst (λ (x : Picture). IsUnused n (rows (kind_in k.kinds a.o) (class_of (name_of a.own))) x.table c.in-Free.slot a.counts.fill) (sym (held_on at.After-seek_in))
+    (unused_here (laws d) k a.o a.way a.own j.mid a.counts v j.midway j.same_kind j.kind_is j.count_is j.alive c.in-Free.slot c.in-Some.pair.key c.in-Some.pair.value p.3 c.seek_in.ensures.low ok p.4 f.1 f.0 (subst (λ (z : Kind). a.counts.fill < rows z (class_of (name_of a.own))) j.kind_is room))
 
 pub put_key-requires-clause-value : goal.put_key-requires-clause-value
 put_key-requires-clause-value c = (there (goal.at.put_key-requires-clause-value c).In-Some).4
 
-pub returns-clause-joining : goal.returns-clause-joining
-returns-clause-joining c =
+pub returns-in-Free-clause-joining : goal.returns-in-Free-clause-joining
+returns-in-Free-clause-joining c =
     let a = c.args in
     let k = shape_of a.bank.now in
     let v = view a.pass.now in
-    let u = view c.free_in.new.pass in
+    let u = view c.seek_in.new.pass in
     let z = view c.put_key.new.pass in
-    let at = goal.at.returns-clause-joining c in
+    let at = goal.at.returns-in-Free-clause-joining c in
     let d = at.After-words_follow_a_set in
-    let s = at.In-Some-free_in in
+    let s = at.After-seek_in in
     let j = c.requires.joining in
     let p = there at.In-Some in
-    let f = free s in
+    let f = came at.After-seek_in c.in-Some.pair.key (spot.Free c.in-Free.field-0 c.in-Free.slot) c.in-Free.ensures.spot in
     let e = c.put_key.ensures in
     let key = c.in-Some.pair.key in
     let stored = c.in-Some.pair.value in
     let only = put_then v u z a.o (loaded_put v u a.o (loads s)) e.only in
-    let same = loaded_held v u a.o (loads s) in
+    let same = held_on s in
     let other = only.others a.t (subst (λ (y : Shape). a.t < containers_in y) (sym c.requires.pass.1) c.requires.other.container) (λ eq. c.requires.two (sym eq)) c.requires.other.locked c.requires.other.even in
     let hash = p.2 in
     let next = j.next_is in
-    let words : held a.o z ≡ with_entry (name_of a.own) c.in-Some-free_in.slot a.counts (pair_for k.texts j.mid key stored) (held a.o v) = e.words ∙ (λ i. with_entry (name_of a.own) c.in-Some-free_in.slot a.counts (record { hash = hash i; key = key; value = stored; serial = next i }) (same i)) in
+    let words : held a.o z ≡ with_entry (name_of a.own) c.in-Free.slot a.counts (pair_for k.texts j.mid key stored) (held a.o v) = e.words ∙ (λ i. with_entry (name_of a.own) c.in-Free.slot a.counts (record { hash = hash i; key = key; value = stored; serial = next i }) (same i)) in
     subst (λ (y : Counts). IsJoining k a.o a.way a.own a.t a.table (done d) a.end (a.place + 1) y z) (sym c.one_more.ensures)
-    (joining_new k a.o a.way a.own a.t a.table (done d) a.end a.place a.counts v j c.requires.place any key stored p.1 p.0 f.1 (laws d) c.in-Some-free_in.slot p.3 c.free_in.ensures.low p.4 f.0 z only words e.writes other)
+    (joining_new k a.o a.way a.own a.t a.table (done d) a.end a.place a.counts v j c.requires.place any key stored p.1 p.0 f.1 (laws d) c.in-Free.slot p.3 c.seek_in.ensures.low p.4 f.0 z only words e.writes other)
 
-pub returns-clause-more : goal.returns-clause-more
-returns-clause-more c = let f : c.one_more.result.fill ≡ c.args.counts.fill + 1 = ap (λ (z : Counts). z.fill) c.one_more.ensures in omega (arith, f)
+pub returns-in-Free-clause-more : goal.returns-in-Free-clause-more
+returns-in-Free-clause-more c = let f : c.one_more.result.fill ≡ c.args.counts.fill + 1 = ap (λ (z : Counts). z.fill) c.one_more.ensures in omega (arith, f)
 
-pub returns-clause-keeps : goal.returns-clause-keeps
-returns-clause-keeps c q w less few =
+pub returns-in-Free-clause-keeps : goal.returns-in-Free-clause-keeps
+returns-in-Free-clause-keeps c sets q w less few =
     let a = c.args in
     let k = shape_of a.bank.now in
     let v = view a.pass.now in
-    let u = view c.free_in.new.pass in
-    let at = goal.at.returns-clause-keeps c in
+    let at = goal.at.returns-in-Free-clause-keeps c in
     let d = at.After-words_follow_a_set in
-    let s = at.In-Some-free_in in
     let j = c.requires.joining in
     let p = there at.In-Some in
-    let f = free s in
-    let e = c.put_key.ensures in
+    let f = came at.After-seek_in c.in-Some.pair.key (spot.Free c.in-Free.field-0 c.in-Free.slot) c.in-Free.ensures.spot in
     let key = c.in-Some.pair.key in
     let stored = c.in-Some.pair.value in
-    let same = loaded_held v u a.o (loads s) in
+    let same = held_on at.After-seek_in in
     let hash = p.2 in
     let next = j.next_is in
-    let words : held a.o (view c.put_key.new.pass) ≡ with_entry (name_of a.own) c.in-Some-free_in.slot a.counts (pair_for k.texts j.mid key stored) (held a.o v) = e.words ∙ (λ i. with_entry (name_of a.own) c.in-Some-free_in.slot a.counts (record { hash = hash i; key = key; value = stored; serial = next i }) (same i)) in
+    let words : held a.o (view c.put_key.new.pass) ≡ with_entry (name_of a.own) c.in-Free.slot a.counts (pair_for k.texts j.mid key stored) (held a.o v) = c.put_key.ensures.words ∙ (λ i. with_entry (name_of a.own) c.in-Free.slot a.counts (record { hash = hash i; key = key; value = stored; serial = next i }) (same i)) in
     let ok = stores k a.o a.way a.own a.t a.table (done d) a.end a.place a.counts v j c.requires.place any key stored p.1 p.0 in
     let room = new_room k a.o a.way a.own a.t a.table (done d) a.end a.place a.counts v j c.requires.place any key stored p.1 p.0 f.1 in
     ap (λ (x : Picture). entry_of (slots (class_of (name_of a.own))) x.table q w) words
-    ∙ others_same (laws d) k a.o a.way a.own j.mid a.counts v j.midway j.same_kind j.kind_is j.count_is j.alive c.in-Some-free_in.slot key stored p.3 c.free_in.ensures.low ok p.4 f.1 f.0 (subst (λ (z : Kind). a.counts.fill < rows z (class_of (name_of a.own))) j.kind_is room) q w (λ e. omega (arith, e, less)) few
+    ∙ others_same (laws d) k a.o a.way a.own j.mid a.counts v j.midway j.same_kind j.kind_is j.count_is j.alive c.in-Free.slot key stored p.3 c.seek_in.ensures.low ok p.4 f.1 f.0 (subst (λ (z : Kind). a.counts.fill < rows z (class_of (name_of a.own))) j.kind_is room) q w (λ e. omega (arith, e, less)) few

@@ -14,7 +14,7 @@ use Rattle.ft_adding.proofs.Taken.{has_loaded}
 use Rattle.ft_model.specs.Worlds.{serial_of}
 use Rattle.ft_merging.specs.Joining.{joined}
 use Rattle.ft_merging.specs.Parting.{PartsSets}
-use Rattle.ft_merging.proofs.JoinedCalls.{bare_joined, set_itself}
+use Rattle.ft_merging.proofs.JoinedSame.{known_bare, known_itself, none_joined}
 use Rattle.ft_parting.proofs.Parts.{none_drawn, parts_by, parts_later, parts_then}
 use Rattle.ft_parting.proofs.parting.part_by.Goals as goal
 use Rattle.ft_parting.proofs.parting.part_by.Goals.{After-own_table}
@@ -27,7 +27,7 @@ part_thin-requires-clause-none c =
     let v = view a.pass.now in
     let d = (known a.s v).content in
     none_drawn d (known a.t v).content (ap (λ (p : ℕ). joined d (known p v).content) (sym c.if-s-t.true)
-    ∙ set_itself d (kind_is (shape_of a.bank.now) v a.s c.requires.pass.1 a.pass.now.possible c.requires.may.locked ∙ c.requires.set))
+    ∙ known_itself (shape_of a.bank.now) a.s v c.requires.pass.1 a.pass.now.possible c.requires.may.keyed c.requires.may.locked c.requires.may.stands)
 
 pub returns-then-s-t-clause-added : goal.returns-then-s-t-clause-added
 returns-then-s-t-clause-added c = let v = view c.args.pass.now in (v, loaded_same v, c.part_thin.ensures.added)
@@ -85,7 +85,9 @@ part_thin-requires-in-None-clause-none c =
     let bare = subst (λ (z : Option Table). KnowsKeyed k a.t z u) c.in-None.is e.knows in
     let d = (known a.s u).content in
     none_drawn d (known a.t u).content
-    (bare_joined k a.t u e.pass.1 c.own_table.new.pass.possible bare c.requires.other_set d (kind_is k u a.s e.pass.1 c.own_table.new.pass.possible (e.only.work.pass.locks a.s ∙ c.requires.may.locked) ∙ c.requires.set))
+    (none_joined d (known a.t u).content
+    (kind_is k u a.t e.pass.1 c.own_table.new.pass.possible bare.locked ∙ (c.requires.other_set ∙ sym (kind_is k u a.s e.pass.1 c.own_table.new.pass.possible (e.only.work.pass.locks a.s ∙ c.requires.may.locked) ∙ c.requires.set)))
+    (known_bare k a.t u e.pass.1 c.own_table.new.pass.possible bare.keyed bare.locked bare.stands bare.root))
 
 pub returns-in-None-clause-added : goal.returns-in-None-clause-added
 returns-in-None-clause-added c =

@@ -16,8 +16,8 @@ use Rattle.ft_adding.proofs.Present.{may_add}
 use Rattle.ft_adding.proofs.Taken.{has_loaded}
 use Rattle.ft_merging.specs.Joining.{new_keys}
 use Rattle.ft_merging.proofs.Finished.{is_set}
-use Rattle.ft_merging.proofs.JoinedCalls.{set_cap}
 use Rattle.ft_merging.proofs.JoinedReads.{knows_loaded}
+use Rattle.ft_merging.proofs.JoinedSame.{known_cap}
 use Rattle.ft_parting.proofs.Parts.{few_apart, new_length, parts_by, parts_later}
 use Rattle.ft_parting.proofs.parting.part_from.Goals as goal
 use Rattle.ft_parting.proofs.parting.part_from.Goals.{After-own_table-old, After-count_lacking-more, After-count_staying-stay}
@@ -169,8 +169,8 @@ part_more-requires-clause-few c =
     let s_is = is_set k v a.s c.requires.pass.1 a.pass.now.possible c.requires.may.locked c.requires.set in
     let t_is = is_set k v a.t c.requires.pass.1 a.pass.now.possible c.requires.other_may.locked c.requires.other_set in
     let more = news at.After-count_lacking-more before ∙ new_length (known a.s v).content (known a.t v).content s s_is in
-    let f1 = few_apart (known a.s v).content s t.elements s_is (set_cap c.used_entries_follow_a_set.ensures.first k a.s v c.requires.pass.1 a.pass.now.possible c.requires.may c.requires.set) in
-    let f2 = few_apart (known a.t v).content t s.elements t_is (set_cap c.used_entries_follow_a_set.ensures.first k a.t v c.requires.pass.1 a.pass.now.possible c.requires.other_may c.requires.other_set) in
+    let f1 = few_apart (known a.s v).content s t.elements s_is (known_cap k a.s v c.requires.pass.1 a.pass.now.possible c.requires.may.keyed c.requires.may.locked c.requires.may.stands (record { pairs = c.used_entries_follow_a_dict.ensures.first; elements = c.used_entries_follow_a_set.ensures.first })) in
+    let f2 = few_apart (known a.t v).content t s.elements t_is (known_cap k a.t v c.requires.pass.1 a.pass.now.possible c.requires.other_may.keyed c.requires.other_may.locked c.requires.other_may.stands (record { pairs = c.used_entries_follow_a_dict.ensures.first; elements = c.used_entries_follow_a_set.ensures.first })) in
     omega (arith, stay, more, f1, f2)
 
 pub part_more-requires-clause-serials : goal.part_more-requires-clause-serials

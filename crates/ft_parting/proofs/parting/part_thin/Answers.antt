@@ -5,10 +5,12 @@ use Rattle.ft_model.specs.Tables.{passes_cap}
 use Rattle.ft_model.specs.Worlds.{set_of}
 use Rattle.ft_trace.specs.Holds.{known}
 use Rattle.ft_bank.specs.Passes.{shape_of, view}
+use Rattle.ft_growth.specs.declared.adding.Added.TheVariants as added
 use Rattle.ft_growth.specs.Adding.{IsAdded}
 use Rattle.ft_merging.specs.Parting.{parted}
 use Rattle.ft_merging.proofs.Finished.{is_set}
-use Rattle.ft_merging.proofs.JoinedCalls.{made_here, set_cap}
+use Rattle.ft_merging.proofs.JoinedCalls.{made_here}
+use Rattle.ft_merging.proofs.JoinedSame.{known_cap}
 use Rattle.ft_parting.proofs.Parts.{parts_thins, thin_cap, thin_kept, thin_takes}
 use Rattle.ft_parting.proofs.parting.part_thin.Goals as goal
 use Rattle.ft_parting.proofs.parting.part_thin.Goals.{After-used_entries_follow_a_set}
@@ -19,7 +21,7 @@ few c =
     let k = shape_of a.bank.now in
     let v = view a.pass.now in
     thin_cap (known a.s v) (known a.t v) (set_of (known a.s v).content) (is_set k v a.s c.requires.pass.1 a.pass.now.possible c.requires.may.locked c.requires.set) c.requires.none
-    (set_cap c.used_entries_follow_a_set.ensures.first k a.s v c.requires.pass.1 a.pass.now.possible c.requires.may c.requires.set)
+    (known_cap k a.s v c.requires.pass.1 a.pass.now.possible c.requires.may.keyed c.requires.may.locked c.requires.may.stands (record { pairs = c.used_entries_follow_a_dict.ensures.first; elements = c.used_entries_follow_a_set.ensures.first }))
 
 pub thin_by-requires-clause-leaves : goal.thin_by-requires-clause-leaves
 thin_by-requires-clause-leaves c =
@@ -38,5 +40,5 @@ returns-clause-added c =
     let d = (goal.at.returns-clause-added c).After-used_entries_follow_a_set in
     let n = c.thin_by.ensures in
     let takes = thin_takes (known a.s v) (known a.t v) (set_of (known a.s v).content) (is_set k v a.s c.requires.pass.1 a.pass.now.possible c.requires.may.locked c.requires.set) c.requires.none in
-    subst (λ (z : Option ℕ × Bool). IsAdded k z.0 z.1 a.called.now reply.Done v w _) (λ i. (sym takes i, sym (few d) i))
+    subst (λ (z : Option ℕ × Bool). IsAdded k z.0 z.1 a.called.now reply.Done v w (added.Made c.written.result)) (λ i. (sym takes i, sym (few d) i))
     (made_here k a.s a.called.now v w c.written.result c.thin_by.result c.written.ensures c.requires.parts.changed n.wrote n.root)

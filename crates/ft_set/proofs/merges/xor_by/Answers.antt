@@ -2,7 +2,7 @@ use Rattle.std.proofs.Common.{◌*◌, ◌^◌, ◌<◌, sym, subst, arith}
 use Rattle.ft_trace.specs.declared.Shape.{Shape}
 use Rattle.ft_bank.specs.Passes.{shape_of, view}
 use Rattle.ft_bank.proofs.Showing.{serials_have_room}
-use Rattle.ft_merging.proofs.JoinedCalls.{set_cap}
+use Rattle.ft_merging.proofs.JoinedSame.{known_cap}
 use Rattle.ft_set.proofs.Joins.{xor_parts}
 use Rattle.ft_set.proofs.merges.xor_by.Goals as goal
 
@@ -18,4 +18,4 @@ part_by-requires-clause-parts c =
     let k = shape_of a.bank.now in
     let v = view a.pass.now in
     xor_parts k a.s a.t v c.requires.pass.1 a.pass.now.possible c.requires.may c.requires.other c.requires.set c.requires.other_set
-    (set_cap c.used_entries_follow_a_set.ensures.first k a.t v c.requires.pass.1 a.pass.now.possible c.requires.other c.requires.other_set)
+    (known_cap k a.t v c.requires.pass.1 a.pass.now.possible c.requires.other.keyed c.requires.other.locked c.requires.other.stands (record { pairs = c.used_entries_follow_a_dict.ensures.first; elements = c.used_entries_follow_a_set.ensures.first }))

@@ -1,0 +1,56 @@
+use Rattle.std.proofs.Common.{ℕ, ◌<◌, refl, sym, ◌∙◌, subst}
+use Rattle.ft_model.specs.declared.call.Call.TheVariants as call
+use Rattle.ft_model.specs.declared.call.DictCall.TheVariants as dict
+use Rattle.ft_model.specs.declared.script.Kind.{Kind}
+use Rattle.ft_trace.specs.Kinds.{IsKeyed}
+use Rattle.ft_bank.specs.Passes.{shape_of, view}
+use Rattle.ft_section.specs.declared.answers.Objects.TheVariants.{Two}
+use Rattle.ft_section.specs.Trying.{SectionsAfter}
+use Rattle.ft_section.proofs.Tries.{let_gone}
+use Rattle.ft_growth.proofs.Staying.{gone_as, making_added}
+use Rattle.ft_search.proofs.Calling.{making_may}
+use Rattle.ft_merging.proofs.JoinedCalls.{joins_cursors}
+use Rattle.ft_merging.proofs.Pairs.{are_in, has_each}
+use Rattle.ft_dict.proofs.merges.try_update.Goals as goal
+
+pub take_for-requires-clause-containers : goal.take_for-requires-clause-containers
+take_for-requires-clause-containers c = are_in (shape_of c.args.bank.now) c.args.d c.args.e c.requires.container c.requires.other
+
+pub update_by-added-requires-clause-pass : goal.update_by-added-requires-clause-pass
+update_by-added-requires-clause-pass c = c.in-Have.ensures.making.inside.0
+
+pub update_by-added-requires-clause-may : goal.update_by-added-requires-clause-may
+update_by-added-requires-clause-may c =
+    making_may c.args.bank.now c.take_for.new.pass (shape_of c.args.bank.now) c.args.d c.in-Have.ensures.making c.in-Have.ensures.making.inside.0.1 c.requires.container (subst (λ (z : Kind). IsKeyed z) (sym c.requires.dict) tt) (has_each (view c.take_for.new.pass) c.args.d c.args.e c.in-Have.ensures.has.0).0
+    (subst (λ (n : ℕ). 0 < n) (sym c.in-Have.ensures.locked.left) c.requires.left)
+
+pub update_by-added-requires-clause-other : goal.update_by-added-requires-clause-other
+update_by-added-requires-clause-other c =
+    making_may c.args.bank.now c.take_for.new.pass (shape_of c.args.bank.now) c.args.e c.in-Have.ensures.making c.in-Have.ensures.making.inside.0.1 c.requires.other (subst (λ (z : Kind). IsKeyed z) (sym c.requires.other_dict) tt) (has_each (view c.take_for.new.pass) c.args.d c.args.e c.in-Have.ensures.has.0).1
+    (subst (λ (n : ℕ). 0 < n) (sym c.in-Have.ensures.locked.left) c.requires.left)
+
+pub let_go-requires : goal.let_go-requires
+let_go-requires c =
+    let a = c.args in
+    let e = c.update_by-added.ensures in
+    let x = e.added in
+    making_added a.bank.now c.take_for.new.pass c.update_by-added.new.pass c.in-Have.ensures.making e.pass e.stack x.0 x.1 _ _ _ (call.Dict a.d (dict.Update a.e)) _ c.update_by-added.result (λ n l sections. refl) x.2
+
+pub returns-in-Have-clause-cursors : goal.returns-in-Have-clause-cursors
+returns-in-Have-clause-cursors c number =
+    let a = c.args in
+    c.let_go.ensures.locked.cursors number
+    ∙ (joins_cursors (shape_of a.bank.now) a.d a.e (call.Dict a.d (dict.Update a.e)) (view c.take_for.new.pass) (view c.update_by-added.new.pass) c.update_by-added.result c.update_by-added.ensures.added number
+    ∙ c.in-Have.ensures.locked.cursors number)
+
+pub returns-in-Have-clause-sections : goal.returns-in-Have-clause-sections
+returns-in-Have-clause-sections c =
+    let b = c.args.bank.now in
+    let p = c.args.pass.now in
+    let q = c.let_go.new.pass in
+    subst (SectionsAfter b (Two c.args.d c.args.e) p q) (sym c.step_of.ensures)
+    (gone_as b (Two c.args.d c.args.e) p q _ c.update_by-added.result
+    (let_gone b p c.take_for.new.pass c.update_by-added.new.pass q c.in-Have.ensures.took c.update_by-added.ensures.stack c.let_go.ensures.stack c.let_go.ensures.may c.let_go.ensures.resume))
+
+pub returns-in-NotYet-clause-sections : goal.returns-in-NotYet-clause-sections
+returns-in-NotYet-clause-sections c = c.in-NotYet.ensures.waiting

@@ -1,0 +1,21 @@
+use Rattle.std.proofs.Common.{◌*◌, ◌^◌, ◌<◌, sym, subst, arith}
+use Rattle.ft_trace.specs.declared.Shape.{Shape}
+use Rattle.ft_bank.specs.Passes.{shape_of, view}
+use Rattle.ft_bank.proofs.Showing.{serials_have_room}
+use Rattle.ft_merging.proofs.JoinedSame.{known_cap}
+use Rattle.ft_dict.proofs.Updated.{update_joins}
+use Rattle.ft_dict.proofs.merges.update_by.Goals as goal
+
+pub join_by-requires-clause-serials : goal.join_by-requires-clause-serials
+join_by-requires-clause-serials c =
+    let a = c.args in
+    let room = serials_have_room (view a.pass.now) a.d a.pass.now.possible (subst (λ (k : Shape). k.passes * k.calls < 2 ^ 46) (sym c.requires.pass.1) a.bank.now.few) c.requires.may.locked in
+    omega (arith, room)
+
+pub join_by-requires-clause-joins : goal.join_by-requires-clause-joins
+join_by-requires-clause-joins c =
+    let a = c.args in
+    let k = shape_of a.bank.now in
+    let v = view a.pass.now in
+    update_joins k a.d a.e v c.requires.pass.1 a.pass.now.possible c.requires.may c.requires.other c.requires.dict c.requires.other_dict
+    (known_cap k a.e v c.requires.pass.1 a.pass.now.possible c.requires.other.keyed c.requires.other.locked c.requires.other.stands (record { pairs = c.used_entries_follow_a_dict.ensures.first; elements = c.used_entries_follow_a_set.ensures.first }))

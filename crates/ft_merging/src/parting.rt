@@ -94,9 +94,7 @@ pub fn part_here(
     words_are_of_one_content();
     bank.start_write(pass, s);
     let end = counts.fill + more;
-    join_all(
-        bank, pass, s, Way::Set, own, t, table, others, end, counts,
-    );
+    join_all(bank, pass, s, Way::Set, own, t, table, others, end, counts);
     thin_all(bank, pass, s, own, t, false, counts.fill);
     finish_entries(bank, pass, s, own, end, called, &Reply::Done)
 }

@@ -131,7 +131,15 @@ fn thin_at(bank: &Bank, pass: &mut Pass, s: Object, table: Table, t: Object, kep
 }
 
 /// Takes the elements of as many entries out that are to go.
-pub(crate) fn thin_all(bank: &Bank, pass: &mut Pass, s: Object, table: Table, t: Object, kept: bool, fill: u64)
+pub(crate) fn thin_all(
+    bank: &Bank,
+    pass: &mut Pass,
+    s: Object,
+    table: Table,
+    t: Object,
+    kept: bool,
+    fill: u64,
+)
     requires pass { IsPassOf bank.now pass.old }
     requires set { kind_in (shape_of bank.now).kinds s ≡ kind.Set }
     requires other_set { kind_in (shape_of bank.now).kinds t ≡ kind.Set }

@@ -11,7 +11,7 @@ use Rattle.ft_model.specs.declared.data.Key.TheVariants as key
 use Rattle.ft_model.specs.declared.script.Kind.TheVariants as kind
 use Rattle.ft_model.specs.Contents.{IsSet, SetContent, has_element}
 use Rattle.ft_model.specs.Keys.{same_key}
-use Rattle.ft_model.specs.Worlds.{set_of}
+use Rattle.ft_model.specs.Worlds.{length_of, set_of}
 use Rattle.ft_model.proofs.KeyLemmas.{same_key-true}
 use Rattle.ft_layout.specs.declared.slot.Slot.TheVariants.{Never}
 use Rattle.ft_layout.specs.declared.slot.Stored.{Stored}
@@ -31,9 +31,9 @@ use Rattle.ft_trace.proofs.Known.{class_known}
 use Rattle.ft_bank.specs.declared.table.Table.{Table}
 use Rattle.ft_bank.specs.Tables.{name_of}
 use Rattle.ft_adding.specs.Growing.{KnowsKeyed}
-use Rattle.ft_adding.proofs.Keyed.{no_class}
 use Rattle.ft_adding.proofs.Placed.{none_used}
 use Rattle.ft_merging.proofs.Finished.{is_set}
+use Rattle.ft_merging.proofs.JoinedSame.{known_bare, no_length}
 use Rattle.ft_parting.specs.Choosing.{apart_pair, is_apart}
 
 -- ---- a set
@@ -62,16 +62,8 @@ module _ (k : Shape) (t : ℕ) (v : View) (shape : v.shape ≡ k) (possible : �
   -- where it has none it has no elements
   pub none_there : KnowsKeyed k t None v → set.elements ≡ []
   none_there keyed =
-      let says = set_stands None keyed in
-      by (known t v).table.class set says (no_class (held t v).block (known t v).table.class (length set.elements) (known t v).table.fill set.next says.head keyed.root)
-    where
-      no_map : (es : List Element) → map used_element es ≡ [] → es ≡ []
-      no_map [] e = refl
-      no_map (x ∷ xs) e = absurd (cc)
-
-      by : (class : Option ℕ) (others : SetContent) → IsSetWords k.texts (held t v).block (0 ∷ 0 ∷ (held t v).table) class (known t v).table.fill others → class ≡ None → others.elements ≡ []
-      by None others says e = no_map others.elements (sym says.entries.live ∙ ap (filter is_live) says.table)
-      by (Some class) others says e = absurd (cc)
+      no_length set.elements
+      (sym (ap length_of (is_set k v t shape possible keyed.locked is)) ∙ known_bare k t v shape possible keyed.keyed keyed.locked keyed.stands keyed.root)
 
 -- ---- which keys it has
 

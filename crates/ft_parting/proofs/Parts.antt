@@ -32,6 +32,8 @@ use Rattle.ft_search.specs.Writing.{Leaves}
 use Rattle.ft_merging.specs.Joining.{joined, new_keys}
 use Rattle.ft_merging.specs.Parting.{PartsBy, PartsSets, part_takes, parted, parted_kept}
 use Rattle.ft_merging.specs.Thinning.{thinned, thinned_kept}
+use Rattle.ft_merging.proofs.JoinedContents.{from_length}
+use Rattle.ft_merging.proofs.JoinedSame.{no_length}
 use Rattle.ft_replacing.specs.Replacing.{Replaces}
 
 -- ---- numbers
@@ -46,10 +48,6 @@ new_length d others first is =
 -- none is, where joining the other one changes nothing
 pub none_drawn : (d others : Content) → joined d others ≡ d → new_keys d others ≡ 0
 none_drawn d others same = let s = ap serial_of same in omega (arith, s)
-
-from_length : (next : ℕ) (es : List Element) → length (elements_from next es) ≡ length es
-from_length next [] = refl
-from_length next (e ∷ es) = ap suc (from_length (next + 1) es)
 
 -- so many are there then
 pub parted_length : (d others : Content) (first : SetContent) (stay more : ℕ) → d ≡ content.Set first → stay ≡ length (those_not_in (set_of others).elements first.elements) → more ≡ new_keys d others → length (parted d others).elements ≡ stay + more
@@ -91,10 +89,6 @@ part_room kept others class few takes =
     if_some false x c e = absurd (true≢false (sym (ap is_some e)))
 
 -- ---- where none is new
-
-no_length : (es : List Element) → length es ≡ 0 → es ≡ []
-no_length [] none = refl
-no_length (x ∷ xs) none = absurd (omega (arith, none))
 
 module _ (kept others : Kept) (first : SetContent) (is : kept.content ≡ content.Set first) (none : new_keys kept.content others.content ≡ 0) where
   abbrev oth : SetContent

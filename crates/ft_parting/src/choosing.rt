@@ -34,23 +34,14 @@ use ft_adding::{Counts, FreshWords, blank};
 use ft_bank::{Bank, Pass, Table};
 use ft_keys::{Found, Way, calls_keep_versions, place_new};
 use ft_layout::entry_word::{HASH, SERIAL};
-use ft_layout::{
-    Pair, Stored, changed_words_are_of_a_table, words_are_of_one_content,
-};
+use ft_layout::{Pair, Stored, changed_words_are_of_a_table, words_are_of_one_content};
 use ft_merging::{key_at, word_of};
 use ft_model::Key;
 use ft_search::{mask_of, read_by};
 use ft_section::Object;
 
 /// Whether a set, which has this table or none, has a key.
-fn has_key(
-    bank: &Bank,
-    pass: &mut Pass,
-    t: Object,
-    own: Option<Table>,
-    key: Key,
-    hash: u64,
-) -> bool
+fn has_key(bank: &Bank, pass: &mut Pass, t: Object, own: Option<Table>, key: Key, hash: u64) -> bool
     requires pass { IsPassOf bank.now pass.old }
     requires set { kind_in (shape_of bank.now).kinds t ≡ kind.Set }
     requires keyed { KnowsKeyed (shape_of bank.now) t own (view pass.old) }

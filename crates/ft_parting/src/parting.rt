@@ -220,9 +220,7 @@ fn part_more(
         Some(class) => part_in_taken(
             bank, pass, s, old, class, t, table, others, counts, count, more, called,
         ),
-        None => part_in_old(
-            bank, pass, s, old, t, table, others, counts, more, called,
-        ),
+        None => part_in_old(bank, pass, s, old, t, table, others, counts, more, called),
     }
 }
 

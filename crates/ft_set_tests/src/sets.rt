@@ -393,10 +393,7 @@ fn a_symmetric_difference_takes_the_table_for_what_is_left(rt: HostRuntime) -> R
         (
             Call::Items,
             reads(
-                elements(
-                    alloc,
-                    &[-1, 5, 4611686018427387902, 2305843009213693951, 0]
-                )?,
+                elements(alloc, &[-1, 5, 4611686018427387902, 2305843009213693951, 0])?,
                 8
             )
         ),

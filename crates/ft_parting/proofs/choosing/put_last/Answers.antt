@@ -19,7 +19,6 @@ use Rattle.ft_adding.specs.Fresh.{fresh_words}
 use Rattle.ft_adding.proofs.Copied.{ran_fresh, word_here}
 use Rattle.ft_parting.proofs.choosing.put_last.Goals as goal
 
-
 pub mask_of-old_mask-requires : goal.mask_of-old_mask-requires
 mask_of-old_mask-requires c = (c.requires.keyed.table_in c.args.old refl).0
 

@@ -95,7 +95,7 @@ serial_for-serial-requires c =
     let at = goal.at.serial_for-serial-requires c in
     let r = c.requires.chosen in
     let f = (few at.In-Some (told at.After-apart_at r.0 r.1 r.2 r.3)).2 in
-    low_serial a.first (a.count - a.start) (omega (arith, f)) c.requires.serials
+    record { low = low_serial a.first (a.count - a.start) (omega (arith, f)) c.requires.serials }
 
 pub overflow_add-result : goal.overflow_add-result
 overflow_add-result c =

@@ -426,15 +426,27 @@ fn an_update_puts_values_at_keys_and_new_keys_last(rt: HostRuntime) -> Result<()
         (Call::Set(9, 1), writes(Reply::Done, 4)),
         (Call::Set(-1, 2), writes(Reply::Done, 5)),
         (Call::Update, writes(Reply::Done, 6)),
-        (Call::Items, reads(pairs(alloc, &[(9, 90), (-1, 2), (5, 50), (-2, 20)])?, 7)),
+        (
+            Call::Items,
+            reads(pairs(alloc, &[(9, 90), (-1, 2), (5, 50), (-2, 20)])?, 7)
+        ),
         (Call::UpdateSelf, writes(Reply::Done, 7)),
-        (Call::Items, reads(pairs(alloc, &[(9, 90), (-1, 2), (5, 50), (-2, 20)])?, 8)),
-        (Call::ItemsOther, reads(pairs(alloc, &[(5, 50), (-2, 20), (9, 90)])?, 8)),
+        (
+            Call::Items,
+            reads(pairs(alloc, &[(9, 90), (-1, 2), (5, 50), (-2, 20)])?, 8)
+        ),
+        (
+            Call::ItemsOther,
+            reads(pairs(alloc, &[(5, 50), (-2, 20), (9, 90)])?, 8)
+        ),
         (Call::Del(5), writes(Reply::Done, 8)),
         (Call::SetOther(-1, 7), writes(Reply::Done, 9)),
         (Call::Set(9, 3), writes(Reply::Done, 10)),
         (Call::Update, writes(Reply::Done, 11)),
-        (Call::Items, reads(pairs(alloc, &[(9, 90), (-1, 7), (-2, 20), (5, 50)])?, 12)),
+        (
+            Call::Items,
+            reads(pairs(alloc, &[(9, 90), (-1, 7), (-2, 20), (5, 50)])?, 12)
+        ),
         (Call::Eq, reads(Reply::Truth(true), 12)),
         (Call::Get(-1), reads(value(7), 12)),
     ]?;
@@ -450,24 +462,71 @@ fn many_keys_of_another_dict_take_a_greater_table(rt: HostRuntime) -> Result<(),
         (Call::SetOther(5, 50), writes(Reply::Done, 0)),
         (Call::SetOther(-2, 20), writes(Reply::Done, 1)),
         (Call::SetOther(9, 90), writes(Reply::Done, 2)),
-        (Call::SetOther(2305843009213693951, 1), writes(Reply::Done, 3)),
+        (
+            Call::SetOther(2305843009213693951, 1),
+            writes(Reply::Done, 3)
+        ),
         (Call::SetOther(0, 2), writes(Reply::Done, 4)),
         (Call::Set(8, 80), writes(Reply::Done, 5)),
         (Call::Set(9, 91), writes(Reply::Done, 6)),
         (Call::Set(-1, 10), writes(Reply::Done, 7)),
         (Call::Del(8), writes(Reply::Done, 8)),
         (Call::Update, writes(Reply::Done, 9)),
-        (Call::Items, reads(pairs(alloc, &[(9, 90), (-1, 10), (5, 50), (-2, 20), (2305843009213693951, 1), (0, 2)])?, 10)),
+        (
+            Call::Items,
+            reads(
+                pairs(
+                    alloc,
+                    &[
+                        (9, 90),
+                        (-1, 10),
+                        (5, 50),
+                        (-2, 20),
+                        (2305843009213693951, 1),
+                        (0, 2)
+                    ]
+                )?,
+                10
+            )
+        ),
         (Call::Get(-2), reads(value(20), 10)),
         (Call::Get(2305843009213693951), reads(value(1), 10)),
         (Call::Clear, writes(Reply::Done, 10)),
         (Call::Update, writes(Reply::Done, 11)),
-        (Call::Items, reads(pairs(alloc, &[(5, 50), (-2, 20), (9, 90), (2305843009213693951, 1), (0, 2)])?, 12)),
+        (
+            Call::Items,
+            reads(
+                pairs(
+                    alloc,
+                    &[(5, 50), (-2, 20), (9, 90), (2305843009213693951, 1), (0, 2)]
+                )?,
+                12
+            )
+        ),
         (Call::Eq, reads(Reply::Truth(true), 12)),
-        (Call::SetOther(4611686018427387902, 3), writes(Reply::Done, 12)),
+        (
+            Call::SetOther(4611686018427387902, 3),
+            writes(Reply::Done, 12)
+        ),
         (Call::SetOther(9, 92), writes(Reply::Done, 13)),
         (Call::Update, writes(Reply::Done, 14)),
-        (Call::Items, reads(pairs(alloc, &[(5, 50), (-2, 20), (9, 92), (2305843009213693951, 1), (0, 2), (4611686018427387902, 3)])?, 15)),
+        (
+            Call::Items,
+            reads(
+                pairs(
+                    alloc,
+                    &[
+                        (5, 50),
+                        (-2, 20),
+                        (9, 92),
+                        (2305843009213693951, 1),
+                        (0, 2),
+                        (4611686018427387902, 3)
+                    ]
+                )?,
+                15
+            )
+        ),
         (Call::Eq, reads(Reply::Truth(true), 15)),
     ]?;
     assert_eq!(rt; in_new_bank(alloc, 4, 4, rows.as_slice())?, None);
@@ -485,10 +544,10 @@ fn no_value_is_put_where_there_is_no_table(rt: HostRuntime) -> Result<(), Fail> 
         (Call::SetOther(4, 40), writes(Reply::Done, 3)),
         (Call::SetOther(5, 50), writes(Reply::Done, 4)),
         (Call::SetOther(6, 60), writes(Reply::Done, 5)),
-        (Call::Set(9, 90), writes(Reply::Done, 6)),
+        (Call::Set(6, 90), writes(Reply::Done, 6)),
         (Call::Set(2, 0), writes(Reply::Done, 7)),
         (Call::Update, reads(Reply::Raised(Raise::Memory(4)), 8)),
-        (Call::Items, reads(pairs(alloc, &[(9, 90), (2, 0)])?, 8)),
+        (Call::Items, reads(pairs(alloc, &[(6, 90), (2, 0)])?, 8)),
         (Call::UpdateSelf, writes(Reply::Done, 8)),
         (Call::Clear, writes(Reply::Done, 9)),
         (Call::Update, reads(Reply::Raised(Raise::Memory(4)), 10)),

@@ -79,11 +79,30 @@ few c is =
     let f = few_places k a.table kind.Set a.count c.requires.table tt low in
     (low, omega (arith, n), f)
 
-pub overflow_sub : goal.overflow_sub
-overflow_sub c = ?
+pub overflow_sub-count : goal.overflow_sub-count
+overflow_sub-count c =
+    let at = goal.at.overflow_sub-count c in
+    let r = c.requires.chosen in
+    (few at.In-Some (told at.After-apart_at r.0 r.1 r.2 r.3)).1
 
-pub serial_for-serial-requires-clause-low : goal.serial_for-serial-requires-clause-low
-serial_for-serial-requires-clause-low c = ?
+low_serial : (first : Option ℕ) (more : ℕ) → more ≤ 65536 → IfSome first (λ next. next + 65536 < 2 ^ 63) → IfSome first (λ next. next + more < 2 ^ 64)
+low_serial None more low is = tt
+low_serial (Some next) more low is = omega (arith, low, is)
+
+pub serial_for-serial-requires : goal.serial_for-serial-requires
+serial_for-serial-requires c =
+    let a = c.args in
+    let at = goal.at.serial_for-serial-requires c in
+    let r = c.requires.chosen in
+    let f = (few at.In-Some (told at.After-apart_at r.0 r.1 r.2 r.3)).2 in
+    record { low = low_serial a.first (a.count - a.start) (omega (arith, f)) c.requires.serials }
+
+pub overflow_add-result : goal.overflow_add-result
+overflow_add-result c =
+    let at = goal.at.overflow_add-result c in
+    let r = c.requires.chosen in
+    let f = (few at.In-Some (told at.After-apart_at r.0 r.1 r.2 r.3)).2 in
+    omega (arith, f)
 
 pub put_last-requires-clause-keyed : goal.put_last-requires-clause-keyed
 put_last-requires-clause-keyed c =

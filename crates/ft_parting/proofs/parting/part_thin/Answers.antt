@@ -5,6 +5,7 @@ use Rattle.ft_model.specs.Tables.{passes_cap}
 use Rattle.ft_model.specs.Worlds.{set_of}
 use Rattle.ft_trace.specs.Holds.{known}
 use Rattle.ft_bank.specs.Passes.{shape_of, view}
+use Rattle.ft_growth.specs.declared.adding.Added.TheVariants as added
 use Rattle.ft_growth.specs.Adding.{IsAdded}
 use Rattle.ft_merging.specs.Parting.{parted}
 use Rattle.ft_merging.proofs.Finished.{is_set}
@@ -38,5 +39,5 @@ returns-clause-added c =
     let d = (goal.at.returns-clause-added c).After-used_entries_follow_a_set in
     let n = c.thin_by.ensures in
     let takes = thin_takes (known a.s v) (known a.t v) (set_of (known a.s v).content) (is_set k v a.s c.requires.pass.1 a.pass.now.possible c.requires.may.locked c.requires.set) c.requires.none in
-    subst (λ (z : Option ℕ × Bool). IsAdded k z.0 z.1 a.called.now reply.Done v w _) (λ i. (sym takes i, sym (few d) i))
+    subst (λ (z : Option ℕ × Bool). IsAdded k z.0 z.1 a.called.now reply.Done v w (added.Made c.written.result)) (λ i. (sym takes i, sym (few d) i))
     (made_here k a.s a.called.now v w c.written.result c.thin_by.result c.written.ensures c.requires.parts.changed n.wrote n.root)

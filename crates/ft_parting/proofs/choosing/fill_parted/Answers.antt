@@ -1,4 +1,4 @@
-use Rattle.std.proofs.Common.{◌≡◌, ◌≤◌, ◌+◌, ◌<◌, ◌^◌, ℕ, List, ◌++◌, length, Option, Some, None, refl, sym, ap, ◌∙◌, subst, arith}
+use Rattle.std.proofs.Common.{◌≡◌, ◌≤◌, ◌+◌, ◌<◌, ◌^◌, ℕ, List, ◌∷◌, ◌++◌, length, Option, Some, None, refl, sym, ap, ◌∙◌, subst, arith}
 use Rattle.std.proofs.lemmas.List.{append-nil, length-append, take_all}
 use Rattle.ft_model.specs.declared.content.Content.{Content}
 use Rattle.ft_model.specs.declared.content.Content.TheVariants as content
@@ -91,7 +91,7 @@ choose_all-requires-clause-fresh c = (both (goal.at.choose_all-requires-clause-f
 keyed_then : (c : After-keep_apart-stay) → KnowsKeyed (shape_of c.args.bank.now) c.args.t (Some c.args.other) (view c.keep_apart-stay.new.pass)
 keyed_then c = let a = c.args in knows_filled (shape_of a.bank.now) a.t (Some a.other) (view a.pass.now) (view c.keep_apart-stay.new.pass) c.requires.pass.1 (both c) c.requires.other_keyed
 
-used : After-keep_apart-stay → List UsedEntry
+abbrev used : After-keep_apart-stay → List UsedEntry
 used c = (set_words (shape_of c.args.bank.now) c.args.t (view c.keep_apart-stay.new.pass) c.keep_apart-stay.ensures.pass.1 c.keep_apart-stay.new.pass.possible c.requires.other_set c.args.other (keyed_then c)).used
 
 -- the new ones, as serials are drawn for them

@@ -1,4 +1,4 @@
-use Rattle.std.proofs.Common.{◌≡◌, ◌≤◌, ℕ, List, [], length, Option, Some, None, refl, sym, ap, ◌∙◌, subst, arith}
+use Rattle.std.proofs.Common.{◌≡◌, ◌≤◌, ℕ, not, List, [], length, Option, Some, None, refl, sym, ap, ◌∙◌, subst, arith}
 use Rattle.std.proofs.lemmas.List.{take_all}
 use Rattle.ft_model.specs.declared.content.Element.{Element}
 use Rattle.ft_model.specs.declared.script.Kind.TheVariants as kind
@@ -28,7 +28,7 @@ keyed c = subst (λ (z : Option Table). KnowsKeyed (shape_of c.args.bank.now) c.
 pub choose_all-requires-clause-keyed : goal.choose_all-requires-clause-keyed
 choose_all-requires-clause-keyed c = keyed (goal.at.choose_all-requires-clause-keyed c).In-Some
 
-used : In-Some → List UsedEntry
+abbrev used : In-Some → List UsedEntry
 used c = (set_words (shape_of c.args.bank.now) c.args.s (view c.args.pass.now) c.requires.pass.1 c.args.pass.now.possible c.requires.set c.in-Some.own (keyed c)).used
 
 -- those that it keeps

@@ -29,7 +29,7 @@ use ft_layout::{
 use ft_search::mask_of;
 
 /// Puts 0 into each word of a table that is fresh in hand.
-fn blank(bank: &Bank, pass: &mut Pass, table: Table)
+pub fn blank(bank: &Bank, pass: &mut Pass, table: Table)
     requires pass { IsPassOf bank.now pass.old }
     requires table { IsTableIn (shape_of bank.now) table }
     requires fresh { stage (name_of table) (view pass.old).log ≡ 1 }

@@ -19,7 +19,7 @@ use Rattle.ft_engine.specs.declared.engine.Engine.{Engine}
 use Rattle.ft_engine.specs.Answering.{AddsNothing, HasNone, HasToWait}
 use Rattle.ft_engine.specs.Attempts.{ComesAgain, MayAttempt, flight_after}
 use Rattle.ft_engine.specs.Flights.{IsAnswered, IsNext}
-use Rattle.ft_engine.specs.Names.{FitsSections, IsBuilt, IsCallIn}
+use Rattle.ft_engine.specs.Names.{FitsSections, IsCallIn}
 
 -- as many open sections allow the same calls
 fits_same : (s t : Stack) (called : Call) → length t.sections ≡ length s.sections → FitsSections s called → FitsSections t called
@@ -39,7 +39,6 @@ tried_again e c d called may unanswered adds sections hands calls made flies = r
   left = λ none. let l = may.left unanswered in omega (arith, l, calls, made);
   sections = λ none. fits_same (stack_of c.pass) (stack_of d.pass) called sections (may.sections unanswered);
   online = adds.pass.online may.online;
-  built = may.built;
 }
 
 -- it waits
@@ -54,14 +53,13 @@ moved_again e c d called may unanswered x hands calls made flies =
     tried_again e c d called may unanswered x.entry (ap (λ (s : Stack). length s.sections) x.gone.stack) hands calls made flies
 
 -- it has its answer, and its innermost section waits
-pub answered_again : (e : Engine) (d : Caller) (called : Call) (t : Tried) → flight_after called t d.flight → (ComesAgain t → IsAnswered d.flight) → 0 < announces (view d.pass).log → IsBuilt called → ComesAgain t → MayAttempt e d called
-answered_again e d called t after answered online built again = record {
+pub answered_again : (e : Engine) (d : Caller) (called : Call) (t : Tried) → flight_after called t d.flight → (ComesAgain t → IsAnswered d.flight) → 0 < announces (view d.pass).log → ComesAgain t → MayAttempt e d called
+answered_again e d called t after answered online again = record {
   next = next t after (answered again) again;
   names = λ none. absurd (none (answered again));
   left = λ none. absurd (none (answered again));
   sections = λ none. absurd (none (answered again));
   online = online;
-  built = built;
 }
   where
     next : (u : Tried) → flight_after called u d.flight → IsAnswered d.flight → ComesAgain u → IsNext d.flight called

@@ -36,6 +36,7 @@ use Rattle.ft_keyed.specs.Copies.{IsCopyGlanceOf, IsCopyOf}
 use Rattle.ft_dict.specs.Copies.{CopiesTo}
 use Rattle.ft_dict.specs.Values.{SetsDefault}
 use Rattle.ft_merging.specs.Joining.{JoinsBy}
+use Rattle.ft_merging.specs.Parting.{PartsBy}
 use Rattle.ft_replacing.specs.Replacing.{IsReplaced}
 use Rattle.ft_engine.specs.Answering.{IsLooked, IsTryOf}
 use Rattle.ft_engine.specs.Contentions.{StopsCall}
@@ -79,6 +80,10 @@ default_outcome k d key default said v w result left x =
 pub joins_outcome : (k : Shape) (o t : ℕ) (called : Call) (v w : View) (result : Step) → 0 < v.left → IsAddTryOf (Two o t) (JoinsBy k o t called) reply.Done v w result → Outcome called (Two o t) v w result
 joins_outcome k o t called v w result left x =
     add_outcome (Two o t) (JoinsBy k o t called) called reply.Done v w result (λ u z what some y. loaded_comes k _ _ called reply.Done u y.0 z what some y.1 y.2) left x
+
+pub parts_outcome : (k : Shape) (s t : ℕ) (called : Call) (v w : View) (result : Step) → 0 < v.left → IsAddTryOf (Two s t) (PartsBy k s t called) reply.Done v w result → Outcome called (Two s t) v w result
+parts_outcome k s t called v w result left x =
+    add_outcome (Two s t) (PartsBy k s t called) called reply.Done v w result (λ u z what some y. loaded_comes k _ _ called reply.Done u y.0 z what some y.1 y.2) left x
 
 replaced_comes : (k : Shape) (takes : Option ℕ) (called : Call) (v w : View) (what : Added) → 0 < v.left → IsReplaced k takes called v w what → Comes called v w (step_after what reply.Done)
 replaced_comes k None called v w (added.Made stamp) left x = gave_up_adds called reply.Done stamp v x.1.0 w x.0 x.1.1 x.1.2

@@ -35,7 +35,7 @@ use Rattle.ft_section.specs.Trying.{HasLetGo}
 use Rattle.ft_engine.specs.Callers.{AreOver}
 use Rattle.ft_engine.specs.Contentions.{StopsCall, WasContended, may_look}
 use Rattle.ft_engine.specs.Flights.{is_begin, objects_of}
-use Rattle.ft_engine.specs.Names.{FitsSections, IsBuilt, IsCallIn}
+use Rattle.ft_engine.specs.Names.{FitsSections, IsCallIn}
 use Rattle.ft_engine.specs.Keeping.{made_entry, marks_in, marks_after}
 use Rattle.ft_engine.specs.Stacks.{StackAfter}
 
@@ -118,7 +118,6 @@ pub record MayMake (b : Bank) (p : Pass) (hands : List (Option Cursor)) (called 
   pub sections : FitsSections (stack_of p) called
   pub left : 0 < (view p).left
   pub online : 0 < announces (view p).log
-  pub built : IsBuilt called
 
 -- only a call that has its answer changes a cursor
 abbrev pub LeavesHands : Step → List (Option Cursor) → List (Option Cursor) → Type 0

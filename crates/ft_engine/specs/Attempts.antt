@@ -20,7 +20,7 @@ use Rattle.ft_engine.specs.Callers.{flight_of, left_of}
 use Rattle.ft_engine.specs.Contentions.{WasContended, may_look}
 use Rattle.ft_engine.specs.Flights.{IsAnswered, IsNext}
 use Rattle.ft_engine.specs.Keeping.{kept_entry}
-use Rattle.ft_engine.specs.Names.{FitsSections, IsBuilt, IsCallIn}
+use Rattle.ft_engine.specs.Names.{FitsSections, IsCallIn}
 
 -- ---- what it asks
 
@@ -32,7 +32,6 @@ pub record MayAttempt (e : Engine) (c : Caller) (called : Call) : Type 0 where
   pub left : (IsAnswered c.flight → ⊥) → 0 < left_of c
   pub sections : (IsAnswered c.flight → ⊥) → FitsSections (stack_of c.pass) called
   pub online : 0 < announces (view c.pass).log
-  pub built : IsBuilt called
 
 -- ---- what it answers
 

@@ -90,32 +90,3 @@ FitsSections s (call.List o lc) = Unit {0}
 FitsSections s (call.Set o sc) = Unit {0}
 FitsSections s (call.Next number) = Unit {0}
 FitsSections s call.Quiesce = Unit {0}
-
--- the calls on sets that an engine makes so far: all but `xor`
-abbrev pub IsBuiltSet : SetCall → Type 0
-IsBuiltSet (set.Add key) = Unit {0}
-IsBuiltSet (set.Discard key) = Unit {0}
-IsBuiltSet (set.Remove key) = Unit {0}
-IsBuiltSet set.Pop = Unit {0}
-IsBuiltSet (set.Has key) = Unit {0}
-IsBuiltSet set.Len = Unit {0}
-IsBuiltSet set.Items = Unit {0}
-IsBuiltSet (set.Eq other) = Unit {0}
-IsBuiltSet (set.Or other) = Unit {0}
-IsBuiltSet (set.And other) = Unit {0}
-IsBuiltSet (set.Sub other) = Unit {0}
-IsBuiltSet (set.Xor other) = ⊥
-IsBuiltSet (set.Subset other) = Unit {0}
-IsBuiltSet (set.Disjoint other) = Unit {0}
-IsBuiltSet set.Clear = Unit {0}
-IsBuiltSet (set.Iter cursor) = Unit {0}
-
--- the calls that an engine makes so far: all but those on sets that it doesn't
-abbrev pub IsBuilt : Call → Type 0
-IsBuilt (call.Dict o dc) = Unit {0}
-IsBuilt (call.List o lc) = Unit {0}
-IsBuilt (call.Set o sc) = IsBuiltSet sc
-IsBuilt (call.Next number) = Unit {0}
-IsBuilt (call.Begin first second) = Unit {0}
-IsBuilt call.End = Unit {0}
-IsBuilt call.Quiesce = Unit {0}

@@ -10,7 +10,7 @@ ghost use Rattle.ft_engine.specs.Attempts.{MayAttempt, StaysCaller, after_look, 
 ghost use Rattle.ft_engine.specs.Callers.{IsCallerOf, IsIdle, flight_of, pass_of, thread_of};
 ghost use Rattle.ft_engine.specs.Contentions.{may_look};
 ghost use Rattle.ft_engine.specs.Keeping.{IsKept};
-ghost use Rattle.ft_engine.specs.Names.{IsBuilt, IsCallIn};
+ghost use Rattle.ft_engine.specs.Names.{IsCallIn};
 
 use crate::caller::{Caller, Flight};
 use crate::dict_call::look_dict;
@@ -41,7 +41,6 @@ fn is_looking(call: &Call) -> bool
 fn look_call(bank: &Bank, pass: &mut Pass, alloc: Global, call: &Call) -> Option<Look>
     requires pass { IsPassOf bank.now pass.old }
     requires names { (hands : List (Option Cursor)) × IsCallIn (shape_of bank.now) hands call.now }
-    requires built { IsBuilt call.now }
     requires online { 0 < announces (view pass.old).log }
     requires left { 0 < (view pass.old).left }
     ensures pass { IsPassOf bank.now pass.new }

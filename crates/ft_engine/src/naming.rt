@@ -5,7 +5,7 @@ ghost use Rattle.ft_trace.specs.Addresses.{containers_in};
 ghost use Rattle.ft_bank.specs.Passes.{shape_of, view};
 ghost use Rattle.ft_engine.specs.Attempts.{MayAttempt};
 ghost use Rattle.ft_engine.specs.Callers.{IsOfKindIn, bank_of, hands_of, pass_of};
-ghost use Rattle.ft_engine.specs.Names.{AreOfKindIn, HasKey, IsBuilt, IsBuiltSet, IsCallIn, key_of_dict, key_of_set};
+ghost use Rattle.ft_engine.specs.Names.{AreOfKindIn, HasKey, IsCallIn, key_of_dict, key_of_set};
 
 use crate::caller::Caller;
 use crate::engine::Engine;
@@ -40,23 +40,6 @@ fn set_key(call: &SetCall) -> Option<Key>
         | SetCall::Has { key } => Some(key),
         _ => None,
     }
-}
-
-/// Whether the engine makes the call.
-fn is_built(call: &Call) -> bool
-    ensures { IsTrue result ↔ IsBuilt call.now }
-{
-    match *call {
-        Call::Set { call, .. } => is_built_set(&call),
-        _ => true,
-    }
-}
-
-/// Whether it makes the call on a set.
-fn is_built_set(call: &SetCall) -> bool
-    ensures { IsTrue result ↔ IsBuiltSet call.now }
-{
-    !matches!(*call, SetCall::Xor { .. })
 }
 
 impl Engine {
@@ -137,6 +120,5 @@ impl Engine {
         caller.comes_next(call)
             && (caller.is_answered()
                 || caller.left() > 0 && caller.fits(call) && self.has_named(caller, call))
-            && is_built(call)
     }
 }

@@ -11,7 +11,7 @@ ghost use Rattle.ft_section.specs.Ready.{MayTry};
 ghost use Rattle.ft_engine.specs.Answering.{HasLooked, IsTryOf, Looked};
 ghost use Rattle.ft_engine.specs.Contentions.{may_look};
 ghost use Rattle.ft_engine.specs.Flights.{objects_by};
-ghost use Rattle.ft_engine.specs.Names.{AreOfKindIn, HasKey, IsBuiltSet, key_of_set};
+ghost use Rattle.ft_engine.specs.Names.{AreOfKindIn, HasKey, key_of_set};
 
 use crate::settling::settle;
 use ft_bank::{Bank, Pass};
@@ -20,7 +20,7 @@ use ft_section::{Look, Object, Step};
 use ft_set::{
     look_eq, look_has, look_items, look_len, try_add, try_and, try_clear, try_discard,
     try_disjoint, try_eq, try_has, try_items, try_len, try_or, try_pop, try_remove, try_sub,
-    try_subset,
+    try_subset, try_xor,
 };
 use std::alloc::Global;
 
@@ -35,7 +35,6 @@ pub(crate) fn look_set(
     requires pass { IsPassOf bank.now pass.old }
     requires names { AreOfKindIn (shape_of bank.now) kind.Set s (other_set call.now) }
     requires key { HasKey (shape_of bank.now) (key_of_set call.now) }
-    requires built { IsBuiltSet call.now }
     requires online { 0 < announces (view pass.old).log }
     requires left { 0 < (view pass.old).left }
     ensures pass { IsPassOf bank.now pass.new }
@@ -69,7 +68,6 @@ fn try_set_call(bank: &Bank, pass: &mut Pass, alloc: Global, s: Object, call: &S
     requires names { AreOfKindIn (shape_of bank.now) kind.Set s (other_set call.now) }
     requires key { HasKey (shape_of bank.now) (key_of_set call.now) }
     requires no_cursor { cursor_of_set call.now ≡ None }
-    requires built { IsBuiltSet call.now }
     requires left { 0 < (view pass.old).left }
     ensures { (hands : List (Option Cursor)) → IsTryOf bank.now hands (calls.Set s call.now) pass.old pass.new result }
 {
@@ -86,7 +84,7 @@ fn try_set_call(bank: &Bank, pass: &mut Pass, alloc: Global, s: Object, call: &S
         SetCall::Or { other } => try_or(bank, pass, s, other),
         SetCall::And { other } => try_and(bank, pass, s, other),
         SetCall::Sub { other } => try_sub(bank, pass, s, other),
-        SetCall::Xor { .. } => unreachable!(),
+        SetCall::Xor { other } => try_xor(bank, pass, s, other),
         SetCall::Subset { other } => try_subset(bank, pass, s, other),
         SetCall::Disjoint { other } => try_disjoint(bank, pass, s, other),
         SetCall::Iter { .. } => unreachable!(),
@@ -105,7 +103,6 @@ pub(crate) fn call_set(
     requires names { AreOfKindIn (shape_of bank.now) kind.Set s (other_set call.now) }
     requires key { HasKey (shape_of bank.now) (key_of_set call.now) }
     requires no_cursor { cursor_of_set call.now ≡ None }
-    requires built { IsBuiltSet call.now }
     requires online { 0 < announces (view pass.old).log }
     requires left { 0 < (view pass.old).left }
     ensures tried { (hands : List (Option Cursor)) → IsTryOf bank.now hands (calls.Set s call.now) pass.old pass.new result }

@@ -5,7 +5,7 @@ use ft_engine_tests::{Case, comes_out};
 use std::process::Abort;
 use std::test::Fail;
 
-const LISTS: [Case<'static>; 6] = [
+const LISTS: [Case<'static>; 7] = [
     // A list from both ends.
     Case {
         script: "list l\n\
@@ -165,6 +165,36 @@ const LISTS: [Case<'static>; 6] = [
             A.7 w5 or s s = ok\n\
             A.8 r6 len s = 3\n\
             A.9 r6 len t = 2\n",
+    },
+    // A set that loses what another one has too, and gets what it has besides: in its table, then in a greater one.
+    Case {
+        script: "set s\n\
+            set t\n\
+            thread A\n\
+            add s 1\n\
+            add s 2\n\
+            add s 3\n\
+            add t 4\n\
+            add t 2\n\
+            xor s t\n\
+            items s\n\
+            xor s t\n\
+            items s\n\
+            xor s s\n\
+            len s\n\
+            len t\n",
+        transcript: "A.1 w0 add s 1 = ok\n\
+            A.2 w1 add s 2 = ok\n\
+            A.3 w2 add s 3 = ok\n\
+            A.4 w3 add t 4 = ok\n\
+            A.5 w4 add t 2 = ok\n\
+            A.6 w5 xor s t = ok\n\
+            A.7 r6 items s = {1, 3, 4}\n\
+            A.8 w6 xor s t = ok\n\
+            A.9 r7 items s = {1, 3, 2}\n\
+            A.10 w7 xor s s = ok\n\
+            A.11 r8 len s = 0\n\
+            A.12 r8 len t = 2\n",
     },
     // A dict that gets the pairs of another one, and its own.
     Case {

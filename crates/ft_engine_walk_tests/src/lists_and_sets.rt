@@ -4,7 +4,7 @@ use ft_engine_tests::{Case, comes_out};
 use std::process::Abort;
 use std::test::Fail;
 
-const OTHERS: [Case<'static>; 5] = [
+const OTHERS: [Case<'static>; 6] = [
     // A list is walked by its index: it may grow, and items that move are met again or passed.
     Case {
         script: "list l\n\
@@ -73,6 +73,32 @@ const OTHERS: [Case<'static>; 5] = [
             A.7 r4 next c = 2\n\
             A.8 r4 next c = 3\n\
             A.9 r4 next c = StopIteration\n",
+    },
+    // As many elements go as come.
+    Case {
+        script: "set s\n\
+            set t\n\
+            thread A\n\
+            add s 1\n\
+            add s 2\n\
+            add t 1\n\
+            add t 3\n\
+            iter s c\n\
+            next c\n\
+            xor s t\n\
+            next c\n\
+            next c\n\
+            next c\n",
+        transcript: "A.1 w0 add s 1 = ok\n\
+            A.2 w1 add s 2 = ok\n\
+            A.3 w2 add t 1 = ok\n\
+            A.4 w3 add t 3 = ok\n\
+            A.5 r4 iter s c = ok\n\
+            A.6 r4 next c = 1\n\
+            A.7 w4 xor s t = ok\n\
+            A.8 r5 next c = 2\n\
+            A.9 r5 next c = 3\n\
+            A.10 r5 next c = StopIteration\n",
     },
     // A list that is cleared, and has items again.
     Case {

@@ -1,5 +1,5 @@
 -- The beginning and the end of a write that takes elements out of a set.
-use Rattle.std.proofs.Common.{◌≡◌, ◌≢◌, ℕ, suc, ◌%◌, ◌<◌, ◌≤◌, Bool, true, false, List, [], ◌∷◌, filter, cond, ne_eqb, Option, Some, None, refl, sym, ap, ◌∙◌, subst, arith}
+use Rattle.std.proofs.Common.{◌≡◌, ◌≢◌, ℕ, suc, ◌+◌, ◌%◌, ◌<◌, ◌≤◌, Bool, true, false, List, [], ◌∷◌, filter, cond, ne_eqb, Option, Some, None, refl, sym, ap, ◌∙◌, subst, arith}
 use Rattle.std.specs.Prelude.{map, not, slice_index}
 use Rattle.ft_model.specs.declared.call.Call.{Call}
 use Rattle.ft_model.specs.declared.content.Content.{Content}
@@ -13,16 +13,18 @@ use Rattle.ft_model.specs.Classes.{set_entries}
 use Rattle.ft_model.specs.Contents.{SetContent, has_element}
 use Rattle.ft_model.specs.Tables.{StoredWorld, TableUse}
 use Rattle.ft_model.specs.Worlds.{kind_of, set_of}
-use Rattle.ft_layout.specs.Containers.{used_element, IsSetWords}
-use Rattle.ft_layout.specs.Tables.{is_live}
+use Rattle.ft_hash.specs.Probes.{set_walk}
+use Rattle.ft_layout.specs.Containers.{class_mask, used_element, IsSetWords}
+use Rattle.ft_layout.specs.Tables.{is_live, set_room}
 use Rattle.ft_layout.specs.Words.{FitsKey}
 use Rattle.ft_layout.proofs.KindLaws.{head_of}
+use Rattle.ft_layout.proofs.WordLaws.{kind_range}
 use Rattle.ft_trace.specs.declared.Act.TheVariants.{StartWrite}
 use Rattle.ft_trace.specs.declared.Shape.{Shape}
 use Rattle.ft_trace.specs.declared.View.{View}
 use Rattle.ft_trace.specs.Acts.{has_committed, has_lock, is_writing, noted, owes}
 use Rattle.ft_trace.specs.Addresses.{class_of, containers_in, slots}
-use Rattle.ft_trace.specs.Carefuls.{IsDead}
+use Rattle.ft_trace.specs.Carefuls.{IsDead, IsLive}
 use Rattle.ft_trace.specs.Holds.{held, known}
 use Rattle.ft_trace.specs.Kinds.{ClearAs, rows, under, version_at}
 use Rattle.ft_trace.specs.Openings.{Shut}
@@ -34,6 +36,7 @@ use Rattle.ft_trace.proofs.FitCalls.{set_fits_words}
 use Rattle.ft_trace.proofs.Known.{class_known}
 use Rattle.ft_trace.proofs.LookReplies.{element_there}
 use Rattle.ft_trace.proofs.SetKnown as set
+use Rattle.ft_trace.proofs.Tellings.{word_is}
 use Rattle.ft_bank.specs.declared.table.Table.{Table}
 use Rattle.ft_bank.specs.Tables.{name_of}
 use Rattle.ft_bank.specs.Whole.{OnlyLoaded, OnlyPut}
@@ -46,10 +49,10 @@ use Rattle.ft_search.proofs.Endings.{leaves_later, may_commit, writes_begun}
 use Rattle.ft_search.proofs.Holding.{set_known}
 use Rattle.ft_search.proofs.Puts.{table_class}
 use Rattle.ft_merging.specs.Thinning.{stays, thinned, thinned_kept}
-use Rattle.ft_merging.specs.Internal.Thinning.{IsThinned}
+use Rattle.ft_merging.specs.Internal.Thinning.{IsThinned, spared}
 use Rattle.ft_merging.specs.Internal.Writing.{IsMidway, MayFinishAll, version_of}
 use Rattle.ft_merging.proofs.Ending.{Laws, clear_of}
-use Rattle.ft_merging.proofs.Thinned.{thinned_all}
+use Rattle.ft_merging.proofs.Thinned.{spared_own, thinned_all}
 
 -- what the pass knows is a set
 pub is_set : (k : Shape) (v : View) (s : ℕ) → v.shape ≡ k → ∥ Possible v ∥₁ → has_lock s v.log ≡ true → kind_in k.kinds s ≡ kind.Set → (known s v).content ≡ content.Set (set_of (known s v).content)
@@ -120,7 +123,7 @@ module _ (k : Shape) (s : ℕ) (table : Table) (kept : Bool) (others : SetConten
   abbrev first : SetContent
   first = set_of (known s v).content
 
-  first_known : (known s v).content ≡ content.Set first
+  pub first_known : (known s v).content ≡ content.Set first
   first_known = is_set k v s shape possible may.locked is
 
   held_back : held s v ≡ held s u
@@ -132,7 +135,7 @@ module _ (k : Shape) (s : ℕ) (table : Table) (kept : Bool) (others : SetConten
   first_stands : Stands k.texts (held s v) (record { content = content.Set first; table = (known s v).table })
   first_stands = subst (λ (z : Content). Stands k.texts (held s v) (record { content = z; table = (known s v).table })) first_known may.stands
 
-  first_says : IsSetWords k.texts (held s v).block (0 ∷ 0 ∷ (held s v).table) (Some (class_of t)) (known s v).table.fill first
+  pub first_says : IsSetWords k.texts (held s v).block (0 ∷ 0 ∷ (held s v).table) (Some (class_of t)) (known s v).table.fill first
   first_says = subst (λ (z : Option ℕ). IsSetWords k.texts (held s v).block (0 ∷ 0 ∷ (held s v).table) z (known s v).table.fill first) (class_known k.texts (held s v) (known s v) t may.stands has.root) first_stands
 
   pub fill_fits : set.FirstEntriesAreElements → (known s v).table.fill ≤ set_entries (class_of t)
@@ -142,54 +145,63 @@ module _ (k : Shape) (s : ℕ) (table : Table) (kept : Bool) (others : SetConten
       let r = set.room_is elements k.texts (held s v).block (class_of t) (known s v).table.fill (table_class k table has.table_in) first (held s v).table first_says in
       omega (arith, f, g, r)
 
-  evens : (p : ℕ) → p < rows (kind_in k.kinds s) (class_of t) → version_of t (held s v) p % 2 ≡ 0
+  pub evens : (p : ℕ) → p < rows (kind_in k.kinds s) (class_of t) → version_of t (held s v) p % 2 ≡ 0
   evens p less =
       let shut : Shut (version_at kind.Set (class_of t)) (rows kind.Set (class_of t)) (held s v).table = subst (λ (z : Kind). Shut (version_at z (class_of t)) (rows z (class_of t)) (held s v).table) (ap kind_of first_known) (shut_known k v s t shape possible may.container may.locked may.even has.root) in
       shut p (subst (λ (z : Kind). p < rows z (class_of t)) is less)
 
+  -- an entry that was never used isn't there
+  pub unused : set.FirstEntriesAreElements → (p : ℕ) (key : Key) → p < set_entries (class_of t) → (known s v).table.fill ≤ p → IsLive (slots (class_of t)) (held s v).table p key → ⊥
+  unused elements p key less up live =
+      let class = table_class k table has.table_in in
+      let filled = first_says.filled in
+      let room = set.room_is elements k.texts (held s v).block (class_of t) (known s v).table.fill class first (held s v).table first_says in
+      let none = (first_says.table.unused p (omega (arith, filled, up)) (omega (arith, room, less))).kind in
+      let word = word_is (λ hash. set_walk hash (class_mask (class_of t)) (class_mask (class_of t) + 14)) (set_room (class_mask (class_of t))) k.texts (class_of t) class first_says.used (held s v).table first_says.table p 2 in
+      let kind = live.0 in
+      let some = (kind_range key).0 in
+      absurd (omega (arith, none, word, kind, some))
+
+  -- what it has once those are out that don't stay
+  abbrev pub thinned_to : Kept
+  thinned_to = record { content = content.Set (thinned kept others first); table = (known s v).table }
+
   -- before the first deletion
-  pub thinned_begins : IsThinned k s table kept others first 0 u
-  thinned_begins = record {
+  pub thinned_begins : set.FirstEntriesAreElements → IsThinned k s table kept others first thinned_to (known s v).table.fill 0 u
+  thinned_begins elements = record {
     mid = first;
     midway = record {
       writes = writes_begun k s table v u f begun may has;
       early = ap (λ (z : View). has_committed s z.log) begun ∙ hit s false (has_committed s v.log);
-      stands = subst (λ (z : Picture × Kept). Stands k.texts z.0 (record { content = content.Set first; table = z.1.table })) (λ d. (held_back d, known_back d)) first_stands;
+      stands = subst (λ (z : Picture). Stands k.texts z (record { content = content.Set first; table = (known s v).table })) held_back first_stands;
       same = λ p key less even live. ap (λ (z : Content). under z key) (sym first_known ∙ ap (λ (z : Kept). z.content) known_back);
       gone = subst (λ (z : Picture). (p : ℕ) (key : Key) → p < rows (kind_in k.kinds s) (class_of t) → version_of t z p % 2 ≡ 1 → IsDead (slots (class_of t)) z.table p key → under (content.Set first) key ≡ []) held_back (λ p key less odd dead. let e = evens p less in absurd (omega (arith, e, odd)));
-      opened = subst (λ (z : Picture × Kept). (p : ℕ) → p < rows (kind_in k.kinds s) (class_of t) → version_of t z.0 p % 2 ≡ 1 → p < z.1.table.fill) (λ d. (held_back d, known_back d)) (λ p less odd. let e = evens p less in absurd (omega (arith, e, odd)));
+      opened = subst (λ (z : Picture). (p : ℕ) → p < rows (kind_in k.kinds s) (class_of t) → version_of t z p % 2 ≡ 1 → p < (known s v).table.fill) held_back (λ p less odd. let e = evens p less in absurd (omega (arith, e, odd)));
     };
     first_is = ap (λ (z : Kept). z.content) (sym known_back) ∙ first_known;
     fits = set_fits_words k.texts (held s v).block (0 ∷ 0 ∷ (held s v).table) (class_of t) (known s v).table.fill first first_says;
-    next = refl;
-    left = refl;
-    even = subst (λ (z : Picture). (p : ℕ) → p < rows (kind_in k.kinds s) (class_of t) → 0 ≤ p → version_of t z p % 2 ≡ 0) held_back (λ p less up. evens p less);
+    comes = ap (λ (es : List Element). content.Set (record { next = first.next; elements = es })) (spared_own kept others first first.elements (λ key there. there));
+    even = subst (λ (z : Picture). (p : ℕ) → p < rows (kind_in k.kinds s) (class_of t) → 0 ≤ p → p < (known s v).table.fill → version_of t z p % 2 ≡ 0) held_back (λ p less up low. evens p less);
     done = λ p key less none ok live. absurd (omega (arith, none));
+    rest = subst (λ (z : Picture). (p : ℕ) (key : Key) → p < rows (kind_in k.kinds s) (class_of t) → (known s v).table.fill ≤ p → FitsKey key → IsLive (slots (class_of t)) z.table p key → spared kept others first key ≡ true) held_back
+        (λ p key less up ok live. absurd (unused elements p key (subst (λ (z : Kind). p < rows z (class_of t)) is less) up live));
   }
 
   -- after the last one
-  module _ (laws : Laws) (w : View) (only : OnlyPut s u w) (fill : ℕ) (all : fill ≡ (known s v).table.fill) (th : IsThinned k s table kept others first fill w) (called : Call) (said : Reply) (after : Kept) (after_content : after.content ≡ content.Set (thinned kept others first)) (after_table : after.table ≡ (known s v).table) (leaves : Leaves s called said after v) where
+  module _ (laws : Laws) (w : View) (only : OnlyPut s u w) (last : ℕ) (left : SetContent) (table_left : TableUse) (th : IsThinned k s table kept others first (record { content = content.Set left; table = table_left }) last last w) (called : Call) (said : Reply) (leaves : Leaves s called said (record { content = content.Set left; table = table_left }) v) where
+    abbrev after : Kept
+    after = record { content = content.Set left; table = table_left }
+
     known_now : known s w ≡ known s v
     known_now = work_knows u w s only.work ∙ sym known_back
 
-    mid_is : th.mid ≡ thinned kept others first
-    mid_is =
-        let n = th.next in
-        let e = thinned_all k s table kept others first fill w is th laws.elements (all ∙ sym (ap (λ (z : Kept). z.table.fill) known_now)) in
-        λ i. record { next = n i; elements = sym e i }
-
-    after_is : record { content = content.Set th.mid; table = (known s w).table } ≡ after
-    after_is = (λ i. record { content = content.Set (mid_is i); table = (known_now i).table }) ∙ (λ i. record { content = sym after_content i; table = sym after_table i })
-
     midway : IsMidway k s table after w
-    midway = subst (λ (z : Kept). IsMidway k s table z w) after_is th.midway
+    midway = subst (λ (z : Content). IsMidway k s table (record { content = z; table = table_left }) w) (thinned_all k s table kept others first after last last w is th laws.elements refl) th.midway
 
-    here : ClearAs kind.Set k.texts (class_of t) (held s w).table (known s v).content (content.Set (thinned kept others first))
+    here : ClearAs kind.Set k.texts (class_of t) (held s w).table (known s v).content (content.Set left)
     here =
-        let kept_now : Kept = record { content = content.Set (thinned kept others first); table = after.table } in
-        let stands : Stands k.texts (held s w) kept_now = subst (λ (z : Content). Stands k.texts (held s w) (record { content = z; table = after.table })) after_content midway.stands in
-        clear_of laws k.texts (held s w) t (table_class k table has.table_in) midway.writes.root (content.Set (thinned kept others first)) kept_now refl tt stands (known s v).content
-        (λ p key low even live. sym (ap (λ (z : Content). under z key) after_content) ∙ (midway.same p key (subst (λ (z : Kind). p < rows z (class_of t)) (sym is) low) even live ∙ ap (λ (z : Kept). under z.content key) known_now))
+        clear_of laws k.texts (held s w) t (table_class k table has.table_in) midway.writes.root (content.Set left) after refl tt midway.stands (known s v).content
+        (λ p key low even live. midway.same p key (subst (λ (z : Kind). p < rows z (class_of t)) (sym is) low) even live ∙ ap (λ (z : Kept). under z.content key) known_now)
 
     clears : (q : ℕ) → root_in (held s w) ≡ suc q → ClearAs (kind_in v.shape.kinds s) v.shape.texts (class_of q) (held s w).table (known s v).content after.content
     clears q names =
@@ -197,15 +209,15 @@ module _ (k : Shape) (s : ℕ) (table : Table) (kept : Bool) (others : SetConten
         let kind_now : kind.Set ≡ kind_in v.shape.kinds s = sym (ap (λ (z : Shape). kind_in z.kinds s) shape ∙ is) in
         let texts_now : k.texts ≡ v.shape.texts = sym (ap (λ (z : Shape). z.texts) shape) in
         let class_now : class_of t ≡ class_of q = ap class_of same in
-        subst (λ (z : Kind × List ℕ × ℕ × Content). ClearAs z.0 z.1 z.2 (held s w).table (known s v).content z.3) (λ d. (kind_now d, texts_now d, class_now d, sym after_content d)) here
+        subst (λ (z : Kind × List ℕ × ℕ). ClearAs z.0 z.1 z.2 (held s w).table (known s v).content (content.Set left)) (λ d. (kind_now d, texts_now d, class_now d)) here
 
-    pub thinned_finishes : MayFinishAll k s table fill called said w
+    pub thinned_finishes : MayFinishAll k s table table_left.fill called said w
     thinned_finishes = record {
       may = may_commit s v u w f begun only called said after leaves (subst (λ (z : Shape). s < containers_in z) (sym shape) may.container) may.left may.owes clears;
       changed = leaves.changed;
       left = after;
       left_is = (leaves_later s v u w f begun only called said after leaves).left_is;
-      used = ap (λ (z : TableUse). z.fill) after_table ∙ sym all;
+      used = refl;
       midway = midway;
     }
 

@@ -305,7 +305,7 @@ keys_differ key (e ∷ es) xs none all = go (λ ys eq. keys_differ key es ys (λ
         let tail : filter is_live es ≡ map used_element ys = cc in
         first x ys (λ same. none 0 e (omega arith) live (same ∙ sym (ap (λ (z : UsedEntry). z.key) head))) (rest ys tail)
 
-from_length : (next : ℕ) (es : List Element) → length (elements_from next es) ≡ length es
+pub from_length : (next : ℕ) (es : List Element) → length (elements_from next es) ≡ length es
 from_length next [] = refl
 from_length next (e ∷ es) = ap suc (from_length (next + 1) es)
 

@@ -31,7 +31,7 @@ use Rattle.ft_merging.proofs.Ending.{Laws}
 use Rattle.ft_merging.proofs.JoinedContents.{or_itself, or_none}
 use Rattle.ft_merging.proofs.JoinedPairs.{update_bare, update_itself, update_next}
 
-no_length : {X : Type 0} (xs : List X) → length xs ≡ 0 → xs ≡ []
+pub no_length : {X : Type 0} (xs : List X) → length xs ≡ 0 → xs ≡ []
 no_length [] none = refl
 no_length (x ∷ xs) none = absurd (omega (arith, none))
 

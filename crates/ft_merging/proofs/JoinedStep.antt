@@ -183,7 +183,7 @@ module _ (laws : PlaceLaws) (k : Shape) (o : ℕ) (by : Way) (own : Table) (mid 
   stage = body_stage n m x.table slot p un (body p (entry_words pair)) (body_puts p (entry_words pair))
 
   -- the words of the other entries
-  others_same : (q w : ℕ) → q ≢ p → w < 8 → entry_of n y.table q w ≡ entry_of n x.table q w
+  pub others_same : (q w : ℕ) → q ≢ p → w < 8 → entry_of n y.table q w ≡ entry_of n x.table q w
   others_same q w ne few =
       let in_index = un.in_index in
       get_or-set_other (slice_set l (entry_at n p 2) (key_kind key)) slot (entry_at n q w) (p + 1) 0 (λ e. absurd (omega (arith, e, in_index)))

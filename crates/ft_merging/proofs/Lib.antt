@@ -1,6 +1,8 @@
 pub mod Ending
 pub mod Thinned
 pub mod Finished
+pub mod Parted
+pub mod PartedHere
 pub mod JoinedContents
 pub mod JoinedReads
 pub mod JoinedPairs

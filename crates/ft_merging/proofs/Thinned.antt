@@ -17,7 +17,7 @@ use Rattle.ft_model.specs.Classes.{IsClass, set_entries}
 use Rattle.ft_model.specs.Contents.{SetContent, IsSet, has_element, set_discard}
 use Rattle.ft_model.specs.Keys.{same_key}
 use Rattle.ft_model.specs.Tables.{TableUse}
-use Rattle.ft_model.proofs.KeyLemmas.{same_key-true}
+use Rattle.ft_model.proofs.KeyLemmas.{same_key-refl, same_key-true}
 use Rattle.ft_hash.specs.Probes.{set_walk}
 use Rattle.ft_hash.proofs.Walks.{set_walk-within}
 use Rattle.ft_layout.specs.Words.{FitsKey, gone_kind}
@@ -55,7 +55,7 @@ use Rattle.ft_search.proofs.Changing.{with_count}
 use Rattle.ft_search.proofs.Laws.{SetLaws}
 use Rattle.ft_search.proofs.Puts.{table_class, writes_on}
 use Rattle.ft_merging.specs.Thinning.{stays}
-use Rattle.ft_merging.specs.Internal.Thinning.{IsThinned}
+use Rattle.ft_merging.specs.Internal.Thinning.{IsThinned, spared}
 use Rattle.ft_merging.specs.Internal.Writing.{IsMidway, NoneDead, version_of}
 
 -- ---- elements
@@ -85,7 +85,7 @@ none_filtered test keep (e ∷ es) none =
     ] refl none
 
 -- what is there is found
-found_words : (test : Element → Bool) (es : List Element) → list_any test es ≡ true → option_map_or element_words (find test es) [] ≢ []
+pub found_words : (test : Element → Bool) (es : List Element) → list_any test es ≡ true → option_map_or element_words (find test es) [] ≢ []
 found_words test [] some = absurd (cc)
 found_words test (e ∷ es) some =
     elim (test e) as (λ b. (b || list_any test es) ≡ true → option_map_or element_words (cond b (Some e) (find test es)) [] ≢ []) [
@@ -104,6 +104,21 @@ all_stay f (e ∷ es) fits each =
     let here = each e.key (fits 0 e (omega arith)) (ap (λ (b : Bool). b || list_any (λ (x : Element). is_key x.key e.key) es) (key_is e.key e.key refl refl)) in
     let rest = all_stay f es (λ i d low. fits (suc i) d (omega (arith, low))) (λ key ok there. each key ok (later (is_key e.key key) (list_any (λ (x : Element). is_key x.key key) es) there)) in
     ap (λ (b : Bool). cond b (e ∷ filter (λ (x : Element). f x.key) es) (filter (λ (x : Element). f x.key) es)) here ∙ ap (λ (z : List Element). e ∷ z) rest
+
+-- one of those that were there stays, or it goes, and a new one stays
+pub spared_stays : (kept : Bool) (others first : SetContent) (key : Key) → stays kept others key ≡ true → spared kept others first key ≡ true
+spared_stays kept others first key is = later (not (has_element first.elements key)) (stays kept others key) is
+
+pub spared_goes : (kept : Bool) (others first : SetContent) (key : Key) → has_element first.elements key ≡ true → stays kept others key ≡ false → spared kept others first key ≡ false
+spared_goes kept others first key there out = ap (λ (b : Bool). not b || stays kept others key) there ∙ out
+
+pub spared_own : (kept : Bool) (others first : SetContent) (es : List Element) → ((key : Key) → has_element es key ≡ true → has_element first.elements key ≡ true) → filter (λ (e : Element). spared kept others first e.key) es ≡ filter (λ (e : Element). stays kept others e.key) es
+spared_own kept others first [] each = refl
+spared_own kept others first (e ∷ es) each =
+    let there = each e.key (ap (λ (b : Bool). b || has_element es e.key) (same_key-refl e.key)) in
+    let here : spared kept others first e.key ≡ stays kept others e.key = ap (λ (b : Bool). not b || stays kept others e.key) there in
+    let rest = spared_own kept others first es (λ key is. each key (later (same_key e.key key) (has_element es key) is)) in
+    λ i. cond (here i) (e ∷ rest i) (rest i)
 
 -- ---- an entry of a set whose other entries may be written too
 
@@ -275,7 +290,7 @@ midway_loaded k o table mid v w only b =
       opened = subst (λ (y : Picture). (p : ℕ) → p < m → version_of t y p % 2 ≡ 1 → p < mid.table.fill) back b.opened;
     }
 
-module _ (k : Shape) (s : ℕ) (table : Table) (kept : Bool) (others first : SetContent) (place : ℕ) (v w : View) (only : OnlyLoaded v w) (th : IsThinned k s table kept others first place v) where
+module _ (k : Shape) (s : ℕ) (table : Table) (kept : Bool) (others first : SetContent) (to : Kept) (last place : ℕ) (v w : View) (only : OnlyLoaded v w) (th : IsThinned k s table kept others first to last place v) where
   abbrev lt : ℕ
   lt = name_of table
 
@@ -288,19 +303,19 @@ module _ (k : Shape) (s : ℕ) (table : Table) (kept : Bool) (others first : Set
   knows' : known s v ≡ known s w
   knows' = sym (work_knows v w s only.work)
 
-  pub thinned_loaded : IsThinned k s table kept others first place w
+  pub thinned_loaded : IsThinned k s table kept others first to last place w
   thinned_loaded = record {
     mid = th.mid;
-    midway = subst (λ (y : Kept). IsMidway k s table (record { content = content.Set th.mid; table = y.table }) w) knows' (midway_loaded k s table (record { content = content.Set th.mid; table = (known s v).table }) v w only th.midway);
+    midway = midway_loaded k s table (record { content = content.Set th.mid; table = to.table }) v w only th.midway;
     first_is = ap (λ (y : Kept). y.content) (sym knows') ∙ th.first_is;
     fits = th.fits;
-    next = th.next;
-    left = th.left;
-    even = subst (λ (y : Picture). (p : ℕ) → p < lm → place ≤ p → version_of lt y p % 2 ≡ 0) back' th.even;
-    done = subst (λ (y : Picture). (p : ℕ) (key : Key) → p < lm → p < place → FitsKey key → IsLive (slots (class_of lt)) y.table p key → stays kept others key ≡ true) back' th.done;
+    comes = th.comes;
+    even = subst (λ (y : Picture). (p : ℕ) → p < lm → place ≤ p → p < last → version_of lt y p % 2 ≡ 0) back' th.even;
+    done = subst (λ (y : Picture). (p : ℕ) (key : Key) → p < lm → p < place → FitsKey key → IsLive (slots (class_of lt)) y.table p key → spared kept others first key ≡ true) back' th.done;
+    rest = subst (λ (y : Picture). (p : ℕ) (key : Key) → p < lm → last ≤ p → FitsKey key → IsLive (slots (class_of lt)) y.table p key → spared kept others first key ≡ true) back' th.rest;
   }
 
-module _ (k : Shape) (s : ℕ) (table : Table) (kept : Bool) (others first : SetContent) (place : ℕ) (v : View) (is : kind_in k.kinds s ≡ kind.Set) (th : IsThinned k s table kept others first place v) where
+module _ (k : Shape) (s : ℕ) (table : Table) (kept : Bool) (others first : SetContent) (to : Kept) (last place : ℕ) (v : View) (is : kind_in k.kinds s ≡ kind.Set) (th : IsThinned k s table kept others first to last place v) where
   abbrev vt : ℕ
   vt = name_of table
 
@@ -314,7 +329,7 @@ module _ (k : Shape) (s : ℕ) (table : Table) (kept : Bool) (others first : Set
   words_now = held s v
 
   abbrev tab : TableUse
-  tab = (known s v).table
+  tab = to.table
 
   class_is : IsClass (class_of vt)
   class_is = table_class k table th.midway.writes.table_in
@@ -336,9 +351,9 @@ module _ (k : Shape) (s : ℕ) (table : Table) (kept : Bool) (others first : Set
 
   -- ---- the entry at this place, where a key is there
 
-  module _ (laws : SetLaws) (low : place < vm) (key : Key) (live : IsLive vn words_now.table place key) (fits : FitsKey key) where
+  module _ (laws : SetLaws) (low : place < vm) (early : place < last) (key : Key) (live : IsLive vn words_now.table place key) (fits : FitsKey key) where
     even_here : version_of vt words_now place % 2 ≡ 0
-    even_here = th.even place (row place low) (omega arith)
+    even_here = th.even place (row place low) (omega arith) early
 
     pub hash_is : entry_of vn words_now.table place 1 ≡ hash_of k.texts key
     hash_is = hash_here laws k.texts words_now tab vt class_is th.mid says_now place key low live fits
@@ -355,7 +370,7 @@ module _ (k : Shape) (s : ℕ) (table : Table) (kept : Bool) (others first : Set
     pub some_there : 0 < slice_index words_now.block 1
     some_there = some laws k.texts words_now tab vt class_is th.mid says_now place key low live fits class_some th.midway.writes.root (set.set_is_long v s vt th.midway.writes.root) even_here
 
-    module _ (z : View) (only : OnlyPut s v z) (puts : held s z ≡ with_puts words_now (deletion vt place key words_now)) (out : stays kept others key ≡ false) where
+    module _ (z : View) (only : OnlyPut s v z) (puts : held s z ≡ with_puts words_now (deletion vt place key words_now)) (out : spared kept others first key ≡ false) where
       abbrev long : vn + 8 * vm ≤ length words_now.table
       long = set.set_is_long v s vt th.midway.writes.root
 
@@ -402,13 +417,13 @@ module _ (k : Shape) (s : ℕ) (table : Table) (kept : Bool) (others first : Set
           (λ (e : p ≡ place). let u = used_place laws k.texts words_now tab vt class_is th.mid says_now place key low live fits in omega (arith, e, u))
           (λ ne. let e = same_word p 0 ne (omega arith) in th.midway.opened p less (omega (arith, e, odd)))
 
-      even_then : (p : ℕ) → p < rows (kind_in k.kinds s) (class_of vt) → place + 1 ≤ p → version_of vt words_then p % 2 ≡ 0
-      even_then p less up =
+      even_then : (p : ℕ) → p < rows (kind_in k.kinds s) (class_of vt) → place + 1 ≤ p → p < last → version_of vt words_then p % 2 ≡ 0
+      even_then p less up before =
           let e = same_word p 0 (λ (same : p ≡ place). omega (arith, same, up)) (omega arith) in
-          let old = th.even p less (omega (arith, up)) in
+          let old = th.even p less (omega (arith, up)) before in
           omega (arith, e, old)
 
-      done_then : (p : ℕ) (a : Key) → p < rows (kind_in k.kinds s) (class_of vt) → p < place + 1 → FitsKey a → IsLive vn words_then.table p a → stays kept others a ≡ true
+      done_then : (p : ℕ) (a : Key) → p < rows (kind_in k.kinds s) (class_of vt) → p < place + 1 → FitsKey a → IsLive vn words_then.table p a → spared kept others first a ≡ true
       done_then p a less up ok l =
           dite (ℕ_discrete p place)
           (λ (e : p ≡ place). absurd (not_live laws k.texts words_now tab vt class_is th.mid says_now place key low live fits class_some th.midway.writes.root long even_here a (subst (λ (q : ℕ). IsLive vn words_then.table q a) e l)))
@@ -417,56 +432,64 @@ module _ (k : Shape) (s : ℕ) (table : Table) (kept : Bool) (others first : Set
           before : (a b : ℕ) → a ≢ b → a < b + 1 → a < b
           before a b ne up = dite (dec_lt a b) (λ (less : a < b). less) (λ past. absurd (ne (omega (arith, past, up))))
 
-      midway_then : IsMidway k s table (record { content = mid_then; table = (known s z).table }) z
+      rest_then : (p : ℕ) (a : Key) → p < rows (kind_in k.kinds s) (class_of vt) → last ≤ p → FitsKey a → IsLive vn words_then.table p a → spared kept others first a ≡ true
+      rest_then p a less up ok l = th.rest p a less up ok (live_before p a (λ (e : p ≡ place). omega (arith, e, up, early)) l)
+
+      midway_then : IsMidway k s table (record { content = mid_then; table = tab }) z
       midway_then = record {
         writes = writes_on k s table v z only (ap root_in puts ∙ now_root laws k.texts words_now tab vt class_is th.mid says_now place key low live fits class_some th.midway.writes.root long even_here) th.midway.writes;
         early = only.work.committed s ∙ th.midway.early;
-        stands = subst (λ (y : Picture × Kept). Stands k.texts y.0 (record { content = mid_then; table = y.1.table })) (λ d. (back d, knows d)) (now_stands laws k.texts words_now tab vt class_is th.mid says_now place key low live fits class_some th.midway.writes.root long even_here);
+        stands = subst (λ (y : Picture). Stands k.texts y (record { content = mid_then; table = tab })) back (now_stands laws k.texts words_now tab vt class_is th.mid says_now place key low live fits class_some th.midway.writes.root long even_here);
         same = subst (λ (y : Picture × Kept). (p : ℕ) (a : Key) → p < rows (kind_in k.kinds s) (class_of vt) → version_of vt y.0 p % 2 ≡ 0 → IsLive vn y.0.table p a → under mid_then a ≡ under y.1.content a) (λ d. (back d, knows d)) same_then;
-        gone = subst (λ (y : Picture × Kept). NoneDead vt (rows (kind_in k.kinds s) (class_of vt)) y.0 (record { content = mid_then; table = y.1.table })) (λ d. (back d, knows d)) gone_then;
-        opened = subst (λ (y : Picture × Kept). (p : ℕ) → p < rows (kind_in k.kinds s) (class_of vt) → version_of vt y.0 p % 2 ≡ 1 → p < y.1.table.fill) (λ d. (back d, knows d)) opened_then;
+        gone = subst (λ (y : Picture). NoneDead vt (rows (kind_in k.kinds s) (class_of vt)) y (record { content = mid_then; table = tab })) back gone_then;
+        opened = subst (λ (y : Picture). (p : ℕ) → p < rows (kind_in k.kinds s) (class_of vt) → version_of vt y p % 2 ≡ 1 → p < tab.fill) back opened_then;
       }
 
-      pub thinned_goes : IsThinned k s table kept others first (place + 1) z
+      pub thinned_goes : IsThinned k s table kept others first to last (place + 1) z
       thinned_goes = record {
         mid = set_discard th.mid key;
         midway = midway_then;
         first_is = ap (λ (y : Kept). y.content) (sym knows) ∙ th.first_is;
         fits = th.fits;
-        next = th.next;
-        left = discard_stays (stays kept others) key out th.mid.elements ∙ th.left;
-        even = subst (λ (y : Picture). (p : ℕ) → p < rows (kind_in k.kinds s) (class_of vt) → place + 1 ≤ p → version_of vt y p % 2 ≡ 0) back even_then;
-        done = subst (λ (y : Picture). (p : ℕ) (a : Key) → p < rows (kind_in k.kinds s) (class_of vt) → p < place + 1 → FitsKey a → IsLive vn y.table p a → stays kept others a ≡ true) back done_then;
+        comes = ap (λ (es : List Element). content.Set (record { next = th.mid.next; elements = es })) (discard_stays (spared kept others first) key out th.mid.elements) ∙ th.comes;
+        even = subst (λ (y : Picture). (p : ℕ) → p < rows (kind_in k.kinds s) (class_of vt) → place + 1 ≤ p → p < last → version_of vt y p % 2 ≡ 0) back even_then;
+        done = subst (λ (y : Picture). (p : ℕ) (a : Key) → p < rows (kind_in k.kinds s) (class_of vt) → p < place + 1 → FitsKey a → IsLive vn y.table p a → spared kept others first a ≡ true) back done_then;
+        rest = subst (λ (y : Picture). (p : ℕ) (a : Key) → p < rows (kind_in k.kinds s) (class_of vt) → last ≤ p → FitsKey a → IsLive vn y.table p a → spared kept others first a ≡ true) back rest_then;
       }
 
   -- ---- where it stays, or none is there
 
-  pub thinned_stays : ((key : Key) → FitsKey key → IsLive vn words_now.table place key → stays kept others key ≡ true) → IsThinned k s table kept others first (place + 1) v
+  pub thinned_stays : ((key : Key) → FitsKey key → IsLive vn words_now.table place key → spared kept others first key ≡ true) → IsThinned k s table kept others first to last (place + 1) v
   thinned_stays each = record {
     mid = th.mid;
     midway = th.midway;
     first_is = th.first_is;
     fits = th.fits;
-    next = th.next;
-    left = th.left;
-    even = λ p less up. th.even p less (omega (arith, up));
+    comes = th.comes;
+    even = λ p less up before. th.even p less (omega (arith, up)) before;
     done = λ p key less up ok live.
         dite (dec_lt p place)
         (λ (before : p < place). th.done p key less before ok live)
         (λ past. let same : p ≡ place = omega (arith, past, up) in each key ok (subst (λ (q : ℕ). IsLive vn words_now.table q key) same live));
+    rest = th.rest;
   }
 
   -- ---- once all entries were looked at
 
-  pub thinned_all : set.FirstEntriesAreElements → place ≡ tab.fill → filter (λ element. stays kept others element.key) first.elements ≡ th.mid.elements
+  pub thinned_all : set.FirstEntriesAreElements → place ≡ last → content.Set th.mid ≡ to.content
   thinned_all first_element all =
-      sym th.left
-      ∙ all_stay (stays kept others) th.mid.elements (set_fits_words k.texts words_now.block (0 ∷ 0 ∷ words_now.table) (class_of vt) tab.fill th.mid says_now)
-      (λ key ok there.
-      let walk : ℕ → List ℕ = λ hash. set_walk hash (class_mask (class_of vt)) (class_mask (class_of vt) + 14) in
-      let r = right_is_live walk (set_room (class_mask (class_of vt))) k.texts (class_of vt) class_is says_now.used words_now.table says_now.table used_element th.mid.elements (λ test. first_element says_now.used th.mid test says_now.entries) key (found_words (λ (e : Element). is_key e.key key) th.mid.elements there) in
-      let inside = r.1 in
-      let count = says_now.filled in
-      let room : set_room (class_mask (class_of vt)) ≡ vm = set.room_is first_element k.texts words_now.block (class_of vt) tab.fill class_is th.mid words_now.table says_now in
-      let few = says_now.table.fill in
-      th.done r.0 key (row r.0 (omega (arith, inside, few, room))) (omega (arith, inside, count, all)) ok r.2)
+      ap (λ (es : List Element). content.Set (record { next = th.mid.next; elements = es })) (sym all_left) ∙ th.comes
+    where
+      all_left : filter (λ element. spared kept others first element.key) th.mid.elements ≡ th.mid.elements
+      all_left =
+          all_stay (spared kept others first) th.mid.elements (set_fits_words k.texts words_now.block (0 ∷ 0 ∷ words_now.table) (class_of vt) tab.fill th.mid says_now)
+          (λ key ok there.
+          let walk : ℕ → List ℕ = λ hash. set_walk hash (class_mask (class_of vt)) (class_mask (class_of vt) + 14) in
+          let r = right_is_live walk (set_room (class_mask (class_of vt))) k.texts (class_of vt) class_is says_now.used words_now.table says_now.table used_element th.mid.elements (λ test. first_element says_now.used th.mid test says_now.entries) key (found_words (λ (e : Element). is_key e.key key) th.mid.elements there) in
+          let inside = r.1 in
+          let room : set_room (class_mask (class_of vt)) ≡ vm = set.room_is first_element k.texts words_now.block (class_of vt) tab.fill class_is th.mid words_now.table says_now in
+          let few = says_now.table.fill in
+          let low = row r.0 (omega (arith, inside, few, room)) in
+          dite (dec_lt r.0 last)
+          (λ (before : r.0 < last). th.done r.0 key low (omega (arith, before, all)) ok r.2)
+          (λ past. th.rest r.0 key low (omega (arith, past)) ok r.2))

@@ -1,3 +1,4 @@
 pub mod Thinning
 pub mod Joining
+pub mod Parting
 pub mod Internal

@@ -8,9 +8,12 @@
 mod closing;
 mod counting;
 mod joining;
+mod parting;
 mod putting;
 mod reading;
 mod thinning;
 
 pub use crate::joining::join_by;
+pub use crate::parting::{count_lacking, part_here};
+pub use crate::reading::{key_at, own_table, word_of};
 pub use crate::thinning::thin_by;

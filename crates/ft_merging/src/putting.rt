@@ -1,9 +1,10 @@
 //! The keys of one dict or set are put into another one that is written, one by one, in the order of their entries, and
 //! its values at those that are there: the version of each entry that is written is odd until all are put.
-ghost use Rattle.std.specs.Prelude.{◌≡◌, ◌≢◌, suc, ◌+◌, ◌^◌, ◌<◌, false, Some};
+ghost use Rattle.std.specs.Prelude.{◌≡◌, ◌≢◌, suc, ◌+◌, ◌^◌, ◌<◌, ◌≤◌, false, Some};
 ghost use Rattle.ft_layout.specs.Tables.{hash_of};
 ghost use Rattle.ft_layout.specs.Words.{FitsKey};
 ghost use Rattle.ft_model.specs.declared.reply.Reply.TheVariants as reply;
+ghost use Rattle.ft_model.specs.declared.script.Kind.TheVariants as kind;
 ghost use Rattle.ft_model.specs.Worlds.{kind_of};
 ghost use Rattle.ft_trace.specs.declared.View.{View};
 ghost use Rattle.ft_trace.specs.Acts.{has_committed};
@@ -22,7 +23,7 @@ ghost use Rattle.ft_search.specs.Writing.{WritesEntries};
 ghost use Rattle.ft_adding.specs.declared.counts.Counts.{Counts};
 ghost use Rattle.ft_adding.specs.Growing.{KnowsKeyed};
 ghost use Rattle.ft_merging.specs.Joining.{joined};
-ghost use Rattle.ft_merging.specs.Internal.Joining.{IsJoining, IsSought, stored_puts};
+ghost use Rattle.ft_merging.specs.Internal.Joining.{IsJoining, IsSought, KeepsBelow, stored_puts};
 ghost use Rattle.ft_merging.specs.Internal.Writing.{MayFinishAll};
 
 use crate::closing::finish_entries;
@@ -138,6 +139,9 @@ fn join_at(
     ensures joining { IsJoining (shape_of bank.now) o way own t table
         (joined (known o (view pass.old)).content (known t (view pass.old)).content) end (place + 1) result
         (view pass.new) }
+    ensures more { counts.fill ≤ result.fill }
+    ensures keeps { kind_by way ≡ kind.Set →
+        KeepsBelow (name_of own) counts.fill (held o (view pass.old)) (held o (view pass.new)) }
 {
     let _ = end;
     versions_change_nothing();
@@ -168,7 +172,7 @@ fn join_at(
 }
 
 /// Puts the pairs of as many entries into a container that is written. Answers what it counts then.
-fn join_all(
+pub(crate) fn join_all(
     bank: &Bank,
     pass: &mut Pass,
     o: Object,
@@ -192,6 +196,8 @@ fn join_all(
     ensures only { OnlyPut o (view pass.old) (view pass.new) }
     ensures joining { IsJoining (shape_of bank.now) o way own t table
         (joined (known o (view pass.old)).content (known t (view pass.old)).content) end fill result (view pass.new) }
+    ensures keeps { kind_by way ≡ kind.Set →
+        KeepsBelow (name_of own) first.fill (held o (view pass.old)) (held o (view pass.new)) }
 {
     let mut counts = first;
     for place in 0..fill {

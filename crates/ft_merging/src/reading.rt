@@ -49,14 +49,7 @@ fn key_said(kind: u64, payload: u64) -> Option<Key>
 }
 
 /// Loads a word of an entry.
-pub(crate) fn word_of(
-    bank: &Bank,
-    pass: &mut Pass,
-    o: Object,
-    table: Table,
-    place: u64,
-    word: u64,
-) -> u64
+pub fn word_of(bank: &Bank, pass: &mut Pass, o: Object, table: Table, place: u64, word: u64) -> u64
     requires pass { IsPassOf bank.now pass.old }
     requires container { o < containers_in (shape_of bank.now) }
     requires keyed { IsKeyed (kind_in (shape_of bank.now).kinds o) }
@@ -75,13 +68,7 @@ pub(crate) fn word_of(
 }
 
 /// The key of the entry at a place, if one is there.
-pub(crate) fn key_at(
-    bank: &Bank,
-    pass: &mut Pass,
-    o: Object,
-    table: Table,
-    place: u64,
-) -> Option<Key>
+pub fn key_at(bank: &Bank, pass: &mut Pass, o: Object, table: Table, place: u64) -> Option<Key>
     requires pass { IsPassOf bank.now pass.old }
     requires container { o < containers_in (shape_of bank.now) }
     requires keyed { IsKeyed (kind_in (shape_of bank.now).kinds o) }
@@ -148,7 +135,7 @@ pub(crate) fn pair_at(
 }
 
 /// The table that the root of a dict or a set names, or none.
-pub(crate) fn own_table(bank: &Bank, pass: &mut Pass, o: Object) -> Option<Table>
+pub fn own_table(bank: &Bank, pass: &mut Pass, o: Object) -> Option<Table>
     requires pass { IsPassOf bank.now pass.old }
     requires may { MayWriteEntries (shape_of bank.now) o (view pass.old) }
     ensures pass { IsPassOf bank.now pass.new }

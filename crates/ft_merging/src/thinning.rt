@@ -1,6 +1,6 @@
 //! Elements of a set are taken out that another set has, or that it hasn't: as one whole write. A set that is named
 //! twice is read as it stood before.
-ghost use Rattle.std.specs.Prelude.{◌≡◌, ◌≢◌, ◌+◌, ◌<◌, ◌≤◌, true, false, Option, Some, None, not};
+ghost use Rattle.std.specs.Prelude.{◌≡◌, ◌≢◌, ℕ, ◌+◌, ◌<◌, ◌≤◌, true, false, Option, Some, None, not};
 ghost use Rattle.ft_layout.specs.Tables.{hash_of};
 ghost use Rattle.ft_layout.specs.Words.{FitsKey};
 ghost use Rattle.ft_model.specs.declared.data.Key.{Key};
@@ -13,7 +13,7 @@ ghost use Rattle.ft_trace.specs.Carefuls.{IsLive};
 ghost use Rattle.ft_trace.specs.Holds.{held, known};
 ghost use Rattle.ft_trace.specs.Kinds.{rows};
 ghost use Rattle.ft_trace.specs.Words.{root_in};
-ghost use Rattle.ft_trace.specs.Worlds.{kind_in};
+ghost use Rattle.ft_trace.specs.Worlds.{Kept, kind_in};
 ghost use Rattle.ft_bank.specs.Passes.{shape_of, view, IsPassOf};
 ghost use Rattle.ft_bank.specs.Sections.{stack_of};
 ghost use Rattle.ft_bank.specs.Tables.{name_of};
@@ -76,8 +76,9 @@ fn goes_at(
     requires other_set { kind_in (shape_of bank.now).kinds t ≡ kind.Set }
     requires place { place < rows kind.Set (class_of (name_of table)) }
     requires other { s ≢ t → MayWriteEntries (shape_of bank.now) t (view pass.old) }
-    requires thinned { IsThinned (shape_of bank.now) s table kept (set_of (known t (view pass.old)).content)
-        (set_of (known s (view pass.old)).content) place (view pass.old) }
+    requires thinned { (to : Kept) × (last : ℕ) × (place < last) × IsThinned (shape_of bank.now) s table kept
+        (set_of (known t (view pass.old)).content) (set_of (known s (view pass.old)).content) to last place
+        (view pass.old) }
     ensures pass { IsPassOf bank.now pass.new }
     ensures stack { stack_of pass.new ≡ stack_of pass.old }
     ensures only { OnlyLoaded (view pass.old) (view pass.new) }
@@ -109,13 +110,17 @@ fn thin_at(bank: &Bank, pass: &mut Pass, s: Object, table: Table, t: Object, kep
     requires other_set { kind_in (shape_of bank.now).kinds t ≡ kind.Set }
     requires place { place < rows kind.Set (class_of (name_of table)) }
     requires other { s ≢ t → MayWriteEntries (shape_of bank.now) t (view pass.old) }
-    requires thinned { IsThinned (shape_of bank.now) s table kept (set_of (known t (view pass.old)).content)
-        (set_of (known s (view pass.old)).content) place (view pass.old) }
+    requires thinned { (to : Kept) × (last : ℕ) × (place < last) × IsThinned (shape_of bank.now) s table kept
+        (set_of (known t (view pass.old)).content) (set_of (known s (view pass.old)).content) to last place
+        (view pass.old) }
     ensures pass { IsPassOf bank.now pass.new }
     ensures stack { stack_of pass.new ≡ stack_of pass.old }
     ensures only { OnlyPut s (view pass.old) (view pass.new) }
-    ensures thinned { IsThinned (shape_of bank.now) s table kept (set_of (known t (view pass.old)).content)
-        (set_of (known s (view pass.old)).content) (place + 1) (view pass.new) }
+    ensures thinned { (to : Kept) (last : ℕ) → place < last →
+        IsThinned (shape_of bank.now) s table kept (set_of (known t (view pass.old)).content)
+        (set_of (known s (view pass.old)).content) to last place (view pass.old) →
+        IsThinned (shape_of bank.now) s table kept (set_of (known t (view pass.old)).content)
+        (set_of (known s (view pass.old)).content) to last (place + 1) (view pass.new) }
 {
     versions_change_nothing();
     used_entries_follow_a_set();
@@ -126,19 +131,31 @@ fn thin_at(bank: &Bank, pass: &mut Pass, s: Object, table: Table, t: Object, kep
 }
 
 /// Takes the elements of as many entries out that are to go.
-fn thin_all(bank: &Bank, pass: &mut Pass, s: Object, table: Table, t: Object, kept: bool, fill: u64)
+pub(crate) fn thin_all(
+    bank: &Bank,
+    pass: &mut Pass,
+    s: Object,
+    table: Table,
+    t: Object,
+    kept: bool,
+    fill: u64,
+)
     requires pass { IsPassOf bank.now pass.old }
     requires set { kind_in (shape_of bank.now).kinds s ≡ kind.Set }
     requires other_set { kind_in (shape_of bank.now).kinds t ≡ kind.Set }
     requires fill { fill ≤ rows kind.Set (class_of (name_of table)) }
     requires other { s ≢ t → MayWriteEntries (shape_of bank.now) t (view pass.old) }
-    requires thinned { IsThinned (shape_of bank.now) s table kept (set_of (known t (view pass.old)).content)
-        (set_of (known s (view pass.old)).content) 0 (view pass.old) }
+    requires thinned { (to : Kept) × IsThinned (shape_of bank.now) s table kept
+        (set_of (known t (view pass.old)).content) (set_of (known s (view pass.old)).content) to fill 0
+        (view pass.old) }
     ensures pass { IsPassOf bank.now pass.new }
     ensures stack { stack_of pass.new ≡ stack_of pass.old }
     ensures only { OnlyPut s (view pass.old) (view pass.new) }
-    ensures thinned { IsThinned (shape_of bank.now) s table kept (set_of (known t (view pass.old)).content)
-        (set_of (known s (view pass.old)).content) fill (view pass.new) }
+    ensures thinned { (to : Kept) → IsThinned (shape_of bank.now) s table kept
+        (set_of (known t (view pass.old)).content) (set_of (known s (view pass.old)).content) to fill 0
+        (view pass.old) →
+        IsThinned (shape_of bank.now) s table kept (set_of (known t (view pass.old)).content)
+        (set_of (known s (view pass.old)).content) to fill fill (view pass.new) }
 {
     for place in 0..fill {
         thin_at(bank, pass, s, table, t, kept, place);

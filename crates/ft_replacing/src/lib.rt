@@ -10,3 +10,4 @@ mod numbering;
 mod swapping;
 
 pub use crate::copying::copy_into;
+pub use crate::swapping::swap_table;

@@ -41,7 +41,7 @@ fn put_counts(bank: &Bank, pass: &mut Pass, o: u32, count: u64, next: u64)
 }
 
 /// Gives a dict or a set this table, which has what it gets, as the write of the call. Answers the number of the write.
-pub(crate) fn swap_table(
+pub fn swap_table(
     bank: &Bank,
     pass: &mut Pass,
     o: u32,

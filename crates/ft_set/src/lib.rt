@@ -27,7 +27,7 @@ pub use crate::firsts::{pop_locked, try_pop};
 pub use crate::items::{look_items, try_items};
 pub use crate::lens::{look_len, try_len};
 pub use crate::looks::look_has;
-pub use crate::merges::{or_by, try_and, try_or, try_sub};
+pub use crate::merges::{or_by, try_and, try_or, try_sub, try_xor, xor_by};
 pub use crate::pops::{try_discard, try_remove};
 pub use crate::subsets::{try_disjoint, try_subset};
 pub use crate::tries::try_has;

@@ -1,5 +1,5 @@
-//! Calls on two sets that write the first one: those of its elements stay that the other one has, or hasn't, or it
-//! gets those of the other one too.
+//! Calls on two sets that write the first one: those of its elements stay that the other one has, or hasn't, and it gets
+//! those of the other one too, all or those that it lacks.
 ghost use Rattle.std.specs.Prelude.{◌≡◌, ◌<◌, false};
 ghost use Rattle.ft_model.specs.declared.call.Call.TheVariants as call;
 ghost use Rattle.ft_model.specs.declared.call.SetCall.TheVariants as set;
@@ -17,6 +17,7 @@ ghost use Rattle.ft_growth.specs.Adding.{IsTryOf, KeepsCursors};
 ghost use Rattle.ft_search.specs.Calls.{IsMadeOf, MadeAs};
 ghost use Rattle.ft_search.specs.Writing.{MayWriteEntries};
 ghost use Rattle.ft_merging.specs.Joining.{JoinsBy};
+ghost use Rattle.ft_merging.specs.Parting.{PartsBy};
 
 use ft_bank::{Bank, Pass};
 use ft_growth::{Added, step_of};
@@ -24,6 +25,7 @@ use ft_keys::Way;
 use ft_layout::{used_entries_follow_a_dict, used_entries_follow_a_set};
 use ft_merging::{join_by, thin_by};
 use ft_model::{Call, Reply, SetCall};
+use ft_parting::part_by;
 use ft_search::written;
 use ft_section::{Got, Object, Objects, Stamp, Step, let_go, take_for};
 
@@ -171,6 +173,63 @@ pub fn try_or(bank: &Bank, pass: &mut Pass, s: Object, t: Object) -> Step
     match take_for(bank, pass, Objects::Two(s, t)) {
         Got::Have => {
             let added = or_by(bank, pass, s, t);
+            let_go(bank, pass);
+            step_of(added, Reply::Done)
+        }
+        Got::NotYet(container, owner) => Step::NotYet(container, owner),
+    }
+}
+
+/// `s ^= t` (Python manual, Set Types), by a pass that has both locks: those that both have go, and those of t that s
+/// lacks are added, in their order; a set that is named twice is empty then. All of it is done, or nothing.
+///
+/// # Errors
+///
+/// Those of [`part_by`].
+pub fn xor_by(bank: &Bank, pass: &mut Pass, s: Object, t: Object) -> Added
+    requires pass { IsPassOf bank.now pass.old }
+    requires may { MayWriteEntries (shape_of bank.now) s (view pass.old) }
+    requires other { MayWriteEntries (shape_of bank.now) t (view pass.old) }
+    requires used { used (view pass.old).log ≡ false }
+    requires idle { flight (view pass.old).log ≡ 0 }
+    requires set { kind_in (shape_of bank.now).kinds s ≡ kind.Set }
+    requires other_set { kind_in (shape_of bank.now).kinds t ≡ kind.Set }
+    ensures pass { IsPassOf bank.now pass.new }
+    ensures stack { stack_of pass.new ≡ stack_of pass.old }
+    ensures added { PartsBy (shape_of bank.now) s t (call.Set s (set.Xor t)) (view pass.old) (view pass.new) result }
+{
+    used_entries_follow_a_dict();
+    used_entries_follow_a_set();
+    let called = Call::Set {
+        container: s,
+        call: SetCall::Xor { other: t },
+    };
+    part_by(bank, pass, s, t, &called)
+}
+
+/// `s ^= t` under the locks of both sets, the lower one taken first; a set named twice counts once, and is empty then
+/// (Python manual, Set Types). The elements that stay keep their serials. It replies that it is done, or raises a
+/// MemoryError, and then the set is as it was.
+///
+/// # Errors
+///
+/// As those of `try_or`. Whatever it answers, the pass has the cursors that it had.
+pub fn try_xor(bank: &Bank, pass: &mut Pass, s: Object, t: Object) -> Step
+    requires may { MayTry bank.now pass.old (Two s t) }
+    requires container { s < containers_in (shape_of bank.now) }
+    requires other { t < containers_in (shape_of bank.now) }
+    requires set { kind_in (shape_of bank.now).kinds s ≡ kind.Set }
+    requires other_set { kind_in (shape_of bank.now).kinds t ≡ kind.Set }
+    requires left { 0 < (view pass.old).left }
+    ensures may { MayTry bank.now pass.new (Two s t) }
+    ensures tried { IsTryOf (Two s t) (PartsBy (shape_of bank.now) s t (call.Set s (set.Xor t))) reply.Done
+        (view pass.old) (view pass.new) result }
+    ensures sections { SectionsAfter bank.now (Two s t) pass.old pass.new result }
+    ensures cursors { KeepsCursors (view pass.old) (view pass.new) }
+{
+    match take_for(bank, pass, Objects::Two(s, t)) {
+        Got::Have => {
+            let added = xor_by(bank, pass, s, t);
             let_go(bank, pass);
             step_of(added, Reply::Done)
         }

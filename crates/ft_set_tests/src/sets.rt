@@ -16,7 +16,7 @@ use ft_model::{Key, Keys, Raise, Reply, Value};
 use ft_section::{Step, new_passes_are_ready};
 use ft_set::{
     try_add, try_and, try_clear, try_discard, try_disjoint, try_eq, try_has, try_items, try_len,
-    try_or, try_pop, try_remove, try_sub, try_subset,
+    try_or, try_pop, try_remove, try_sub, try_subset, try_xor,
 };
 use std::alloc::{AllocError, Global};
 use std::test::Fail;
@@ -44,6 +44,9 @@ enum Call {
     /// Takes in what set 3 has, and what it has itself.
     Or,
     OrItself,
+    /// Takes out what both have, and takes in what only set 3 has; the same with itself.
+    Xor,
+    XorItself,
     /// The same of set 3.
     AddOther(i64),
     HasOther(i64),
@@ -84,6 +87,8 @@ fn attempt(bank: &Bank, pass: &mut Pass, alloc: Global, call: Call) -> Step
         Call::SubItself => try_sub(bank, pass, 2, 2),
         Call::Or => try_or(bank, pass, 2, 3),
         Call::OrItself => try_or(bank, pass, 2, 2),
+        Call::Xor => try_xor(bank, pass, 2, 3),
+        Call::XorItself => try_xor(bank, pass, 2, 2),
         Call::AddOther(key) => try_add(bank, pass, 3, Key::Int(key)),
         Call::HasOther(key) => try_has(bank, pass, 3, Key::Int(key)),
     }
@@ -330,6 +335,108 @@ fn no_element_is_put_where_there_is_no_table(rt: HostRuntime) -> Result<(), Fail
         (Call::Add(2), writes(Reply::Done, 8)),
         (Call::Or, reads(Reply::Raised(Raise::Memory(5)), 9)),
         (Call::Items, reads(elements(alloc, &[2])?, 9)),
+    ]?;
+    assert_eq!(rt; in_new_bank(alloc, 4, 1, rows.as_slice())?, None);
+    Ok(())
+}
+
+#[test]
+fn elements_of_both_sets_go_and_new_ones_come_last(rt: HostRuntime) -> Result<(), Fail> {
+    let alloc = rt.alloc();
+    // The hash of -1 is that of -2. A table of class 3 has room for four elements, one of class 4 for nine.
+    let rows = vec![in alloc;
+        (Call::Xor, writes(Reply::Done, 0)),
+        (Call::Items, reads(elements(alloc, &[])?, 1)),
+        (Call::AddOther(-2), writes(Reply::Done, 1)),
+        (Call::AddOther(0), writes(Reply::Done, 2)),
+        (Call::AddOther(7), writes(Reply::Done, 3)),
+        (Call::Add(1), writes(Reply::Done, 4)),
+        (Call::Add(-1), writes(Reply::Done, 5)),
+        (Call::Add(0), writes(Reply::Done, 6)),
+        (Call::Xor, writes(Reply::Done, 7)),
+        (Call::Items, reads(elements(alloc, &[1, -1, -2, 7])?, 8)),
+        (Call::Len, reads(Reply::Count(4), 8)),
+        (Call::HasOther(0), reads(Reply::Truth(true), 8)),
+        (Call::Xor, writes(Reply::Done, 8)),
+        (Call::Items, reads(elements(alloc, &[1, -1, 0])?, 9)),
+        (Call::Has(-2), reads(Reply::Truth(false), 9)),
+        (Call::XorItself, writes(Reply::Done, 9)),
+        (Call::Items, reads(elements(alloc, &[])?, 10)),
+        (Call::Xor, writes(Reply::Done, 10)),
+        (Call::Items, reads(elements(alloc, &[-2, 0, 7])?, 11)),
+        (Call::Eq, reads(Reply::Truth(true), 11)),
+        (Call::Discard(0), writes(Reply::Done, 11)),
+        (Call::Xor, writes(Reply::Done, 12)),
+        (Call::Items, reads(elements(alloc, &[0])?, 13)),
+        (Call::Xor, writes(Reply::Done, 13)),
+        (Call::Items, reads(elements(alloc, &[-2, 7])?, 14)),
+        (Call::Xor, writes(Reply::Done, 14)),
+        (Call::Items, reads(elements(alloc, &[0])?, 15)),
+    ]?;
+    assert_eq!(rt; in_new_bank(alloc, 6, 4, rows.as_slice())?, None);
+    Ok(())
+}
+
+#[test]
+fn a_symmetric_difference_takes_the_table_for_what_is_left(rt: HostRuntime) -> Result<(), Fail> {
+    let alloc = rt.alloc();
+    // 2^61 - 1 and twice that have the hash of 0.
+    let rows = vec![in alloc;
+        (Call::AddOther(5), writes(Reply::Done, 0)),
+        (Call::AddOther(4611686018427387902), writes(Reply::Done, 1)),
+        (Call::AddOther(9), writes(Reply::Done, 2)),
+        (Call::AddOther(2305843009213693951), writes(Reply::Done, 3)),
+        (Call::AddOther(0), writes(Reply::Done, 4)),
+        (Call::Add(9), writes(Reply::Done, 5)),
+        (Call::Add(-1), writes(Reply::Done, 6)),
+        (Call::Xor, writes(Reply::Done, 7)),
+        (
+            Call::Items,
+            reads(
+                elements(alloc, &[-1, 5, 4611686018427387902, 2305843009213693951, 0])?,
+                8
+            )
+        ),
+        (Call::Xor, writes(Reply::Done, 8)),
+        (Call::Items, reads(elements(alloc, &[-1, 9])?, 9)),
+        (Call::Clear, writes(Reply::Done, 9)),
+        (Call::Add(5), writes(Reply::Done, 10)),
+        (Call::Add(9), writes(Reply::Done, 11)),
+        (Call::Add(0), writes(Reply::Done, 12)),
+        (Call::Add(1), writes(Reply::Done, 13)),
+        (Call::Xor, writes(Reply::Done, 14)),
+        (
+            Call::Items,
+            reads(
+                elements(alloc, &[1, 4611686018427387902, 2305843009213693951])?,
+                15
+            )
+        ),
+    ]?;
+    assert_eq!(rt; in_new_bank(alloc, 4, 2, rows.as_slice())?, None);
+    Ok(())
+}
+
+#[test]
+fn a_symmetric_difference_without_a_table_changes_nothing(rt: HostRuntime) -> Result<(), Fail> {
+    let alloc = rt.alloc();
+    // Five elements and more take a table of class 5, of which the other set has the only one; four take class 4.
+    let rows = vec![in alloc;
+        (Call::AddOther(1), writes(Reply::Done, 0)),
+        (Call::AddOther(2), writes(Reply::Done, 1)),
+        (Call::AddOther(3), writes(Reply::Done, 2)),
+        (Call::AddOther(4), writes(Reply::Done, 3)),
+        (Call::AddOther(5), writes(Reply::Done, 4)),
+        (Call::Add(9), writes(Reply::Done, 5)),
+        (Call::Xor, reads(Reply::Raised(Raise::Memory(5)), 6)),
+        (Call::Items, reads(elements(alloc, &[9])?, 6)),
+        (Call::XorItself, writes(Reply::Done, 6)),
+        (Call::Xor, reads(Reply::Raised(Raise::Memory(5)), 7)),
+        (Call::Items, reads(elements(alloc, &[])?, 7)),
+        (Call::Add(2), writes(Reply::Done, 7)),
+        (Call::Xor, writes(Reply::Done, 8)),
+        (Call::Items, reads(elements(alloc, &[1, 3, 4, 5])?, 9)),
+        (Call::HasOther(2), reads(Reply::Truth(true), 9)),
     ]?;
     assert_eq!(rt; in_new_bank(alloc, 4, 1, rows.as_slice())?, None);
     Ok(())

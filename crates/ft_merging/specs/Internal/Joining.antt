@@ -93,6 +93,12 @@ NoneAhead t m x left =
     (p : ℕ) (key : Key) → p < m → version_of t x p % 2 ≡ 1 → FitsKey key → IsLive (slots (class_of t)) x.table p key
     → NoneOf key left
 
+-- the words of entries before this place are as they were
+abbrev pub KeepsBelow : ℕ → ℕ → Picture → Picture → Type 0
+KeepsBelow t place before after =
+    (p word : ℕ) → p < place → word < 8
+    → entry_of (slots (class_of t)) after.table p word ≡ entry_of (slots (class_of t)) before.table p word
+
 -- In the container o, which counts this, the keys of the container t are put whose entries come before this place of
 -- its table; when all are, o has this content and so many used entries. (profile)
 pub record IsJoining (k : Shape) (o : ℕ) (way : Way) (own : Table) (t : ℕ) (table : Table) (goal : Content) (end : ℕ)

@@ -5,7 +5,7 @@ use Rattle.ft_model.specs.declared.call.Call.TheVariants as call
 use Rattle.ft_bank.specs.Passes.{shape_of}
 use Rattle.ft_engine.specs.Answering.{Looked}
 use Rattle.ft_engine.specs.Contentions.{may_look}
-use Rattle.ft_engine.specs.Names.{IsBuilt, IsCallIn}
+use Rattle.ft_engine.specs.Names.{IsCallIn}
 use Rattle.ft_engine.proofs.looks.look_call.Goals as goal
 
 pub look_dict-requires-clause-names : goal.look_dict-requires-clause-names
@@ -34,9 +34,6 @@ look_set-requires-clause-names c = (subst (IsCallIn (shape_of c.args.bank.now) c
 
 pub look_set-requires-clause-key : goal.look_set-requires-clause-key
 look_set-requires-clause-key c = (subst (IsCallIn (shape_of c.args.bank.now) c.requires.names.0) c.in-Set.is c.requires.names.1).2
-
-pub look_set-requires-clause-built : goal.look_set-requires-clause-built
-look_set-requires-clause-built c = subst IsBuilt c.in-Set.is c.requires.built
 
 pub returns-in-Set-clause-looked : goal.returns-in-Set-clause-looked
 returns-in-Set-clause-looked c = subst (λ (x : Call). Looked x c.args.pass.now c.look_set.new.pass c.look_set.result) (sym c.in-Set.is) c.look_set.ensures.looked

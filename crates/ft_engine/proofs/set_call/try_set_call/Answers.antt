@@ -6,8 +6,7 @@ use Rattle.ft_model.specs.declared.reply.Reply.TheVariants as reply
 use Rattle.ft_model.specs.Calls.{cursor_of_set}
 use Rattle.ft_bank.specs.Passes.{shape_of, view}
 use Rattle.ft_section.specs.declared.answers.Objects.TheVariants.{One, Two}
-use Rattle.ft_engine.specs.Names.{IsBuiltSet}
-use Rattle.ft_engine.proofs.KeyedCalls.{joins_outcome, keyed_clear_outcome, keyed_copy_outcome, puts_outcome, set_tried}
+use Rattle.ft_engine.proofs.KeyedCalls.{joins_outcome, keyed_clear_outcome, keyed_copy_outcome, parts_outcome, puts_outcome, set_tried}
 use Rattle.ft_engine.proofs.Outcomes.{made_outcome, read_outcome}
 use Rattle.ft_engine.proofs.set_call.try_set_call.Goals as goal
 
@@ -80,3 +79,8 @@ pub returns-in-Or : goal.returns-in-Or
 returns-in-Or c hands =
     set_tried c.args.bank.now c.args.pass.now c.try_or.new.pass hands c.args.s c.args.call.now (set.Or c.in-Or.other) (Two c.args.s c.in-Or.other) c.try_or.result c.in-Or.is refl c.try_or.ensures.sections
     (joins_outcome (shape_of c.args.bank.now) c.args.s c.in-Or.other (call.Set c.args.s (set.Or c.in-Or.other)) (view c.args.pass.now) (view c.try_or.new.pass) c.try_or.result c.requires.left c.try_or.ensures.tried)
+
+pub returns-in-Xor : goal.returns-in-Xor
+returns-in-Xor c hands =
+    set_tried c.args.bank.now c.args.pass.now c.try_xor.new.pass hands c.args.s c.args.call.now (set.Xor c.in-Xor.other) (Two c.args.s c.in-Xor.other) c.try_xor.result c.in-Xor.is refl c.try_xor.ensures.sections
+    (parts_outcome (shape_of c.args.bank.now) c.args.s c.in-Xor.other (call.Set c.args.s (set.Xor c.in-Xor.other)) (view c.args.pass.now) (view c.try_xor.new.pass) c.try_xor.result c.requires.left c.try_xor.ensures.tried)

@@ -1,10 +1,11 @@
-use Rattle.std.proofs.Common.{◌≡◌}
-use Rattle.ft_trace.specs.Holds.{known}
+use Rattle.std.proofs.Common.{◌≡◌, ◌≤◌}
+use Rattle.ft_trace.specs.Holds.{held, known}
 use Rattle.ft_bank.specs.Passes.{shape_of, view, IsPassOf}
 use Rattle.ft_bank.specs.Sections.{stack_of}
+use Rattle.ft_bank.specs.Tables.{name_of}
 use Rattle.ft_bank.specs.Whole.{OnlyPut}
 use Rattle.ft_merging.specs.Joining.{joined}
-use Rattle.ft_merging.specs.Internal.Joining.{IsJoining}
+use Rattle.ft_merging.specs.Internal.Joining.{IsJoining, KeepsBelow}
 use Rattle.ft_merging.proofs.putting.join_all.Given as goal
 
 abbrev pub invariant-loop-place : goal.invariant-loop-place
@@ -13,4 +14,6 @@ invariant-loop-place l = record {
   stack : stack_of l.pass ≡ stack_of l.initial.pass;
   only : OnlyPut l.o (view l.initial.pass) (view l.pass);
   joining : IsJoining (shape_of l.bank) l.o l.way l.own l.t l.table (joined (known l.o (view l.initial.pass)).content (known l.t (view l.initial.pass)).content) l.end l.place l.counts (view l.pass);
+  more : l.fn.first.fill ≤ l.counts.fill;
+  keeps : kind_by l.way ≡ kind.Set → KeepsBelow (name_of l.own) l.fn.first.fill (held l.o (view l.initial.pass)) (held l.o (view l.pass));
 }

@@ -1,13 +1,17 @@
-use Rattle.std.proofs.Common.{◌≡◌, ◌<◌, ◌+◌, false, Some, None, refl, sym, ap, ◌∙◌, subst, arith}
+use Rattle.std.proofs.Common.{◌≡◌, ◌<◌, ◌≤◌, ◌+◌, ℕ, false, Option, Some, None, refl, sym, ap, ◌∙◌, subst, arith}
 use Rattle.std.specs.Prelude.{pos, slice_index_or}
 use Rattle.ft_model.specs.declared.content.Content.{Content}
 use Rattle.ft_model.specs.declared.data.Key.{Key}
 use Rattle.ft_model.specs.declared.data.Key.TheVariants.{Int}
 use Rattle.ft_model.specs.Worlds.{kind_of}
 use Rattle.ft_model.specs.declared.script.Kind.{Kind}
+use Rattle.ft_model.specs.declared.script.Kind.TheVariants as kind
 use Rattle.ft_layout.specs.Tables.{UsedEntry, hash_of, slot_of}
 use Rattle.ft_layout.specs.Words.{FitsKey, FitsStored}
+use Rattle.ft_layout.specs.declared.slot.Stored.{Stored}
+use Rattle.ft_layout.specs.declared.slot.Stored.TheVariants.{Boxed, Empty, Plain}
 use Rattle.ft_trace.specs.declared.Shape.{Shape}
+use Rattle.ft_trace.specs.declared.View.{View}
 use Rattle.ft_trace.specs.Addresses.{class_of, containers_in, slots}
 use Rattle.ft_trace.specs.Holds.{held, known}
 use Rattle.ft_trace.specs.Kinds.{rows}
@@ -25,16 +29,21 @@ use Rattle.ft_search.specs.Rounds.{kind_by}
 use Rattle.ft_search.specs.Writing.{WritesEntries}
 use Rattle.ft_search.proofs.Values.{ValueLaws}
 use Rattle.ft_adding.specs.declared.counts.Counts.{Counts}
-use Rattle.ft_adding.specs.Placing.{IsUnused, with_entry}
+use Rattle.ft_adding.specs.Growing.{IsFreeFor}
+use Rattle.ft_adding.specs.Placing.{IsUnused, StoresAs, with_entry}
 use Rattle.ft_adding.proofs.Placed.{PlaceLaws, pair_for}
 use Rattle.ft_merging.specs.Joining.{joined}
-use Rattle.ft_merging.specs.Internal.Joining.{IsJoining, IsSought, pair_in, stored_puts}
+use Rattle.ft_merging.specs.Internal.Joining.{IsJoining, IsSought, KeepsBelow, pair_in, stored_puts}
 use Rattle.ft_merging.proofs.Joined.{inside, joining_dead, joining_loaded, joining_may, joining_new, joining_there, new_room, stores, there_low}
 use Rattle.ft_merging.proofs.JoinedPairs.{source_known}
 use Rattle.ft_merging.proofs.JoinedReads.{entry_used, none_found, none_used, pair_used}
-use Rattle.ft_merging.proofs.JoinedStep.{unused_here}
+use Rattle.ft_merging.proofs.JoinedStep.{others_same, unused_here}
 use Rattle.ft_merging.proofs.putting.join_at.Goals as goal
 use Rattle.ft_merging.proofs.putting.join_at.Goals.{After-pair_at, After-seek_in, After-words_follow_a_set, In-Some}
+
+-- loads change no words
+same_below : (t place : ℕ) (v w : View) (o : ℕ) → OnlyLoaded v w → KeepsBelow t place (held o v) (held o w)
+same_below t place v w o only p word less few = ap (λ (x : Picture). entry_of (slots (class_of t)) x.table p word) (loaded_held v w o only)
 
 abbrev done : After-words_follow_a_set → Content
 done c = joined (known c.args.o (view c.args.pass.now)).content (known c.args.t (view c.args.pass.now)).content
@@ -117,6 +126,9 @@ returns-in_default-clause-joining c =
     joining_loaded k a.o a.way a.own a.t a.table _ a.end (a.place + 1) a.counts v (view c.pair_at.new.pass) c.pair_at.ensures.only
     (joining_dead k a.o a.way a.own a.t a.table _ a.end a.place a.counts v j c.requires.place any dead)
 
+pub returns-in_default-clause-keeps : goal.returns-in_default-clause-keeps
+returns-in_default-clause-keeps c sets = same_below (name_of c.args.own) c.args.counts.fill (view c.args.pass.now) (view c.pair_at.new.pass) c.args.o c.pair_at.ensures.only
+
 -- ---- the search
 
 writes : (c : After-pair_at) → WritesEntries (shape_of c.args.bank.now) c.args.o c.args.own (view c.pair_at.new.pass)
@@ -156,6 +168,9 @@ returns-in-Bare-clause-only c = loaded_put (view c.args.pass.now) (view c.seek_i
 
 pub returns-in-Bare-clause-joining : goal.returns-in-Bare-clause-joining
 returns-in-Bare-clause-joining c = let at = goal.at.returns-in-Bare-clause-joining c in absurd (came at.After-seek_in c.in-Some.pair.key spot.Bare c.in-Bare.ensures.spot)
+
+pub returns-in-Bare-clause-keeps : goal.returns-in-Bare-clause-keeps
+returns-in-Bare-clause-keeps c sets = same_below (name_of c.args.own) c.args.counts.fill (view c.args.pass.now) (view c.seek_in.new.pass) c.args.o (loads (goal.at.returns-in-Bare-clause-keeps c).After-seek_in)
 
 -- ---- its key is there
 
@@ -233,6 +248,24 @@ returns-in-At-clause-joining c =
     let words : held a.o z ≡ with_puts (held a.o v) (stored_puts n (held a.o v).table c.in-At.at stored) = e.words ∙ (λ i. with_puts (same i) (stored_puts n (same i).table c.in-At.at stored)) in
     joining_there k a.o a.way a.own a.t a.table (done d.After-words_follow_a_set) a.end a.place a.counts v c.requires.joining c.requires.place any c.in-Some.pair.key stored p.1 p.0 (value_laws d.After-words_follow_a_set) p.3 p.4 c.in-At.at f.0 f.1 f.2 z only words e.writes other
 
+-- an element of a set has no value, and so nothing is put
+no_puts : (stored : Stored) → StoresAs kind.Set stored → (n place : ℕ) (x : Picture) → with_puts x (stored_puts n x.table place stored) ≡ x
+no_puts Empty ok n place x = refl
+no_puts (Plain value) ok n place x = absurd ok
+no_puts (Boxed block) ok n place x = absurd ok
+
+pub returns-in-At-clause-keeps : goal.returns-in-At-clause-keeps
+returns-in-At-clause-keeps c sets q w less few =
+    let a = c.args in
+    let k = shape_of a.bank.now in
+    let at = goal.at.returns-in-At-clause-keeps c in
+    let j = c.requires.joining in
+    let p = there at.In-Some in
+    let stored = c.in-Some.pair.value in
+    let ok = stores k a.o a.way a.own a.t a.table (done at.After-words_follow_a_set) a.end a.place a.counts (view a.pass.now) j c.requires.place any c.in-Some.pair.key stored p.1 p.0 in
+    let none = no_puts stored (subst (λ (z : Kind). StoresAs z stored) (j.same_kind ∙ sets) ok) (slots (class_of (name_of a.own))) c.in-At.at (held a.o (view c.seek_in.new.pass)) in
+    ap (λ (x : Picture). entry_of (slots (class_of (name_of a.own))) x.table q w) (c.put_stored.ensures.words ∙ (none ∙ held_on at.After-seek_in))
+
 -- ---- it is new
 
 pub put_key-requires-clause-unused : goal.put_key-requires-clause-unused
@@ -278,3 +311,27 @@ returns-in-Free-clause-joining c =
     let words : held a.o z ≡ with_entry (name_of a.own) c.in-Free.slot a.counts (pair_for k.texts j.mid key stored) (held a.o v) = e.words ∙ (λ i. with_entry (name_of a.own) c.in-Free.slot a.counts (record { hash = hash i; key = key; value = stored; serial = next i }) (same i)) in
     subst (λ (y : Counts). IsJoining k a.o a.way a.own a.t a.table (done d) a.end (a.place + 1) y z) (sym c.one_more.ensures)
     (joining_new k a.o a.way a.own a.t a.table (done d) a.end a.place a.counts v j c.requires.place any key stored p.1 p.0 f.1 (laws d) c.in-Free.slot p.3 c.seek_in.ensures.low p.4 f.0 z only words e.writes other)
+
+pub returns-in-Free-clause-more : goal.returns-in-Free-clause-more
+returns-in-Free-clause-more c = let f : c.one_more.result.fill ≡ c.args.counts.fill + 1 = ap (λ (z : Counts). z.fill) c.one_more.ensures in omega (arith, f)
+
+pub returns-in-Free-clause-keeps : goal.returns-in-Free-clause-keeps
+returns-in-Free-clause-keeps c sets q w less few =
+    let a = c.args in
+    let k = shape_of a.bank.now in
+    let v = view a.pass.now in
+    let at = goal.at.returns-in-Free-clause-keeps c in
+    let d = at.After-words_follow_a_set in
+    let j = c.requires.joining in
+    let p = there at.In-Some in
+    let f = came at.After-seek_in c.in-Some.pair.key (spot.Free c.in-Free.field-0 c.in-Free.slot) c.in-Free.ensures.spot in
+    let key = c.in-Some.pair.key in
+    let stored = c.in-Some.pair.value in
+    let same = held_on at.After-seek_in in
+    let hash = p.2 in
+    let next = j.next_is in
+    let words : held a.o (view c.put_key.new.pass) ≡ with_entry (name_of a.own) c.in-Free.slot a.counts (pair_for k.texts j.mid key stored) (held a.o v) = c.put_key.ensures.words ∙ (λ i. with_entry (name_of a.own) c.in-Free.slot a.counts (record { hash = hash i; key = key; value = stored; serial = next i }) (same i)) in
+    let ok = stores k a.o a.way a.own a.t a.table (done d) a.end a.place a.counts v j c.requires.place any key stored p.1 p.0 in
+    let room = new_room k a.o a.way a.own a.t a.table (done d) a.end a.place a.counts v j c.requires.place any key stored p.1 p.0 f.1 in
+    ap (λ (x : Picture). entry_of (slots (class_of (name_of a.own))) x.table q w) words
+    ∙ others_same (laws d) k a.o a.way a.own j.mid a.counts v j.midway j.same_kind j.kind_is j.count_is j.alive c.in-Free.slot key stored p.3 c.seek_in.ensures.low ok p.4 f.1 f.0 (subst (λ (z : Kind). a.counts.fill < rows z (class_of (name_of a.own))) j.kind_is room) q w (λ e. omega (arith, e, less)) few

@@ -27,16 +27,16 @@ row : (c : Start) → c.args.place < rows (kind_in (shape_of c.args.bank.now).ki
 row c = subst (λ (z : Kind). c.args.place < rows z (class_of (name_of c.args.table))) (sym c.requires.set) c.requires.place
 
 pub key_at-requires-clause-container : goal.key_at-requires-clause-container
-key_at-requires-clause-container c = c.requires.thinned.midway.writes.container
+key_at-requires-clause-container c = c.requires.thinned.3.midway.writes.container
 
 pub key_at-requires-clause-keyed : goal.key_at-requires-clause-keyed
 key_at-requires-clause-keyed c = keyed (goal.at.key_at-requires-clause-keyed c).Start
 
 pub key_at-requires-clause-table : goal.key_at-requires-clause-table
-key_at-requires-clause-table c = c.requires.thinned.midway.writes.table_in
+key_at-requires-clause-table c = c.requires.thinned.3.midway.writes.table_in
 
 pub key_at-requires-clause-knows : goal.key_at-requires-clause-knows
-key_at-requires-clause-knows c = (c.requires.thinned.midway.writes.locked, c.requires.thinned.midway.writes.root)
+key_at-requires-clause-knows c = (c.requires.thinned.3.midway.writes.locked, c.requires.thinned.3.midway.writes.root)
 
 pub key_at-requires-clause-place : goal.key_at-requires-clause-place
 key_at-requires-clause-place c = row (goal.at.key_at-requires-clause-place c).Start
@@ -61,18 +61,18 @@ only : (c : After-word_of-hash) → OnlyLoaded (view c.args.pass.now) (view c.wo
 only c = loaded_then (view c.args.pass.now) (view c.key_at.new.pass) (view c.word_of-hash.new.pass) c.key_at.ensures.only c.word_of-hash.ensures.only
 
 pub word_of-hash-requires-clause-container : goal.word_of-hash-requires-clause-container
-word_of-hash-requires-clause-container c = c.requires.thinned.midway.writes.container
+word_of-hash-requires-clause-container c = c.requires.thinned.3.midway.writes.container
 
 pub word_of-hash-requires-clause-keyed : goal.word_of-hash-requires-clause-keyed
 word_of-hash-requires-clause-keyed c = keyed (goal.at.word_of-hash-requires-clause-keyed c).Start
 
 pub word_of-hash-requires-clause-table : goal.word_of-hash-requires-clause-table
-word_of-hash-requires-clause-table c = c.requires.thinned.midway.writes.table_in
+word_of-hash-requires-clause-table c = c.requires.thinned.3.midway.writes.table_in
 
 pub word_of-hash-requires-clause-knows : goal.word_of-hash-requires-clause-knows
 word_of-hash-requires-clause-knows c =
     let a = c.args in
-    let w = c.requires.thinned.midway.writes in
+    let w = c.requires.thinned.3.midway.writes in
     let e = c.key_at.ensures.only in (
       e.work.pass.locks a.s ∙ w.locked,
       ap root_in (loaded_held (view a.pass.now) (view c.key_at.new.pass) a.s e) ∙ w.root,
@@ -89,7 +89,7 @@ is_in-found-requires-clause-hash c =
     let t = told d in
     c.word_of-hash.ensures.found
     ∙ (ap (λ (x : Picture). entry_of (slots (class_of (name_of a.table))) x.table a.place 1) (loaded_held v (view c.key_at.new.pass) a.s c.key_at.ensures.only)
-    ∙ hash_is (shape_of a.bank.now) a.s a.table a.kept (set_of (known a.t v).content) (set_of (known a.s v).content) a.place v c.requires.set c.requires.thinned (laws d) c.requires.place c.in-Some.key t.0 t.1)
+    ∙ hash_is (shape_of a.bank.now) a.s a.table a.kept (set_of (known a.t v).content) (set_of (known a.s v).content) c.requires.thinned.0 c.requires.thinned.1 a.place v c.requires.set c.requires.thinned.3 (laws d) c.requires.place c.requires.thinned.2 c.in-Some.key t.0 t.1)
 
 pub is_in-found-requires-clause-fits : goal.is_in-found-requires-clause-fits
 is_in-found-requires-clause-fits c = (told (goal.at.is_in-found-requires-clause-fits c).After-word_of-hash).1
@@ -105,5 +105,5 @@ is_in-found-requires-clause-own c e =
     let d = (goal.at.is_in-found-requires-clause-own c).After-word_of-hash in
     let v = view a.pass.now in
     let t = told d in
-    let was = was_there (shape_of a.bank.now) a.s a.table a.kept (set_of (known a.t v).content) (set_of (known a.s v).content) a.place v c.requires.set c.requires.thinned (laws d) c.requires.place c.in-Some.key t.0 t.1 in
+    let was = was_there (shape_of a.bank.now) a.s a.table a.kept (set_of (known a.t v).content) (set_of (known a.s v).content) c.requires.thinned.0 c.requires.thinned.1 a.place v c.requires.set c.requires.thinned.3 (laws d) c.requires.place c.requires.thinned.2 c.in-Some.key t.0 t.1 in
     subst (λ (z : Kept). has_element (set_of z.content).elements c.in-Some.key ≡ true) (ap (λ (p : ℕ). known p v) e ∙ sym (work_knows v (view c.word_of-hash.new.pass) a.t (only d).work)) was

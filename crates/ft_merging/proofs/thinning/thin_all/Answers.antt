@@ -8,7 +8,7 @@ use Rattle.ft_merging.proofs.Finished.{other_stays}
 use Rattle.ft_merging.proofs.thinning.thin_all.Goals as goal
 
 pub loop-place-init : goal.loop-place-init
-loop-place-init c = record { pass = c.requires.pass; stack = refl; only = put_same (view c.args.pass.now) c.args.s; thinned = c.requires.thinned }
+loop-place-init c = record { pass = c.requires.pass; stack = refl; only = put_same (view c.args.pass.now) c.args.s; thinned = λ to th. th }
 
 pub thin_at-requires-clause-other : goal.thin_at-requires-clause-other
 thin_at-requires-clause-other c ne =
@@ -21,7 +21,12 @@ thin_at-requires-clause-thinned c =
     let w = c.loop-place.invariant.only.work in
     let v = view a.pass.now in
     let u = view c.loop-place.pass in
-    subst (λ (z : Kept × Kept). IsThinned (shape_of a.bank.now) a.s a.table a.kept (set_of z.0.content) (set_of z.1.content) c.loop-place.place u) (sym (λ d. (work_knows v u a.t w d, work_knows v u a.s w d))) c.loop-place.invariant.thinned
+    let r = c.requires.thinned in (
+      r.0,
+      a.fill,
+      c.loop-place-test.true,
+      subst (λ (z : Kept × Kept). IsThinned (shape_of a.bank.now) a.s a.table a.kept (set_of z.0.content) (set_of z.1.content) r.0 a.fill c.loop-place.place u) (sym (λ d. (work_knows v u a.t w d, work_knows v u a.s w d))) (c.loop-place.invariant.thinned r.0 r.1),
+    )
 
 pub loop-place-preserved : goal.loop-place-preserved
 loop-place-preserved c =
@@ -31,9 +36,10 @@ loop-place-preserved c =
     let w = i.only.work in
     let v = view a.pass.now in
     let u = view c.loop-place.pass in
+    let low = c.loop-place-test.true in
     record {
       pass = e.pass;
       stack = e.stack ∙ i.stack;
       only = put_then v u (view c.thin_at.new.pass) a.s i.only e.only;
-      thinned = subst (λ (z : Kept × Kept). IsThinned (shape_of a.bank.now) a.s a.table a.kept (set_of z.0.content) (set_of z.1.content) (c.loop-place.place + 1) (view c.thin_at.new.pass)) (λ d. (work_knows v u a.t w d, work_knows v u a.s w d)) e.thinned;
+      thinned = λ to th. subst (λ (z : Kept × Kept). IsThinned (shape_of a.bank.now) a.s a.table a.kept (set_of z.0.content) (set_of z.1.content) to a.fill c.loop-place.place u → IsThinned (shape_of a.bank.now) a.s a.table a.kept (set_of z.0.content) (set_of z.1.content) to a.fill (c.loop-place.place + 1) (view c.thin_at.new.pass)) (λ d. (work_knows v u a.t w d, work_knows v u a.s w d)) (e.thinned to a.fill low) (i.thinned to th);
     }

@@ -1,0 +1,219 @@
+use Rattle.std.proofs.Common.{◌≡◌, ◌≢◌, ◌+◌, ◌<◌, ◌≤◌, ℕ, ◌∷◌, false, Some, None, refl, sym, ap, ◌∙◌, subst, arith}
+use Rattle.ft_model.specs.declared.content.Content.{Content}
+use Rattle.ft_model.specs.declared.content.Content.TheVariants as content
+use Rattle.ft_model.specs.declared.reply.Reply.TheVariants as reply
+use Rattle.ft_model.specs.declared.script.Kind.{Kind}
+use Rattle.ft_model.specs.declared.script.Kind.TheVariants as kind
+use Rattle.ft_model.specs.Tables.{TableUse, passes_cap}
+use Rattle.ft_model.specs.Worlds.{set_of}
+use Rattle.ft_layout.specs.Containers.{IsSetWords}
+use Rattle.ft_keys.specs.declared.walk.Way.TheVariants as way
+use Rattle.ft_trace.specs.declared.View.{View}
+use Rattle.ft_trace.specs.Addresses.{class_of}
+use Rattle.ft_trace.specs.Holds.{held, known}
+use Rattle.ft_trace.specs.Kinds.{IsKeyed, rows}
+use Rattle.ft_trace.specs.Words.{root_in}
+use Rattle.ft_trace.specs.Worlds.{Kept, kind_in}
+use Rattle.ft_bank.specs.Passes.{shape_of, view}
+use Rattle.ft_bank.specs.Tables.{name_of}
+use Rattle.ft_bank.specs.Whole.{OnlyPut}
+use Rattle.ft_bank.proofs.Tables.{class_is}
+use Rattle.ft_bank.proofs.Whole.{put_then, work_knows}
+use Rattle.ft_search.specs.Rounds.{kind_by}
+use Rattle.ft_search.specs.Writing.{HasTable, MayWriteEntries}
+use Rattle.ft_search.proofs.Changing.{kind_is}
+use Rattle.ft_search.proofs.Endings.{whole_root, whole_write}
+use Rattle.ft_search.proofs.Puts.{table_class}
+use Rattle.ft_adding.specs.Growing.{KnowsKeyed, keys_take}
+use Rattle.ft_adding.proofs.Keyed.{use_known}
+use Rattle.ft_adding.proofs.Placed.{use_with}
+use Rattle.ft_merging.specs.Joining.{join_takes, joined}
+use Rattle.ft_merging.specs.Parting.{parted}
+use Rattle.ft_merging.specs.Internal.Joining.{IsJoining}
+use Rattle.ft_merging.specs.Internal.Thinning.{IsThinned}
+use Rattle.ft_merging.proofs.Ending.{Laws}
+use Rattle.ft_merging.proofs.Finished.{fill_fits, first_says, is_set, other_begun, other_stays, thinned_finishes}
+use Rattle.ft_merging.proofs.JoinedCalls.{few_rows}
+use Rattle.ft_merging.proofs.JoinedRoom.{keys_room}
+use Rattle.ft_merging.proofs.JoinedStarts.{here_begins, knows_begun, may_write}
+use Rattle.ft_merging.proofs.Parted.{parting_begins}
+use Rattle.ft_merging.proofs.PartedHere.{join_fits, join_stays, parts_here}
+use Rattle.ft_merging.proofs.parting.part_here.Goals as goal
+use Rattle.ft_merging.proofs.parting.part_here.Goals.{After-start_write, After-join_all, After-thin_all}
+
+-- ---- before the write
+
+may : (c : After-start_write) → MayWriteEntries (shape_of c.args.bank.now) c.args.s (view c.args.pass.now)
+may c = may_write (shape_of c.args.bank.now) c.args.s (Some c.args.own) (view c.args.pass.now) c.requires.may
+
+has : (c : After-start_write) → HasTable (shape_of c.args.bank.now) c.args.s c.args.own (view c.args.pass.now)
+has c = record { table_in = c.requires.may.keyed.table_in c.args.own refl; root = c.requires.may.keyed.root }
+
+is_first : (c : After-start_write) → (known c.args.s (view c.args.pass.now)).content ≡ content.Set (set_of (known c.args.s (view c.args.pass.now)).content)
+is_first c = is_set (shape_of c.args.bank.now) (view c.args.pass.now) c.args.s c.requires.pass.1 c.args.pass.now.possible c.requires.may.keyed.locked c.requires.set
+
+table_is : (c : After-start_write) → (known c.args.s (view c.args.pass.now)).table ≡ use_with (class_of (name_of c.args.own)) c.args.counts.fill
+table_is c =
+    let a = c.args in
+    let same = class_is a.own (c.requires.may.keyed.table_in a.own refl).2 in
+    use_known c.words_are_of_one_content.ensures.head (shape_of a.bank.now) a.s (Some a.own) (view a.pass.now) a.counts c.requires.may.keyed c.requires.counts ∙ (λ i. record { class = Some (sym same i); fill = a.counts.fill })
+
+none : (c : After-start_write) → join_takes (known c.args.s (view c.args.pass.now)) (known c.args.t (view c.args.pass.now)).content ≡ None
+none c =
+    let a = c.args in
+    let v = view a.pass.now in
+    join_stays (known a.s v) (known a.t v).content (set_of (known a.s v).content) (is_first c) c.requires.room
+
+low : (c : After-start_write) → c.args.counts.fill ≤ rows kind.Set (class_of (name_of c.args.own))
+low c =
+    let a = c.args in
+    let v = view a.pass.now in
+    let f = fill_fits (shape_of a.bank.now) a.s a.own false (set_of (known a.t v).content) v (view c.start_write.new.pass) c.start_write.result c.requires.pass.1 a.pass.now.possible (may c) c.requires.set (has c) c.start_write.ensures.1 c.used_entries_follow_a_set.ensures.first in
+    subst (λ (z : TableUse). z.fill ≤ rows kind.Set (class_of (name_of a.own))) (table_is c) f
+
+room : (c : After-start_write) → c.args.counts.fill + c.args.more ≤ rows kind.Set (class_of (name_of c.args.own))
+room c =
+    let a = c.args in
+    let v = view a.pass.now in
+    let d = (known a.s v).content in
+    let same = class_is a.own (c.requires.may.keyed.table_in a.own refl).2 in
+    let uses = use_known c.words_are_of_one_content.ensures.head (shape_of a.bank.now) a.s (Some a.own) v a.counts c.requires.may.keyed c.requires.counts in
+    subst (λ (n : ℕ). a.counts.fill + a.more ≤ rows kind.Set n) (sym same)
+    (keys_room d way.Set a.own a.counts.fill a.more (kind_is (shape_of a.bank.now) v a.s c.requires.pass.1 a.pass.now.possible c.requires.may.keyed.locked ∙ c.requires.set) (subst (λ (n : ℕ). a.counts.fill ≤ rows kind.Set n) same (low c))
+    ((λ i. keys_take d (sym uses i) (c.requires.more i)) ∙ none c))
+
+cap : (c : After-start_write) → passes_cap (joined (known c.args.s (view c.args.pass.now)).content (known c.args.t (view c.args.pass.now)).content) ≡ false
+cap c =
+    let a = c.args in
+    let k = shape_of a.bank.now in
+    let v = view a.pass.now in
+    let x = held a.s v in
+    let class = class_of (name_of a.own) in
+    let says = first_says k a.s a.own false (set_of (known a.t v).content) v (view c.start_write.new.pass) c.start_write.result c.requires.pass.1 a.pass.now.possible (may c) c.requires.set (has c) c.start_write.ensures.1 in
+    let here = subst (λ (z : TableUse). IsSetWords k.texts x.block (0 ∷ 0 ∷ x.table) (Some class) z.fill (set_of (known a.s v).content)) (table_is c) says in
+    join_fits k.texts x.block (0 ∷ 0 ∷ x.table) class a.counts.fill a.more (set_of (known a.s v).content) (known a.s v).content (known a.t v).content (table_class k a.own (has c).table_in) here (is_first c) c.requires.more (room c)
+
+pub overflow_add-end : goal.overflow_add-end
+overflow_add-end c =
+    let a = c.args in
+    let d = (goal.at.overflow_add-end c).After-start_write in
+    let few = few_rows (shape_of a.bank.now) a.own kind.Set (a.counts.fill + a.more) (has d).table_in tt (room d) in
+    omega (arith, few)
+
+-- ---- the elements of the other one
+
+shape : (c : After-start_write) → (view c.start_write.new.pass).shape ≡ shape_of c.args.bank.now
+shape c = ap (λ (z : View). z.shape) c.start_write.ensures.1 ∙ c.requires.pass.1
+
+pub join_all-requires-clause-other : goal.join_all-requires-clause-other
+join_all-requires-clause-other c =
+    let a = c.args in
+    knows_begun (shape_of a.bank.now) a.s a.t (Some a.table) (view a.pass.now) (view c.start_write.new.pass) c.start_write.result c.start_write.ensures.1 c.requires.two c.requires.other
+
+pub join_all-requires-clause-fill : goal.join_all-requires-clause-fill
+join_all-requires-clause-fill c = c.requires.others ∙ sym (ap (λ (z : View). (known c.args.t z).table.fill) c.start_write.ensures.1)
+
+pub join_all-requires-clause-joining : goal.join_all-requires-clause-joining
+join_all-requires-clause-joining c =
+    let a = c.args in
+    let d = (goal.at.join_all-requires-clause-joining c).After-start_write in
+    here_begins c.words_are_of_one_content.ensures.head (record { pairs = c.used_entries_follow_a_dict.ensures.first; elements = c.used_entries_follow_a_set.ensures.first }) (shape_of a.bank.now) a.s way.Set a.own a.t a.table a.counts a.more (view a.pass.now) (view c.start_write.new.pass) c.start_write.result c.requires.pass.1 a.pass.now.possible c.requires.two c.requires.may c.requires.other c.requires.set c.requires.other_set
+    c.requires.counts c.requires.more (cap d) c.requires.serials (none d) c.start_write.ensures.1 (shape d) c.start_write.new.pass.possible
+
+-- ---- those that both had
+
+-- what the pass knows is as it was
+knows : (c : After-join_all) (p : ℕ) → known p (view c.join_all.new.pass) ≡ known p (view c.args.pass.now)
+knows c p = work_knows (view c.start_write.new.pass) (view c.join_all.new.pass) p c.join_all.ensures.only.work ∙ ap (known p) c.start_write.ensures.1
+
+pub thin_all-requires-clause-fill : goal.thin_all-requires-clause-fill
+thin_all-requires-clause-fill c = low (goal.at.thin_all-requires-clause-fill c).After-start_write
+
+other_may : (c : After-start_write) → MayWriteEntries (shape_of c.args.bank.now) c.args.t (view c.args.pass.now)
+other_may c =
+    let o = c.requires.other in
+    let m = c.requires.may in
+    record { container = o.container; keyed = o.keyed; locked = o.locked; even = o.even; stands = o.stands; owes = m.owes; left = m.left }
+
+pub thin_all-requires-clause-other : goal.thin_all-requires-clause-other
+thin_all-requires-clause-other c ne =
+    let a = c.args in
+    let at = goal.at.thin_all-requires-clause-other c in
+    let d = at.After-start_write in
+    let k = shape_of a.bank.now in
+    let u = view c.start_write.new.pass in
+    other_stays k a.s a.t u (view c.join_all.new.pass) (shape d) c.join_all.ensures.only ne (other_begun k a.s a.t (view a.pass.now) u c.start_write.result c.start_write.ensures.1 ne (other_may d))
+
+-- what the first one has at the end
+abbrev to : After-join_all → Kept
+to c = record { content = content.Set (parted (known c.args.s (view c.args.pass.now)).content (known c.args.t (view c.args.pass.now)).content); table = use_with (class_of (name_of c.args.own)) (c.args.counts.fill + c.args.more) }
+
+abbrev Thinned : (c : After-join_all) → ℕ → View → Type 0
+Thinned c place w = IsThinned (shape_of c.args.bank.now) c.args.s c.args.own false (set_of (known c.args.t w).content) (set_of (known c.args.s w).content) (to c) c.args.counts.fill place w
+
+-- before the first one goes
+begins : (c : After-join_all) → MayWriteEntries (shape_of c.args.bank.now) c.args.s (view c.args.pass.now) → HasTable (shape_of c.args.bank.now) c.args.s c.args.own (view c.args.pass.now) → (known c.args.s (view c.args.pass.now)).table ≡ use_with (class_of (name_of c.args.own)) c.args.counts.fill → Thinned c 0 (view c.join_all.new.pass)
+begins c m h table =
+    let a = c.args in
+    let k = shape_of a.bank.now in
+    let v = view a.pass.now in
+    let u = view c.start_write.new.pass in
+    let w = view c.join_all.new.pass in
+    let begun = c.start_write.ensures.1 in
+    let e = c.join_all.ensures in
+    let j = subst (λ (z : Kept × Kept). IsJoining k a.s way.Set a.own a.t a.table (joined z.0.content z.1.content) (a.counts.fill + a.more) a.others c.join_all.result w) (λ i. (ap (known a.s) begun i, ap (known a.t) begun i)) e.joining in
+    subst (λ (z : Kept × Kept). IsThinned k a.s a.own false (set_of z.0.content) (set_of z.1.content) (to c) a.counts.fill 0 w) (sym (λ i. (knows c a.t i, knows c a.s i)))
+    (parting_begins c.used_entries_follow_a_set.ensures.first k a.s a.t a.own a.table v u w c.start_write.result c.requires.pass.1 a.pass.now.possible m c.requires.set h begun e.only a.counts.fill (a.counts.fill + a.more) a.others c.join_all.result (ap (λ (z : TableUse). z.fill) (sym table))
+    j (c.requires.others ∙ sym (ap (λ (z : Kept). z.table.fill) (knows c a.t))) (e.keeps refl))
+
+pub thin_all-requires-clause-thinned : goal.thin_all-requires-clause-thinned
+thin_all-requires-clause-thinned c =
+    let at = goal.at.thin_all-requires-clause-thinned c in
+    let d = at.After-start_write in
+    (to at.After-join_all, begins at.After-join_all (may d) (has d) (table_is d))
+
+-- ---- the end
+
+only : (c : After-thin_all) → OnlyPut c.args.s (view c.start_write.new.pass) (view c.thin_all.new.pass)
+only c = put_then (view c.start_write.new.pass) (view c.join_all.new.pass) (view c.thin_all.new.pass) c.args.s c.join_all.ensures.only c.thin_all.ensures.only
+
+pub finish_entries-requires-clause-fill : goal.finish_entries-requires-clause-fill
+finish_entries-requires-clause-fill c =
+    let d = (goal.at.finish_entries-requires-clause-fill c).After-start_write in
+    subst (λ (z : Kind). c.args.counts.fill + c.args.more ≤ rows z (class_of (name_of c.args.own))) (sym c.requires.set) (room d)
+
+pub finish_entries-requires-clause-may : goal.finish_entries-requires-clause-may
+finish_entries-requires-clause-may c =
+    let a = c.args in
+    let at = goal.at.finish_entries-requires-clause-may c in
+    let d = at.After-start_write in
+    let b = at.After-join_all in
+    let k = shape_of a.bank.now in
+    let v = view a.pass.now in
+    let u = view c.start_write.new.pass in
+    let w = view c.thin_all.new.pass in
+    let laws : Laws = record { pairs = c.used_entries_follow_a_dict.ensures.first; elements = c.used_entries_follow_a_set.ensures.first } in
+    let th = subst (λ (z : Kept × Kept). IsThinned k a.s a.own false (set_of z.0.content) (set_of z.1.content) (to b) a.counts.fill a.counts.fill w) (λ i. (knows b a.t i, knows b a.s i)) (c.thin_all.ensures.thinned (to b) (begins b (may d) (has d) (table_is d))) in
+    thinned_finishes k a.s a.own false (set_of (known a.t v).content) v u c.start_write.result c.requires.pass.1 a.pass.now.possible (may d) c.requires.set (has d) c.start_write.ensures.1
+    laws w (only at.After-thin_all) a.counts.fill (parted (known a.s v).content (known a.t v).content) (use_with (class_of (name_of a.own)) (a.counts.fill + a.more)) th a.called.now reply.Done
+    (parts_here a.s a.t a.called.now v (class_of (name_of a.own)) a.counts.fill a.more (set_of (known a.s v).content) c.requires.parts (is_first d) (table_is d) c.requires.more c.requires.room c.requires.few)
+
+pub returns-clause-wrote : goal.returns-clause-wrote
+returns-clause-wrote c =
+    let a = c.args in
+    let at = goal.at.returns-clause-wrote c in
+    let d = at.After-start_write in
+    let b = at.After-join_all in
+    let th = c.thin_all.ensures.thinned (to b) (begins b (may d) (has d) (table_is d)) in
+    whole_write a.s (view a.pass.now) (view c.start_write.new.pass) (view c.thin_all.new.pass) c.start_write.result c.start_write.ensures.1 (only at.After-thin_all) a.called.now reply.Done c.finish_entries.result (view c.finish_entries.new.pass) c.requires.parts.changed c.requires.may.keyed.even c.finish_entries.ensures.ends
+    (th.midway.writes.root ∙ sym c.requires.may.keyed.root)
+
+pub returns-clause-root : goal.returns-clause-root
+returns-clause-root c =
+    let a = c.args in
+    let at = goal.at.returns-clause-root c in
+    let d = at.After-start_write in
+    let b = at.After-join_all in
+    let th = c.thin_all.ensures.thinned (to b) (begins b (may d) (has d) (table_is d)) in
+    whole_root a.s (view a.pass.now) (view c.start_write.new.pass) (view c.thin_all.new.pass) c.start_write.result c.start_write.ensures.1 (only at.After-thin_all) a.called.now reply.Done c.finish_entries.result (view c.finish_entries.new.pass) c.requires.parts.changed c.finish_entries.ensures.ends
+    (th.midway.writes.root ∙ sym c.requires.may.keyed.root)

@@ -1,0 +1,3 @@
+mod Chosen
+mod Choices
+pub mod Parts

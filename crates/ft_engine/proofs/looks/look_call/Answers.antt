@@ -1,5 +1,5 @@
 use Rattle.std.proofs.Common.{◌≡◌, false, sym, subst, ap, ◌∙◌}
-use Rattle.std.specs.Prelude.{IfNone}
+use Rattle.std.specs.Prelude.{is_some}
 use Rattle.ft_model.specs.declared.call.Call.{Call}
 use Rattle.ft_model.specs.declared.call.Call.TheVariants as call
 use Rattle.ft_bank.specs.Passes.{shape_of}

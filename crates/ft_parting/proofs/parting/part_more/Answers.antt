@@ -55,9 +55,9 @@ answer_over-requires-clause-over c found has =
     let m = c.most_keys.ensures.most (content.Set (staying d)) refl in
     (c.requires.parts.lacks found has, c.requires.parts.over found has ∙ over d (omega (arith, m)))
 
-pub returns-then-count-clause-added : goal.returns-then-count-clause-added
-returns-then-count-clause-added c =
-    let d = (goal.at.returns-then-count-clause-added c).After-words_are_of_one_content in
+pub returns-then-count-most_keys-clause-added : goal.returns-then-count-most_keys-clause-added
+returns-then-count-most_keys-clause-added c =
+    let d = (goal.at.returns-then-count-most_keys-clause-added c).After-words_are_of_one_content in
     let m = c.most_keys.ensures.most (content.Set (staying d)) refl in
     (over d (omega (arith, m)), c.answer_over.ensures.wrote, c.answer_over.ensures.answered)
 

@@ -57,7 +57,8 @@ HasNoAnswer b hands called p q (tried.Moved first second) = IsTryOf b hands call
 HasNoAnswer b hands called p q tried.NoMemory = IsTryOf b hands called p q step.NoMemory
 
 -- the call has its answer in between
-pub record HasBothHalves (b : Bank) (hands : List (Option Cursor)) (called : Call) (p q : Pass) (t : Tried) : Type 0 where
+pub record HasBothHalves (b : Bank) (hands : List (Option Cursor)) (called : Call) (p q : Pass) (t : Tried)
+    : Type 0 where
   pub mid : Pass
   pub said : Reply
   pub stamp : Stamp

@@ -69,7 +69,7 @@ fresh_free e room thread w none undone x = (
   record {
     member = record { caller = x.caller; thread = x.thread; next = x.next; parts = x.parts; taken = x.taken };
     kept = subst (IsKept w.caller) (sym none) (none_kept w.caller x.entries x.flight x.sections);
-    done = λ done. absurd (let d = done in let u = undone in grind (d, u));
+    done = λ done. absurd (let d = done in let u = undone in grind (arith, d, u));
   },
   x.flight,
 )

@@ -10,7 +10,6 @@ use std::test::Fail;
 use std::thread::Threads;
 
 /// What the threads of a script are answered: the history that closing the engine gives.
-#[tactic(auto, using(crate::proofs::WorkerLemmas::each_from, crate::proofs::WorkerLemmas::from_each))]
 pub fn run<R: Threads + Wait + Sync>(
     rt: &R,
     alloc: Global,

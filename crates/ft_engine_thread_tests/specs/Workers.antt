@@ -1,5 +1,5 @@
 -- What threads keep of the callers of an engine, and of what these were answered.
-use Rattle.std.specs.Prelude.{◌≡◌, ℕ, suc, ◌<◌, List, [], ◌∷◌, IsTrue, length, map, slice_index_or}
+use Rattle.std.specs.Prelude.{◌≡◌, ℕ, suc, ◌<◌, List, [], ◌∷◌, IsTrue, length, slice_index_or}
 use Rattle.ft_model.specs.declared.entry.Entry.{Entry}
 use Rattle.ft_trace.specs.Acts.{announces}
 use Rattle.ft_bank.specs.Openings.{next_of}

@@ -1,5 +1,5 @@
 -- What threads keep of the callers of an engine, and of what these were answered.
-use Rattle.std.specs.Prelude.{◌≡◌, ℕ, suc, ◌<◌, List, [], ◌∷◌, IsTrue, length, map, slice_index_or}
+use Rattle.std.specs.Prelude.{◌≡◌, ℕ, suc, ◌<◌, List, [], ◌∷◌, IsTrue, length, slice_index_or}
 use Rattle.ft_model.specs.declared.entry.Entry.{Entry}
 use Rattle.ft_trace.specs.Acts.{announces}
 use Rattle.ft_bank.specs.Openings.{next_of}
@@ -12,10 +12,10 @@ use Rattle.ft_engine.specs.Keeping.{IsKept}
 use Rattle.ft_engine_thread_tests.specs.declared.workers.Worker.{Worker}
 
 -- the caller of this thread, which has taken in no other
-pub record IsMember (e : Engine) (thread : ℕ) (c : Caller) : Type 0 where
+pub record IsMember (e : Engine) (i : ℕ) (c : Caller) : Type 0 where
   pub caller : IsCallerOf e c
-  pub thread : thread_of c ≡ thread
-  pub next : (view (pass_of c)).next ≡ next_of (shape_of (bank_of e)) thread
+  pub thread : thread_of c ≡ i
+  pub next : (view (pass_of c)).next ≡ next_of (shape_of (bank_of e)) i
   pub parts : (view (pass_of c)).parts ≡ 1
   pub taken : taken_of c ≡ []
 

@@ -1,7 +1,5 @@
 //! The end of all threads: one history.
-ghost use Rattle.std.specs.Prelude.{◌≡◌, OnOk, IfOk, length, map};
-ghost use Rattle.std.specs.List.{flat_map};
-ghost use Rattle.std.specs.List.Sorted.{IsPermutation};
+ghost use Rattle.std.specs.Prelude.{◌≡◌, ◌+◌, OnOk, IfOk, length, map};
 ghost use Rattle.ft_bank.specs.Passes.{shape_of};
 ghost use Rattle.ft_engine.specs.Callers.{bank_of};
 ghost use Rattle.ft_engine_thread_tests.specs.Workers.{AreFrom, HasTaken, IsWorker};
@@ -13,6 +11,7 @@ use std::alloc::Global;
 use std::test::Fail;
 
 /// Takes in the worker of the next thread, and adds its list.
+#[tactic(auto, using(crate::proofs::WorkerLemmas::last_next))]
 fn take_in(
     engine: &Engine,
     caller: &mut Caller,

@@ -58,8 +58,10 @@ returns-in-Have-clause-moved c = (
     before = view c.take_for.new.pass;
     after = view c.next_locked-reply.new.pass;
     took = c.in-Have.ensures.locked;
+    within = c.in-Have.ensures.within;
     answered = c.next_locked-reply.ensures.answered;
     gone = c.let_go.ensures.locked;
+    owners = c.let_go.ensures.owners;
     mine = returns-in-Have-clause-cursor c;
   },
   c.next_locked-reply.ensures.wrote,

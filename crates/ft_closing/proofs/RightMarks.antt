@@ -19,8 +19,8 @@ use Rattle.ft_model.specs.Worlds.{container_of, containers_used, cursor_at, kind
 use Rattle.ft_trace.specs.declared.Entry.{Entry}
 use Rattle.ft_trace.specs.declared.Owner.{Owner}
 use Rattle.ft_trace.specs.OwnCursors.{AsksWithin}
-use Rattle.ft_trace.specs.Owners.{is_owner_in}
-use Rattle.ft_closing.specs.Marks.{AreMade, AreOfFirst, HaveOwners, IsFoundFor, IsNamedIn, inner_after, needed_after, used_after, walked_by}
+use Rattle.ft_trace.specs.Owners.{is_owner_in, AreOwners}
+use Rattle.ft_closing.specs.Marks.{AreMade, AreOfFirst, IsFoundFor, IsNamedIn, inner_after, needed_after, used_after, walked_by}
 use Rattle.ft_closing.specs.Numbering.{AreKeptFrom, AskOwnCursors, IsKeptOf, MarksAreRight}
 use Rattle.ft_closing.proofs.Parts.{all_at, all_parts, at_split}
 use Rattle.ft_closing.proofs.Walked.{IsAddingIfRefused, earned_adds, walked_is}
@@ -32,12 +32,12 @@ all_from : (P : NamedEntry → Type 0) (mine : List NamedEntry) → EachAt mine 
 all_from P [] each = All-nil P
 all_from P (x ∷ mine) each = All-cons P x mine (each 0 x refl) (all_from P mine (λ place e at. each (suc place) e at))
 
-or_more : (b c : Bool) → c ≡ true → (b || c) ≡ true
+pub or_more : (b c : Bool) → c ≡ true → (b || c) ≡ true
 or_more true c is = refl
 or_more false c is = is
 
 -- one that is there passes a test that it passes
-any_there : (test : ℕ → Bool) (o : ℕ) (xs : List ℕ) → list_any (λ x. x == o) xs ≡ true → test o ≡ true → list_any test xs ≡ true
+pub any_there : (test : ℕ → Bool) (o : ℕ) (xs : List ℕ) → list_any (λ x. x == o) xs ≡ true → test o ≡ true → list_any test xs ≡ true
 any_there test o [] there is = absurd (let e : false ≡ true = there in cc)
 any_there test o (x ∷ xs) there is = by (x == o) refl there (λ more. any_there test o xs more is)
   where
@@ -49,7 +49,7 @@ any_map : (test : Call → Bool) (mine : List NamedEntry) → list_any test (map
 any_map test [] = refl
 any_map test (x ∷ mine) = ap (λ (b : Bool). test x.call || b) (any_map test mine)
 
-if_some : (P Q : ℕ → Type 0) (found : Option ℕ) → ((t : ℕ) → P t → Q t) → IfSome found P → IfSome found Q
+pub if_some : (P Q : ℕ → Type 0) (found : Option ℕ) → ((t : ℕ) → P t → Q t) → IfSome found P → IfSome found Q
 if_some P Q None more is = is
 if_some P Q (Some t) more is = more t is
 
@@ -97,7 +97,7 @@ module _ (script : ScriptParts) (calls : List Call) (lists : List (List Entry)) 
       let r = kept_at (suc first) i ms ls mine are.1 at in
       (r.0, subst (λ (z : ℕ). IsKeptOf z mine r.0 had found) (let e : suc first + i ≡ first + suc i = omega arith in e) r.1)
 
-  module _ (are : AreKeptFrom 0 kept lists had found) (first : AreOfFirst (length kept) had) (had_them : HaveOwners found had) (asks : AskOwnCursors script kept) (numbered : AreNumberedLists storage.Tables script calls kept) (made : AreMade script kept) where
+  module _ (are : AreKeptFrom 0 kept lists had found) (first : AreOfFirst (length kept) had) (had_them : AreOwners found had) (asks : AskOwnCursors script kept) (numbered : AreNumberedLists storage.Tables script calls kept) (made : AreMade script kept) where
     kept_of : (thread : ℕ) (mine : List NamedEntry) → slice_get kept thread ≡ Some mine → (own : List Entry) × IsKeptOf thread mine own had found
     kept_of thread mine at =
         let r = kept_at 0 thread kept lists mine are at in

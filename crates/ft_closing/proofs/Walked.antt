@@ -81,7 +81,7 @@ step_over world (cursor.Set o state size last) = set_over (set_at world o).eleme
 abbrev pub GoesOver : List (Option Cursor) → ℕ → Option ℕ → Type 0
 GoesOver hands n over = option_map container_of (cursor_at hands n) ≡ over
 
-walked_plain : (n : ℕ) (called : Call) (over : Option ℕ) → moved_cursor called ≡ None → walked_after n called over ≡ over
+pub walked_plain : (n : ℕ) (called : Call) (over : Option ℕ) → moved_cursor called ≡ None → walked_after n called over ≡ over
 walked_plain n (call.Dict o c) over none = ap (λ m. over_after n o m over) none
 walked_plain n (call.List o c) over none = ap (λ m. over_after n o m over) none
 walked_plain n (call.Set o c) over none = ap (λ m. over_after n o m over) none

@@ -85,10 +85,6 @@ HasNamed thread had mine = (o : ℕ) → is_owner_in o (thread + 1) had ≡ true
 abbrev pub AreOfFirst : ℕ → List Owner → Type 0
 AreOfFirst count owners = (o q : ℕ) → is_owner_in o q owners ≡ true → (1 ≤ q) × (q ≤ count)
 
--- the second owners have each of the first
-abbrev pub HaveOwners : List Owner → List Owner → Type 0
-HaveOwners owners all = (o q : ℕ) → is_owner_in o q owners ≡ true → is_owner_in o q all ≡ true
-
 -- ---- all calls are made
 
 -- each thread's entries are of just the calls that the script has for it

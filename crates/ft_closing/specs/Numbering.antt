@@ -16,7 +16,8 @@ use Rattle.ft_trace.specs.declared.Shape.{Shape}
 use Rattle.ft_trace.specs.InOrder.{AreInOrder}
 use Rattle.ft_trace.specs.OwnCursors.{entry_of, AsksWithin}
 use Rattle.ft_trace.specs.OwnOrder.{AreInOwnOrder, IsWriteIn}
-use Rattle.ft_closing.specs.Marks.{AreMade, AreMarksFound, AreOfFirst, HasNamed, HaveOwners}
+use Rattle.ft_trace.specs.Owners.{AreOwners}
+use Rattle.ft_closing.specs.Marks.{AreMade, AreMarksFound, AreOfFirst, HasNamed}
 
 -- the bank is made for the script: its containers, its tables, and a pass for each thread (profile)
 pub record IsFor (script : ScriptParts) (k : Shape) : Type 0 where
@@ -77,6 +78,6 @@ abbrev pub MarksAreRight : Type 0
 MarksAreRight =
     (script : ScriptParts) (calls : List Call) (lists : List (List Entry)) (kept : List (List NamedEntry))
     (had found : List Owner)
-    → AreKeptFrom 0 kept lists had found → AreOfFirst (length kept) had → HaveOwners found had
+    → AreKeptFrom 0 kept lists had found → AreOfFirst (length kept) had → AreOwners found had
     → AskOwnCursors script kept → AreNumberedLists storage.Tables script calls kept → AreMade script kept
     → AreDone script calls kept

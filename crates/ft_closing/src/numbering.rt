@@ -51,4 +51,6 @@ pub fn closed_entries_are_legal(closed: &Closed)
         ∥ ((calls : List Call) × IsHistoryOf storage.Tables script calls history) ∥₁ }
 {
     closed_entries_are_numbered(closed);
+    closed.owners_are_known();
+    marks_are_right();
 }

@@ -181,7 +181,7 @@ pub hands_stay : (k : Shape) (b : Bank) (hands : List (Option Cursor)) (called :
 hands_stay k b hands called p q (step.Done said stamp) none x are = record { cursors = λ number low. are.cursors number low ∙ sym (x.0.entry.cursors number (λ e. absurd (let n : None ≡ Some number = sym none ∙ e in cc))); over = are.over }
 hands_stay k b hands called p q (step.NotYet o owner) none x are = record { cursors = λ number low. are.cursors number low ∙ sym (x.2.entry.cursors number); over = are.over }
 hands_stay k b hands called p q (step.Moved first second) none x are = record { cursors = λ number low. are.cursors number low ∙ sym (x.2.entry.cursors number); over = are.over }
-hands_stay k b hands called p q step.NoMemory none x are = record { cursors = λ number low. are.cursors number low ∙ sym (x.entry.cursors number); over = are.over }
+hands_stay k b hands called p q step.NoMemory none x are = record { cursors = λ number low. are.cursors number low ∙ sym (x.0.entry.cursors number); over = are.over }
 
 -- ---- nothing but the pass's announcements
 

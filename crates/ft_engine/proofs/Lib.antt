@@ -1,6 +1,8 @@
 pub mod Marks
 pub mod Keeping
 pub mod Passing
+pub mod Within
+pub mod Owned
 pub mod SectionCalls
 pub mod Callers
 pub mod KeptLists

@@ -18,10 +18,12 @@ use Rattle.ft_model.specs.Histories.{names}
 use Rattle.ft_model.specs.Numbers.{after_begins, begins_of, begun_containers}
 use Rattle.ft_model.specs.Worlds.{container_of, cursor_at}
 use Rattle.ft_history.proofs.Places.{slice_get_push}
+use Rattle.ft_trace.specs.declared.Act.{Act}
 use Rattle.ft_trace.specs.declared.Owner.{Owner}
 use Rattle.ft_trace.specs.declared.View.{View}
 use Rattle.ft_trace.specs.Hands.{cursor_in}
-use Rattle.ft_trace.specs.Owners.{AreOwners, FindsMore, LocksOnly, found_owners, had_locks, is_owner_in}
+use Rattle.ft_trace.specs.Owners.{AreOwners, FindsMore, LocksOnly, SameOwners, found_owners, had_locks, is_owner_in}
+use Rattle.ft_trace.proofs.Owning.{same_finds_more, same_locks_only}
 use Rattle.ft_bank.specs.declared.sections.OpenSection.{OpenSection}
 use Rattle.ft_bank.specs.declared.sections.Taking.{Taking}
 use Rattle.ft_bank.specs.Sections.{Stack, nothing_taken, suspended}
@@ -266,7 +268,7 @@ mark_more : (thread : ℕ) (found more : List Owner) (mine : List NamedEntry) (c
 mark_more thread found more mine called mark all is =
     if_some (λ other. (other ≢ thread) × IsFoundFor found mine called other) (λ other. (other ≢ thread) × IsFoundFor more mine called other) mark (λ other x. (x.0, found_more found more mine called other all x.1)) is
 
-flight_more : (thread : ℕ) (found more : List Owner) (mine : List NamedEntry) (f : Flight) (mark : Option ℕ) → AreOwners found more → IsFlightFound thread found mine f mark → IsFlightFound thread more mine f mark
+pub flight_more : (thread : ℕ) (found more : List Owner) (mine : List NamedEntry) (f : Flight) (mark : Option ℕ) → AreOwners found more → IsFlightFound thread found mine f mark → IsFlightFound thread more mine f mark
 flight_more thread found more mine flight.Idle mark all is = tt
 flight_more thread found more mine (flight.Tried called) mark all is = mark_more thread found more mine called mark all is
 flight_more thread found more mine (flight.Answered called said stamp) mark all is = mark_more thread found more mine called mark all is
@@ -306,6 +308,18 @@ step_owned v w P s t f g mine number lists only finds old waits before now walke
 
 -- ---- the call in flight
 
+due_begun : (f : Flight) → (IsAnswered f → ⊥) → (calls : List Call) → begun_due f calls ≡ calls
+due_begun flight.Idle no calls = refl
+due_begun (flight.Tried c) no calls = refl
+due_begun (flight.Answered c said stamp) no calls = absurd (no tt)
+due_begun (flight.Refused c) no calls = refl
+
+due_walked : (f : Flight) → (IsAnswered f → ⊥) → (n : ℕ) (over : Option ℕ) → walked_due f n over ≡ over
+due_walked flight.Idle no n over = refl
+due_walked (flight.Tried c) no n over = refl
+due_walked (flight.Answered c said stamp) no n over = absurd (no tt)
+due_walked (flight.Refused c) no n over = refl
+
 module _ (f : Flight) (called : Call) (unanswered : IsAnswered f → ⊥) (next : IsNext f called) where
   pub flight_named : (o : ℕ) → FlightNames o f → names o called ≡ true
   flight_named o is = by f unanswered next is
@@ -315,24 +329,6 @@ module _ (f : Flight) (called : Call) (unanswered : IsAnswered f → ⊥) (next 
       by (flight.Tried tried) no same is = subst (λ (c : Call). names o c ≡ true) same is
       by (flight.Answered c said stamp) no same is = absurd (no tt)
       by (flight.Refused c) no same is = absurd same
-
-  pub due_begun : (calls : List Call) → begun_due f calls ≡ calls
-  due_begun calls = by f unanswered
-    where
-      by : (g : Flight) → (IsAnswered g → ⊥) → begun_due g calls ≡ calls
-      by flight.Idle no = refl
-      by (flight.Tried c) no = refl
-      by (flight.Answered c said stamp) no = absurd (no tt)
-      by (flight.Refused c) no = refl
-
-  pub due_walked : (n : ℕ) (over : Option ℕ) → walked_due f n over ≡ over
-  due_walked n over = by f unanswered
-    where
-      by : (g : Flight) → (IsAnswered g → ⊥) → walked_due g n over ≡ over
-      by flight.Idle no = refl
-      by (flight.Tried c) no = refl
-      by (flight.Answered c said stamp) no = absurd (no tt)
-      by (flight.Refused c) no = refl
 
   module _ (thread : ℕ) (found : List Owner) (mine : List NamedEntry) where
     abbrev IsMark : Option ℕ → Type 0
@@ -362,10 +358,10 @@ other_thread number owner some apart e = apart (omega (arith, some, e))
 module _ (v w : View) (s t : Stack) (f : Flight) (mine : List NamedEntry) (called : Call) (hands : List (Option Cursor)) (number : w.number ≡ v.number) (lists : w.lists ≡ v.lists) (only : LocksOnly (IsLockedFor hands called) v w) (finds : FindsMore v w) (old : AreOwnedBy v s f mine) (unanswered : IsAnswered f → ⊥) (next : IsNext f called) (free : f ≡ flight.Idle → s.mark ≡ None)
     (at_hand : (n : ℕ) (walker : Cursor) → cursor_at hands n ≡ Some walker → cursor_in n v.log ≡ Some walker) where
   walks : (n : ℕ) (walker : Cursor) → cursor_at hands n ≡ Some walker → walked_by n mine ≡ Some (container_of walker)
-  walks n walker at = sym (old.walked n ∙ due_walked f called unanswered next n (walked_by n mine)) ∙ ap (option_map container_of) (at_hand n walker at)
+  walks n walker at = sym (old.walked n ∙ due_walked f unanswered n (walked_by n mine)) ∙ ap (option_map container_of) (at_hand n walker at)
 
   walked_same : ((n : ℕ) → cursor_in n w.log ≡ cursor_in n v.log) → (n : ℕ) → option_map container_of (cursor_in n w.log) ≡ walked_by n mine
-  walked_same cursors n = ap (option_map container_of) (cursors n) ∙ (old.walked n ∙ due_walked f called unanswered next n (walked_by n mine))
+  walked_same cursors n = ap (option_map container_of) (cursors n) ∙ (old.walked n ∙ due_walked f unanswered n (walked_by n mine))
 
   before_named : (o : ℕ) → FlightNames o f → IsNamedIn o mine ⊎ (names o called ≡ true)
   before_named o flies = inr (flight_named f called unanswered next o flies)
@@ -374,7 +370,7 @@ module _ (v w : View) (s t : Stack) (f : Flight) (mine : List NamedEntry) (calle
   now_named o is = (used o hands mine called walks is).1
 
   begun_same : locked_in t ≡ locked_in s → AreBegunBy (locked_in t) (begun_by mine)
-  begun_same same = subst (λ (x : List (ℕ × ℕ) × List Call). AreBegunBy x.0 x.1) (λ i. (sym same i, due_begun f called unanswered next (begun_by mine) i)) old.begun
+  begun_same same = subst (λ (x : List (ℕ × ℕ) × List Call). AreBegunBy x.0 x.1) (λ i. (sym same i, due_begun f unanswered (begun_by mine) i)) old.begun
 
   was_marked : IfSome s.mark (λ other. (other ≢ v.number - 1) × IsFoundFor (found_owners w.log) mine called other)
   was_marked =
@@ -409,8 +405,8 @@ module _ (v w : View) (s t : Stack) (f : Flight) (mine : List NamedEntry) (calle
       step_owned v w (IsLockedFor hands called) s t f (flight.Answered called said stamp) mine number lists only finds old
       (subst (λ (m : Option ℕ). IfSome m (λ other. (other ≢ v.number - 1) × IsFoundFor (found_owners w.log) mine called other)) (sym mark) was_marked)
       before_named now_named
-      (λ n. moved n ∙ ap (walked_after n called) (old.walked n ∙ due_walked f called unanswered next n (walked_by n mine)))
-      (stack_begun called s t (begun_by mine) stack (subst (AreBegunBy (locked_in s)) (due_begun f called unanswered next (begun_by mine)) old.begun))
+      (λ n. moved n ∙ ap (walked_after n called) (old.walked n ∙ due_walked f unanswered n (walked_by n mine)))
+      (stack_begun called s t (begun_by mine) stack (subst (AreBegunBy (locked_in s)) (due_begun f unanswered (begun_by mine)) old.begun))
 
 -- ---- the innermost section is taken up again
 
@@ -486,3 +482,36 @@ module _ (w : View) (s t : Stack) (thread : ℕ) (called : Call) (said : Reply) 
     walked = λ n. old.walked n ∙ sym (fold-append (λ before entry. walked_after n entry.call before) None mine (e ∷ []));
     begun = subst (λ (x : List (ℕ × ℕ) × List Call). AreBegunBy x.0 x.1) (λ i. (sym (locked_up s t up) i, sym (begun_push mine e) i)) old.begun;
   }
+
+-- ---- nothing of a call
+
+-- the pass did what leaves its owners and its cursors
+pub calm_owned : (v w : View) (s : Stack) (f : Flight) (mine : List NamedEntry) → w.number ≡ v.number → w.lists ≡ v.lists → SameOwners v w → ((n : ℕ) → cursor_in n w.log ≡ cursor_in n v.log) → AreOwnedBy v s f mine → AreOwnedBy w s f mine
+calm_owned v w s f mine number lists same cursors old =
+    let finds = same_finds_more v w same in
+    step_owned v w (λ o. ⊥) s s f f mine number lists (same_locks_only (λ o. ⊥) v w same) finds old (flight_more (v.number - 1) (found_owners v.log) (found_owners w.log) mine f s.mark finds old.waits) (λ o flies. inr flies) (λ o no. absurd no)
+    (λ n. ap (option_map container_of) (cursors n) ∙ old.walked n) old.begun
+
+-- a caller that has made no call
+pub start_owned : (v : View) (s : Stack) → v.log ≡ [] → s.sections ≡ [] → AreOwnedBy v s flight.Idle []
+start_owned v s log none = record {
+  marked = λ place entry at. absurd (let e : None ≡ Some entry = at in cc);
+  waits = tt;
+  named = λ o has. absurd (no_owner o v.number has);
+  within = λ o q has. absurd (no_owner o q has);
+  walked = λ n. ap (λ (l : List Act). option_map container_of (cursor_in n l)) log;
+  begun = subst (λ (pairs : List (ℕ × ℕ)). AreBegunBy pairs []) (sym (ap (λ (xs : List OpenSection). reverse (map pair_of xs)) none)) tt;
+}
+  where
+    no_owner : (o q : ℕ) → is_owner_in o q (had_locks v.number v.log) ≡ true → ⊥
+    no_owner o q has = absurd (let e : false ≡ true = sym (ap (λ (l : List Act). is_owner_in o q (had_locks v.number l)) log) ∙ has in cc)
+
+-- a caller that gives up with no section open, and a call in flight that names nothing that its entries don't name
+pub abandoned_owned : (v w : View) (s t : Stack) (f : Flight) (mine : List NamedEntry) → w.number ≡ v.number → w.lists ≡ v.lists → SameOwners v w → ((n : ℕ) → cursor_in n w.log ≡ cursor_in n v.log) → (IsAnswered f → ⊥) → ((o : ℕ) → FlightNames o f → IsNamedIn o mine) → s.sections ≡ [] → t.sections ≡ [] → AreOwnedBy v s f mine → AreOwnedBy w t flight.Idle mine
+abandoned_owned v w s t f mine number lists same cursors unanswered names none gone old =
+    step_owned v w (λ o. ⊥) s t f flight.Idle mine number lists (same_locks_only (λ o. ⊥) v w same) (same_finds_more v w same) old tt (λ o flies. inl (names o flies)) (λ o no. absurd no)
+    (λ n. ap (option_map container_of) (cursors n) ∙ (old.walked n ∙ due_walked f unanswered n (walked_by n mine)))
+    (subst (λ (x : List (ℕ × ℕ) × List Call). AreBegunBy x.0 x.1) (λ i. ((ap pairs_in none ∙ sym (ap pairs_in gone)) i, due_begun f unanswered (begun_by mine) i)) old.begun)
+  where
+    pairs_in : List OpenSection → List (ℕ × ℕ)
+    pairs_in xs = reverse (map pair_of xs)

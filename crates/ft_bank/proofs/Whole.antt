@@ -182,7 +182,7 @@ module _ (called : Call) (said : Reply) (number g : ℕ) (snap : Snap) (u c z w 
         lists = p1.lists;
         floor = p1.floor;
         since = p1.since;
-        owners = p1.owners;
+        owners = record { had = p1.owners.had; found = p1.owners.found };
         seen = low;
         shows = let shown_at = le_trans (le-max_right (shown u.log) (number + 1)) (le-max_right u.learnt (max (shown u.log) (number + 1))) in let up = le_trans shown_at p1.seen in omega (arith, up);
         left = let l = w1.left in omega (arith, l, some);
@@ -250,7 +250,7 @@ module _ (called : Call) (said : Reply) (number f : ℕ) (v s u w : View) where
           lists = ends.lists ∙ p1.lists;
           floor = ends.floor ∙ p1.floor;
           since = ends.since ∙ p1.since;
-          owners = owners_then begun u w p1.owners ends.owners;
+          owners = record { had = ends.owners.had ∙ p1.owners.had; found = ends.owners.found ∙ p1.owners.found };
           seen = let low = le_trans p1.seen ends.seen in let more = ends.shows in omega (arith, low, more);
         };
         seen = le_trans p1.seen ends.seen;

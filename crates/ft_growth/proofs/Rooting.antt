@@ -17,7 +17,6 @@ use Rattle.ft_trace.specs.Holds.{held, known}
 use Rattle.ft_trace.specs.Words.{root_in, Stands}
 use Rattle.ft_trace.specs.Worlds.{changes}
 use Rattle.ft_trace.proofs.Cases.{hit, miss}
-use Rattle.ft_trace.proofs.Owning.{owners_then}
 use Rattle.ft_bank.specs.Whole.{SameWork, OnlyLoaded, OnlyPut, EndsWrite, Wrote, hand_after, debt_after, write_entry}
 use Rattle.ft_bank.specs.Writes.{KeepsUnwritten, MayHave}
 use Rattle.ft_bank.proofs.Whole.{IsCalm, calm, same_work, work_then, work_knows, pass_then, loaded_held}
@@ -125,7 +124,7 @@ module _ (called : Call) (said : Reply) (number f root : ℕ) (v r u w : View) w
           lists = ends.lists ∙ p1.lists;
           floor = ends.floor ∙ p1.floor;
           since = ends.since ∙ p1.since;
-          owners = owners_then rooted u w p1.owners ends.owners;
+          owners = record { had = ends.owners.had ∙ p1.owners.had; found = ends.owners.found ∙ p1.owners.found };
           learnt = ends.learnt ∙ p1.learnt;
         };
         left = sym w1.left ∙ ends.left;

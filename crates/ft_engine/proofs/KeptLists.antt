@@ -20,14 +20,13 @@ use Rattle.ft_closing.specs.Numbering.{AreKeptFrom, IsKeptOf}
 use Rattle.ft_engine.specs.declared.caller.Caller.{Caller}
 use Rattle.ft_engine.specs.declared.caller.Flight.{Flight}
 use Rattle.ft_engine.specs.declared.caller.Flight.TheVariants as flight
-use Rattle.ft_engine.specs.declared.engine.Engine.{Engine}
-use Rattle.ft_engine.specs.Callers.{IsFresh, IsIdle, thread_of}
+use Rattle.ft_engine.specs.Callers.{IsIdle, thread_of}
 use Rattle.ft_engine.specs.Closings.{AreKept}
 use Rattle.ft_engine.specs.Keeping.{AreKeptBy, IsKept}
 use Rattle.ft_engine.specs.Owning.{AreOwnedBy, FlightNames, IsFlightFound}
 use Rattle.ft_engine.proofs.Callers.{some_number}
-use Rattle.ft_engine.proofs.Keeping.{kept_of, kept_same, kept_start}
-use Rattle.ft_engine.proofs.Owned.{flight_more, marks_more_found, start_owned}
+use Rattle.ft_engine.proofs.Keeping.{kept_of, kept_same}
+use Rattle.ft_engine.proofs.Owned.{flight_more, marks_more_found}
 
 -- the locks that the passes of a caller have had, and the passes that they found with locks
 abbrev pub had_of : Caller → List Owner
@@ -84,13 +83,6 @@ closed_first c kept had first are is o q has =
     let low = w.0 in
     let high = w.1 in
     (omega (arith, low, first), omega (arith, high, first))
-
--- a caller of a new engine has made no call
-pub fresh_kept : (e : Engine) (room i : ℕ) (c : Caller) → IsFresh e room i c → IsKept c []
-fresh_kept e room i c is = (
-  subst (λ (x : List Entry × Flight). AreKeptBy (thread_of c) x.0 (stack_of c.pass) x.1 []) (λ d. (sym is.entries d, sym is.flight d)) (kept_start (thread_of c) (stack_of c.pass) is.sections),
-  subst (λ (f : Flight). AreOwnedBy (view c.pass) (stack_of c.pass) f []) (sym is.flight) (start_owned (view c.pass) (stack_of c.pass) is.log is.sections),
-)
 
 -- ---- more owners
 

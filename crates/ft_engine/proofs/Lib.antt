@@ -6,6 +6,7 @@ pub mod Owned
 pub mod SectionCalls
 pub mod Callers
 pub mod KeptLists
+pub mod NewCallers
 pub mod Outcomes
 pub mod Looking
 pub mod LookFirst

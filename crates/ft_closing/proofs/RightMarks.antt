@@ -149,7 +149,7 @@ module _ (script : ScriptParts) (calls : List Call) (lists : List (List Entry)) 
           (λ t is. (
             is.0,
             ap (list_any (has_call_on script t)) (needs_is place e there)
-            ∙ any_there (has_call_on script t) is.1.0 (needed_after before e.call) is.1.1 (has_call t is.1.0 (named_by t is.1.0 is.1.2)),
+                ∙ any_there (has_call_on script t) is.1.0 (needed_after before e.call) is.1.1 (has_call t is.1.0 (named_by t is.1.0 is.1.2)),
           )) ((kept_of thread mine at).1.marked place e there)
 
 pub marks_are_right : MarksAreRight

@@ -183,8 +183,8 @@ back_owned p q called said stamp mine locked takes none old =
     (λ (nil : (stack_of p).sections ≡ []). up (λ o. ⊥) (same_locks_only (λ o. ⊥) (view p) (view q) (none nil)) (λ outer top cut o no. absurd no) (λ _ o no. no))
     (λ (r : (outer : List OpenSection) × (top : OpenSection) × ((stack_of p).sections ≡ outer ++ top ∷ [])).
     up (λ o. (o ≡ r.1.locks.lower) ⊎ (o ≡ r.1.locks.upper)) (takes r.0 r.1 r.2)
-    (λ outer top cut o is. subst (λ (t : OpenSection). (o ≡ t.locks.lower) ⊎ (o ≡ t.locks.upper)) (same_from_push (stack_of p).sections outer r.1 top r.0 r.2 cut) is)
-    (λ nil o is. absurd (let e : [] ≡ r.0 ++ r.1 ∷ [] = sym nil ∙ r.2 in push_some r.0 r.1 e))) (last_of (stack_of p).sections)
+    (λ outer top cut o is. subst (λ (t : OpenSection). (o ≡ t.locks.lower) ⊎ (o ≡ t.locks.upper)) (same_from_push r.0 outer r.1 top (sym r.2 ∙ cut)).1 is)
+    (λ nil o is. push_some r.0 r.1 (sym nil ∙ r.2))) (last_of (stack_of p).sections)
   where
     up : (P : ℕ → Type 0) → LocksOnly P (view p) (view q) → ((outer : List OpenSection) (top : OpenSection) → (stack_of p).sections ≡ outer ++ top ∷ [] → (o : ℕ) → P o → (o ≡ top.locks.lower) ⊎ (o ≡ top.locks.upper)) → ((stack_of p).sections ≡ [] → (o : ℕ) → P o → ⊥) → AreOwnedBy (view q) (stack_of p) (flight.Answered called said stamp) mine
     up P only top nil =

@@ -120,8 +120,8 @@ try_after b hands called p q r part (step.Done said stamp) before owners log sta
     ends = subst (λ (s : Stack). IsEndOf called (marks_in s) said) stack x.0.ends;
     walked = λ n. x.0.walked n ∙ ap (λ (z : Option Cursor). walked_after n called (option_map container_of z)) (before.cursors n);
   },
-  λ named is. knew_before called named p q got.Have same (x.1.0 named is),
-  for_then hands called (view p) (view q) (view r) x.0.entry.pass.number (same_for hands called (view p) (view q) owners) x.1.1,
+  λ named is. knew_before called named p q got.Have same (x.1 named is),
+  for_then hands called (view p) (view q) (view r) x.0.entry.pass.number (same_for hands called (view p) (view q) owners) x.2,
 )
 try_after b hands called p q r part (step.NotYet o owner) before owners log stack locks same x = (
   x.0,

@@ -262,7 +262,7 @@ module _ (o : ℕ) where
 -- ---- what stays found
 
 found_more : (found more : List Owner) (mine : List NamedEntry) (called : Call) (other : ℕ) → AreOwners found more → IsFoundFor found mine called other → IsFoundFor more mine called other
-found_more found more mine called other all x = (x.0, x.1.0, all x.0 (other + 1) x.1.1)
+found_more found more mine called other all x = (x.0, x.1, all x.0 (other + 1) x.2)
 
 mark_more : (thread : ℕ) (found more : List Owner) (mine : List NamedEntry) (called : Call) (mark : Option ℕ) → AreOwners found more → IfSome mark (λ other. (other ≢ thread) × IsFoundFor found mine called other) → IfSome mark (λ other. (other ≢ thread) × IsFoundFor more mine called other)
 mark_more thread found more mine called mark all is =

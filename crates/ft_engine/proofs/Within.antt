@@ -73,8 +73,8 @@ pub answered_owners : (called : Call) (said : Reply) (n : ℕ) (v w : View) → 
 answered_owners called said n v w x =
     owners_then v x.before w x.loaded.work.pass.owners (subst (SameOwners x.before) (sym x.answered) (record { had = refl; found = refl }))
 
-pub cursor_owners : (called : Call) (said : Reply) (n number : ℕ) (had : Option Cursor) (left : Cursor) (v w : View) → AnsweredCursor called said n number had left v w → SameOwners v w
-cursor_owners called said n number had left v w x =
+pub cursor_owners : (called : Call) (said : Reply) (n number : ℕ) (left : Cursor) (v w : View) → AnsweredCursor called said n number left v w → SameOwners v w
+cursor_owners called said n number left v w x =
     owners_then v x.before w x.loaded.work.pass.owners (subst (SameOwners x.before) (sym x.answered) (record { had = refl; found = refl }))
 
 pub wrote_owners : (called : Call) (said : Reply) (n : ℕ) (v w : View) → Wrote called said n v w → SameOwners v w

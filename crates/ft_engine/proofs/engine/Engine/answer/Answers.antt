@@ -8,7 +8,7 @@ use Rattle.ft_engine.proofs.engine.Engine.answer.Goals as goal
 pub returns-in-Done-clause-kept : goal.returns-in-Done-clause-kept
 returns-in-Done-clause-kept c mine kept =
     let old = c.args.caller.now in
-    answered_kept c.args.self.now old (record { pass = c.make.new.pass; cursors = c.make.new.cursors; calls = old.calls; made = old.made + 1; flight = flight.Answered c.args.call.now c.in-Done.reply c.in-Done.stamp }) c.args.call.now c.in-Done.reply c.in-Done.stamp mine c.requires.caller c.requires.unanswered c.requires.may.next c.in-Done.ensures.tried.0 c.in-Done.ensures.tried.1.1 refl kept
+    answered_kept c.args.self.now old (record { pass = c.make.new.pass; cursors = c.make.new.cursors; calls = old.calls; made = old.made + 1; flight = flight.Answered c.args.call.now c.in-Done.reply c.in-Done.stamp }) c.args.call.now c.in-Done.reply c.in-Done.stamp mine c.requires.caller c.requires.unanswered c.requires.may.next c.in-Done.ensures.tried.0 c.in-Done.ensures.tried.2 refl kept
 
 pub returns-in-NotYet-clause-ended : goal.returns-in-NotYet-clause-ended
 returns-in-NotYet-clause-ended c mine kept =

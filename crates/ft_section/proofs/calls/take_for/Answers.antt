@@ -63,4 +63,3 @@ returns-in-Err-clause-waiting c =
       within = returns-in-Err-clause-within c;
       known = λ has. ap got_by (c.in-Err.ensures.known has ∙ (λ i. first_owned (order.0 i) (order.1 i) (view c.args.pass.now)));
     }
-

@@ -79,9 +79,10 @@ moved_adds o called said stamp number left v w is some moves others m =
 move_outcome : (kind : Kind) (o : ℕ) (called : Call) (number : ℕ) (had left : Option Cursor) (v w : View) (result : Step) → 0 < v.left → moved_cursor called ≡ Some number → KeepsOthers number v w → IsMoveOf kind o called number had v w result left → Outcome called (One o) v w result
 move_outcome kind o called number had left v w (step.Done said stamp) some moves others x =
     let m = x.3 in
-    let a = m.answered in
-    (moved_adds o called said stamp number x.0 v w x.4 some moves others m,
-      within_then (One o) v m.before m.after w m.took m.within (ap (λ (z : View). z.number) a.answered ∙ a.loaded.work.pass.number) (cursor_owners called said stamp.number number x.0 m.before m.after a) m.gone m.owners)
+    let a = m.answered in (
+      moved_adds o called said stamp number x.0 v w x.4 some moves others m,
+      within_then (One o) v m.before m.after w m.took m.within (ap (λ (z : View). z.number) a.answered ∙ a.loaded.work.pass.number) (cursor_owners called said stamp.number number x.0 m.before m.after a) m.gone m.owners,
+    )
 move_outcome kind o called number had left v w (step.NotYet p owner) some moves others x = (x.1, x.2, x.3)
 move_outcome kind o called number had left v w (step.Moved a b) some moves others x = absurd x
 move_outcome kind o called number had left v w step.NoMemory some moves others x = absurd x

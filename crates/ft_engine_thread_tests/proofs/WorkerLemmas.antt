@@ -11,7 +11,8 @@ use Rattle.ft_engine.specs.declared.caller.Flight.{Flight}
 use Rattle.ft_engine.specs.declared.caller.Flight.TheVariants as flight
 use Rattle.ft_engine.specs.declared.engine.Engine.{Engine}
 use Rattle.ft_engine.specs.Callers.{IsFresh, pass_of, thread_of}
-use Rattle.ft_engine.specs.Keeping.{IsKept, AreKeptBy}
+use Rattle.ft_engine.specs.Keeping.{IsKept}
+use Rattle.ft_engine.proofs.NewCallers.{new_kept}
 use Rattle.ft_engine_thread_tests.specs.declared.workers.Worker.{Worker}
 use Rattle.ft_engine_thread_tests.specs.Workers.{AreEach, AreFrom, HasTaken, IsFree, IsMember}
 
@@ -45,23 +46,11 @@ from_each P ws each = all_at P 0 ws (λ thread w low. subst (λ (n : ℕ). P n (
 
 -- ---- a new worker
 
-none_kept : (c : Caller) → (view (pass_of c)).entries ≡ [] → c.flight ≡ flight.Idle → (stack_of (pass_of c)).sections ≡ [] → IsKept c []
-none_kept c entries idle sections =
-    subst (λ (f : Flight). AreKeptBy (thread_of c) (view (pass_of c)).entries (stack_of (pass_of c)) f []) (sym idle)
-    (record {
-      same = entries;
-      own = All-nil (λ entry. entry.thread ≡ thread_of c);
-      indexes = refl;
-      counted = λ place entry at. absurd (let e = at in cc);
-      sections = ap (λ (ss : List OpenSection). reverse (map (λ section. section.marks) ss)) sections;
-      ends = tt;
-    })
-
 pub fresh_free : (e : Engine) (room thread : ℕ) (w : Worker) → w.entries.items ≡ [] → w.done ≡ false → IsFresh e room thread w.caller → IsFree e thread w
 fresh_free e room thread w none undone x = (
   record {
     member = record { caller = x.caller; thread = x.thread; next = x.next; parts = x.parts; taken = x.taken };
-    kept = subst (IsKept w.caller) (sym none) (none_kept w.caller x.entries x.flight x.sections);
+    kept = subst (IsKept w.caller) (sym none) (new_kept e room thread w.caller x);
     done = λ done. absurd (let d = done in let u = undone in grind (arith, d, u));
   },
   x.flight,

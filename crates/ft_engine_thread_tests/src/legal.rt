@@ -46,7 +46,10 @@ fn scripts_with_few_calls(rt: HostRuntime) -> Result<(), Fail> {
         ("thread A\n", 0),
         ("thread A\nthread B\nthread C\n", 0),
         ("list l\nthread A\nthread B\nappend l 1\nthread C\n", 1),
-        ("dict d\nthread A\nset d \"a\" 1\nget d \"a\"\nget d \"b\"\n", 3),
+        (
+            "dict d\nthread A\nset d \"a\" 1\nget d \"a\"\nget d \"b\"\n",
+            3,
+        ),
         ("dict d\nthread A\nset d 1 1\niter d c\nnext c\nnext c\n", 4),
     ];
     for (text, entries) in scripts {

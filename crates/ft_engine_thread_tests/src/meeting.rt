@@ -15,6 +15,7 @@ const TURNS: u32 = 1_000_000;
 /// Thread 0 with one call, and thread 1 with two. Each is held before its first call until the other has come to its
 /// own; then thread 0 until the other's first call was answered, and thread 1 before its second call until the one of
 /// thread 0 was answered.
+#[derive(Drop)]
 struct Meeting {
     first_came: AtomicU64,
     first_answered: AtomicU64,
@@ -73,10 +74,8 @@ impl Gate for Meeting {
 /// Whether the entries are those of these threads and indexes, in this order.
 fn come_so(entries: &[Entry], order: &[(u32, u32)]) -> bool {
     entries.len() == order.len()
-        && entries
-            .iter()
-            .zip(order)
-            .all(|(entry, place)| entry.thread == place.0 && entry.index == place.1)
+        && entries.iter().zip(order).all(|(entry, place)| entry.thread == place.0
+            && entry.index == place.1)
 }
 
 #[test]

@@ -42,7 +42,9 @@ pub fn numbered(alloc: Global, threads: u32) -> Result<String, AllocError> {
     let mut text = String::new(alloc);
     text.push_str("dict d\ndict e\n")?;
     for thread in 0..threads {
-        let lines = format!(in alloc; "thread T{thread}\nbegin d e\nset d {thread} 0\nset e {thread} 0\nend\n")?;
+        let lines = format!(in alloc;
+            "thread T{thread}\nbegin d e\nset d {thread} 0\nset e {thread} 0\nend\n"
+        )?;
         text.push_str(&lines)?;
     }
     Ok(text)

@@ -14,6 +14,7 @@ use ft_model::{Entry, Script};
 use std::alloc::{AllocError, Global};
 
 /// Takes in the worker of the next thread, and adds its list.
+#[tactic(auto, using(crate::proofs::WorkerLemmas::last_next, crate::proofs::Endings::made_push))]
 fn take_in(
     engine: &Engine,
     script: &Script,
@@ -50,6 +51,8 @@ pub(crate) fn close_all(
     ensures shape { IfOk result (λ ran. IsBankFor script.now (shape_in ran.closed)) }
     ensures entries { IfOk result (λ ran. HasEntriesOf ran.closed ran.history.items) }
 {
+    // Named so that the check sees the script's rule.
+    let _parts = script.parts();
     let mut lists = Vec::with_capacity(alloc, workers.len())?;
     let mut each = workers.into_iter();
     let Some(first) = each.next() else {

@@ -1,11 +1,10 @@
 //! The bank of a script.
-ghost use Rattle.std.specs.Prelude.{◌≡◌, IfOk, map};
+ghost use Rattle.std.specs.Prelude.{◌≡◌, All, IfOk, map};
 ghost use Rattle.ft_bank.specs.Shapes.{IsShape, plan};
 ghost use Rattle.ft_hash.specs.Hashes.{text_hash};
 ghost use Rattle.ft_model.specs.Names.{IsString};
 ghost use Rattle.ft_model.specs.Worlds.{kinds_of};
 ghost use Rattle.ft_workers.specs.Workers.{IsBankFor};
-ghost use Rattle.std.specs.Prelude.{All};
 
 use ft_bank::Shape;
 use ft_hash::hash_text;
@@ -17,11 +16,10 @@ use std::str;
 fn kinds(alloc: Global, containers: &[Declaration]) -> Result<Vec<Kind>, AllocError>
     ensures { IfOk result (λ kinds. kinds.items ≡ kinds_of containers.now) }
 {
-    let mut kinds = Vec::with_capacity(alloc, containers.len())?;
-    for declaration in containers {
-        kinds.push(declaration.kind)?;
-    }
-    Ok(kinds)
+    containers
+        .iter()
+        .map(|declaration| declaration.kind)
+        .collect(alloc)
 }
 
 /// The hashes of the strings.
@@ -30,8 +28,8 @@ fn texts(alloc: Global, strings: &[Text]) -> Result<Vec<u64>, AllocError>
     ensures { IfOk result (λ texts. texts.items ≡ map text_hash strings.now) }
 {
     let mut texts = Vec::with_capacity(alloc, strings.len())?;
-    for text in strings {
-        let Ok(text) = str::from_utf8(text.as_slice()) else {
+    for string in strings {
+        let Ok(text) = str::from_utf8(string.as_slice()) else {
             unreachable!();
         };
         texts.push(hash_text(text))?;
@@ -43,11 +41,7 @@ fn texts(alloc: Global, strings: &[Text]) -> Result<Vec<u64>, AllocError>
 fn tables(alloc: Global, counts: &[u32]) -> Result<Vec<u32>, AllocError>
     ensures { IfOk result (λ tables. tables.items ≡ counts.now) }
 {
-    let mut tables = Vec::with_capacity(alloc, counts.len())?;
-    for count in counts {
-        tables.push(*count)?;
-    }
-    Ok(tables)
+    counts.iter().copied().collect(alloc)
 }
 
 /// The shape of the script's bank: a pass for each thread, one at least, and for each as many calls as a script has at

@@ -50,7 +50,8 @@ fn hire(
     let mut workers = Vec::with_capacity(alloc, callers.len())?;
     for caller in callers {
         let calls = call_count(script, workers.len());
-        workers.push(worker(alloc, caller, calls)?)?;
+        let hired = worker(alloc, caller, calls)?;
+        workers.push(hired)?;
     }
     Ok(workers)
 }

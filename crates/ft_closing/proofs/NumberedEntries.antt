@@ -21,6 +21,7 @@ use Rattle.ft_model.specs.Numbers.{is_number, after_begins, begins_of, IfBegun, 
 use Rattle.ft_model.specs.Tables.{stored_by, IsEarnedReply, IsFittingReply}
 use Rattle.ft_model.specs.Worlds.{kinds_of}
 use Rattle.ft_trace.specs.declared.Entry.{Entry}
+use Rattle.ft_trace.specs.declared.Owner.{Owner}
 use Rattle.ft_trace.specs.declared.Shape.{Shape}
 use Rattle.ft_trace.specs.Entries.{total, is_number as number_of}
 use Rattle.ft_trace.specs.InOrder.{StandsInOrder}
@@ -122,7 +123,7 @@ module _ (k : Shape) (script : ScriptParts) (calls : List Call) (for_it : IsFor 
 
   -- ---- one pass
 
-  module _ (thread : ℕ) (mine : List NamedEntry) (own : List Entry) (kept : IsKeptOf thread mine own) (asks : All (AsksWithin (cursors_of script thread)) mine) (replied : (room : ℕ) → AreReplied k.kinds calls room own) (stand : All (StandsInOrder k calls) own) (ordered : AreInOwnOrder (IsWriteIn calls) own) where
+  module _ (thread : ℕ) (mine : List NamedEntry) (own : List Entry) (had found : List Owner) (kept : IsKeptOf thread mine own had found) (asks : All (AsksWithin (cursors_of script thread)) mine) (replied : (room : ℕ) → AreReplied k.kinds calls room own) (stand : All (StandsInOrder k calls) own) (ordered : AreInOwnOrder (IsWriteIn calls) own) where
     own_is : own ≡ reverse (map entry_of mine)
     own_is = sym (reverse-reverse own) ∙ ap reverse (sym kept.same)
 
@@ -161,19 +162,19 @@ module _ (k : Shape) (script : ScriptParts) (calls : List Call) (for_it : IsFor 
 
   -- ---- all passes
 
-  numbered_from : (first : ℕ) (kept : List (List NamedEntry)) (lists : List (List Entry)) → AreKeptFrom first kept lists → ((i : ℕ) (mine : List NamedEntry) → slice_get kept i ≡ Some mine → All (AsksWithin (cursors_of script (first + i))) mine) → All (λ own. (room : ℕ) → AreReplied k.kinds calls room own) lists → All (StandsInOrder k calls) (flat_map (λ own. own) lists) → All (AreInOwnOrder (IsWriteIn calls)) lists → (i : ℕ) (mine : List NamedEntry) → slice_get kept i ≡ Some mine → IsNumberedThread storage.Tables script calls (first + i) mine
-  numbered_from first [] lists are asks replied stand ordered i mine at = absurd (cc)
-  numbered_from first (m ∷ kept) [] are asks replied stand ordered i mine at = absurd are
-  numbered_from first (m ∷ kept) (own ∷ lists) are asks replied stand ordered zero mine at =
+  numbered_from : (first : ℕ) (kept : List (List NamedEntry)) (lists : List (List Entry)) (had found : List Owner) → AreKeptFrom first kept lists had found → ((i : ℕ) (mine : List NamedEntry) → slice_get kept i ≡ Some mine → All (AsksWithin (cursors_of script (first + i))) mine) → All (λ own. (room : ℕ) → AreReplied k.kinds calls room own) lists → All (StandsInOrder k calls) (flat_map (λ own. own) lists) → All (AreInOwnOrder (IsWriteIn calls)) lists → (i : ℕ) (mine : List NamedEntry) → slice_get kept i ≡ Some mine → IsNumberedThread storage.Tables script calls (first + i) mine
+  numbered_from first [] lists had found are asks replied stand ordered i mine at = absurd (cc)
+  numbered_from first (m ∷ kept) [] had found are asks replied stand ordered i mine at = absurd are
+  numbered_from first (m ∷ kept) (own ∷ lists) had found are asks replied stand ordered zero mine at =
       let same : m ≡ mine = cc in
       let here : first ≡ first + 0 = omega arith in
       let s = (all_parts (StandsInOrder k calls) own (flat_map (λ l. l) lists) stand).0 in
       let o = All-head (AreInOwnOrder (IsWriteIn calls)) own lists ordered in
-      subst (λ (z : ℕ × List NamedEntry). IsNumberedThread storage.Tables script calls z.0 z.1) (λ d. (here d, same d)) (numbered_thread first m own are.0 (subst (λ (z : ℕ). All (AsksWithin (cursors_of script z)) m) (sym here) (asks zero m refl)) (All-head (λ l. (room : ℕ) → AreReplied k.kinds calls room l) own lists replied) s o)
-  numbered_from first (m ∷ kept) (own ∷ lists) are asks replied stand ordered (suc i) mine at =
+      subst (λ (z : ℕ × List NamedEntry). IsNumberedThread storage.Tables script calls z.0 z.1) (λ d. (here d, same d)) (numbered_thread first m own had found are.0 (subst (λ (z : ℕ). All (AsksWithin (cursors_of script z)) m) (sym here) (asks zero m refl)) (All-head (λ l. (room : ℕ) → AreReplied k.kinds calls room l) own lists replied) s o)
+  numbered_from first (m ∷ kept) (own ∷ lists) had found are asks replied stand ordered (suc i) mine at =
       let next : suc first + i ≡ first + suc i = omega arith in
       subst (λ (z : ℕ). IsNumberedThread storage.Tables script calls z mine) next
-      (numbered_from (suc first) kept lists are.1 (λ j other here. subst (λ (z : ℕ). All (AsksWithin (cursors_of script z)) other) (let e : first + suc j ≡ suc first + j = omega arith in e) (asks (suc j) other here)) (All-tail (λ l. (room : ℕ) → AreReplied k.kinds calls room l) own lists replied) (all_parts (StandsInOrder k calls) own (flat_map (λ l. l) lists) stand).1 (All-tail (AreInOwnOrder (IsWriteIn calls)) own lists ordered) i mine at)
+      (numbered_from (suc first) kept lists had found are.1 (λ j other here. subst (λ (z : ℕ). All (AsksWithin (cursors_of script z)) other) (let e : first + suc j ≡ suc first + j = omega arith in e) (asks (suc j) other here)) (All-tail (λ l. (room : ℕ) → AreReplied k.kinds calls room l) own lists replied) (all_parts (StandsInOrder k calls) own (flat_map (λ l. l) lists) stand).1 (All-tail (AreInOwnOrder (IsWriteIn calls)) own lists ordered) i mine at)
 
 -- ---- how many are the write of a number
 
@@ -189,23 +190,23 @@ count_own n (m ∷ mine) =
     let d : number_of n (entry_of m) ≡ count_of n m = refl in
     omega (arith, a, b, c, d)
 
-count_all : (n first : ℕ) (kept : List (List NamedEntry)) (lists : List (List Entry)) → AreKeptFrom first kept lists → total (number_of n) (flat_map (λ own. own) lists) ≡ sum_by (count_of n) (flat_map (λ mine. mine) kept)
-count_all n first [] [] are = refl
-count_all n first [] (own ∷ lists) are = absurd are
-count_all n first (m ∷ kept) [] are = absurd are
-count_all n first (m ∷ kept) (own ∷ lists) are =
+count_all : (n first : ℕ) (kept : List (List NamedEntry)) (lists : List (List Entry)) (had found : List Owner) → AreKeptFrom first kept lists had found → total (number_of n) (flat_map (λ own. own) lists) ≡ sum_by (count_of n) (flat_map (λ mine. mine) kept)
+count_all n first [] [] had found are = refl
+count_all n first [] (own ∷ lists) had found are = absurd are
+count_all n first (m ∷ kept) [] had found are = absurd are
+count_all n first (m ∷ kept) (own ∷ lists) had found are =
     let own_is : own ≡ reverse (map entry_of m) = sym (reverse-reverse own) ∙ ap reverse (sym are.0.same) in
     let a = total-append (number_of n) own (flat_map (λ l. l) lists) in
     let b = ap (total (number_of n)) own_is ∙ count_own n m in
-    let c = count_all n (suc first) kept lists are.1 in
+    let c = count_all n (suc first) kept lists had found are.1 in
     let d = sum_by-append (count_of n) m (flat_map (λ mine. mine) kept) in
     omega (arith, a, b, c, d)
 
 pub entries_are_numbered : EntriesAreNumbered
-entries_are_numbered k script calls lists kept for_it in_order ordered replied are asks count = record {
+entries_are_numbered k script calls lists kept had found for_it in_order ordered replied are asks count = record {
   count = count;
   threads = λ thread mine at.
       let same : 0 + thread ≡ thread = omega arith in
-      subst (λ (z : ℕ). IsNumberedThread storage.Tables script calls z mine) same (numbered_from k script calls for_it 0 kept lists are (λ j other here. subst (λ (z : ℕ). All (AsksWithin (cursors_of script z)) other) (let e : j ≡ 0 + j = omega arith in e) (asks j other here)) replied in_order.each ordered thread mine at);
-  once = λ number low. sym (count_all number 0 kept lists are) ∙ in_order.once number low;
+      subst (λ (z : ℕ). IsNumberedThread storage.Tables script calls z mine) same (numbered_from k script calls for_it 0 kept lists had found are (λ j other here. subst (λ (z : ℕ). All (AsksWithin (cursors_of script z)) other) (let e : j ≡ 0 + j = omega arith in e) (asks j other here)) replied in_order.each ordered thread mine at);
+  once = λ number low. sym (count_all number 0 kept lists had found are) ∙ in_order.once number low;
 }

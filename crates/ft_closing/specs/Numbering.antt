@@ -8,13 +8,16 @@ use Rattle.ft_model.specs.declared.script.ScriptParts.{ScriptParts}
 use Rattle.ft_model.specs.declared.script.Kind.{Kind}
 use Rattle.ft_model.specs.Answers.{answer, world_by}
 use Rattle.ft_model.specs.Histories.{cursors_of, hands_by, EachAt, IsCountedAs, IsReplied}
-use Rattle.ft_model.specs.Numbers.{IfEndsBegin, begins_of, marks_since, AreNumberedLists}
+use Rattle.ft_model.specs.Numbers.{IfEndsBegin, begins_of, marks_since, AreDone, AreNumberedLists}
 use Rattle.ft_model.specs.Worlds.{kinds_of}
 use Rattle.ft_trace.specs.declared.Entry.{Entry}
+use Rattle.ft_trace.specs.declared.Owner.{Owner}
 use Rattle.ft_trace.specs.declared.Shape.{Shape}
 use Rattle.ft_trace.specs.InOrder.{AreInOrder}
 use Rattle.ft_trace.specs.OwnCursors.{entry_of, AsksWithin}
 use Rattle.ft_trace.specs.OwnOrder.{AreInOwnOrder, IsWriteIn}
+use Rattle.ft_trace.specs.Owners.{AreOwners}
+use Rattle.ft_closing.specs.Marks.{AreMade, AreMarksFound, AreOfFirst, HasNamed}
 
 -- the bank is made for the script: its containers, its tables, and a pass for each thread (profile)
 pub record IsFor (script : ScriptParts) (k : Shape) : Type 0 where
@@ -32,20 +35,25 @@ AreReplied kinds calls room own =
     (answer (world_by kinds (take e.stamp calls)) (hands_by kinds calls room (take place mine)) e.call).reply)
 
 -- A caller kept the entries of its pass, the oldest first, with its thread and an index, which counts from 1. An `end`
--- says how many of its entries in the section waited. (profile)
-pub record IsKeptOf (thread : ℕ) (mine : List NamedEntry) (entries : List Entry) : Type 0 where
+-- says how many of its entries in the section waited. A mark is a thread that was found with a lock that the call needs,
+-- and the thread had no locks but of containers that its calls name. (profile)
+pub record IsKeptOf (thread : ℕ) (mine : List NamedEntry) (entries : List Entry) (had found : List Owner)
+    : Type 0 where
   pub same : map entry_of mine ≡ reverse entries
   pub own : All (λ entry. entry.thread ≡ thread) mine
   pub indexes : map (λ entry. entry.index) mine ≡ range_with_len 1 (length mine)
   pub counted : EachAt mine (λ place entry. IfEndsBegin (begins_of (take place mine)) entry.call
       (λ begun. IsCountedAs (marks_since entry.thread (take place mine) begun) entry.reply))
+  pub marked : AreMarksFound found mine
+  pub named : HasNamed thread had mine
 
 -- each caller did, from this thread on, beside the entries of the passes in the same order (profile)
-abbrev pub AreKeptFrom : ℕ → List (List NamedEntry) → List (List Entry) → Type 0
-AreKeptFrom thread [] [] = Unit {0}
-AreKeptFrom thread [] (own ∷ lists) = ⊥
-AreKeptFrom thread (mine ∷ kept) [] = ⊥
-AreKeptFrom thread (mine ∷ kept) (own ∷ lists) = IsKeptOf thread mine own × AreKeptFrom (suc thread) kept lists
+abbrev pub AreKeptFrom : ℕ → List (List NamedEntry) → List (List Entry) → List Owner → List Owner → Type 0
+AreKeptFrom thread [] [] had found = Unit {0}
+AreKeptFrom thread [] (own ∷ lists) had found = ⊥
+AreKeptFrom thread (mine ∷ kept) [] had found = ⊥
+AreKeptFrom thread (mine ∷ kept) (own ∷ lists) had found =
+    IsKeptOf thread mine own had found × AreKeptFrom (suc thread) kept lists had found
 
 -- each cursor that a thread's entries ask is one of the thread's in the script
 abbrev pub AskOwnCursors : ScriptParts → List (List NamedEntry) → Type 0
@@ -58,7 +66,18 @@ AskOwnCursors script kept =
 abbrev pub EntriesAreNumbered : Type 0
 EntriesAreNumbered =
     (k : Shape) (script : ScriptParts) (calls : List Call) (lists : List (List Entry)) (kept : List (List NamedEntry))
+    (had found : List Owner)
     → IsFor script k → AreInOrder k calls (flat_map (λ own. own) lists) → All (AreInOwnOrder (IsWriteIn calls)) lists
     → All (λ own. (room : ℕ) → AreReplied k.kinds calls room own) lists
-    → AreKeptFrom 0 kept lists → AskOwnCursors script kept → length kept ≡ length script.threads
+    → AreKeptFrom 0 kept lists had found → AskOwnCursors script kept → length kept ≡ length script.threads
     → AreNumberedLists storage.Tables script calls kept
+
+-- Where all calls are made, each mark is right: the thread that it names was found with the lock, so it had it, and so
+-- a call of it names the container.
+abbrev pub MarksAreRight : Type 0
+MarksAreRight =
+    (script : ScriptParts) (calls : List Call) (lists : List (List Entry)) (kept : List (List NamedEntry))
+    (had found : List Owner)
+    → AreKeptFrom 0 kept lists had found → AreOfFirst (length kept) had → AreOwners found had
+    → AskOwnCursors script kept → AreNumberedLists storage.Tables script calls kept → AreMade script kept
+    → AreDone script calls kept

@@ -5,5 +5,5 @@
 mod numbering;
 
 pub use crate::numbering::{
-    closed_entries_are_legal, closed_entries_are_numbered, entries_are_numbered,
+    closed_entries_are_legal, closed_entries_are_numbered, entries_are_numbered, marks_are_right,
 };

@@ -1,7 +1,7 @@
 -- Callers stay callers of their engine, whatever their calls come to.
-use Rattle.std.proofs.Common.{◌≡◌, ◌≤◌, ◌<◌, ◌+◌, ◌-◌, ◌^◌, ℕ, zero, suc, Bool, true, false, List, [], ◌∷◌, ◌++◌, map, reverse, length, replicate, refl, sym, ap, ◌∙◌, subst, arith, inr}
+use Rattle.std.proofs.Common.{◌≡◌, ◌≤◌, ◌<◌, ◌+◌, ◌-◌, ◌^◌, ℕ, zero, suc, Bool, true, false, List, [], ◌∷◌, ◌++◌, map, reverse, length, replicate, refl, sym, ap, ◌∙◌, subst, arith, ◌⊎◌, inl, inr, ⊎_elim}
 use Rattle.std.specs.Prelude.{Option, Some, None}
-use Rattle.std.proofs.lemmas.List.{length-map, length-append, length-reverse}
+use Rattle.std.proofs.lemmas.List.{same_from_push, length-map, length-append, length-reverse}
 use Rattle.ft_model.specs.declared.call.Call.{Call}
 use Rattle.ft_model.specs.declared.call.Call.TheVariants as call
 use Rattle.ft_model.specs.declared.cursor.Cursor.{Cursor}
@@ -14,8 +14,11 @@ use Rattle.ft_trace.specs.declared.Shape.{Shape}
 use Rattle.ft_trace.specs.declared.View.{View}
 use Rattle.ft_trace.specs.Hands.{cursor_in}
 use Rattle.ft_trace.specs.OwnCursors.{entry_of}
+use Rattle.ft_trace.specs.Owners.{LocksOnly, SameOwners}
+use Rattle.ft_trace.proofs.Owning.{grown_finds_more, same_locks_only}
 use Rattle.ft_bank.specs.declared.bank.Bank.{Bank}
 use Rattle.ft_bank.specs.declared.pass.Pass.{Pass}
+use Rattle.ft_bank.specs.declared.sections.OpenSection.{OpenSection}
 use Rattle.ft_bank.specs.Openings.{IsOpening}
 use Rattle.ft_bank.specs.Passes.{shape_of, view, IsPassOf}
 use Rattle.ft_bank.specs.Sections.{Stack, stack_of}
@@ -23,22 +26,26 @@ use Rattle.ft_section.specs.declared.answers.Objects.{Objects}
 use Rattle.ft_section.specs.declared.answers.Stamp.{Stamp}
 use Rattle.ft_section.specs.declared.answers.Step.{Step}
 use Rattle.ft_section.specs.declared.answers.Step.TheVariants as step
-use Rattle.ft_section.specs.Locking.{OnlyLocked, TakenUp, waiting, with_own}
+use Rattle.ft_section.specs.Locking.{FoundOwner, OnlyLocked, TakenUp, waiting, with_own}
 use Rattle.ft_section.specs.Ready.{HasTop, IsReady, MayResume}
 use Rattle.ft_section.proofs.Fresh.{fresh_ready}
+use Rattle.ft_section.proofs.Gains.{found_is}
 use Rattle.ft_engine.specs.declared.attempts.Tried.{Tried}
 use Rattle.ft_engine.specs.declared.caller.Caller.{Caller}
 use Rattle.ft_engine.specs.declared.caller.Flight.{Flight}
 use Rattle.ft_engine.specs.declared.caller.Flight.TheVariants as flight
 use Rattle.ft_engine.specs.declared.engine.Engine.{Engine}
-use Rattle.ft_engine.specs.Answering.{AreHandsOf, HasAnswer, HasNone, HasToWait, IsTryOf, LeavesHands}
+use Rattle.ft_engine.specs.Answering.{AreHandsOf, HasAnswer, HasLockedFor, HasNone, HasToWait, IsTryOf, LeavesHands}
 use Rattle.ft_engine.specs.Callers.{AreFresh, IsCallerOf, IsFresh, thread_of}
 use Rattle.ft_engine.specs.Flights.{IsAnswered, IsIn, IsNext, is_begin, objects_of}
 use Rattle.ft_engine.specs.Halves.{HasBothHalves, IsInHalves}
 use Rattle.ft_engine.specs.Keeping.{AreKeptBy, IsKept, kept_entry, pending}
 use Rattle.ft_engine.specs.Visits.{SameWork}
+use Rattle.ft_engine.specs.Owning.{AreOwnedBy}
+use Rattle.ft_engine.proofs.Marks.{last_of}
+use Rattle.ft_engine.proofs.Owned.{again_owned, answered_owned, calm_owned, done_owned, refused_owned, up_owned, waits_on_owned, waits_owned}
 use Rattle.ft_engine.proofs.Passing.{IsCalm, ready_calm}
-use Rattle.ft_engine.proofs.Keeping.{kept_answered, kept_done, kept_waits, kept_waits_on}
+use Rattle.ft_engine.proofs.Keeping.{kept_again, kept_answered, kept_done, kept_refused, kept_waits, kept_waits_on}
 
 -- ---- a new caller
 
@@ -63,6 +70,7 @@ fresh e room i c opening hands calls word made idle =
       hands = hands;
       left = let m = made in let k = calls in omega (arith, m, k);
       entries = ap (λ (v : View). v.entries) is;
+      log = ap (λ (v : View). v.log) is;
       taken = ap (λ (v : View). v.lists) is;
       sections = ap (λ (s : Stack). s.sections) opening.2;
       next = ap (λ (v : View). v.next) is;
@@ -73,6 +81,17 @@ fresh e room i c opening hands calls word made idle =
     none_at zero k = refl
     none_at (suc n) zero = refl
     none_at (suc n) (suc k) = none_at n k
+
+-- lists that were kept, when the pass has done nothing that they speak of
+pub calm_kept : (c d : Caller) (mine : List NamedEntry) → IsCalm (view c.pass) (view d.pass) → stack_of d.pass ≡ stack_of c.pass → d.flight ≡ c.flight → IsKept c mine → IsKept d mine
+calm_kept c d mine calm stack flies kept = (
+  subst (λ (y : ℕ × List Entry × Stack × Flight). AreKeptBy y.0 y.1 y.2 y.3 mine) (λ i. (ap (λ (n : ℕ). n - 1) (sym calm.number) i, sym calm.entries i, sym stack i, sym flies i)) kept.0,
+  subst (λ (y : Stack × Flight). AreOwnedBy (view d.pass) y.0 y.1 mine) (λ i. (sym stack i, sym flies i)) (calm_owned (view c.pass) (view d.pass) (stack_of c.pass) c.flight mine calm.number calm.lists calm.owners calm.cursors kept.1),
+)
+
+-- the number of a pass
+pub some_number : (p : Pass) → 0 < (view p).number
+some_number p = let n = p.numbered in omega (arith, n)
 
 -- ---- the innermost section is taken up
 
@@ -110,12 +129,29 @@ kept_count thread entries s f mine k =
     omega (arith, a, b, c, d)
 
 -- the list that was kept of a caller whose section has to wait
-pub waits_kept : (e : Engine) (c : Caller) (q : Pass) (owner : ℕ) (mine : List NamedEntry) → IsCallerOf e c → IsAnswered c.flight → OnlyLocked (view c.pass) (view q) → (HasTop c.pass → ⊥) → stack_of q ≡ waiting (with_own (stack_of c.pass) (stack_of q).own) owner → IsKept c mine → IsKept (record c { pass = q }) mine
-waits_kept e c q owner mine is answered only lacked stack kept =
-    by c.flight answered is.inside (kept_count (thread_of c) (view c.pass).entries (stack_of c.pass) c.flight mine kept) kept
+waits_owners : (c : Caller) (q : Pass) (f : Flight) (outer : List OpenSection) (top : OpenSection) (o owner : ℕ) (mine : List NamedEntry) → IsAnswered f → OnlyLocked (view c.pass) (view q) → (stack_of c.pass).sections ≡ outer ++ top ∷ [] → LocksOnly (λ p. (p ≡ top.locks.lower) ⊎ (p ≡ top.locks.upper)) (view c.pass) (view q) → (o ≡ top.locks.lower) ⊎ (o ≡ top.locks.upper) → FoundOwner o owner (view c.pass) (view q) → stack_of q ≡ waiting (with_own (stack_of c.pass) (stack_of q).own) owner → AreOwnedBy (view c.pass) (stack_of c.pass) f mine → AreOwnedBy (view q) (stack_of q) f mine
+waits_owners c q flight.Idle outer top o owner mine a locked cut only needs found stack old = absurd a
+waits_owners c q (flight.Tried called) outer top o owner mine a locked cut only needs found stack old = absurd a
+waits_owners c q (flight.Answered called said stamp) outer top o owner mine a locked cut only needs found stack old =
+    waits_on_owned (view c.pass) (view q) (stack_of c.pass) called said stamp mine locked.number locked.lists (grown_finds_more (view c.pass) (view q) locked.newer locked.grew) locked.cursors old (stack_of q) (stack_of q).own outer top o owner cut only needs (some_number c.pass) found.other (found_is o owner (view c.pass) (view q) found) stack
+waits_owners c q (flight.Refused called) outer top o owner mine a locked cut only needs found stack old = absurd a
+
+-- the innermost section of a pass, of which a step found a lock with another
+abbrev pub LacksTop : ℕ → Pass → Type 0
+LacksTop o p = (outer : List OpenSection) × (top : OpenSection) × ((stack_of p).sections ≡ outer ++ top ∷ []) × ((o ≡ top.locks.lower) ⊎ (o ≡ top.locks.upper))
+
+-- the pass has taken locks of its innermost section alone
+abbrev pub TakesTop : Pass → Pass → Type 0
+TakesTop p q = (outer : List OpenSection) (top : OpenSection) → (stack_of p).sections ≡ outer ++ top ∷ [] → LocksOnly (λ o. (o ≡ top.locks.lower) ⊎ (o ≡ top.locks.upper)) (view p) (view q)
+
+pub waits_kept : (e : Engine) (c : Caller) (q : Pass) (o owner : ℕ) (mine : List NamedEntry) → IsCallerOf e c → IsAnswered c.flight → OnlyLocked (view c.pass) (view q) → (HasTop c.pass → ⊥) → LacksTop o c.pass → TakesTop c.pass q → FoundOwner o owner (view c.pass) (view q) → stack_of q ≡ waiting (with_own (stack_of c.pass) (stack_of q).own) owner → IsKept c mine → IsKept (record c { pass = q }) mine
+waits_kept e c q o owner mine is answered locked lacked lacks takes found stack kept = (
+  by c.flight answered is.inside (kept_count (thread_of c) (view c.pass).entries (stack_of c.pass) c.flight mine kept.0) kept.0,
+  waits_owners c q c.flight lacks.0 lacks.1 o owner mine answered locked lacks.2 (takes lacks.0 lacks.1 lacks.2) lacks.3 found stack kept.1,
+)
   where
     number : thread_of c ≡ (view q).number - 1
-    number = ap (λ (n : ℕ). n - 1) (sym only.number)
+    number = ap (λ (n : ℕ). n - 1) (sym locked.number)
 
     by : (f : Flight) → IsAnswered f → IsIn e.bank c.pass c.cursors.items f → length (view c.pass).entries ≡ length (pending f) + length mine → AreKeptBy (thread_of c) (view c.pass).entries (stack_of c.pass) f mine → AreKeptBy ((view q).number - 1) (view q).entries (stack_of q) f mine
     by flight.Idle a inside count k = absurd a
@@ -124,7 +160,7 @@ waits_kept e c q owner mine is answered only lacked stack kept =
         let few = is.few in let word = is.word in let made = is.made in
         let low : length mine + 1 ≤ 2 ^ 32 - 1 = omega (arith, few, word, made, count) in
         let w = kept_waits_on (thread_of c) (view c.pass).entries (stack_of c.pass) called said stamp mine k (stack_of q) (stack_of q).own owner (not_true (is_begin called) (λ begins. lacked (inside.1 begins))) stack low in
-        subst (λ (x : ℕ × List Entry). AreKeptBy x.0 x.1 (stack_of q) (flight.Answered called said stamp) mine) (λ d. (number d, sym only.entries d)) w
+        subst (λ (x : ℕ × List Entry). AreKeptBy x.0 x.1 (stack_of q) (flight.Answered called said stamp) mine) (λ d. (number d, sym locked.entries d)) w
     by (flight.Refused called) a inside count k = absurd a
 
 -- and of one whose call has ended
@@ -136,7 +172,45 @@ ended_kept thread now entries others s t f g first called said stamp mark mine k
     subst (λ (x : Call × Option ℕ). AreKeptBy thread entries t flight.Idle (mine ++ kept_entry thread mine x.0 said stamp x.1 ∷ [])) (λ d. (named d, sym marked d)) done in
     subst (λ (x : ℕ × List Entry × Flight). AreKeptBy x.0 x.1 t x.2 (mine ++ kept_entry thread mine called said stamp mark ∷ [])) (λ d. (sym number d, sym same d, sym idle d)) renamed
 
+push_some : (xs : List OpenSection) (x : OpenSection) → [] ≡ xs ++ x ∷ [] → ⊥
+push_some [] x e = absurd (cc)
+push_some (y ∷ xs) x e = absurd (cc)
+
+-- the locks that it has taken are those of its innermost section
+back_owned : (p q : Pass) (called : Call) (said : Reply) (stamp : Stamp) (mine : List NamedEntry) → OnlyLocked (view p) (view q) → TakesTop p q → ((stack_of p).sections ≡ [] → SameOwners (view p) (view q)) → AreOwnedBy (view p) (stack_of p) (flight.Answered called said stamp) mine → AreOwnedBy (view q) (stack_of p) (flight.Answered called said stamp) mine
+back_owned p q called said stamp mine locked takes none old =
+    ⊎_elim
+    (λ (nil : (stack_of p).sections ≡ []). up (λ o. ⊥) (same_locks_only (λ o. ⊥) (view p) (view q) (none nil)) (λ outer top cut o no. absurd no) (λ _ o no. no))
+    (λ (r : (outer : List OpenSection) × (top : OpenSection) × ((stack_of p).sections ≡ outer ++ top ∷ [])).
+    up (λ o. (o ≡ r.1.locks.lower) ⊎ (o ≡ r.1.locks.upper)) (takes r.0 r.1 r.2)
+    (λ outer top cut o is. subst (λ (t : OpenSection). (o ≡ t.locks.lower) ⊎ (o ≡ t.locks.upper)) (same_from_push r.0 outer r.1 top (sym r.2 ∙ cut)).1 is)
+    (λ nil o is. push_some r.0 r.1 (sym nil ∙ r.2))) (last_of (stack_of p).sections)
+  where
+    up : (P : ℕ → Type 0) → LocksOnly P (view p) (view q) → ((outer : List OpenSection) (top : OpenSection) → (stack_of p).sections ≡ outer ++ top ∷ [] → (o : ℕ) → P o → (o ≡ top.locks.lower) ⊎ (o ≡ top.locks.upper)) → ((stack_of p).sections ≡ [] → (o : ℕ) → P o → ⊥) → AreOwnedBy (view q) (stack_of p) (flight.Answered called said stamp) mine
+    up P only top nil =
+        up_owned (view p) (view q) (stack_of p) called said stamp mine locked.number locked.lists (grown_finds_more (view p) (view q) locked.newer locked.grew) locked.cursors old P only top nil
+
+pub done_kept_owners : (c : Caller) (q : Pass) (g : Flight) (first called : Call) (said : Reply) (stamp : Stamp) (mark : Option ℕ) (mine : List NamedEntry) → OnlyLocked (view c.pass) (view q) → TakesTop c.pass q → ((stack_of c.pass).sections ≡ [] → SameOwners (view c.pass) (view q)) → c.flight ≡ flight.Answered first said stamp → IsNext c.flight called → TakenUp (stack_of c.pass) (stack_of q) → mark ≡ (stack_of c.pass).mark → g ≡ flight.Idle → AreOwnedBy (view c.pass) (stack_of c.pass) c.flight mine → AreOwnedBy (view q) (stack_of q) g (mine ++ kept_entry (thread_of c) mine called said stamp mark ∷ [])
+done_kept_owners c q g first called said stamp mark mine locked takes none is next up marked idle old =
+    let named : first ≡ called = subst (λ (x : Flight). IsNext x called) is next in
+    let now = back_owned c.pass q first said stamp mine locked takes none (subst (λ (x : Flight). AreOwnedBy (view c.pass) (stack_of c.pass) x mine) is old) in
+    let done = done_owned (view q) (stack_of c.pass) (stack_of q) (thread_of c) first said stamp mine (ap (λ (n : ℕ). n - 1) (sym locked.number)) now up in
+    subst (λ (x : Call × Option ℕ × Flight). AreOwnedBy (view q) (stack_of q) x.2 (mine ++ kept_entry (thread_of c) mine x.0 said stamp x.1 ∷ [])) (λ d. (named d, sym marked d, sym idle d)) done
+
 -- ---- a call gets its answer, or waits
+
+-- a cursor that the caller has is the pass's own
+pub at_hand : (hands : List (Option Cursor)) (v : View) → ((n : ℕ) → n < length hands → cursor_at hands n ≡ cursor_in n v.log) → (n : ℕ) (walker : Cursor) → cursor_at hands n ≡ Some walker → cursor_in n v.log ≡ Some walker
+at_hand hands v cursors n walker at = sym (cursors n (low hands n walker at)) ∙ at
+  where
+    low : (hs : List (Option Cursor)) (k : ℕ) (w : Cursor) → cursor_at hs k ≡ Some w → k < length hs
+    low [] k w e = absurd (let x : None ≡ Some w = e in cc)
+    low (h ∷ hs) zero w e = omega arith
+    low (h ∷ hs) (suc k) w e = let r = low hs k w e in omega (arith, r)
+
+-- a caller between two calls has no mark
+pub idle_free : (e : Engine) (c : Caller) → IsCallerOf e c → c.flight ≡ flight.Idle → (stack_of c.pass).mark ≡ None
+idle_free e c is idle = let r : IsReady e.bank c.pass = subst (IsIn e.bank c.pass c.cursors.items) idle is.inside in r.mark
 
 -- an `end` comes only between two calls
 pub end_free : (b : Bank) (p : Pass) (hands : List (Option Cursor)) (f : Flight) (called : Call) → IsIn b p hands f → (IsAnswered f → ⊥) → IsNext f called → called ≡ call.End → (stack_of p).mark ≡ None
@@ -152,20 +226,44 @@ unanswered_count (flight.Tried called) unanswered = refl
 unanswered_count (flight.Answered called said stamp) unanswered = absurd (unanswered tt)
 unanswered_count (flight.Refused called) unanswered = refl
 
-pub answered_kept : (e : Engine) (c d : Caller) (called : Call) (said : Reply) (stamp : Stamp) (mine : List NamedEntry) → IsCallerOf e c → (IsAnswered c.flight → ⊥) → IsNext c.flight called → HasAnswer e.bank called said stamp c.pass d.pass → d.flight ≡ flight.Answered called said stamp → IsKept c mine → IsKept d mine
-answered_kept e c d called said stamp mine is unanswered next x flies kept =
+pub answered_kept : (e : Engine) (c d : Caller) (called : Call) (said : Reply) (stamp : Stamp) (mine : List NamedEntry) → IsCallerOf e c → (IsAnswered c.flight → ⊥) → IsNext c.flight called → HasAnswer e.bank called said stamp c.pass d.pass → HasLockedFor c.cursors.items called (view c.pass) (view d.pass) → d.flight ≡ flight.Answered called said stamp → IsKept c mine → IsKept d mine
+answered_kept e c d called said stamp mine is unanswered next x locks flies kept =
     let free = end_free e.bank c.pass c.cursors.items c.flight called is.inside unanswered next in
-    let k = kept_answered (thread_of c) (view c.pass).entries (stack_of c.pass) c.flight mine kept unanswered (view d.pass).entries (stack_of d.pass) called said stamp x.entry.entries x.marks x.mark free x.ends in
-    subst (λ (y : ℕ × Flight). AreKeptBy y.0 (view d.pass).entries (stack_of d.pass) y.1 mine) (λ i. (ap (λ (n : ℕ). n - 1) (sym x.entry.pass.number) i, sym flies i)) k
+    let k = kept_answered (thread_of c) (view c.pass).entries (stack_of c.pass) c.flight mine kept.0 unanswered (view d.pass).entries (stack_of d.pass) called said stamp x.entry.entries x.marks x.mark free x.ends in
+    let o = answered_owned (view c.pass) (view d.pass) (stack_of c.pass) (stack_of d.pass) c.flight mine called c.cursors.items x.entry.pass.number x.entry.pass.lists locks.only locks.found kept.1 unanswered next (idle_free e c is) (at_hand c.cursors.items (view c.pass) is.cursors) said stamp x.walked x.stack x.mark in (
+      subst (λ (y : ℕ × Flight). AreKeptBy y.0 (view d.pass).entries (stack_of d.pass) y.1 mine) (λ i. (ap (λ (n : ℕ). n - 1) (sym x.entry.pass.number) i, sym flies i)) k,
+      subst (λ (y : Flight). AreOwnedBy (view d.pass) (stack_of d.pass) y mine) (sym flies) o,
+    )
 
-pub waiting_kept : (e : Engine) (c d : Caller) (called : Call) (objects : Objects) (o owner : ℕ) (mine : List NamedEntry) → IsCallerOf e c → (IsAnswered c.flight → ⊥) → 0 < c.calls - c.made → HasToWait e.bank objects o owner c.pass d.pass → d.flight ≡ flight.Tried called → IsKept c mine → IsKept d mine
-waiting_kept e c d called objects o owner mine is unanswered left x flies kept =
-    let count = kept_count (thread_of c) (view c.pass).entries (stack_of c.pass) c.flight mine kept in
+pub waiting_kept : (e : Engine) (c d : Caller) (called : Call) (objects : Objects) (o owner : ℕ) (mine : List NamedEntry) → IsCallerOf e c → (IsAnswered c.flight → ⊥) → IsNext c.flight called → 0 < c.calls - c.made → objects_of c.cursors.items called ≡ Some objects → HasToWait e.bank objects o owner c.pass d.pass → HasLockedFor c.cursors.items called (view c.pass) (view d.pass) → d.flight ≡ flight.Tried called → IsKept c mine → IsKept d mine
+waiting_kept e c d called objects o owner mine is unanswered next left names x locks flies kept =
+    let count = kept_count (thread_of c) (view c.pass).entries (stack_of c.pass) c.flight mine kept.0 in
     let none = unanswered_count c.flight unanswered in
     let word = is.word in let made = is.made in
     let low : length mine + 1 ≤ 2 ^ 32 - 1 = omega (arith, word, made, count, none, left) in
-    let k = kept_waits (thread_of c) (view c.pass).entries (stack_of c.pass) c.flight mine kept unanswered (stack_of d.pass) (stack_of d.pass).own owner called x.stack low in
-    subst (λ (y : ℕ × List Entry × Flight). AreKeptBy y.0 y.1 (stack_of d.pass) y.2 mine) (λ i. (ap (λ (n : ℕ). n - 1) (sym x.entry.pass.number) i, sym x.entry.entries i, sym flies i)) k
+    let k = kept_waits (thread_of c) (view c.pass).entries (stack_of c.pass) c.flight mine kept.0 unanswered (stack_of d.pass) (stack_of d.pass).own owner called x.stack low in
+    let w = waits_owned (view c.pass) (view d.pass) (stack_of c.pass) (stack_of d.pass) c.flight mine called c.cursors.items x.entry.pass.number x.entry.pass.lists locks.only locks.found kept.1 unanswered next (idle_free e c is) (at_hand c.cursors.items (view c.pass) is.cursors)
+    o owner (stack_of d.pass).own x.entry.cursors (some_number c.pass) x.found.1.other (found_is o owner (view c.pass) (view d.pass) x.found.1) (objects, names, x.found.0) x.stack in (
+      subst (λ (y : ℕ × List Entry × Flight). AreKeptBy y.0 y.1 (stack_of d.pass) y.2 mine) (λ i. (ap (λ (n : ℕ). n - 1) (sym x.entry.pass.number) i, sym x.entry.entries i, sym flies i)) k,
+      subst (λ (y : Flight). AreOwnedBy (view d.pass) (stack_of d.pass) y mine) (sym flies) w,
+    )
+
+-- a call that is tried again, or was refused
+pub left_kept : (e : Engine) (c d : Caller) (called : Call) (mine : List NamedEntry) → IsCallerOf e c → (IsAnswered c.flight → ⊥) → IsNext c.flight called → HasNone e.bank c.pass d.pass → HasLockedFor c.cursors.items called (view c.pass) (view d.pass) → (d.flight ≡ flight.Tried called) ⊎ (d.flight ≡ flight.Refused called) → IsKept c mine → IsKept d mine
+left_kept e c d called mine is unanswered next x locks flies kept =
+    ⊎_elim
+    (λ (f : d.flight ≡ flight.Tried called).
+    as_flight (flight.Tried called) f (kept_again (thread_of c) (view c.pass).entries (stack_of c.pass) c.flight mine kept.0 unanswered (stack_of d.pass) called x.gone.stack)
+    (again_owned (view c.pass) (view d.pass) (stack_of c.pass) (stack_of d.pass) c.flight mine called c.cursors.items x.entry.pass.number x.entry.pass.lists locks.only locks.found kept.1 unanswered next (idle_free e c is) (at_hand c.cursors.items (view c.pass) is.cursors) x.entry.cursors x.gone.stack))
+    (λ (f : d.flight ≡ flight.Refused called).
+    as_flight (flight.Refused called) f (kept_refused (thread_of c) (view c.pass).entries (stack_of c.pass) c.flight mine kept.0 unanswered (stack_of d.pass) called x.gone.stack)
+    (refused_owned (view c.pass) (view d.pass) (stack_of c.pass) (stack_of d.pass) c.flight mine called c.cursors.items x.entry.pass.number x.entry.pass.lists locks.only locks.found kept.1 unanswered next (idle_free e c is) (at_hand c.cursors.items (view c.pass) is.cursors) x.entry.cursors x.gone.stack)) flies
+  where
+    as_flight : (f : Flight) → d.flight ≡ f → AreKeptBy (thread_of c) (view c.pass).entries (stack_of d.pass) f mine → AreOwnedBy (view d.pass) (stack_of d.pass) f mine → IsKept d mine
+    as_flight f flies k o = (
+      subst (λ (y : ℕ × List Entry × Flight). AreKeptBy y.0 y.1 (stack_of d.pass) y.2 mine) (λ i. (ap (λ (n : ℕ). n - 1) (sym x.entry.pass.number) i, sym x.entry.entries i, sym flies i)) k,
+      subst (λ (y : Flight). AreOwnedBy (view d.pass) (stack_of d.pass) y mine) (sym flies) o,
+    )
 
 -- the call has its answer now, which it hadn't before
 pub both_halves : (f : Flight) (b : Bank) (hands : List (Option Cursor)) (called : Call) (p q : Pass) (t : Tried) → (IsAnswered f → ⊥) → IsNext f called → HasBothHalves b hands called p q t → IsInHalves f b hands called p q t
@@ -181,7 +279,7 @@ pub hands_stay : (k : Shape) (b : Bank) (hands : List (Option Cursor)) (called :
 hands_stay k b hands called p q (step.Done said stamp) none x are = record { cursors = λ number low. are.cursors number low ∙ sym (x.0.entry.cursors number (λ e. absurd (let n : None ≡ Some number = sym none ∙ e in cc))); over = are.over }
 hands_stay k b hands called p q (step.NotYet o owner) none x are = record { cursors = λ number low. are.cursors number low ∙ sym (x.2.entry.cursors number); over = are.over }
 hands_stay k b hands called p q (step.Moved first second) none x are = record { cursors = λ number low. are.cursors number low ∙ sym (x.2.entry.cursors number); over = are.over }
-hands_stay k b hands called p q step.NoMemory none x are = record { cursors = λ number low. are.cursors number low ∙ sym (x.entry.cursors number); over = are.over }
+hands_stay k b hands called p q step.NoMemory none x are = record { cursors = λ number low. are.cursors number low ∙ sym (x.0.entry.cursors number); over = are.over }
 
 -- ---- nothing but the pass's announcements
 

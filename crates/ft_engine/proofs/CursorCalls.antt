@@ -19,6 +19,7 @@ use Rattle.ft_trace.specs.declared.View.{View}
 use Rattle.ft_trace.specs.Acts.{announces, seen_writes}
 use Rattle.ft_trace.specs.Floors.{at_floor}
 use Rattle.ft_trace.specs.Hands.{cursor_in}
+use Rattle.ft_trace.proofs.Cases.{here, miss}
 use Rattle.ft_trace.proofs.Seeing.{seen_up}
 use Rattle.ft_bank.specs.declared.bank.Bank.{Bank}
 use Rattle.ft_bank.specs.declared.pass.Pass.{Pass}
@@ -32,18 +33,20 @@ use Rattle.ft_section.specs.declared.answers.Step.TheVariants as step
 use Rattle.ft_section.specs.Locking.{OnlyLocked}
 use Rattle.ft_section.specs.Trying.{SectionsAfter}
 use Rattle.ft_iter.specs.Cursors.{IsMoveOf, IsOver, KeepsOthers, MovedUnderLock, iter_call}
+use Rattle.ft_closing.specs.Marks.{over_after, walked_after}
 use Rattle.ft_engine.specs.Answering.{AddsEntry, AreHandsOf, IsTryOf, LeavesHands}
 use Rattle.ft_engine.specs.Callers.{AreOver, IsOfKindIn}
 use Rattle.ft_engine.specs.Flights.{objects_of}
 use Rattle.ft_engine.specs.Keeping.{made_entry}
 use Rattle.ft_engine.proofs.Looking.{IsPlain, tried_of}
 use Rattle.ft_engine.proofs.Outcomes.{Outcome}
+use Rattle.ft_engine.proofs.Within.{WalkedBy, cursor_owners, within_then}
 use Rattle.ft_engine.proofs.SectionCalls.{only_nothing}
 
 -- ---- the entry
 
-moved_adds : (called : Call) (said : Reply) (stamp : Stamp) (number : ℕ) (left : Cursor) (v w : View) → stamp.wrote ≡ false → 0 < v.left → moved_cursor called ≡ Some number → KeepsOthers number v w → MovedUnderLock called said stamp.number number left v w → AddsEntry called said stamp v w
-moved_adds called said stamp number left v w is some moves others m =
+moved_adds : (o : ℕ) (called : Call) (said : Reply) (stamp : Stamp) (number : ℕ) (left : Cursor) (v w : View) → stamp.wrote ≡ false → 0 < v.left → moved_cursor called ≡ Some number → KeepsOthers number v w → MovedUnderLock o called said stamp.number number left v w → AddsEntry called said stamp v w
+moved_adds o called said stamp number left v w is some moves others m =
     let before = only_nothing v m.before m.took in
     let after = only_nothing m.after w m.gone in
     let x = m.answered in
@@ -74,7 +77,12 @@ moved_adds called said stamp number left v w is some moves others m =
     }
 
 move_outcome : (kind : Kind) (o : ℕ) (called : Call) (number : ℕ) (had left : Option Cursor) (v w : View) (result : Step) → 0 < v.left → moved_cursor called ≡ Some number → KeepsOthers number v w → IsMoveOf kind o called number had v w result left → Outcome called (One o) v w result
-move_outcome kind o called number had left v w (step.Done said stamp) some moves others x = moved_adds called said stamp number x.0 v w x.4 some moves others x.3
+move_outcome kind o called number had left v w (step.Done said stamp) some moves others x =
+    let m = x.3 in
+    let a = m.answered in (
+      moved_adds o called said stamp number x.0 v w x.4 some moves others m,
+      within_then (One o) v m.before m.after w m.took m.within (ap (λ (z : View). z.number) a.answered ∙ a.loaded.work.pass.number) (cursor_owners called said stamp.number number x.0 m.before m.after a) m.gone m.owners,
+    )
 move_outcome kind o called number had left v w (step.NotYet p owner) some moves others x = (x.1, x.2, x.3)
 move_outcome kind o called number had left v w (step.Moved a b) some moves others x = absurd x
 move_outcome kind o called number had left v w step.NoMemory some moves others x = absurd x
@@ -148,9 +156,37 @@ iter_moves kind.Dict o number = refl
 iter_moves kind.List o number = refl
 iter_moves kind.Set o number = refl
 
+walked_iter : (kind : Kind) (o number n : ℕ) (over : Option ℕ) → walked_after n (iter_call kind o number) over ≡ over_after n o (Some number) over
+walked_iter kind.Dict o number n over = refl
+walked_iter kind.List o number n over = refl
+walked_iter kind.Set o number n over = refl
+
+iter_walked : (kind : Kind) (o number : ℕ) (had left : Option Cursor) (v w : View) (result : Step) → KeepsOthers number v w → IsMoveOf kind o (iter_call kind o number) number had v w result left → WalkedBy (iter_call kind o number) v w result
+iter_walked kind o number had left v w (step.Done said stamp) others x n =
+    let over = option_map container_of (cursor_in n v.log) in
+    dite (ℕ_discrete n number)
+    (λ (e : n ≡ number).
+    ap (option_map container_of) (subst (λ (z : ℕ). cursor_in z w.log ≡ Some x.0) (sym e) x.3.mine)
+    ∙ (ap (λ (z : ℕ). Some z) x.2.0 ∙ sym (walked_iter kind o number n over ∙ here number n (Some o) over (sym e))))
+    (λ ne. ap (option_map container_of) (others n ne) ∙ sym (walked_iter kind o number n over ∙ miss number n (Some o) over (λ e. ne (sym e))))
+iter_walked kind o number had left v w (step.NotYet p owner) others x = tt
+iter_walked kind o number had left v w (step.Moved a b) others x = tt
+iter_walked kind o number had left v w step.NoMemory others x = tt
+
+next_walked : (kind : Kind) (number : ℕ) (walker : Cursor) (had left : Option Cursor) (v w : View) (result : Step) → cursor_in number v.log ≡ Some walker → KeepsOthers number v w → IsMoveOf kind (container_of walker) (call.Next number) number had v w result left → WalkedBy (call.Next number) v w result
+next_walked kind number walker had left v w (step.Done said stamp) was others x n =
+    dite (ℕ_discrete n number)
+    (λ (e : n ≡ number).
+    ap (option_map container_of) (subst (λ (z : ℕ). cursor_in z w.log ≡ Some x.0) (sym e) x.3.mine)
+    ∙ (ap (λ (z : ℕ). Some z) x.2.0 ∙ sym (ap (option_map container_of) (subst (λ (z : ℕ). cursor_in z v.log ≡ Some walker) (sym e) was))))
+    (λ ne. ap (option_map container_of) (others n ne))
+next_walked kind number walker had left v w (step.NotYet p owner) was others x = tt
+next_walked kind number walker had left v w (step.Moved a b) was others x = tt
+next_walked kind number walker had left v w step.NoMemory was others x = tt
+
 pub iter_tried : (b : Bank) (p q : Pass) (hands : List (Option Cursor)) (kind : Kind) (o number : ℕ) (had left : Option Cursor) (result : Step) → 0 < (view p).left → SectionsAfter b (One o) p q result → KeepsOthers number (view p) (view q) → IsMoveOf kind o (iter_call kind o number) number had (view p) (view q) result left → IsTryOf b hands (iter_call kind o number) p q result
 iter_tried b p q hands kind o number had left result some after others x =
-    tried_of b p q hands (iter_call kind o number) (One o) (plain_iter kind o number) (iter_names hands kind o number) result after (move_outcome kind o (iter_call kind o number) number had left (view p) (view q) result some (iter_moves kind o number) others x)
+    tried_of b p q hands (iter_call kind o number) (One o) (plain_iter kind o number) (iter_names hands kind o number) result after (move_outcome kind o (iter_call kind o number) number had left (view p) (view q) result some (iter_moves kind o number) others x) (iter_walked kind o number had left (view p) (view q) result others x)
 
 plain_next : (number : ℕ) → IsPlain (call.Next number)
 plain_next number = record { sections = λ n log sections. refl; begins = refl; marks = λ marks. refl; ends = λ marks said. tt; leaves = λ s. refl }
@@ -158,6 +194,6 @@ plain_next number = record { sections = λ n log sections. refl; begins = refl; 
 pub next_names : (hands : List (Option Cursor)) (number : ℕ) (walker : Cursor) → cursor_at hands number ≡ Some walker → objects_of hands (call.Next number) ≡ Some (One (container_of walker))
 next_names hands number walker at = ap (λ (z : Option Cursor). option_map (λ w. One (container_of w)) z) at
 
-pub next_tried : (b : Bank) (p q : Pass) (hands : List (Option Cursor)) (kind : Kind) (number : ℕ) (walker : Cursor) (had left : Option Cursor) (result : Step) → 0 < (view p).left → cursor_at hands number ≡ Some walker → SectionsAfter b (One (container_of walker)) p q result → KeepsOthers number (view p) (view q) → IsMoveOf kind (container_of walker) (call.Next number) number had (view p) (view q) result left → IsTryOf b hands (call.Next number) p q result
-next_tried b p q hands kind number walker had left result some at after others x =
-    tried_of b p q hands (call.Next number) (One (container_of walker)) (plain_next number) (next_names hands number walker at) result after (move_outcome kind (container_of walker) (call.Next number) number had left (view p) (view q) result some refl others x)
+pub next_tried : (b : Bank) (p q : Pass) (hands : List (Option Cursor)) (kind : Kind) (number : ℕ) (walker : Cursor) (had left : Option Cursor) (result : Step) → 0 < (view p).left → cursor_at hands number ≡ Some walker → cursor_in number (view p).log ≡ Some walker → SectionsAfter b (One (container_of walker)) p q result → KeepsOthers number (view p) (view q) → IsMoveOf kind (container_of walker) (call.Next number) number had (view p) (view q) result left → IsTryOf b hands (call.Next number) p q result
+next_tried b p q hands kind number walker had left result some at was after others x =
+    tried_of b p q hands (call.Next number) (One (container_of walker)) (plain_next number) (next_names hands number walker at) result after (move_outcome kind (container_of walker) (call.Next number) number had left (view p) (view q) result some refl others x) (next_walked kind number walker had left (view p) (view q) result was others x)

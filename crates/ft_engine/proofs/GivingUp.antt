@@ -7,7 +7,9 @@ use Rattle.ft_trace.specs.declared.Entry.{Entry}
 use Rattle.ft_bank.specs.declared.bank.Bank.{Bank}
 use Rattle.ft_bank.specs.declared.pass.Pass.{Pass}
 use Rattle.ft_bank.specs.Passes.{view}
-use Rattle.ft_bank.specs.Sections.{no_sections, stack_of}
+use Rattle.ft_bank.specs.Sections.{Stack, no_sections, stack_of}
+use Rattle.ft_trace.specs.Owners.{SameOwners}
+use Rattle.ft_closing.specs.Marks.{IsNamedIn}
 use Rattle.ft_section.specs.Locking.{OnlyLocked}
 use Rattle.ft_section.specs.Ready.{IsInCall, IsReady, IsWaiting}
 use Rattle.ft_engine.specs.declared.caller.Caller.{Caller}
@@ -17,7 +19,9 @@ use Rattle.ft_engine.specs.declared.engine.Engine.{Engine}
 use Rattle.ft_engine.specs.Callers.{IsCallerOf, thread_of}
 use Rattle.ft_engine.specs.Flights.{IsAnswered, IsIn}
 use Rattle.ft_engine.specs.Keeping.{AreKeptBy, IsKept}
+use Rattle.ft_engine.specs.Owning.{FlightNames}
 use Rattle.ft_engine.proofs.Keeping.{kept_abandoned}
+use Rattle.ft_engine.proofs.Owned.{abandoned_owned}
 
 -- whatever call it is in
 pub in_call_of : (b : Bank) (p : Pass) (hands : List (Option Cursor)) (f : Flight) → IsIn b p hands f → IsInCall b p
@@ -39,7 +43,9 @@ abandoned_caller e c q is only ready = record {
   over = is.over;
 }
 
-pub abandoned_kept : (c : Caller) (q : Pass) (mine : List NamedEntry) → OnlyLocked (view c.pass) (view q) → stack_of q ≡ no_sections → (IsAnswered c.flight → ⊥) → (stack_of c.pass).sections ≡ [] → IsKept c mine → IsKept (record c { pass = q; flight = flight.Idle }) mine
-abandoned_kept c q mine only stack unanswered none kept =
-    let k = kept_abandoned (thread_of c) (view c.pass).entries (stack_of c.pass) c.flight mine kept unanswered (stack_of q) none stack in
-    subst (λ (x : ℕ × List Entry). AreKeptBy x.0 x.1 (stack_of q) flight.Idle mine) (λ i. (ap (λ (n : ℕ). n - 1) (sym only.number) i, sym only.entries i)) k
+pub abandoned_kept : (c : Caller) (q : Pass) (mine : List NamedEntry) → OnlyLocked (view c.pass) (view q) → SameOwners (view c.pass) (view q) → stack_of q ≡ no_sections → (IsAnswered c.flight → ⊥) → (stack_of c.pass).sections ≡ [] → ((o : ℕ) → FlightNames o c.flight → IsNamedIn o mine) → IsKept c mine → IsKept (record c { pass = q; flight = flight.Idle }) mine
+abandoned_kept c q mine only same stack unanswered none names kept =
+    let k = kept_abandoned (thread_of c) (view c.pass).entries (stack_of c.pass) c.flight mine kept.0 unanswered (stack_of q) none stack in (
+      subst (λ (x : ℕ × List Entry). AreKeptBy x.0 x.1 (stack_of q) flight.Idle mine) (λ i. (ap (λ (n : ℕ). n - 1) (sym only.number) i, sym only.entries i)) k,
+      abandoned_owned (view c.pass) (view q) (stack_of c.pass) (stack_of q) c.flight mine only.number only.lists same only.cursors unanswered names none (ap (λ (s : Stack). s.sections) stack) kept.1,
+    )

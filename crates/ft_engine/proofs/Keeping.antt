@@ -12,6 +12,7 @@ use Rattle.ft_model.specs.declared.reply.Reply.{Reply}
 use Rattle.ft_model.specs.Histories.{EachAt, IsCountedAs}
 use Rattle.ft_model.specs.Numbers.{IfBegun, IfEndsBegin, begins_of, marks_since}
 use Rattle.ft_trace.specs.declared.Entry.{Entry}
+use Rattle.ft_trace.specs.declared.Owner.{Owner}
 use Rattle.ft_trace.specs.OwnCursors.{entry_of}
 use Rattle.ft_bank.specs.declared.sections.Taking.{Taking}
 use Rattle.ft_bank.specs.Sections.{Stack, no_sections, nothing_taken}
@@ -19,6 +20,7 @@ use Rattle.ft_history.proofs.Places.{slice_get_push}
 use Rattle.ft_history.proofs.Unbroken.{range_push}
 use Rattle.ft_section.specs.declared.answers.Stamp.{Stamp}
 use Rattle.ft_section.specs.Locking.{TakenUp, marks_more, waiting, with_own}
+use Rattle.ft_closing.specs.Marks.{AreMarksFound, HasNamed}
 use Rattle.ft_closing.specs.Numbering.{IsKeptOf}
 use Rattle.ft_engine.specs.declared.caller.Flight.{Flight}
 use Rattle.ft_engine.specs.declared.caller.Flight.TheVariants as flight
@@ -191,10 +193,12 @@ module _ (thread : ℕ) where
       }
 
   -- when all calls have ended
-  pub kept_of : (entries : List Entry) (s : Stack) (mine : List NamedEntry) → AreKeptBy thread entries s flight.Idle mine → IsKeptOf thread mine entries
-  kept_of entries s mine k = record {
+  pub kept_of : (entries : List Entry) (s : Stack) (mine : List NamedEntry) (had found : List Owner) → AreKeptBy thread entries s flight.Idle mine → AreMarksFound found mine → HasNamed thread had mine → IsKeptOf thread mine entries had found
+  kept_of entries s mine had found k marked named = record {
     same = sym (ap reverse k.same ∙ reverse-reverse (map entry_of mine));
     own = k.own;
     indexes = k.indexes;
     counted = k.counted;
+    marked = marked;
+    named = named;
   }

@@ -1,53 +1,204 @@
 -- The lists that were kept of callers, when one takes in another, and when it closes the bank.
-use Rattle.std.proofs.Common.{◌≡◌, ◌≢◌, ◌+◌, ◌-◌, ℕ, suc, List, [], ◌∷◌, ◌++◌, length, sym, ap, ◌∙◌, subst, arith}
+use Rattle.std.proofs.Common.{◌≡◌, ◌≢◌, ◌≤◌, ◌<◌, ◌⊎◌, ◌+◌, ◌-◌, ℕ, suc, true, List, [], ◌∷◌, ◌++◌, length, refl, sym, ap, ◌∙◌, subst, ⊎_elim, arith}
+use Rattle.std.specs.Prelude.{option_map}
+use Rattle.std.proofs.lemmas.List.{length-append}
 use Rattle.ft_model.specs.declared.entry.Entry.{Entry as NamedEntry}
+use Rattle.ft_model.specs.Worlds.{container_of}
 use Rattle.ft_trace.specs.declared.Act.TheVariants.{ReadCounter}
 use Rattle.ft_trace.specs.declared.Entry.{Entry}
+use Rattle.ft_trace.specs.declared.Owner.{Owner}
 use Rattle.ft_trace.specs.declared.View.{View}
 use Rattle.ft_trace.specs.Acts.{all_lists, both, lists_of, noted}
+use Rattle.ft_trace.specs.Hands.{cursor_in}
+use Rattle.ft_trace.specs.Owners.{AreOwners, found_owners, had_locks, is_owner_in}
 use Rattle.ft_trace.proofs.Cases.{miss}
+use Rattle.ft_trace.proofs.Owning.{in_either, in_left, in_right}
 use Rattle.ft_bank.specs.Passes.{view}
-use Rattle.ft_bank.specs.Sections.{stack_of}
+use Rattle.ft_bank.specs.Sections.{Stack, stack_of}
+use Rattle.ft_closing.specs.Marks.{AreOfFirst, HasNamed, IsNamedIn}
 use Rattle.ft_closing.specs.Numbering.{AreKeptFrom, IsKeptOf}
 use Rattle.ft_engine.specs.declared.caller.Caller.{Caller}
 use Rattle.ft_engine.specs.declared.caller.Flight.{Flight}
+use Rattle.ft_engine.specs.declared.caller.Flight.TheVariants as flight
 use Rattle.ft_engine.specs.Callers.{IsIdle, thread_of}
 use Rattle.ft_engine.specs.Closings.{AreKept}
 use Rattle.ft_engine.specs.Keeping.{AreKeptBy, IsKept}
+use Rattle.ft_engine.specs.Owning.{AreOwnedBy, FlightNames, IsFlightFound}
+use Rattle.ft_engine.proofs.Callers.{some_number}
 use Rattle.ft_engine.proofs.Keeping.{kept_of, kept_same}
+use Rattle.ft_engine.proofs.Owned.{flight_more, marks_more_found}
 
-idle_kept : (c : Caller) (mine : List NamedEntry) → IsIdle c → IsKept c mine → IsKeptOf (thread_of c) mine (view c.pass).entries
-idle_kept c mine idle kept = kept_of (thread_of c) (view c.pass).entries (stack_of c.pass) mine (subst (λ (f : Flight). AreKeptBy (thread_of c) (view c.pass).entries (stack_of c.pass) f mine) idle kept)
+-- the locks that the passes of a caller have had, and the passes that they found with locks
+abbrev pub had_of : Caller → List Owner
+had_of c = had_locks (view c.pass).number (view c.pass).log
+
+abbrev pub found_of : Caller → List Owner
+found_of c = found_owners (view c.pass).log
+
+-- the entries of a caller that is in no call name what its pass had
+idle_named : (v : View) (s : Stack) (f : Flight) (mine : List NamedEntry) → 0 < v.number → f ≡ flight.Idle → AreOwnedBy v s f mine → HasNamed (v.number - 1) (had_locks v.number v.log) mine
+idle_named v s f mine some idle old o has =
+    let same : v.number - 1 + 1 ≡ v.number = omega (arith, some) in
+    ⊎_elim (λ (named : IsNamedIn o mine). named) (λ (flies : FlightNames o f). absurd (subst (FlightNames o) idle flies)) (old.named o (subst (λ (n : ℕ). is_owner_in o n (had_locks v.number v.log) ≡ true) same has))
+
+idle_kept : (c : Caller) (mine : List NamedEntry) → IsIdle c → IsKept c mine → IsKeptOf (thread_of c) mine (view c.pass).entries (had_of c) (found_of c)
+idle_kept c mine idle kept =
+    kept_of (thread_of c) (view c.pass).entries (stack_of c.pass) mine (had_of c) (found_of c) (subst (λ (f : Flight). AreKeptBy (thread_of c) (view c.pass).entries (stack_of c.pass) f mine) idle kept.0)
+    kept.1.marked (idle_named (view c.pass) (stack_of c.pass) c.flight mine (some_number c.pass) idle kept.1)
 
 -- all lists of a caller that is done
-all_kept : (c : Caller) (kept : List (List NamedEntry)) → IsIdle c → AreKept c kept → AreKeptFrom (thread_of c) kept (all_lists (view c.pass))
+all_kept : (c : Caller) (kept : List (List NamedEntry)) → IsIdle c → AreKept c kept → AreKeptFrom (thread_of c) kept (all_lists (view c.pass)) (had_of c) (found_of c)
 all_kept c [] idle are = absurd are
 all_kept c (mine ∷ others) idle are = (idle_kept c mine idle are.0, are.1)
 
-pub closed_kept : (c : Caller) (kept : List (List NamedEntry)) (lists : List (List Entry)) → IsIdle c → thread_of c ≡ 0 → AreKept c kept → lists ≡ all_lists (view c.pass) → AreKeptFrom 0 kept lists
-closed_kept c kept lists idle first are is =
-    subst (λ (x : ℕ × List (List Entry)). AreKeptFrom x.0 kept x.1) (λ d. (first d, sym is d)) (all_kept c kept idle are)
+pub closed_kept : (c : Caller) (kept : List (List NamedEntry)) (lists : List (List Entry)) (had found : List Owner) → IsIdle c → thread_of c ≡ 0 → AreKept c kept → lists ≡ all_lists (view c.pass) → had ≡ had_of c → found ≡ found_of c → AreKeptFrom 0 kept lists had found
+closed_kept c kept lists had found idle first are is has finds =
+    subst (λ (x : ℕ × List (List Entry) × List Owner × List Owner). AreKeptFrom x.0 kept x.1 x.2 x.3) (λ d. (first d, sym is d, sym has d, sym finds d)) (all_kept c kept idle are)
 
-kept_then : (thread : ℕ) (xs ys : List (List NamedEntry)) (ls ms : List (List Entry)) → AreKeptFrom thread xs ls → AreKeptFrom (thread + length xs) ys ms → AreKeptFrom thread (xs ++ ys) (ls ++ ms)
-kept_then thread [] ys [] ms are more = subst (λ (n : ℕ). AreKeptFrom n ys ms) (let e : thread + 0 ≡ thread = omega arith in e) more
-kept_then thread [] ys (l ∷ ls) ms are more = absurd are
-kept_then thread (x ∷ xs) ys [] ms are more = absurd are
-kept_then thread (x ∷ xs) ys (l ∷ ls) ms are more =
-    (are.0, kept_then (suc thread) xs ys ls ms are.1 (subst (λ (n : ℕ). AreKeptFrom n ys ms) (let e : thread + length (x ∷ xs) ≡ suc thread + length xs = omega arith in e) more))
+-- as many lists as passes that were taken in
+kept_length : (thread : ℕ) (kept : List (List NamedEntry)) (lists : List (List Entry)) (had found : List Owner) → AreKeptFrom thread kept lists had found → length kept ≡ length lists
+kept_length thread [] [] had found are = refl
+kept_length thread [] (l ∷ ls) had found are = absurd are
+kept_length thread (m ∷ ms) [] had found are = absurd are
+kept_length thread (m ∷ ms) (l ∷ ls) had found are = ap suc (kept_length (suc thread) ms ls had found are.1)
+
+all_length : (c : Caller) (kept : List (List NamedEntry)) → AreKept c kept → length kept ≡ suc (length (view c.pass).lists)
+all_length c [] are = absurd are
+all_length c (mine ∷ others) are = ap suc (kept_length (suc (thread_of c)) others (view c.pass).lists (had_of c) (found_of c) are.1)
+
+-- all owners are passes of the threads of these lists
+all_within : (c : Caller) (kept : List (List NamedEntry)) → AreKept c kept → (o q : ℕ) → is_owner_in o q (had_of c) ≡ true → (thread_of c < q) × (q ≤ thread_of c + length kept)
+all_within c [] are o q has = absurd are
+all_within c (mine ∷ others) are o q has =
+    let w = are.0.1.within o q has in
+    let low = w.0 in
+    let high = w.1 in
+    let count = kept_length (suc (thread_of c)) others (view c.pass).lists (had_of c) (found_of c) are.1 in
+    let some = some_number c.pass in
+    (omega (arith, low, some), omega (arith, high, count, some))
+
+pub closed_first : (c : Caller) (kept : List (List NamedEntry)) (had : List Owner) → thread_of c ≡ 0 → AreKept c kept → had ≡ had_of c → AreOfFirst (length kept) had
+closed_first c kept had first are is o q has =
+    let w = all_within c kept are o q (sym (ap (is_owner_in o q) is) ∙ has) in
+    let low = w.0 in
+    let high = w.1 in
+    (omega (arith, low, first), omega (arith, high, first))
+
+-- ---- more owners
+
+-- the lists stay right where no other owners of their threads are there
+more_kept : (thread : ℕ) (kept : List (List NamedEntry)) (lists : List (List Entry)) (had found had' found' : List Owner) → AreOwners found found' → ((o q : ℕ) → thread < q → q ≤ thread + length kept → is_owner_in o q had' ≡ true → is_owner_in o q had ≡ true) → AreKeptFrom thread kept lists had found → AreKeptFrom thread kept lists had' found'
+more_kept thread [] [] had found had' found' finds only are = are
+more_kept thread [] (l ∷ ls) had found had' found' finds only are = absurd are
+more_kept thread (m ∷ ms) [] had found had' found' finds only are = absurd are
+more_kept thread (m ∷ ms) (l ∷ ls) had found had' found' finds only are = (
+  record {
+    same = are.0.same;
+    own = are.0.own;
+    indexes = are.0.indexes;
+    counted = are.0.counted;
+    marked = marks_more_found found found' m finds are.0.marked;
+    named = λ o has. are.0.named o (only o (thread + 1) (omega arith) (omega arith) has);
+  },
+  more_kept (suc thread) ms ls had found had' found' finds (λ o q low high has. only o q (omega (arith, low)) (omega (arith, high)) has) are.1,
+)
+
+kept_then : (thread : ℕ) (xs ys : List (List NamedEntry)) (ls ms : List (List Entry)) (had found : List Owner) → AreKeptFrom thread xs ls had found → AreKeptFrom (thread + length xs) ys ms had found → AreKeptFrom thread (xs ++ ys) (ls ++ ms) had found
+kept_then thread [] ys [] ms had found are more = subst (λ (n : ℕ). AreKeptFrom n ys ms had found) (let e : thread + 0 ≡ thread = omega arith in e) more
+kept_then thread [] ys (l ∷ ls) ms had found are more = absurd are
+kept_then thread (x ∷ xs) ys [] ms had found are more = absurd are
+kept_then thread (x ∷ xs) ys (l ∷ ls) ms had found are more =
+    (are.0, kept_then (suc thread) xs ys ls ms had found are.1 (subst (λ (n : ℕ). AreKeptFrom n ys ms had found) (let e : thread + length (x ∷ xs) ≡ suc thread + length xs = omega arith in e) more))
 
 -- a pass, which is no note, gives its own list too
 given : (w : View) → w.number ≢ 0 → lists_of w ≡ all_lists w
 given w live = miss w.number 0 w.lists (all_lists w) live
 
+-- what the taken pass had and found comes first
+joined_had : (c d other : Caller) (n : ℕ) → view d.pass ≡ noted (ReadCounter n) (both (view c.pass) (view other.pass)) → had_of d ≡ had_of other ++ had_of c
+joined_had c d other n is = ap (λ (v : View). had_locks v.number v.log) is
+
+joined_found : (c d other : Caller) (n : ℕ) → view d.pass ≡ noted (ReadCounter n) (both (view c.pass) (view other.pass)) → found_of d ≡ found_of other ++ found_of c
+joined_found c d other n is = ap (λ (v : View). found_owners v.log) is
+
+module _ (c d other : Caller) (n : ℕ) (m : List NamedEntry) (mine theirs : List (List NamedEntry)) (is : view d.pass ≡ noted (ReadCounter n) (both (view c.pass) (view other.pass))) (stack : stack_of d.pass ≡ stack_of c.pass) (flies : d.flight ≡ c.flight) (live : (view other.pass).number ≢ 0) (are : AreKept c (m ∷ mine)) (more : AreKept other theirs) (next : thread_of other ≡ thread_of c + length (m ∷ mine)) where
+  finds_old : AreOwners (found_of c) (found_of d)
+  finds_old o q has = ap (is_owner_in o q) (joined_found c d other n is) ∙ in_right o q (found_of other) (found_of c) has
+
+  finds_new : AreOwners (found_of other) (found_of d)
+  finds_new o q has = ap (is_owner_in o q) (joined_found c d other n is) ∙ in_left o q (found_of other) (found_of c) has
+
+  had_either : (o q : ℕ) → is_owner_in o q (had_of d) ≡ true → (is_owner_in o q (had_of other) ≡ true) ⊎ (is_owner_in o q (had_of c) ≡ true)
+  had_either o q has = in_either o q (had_of other) (had_of c) (sym (ap (is_owner_in o q) (joined_had c d other n is)) ∙ has)
+
+  -- owners of the threads so far
+  only_old : (o q : ℕ) → q ≤ thread_of c + length (m ∷ mine) → is_owner_in o q (had_of d) ≡ true → is_owner_in o q (had_of c) ≡ true
+  only_old o q high has =
+      ⊎_elim
+      (λ (new : is_owner_in o q (had_of other) ≡ true). let low = (all_within other theirs more o q new).0 in let e = next in absurd (omega (arith, low, high, e)))
+      (λ (old : is_owner_in o q (had_of c) ≡ true). old) (had_either o q has)
+
+  -- owners of the threads after them
+  only_new : (o q : ℕ) → thread_of other < q → is_owner_in o q (had_of d) ≡ true → is_owner_in o q (had_of other) ≡ true
+  only_new o q low has =
+      ⊎_elim (λ (new : is_owner_in o q (had_of other) ≡ true). new)
+      (λ (old : is_owner_in o q (had_of c) ≡ true). let high = (all_within c (m ∷ mine) are o q old).1 in let e = next in absurd (omega (arith, low, high, e))) (had_either o q has)
+
+  number : (view d.pass).number ≡ (view c.pass).number
+  number = ap (λ (v : View). v.number) is
+
+  lists : (view c.pass).lists ++ all_lists (view other.pass) ≡ (view d.pass).lists
+  lists =
+      ap (λ (ls : List (List Entry)). (view c.pass).lists ++ ls) (sym (given (view other.pass) live)) ∙ sym (ap (λ (v : View). v.lists) is)
+
+  joined_within : (o q : ℕ) → is_owner_in o q (had_of d) ≡ true → ((view d.pass).number ≤ q) × (q ≤ (view d.pass).number + length (view d.pass).lists)
+  joined_within o q has =
+      let count = sym (ap length lists) ∙ length-append (view c.pass).lists (all_lists (view other.pass)) in
+      let same = number in
+      let e = next in
+      let some = some_number c.pass in
+      let size = kept_length (suc (thread_of c)) mine (view c.pass).lists (had_of c) (found_of c) are.1 in
+      ⊎_elim
+      (λ (new : is_owner_in o q (had_of other) ≡ true).
+      let w = all_within other theirs more o q new in
+      let low = w.0 in
+      let high = w.1 in
+      let theirs_size = all_length other theirs more in
+      (omega (arith, low, e, same, some), omega (arith, high, e, same, some, count, size, theirs_size)))
+      (λ (old : is_owner_in o q (had_of c) ≡ true).
+      let w = are.0.1.within o q old in
+      let low = w.0 in
+      let high = w.1 in
+      (omega (arith, low, same), omega (arith, high, same, count))) (had_either o q has)
+
+  joined_owned : AreOwnedBy (view d.pass) (stack_of d.pass) d.flight m
+  joined_owned =
+      let old = are.0.1 in
+      let now : AreOwnedBy (view d.pass) (stack_of c.pass) c.flight m = record {
+        marked = marks_more_found (found_of c) (found_of d) m finds_old old.marked;
+        waits = subst (λ (k : ℕ). IsFlightFound (k - 1) (found_of d) m c.flight (stack_of c.pass).mark) (sym number) (flight_more ((view c.pass).number - 1) (found_of c) (found_of d) m c.flight (stack_of c.pass).mark finds_old old.waits);
+        named = λ o has.
+            let some = some_number c.pass in
+            let same = number in
+            old.named o (subst (λ (k : ℕ). is_owner_in o k (had_of c) ≡ true) number (only_old o (view d.pass).number (omega (arith, some, same)) has));
+        within = joined_within;
+        walked = λ k. ap (λ (v : View). option_map container_of (cursor_in k v.log)) is ∙ old.walked k;
+        begun = old.begun;
+      } in
+      subst (λ (x : Stack × Flight). AreOwnedBy (view d.pass) x.0 x.1 m) (λ i. (sym stack i, sym flies i)) now
+
+  joined_all : IsIdle other → AreKept d ((m ∷ mine) ++ theirs)
+  joined_all idle =
+      let threads : thread_of c ≡ thread_of d = sym (ap (λ (v : View). v.number - 1) is) in
+      let same = kept_same (thread_of c) (view c.pass).entries (stack_of c.pass) c.flight m are.0.0 (view d.pass).entries (stack_of d.pass) (ap (λ (v : View). v.entries) is) stack in
+      let front = more_kept (suc (thread_of c)) mine (view c.pass).lists (had_of c) (found_of c) (had_of d) (found_of d) finds_old (λ o q low high has. only_old o q (omega (arith, high)) has) are.1 in
+      let back = more_kept (thread_of other) theirs (all_lists (view other.pass)) (had_of other) (found_of other) (had_of d) (found_of d) finds_new (λ o q low high has. only_new o q low has) (all_kept other theirs idle more) in
+      let all = kept_then (suc (thread_of c)) mine theirs (view c.pass).lists (all_lists (view other.pass)) (had_of d) (found_of d) front
+      (subst (λ (t : ℕ). AreKeptFrom t theirs (all_lists (view other.pass)) (had_of d) (found_of d)) (let e = next in let f : thread_of other ≡ suc (thread_of c) + length mine = omega (arith, e) in f) back) in (
+        (subst (λ (x : ℕ × Flight). AreKeptBy x.0 (view d.pass).entries (stack_of d.pass) x.1 m) (λ i. (threads i, sym flies i)) same, joined_owned),
+        subst (λ (x : ℕ × List (List Entry)). AreKeptFrom (suc x.0) (mine ++ theirs) x.1 (had_of d) (found_of d)) (λ i. (threads i, lists i)) all,
+      )
+
 pub joined_kept : (c d other : Caller) (n : ℕ) (mine theirs : List (List NamedEntry)) → view d.pass ≡ noted (ReadCounter n) (both (view c.pass) (view other.pass)) → stack_of d.pass ≡ stack_of c.pass → d.flight ≡ c.flight → (view other.pass).number ≢ 0 → IsIdle other → AreKept c mine → AreKept other theirs → thread_of other ≡ thread_of c + length mine → AreKept d (mine ++ theirs)
 joined_kept c d other n [] theirs is stack flies live idle are more next = absurd are
-joined_kept c d other n (m ∷ mine) theirs is stack flies live idle are more next =
-    let number : thread_of c ≡ thread_of d = sym (ap (λ (v : View). v.number - 1) is) in
-    let same = kept_same (thread_of c) (view c.pass).entries (stack_of c.pass) c.flight m are.0 (view d.pass).entries (stack_of d.pass) (ap (λ (v : View). v.entries) is) stack in
-    let lists : (view c.pass).lists ++ all_lists (view other.pass) ≡ (view d.pass).lists =
-    ap (λ (ls : List (List Entry)). (view c.pass).lists ++ ls) (sym (given (view other.pass) live)) ∙ sym (ap (λ (v : View). v.lists) is) in
-    let all = kept_then (suc (thread_of c)) mine theirs (view c.pass).lists (all_lists (view other.pass)) are.1
-    (subst (λ (t : ℕ). AreKeptFrom t theirs (all_lists (view other.pass))) (let e = next in let f : thread_of other ≡ suc (thread_of c) + length mine = omega (arith, e) in f) (all_kept other theirs idle more)) in (
-      subst (λ (x : ℕ × Flight). AreKeptBy x.0 (view d.pass).entries (stack_of d.pass) x.1 m) (λ i. (number i, sym flies i)) same,
-      subst (λ (x : ℕ × List (List Entry)). AreKeptFrom (suc x.0) (mine ++ theirs) x.1) (λ i. (number i, lists i)) all,
-    )
+joined_kept c d other n (m ∷ mine) theirs is stack flies live idle are more next = joined_all c d other n m mine theirs is stack flies live are more next idle

@@ -11,7 +11,7 @@ use Rattle.ft_model.specs.declared.data.Key.{Key}
 use Rattle.ft_model.specs.declared.data.Value.{Value}
 use Rattle.ft_model.specs.declared.reply.Reply.{Reply}
 use Rattle.ft_model.specs.declared.reply.Reply.TheVariants as reply
-use Rattle.ft_model.specs.Calls.{other_dict, other_set}
+use Rattle.ft_model.specs.Calls.{moved_cursor, other_dict, other_set}
 use Rattle.ft_trace.specs.declared.Act.{Act}
 use Rattle.ft_trace.specs.declared.Shape.{Shape}
 use Rattle.ft_trace.specs.declared.View.{View}
@@ -42,8 +42,9 @@ use Rattle.ft_engine.specs.Answering.{IsLooked, IsTryOf}
 use Rattle.ft_engine.specs.Contentions.{StopsCall}
 use Rattle.ft_engine.specs.Flights.{objects_by}
 use Rattle.ft_engine.proofs.ListLooks.{StopsAt}
-use Rattle.ft_engine.proofs.Looking.{IsPlain, tried_of}
-use Rattle.ft_engine.proofs.Outcomes.{Comes, Outcome, add_outcome, gave_up_adds, loaded_comes, loaded_nothing, locked_entry, under_locks}
+use Rattle.ft_engine.proofs.Looking.{IsPlain, outcome_walked, tried_of}
+use Rattle.ft_engine.proofs.Within.{loaded_owners, within_then}
+use Rattle.ft_engine.proofs.Outcomes.{Comes, Outcome, add_outcome, gave_up_adds, gave_up_owners, loaded_comes, loaded_nothing, locked_entry, under_locks}
 use Rattle.ft_engine.proofs.SectionCalls.{nothing_then, only_nothing}
 
 -- ---- tries
@@ -54,15 +55,15 @@ plain_dict d dc = record { sections = λ n log sections. refl; begins = refl; ma
 pub plain_set : (s : ℕ) (sc : SetCall) → IsPlain (call.Set s sc)
 plain_set s sc = record { sections = λ n log sections. refl; begins = refl; marks = λ marks. refl; ends = λ marks said. tt; leaves = λ s. refl }
 
-pub dict_tried : (b : Bank) (p q : Pass) (hands : List (Option Cursor)) (d : ℕ) (given dc : DictCall) (objects : Objects) (result : Step) → given ≡ dc → objects_by d (other_dict dc) ≡ objects → SectionsAfter b objects p q result → Outcome (call.Dict d dc) objects (view p) (view q) result → IsTryOf b hands (call.Dict d given) p q result
-dict_tried b p q hands d given dc objects result is names after came =
+pub dict_tried : (b : Bank) (p q : Pass) (hands : List (Option Cursor)) (d : ℕ) (given dc : DictCall) (objects : Objects) (result : Step) → given ≡ dc → moved_cursor (call.Dict d dc) ≡ None → objects_by d (other_dict dc) ≡ objects → SectionsAfter b objects p q result → Outcome (call.Dict d dc) objects (view p) (view q) result → IsTryOf b hands (call.Dict d given) p q result
+dict_tried b p q hands d given dc objects result is still names after came =
     subst (λ (z : DictCall). IsTryOf b hands (call.Dict d z) p q result) (sym is)
-    (tried_of b p q hands (call.Dict d dc) objects (plain_dict d dc) (ap (λ (z : Objects). Some z) names) result after came)
+    (tried_of b p q hands (call.Dict d dc) objects (plain_dict d dc) (ap (λ (z : Objects). Some z) names) result after came (outcome_walked (call.Dict d dc) objects (view p) (view q) result still came))
 
-pub set_tried : (b : Bank) (p q : Pass) (hands : List (Option Cursor)) (s : ℕ) (given sc : SetCall) (objects : Objects) (result : Step) → given ≡ sc → objects_by s (other_set sc) ≡ objects → SectionsAfter b objects p q result → Outcome (call.Set s sc) objects (view p) (view q) result → IsTryOf b hands (call.Set s given) p q result
-set_tried b p q hands s given sc objects result is names after came =
+pub set_tried : (b : Bank) (p q : Pass) (hands : List (Option Cursor)) (s : ℕ) (given sc : SetCall) (objects : Objects) (result : Step) → given ≡ sc → moved_cursor (call.Set s sc) ≡ None → objects_by s (other_set sc) ≡ objects → SectionsAfter b objects p q result → Outcome (call.Set s sc) objects (view p) (view q) result → IsTryOf b hands (call.Set s given) p q result
+set_tried b p q hands s given sc objects result is still names after came =
     subst (λ (z : SetCall). IsTryOf b hands (call.Set s z) p q result) (sym is)
-    (tried_of b p q hands (call.Set s sc) objects (plain_set s sc) (ap (λ (z : Objects). Some z) names) result after came)
+    (tried_of b p q hands (call.Set s sc) objects (plain_set s sc) (ap (λ (z : Objects). Some z) names) result after came (outcome_walked (call.Set s sc) objects (view p) (view q) result still came))
 
 -- ---- new keys
 
@@ -86,7 +87,7 @@ parts_outcome k s t called v w result left x =
     add_outcome (Two s t) (PartsBy k s t called) called reply.Done v w result (λ u z what some y. loaded_comes k _ _ called reply.Done u y.0 z what some y.1 y.2) left x
 
 replaced_comes : (k : Shape) (takes : Option ℕ) (called : Call) (v w : View) (what : Added) → 0 < v.left → IsReplaced k takes called v w what → Comes called v w (step_after what reply.Done)
-replaced_comes k None called v w (added.Made stamp) left x = gave_up_adds called reply.Done stamp v x.1.0 w x.0 x.1.1 x.1.2
+replaced_comes k None called v w (added.Made stamp) left x = (gave_up_adds called reply.Done stamp v x.1.0 w x.0 x.1.1 x.1.2, gave_up_owners called reply.Done stamp.number v x.1.0 w x.1.1 x.1.2)
 replaced_comes k None called v w (added.NoTable class stamp) left x = absurd x
 replaced_comes k None called v w (added.Over stamp) left x = absurd x
 replaced_comes k None called v w (added.Moved a b) left x = absurd x
@@ -104,7 +105,7 @@ keyed_clear_outcome o called v w (step.Done said stamp) x =
     let u = x.1 in
     let c = u.did in
     subst (λ (r : Reply). Outcome called (One o) v w (step.Done r stamp)) (sym x.0)
-    (locked_entry called reply.Done stamp v u.before u.after w u.took (gave_up_adds called reply.Done stamp u.before c.1.0 u.after c.0 c.1.1 c.1.2) u.gone)
+    (locked_entry (One o) called reply.Done stamp v u.before u.after w u.took u.within (gave_up_adds called reply.Done stamp u.before c.1.0 u.after c.0 c.1.1 c.1.2) (gave_up_owners called reply.Done stamp.number u.before c.1.0 u.after c.1.1 c.1.2) u.gone u.owners)
 keyed_clear_outcome o called v w (step.NotYet p owner) x = x
 keyed_clear_outcome o called v w (step.Moved a b) x = absurd x
 keyed_clear_outcome o called v w step.NoMemory x = absurd x
@@ -112,10 +113,12 @@ keyed_clear_outcome o called v w step.NoMemory x = absurd x
 -- ---- copies
 
 pub keyed_copy_outcome : (objects : Objects) (called : Call) (v w : View) (result : Step) → 0 < v.left → IsCopyOf objects called v w result → Outcome called objects v w result
-keyed_copy_outcome objects called v w (step.Done said stamp) left x = under_locks called said stamp v w left x
+keyed_copy_outcome objects called v w (step.Done said stamp) left x = under_locks objects called said stamp v w left x
 keyed_copy_outcome objects called v w (step.NotYet o owner) left x = x
 keyed_copy_outcome objects called v w (step.Moved a b) left x = absurd x
-keyed_copy_outcome objects called v w step.NoMemory left x = nothing_then v x.before w (only_nothing v x.before x.took) (nothing_then x.before x.after w (loaded_nothing x.before x.after x.did.0) (only_nothing x.after w x.gone))
+keyed_copy_outcome objects called v w step.NoMemory left x =
+    let n = loaded_nothing x.before x.after x.did.0 in
+    (nothing_then v x.before w (only_nothing v x.before x.took) (nothing_then x.before x.after w n (only_nothing x.after w x.gone)), within_then objects v x.before x.after w x.took x.within n.pass.number (loaded_owners x.before x.after x.did.0) x.gone x.owners)
 
 -- ---- looks
 

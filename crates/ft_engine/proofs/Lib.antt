@@ -1,9 +1,12 @@
 pub mod Marks
 pub mod Keeping
 pub mod Passing
+pub mod Within
+pub mod Owned
 pub mod SectionCalls
 pub mod Callers
 pub mod KeptLists
+pub mod NewCallers
 pub mod Outcomes
 pub mod Looking
 pub mod LookFirst

@@ -8,7 +8,7 @@ use Rattle.ft_model.specs.declared.call.Call.{Call}
 use Rattle.ft_model.specs.declared.cursor.Cursor.{Cursor}
 use Rattle.ft_model.specs.declared.reply.Reply.{Reply}
 use Rattle.ft_model.specs.declared.reply.Reply.TheVariants as reply
-use Rattle.ft_model.specs.Calls.{cursor_of_list, other_list}
+use Rattle.ft_model.specs.Calls.{cursor_of_list, moved_cursor, other_list}
 use Rattle.ft_trace.specs.declared.Shape.{Shape}
 use Rattle.ft_trace.specs.declared.View.{View}
 use Rattle.ft_bank.specs.declared.bank.Bank.{Bank}
@@ -25,17 +25,18 @@ use Rattle.ft_list.specs.Copies.{IsCopyOf}
 use Rattle.ft_list.specs.Growing.{AddsItems, ExtendsBy, IsClearOf}
 use Rattle.ft_engine.specs.Answering.{IsTryOf}
 use Rattle.ft_engine.specs.Flights.{objects_by}
-use Rattle.ft_engine.proofs.Looking.{IsPlain, tried_of}
-use Rattle.ft_engine.proofs.Outcomes.{Outcome, add_outcome, gave_up_adds, loaded_comes, loaded_nothing, locked_entry, under_locks}
+use Rattle.ft_engine.proofs.Looking.{IsPlain, outcome_walked, tried_of}
+use Rattle.ft_engine.proofs.Outcomes.{Outcome, add_outcome, gave_up_adds, gave_up_owners, loaded_comes, loaded_nothing, locked_entry, under_locks}
 use Rattle.ft_engine.proofs.SectionCalls.{nothing_then, only_nothing}
+use Rattle.ft_engine.proofs.Within.{loaded_owners, within_then}
 
 pub plain_list : (l : ℕ) (lc : ListCall) → IsPlain (call.List l lc)
 plain_list l lc = record { sections = λ n log sections. refl; begins = refl; marks = λ marks. refl; ends = λ marks said. tt; leaves = λ s. refl }
 
-pub list_tried : (b : Bank) (p q : Pass) (hands : List (Option Cursor)) (l : ℕ) (given lc : ListCall) (objects : Objects) (result : Step) → given ≡ lc → objects_by l (other_list lc) ≡ objects → SectionsAfter b objects p q result → Outcome (call.List l lc) objects (view p) (view q) result → IsTryOf b hands (call.List l given) p q result
-list_tried b p q hands l given lc objects result is names after came =
+pub list_tried : (b : Bank) (p q : Pass) (hands : List (Option Cursor)) (l : ℕ) (given lc : ListCall) (objects : Objects) (result : Step) → given ≡ lc → moved_cursor (call.List l lc) ≡ None → objects_by l (other_list lc) ≡ objects → SectionsAfter b objects p q result → Outcome (call.List l lc) objects (view p) (view q) result → IsTryOf b hands (call.List l given) p q result
+list_tried b p q hands l given lc objects result is still names after came =
     subst (λ (z : ListCall). IsTryOf b hands (call.List l z) p q result) (sym is)
-    (tried_of b p q hands (call.List l lc) objects (plain_list l lc) (ap (λ (z : Objects). Some z) names) result after came)
+    (tried_of b p q hands (call.List l lc) objects (plain_list l lc) (ap (λ (z : Objects). Some z) names) result after came (outcome_walked (call.List l lc) objects (view p) (view q) result still came))
 
 pub adds_outcome : (k : Shape) (l : ℕ) (called : Call) (n : ℕ) (v w : View) (result : Step) → 0 < v.left → IsAddTryOf (One l) (AddsItems k l called n) reply.Done v w result → Outcome called (One l) v w result
 adds_outcome k l called n v w result left x = add_outcome (One l) (AddsItems k l called n) called reply.Done v w result (λ u z what some y. loaded_comes k _ _ called reply.Done u y.0 z what some y.1 y.2) left x
@@ -48,16 +49,18 @@ clear_outcome l v w (step.Done said stamp) x =
     let u = x.1 in
     let c = u.did in
     subst (λ (r : Reply). Outcome (call.List l list.Clear) (One l) v w (step.Done r stamp)) (sym x.0)
-    (locked_entry (call.List l list.Clear) reply.Done stamp v u.before u.after w u.took (gave_up_adds (call.List l list.Clear) reply.Done stamp u.before c.1.0 u.after c.0 c.1.1 c.1.2) u.gone)
+    (locked_entry (One l) (call.List l list.Clear) reply.Done stamp v u.before u.after w u.took u.within (gave_up_adds (call.List l list.Clear) reply.Done stamp u.before c.1.0 u.after c.0 c.1.1 c.1.2) (gave_up_owners (call.List l list.Clear) reply.Done stamp.number u.before c.1.0 u.after c.1.1 c.1.2) u.gone u.owners)
 clear_outcome l v w (step.NotYet o owner) x = x
 clear_outcome l v w (step.Moved a b) x = absurd x
 clear_outcome l v w step.NoMemory x = absurd x
 
 pub copy_outcome : (objects : Objects) (called : Call) (v w : View) (result : Step) → 0 < v.left → IsCopyOf objects called v w result → Outcome called objects v w result
-copy_outcome objects called v w (step.Done said stamp) left x = under_locks called said stamp v w left x
+copy_outcome objects called v w (step.Done said stamp) left x = under_locks objects called said stamp v w left x
 copy_outcome objects called v w (step.NotYet o owner) left x = x
 copy_outcome objects called v w (step.Moved a b) left x = absurd x
-copy_outcome objects called v w step.NoMemory left x = nothing_then v x.before w (only_nothing v x.before x.took) (nothing_then x.before x.after w (loaded_nothing x.before x.after x.loaded) (only_nothing x.after w x.gone))
+copy_outcome objects called v w step.NoMemory left x =
+    let n = loaded_nothing x.before x.after x.loaded in
+    (nothing_then v x.before w (only_nothing v x.before x.took) (nothing_then x.before x.after w n (only_nothing x.after w x.gone)), within_then objects v x.before x.after w x.took x.within n.pass.number (loaded_owners x.before x.after x.loaded) x.gone x.owners)
 
 -- a call that makes a cursor is an `iter`
 pub iter_list : (lc : ListCall) (n : ℕ) → cursor_of_list lc ≡ Some n → lc ≡ list.Iter n

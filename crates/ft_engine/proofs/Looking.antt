@@ -1,14 +1,18 @@
 -- A look comes before the try of its call: the pass may try the call after it, and what the try comes to is what both do.
 use Rattle.std.proofs.Common.{◌≡◌, ◌<◌, ◌+◌, ℕ, Bool, true, false, true≢false, List, [], ◌∷◌, ◌++◌, refl, sym, ap, ◌∙◌, subst, inl, inr, ⊎_elim, append_assoc, le_refl}
-use Rattle.std.specs.Prelude.{◌==◌, ◌||◌, Option, Some, None, is_some, if◌then◌else◌}
+use Rattle.std.specs.Prelude.{◌==◌, ◌||◌, Option, Some, None, is_some, option_map, if◌then◌else◌}
 use Rattle.ft_model.specs.declared.call.Call.{Call}
 use Rattle.ft_model.specs.declared.cursor.Cursor.{Cursor}
 use Rattle.ft_model.specs.declared.reply.Reply.{Reply}
+use Rattle.ft_model.specs.Calls.{moved_cursor}
+use Rattle.ft_model.specs.Worlds.{container_of}
 use Rattle.ft_trace.specs.declared.Act.{Act}
 use Rattle.ft_trace.specs.declared.Act.TheVariants.{Lock}
 use Rattle.ft_trace.specs.declared.View.{View}
 use Rattle.ft_trace.specs.Acts.{has_lock}
+use Rattle.ft_trace.specs.Owners.{SameOwners}
 use Rattle.ft_trace.specs.Sections.{begun}
+use Rattle.ft_trace.proofs.Owning.{grown_finds_more, owners_then}
 use Rattle.ft_bank.specs.declared.bank.Bank.{Bank}
 use Rattle.ft_bank.specs.declared.pass.Pass.{Pass}
 use Rattle.ft_bank.specs.Passes.{view, DidNothing, IsPassOf}
@@ -33,11 +37,13 @@ use Rattle.ft_section.proofs.Making.{in_call_stays}
 use Rattle.ft_section.proofs.Resumes.{none_some}
 use Rattle.ft_search.proofs.Trying.{LeavesSections, making_read, still_loaded}
 use Rattle.ft_engine.specs.Answering.{AddsEntry, AddsNothing, HasAnswer, HasNone, HasToWait, IsEndOf, IsTryOf, KnewLocks, Looked, settled}
+use Rattle.ft_closing.specs.Marks.{walked_after}
 use Rattle.ft_engine.specs.Contentions.{may_look}
 use Rattle.ft_engine.specs.Flights.{is_begin, objects_of}
 use Rattle.ft_engine.specs.Keeping.{marks_after, marks_in}
 use Rattle.ft_engine.specs.Stacks.{StackAfter}
 use Rattle.ft_engine.proofs.Outcomes.{Outcome, answered_adds, before_adds, loaded_nothing, locked_entry}
+use Rattle.ft_engine.proofs.Within.{WalkedBy, answered_owners, for_then, loaded_owners, looks_still, same_for, walked_none, within_for}
 use Rattle.ft_engine.proofs.SectionCalls.{nothing_entry, nothing_then, only_nothing, same_nothing}
 
 -- a call on containers begins and ends no section
@@ -56,27 +62,37 @@ some_same x y e = cc
 pub one_objects : (x y : Objects) → Some x ≡ Some y → x ≡ y
 one_objects x y e = cc
 
-pub tried_of : (b : Bank) (p q : Pass) (hands : List (Option Cursor)) (called : Call) (objects : Objects) → IsPlain called → objects_of hands called ≡ Some objects → (result : Step) → SectionsAfter b objects p q result → Outcome called objects (view p) (view q) result → IsTryOf b hands called p q result
-tried_of b p q hands called objects plain names (step.Done said stamp) after came = (
+pub tried_of : (b : Bank) (p q : Pass) (hands : List (Option Cursor)) (called : Call) (objects : Objects) → IsPlain called → objects_of hands called ≡ Some objects → (result : Step) → SectionsAfter b objects p q result → Outcome called objects (view p) (view q) result → WalkedBy called (view p) (view q) result → IsTryOf b hands called p q result
+tried_of b p q hands called objects plain names (step.Done said stamp) after came walked = (
   record {
-    entry = came;
+    entry = came.0;
     resume = after.0.resume;
     top = λ begins. absurd (true≢false (sym begins ∙ plain.begins));
     stack = subst (StackAfter called (stack_of p)) (sym after.0.stack) (plain.leaves (stack_of p));
     marks = ap marks_in after.0.stack ∙ sym (plain.marks (marks_in (stack_of p)));
     mark = ap (λ (s : Stack). s.mark) after.0.stack;
     ends = plain.ends (marks_in (stack_of p)) said;
+    walked = walked;
   },
   λ named is locked. subst (λ (x : Objects). KnewOwners x (view p) got.Have) (one_objects objects named (sym names ∙ is)) after.1,
+  within_for hands called objects (view p) (view q) names came.1.only came.1.found,
 )
-tried_of b p q hands called objects plain names (step.NotYet o owner) after came = (
+tried_of b p q hands called objects plain names (step.NotYet o owner) after came walked = (
   objects,
   names,
   record { entry = only_nothing (view p) (view q) came.0; waits = after.waits; stack = after.stack; kept = after.kept; found = (came.1, came.2) },
   λ locked. after.known,
+  within_for hands called objects (view p) (view q) names after.within (grown_finds_more (view p) (view q) came.0.newer came.0.grew),
 )
-tried_of b p q hands called objects plain names (step.Moved first second) after came = (objects, names, record { entry = came; gone = after.0 }, λ locked. after.1)
-tried_of b p q hands called objects plain names step.NoMemory after came = record { entry = came; gone = after.0 }
+tried_of b p q hands called objects plain names (step.Moved first second) after came walked = (objects, names, record { entry = came.0; gone = after.0 }, λ locked. after.1, within_for hands called objects (view p) (view q) names came.1.only came.1.found)
+tried_of b p q hands called objects plain names step.NoMemory after came walked = (record { entry = came.0; gone = after.0 }, within_for hands called objects (view p) (view q) names came.1.only came.1.found)
+
+-- a call that moves no cursor
+pub outcome_walked : (called : Call) (objects : Objects) (v w : View) (result : Step) → moved_cursor called ≡ None → Outcome called objects v w result → WalkedBy called v w result
+outcome_walked called objects v w (step.Done said stamp) none came = walked_none called said stamp v w none came.0
+outcome_walked called objects v w (step.NotYet o owner) none came = tt
+outcome_walked called objects v w (step.Moved first second) none came = tt
+outcome_walked called objects v w step.NoMemory none came = tt
 
 -- what was found after loads was found after what came before them
 found_before : (u v w : View) (o q : ℕ) (part : List Act) → v.log ≡ part ++ u.log → v.number ≡ u.number → FoundOwner o q v w → FoundOwner o q u w
@@ -92,8 +108,8 @@ found_before u v w o q part log number f = record {
 knew_before : (called : Call) (objects : Objects) (p q : Pass) (answer : Got) → (may_look called ≡ false → view q ≡ view p) → KnewLocks called objects q answer → KnewLocks called objects p answer
 knew_before called objects p q answer same knew locked = subst (λ (v : View). KnewOwners objects v answer) (same locked) (knew locked)
 
-pub try_after : (b : Bank) (hands : List (Option Cursor)) (called : Call) (p q r : Pass) (part : List Act) (result : Step) → AddsNothing (view p) (view q) → (view q).log ≡ part ++ (view p).log → stack_of q ≡ stack_of p → ((o : ℕ) → has_lock o (view q).log ≡ has_lock o (view p).log) → (may_look called ≡ false → view q ≡ view p) → IsTryOf b hands called q r result → IsTryOf b hands called p r result
-try_after b hands called p q r part (step.Done said stamp) before log stack locks same x = (
+pub try_after : (b : Bank) (hands : List (Option Cursor)) (called : Call) (p q r : Pass) (part : List Act) (result : Step) → AddsNothing (view p) (view q) → SameOwners (view p) (view q) → (view q).log ≡ part ++ (view p).log → stack_of q ≡ stack_of p → ((o : ℕ) → has_lock o (view q).log ≡ has_lock o (view p).log) → (may_look called ≡ false → view q ≡ view p) → IsTryOf b hands called q r result → IsTryOf b hands called p r result
+try_after b hands called p q r part (step.Done said stamp) before owners log stack locks same x = (
   record {
     entry = before_adds called said stamp (view p) (view q) (view r) before x.0.entry;
     resume = x.0.resume;
@@ -102,10 +118,12 @@ try_after b hands called p q r part (step.Done said stamp) before log stack lock
     marks = x.0.marks ∙ ap (λ (s : Stack). marks_after called (marks_in s)) stack;
     mark = x.0.mark ∙ ap (λ (s : Stack). s.mark) stack;
     ends = subst (λ (s : Stack). IsEndOf called (marks_in s) said) stack x.0.ends;
+    walked = λ n. x.0.walked n ∙ ap (λ (z : Option Cursor). walked_after n called (option_map container_of z)) (before.cursors n);
   },
   λ named is. knew_before called named p q got.Have same (x.1 named is),
+  for_then hands called (view p) (view q) (view r) x.0.entry.pass.number (same_for hands called (view p) (view q) owners) x.2,
 )
-try_after b hands called p q r part (step.NotYet o owner) before log stack locks same x = (
+try_after b hands called p q r part (step.NotYet o owner) before owners log stack locks same x = (
   x.0,
   x.1,
   record {
@@ -116,8 +134,9 @@ try_after b hands called p q r part (step.NotYet o owner) before log stack locks
     found = (x.2.found.0, found_before (view p) (view q) (view r) o owner part log before.pass.number x.2.found.1);
   },
   knew_before called x.0 p q (got.NotYet o owner) same x.3,
+  for_then hands called (view p) (view q) (view r) x.2.entry.pass.number (same_for hands called (view p) (view q) owners) x.4,
 )
-try_after b hands called p q r part (step.Moved first second) before log stack locks same x = (
+try_after b hands called p q r part (step.Moved first second) before owners log stack locks same x = (
   x.0,
   x.1,
   record {
@@ -125,11 +144,15 @@ try_after b hands called p q r part (step.Moved first second) before log stack l
     gone = record { stack = x.2.gone.stack ∙ ap (λ (s : Stack). with_own s nothing_taken) stack; may = x.2.gone.may; resume = x.2.gone.resume };
   },
   knew_before called x.0 p q got.Have same x.3,
+  for_then hands called (view p) (view q) (view r) x.2.entry.pass.number (same_for hands called (view p) (view q) owners) x.4,
 )
-try_after b hands called p q r part step.NoMemory before log stack locks same x = record {
-  entry = nothing_then (view p) (view q) (view r) before x.entry;
-  gone = record { stack = x.gone.stack ∙ ap (λ (s : Stack). with_own s nothing_taken) stack; may = x.gone.may; resume = x.gone.resume };
-}
+try_after b hands called p q r part step.NoMemory before owners log stack locks same x = (
+  record {
+    entry = nothing_then (view p) (view q) (view r) before x.0.entry;
+    gone = record { stack = x.0.gone.stack ∙ ap (λ (s : Stack). with_own s nothing_taken) stack; may = x.0.gone.may; resume = x.0.gone.resume };
+  },
+  for_then hands called (view p) (view q) (view r) x.0.entry.pass.number (same_for hands called (view p) (view q) owners) x.1,
+)
 
 -- ---- what the pass is in after a look
 
@@ -195,29 +218,35 @@ after_nothing : (called : Call) (said : Reply) (stamp : Stamp) (u v w : View) �
 after_nothing called said stamp u v w made after = nothing_entry called said stamp u u v w (same_nothing u) made.seen made after
 
 -- it has its answer by the look
-pub looked_tried : (b : Bank) (p q r : Pass) (hands : List (Option Cursor)) (called : Call) (found : Option Look) (result : Step) → IsPlain called → 0 < (view p).left → may_look called ≡ is_some found → settled found ≡ Some result → Looked called p q found → stack_of q ≡ stack_of p → OnlyLocked (view q) (view r) → HasLetGo b q r → IsTryOf b hands called p r result
-looked_tried b p q r hands called None result plain left made is x stack gone let_go = absurd (let e : None ≡ Some result = is in cc)
-looked_tried b p q r hands called (Some (look.Contended first second)) result plain left made is x stack gone let_go = absurd (let e : None ≡ Some result = is in cc)
-looked_tried b p q r hands called (Some (look.Done said stamp)) result plain left made is x stack gone let_go =
+pub looked_tried : (b : Bank) (p q r : Pass) (hands : List (Option Cursor)) (called : Call) (found : Option Look) (result : Step) → IsPlain called → 0 < (view p).left → may_look called ≡ is_some found → settled found ≡ Some result → Looked called p q found → stack_of q ≡ stack_of p → OnlyLocked (view q) (view r) → SameOwners (view q) (view r) → HasLetGo b q r → IsTryOf b hands called p r result
+looked_tried b p q r hands called None result plain left made is x stack gone owners let_go = absurd (let e : None ≡ Some result = is in cc)
+looked_tried b p q r hands called (Some (look.Contended first second)) result plain left made is x stack gone owners let_go = absurd (let e : None ≡ Some result = is in cc)
+looked_tried b p q r hands called (Some (look.Done said stamp)) result plain left made is x stack gone owners let_go =
     let same : step.Done said stamp ≡ result = some_same (step.Done said stamp) result is in
+    let entry = after_nothing called said stamp (view p) (view q) (view r) (answered_adds called said stamp (view p) (view q) x.1 left x.0) (only_nothing (view q) (view r) gone) in
     subst (IsTryOf b hands called p r) same (
       record {
-        entry = after_nothing called said stamp (view p) (view q) (view r) (answered_adds called said stamp (view p) (view q) x.1 left x.0) (only_nothing (view q) (view r) gone);
+        entry = entry;
         resume = let_go.resume;
         top = λ begins. absurd (true≢false (sym begins ∙ plain.begins));
         stack = subst (StackAfter called (stack_of p)) (sym (let_go.stack ∙ ap (λ (s : Stack). with_own s nothing_taken) stack)) (plain.leaves (stack_of p));
         marks = ap marks_in let_go.stack ∙ (ap marks_in stack ∙ sym (plain.marks (marks_in (stack_of p))));
         mark = ap (λ (s : Stack). s.mark) let_go.stack ∙ ap (λ (s : Stack). s.mark) stack;
         ends = plain.ends (marks_in (stack_of p)) said;
+        walked = walked_none called said stamp (view p) (view r) (looks_still called made) entry;
       },
       λ named names locked. absurd (true≢false (sym made ∙ locked)),
+      same_for hands called (view p) (view r) (owners_then (view p) (view q) (view r) (answered_owners called said stamp.number (view p) (view q) x.0) owners),
     )
-looked_tried b p q r hands called (Some look.NoMemory) result plain left made is x stack gone let_go =
+looked_tried b p q r hands called (Some look.NoMemory) result plain left made is x stack gone owners let_go =
     let same : step.NoMemory ≡ result = some_same step.NoMemory result is in
-    subst (IsTryOf b hands called p r) same (record {
-      entry = nothing_then (view p) (view q) (view r) (loaded_nothing (view p) (view q) x) (only_nothing (view q) (view r) gone);
-      gone = record { stack = let_go.stack ∙ ap (λ (s : Stack). with_own s nothing_taken) stack; may = let_go.may; resume = let_go.resume };
-    })
+    subst (IsTryOf b hands called p r) same (
+      record {
+        entry = nothing_then (view p) (view q) (view r) (loaded_nothing (view p) (view q) x) (only_nothing (view q) (view r) gone);
+        gone = record { stack = let_go.stack ∙ ap (λ (s : Stack). with_own s nothing_taken) stack; may = let_go.may; resume = let_go.resume };
+      },
+      same_for hands called (view p) (view r) (owners_then (view p) (view q) (view r) (loaded_owners (view p) (view q) x) owners),
+    )
 
 -- ---- the call under its locks comes after
 
@@ -242,5 +271,5 @@ unlooked called p q r (Some answer) made x same locked = absurd (true≢false (s
 pub looked_then : (b : Bank) (hands : List (Option Cursor)) (called : Call) (p q r s : Pass) (found : Option Look) (result : Step) → may_look called ≡ is_some found → settled found ≡ None → Looked called p q found → stack_of q ≡ stack_of p → DidNothing q r → IsTryOf b hands called r s result → IsTryOf b hands called p s result
 looked_then b hands called p q r s found result made none x stack same tried =
     let l = looked_loaded p q called found none x in
-    try_after b hands called p r s l.0 result (subst (AddsNothing (view p)) (sym same.1) (loaded_nothing (view p) (view q) l.2)) (ap (λ (v : View). v.log) same.1 ∙ l.1) (same.2 ∙ stack)
+    try_after b hands called p r s l.0 result (subst (AddsNothing (view p)) (sym same.1) (loaded_nothing (view p) (view q) l.2)) (subst (SameOwners (view p)) (sym same.1) (loaded_owners (view p) (view q) l.2)) (ap (λ (v : View). v.log) same.1 ∙ l.1) (same.2 ∙ stack)
     (λ o. ap (λ (v : View). has_lock o v.log) same.1 ∙ l.2.work.pass.locks o) (unlooked called p q r found made x same) tried

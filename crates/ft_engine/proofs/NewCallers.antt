@@ -1,23 +1,20 @@
--- A new caller has kept the entries of no call.
-use Rattle.std.proofs.Common.{◌≡◌, ℕ, List, [], map, reverse, refl, sym, ap, subst, None, Some}
-use Rattle.std.proofs.lemmas.List.Elements.{All-nil}
+-- The list that is kept of a caller that has made no call.
+use Rattle.std.proofs.Common.{ℕ, List, [], sym, subst}
+use Rattle.ft_trace.specs.declared.Entry.{Entry}
 use Rattle.ft_bank.specs.Passes.{view}
 use Rattle.ft_bank.specs.Sections.{stack_of}
-use Rattle.ft_bank.specs.declared.sections.OpenSection.{OpenSection}
 use Rattle.ft_engine.specs.declared.caller.Caller.{Caller}
 use Rattle.ft_engine.specs.declared.caller.Flight.{Flight}
 use Rattle.ft_engine.specs.declared.engine.Engine.{Engine}
-use Rattle.ft_engine.specs.Callers.{IsFresh, pass_of, thread_of}
+use Rattle.ft_engine.specs.Callers.{IsFresh, thread_of}
 use Rattle.ft_engine.specs.Keeping.{AreKeptBy, IsKept}
+use Rattle.ft_engine.specs.Owning.{AreOwnedBy}
+use Rattle.ft_engine.proofs.Keeping.{kept_start}
+use Rattle.ft_engine.proofs.Owned.{start_owned}
 
+-- a caller of a new engine has made no call
 pub new_kept : (e : Engine) (room i : ℕ) (c : Caller) → IsFresh e room i c → IsKept c []
-new_kept e room i c fresh =
-    subst (λ (f : Flight). AreKeptBy (thread_of c) (view (pass_of c)).entries (stack_of (pass_of c)) f []) (sym fresh.flight)
-    (record {
-      same = fresh.entries;
-      own = All-nil (λ entry. entry.thread ≡ thread_of c);
-      indexes = refl;
-      counted = λ place entry at. absurd (let none : None ≡ Some entry = at in cc);
-      sections = ap (λ (ss : List OpenSection). reverse (map (λ section. section.marks) ss)) fresh.sections;
-      ends = tt;
-    })
+new_kept e room i c is = (
+  subst (λ (x : List Entry × Flight). AreKeptBy (thread_of c) x.0 (stack_of c.pass) x.1 []) (λ d. (sym is.entries d, sym is.flight d)) (kept_start (thread_of c) (stack_of c.pass) is.sections),
+  subst (λ (f : Flight). AreOwnedBy (view c.pass) (stack_of c.pass) f []) (sym is.flight) (start_owned (view c.pass) (stack_of c.pass) is.log is.sections),
+)

@@ -15,6 +15,8 @@ use Rattle.ft_trace.specs.Acts.{announces, noted, seen_writes}
 use Rattle.ft_trace.specs.Floors.{at_floor}
 use Rattle.ft_trace.specs.Hands.{cursor_in}
 use Rattle.ft_trace.proofs.Seeing.{seen_up}
+use Rattle.ft_trace.specs.Owners.{SameOwners}
+use Rattle.ft_trace.proofs.Owning.{owners_then}
 use Rattle.ft_bank.specs.declared.takings.Took.{Took}
 use Rattle.ft_bank.specs.declared.takings.Took.TheVariants as took
 use Rattle.ft_bank.specs.Answered.{Answered}
@@ -24,7 +26,7 @@ use Rattle.ft_section.specs.declared.answers.Objects.TheVariants.{One}
 use Rattle.ft_section.specs.declared.answers.Stamp.{Stamp}
 use Rattle.ft_section.specs.declared.answers.Step.{Step}
 use Rattle.ft_section.specs.declared.answers.Step.TheVariants as step
-use Rattle.ft_section.specs.Locking.{FoundOwner, OnlyLocked}
+use Rattle.ft_section.specs.Locking.{FoundOwner, LocksWithin, OnlyLocked}
 use Rattle.ft_section.specs.Takings.{IsOf}
 use Rattle.ft_search.specs.Calls.{IsMadeOf, MadeAs, MadeUnderLocks}
 use Rattle.ft_search.specs.Tries.{IsReadOf}
@@ -33,14 +35,15 @@ use Rattle.ft_growth.specs.declared.adding.Added.TheVariants as added
 use Rattle.ft_growth.specs.Adding.{GaveUp, Grew, IsAdded, Retires, Tried, IsTryOf, UnderLocks, WroteInPlace, WroteWith, step_after}
 use Rattle.ft_engine.specs.Answering.{AddsEntry, AddsNothing, StaysPass}
 use Rattle.ft_engine.specs.Keeping.{made_entry}
+use Rattle.ft_engine.proofs.Within.{HasWithin, answered_owners, loaded_owners, made_owners, retired_owners, tried_owners, within_then, wrote_owners}
 use Rattle.ft_engine.proofs.SectionCalls.{nothing_entry, nothing_then, only_nothing, same_nothing}
 
 -- what a try comes to, but for the sections
 abbrev pub Outcome : Call → Objects → View → View → Step → Type 0
-Outcome called objects v w (step.Done said stamp) = AddsEntry called said stamp v w
+Outcome called objects v w (step.Done said stamp) = AddsEntry called said stamp v w × HasWithin objects v w
 Outcome called objects v w (step.NotYet o owner) = OnlyLocked v w × IsOf o objects × FoundOwner o owner v w
-Outcome called objects v w (step.Moved a b) = AddsNothing v w
-Outcome called objects v w step.NoMemory = AddsNothing v w
+Outcome called objects v w (step.Moved a b) = AddsNothing v w × HasWithin objects v w
+Outcome called objects v w step.NoMemory = AddsNothing v w × HasWithin objects v w
 
 -- ---- parts of calls
 
@@ -92,27 +95,28 @@ made_adds called said stamp v w left m =
     ⊎_elim (λ x. wrote_entry called said stamp v w x.0 x.1) (λ x. answered_adds called said stamp v w x.0 left x.1) m.made
 
 -- under locks
-pub locked_entry : (called : Call) (said : Reply) (stamp : Stamp) (u v w z : View) → OnlyLocked u v → AddsEntry called said stamp v w → OnlyLocked w z → AddsEntry called said stamp u z
-locked_entry called said stamp u v w z took made gone = nothing_entry called said stamp u v w z (only_nothing u v took) made.seen made (only_nothing w z gone)
+pub locked_entry : (objects : Objects) (called : Call) (said : Reply) (stamp : Stamp) (u v w z : View) → OnlyLocked u v → LocksWithin objects u v → AddsEntry called said stamp v w → SameOwners v w → OnlyLocked w z → SameOwners w z → AddsEntry called said stamp u z × HasWithin objects u z
+locked_entry objects called said stamp u v w z took within made did gone owners =
+    (nothing_entry called said stamp u v w z (only_nothing u v took) made.seen made (only_nothing w z gone), within_then objects u v w z took within made.pass.number did gone owners)
 
 some_left : (v w : View) → OnlyLocked v w → 0 < v.left → 0 < w.left
 some_left v w only left = subst (λ (n : ℕ). 0 < n) (sym only.left) left
 
-pub under_locks : (called : Call) (said : Reply) (stamp : Stamp) (v w : View) → 0 < v.left → MadeUnderLocks called said stamp v w → AddsEntry called said stamp v w
-under_locks called said stamp v w left m =
-    locked_entry called said stamp v m.before m.after w m.took (made_adds called said stamp m.before m.after (some_left v m.before m.took left) m.made) m.gone
+pub under_locks : (objects : Objects) (called : Call) (said : Reply) (stamp : Stamp) (v w : View) → 0 < v.left → MadeUnderLocks objects called said stamp v w → AddsEntry called said stamp v w × HasWithin objects v w
+under_locks objects called said stamp v w left m =
+    locked_entry objects called said stamp v m.before m.after w m.took m.within (made_adds called said stamp m.before m.after (some_left v m.before m.took left) m.made) (made_owners called said stamp m.before m.after m.made) m.gone m.owners
 
 -- ---- calls that take no table
 
 pub made_outcome : (objects : Objects) (called : Call) (v w : View) (result : Step) → 0 < v.left → IsMadeOf objects called v w result → Outcome called objects v w result
-made_outcome objects called v w (step.Done said stamp) left m = under_locks called said stamp v w left m
+made_outcome objects called v w (step.Done said stamp) left m = under_locks objects called said stamp v w left m
 made_outcome objects called v w (step.NotYet o owner) left m = m
 made_outcome objects called v w (step.Moved a b) left m = absurd m
 made_outcome objects called v w step.NoMemory left m = absurd m
 
 pub read_outcome : (o : ℕ) (called : Call) (v w : View) (result : Step) → 0 < v.left → IsReadOf o called v w result → Outcome called (One o) v w result
 read_outcome o called v w (step.Done said stamp) left m =
-    locked_entry called said stamp v m.0.before m.0.after w m.0.took (answered_adds called said stamp m.0.before m.0.after m.1 (some_left v m.0.before m.0.took left) m.0.answered) m.0.gone
+    locked_entry (One o) called said stamp v m.0.before m.0.after w m.0.took m.0.within (answered_adds called said stamp m.0.before m.0.after m.1 (some_left v m.0.before m.0.took left) m.0.answered) (answered_owners called said stamp.number m.0.before m.0.after m.0.answered) m.0.gone m.0.owners
 read_outcome o called v w (step.NotYet p owner) left m = m
 read_outcome o called v w (step.Moved a b) left m = absurd m
 read_outcome o called v w step.NoMemory left m = absurd m
@@ -145,28 +149,35 @@ with_adds k None called said stamp v w is x = wrote_entry called said stamp v w 
 with_adds k (Some class) called said stamp v w is x =
     write_adds called said stamp v x.taken x.done w is (tried_nothing k class (took.Taken x.table) v x.taken x.tried) x.wrote (retired_nothing _ x.done w x.retired)
 
+with_owners : (k : Shape) (takes : Option ℕ) (called : Call) (said : Reply) (n : ℕ) (v w : View) → WroteWith k takes called said n v w → SameOwners v w
+with_owners k None called said n v w x = wrote_owners called said n v w x.wrote
+with_owners k (Some class) called said n v w x =
+    owners_then v x.taken w (tried_owners k class (took.Taken x.table) v x.taken x.tried)
+    (owners_then x.taken x.done w (wrote_owners called said n x.taken x.done x.wrote) (retired_owners _ x.done w x.retired))
+
 -- what a call under its locks comes to
 abbrev pub Comes : Call → View → View → Step → Type 0
-Comes called v w (step.Done said stamp) = AddsEntry called said stamp v w
+Comes called v w (step.Done said stamp) = AddsEntry called said stamp v w × SameOwners v w
 Comes called v w (step.NotYet o owner) = ⊥
-Comes called v w (step.Moved a b) = AddsNothing v w
+Comes called v w (step.Moved a b) = AddsNothing v w × SameOwners v w
 Comes called v w step.NoMemory = ⊥
 
 added_comes : (k : Shape) (takes : Option ℕ) (over : Bool) (called : Call) (said : Reply) (v w : View) (what : Added) → 0 < v.left → IsAdded k takes over called said v w what → Comes called v w (step_after what said)
-added_comes k takes over called said v w (added.Made stamp) left x = with_adds k takes called said stamp v w x.1 x.2
+added_comes k takes over called said v w (added.Made stamp) left x = (with_adds k takes called said stamp v w x.1 x.2, with_owners k takes called said stamp.number v w x.2)
 added_comes k takes over called said v w (added.NoTable class stamp) left x =
     let n = tried_nothing k class took.AllTaken v x.3.0 x.3.1 in
     let made = answered_adds called (reply.Raised (raise.Memory class)) stamp x.3.0 w x.1 (subst (λ (z : ℕ). 0 < z) (sym n.left) left) x.3.2 in
-    before_adds called (reply.Raised (raise.Memory class)) stamp v x.3.0 w n made
-added_comes k takes over called said v w (added.Over stamp) left x = answered_adds called (reply.Raised raise.Over) stamp v w x.1 left x.2
-added_comes k takes over called said v w (added.Moved a b) left x = tried_nothing k x.1.0 (took.Moved a b) v w x.1.2
+    (before_adds called (reply.Raised (raise.Memory class)) stamp v x.3.0 w n made, owners_then v x.3.0 w (tried_owners k class took.AllTaken v x.3.0 x.3.1) (answered_owners called (reply.Raised (raise.Memory class)) stamp.number x.3.0 w x.3.2))
+added_comes k takes over called said v w (added.Over stamp) left x = (answered_adds called (reply.Raised raise.Over) stamp v w x.1 left x.2, answered_owners called (reply.Raised raise.Over) stamp.number v w x.2)
+added_comes k takes over called said v w (added.Moved a b) left x = (tried_nothing k x.1.0 (took.Moved a b) v w x.1.2, tried_owners k x.1.0 (took.Moved a b) v w x.1.2)
 
 -- the same under locks
-locked_comes : (called : Call) (objects : Objects) (u v w z : View) (result : Step) → OnlyLocked u v → Comes called v w result → OnlyLocked w z → Outcome called objects u z result
-locked_comes called objects u v w z (step.Done said stamp) took comes gone = locked_entry called said stamp u v w z took comes gone
-locked_comes called objects u v w z (step.NotYet o owner) took comes gone = absurd comes
-locked_comes called objects u v w z (step.Moved a b) took comes gone = nothing_then u v z (only_nothing u v took) (nothing_then v w z comes (only_nothing w z gone))
-locked_comes called objects u v w z step.NoMemory took comes gone = absurd comes
+locked_comes : (called : Call) (objects : Objects) (u v w z : View) (result : Step) → OnlyLocked u v → LocksWithin objects u v → Comes called v w result → OnlyLocked w z → SameOwners w z → Outcome called objects u z result
+locked_comes called objects u v w z (step.Done said stamp) took within comes gone owners = locked_entry objects called said stamp u v w z took within comes.0 comes.1 gone owners
+locked_comes called objects u v w z (step.NotYet o owner) took within comes gone owners = absurd comes
+locked_comes called objects u v w z (step.Moved a b) took within comes gone owners =
+    (nothing_then u v z (only_nothing u v took) (nothing_then v w z comes.0 (only_nothing w z gone)), within_then objects u v w z took within comes.0.pass.number comes.1 gone owners)
+locked_comes called objects u v w z step.NoMemory took within comes gone owners = absurd comes
 
 -- a call that adds
 pub add_outcome : (objects : Objects) (F : View → View → Added → Type 0) (called : Call) (said : Reply) (v w : View) (result : Step) → ((u z : View) (what : Added) → 0 < u.left → F u z what → Comes called u z (step_after what said)) → 0 < v.left → IsTryOf objects F said v w result → Outcome called objects v w result
@@ -174,10 +185,10 @@ add_outcome objects F called said v w (step.NotYet o owner) each left x = x
 add_outcome objects F called said v w step.NoMemory each left x = absurd x
 add_outcome objects F called said v w (step.Done r s) each left x =
     let l = x.2 in
-    subst (Outcome called objects v w) x.1 (locked_comes called objects v l.before l.after w (step_after x.0 said) l.took (each l.before l.after x.0 (some_left v l.before l.took left) l.did) l.gone)
+    subst (Outcome called objects v w) x.1 (locked_comes called objects v l.before l.after w (step_after x.0 said) l.took l.within (each l.before l.after x.0 (some_left v l.before l.took left) l.did) l.gone l.owners)
 add_outcome objects F called said v w (step.Moved a b) each left x =
     let l = x.2 in
-    subst (Outcome called objects v w) x.1 (locked_comes called objects v l.before l.after w (step_after x.0 said) l.took (each l.before l.after x.0 (some_left v l.before l.took left) l.did) l.gone)
+    subst (Outcome called objects v w) x.1 (locked_comes called objects v l.before l.after w (step_after x.0 said) l.took l.within (each l.before l.after x.0 (some_left v l.before l.took left) l.did) l.gone l.owners)
 
 -- after loads
 pub loaded_comes : (k : Shape) (takes : Option ℕ) (over : Bool) (called : Call) (said : Reply) (v u w : View) (what : Added) → 0 < v.left → OnlyLoaded v u → IsAdded k takes over called said u w what → Comes called v w (step_after what said)
@@ -186,11 +197,15 @@ loaded_comes k takes over called said v u w what left l x =
     after (step_after what said) n (added_comes k takes over called said u w what (subst (λ (z : ℕ). 0 < z) (sym n.left) left) x)
   where
     after : (result : Step) → AddsNothing v u → Comes called u w result → Comes called v w result
-    after (step.Done r s) n comes = before_adds called r s v u w n comes
+    after (step.Done r s) n comes = (before_adds called r s v u w n comes.0, owners_then v u w (loaded_owners v u l) comes.1)
     after (step.NotYet o owner) n comes = comes
-    after (step.Moved a b) n comes = nothing_then v u w n comes
+    after (step.Moved a b) n comes = (nothing_then v u w n comes.0, owners_then v u w (loaded_owners v u l) comes.1)
     after step.NoMemory n comes = comes
 
 -- a clear
 pub gave_up_adds : (called : Call) (said : Reply) (stamp : Stamp) (v u w : View) → stamp.wrote ≡ true → OnlyLoaded v u → GaveUp called said stamp.number u w → AddsEntry called said stamp v w
 gave_up_adds called said stamp v u w is l x = write_adds called said stamp v u x.done w is (loaded_nothing v u l) x.wrote (retired_nothing _ x.done w x.retired)
+
+pub gave_up_owners : (called : Call) (said : Reply) (n : ℕ) (v u w : View) → OnlyLoaded v u → GaveUp called said n u w → SameOwners v w
+gave_up_owners called said n v u w l x =
+    owners_then v u w (loaded_owners v u l) (owners_then u x.done w (wrote_owners called said n u x.done x.wrote) (retired_owners _ x.done w x.retired))

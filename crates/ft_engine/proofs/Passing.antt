@@ -10,9 +10,11 @@ use Rattle.ft_trace.specs.Addresses.{containers_in}
 use Rattle.ft_trace.specs.Floors.{at_floor}
 use Rattle.ft_trace.specs.Hands.{cursor_in}
 use Rattle.ft_trace.specs.Holds.{held, known}
+use Rattle.ft_trace.specs.Owners.{SameOwners}
 use Rattle.ft_trace.specs.Sections.{begun}
 use Rattle.ft_trace.specs.Words.{Picture, Stands}
 use Rattle.ft_trace.specs.Worlds.{Kept}
+use Rattle.ft_trace.proofs.Owning.{owners_then}
 use Rattle.ft_trace.proofs.Seeing.{seen_up}
 use Rattle.ft_bank.specs.declared.bank.Bank.{Bank}
 use Rattle.ft_bank.specs.declared.pass.Pass.{Pass}
@@ -20,7 +22,7 @@ use Rattle.ft_bank.specs.Notes.{knowing}
 use Rattle.ft_bank.specs.Passes.{view, IsPassOf}
 use Rattle.ft_bank.specs.Sections.{Stack, stack_of}
 use Rattle.ft_qsbr.specs.Collecting.{Collected, StaysOrGoes, loads_of}
-use Rattle.ft_qsbr.proofs.Passing.{begun_stays, collection_leaves, cursors_stay, floor_stays, given_or_kept, seen_stays, since_stays}
+use Rattle.ft_qsbr.proofs.Passing.{begun_stays, collection_leaves, cursors_stay, floor_stays, given_or_kept, owners_stay, seen_stays, since_stays}
 use Rattle.ft_section.specs.Ready.{InCall, IsReady, IsStill}
 use Rattle.ft_section.proofs.Making.{in_call_stays}
 
@@ -38,6 +40,7 @@ pub record IsCalm (v w : View) : Type 0 where
   pub cursors : (n : ℕ) → cursor_in n w.log ≡ cursor_in n v.log
   pub floor : w.has_floor ≡ v.has_floor
   pub since : at_floor w.log ≡ at_floor v.log
+  pub owners : SameOwners v w
   pub seen : seen_writes v ≤ seen_writes w
   pub still : IsStill w
 
@@ -66,6 +69,7 @@ calm_then u v w a b = record {
   cursors = λ n. b.cursors n ∙ a.cursors n;
   floor = b.floor ∙ a.floor;
   since = b.since ∙ a.since;
+  owners = owners_then u v w a.owners b.owners;
   seen = le_trans a.seen b.seen;
   still = b.still;
 }
@@ -94,6 +98,7 @@ counted_calm v n s = record {
   cursors = λ k. refl;
   floor = refl;
   since = refl;
+  owners = record { had = refl; found = refl };
   seen = seen_up (ReadCounter n) v;
   still = record { even = s.even; hands = s.hands; used = s.used; owes = s.owes; flight = s.flight; stands = s.stands };
 }
@@ -112,6 +117,7 @@ offline_calm v m s = record {
   cursors = λ k. refl;
   floor = refl;
   since = refl;
+  owners = record { had = refl; found = refl };
   seen = seen_up (Announce m 0) v;
   still = record { even = s.even; hands = s.hands; used = s.used; owes = s.owes; flight = s.flight; stands = s.stands };
 }
@@ -133,6 +139,7 @@ collected_calm v w freed s x =
       cursors = λ k. ap (λ (u : View). cursor_in k u.log) x.did ∙ cursors_stay (x.acts ++ loads_of x.numbers) v k leaves;
       floor = ap (λ (u : View). u.has_floor) x.did ∙ floor_stays (x.acts ++ loads_of x.numbers) v leaves;
       since = ap (λ (u : View). at_floor u.log) x.did ∙ since_stays (x.acts ++ loads_of x.numbers) v leaves;
+      owners = subst (SameOwners v) (sym x.did) (owners_stay (x.acts ++ loads_of x.numbers) v leaves);
       seen = subst (λ (u : View). seen_writes v ≤ seen_writes u) (sym x.did) (seen_stays (x.acts ++ loads_of x.numbers) v);
       still = record {
         even = λ o. keeps.writes o ∙ s.even o;
@@ -162,6 +169,7 @@ same_calm v s = record {
   cursors = λ k. refl;
   floor = refl;
   since = refl;
+  owners = record { had = refl; found = refl };
   seen = le_refl (seen_writes v);
   still = s;
 }
@@ -181,6 +189,7 @@ learnt_calm v m n s = record {
   cursors = λ k. refl;
   floor = refl;
   since = refl;
+  owners = record { had = refl; found = refl };
   seen = le_trans (max-le (le_trans (le-max_left v.learnt m) (le-max_left (max v.learnt m) (shown v.log))) (le-max_right (max v.learnt m) (shown v.log))) (seen_up (ReadCounter n) (knowing m v));
   still = record { even = s.even; hands = s.hands; used = s.used; owes = s.owes; flight = s.flight; stands = s.stands };
 }
@@ -221,6 +230,7 @@ enters_calm v n m s = record {
   cursors = λ k. refl;
   floor = refl;
   since = refl;
+  owners = record { had = refl; found = refl };
   seen = le_trans (seen_up (WriteNumber n) v) (seen_up (Announce m n) (noted (WriteNumber n) v));
   still = record { even = s.even; hands = s.hands; used = s.used; owes = s.owes; flight = s.flight; stands = s.stands };
 }

@@ -1,6 +1,6 @@
 -- What `begin`, `end` and `quiesce` come to, as their pass has it.
 use Rattle.std.proofs.Common.{◌≡◌, ◌≤◌, ◌<◌, ◌-◌, ℕ, zero, suc, Bool, true, false, true≢false, List, [], ◌∷◌, ◌++◌, map, reverse, length, drop, refl, sym, ap, ◌∙◌, subst, arith, inl, inr, le_trans}
-use Rattle.std.specs.Prelude.{Option, Some, None, ◌⊎◌, slice_index_or, if◌then◌else◌}
+use Rattle.std.specs.Prelude.{Option, Some, None, ◌⊎◌, option_map, slice_index_or, if◌then◌else◌}
 use Rattle.std.proofs.lemmas.Bool.{ne_eqb}
 use Rattle.std.proofs.lemmas.List.{map-append, reverse-append, same_from_push}
 use Rattle.ft_model.specs.declared.call.Call.{Call}
@@ -34,11 +34,15 @@ use Rattle.ft_section.specs.Sectioning.{AreNoted, answered_view, begin_of, ended
 use Rattle.ft_section.specs.Takings.{HasBoth, HasLocks}
 use Rattle.ft_section.proofs.Goings.{only_sees}
 use Rattle.ft_section.proofs.Making.{in_call_stays}
+use Rattle.ft_model.specs.Worlds.{container_of}
+use Rattle.ft_trace.specs.Owners.{FindsMore, SameOwners}
+use Rattle.ft_trace.proofs.Owning.{finds_more_then, grown_finds_more, owners_then}
 use Rattle.ft_engine.specs.Answering.{AddsEntry, AddsNothing, HasAnswer, KnewNone, StaysPass}
 use Rattle.ft_engine.specs.Flights.{objects_by, objects_of}
 use Rattle.ft_engine.specs.Keeping.{made_entry, marks_in}
 use Rattle.ft_engine.specs.Stacks.{Opens}
 use Rattle.ft_engine.proofs.Marks.{last_of}
+use Rattle.ft_engine.proofs.Within.{walked_none}
 use Rattle.ft_engine.proofs.Passing.{IsCalm, ready_calm}
 
 -- ---- locks alone
@@ -143,6 +147,11 @@ abbrev pub Enters : Objects → ℕ → View → View → Type 0
 Enters objects n v w =
     (u : View) × OnlyLocked v u × KeepsLocks v u × HasLocks u objects × (w ≡ answered_view (begin_of objects) reply.Entered n u)
 
+-- whom the `begin` found it found for good
+pub enters_found : (objects : Objects) (n : ℕ) (v w : View) → Enters objects n v w → FindsMore v w
+enters_found objects n v w enters =
+    finds_more_then v enters.0 w (grown_finds_more v enters.0 enters.1.newer enters.1.grew) (subst (FindsMore enters.0) (sym enters.4) (λ o q has. has))
+
 pub begin_answer : (b : Bank) (p q : Pass) (first : ℕ) (second : Option ℕ) (stamp : Stamp) → 0 < (view p).left → Enters (objects_by first second) stamp.number (view p) (view q) → seen_writes (view p) ≤ stamp.number → stamp.wrote ≡ false → Opens (objects_by first second) (stack_of p) (stack_of q) → MayResume b q → HasAnswer b (call.Begin first second) reply.Entered stamp p q
 begin_answer b p q first second stamp left enters seen read opens resume =
     let v = view p in
@@ -167,6 +176,7 @@ begin_answer b p q first second stamp left enters seen read opens resume =
           let now : HasBoth (view q) here.locks = (ap (λ (z : View). has_lock here.locks.lower z.log) is ∙ has.0, ap (λ (z : View). has_lock here.locks.upper z.log) is ∙ has.1) in
           subst (λ (x : OpenSection). HasBoth (view q) x.locks) same.1 now;
       stack = opens;
+      walked = λ number. ap (option_map container_of) (ap (λ (z : View). cursor_in number z.log) is ∙ enters.1.cursors number);
       marks = ap (λ (xs : List OpenSection). reverse (map (λ section. section.marks) xs)) sections ∙ push_marks (stack_of p).sections here;
       mark = ap (λ (s : Stack). s.mark) opens.2;
       ends = tt;
@@ -194,8 +204,10 @@ end_answer b p q result left depth only seen read closes resume =
     let r = split (last_of (stack_of p).sections) in
     let x = closes r.0 r.1 r.2 in
     let marks = ap (λ (xs : List OpenSection). reverse (map (λ section. section.marks) xs)) r.2 ∙ push_marks r.0 r.1 in
+    let entry = nothing_entry call.End (reply_of result) (stamp_of result) v v mid (view q) (same_nothing v) seen made (only_nothing mid (view q) only) in
     record {
-      entry = nothing_entry call.End (reply_of result) (stamp_of result) v v mid (view q) (same_nothing v) seen made (only_nothing mid (view q) only);
+      entry = entry;
+      walked = walked_none call.End (reply_of result) (stamp_of result) v (view q) refl entry;
       resume = resume;
       top = λ none. absurd (true≢false (sym none));
       stack = (r.0, r.1, r.2, x.1);
@@ -231,6 +243,9 @@ ready_quiesced b q r n ready pass stack is =
           (locks top.locks.lower ∙ t.0, locks top.locks.upper ∙ t.1);
     }
 
+pub quiesced_owners : (n : ℕ) (v u w : View) → IsCalm v u → w ≡ answered_view call.Quiesce reply.Done n u → SameOwners v w
+quiesced_owners n v u w calm is = owners_then v u w calm.owners (subst (SameOwners u) (sym is) (record { had = refl; found = refl }))
+
 pub quiesce_answer : (b : Bank) (p q r : Pass) (stamp : Stamp) → IsReady b p → 0 < (view p).left → IsPassOf b q → stack_of q ≡ stack_of p → IsCalm (view p) (view q) → 0 < announces (view q).log → IsPassOf b r → stack_of r ≡ stack_of q → view r ≡ answered_view call.Quiesce reply.Done stamp.number (view q) → stamp.wrote ≡ false → seen_writes (view q) ≤ stamp.number → HasAnswer b call.Quiesce reply.Done stamp p r
 quiesce_answer b p q r stamp ready left pass_q stack_q calm on pass_r stack_r is read seen =
     let v = view p in
@@ -259,6 +274,7 @@ quiesce_answer b p q r stamp ready left pass_q stack_q calm on pass_r stack_r is
       resume = ready_resumes b r now;
       top = λ none. absurd (true≢false (sym none));
       stack = stack ∙ ap (λ (t : Taking). with_own (stack_of p) t) ready.own;
+      walked = λ number. ap (option_map container_of) (ap (λ (z : View). cursor_in number z.log) is ∙ calm.cursors number);
       marks = ap marks_in stack;
       mark = ap (λ (s : Stack). s.mark) stack;
       ends = tt;

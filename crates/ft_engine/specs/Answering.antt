@@ -1,17 +1,18 @@
 -- What a call comes to once it is tried, as the pass has it then.
-use Rattle.std.specs.Prelude.{◌≡◌, ◌≢◌, ℕ, suc, ◌<◌, ◌≤◌, true, false, List, ◌∷◌, ◌++◌, length, Option, Some, None, slice_index_or}
+use Rattle.std.specs.Prelude.{◌≡◌, ◌≢◌, ℕ, suc, ◌<◌, ◌≤◌, true, false, List, ◌∷◌, ◌++◌, length, Option, Some, None, option_map, slice_index_or}
 use Rattle.ft_model.specs.declared.call.Call.{Call}
 use Rattle.ft_model.specs.declared.call.Call.TheVariants as call
 use Rattle.ft_model.specs.declared.cursor.Cursor.{Cursor}
 use Rattle.ft_model.specs.declared.reply.Reply.{Reply}
 use Rattle.ft_model.specs.Calls.{moved_cursor}
 use Rattle.ft_model.specs.Histories.{IsCountedAs}
-use Rattle.ft_model.specs.Worlds.{cursor_at}
+use Rattle.ft_model.specs.Worlds.{container_of, cursor_at}
 use Rattle.ft_trace.specs.declared.Shape.{Shape}
 use Rattle.ft_trace.specs.declared.Act.{Act}
 use Rattle.ft_trace.specs.declared.View.{View}
 use Rattle.ft_trace.specs.Acts.{announces, seen_writes}
 use Rattle.ft_trace.specs.Floors.{at_floor}
+use Rattle.ft_trace.specs.Owners.{FindsMore, LocksOnly}
 use Rattle.ft_trace.specs.Hands.{cursor_in}
 use Rattle.ft_bank.specs.declared.bank.Bank.{Bank}
 use Rattle.ft_bank.specs.declared.pass.Pass.{Pass}
@@ -32,6 +33,7 @@ use Rattle.ft_section.specs.Locking.{FoundOwner, KeepsLower, with_own, waiting}
 use Rattle.ft_section.specs.Ready.{HasTop, IsReady, IsWaiting, MayTry, MayResume}
 use Rattle.ft_section.specs.Takings.{IsOf, lower_of}
 use Rattle.ft_section.specs.Trying.{HasLetGo}
+use Rattle.ft_closing.specs.Marks.{walked_after}
 use Rattle.ft_engine.specs.Callers.{AreOver}
 use Rattle.ft_engine.specs.Contentions.{StopsCall, WasContended, may_look}
 use Rattle.ft_engine.specs.Flights.{is_begin, objects_of}
@@ -79,6 +81,13 @@ IsEndOf (call.Set o sc) marks said = Unit {0}
 IsEndOf (call.Next number) marks said = Unit {0}
 IsEndOf call.Quiesce marks said = Unit {0}
 
+-- the cursors go over the containers that they went over, but for the one that an `iter` has made (Python manual,
+-- Iterator Types)
+abbrev pub HasWalked : Call → View → View → Type 0
+HasWalked called v w =
+    (number : ℕ) → option_map container_of (cursor_in number w.log)
+    ≡ walked_after number called (option_map container_of (cursor_in number v.log))
+
 -- The call has its answer: the pass has one entry more, and the innermost section to take up again, of which a `begin`
 -- still has the locks. The sections are those that the call leaves open, with their counts. (C API, critical sections)
 pub record HasAnswer (b : Bank) (called : Call) (said : Reply) (stamp : Stamp) (p q : Pass) : Type 0 where
@@ -89,6 +98,7 @@ pub record HasAnswer (b : Bank) (called : Call) (said : Reply) (stamp : Stamp) (
   pub marks : marks_in (stack_of q) ≡ marks_after called (marks_in (stack_of p))
   pub mark : (stack_of q).mark ≡ (stack_of p).mark
   pub ends : IsEndOf called (marks_in (stack_of p)) said
+  pub walked : HasWalked called (view p) (view q)
 
 -- The call waits: a step of it found another pass with the lock of one of its containers, and all open sections have
 -- let their locks go. (C API, critical sections)
@@ -135,17 +145,27 @@ abbrev pub KnewNone : List (Option Cursor) → Call → Pass → Type 0
 KnewNone hands called p =
     (objects : Objects) → objects_of hands called ≡ Some objects → KnewLocks called objects p got.Have
 
+-- a container whose lock the call takes
+abbrev pub IsLockedFor : List (Option Cursor) → Call → ℕ → Type 0
+IsLockedFor hands called o = (objects : Objects) × (objects_of hands called ≡ Some objects) × IsOf o objects
+
+-- Of locks the pass has taken only such as the call needs, and whom it has found with locks stands for good. (C API,
+-- critical sections)
+pub record HasLockedFor (hands : List (Option Cursor)) (called : Call) (v w : View) : Type 0 where
+  pub only : LocksOnly (IsLockedFor hands called) v w
+  pub found : FindsMore v w
+
 -- what one try of a call of a thread with these cursors comes to
 abbrev pub IsTryOf : Bank → List (Option Cursor) → Call → Pass → Pass → Step → Type 0
 IsTryOf b hands called p q (step.Done said stamp) =
-    HasAnswer b called said stamp p q × KnewNone hands called p
+    HasAnswer b called said stamp p q × KnewNone hands called p × HasLockedFor hands called (view p) (view q)
 IsTryOf b hands called p q (step.NotYet o owner) =
     (objects : Objects) × (objects_of hands called ≡ Some objects) × HasToWait b objects o owner p q
-    × KnewLocks called objects p (got.NotYet o owner)
+    × KnewLocks called objects p (got.NotYet o owner) × HasLockedFor hands called (view p) (view q)
 IsTryOf b hands called p q (step.Moved first second) =
     (objects : Objects) × (objects_of hands called ≡ Some objects) × HasNone b p q
-    × KnewLocks called objects p got.Have
-IsTryOf b hands called p q step.NoMemory = HasNone b p q
+    × KnewLocks called objects p got.Have × HasLockedFor hands called (view p) (view q)
+IsTryOf b hands called p q step.NoMemory = HasNone b p q × HasLockedFor hands called (view p) (view q)
 
 -- ---- looks
 

@@ -82,6 +82,7 @@ pub record IsFresh (e : Engine) (room i : ℕ) (c : Caller) : Type 0 where
   pub hands : c.cursors.items ≡ replicate room None
   pub left : left_of c ≡ (shape_of e.bank).calls
   pub entries : (view c.pass).entries ≡ []
+  pub log : (view c.pass).log ≡ []
   pub taken : taken_of c ≡ []
   pub sections : (stack_of c.pass).sections ≡ []
   pub next : (view c.pass).next ≡ next_of (shape_of e.bank) i

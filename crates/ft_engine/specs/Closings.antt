@@ -1,15 +1,16 @@
 -- Callers that are done, and the entries of all of them.
-use Rattle.std.specs.Prelude.{◌≡◌, ℕ, suc, List, [], ◌∷◌, length, map, Some, slice_get}
+use Rattle.std.specs.Prelude.{◌≡◌, suc, List, [], ◌∷◌, length}
 use Rattle.ft_model.specs.declared.call.Call.{Call}
 use Rattle.ft_model.specs.declared.entry.Entry.{Entry as NamedEntry}
 use Rattle.ft_model.specs.declared.entry.Storage.TheVariants as storage
 use Rattle.ft_model.specs.declared.script.ScriptParts.{ScriptParts}
-use Rattle.ft_model.specs.Histories.{calls_of}
 use Rattle.ft_model.specs.Numbers.{IsHistoryOf}
 use Rattle.ft_trace.specs.declared.Shape.{Shape}
 use Rattle.ft_trace.specs.Acts.{announces}
+use Rattle.ft_trace.specs.Owners.{found_owners, had_locks}
 use Rattle.ft_bank.specs.Passes.{view}
 use Rattle.ft_bank.specs.Sections.{stack_of}
+use Rattle.ft_closing.specs.Marks.{AreMade}
 use Rattle.ft_closing.specs.Numbering.{AreKeptFrom, AskOwnCursors, IsFor}
 use Rattle.ft_engine.specs.declared.caller.Caller.{Caller}
 use Rattle.ft_engine.specs.Callers.{IsIdle, taken_of, thread_of}
@@ -25,7 +26,10 @@ pub record IsDone (c : Caller) : Type 0 where
 -- took in, in the order of the threads.
 abbrev pub AreKept : Caller → List (List NamedEntry) → Type 0
 AreKept c [] = ⊥
-AreKept c (mine ∷ others) = IsKept c mine × AreKeptFrom (suc (thread_of c)) others (taken_of c)
+AreKept c (mine ∷ others) =
+    IsKept c mine
+    × AreKeptFrom (suc (thread_of c)) others (taken_of c) (had_locks (view c.pass).number (view c.pass).log)
+    (found_owners (view c.pass).log)
 
 -- The lists are those of the script's threads: the bank was made for it, and no thread asks a cursor that it doesn't
 -- have. (profile)
@@ -34,11 +38,9 @@ pub record AreOfScript (script : ScriptParts) (k : Shape) (lists : List (List Na
   pub cursors : AskOwnCursors script lists
   pub count : length lists ≡ length script.threads
 
--- each call of the script was made
+-- each call of the script was made, each thread's in its order
 abbrev pub AreAllMade : ScriptParts → List (List NamedEntry) → Type 0
-AreAllMade script lists =
-    (thread : ℕ) (mine : List NamedEntry) → slice_get lists thread ≡ Some mine
-    → map (λ entry. entry.call) mine ≡ calls_of script thread
+AreAllMade script lists = AreMade script lists
 
 -- a legal history of the script, with containers on tables, in which MemoryErrors fit
 abbrev pub IsLegalFor : ScriptParts → List NamedEntry → Type 0

@@ -16,6 +16,7 @@ use Rattle.ft_engine.specs.declared.caller.Caller.{Caller}
 use Rattle.ft_engine.specs.declared.caller.Flight.{Flight}
 use Rattle.ft_engine.specs.declared.caller.Flight.TheVariants as flight
 use Rattle.ft_engine.specs.Callers.{thread_of}
+use Rattle.ft_engine.specs.Owning.{AreOwnedBy}
 
 -- ---- marks
 
@@ -104,4 +105,6 @@ pub record AreKeptBy (thread : ℕ) (entries : List Entry) (s : Stack) (f : Flig
 
 -- these are the entries that the caller was answered
 abbrev pub IsKept : Caller → List NamedEntry → Type 0
-IsKept c mine = AreKeptBy (thread_of c) (view c.pass).entries (stack_of c.pass) c.flight mine
+IsKept c mine =
+    AreKeptBy (thread_of c) (view c.pass).entries (stack_of c.pass) c.flight mine
+    × AreOwnedBy (view c.pass) (stack_of c.pass) c.flight mine

@@ -2,6 +2,7 @@ pub mod Flights
 pub mod Callers
 pub mod Names
 pub mod Contentions
+pub mod Owning
 pub mod Keeping
 pub mod Stacks
 pub mod Answering

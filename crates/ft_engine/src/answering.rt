@@ -134,7 +134,7 @@ impl Engine {
         ensures kept { IfNone result ((mine : List NamedEntry) → IsKept caller.old mine → IsKept caller.new mine) }
         ensures marked { IfNone result ((stack_of caller.new.pass).mark ≡ (stack_of caller.old.pass).mark) }
         ensures flight { IfSome result (λ tried. flight_after call.now tried caller.new.flight) }
-        ensures told { IfSome result (λ tried. (mine : List NamedEntry) → IsKept caller.old mine →
+        ensures ended { IfSome result (λ tried. (mine : List NamedEntry) → IsKept caller.old mine →
             IsKept caller.new (kept_after (thread_of caller.old) call.now tried mine)) }
         ensures again { IfSome result (λ tried. ComesAgain tried → MayAttempt self.now caller.new call.now) }
         ensures mark { IfSome result (λ tried. IsMarkOf tried (stack_of caller.old.pass).mark (stack_of caller.new.pass).mark) }

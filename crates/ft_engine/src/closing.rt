@@ -7,7 +7,7 @@ ghost use Rattle.ft_model.specs.declared.entry.Storage.TheVariants as storage;
 ghost use Rattle.ft_model.specs.declared.script.ScriptParts.{ScriptParts};
 ghost use Rattle.ft_model.specs.Histories.{history_cmp};
 ghost use Rattle.ft_model.specs.Numbers.{AreNumberedLists};
-ghost use Rattle.ft_bank.specs.Closings.{shape_in, lists_in};
+ghost use Rattle.ft_bank.specs.Closings.{shape_in, lists_in, had_in, found_in};
 ghost use Rattle.ft_bank.specs.Passes.{shape_of, view};
 ghost use Rattle.ft_closing.specs.Numbering.{AreKeptFrom};
 ghost use Rattle.ft_engine.specs.Callers.{IsCallerOf, bank_of, pass_of, thread_of};
@@ -23,8 +23,8 @@ use std::alloc::{AllocError, Global};
 impl Engine {
     /// Closes the engine, by caller 0, which has taken in all others and is done. The lists are those of the entries
     /// that the callers were answered, in the order of the threads. It gives one history of all these entries, which
-    /// is legal for each script whose threads make just these calls, where each mark is right; and the closed bank,
-    /// which has just these entries, marks aside. It takes n log n comparisons for n entries.
+    /// is legal for each script whose threads make just these calls; and the closed bank, which has just these entries,
+    /// marks aside. It takes n log n comparisons for n entries.
     pub fn close(
         self,
         alloc: Global,
@@ -39,7 +39,7 @@ impl Engine {
         ensures entries { IfOk result (λ made. IsPermutation (flat_map (λ list. list.items) lists.items) made.0.items) }
         ensures order { IfOk result (λ made. IsSorted history_cmp made.0.items) }
         ensures shape { IfOk result (λ made. shape_in made.1 ≡ shape_of (bank_of self)) }
-        ensures closed { IfOk result (λ made. AreKeptFrom 0 (map (λ list. list.items) lists.items) (lists_in made.1)) }
+        ensures closed { IfOk result (λ made. AreKeptFrom 0 (map (λ list. list.items) lists.items) (lists_in made.1) (had_in made.1) (found_in made.1)) }
         ensures numbered { IfOk result (λ made. (script : ScriptParts) →
             AreOfScript script (shape_of (bank_of self)) (map (λ list. list.items) lists.items) →
             ∥ ((calls : List Call) × AreNumberedLists storage.Tables script calls (map (λ list. list.items) lists.items)) ∥₁) }
@@ -57,6 +57,8 @@ impl Engine {
         } = caller;
         let closed = bank.close(pass);
         ft_closing::closed_entries_are_numbered(&closed);
+        ft_closing::marks_are_right();
+        closed.owners_are_known();
         let history = merge(alloc, lists)?;
         Ok((history, closed))
     }

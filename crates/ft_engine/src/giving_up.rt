@@ -7,7 +7,9 @@ ghost use Rattle.ft_bank.specs.Sections.{stack_of};
 ghost use Rattle.ft_engine.specs.Answering.{AddsNothing};
 ghost use Rattle.ft_engine.specs.Callers.{IsCallerOf, IsIdle, flight_of, hands_of, pass_of};
 ghost use Rattle.ft_engine.specs.Flights.{IsAnswered};
+ghost use Rattle.ft_closing.specs.Marks.{IsNamedIn};
 ghost use Rattle.ft_engine.specs.Keeping.{IsKept};
+ghost use Rattle.ft_engine.specs.Owning.{FlightNames};
 
 use crate::caller::{Caller, Flight};
 use crate::engine::Engine;
@@ -17,7 +19,8 @@ impl Engine {
     /// Ends every open section of a caller without an entry, lets go of every lock, and forgets the call that is in
     /// flight: after `NoMemory`, or wherever a caller is to make no more of its calls. It may make other calls then, go
     /// offline and be taken in. What it was answered stays as it is. The entries of a caller that gave up are those of
-    /// a history only if it had no section open, and no answer that it wasn't given.
+    /// a history only if it had no section open, no answer that it wasn't given, and no other containers in the call in
+    /// flight than those that entries of it name: other callers may have found it with their locks.
     pub fn abandon(&self, caller: &mut Caller)
         requires { IsCallerOf self.now caller.old }
         ensures caller { IsCallerOf self.now caller.new }
@@ -27,7 +30,8 @@ impl Engine {
         ensures same { AddsNothing (view (pass_of caller.old)) (view (pass_of caller.new)) }
         ensures cursors { hands_of caller.new ≡ hands_of caller.old }
         ensures kept { (mine : List NamedEntry) → (IsAnswered (flight_of caller.old) → ⊥) →
-            (stack_of (pass_of caller.old)).sections ≡ [] → IsKept caller.old mine → IsKept caller.new mine }
+            (stack_of (pass_of caller.old)).sections ≡ [] → ((o : ℕ) → FlightNames o (flight_of caller.old) → IsNamedIn o mine) →
+            IsKept caller.old mine → IsKept caller.new mine }
     {
         drop_all(&self.bank, &mut caller.pass);
         caller.flight = Flight::Idle;

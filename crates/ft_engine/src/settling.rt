@@ -1,5 +1,6 @@
 //! What a look comes to, for the try of its call.
 ghost use Rattle.std.specs.Prelude.{◌≡◌, IfSome, IfNone};
+ghost use Rattle.ft_trace.specs.Owners.{SameOwners};
 ghost use Rattle.ft_bank.specs.Passes.{view, DidNothing};
 ghost use Rattle.ft_section.specs.Locking.{OnlyLocked};
 ghost use Rattle.ft_section.specs.Ready.{IsMaking};
@@ -15,6 +16,7 @@ pub(crate) fn settle(bank: &Bank, pass: &mut Pass, look: Option<Look>) -> Option
     requires { IsMaking bank.now pass.old }
     ensures answer { result ≡ settled look }
     ensures locked { IfSome result (λ step. OnlyLocked (view pass.old) (view pass.new)) }
+    ensures owners { IfSome result (λ step. SameOwners (view pass.old) (view pass.new)) }
     ensures gone { IfSome result (λ step. HasLetGo bank.now pass.old pass.new) }
     ensures none { IfNone result (DidNothing pass.old pass.new) }
 {

@@ -11,7 +11,7 @@ use Rattle.ft_engine.proofs.cursor_call.next.Goals as goal
 pub returns-clause-tried : goal.returns-clause-tried
 returns-clause-tried c =
     let at : cursor_at c.args.cursors.now.items c.args.number ≡ Some c.in-Some.cursor = sym (at_read c.args.cursors.now.items c.args.number c.index.result.now c.requires.room c.index.ensures) ∙ c.in-Some.is in
-    next_tried c.args.bank.now c.args.pass.now c.try_next-step.new.pass c.args.cursors.now.items (cursor_kind c.in-Some.cursor) c.args.number c.in-Some.cursor (Some c.in-Some.cursor) (Some c.try_next-step.new.cursor) c.try_next-step.result c.requires.left at c.try_next-step.ensures.sections c.try_next-step.ensures.others c.try_next-step.ensures.moved
+    next_tried c.args.bank.now c.args.pass.now c.try_next-step.new.pass c.args.cursors.now.items (cursor_kind c.in-Some.cursor) c.args.number c.in-Some.cursor (Some c.in-Some.cursor) (Some c.try_next-step.new.cursor) c.try_next-step.result c.requires.left at (sym (c.requires.hands.cursors c.args.number c.requires.room) ∙ at) c.try_next-step.ensures.sections c.try_next-step.ensures.others c.try_next-step.ensures.moved
 
 pub returns-clause-hands : goal.returns-clause-hands
 returns-clause-hands c =

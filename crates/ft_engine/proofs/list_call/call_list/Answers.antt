@@ -29,7 +29,7 @@ pub returns-in-Some-clause-tried : goal.returns-in-Some-clause-tried
 returns-in-Some-clause-tried c hands =
     let e = c.look_list-look.ensures in
     let lc = c.args.call.now in
-    looked_tried c.args.bank.now c.args.pass.now c.look_list-look.new.pass c.settle.new.pass hands (call.List c.args.l lc) c.look_list-look.result c.in-Some.step (plain_list c.args.l lc) c.requires.left e.made (sym c.in-Some.ensures.answer) e.looked e.sections c.in-Some.ensures.locked c.in-Some.ensures.gone
+    looked_tried c.args.bank.now c.args.pass.now c.look_list-look.new.pass c.settle.new.pass hands (call.List c.args.l lc) c.look_list-look.result c.in-Some.step (plain_list c.args.l lc) c.requires.left e.made (sym c.in-Some.ensures.answer) e.looked e.sections c.in-Some.ensures.locked c.in-Some.ensures.owners c.in-Some.ensures.gone
 
 pub returns-in-None-clause-tried : goal.returns-in-None-clause-tried
 returns-in-None-clause-tried c hands =

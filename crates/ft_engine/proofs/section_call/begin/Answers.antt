@@ -1,16 +1,20 @@
 use Rattle.std.proofs.Common.{◌∙◌, refl, subst}
+use Rattle.ft_model.specs.declared.call.Call.TheVariants as call
+use Rattle.ft_trace.proofs.Owning.{grown_finds_more}
 use Rattle.ft_bank.specs.Passes.{view}
 use Rattle.ft_bank.specs.Sections.{stack_of}
 use Rattle.ft_section.specs.declared.answers.Objects.{Objects}
 use Rattle.ft_section.specs.declared.answers.Got.TheVariants as got
 use Rattle.ft_section.specs.Floors.{KnewOwners, first_owned}
+use Rattle.ft_section.specs.Locking.{LocksWithin}
 use Rattle.ft_section.specs.Takings.{IsOf, lower_of, upper_of}
 use Rattle.ft_section.specs.Trying.{WaitsFor}
 use Rattle.ft_section.proofs.Floors.{entered_had}
 use Rattle.ft_engine.specs.Flights.{objects_by}
 use Rattle.ft_engine.specs.Stacks.{Opens}
 use Rattle.ft_engine.proofs.Looking.{one_objects}
-use Rattle.ft_engine.proofs.SectionCalls.{Enters, begin_answer, only_nothing}
+use Rattle.ft_engine.proofs.SectionCalls.{Enters, begin_answer, enters_found, only_nothing}
+use Rattle.ft_engine.proofs.Within.{within_for}
 use Rattle.ft_engine.proofs.section_call.begin.Goals as goal
 
 pub returns-in-Entered : goal.returns-in-Entered
@@ -23,6 +27,7 @@ returns-in-Entered c hands =
           (subst (λ (x : Objects). Opens x (stack_of p) (stack_of q)) c.objects.ensures e.section) e.resume,
       λ named names locked. subst (λ (x : Objects). KnewOwners x (view p) got.Have) (c.objects.ensures ∙ one_objects (objects_by c.args.first c.args.second) named names)
           (λ has. entered_had _ c.in-Entered.stamp (first_owned (lower_of c.objects.result) (upper_of c.objects.result) (view p)) (e.known has)),
+      within_for hands (call.Begin c.args.first c.args.second) (objects_by c.args.first c.args.second) (view p) (view q) refl (subst (λ (x : Objects). LocksWithin x (view p) (view q)) c.objects.ensures e.within) (enters_found c.objects.result c.in-Entered.stamp.number (view p) (view q) e.entry),
     )
 
 pub returns-in-NotYet : goal.returns-in-NotYet
@@ -39,4 +44,5 @@ returns-in-NotYet c hands =
         found = (subst (IsOf c.in-NotYet.object) c.objects.ensures e.found.0, e.found.1);
       },
       λ locked. w.known,
+      within_for hands (call.Begin c.args.first c.args.second) (objects_by c.args.first c.args.second) (view c.args.pass.now) (view c.try_begin.new.pass) refl w.within (grown_finds_more (view c.args.pass.now) (view c.try_begin.new.pass) e.locked.newer e.locked.grew),
     )

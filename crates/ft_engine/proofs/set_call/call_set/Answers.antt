@@ -29,7 +29,7 @@ pub returns-in-Some-clause-tried : goal.returns-in-Some-clause-tried
 returns-in-Some-clause-tried c hands =
     let e = c.look_set-look.ensures in
     let lc = c.args.call.now in
-    looked_tried c.args.bank.now c.args.pass.now c.look_set-look.new.pass c.settle.new.pass hands (call.Set c.args.s lc) c.look_set-look.result c.in-Some.step (plain_set c.args.s lc) c.requires.left e.made (sym c.in-Some.ensures.answer) e.looked e.sections c.in-Some.ensures.locked c.in-Some.ensures.gone
+    looked_tried c.args.bank.now c.args.pass.now c.look_set-look.new.pass c.settle.new.pass hands (call.Set c.args.s lc) c.look_set-look.result c.in-Some.step (plain_set c.args.s lc) c.requires.left e.made (sym c.in-Some.ensures.answer) e.looked e.sections c.in-Some.ensures.locked c.in-Some.ensures.owners c.in-Some.ensures.gone
 
 pub returns-in-None-clause-tried : goal.returns-in-None-clause-tried
 returns-in-None-clause-tried c hands =

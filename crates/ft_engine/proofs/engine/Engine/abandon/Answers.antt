@@ -13,4 +13,4 @@ pub returns-clause-same : goal.returns-clause-same
 returns-clause-same c = only_nothing (view c.args.caller.now.pass) (view c.drop_all.new.pass) c.drop_all.ensures.locked
 
 pub returns-clause-kept : goal.returns-clause-kept
-returns-clause-kept c mine unanswered none kept = abandoned_kept c.args.caller.now c.drop_all.new.pass mine c.drop_all.ensures.locked c.drop_all.ensures.stack unanswered none kept
+returns-clause-kept c mine unanswered none names kept = abandoned_kept c.args.caller.now c.drop_all.new.pass mine c.drop_all.ensures.locked c.drop_all.ensures.owners c.drop_all.ensures.stack unanswered none names kept

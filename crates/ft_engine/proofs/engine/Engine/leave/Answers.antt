@@ -1,7 +1,8 @@
+use Rattle.std.proofs.Common.{refl}
 use Rattle.ft_trace.specs.declared.Act.TheVariants.{Announce}
 use Rattle.ft_trace.specs.Acts.{noted}
 use Rattle.ft_bank.specs.Passes.{view}
-use Rattle.ft_engine.proofs.Callers.{calm_caller, calm_work, ready_of}
+use Rattle.ft_engine.proofs.Callers.{calm_caller, calm_kept, calm_work, ready_of}
 use Rattle.ft_engine.proofs.Passing.{IsCalm, calm_then, collected_calm, offline_calm}
 use Rattle.ft_engine.proofs.engine.Engine.leave.Goals as goal
 
@@ -16,3 +17,6 @@ returns-clause-caller c = calm_caller c.args.self.now c.args.caller.now c.leave.
 
 pub returns-clause-same : goal.returns-clause-same
 returns-clause-same c = calm_work c.args.caller.now c.leave.new.pass c.leave.ensures.sections (calm c)
+
+pub returns-clause-kept : goal.returns-clause-kept
+returns-clause-kept c mine kept = calm_kept c.args.caller.now (record c.args.caller.now { pass = c.leave.new.pass }) mine (calm c) c.leave.ensures.sections refl kept

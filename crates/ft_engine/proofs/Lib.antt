@@ -19,4 +19,3 @@ pub mod IterCalls
 pub mod KeyedCalls
 pub mod GivingUp
 pub mod LookCalls
-pub mod NewCallers

@@ -106,7 +106,7 @@ module _ (e : Engine) (i : ℕ) (calls : List Call) (place : ℕ) (w : Worker) (
             let moved : moved_cursor m.call ≡ Some number = made_moves m.call number (ap cursor_of is ∙ any.4) in
             let v = view (pass_of w.caller) in
             ap (λ (o : Option Cursor). is_some o) (between.member.caller.cursors number room)
-            ∙ cursor_there v (pass_of w.caller).possible number (length mine - 1 - j) (entry_of m) (in_pass mine v.entries j m (kept_idle between.kept) found.2) moved
+            ∙ cursor_there v (pass_of w.caller).possible number (length mine - 1 - j) (entry_of m) (in_pass mine v.entries j m (kept_idle between.kept.0) found.2) moved
         | inr past ↦ absurd (let low = any.2 in let far = past.0 in omega (arith, low, far, long))
       ]
 
@@ -137,7 +137,7 @@ module _ (e : Engine) (i : ℕ) (calls : List Call) (place : ℕ) (w : Worker) (
         let calls_are = c.calls in
         let most = are.bank.calls in
         let few = are.few in
-        let own = kept_idle between.kept in
+        let own = kept_idle between.kept.0 in
         let long : length (view (pass_of w.caller)).entries ≡ length mine = ap length own ∙ (length-reverse (map entry_of mine) ∙ length-map mine entry_of) in
         let here : length mine ≡ place = count (let l = low in omega (arith, l)) in
         let l = low in

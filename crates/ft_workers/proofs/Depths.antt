@@ -86,7 +86,7 @@ depth_by (e ∷ mine) begins = depth_by mine (after_begins e e.call begins) ∙ 
 pub depth_kept : (c : Caller) (mine : List NamedEntry) → IsIdle c → IsKept c mine → length (stack_of (pass_of c)).sections ≡ fold step_depth 0 (map (λ entry. entry.call) mine)
 depth_kept c mine idle kept =
     let s : Stack = stack_of (pass_of c) in
-    let k = subst (λ (f : Flight). AreKeptBy (thread_of c) (view (pass_of c)).entries s f mine) idle kept in
+    let k = subst (λ (f : Flight). AreKeptBy (thread_of c) (view (pass_of c)).entries s f mine) idle kept.0 in
     let counts = map (λ section. section.marks) s.sections in
     let begun = map (λ begun. marks_since (thread_of c) mine begun) (begins_of mine) in
     sym (length-map s.sections (λ section. section.marks))

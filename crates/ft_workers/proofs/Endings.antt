@@ -2,8 +2,9 @@
 use Rattle.std.proofs.Common.{◌≡◌, ◌≢◌, ℕ, zero, suc, ◌+◌, ◌<◌, ◌≤◌, List, [], ◌∷◌, ◌++◌, length, map, get_or, refl, sym, ap, ◌∙◌, subst, arith, None, Some, inl, inr, ◌⊎◌}
 use Rattle.std.specs.List.{flat_map}
 use Rattle.std.specs.List.Sorted.{IsPermutation}
-use Rattle.std.specs.Prelude.{max, slice_get}
+use Rattle.std.specs.Prelude.{IsTrue, max, slice_get}
 use Rattle.std.proofs.Math.Nat.{max-zero}
+use Rattle.std.proofs.lemmas.List.{length_push}
 use Rattle.std.proofs.lemmas.List.Sorted.{length_permutation}
 use mathlib.Core.Logic.{dite}
 use native.Mathlib.Decide.{ℕ_discrete}
@@ -14,9 +15,20 @@ use Rattle.ft_model.specs.declared.script.ScriptParts.{ScriptParts}
 use Rattle.ft_model.specs.Histories.{calls_of}
 use Rattle.ft_model.specs.Numbers.{IsHistoryOf}
 use Rattle.ft_model.specs.Scripts.{IsScript}
+use Rattle.ft_trace.specs.declared.Entry.{Entry as PassEntry}
 use Rattle.ft_trace.specs.declared.Shape.{Shape}
-use Rattle.ft_engine.specs.Closings.{AreAllMade, AreOfScript, IsLegalFor}
-use Rattle.ft_workers.specs.Workers.{IsBankFor}
+use Rattle.ft_trace.specs.Acts.{announces}
+use Rattle.ft_trace.specs.Owners.{found_owners, had_locks}
+use Rattle.ft_bank.specs.Passes.{view}
+use Rattle.ft_bank.specs.Sections.{Stack, stack_of}
+use Rattle.ft_closing.specs.Numbering.{AreKeptFrom}
+use Rattle.ft_engine.specs.declared.caller.Caller.{Caller}
+use Rattle.ft_engine.specs.declared.engine.Engine.{Engine}
+use Rattle.ft_engine.specs.Callers.{IsCallerOf, IsIdle, pass_of, taken_of, thread_of}
+use Rattle.ft_engine.specs.Closings.{AreAllMade, AreKept, AreOfScript, IsLegalFor}
+use Rattle.ft_engine.specs.Keeping.{IsKept}
+use Rattle.ft_workers.specs.declared.workers.Worker.{Worker}
+use Rattle.ft_workers.specs.Workers.{HasTaken, HasWorked, IsBankFor}
 use Rattle.ft_workers.proofs.Asked.{calls_past, own_asked}
 
 -- ---- one list more
@@ -40,6 +52,47 @@ made_push script lists mine made is thread other at =
       | inl found ↦ made thread other found
       | inr last ↦ subst (λ (l : List Entry). map (λ (e : Entry). e.call) l ≡ calls_of script thread) last.1 (is ∙ ap (calls_of script) (sym last.0))
     ]
+
+-- ---- workers that are taken in
+
+-- a worker that is done has kept its own list, and no other
+own_kept : (w : Worker) → IsKept w.caller w.entries.items → taken_of w.caller ≡ [] → AreKept w.caller (w.entries.items ∷ [])
+own_kept w kept none =
+    let v = view (pass_of w.caller) in
+    (kept, subst (λ (taken : List (List PassEntry)). AreKeptFrom (suc (thread_of w.caller)) [] taken (had_locks v.number v.log) (found_owners v.log)) (sym none) tt)
+
+no_lists : (script : ScriptParts) → AreAllMade script []
+no_lists script thread mine at = absurd (let none : None ≡ Some mine = at in cc)
+
+-- the first worker
+pub first_taken : (e : Engine) (script : ScriptParts) (w : Worker) → HasWorked e script 0 w → IsTrue w.done → HasTaken e script w.caller (w.entries.items ∷ [])
+first_taken e script w is done =
+    record {
+      caller = is.member.caller;
+      done = is.done done;
+      thread = is.member.thread;
+      parts = is.member.parts;
+      kept = own_kept w (is.kept done) is.member.taken;
+      made = made_push script [] w.entries.items (no_lists script) (is.made done);
+    }
+
+-- the next one, after the first caller has joined it
+pub next_taken : (e : Engine) (script : ScriptParts) (c d : Caller) (w : Worker) (lists : List (List Entry)) → HasTaken e script c lists → HasWorked e script (length lists) w → IsTrue w.done
+    → IsCallerOf e d → thread_of d ≡ thread_of c → IsIdle d → announces (view (pass_of d)).log ≡ announces (view (pass_of c)).log → stack_of (pass_of d) ≡ stack_of (pass_of c)
+    → (view (pass_of d)).parts ≡ (view (pass_of c)).parts + (view (pass_of w.caller)).parts
+    → ((mine theirs : List (List Entry)) → AreKept c mine → AreKept w.caller theirs → thread_of w.caller ≡ thread_of c + length mine → AreKept d (mine ++ theirs)) → HasTaken e script d (lists ++ w.entries.items ∷ [])
+next_taken e script c d w lists old is done caller thread idle announced sections parts kept =
+    let both = old.parts in
+    let one = is.member.parts in
+    let number : thread_of w.caller ≡ thread_of c + length lists = let t = is.member.thread in let first = old.thread in omega (arith, t, first) in
+    record {
+      caller = caller;
+      done = record { idle = idle; sections = ap (λ (s : Stack). s.sections) sections ∙ old.done.sections; offline = announced ∙ old.done.offline };
+      thread = thread ∙ old.thread;
+      parts = let more : length (lists ++ w.entries.items ∷ []) ≡ length lists + 1 = length_push lists w.entries.items in omega (arith, parts, both, one, more);
+      kept = kept lists (w.entries.items ∷ []) old.kept (own_kept w (is.kept done) is.member.taken) number;
+      made = made_push script lists w.entries.items old.made (is.made done);
+    }
 
 -- ---- no thread
 

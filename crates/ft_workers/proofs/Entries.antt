@@ -1,11 +1,12 @@
 -- Each thread's entries of the history are those of its pass in the closed bank.
-use Rattle.std.proofs.Common.{◌≡◌, ℕ, zero, suc, ◌+◌, ◌<◌, List, [], ◌∷◌, length, map, reverse, get_or, refl, sym, ap, ◌∙◌, subst, arith, Some, ◌==◌}
-use Rattle.std.specs.List.{All, Contains, flat_map, range_with_len}
+use Rattle.std.proofs.Common.{◌≡◌, ◌≢◌, ℕ, zero, suc, ◌+◌, ◌<◌, Bool, true, false, List, [], ◌∷◌, ◌++◌, length, map, reverse, get_or, refl, sym, ap, ◌∙◌, subst, arith, cond, ◌==◌}
+use Rattle.std.specs.List.{All, Contains, filter, flat_map, range_with_len}
 use Rattle.std.specs.List.Sorted.{IsPermutation}
-use Rattle.std.specs.Prelude.{slice_get}
 use Rattle.std.proofs.Math.Logic.{∥∥₁_elim}
 use Rattle.std.proofs.Math.Nat.{ℕ_set}
-use Rattle.std.proofs.lemmas.List.{get_or_default, same_lists}
+use Rattle.std.proofs.lemmas.Bool.{eq-eqb, ne_eqb}
+use Rattle.std.proofs.lemmas.List.{append-nil, get_or_default, same_lists}
+use Rattle.std.proofs.lemmas.List.Elements.{All-head, All-tail, filter-append}
 use Rattle.std.proofs.lemmas.List.Sorted.{Contains-permutation, IsPermutation-sym, length_permutation}
 use Rattle.ft_model.specs.declared.call.Call.{Call}
 use Rattle.ft_model.specs.declared.entry.Entry.{Entry as NamedEntry}
@@ -15,43 +16,72 @@ use Rattle.ft_model.specs.Histories.{entries_of}
 use Rattle.ft_model.specs.Numbers.{IsHistoryOf}
 use Rattle.ft_history.proofs.FilteredParts.{key_at}
 use Rattle.ft_history.proofs.Permutations.{IsPermutation-filter}
-use Rattle.ft_history.proofs.ThreadLists.{own_entries}
 use Rattle.ft_trace.specs.declared.Entry.{Entry}
+use Rattle.ft_trace.specs.declared.Owner.{Owner}
 use Rattle.ft_trace.specs.OwnCursors.{entry_of}
 use Rattle.ft_closing.specs.Numbering.{AreKeptFrom}
 use Rattle.ft_engine.specs.Closings.{IsLegalFor}
 
 -- ---- what was kept
 
-kept_same : (from : ℕ) (lists : List (List NamedEntry)) (passes : List (List Entry)) → AreKeptFrom from lists passes → (k : ℕ) → map entry_of (get_or lists k []) ≡ reverse (get_or passes k [])
-kept_same from [] [] are k = refl
-kept_same from [] (own ∷ passes) are k = absurd are
-kept_same from (mine ∷ lists) [] are k = absurd are
-kept_same from (mine ∷ lists) (own ∷ passes) are zero = are.0.same
-kept_same from (mine ∷ lists) (own ∷ passes) are (suc k) = kept_same (suc from) lists passes are.1 k
+kept_same : (from : ℕ) (lists : List (List NamedEntry)) (passes : List (List Entry)) (had found : List Owner) → AreKeptFrom from lists passes had found → (k : ℕ) → map entry_of (get_or lists k []) ≡ reverse (get_or passes k [])
+kept_same from [] [] had found are k = refl
+kept_same from [] (own ∷ passes) had found are k = absurd are
+kept_same from (mine ∷ lists) [] had found are k = absurd are
+kept_same from (mine ∷ lists) (own ∷ passes) had found are zero = are.0.same
+kept_same from (mine ∷ lists) (own ∷ passes) had found are (suc k) = kept_same (suc from) lists passes had found are.1 k
 
-kept_indexes : (from : ℕ) (lists : List (List NamedEntry)) (passes : List (List Entry)) → AreKeptFrom from lists passes → (k : ℕ) → map (λ e. e.index) (get_or lists k []) ≡ range_with_len 1 (length (get_or lists k []))
-kept_indexes from [] [] are k = refl
-kept_indexes from [] (own ∷ passes) are k = absurd are
-kept_indexes from (mine ∷ lists) [] are k = absurd are
-kept_indexes from (mine ∷ lists) (own ∷ passes) are zero = are.0.indexes
-kept_indexes from (mine ∷ lists) (own ∷ passes) are (suc k) = kept_indexes (suc from) lists passes are.1 k
+kept_indexes : (from : ℕ) (lists : List (List NamedEntry)) (passes : List (List Entry)) (had found : List Owner) → AreKeptFrom from lists passes had found → (k : ℕ) → map (λ e. e.index) (get_or lists k []) ≡ range_with_len 1 (length (get_or lists k []))
+kept_indexes from [] [] had found are k = refl
+kept_indexes from [] (own ∷ passes) had found are k = absurd are
+kept_indexes from (mine ∷ lists) [] had found are k = absurd are
+kept_indexes from (mine ∷ lists) (own ∷ passes) had found are zero = are.0.indexes
+kept_indexes from (mine ∷ lists) (own ∷ passes) had found are (suc k) = kept_indexes (suc from) lists passes had found are.1 k
 
-kept_own : (from : ℕ) (lists : List (List NamedEntry)) (passes : List (List Entry)) → AreKeptFrom from lists passes → (k : ℕ) (mine : List NamedEntry) → slice_get lists k ≡ Some mine → All (λ e. e.thread ≡ from + k) mine
-kept_own from [] [] are k mine at = absurd (let e = at in cc)
-kept_own from [] (own ∷ passes) are k mine at = absurd are
-kept_own from (x ∷ lists) [] are k mine at = absurd are
-kept_own from (x ∷ lists) (own ∷ passes) are zero mine at =
-    let same : x ≡ mine = let e : Some x ≡ Some mine = at in cc in
-    let all : All (λ e. e.thread ≡ from) mine = subst (All (λ e. e.thread ≡ from)) same are.0.own in
-    λ i d low. all i d low ∙ (let e : from ≡ from + 0 = omega arith in e)
-kept_own from (x ∷ lists) (own ∷ passes) are (suc k) mine at =
-    let all = kept_own (suc from) lists passes are.1 k mine at in
-    λ i d low. all i d low ∙ (let e : suc from + k ≡ from + suc k = omega arith in e)
+-- ---- each thread's entries of all lists
+
+module _ (p : NamedEntry → Bool) where
+  filter_all : (l : List NamedEntry) → All (λ e. p e ≡ true) l → filter p l ≡ l
+  filter_all [] pass = refl
+  filter_all (e ∷ l) pass = ap (λ b. cond b (e ∷ filter p l) (filter p l)) (All-head (λ x. p x ≡ true) e l pass) ∙ ap (λ (es : List NamedEntry). e ∷ es) (filter_all l (All-tail (λ x. p x ≡ true) e l pass))
+
+  filter_none : (l : List NamedEntry) → All (λ e. p e ≡ false) l → filter p l ≡ []
+  filter_none [] fail = refl
+  filter_none (e ∷ l) fail = ap (λ b. cond b (e ∷ filter p l) (filter p l)) (All-head (λ x. p x ≡ false) e l fail) ∙ filter_none l (All-tail (λ x. p x ≡ false) e l fail)
+
+abbrev flat : List (List NamedEntry) → List NamedEntry
+flat lists = flat_map (λ (own : List NamedEntry). own) lists
+
+-- the entries of one thread are none of another's
+others_none : (from thread : ℕ) (mine : List NamedEntry) → All (λ e. e.thread ≡ from) mine → (from ≢ thread) → entries_of thread mine ≡ []
+others_none from thread mine own other = filter_none (λ (e : NamedEntry). e.thread == thread) mine (λ i d low. ne_eqb (get_or mine i d).thread thread (λ is. other (sym (own i d low) ∙ is)))
+
+none_before : (from : ℕ) (lists : List (List NamedEntry)) (passes : List (List Entry)) (had found : List Owner) → AreKeptFrom from lists passes had found → (thread : ℕ) → thread < from → entries_of thread (flat lists) ≡ []
+none_before from [] passes had found are thread low = refl
+none_before from (mine ∷ lists) [] had found are thread low = absurd are
+none_before from (mine ∷ lists) (own ∷ passes) had found are thread low =
+    filter-append (λ (e : NamedEntry). e.thread == thread) mine (flat lists)
+    ∙ (ap (λ (es : List NamedEntry). es ++ entries_of thread (flat lists)) (others_none from thread mine are.0.own (λ is. omega (arith, is, low)))
+    ∙ none_before (suc from) lists passes had found are.1 thread (omega (arith, low)))
+
+kept_own : (from : ℕ) (lists : List (List NamedEntry)) (passes : List (List Entry)) (had found : List Owner) → AreKeptFrom from lists passes had found → (k : ℕ) → entries_of (from + k) (flat lists) ≡ get_or lists k []
+kept_own from [] passes had found are k = refl
+kept_own from (mine ∷ lists) [] had found are k = absurd are
+kept_own from (mine ∷ lists) (own ∷ passes) had found are zero =
+    let here : from ≡ from + 0 = omega arith in
+    filter-append (λ (e : NamedEntry). e.thread == (from + 0)) mine (flat lists)
+    ∙ (ap (λ (es : List NamedEntry). es ++ entries_of (from + 0) (flat lists)) (filter_all (λ (e : NamedEntry). e.thread == (from + 0)) mine (λ i d low. eq-eqb (get_or mine i d).thread (from + 0) (are.0.own i d low ∙ here)))
+    ∙ (ap (λ (es : List NamedEntry). mine ++ es) (none_before (suc from) lists passes had found are.1 (from + 0) (omega arith))
+    ∙ append-nil mine))
+kept_own from (mine ∷ lists) (own ∷ passes) had found are (suc k) =
+    filter-append (λ (e : NamedEntry). e.thread == (from + suc k)) mine (flat lists)
+    ∙ (ap (λ (es : List NamedEntry). es ++ entries_of (from + suc k) (flat lists)) (others_none from (from + suc k) mine are.0.own (λ is. omega (arith, is)))
+    ∙ (ap (λ t. entries_of t (flat lists)) (let e : from + suc k ≡ suc from + k = omega arith in e)
+    ∙ kept_own (suc from) lists passes had found are.1 k))
 
 -- ---- the history
 
-module _ (script : ScriptParts) (lists : List (List NamedEntry)) (passes : List (List Entry)) (history : List NamedEntry) (are : AreKeptFrom 0 lists passes) (legal : IsLegalFor script history) (moved : IsPermutation (flat_map (λ mine. mine) lists) history) (thread : ℕ) where
+module _ (script : ScriptParts) (lists : List (List NamedEntry)) (passes : List (List Entry)) (had found : List Owner) (history : List NamedEntry) (are : AreKeptFrom 0 lists passes had found) (legal : IsLegalFor script history) (moved : IsPermutation (flat_map (λ mine. mine) lists) history) (thread : ℕ) where
   abbrev mine : List NamedEntry
   mine = get_or lists thread []
 
@@ -61,11 +91,11 @@ module _ (script : ScriptParts) (lists : List (List NamedEntry)) (passes : List 
   permuted : IsPermutation mine there
   permuted =
       subst (λ (es : List NamedEntry). IsPermutation es there)
-      (ap (λ (t : ℕ). entries_of t (flat_map (λ (own : List NamedEntry). own) lists)) (let e : thread ≡ 0 + thread = omega arith in e) ∙ own_entries lists 0 (kept_own 0 lists passes are) thread)
+      (ap (λ (t : ℕ). entries_of t (flat lists)) (let e : thread ≡ 0 + thread = omega arith in e) ∙ kept_own 0 lists passes had found are thread)
       (IsPermutation-filter (λ (e : NamedEntry). e.thread == thread) (flat_map (λ (own : List NamedEntry). own) lists) history moved)
 
   index_mine : (k : ℕ) (d : NamedEntry) → k < length mine → (get_or mine k d).index ≡ 1 + k
-  index_mine k d low = key_at (λ (e : NamedEntry). e.index) mine 1 (kept_indexes 0 lists passes are thread) k d low
+  index_mine k d low = key_at (λ (e : NamedEntry). e.index) mine 1 (kept_indexes 0 lists passes had found are thread) k d low
 
   index_there : (k : ℕ) (d : NamedEntry) → k < length there → (get_or there k d).index ≡ 1 + k
   index_there k d low =
@@ -87,4 +117,4 @@ module _ (script : ScriptParts) (lists : List (List NamedEntry)) (passes : List 
   pub pass_entries : map entry_of there ≡ reverse (get_or passes thread [])
   pass_entries =
       ap (map entry_of) (same_lists there mine (length_permutation mine there permuted) same_at)
-      ∙ kept_same 0 lists passes are thread
+      ∙ kept_same 0 lists passes had found are thread

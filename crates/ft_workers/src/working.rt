@@ -2,6 +2,7 @@
 ghost use Rattle.std.specs.Prelude.{◌≡◌, ◌+◌, ◌<◌, IsTrue, length};
 ghost use Rattle.ft_bank.specs.Passes.{shape_of};
 ghost use Rattle.ft_engine.specs.Callers.{bank_of};
+ghost use Rattle.ft_model.specs.Histories.{calls_of};
 ghost use Rattle.ft_workers.specs.Workers.{AreCallsOn, AreEach, HasWorked, IsBankFor, IsMember, IsNew, IsOnline};
 
 use crate::gate::Gate;
@@ -75,6 +76,37 @@ fn make_all<R: Wait, G: Gate>(
     true
 }
 
+/// Makes all calls of the script's thread; one that the script doesn't have has no calls. It answers whether each was
+/// answered.
+fn make_own<R: Wait, G: Gate>(
+    rt: &R,
+    engine: &Engine,
+    alloc: Global,
+    gate: &G,
+    script: &Script,
+    thread: usize,
+    worker: &mut Worker,
+) -> bool
+    requires bank { IsBankFor script.now (shape_of (bank_of engine.now)) }
+    requires worker { IsOnline engine.now thread (calls_of script.now thread) 0 worker.old }
+    ensures member { IsMember engine.now thread worker.new.caller }
+    ensures made { IsTrue result → IsOnline engine.now thread (calls_of script.now thread)
+        (length (calls_of script.now thread)) worker.new }
+{
+    match script.parts().threads.as_slice().get(thread) {
+        Some(own) => make_all(
+            rt,
+            engine,
+            alloc,
+            gate,
+            thread,
+            own.calls.as_slice(),
+            worker,
+        ),
+        None => true,
+    }
+}
+
 /// Goes online, makes all calls of the script's thread, and goes offline. Where memory runs out the worker gives up what
 /// it is in, and makes no more calls.
 fn work<R: Wait, G: Gate>(
@@ -90,23 +122,17 @@ fn work<R: Wait, G: Gate>(
     requires worker { IsNew engine.now script.now thread worker.old }
     ensures { HasWorked engine.now script.now thread worker.new }
 {
+    // Named so that the check sees the script's rule.
+    let _parts = script.parts();
     engine.enter(&mut worker.caller);
-    worker.done = match script.parts().threads.as_slice().get(thread) {
-        Some(own) => make_all(
-            rt,
-            engine,
-            alloc,
-            gate,
-            thread,
-            own.calls.as_slice(),
-            worker,
-        ),
-        None => true,
-    };
-    if !worker.done {
+    if make_own(rt, engine, alloc, gate, script, thread, worker) {
+        engine.leave(&mut worker.caller);
+        worker.done = true;
+    } else {
         engine.abandon(&mut worker.caller);
+        engine.leave(&mut worker.caller);
+        worker.done = false;
     }
-    engine.leave(&mut worker.caller);
 }
 
 /// Each worker makes the calls of its thread, in a thread of its own.

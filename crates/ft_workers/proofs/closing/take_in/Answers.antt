@@ -1,4 +1,4 @@
-use Rattle.std.proofs.Common.{sym, subst, ◌∙◌, ap, ◌++◌, [], ◌∷◌, map, List}
+use Rattle.std.proofs.Common.{◌≡◌, ◌++◌, List, [], ◌∷◌, map, sym, ap, subst, ◌∙◌}
 use Rattle.std.specs.Prelude.{Vec}
 use Rattle.std.proofs.lemmas.List.{map-append}
 use Rattle.ft_model.specs.declared.entry.Entry.{Entry}
@@ -13,4 +13,10 @@ returns-clause-taken c =
     let before = c.args.lists.now.items in
     let w = c.args.worker in
     let d = c.join.new.caller in
-    let x = c.join.ensures in ?
+    let x = c.join.ensures in
+    let items = λ (list : Vec Entry). list.items in
+    let same : map items c.push.new.self.items ≡ map items before ++ w.entries.items ∷ [] = ap (map items) c.in_ok-push.ensures.items ∙ map-append items before (w.entries ∷ []) in
+    let worked = ? in
+    let done = ? in
+    subst (HasTaken e script d) (sym same)
+    (next_taken e script c.args.caller.now d w (map items before) c.requires.taken worked done x.caller x.thread x.idle x.announced x.sections x.parts x.kept)

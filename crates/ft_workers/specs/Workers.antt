@@ -22,8 +22,8 @@ use Rattle.ft_workers.specs.declared.workers.Worker.{Worker}
 
 -- ---- the bank
 
--- The bank is made for the script: it has its containers, its strings, its tables and its heaps, a pass for each thread,
--- one at least, and for each pass as many calls as a script has at most. (profile)
+-- The bank is made for the script: it has its containers, its strings, its tables and its heaps, a pass for each
+-- thread, one at least, and for each pass as many calls as a script has at most. (profile)
 pub record IsBankFor (script : ScriptParts) (k : Shape) : Type 0 where
   pub kinds : k.kinds ≡ kinds_of script.containers
   pub texts : k.texts ≡ map text_hash script.strings
@@ -87,8 +87,8 @@ abbrev pub AreFrom : (ℕ → Worker → Type 0) → ℕ → List Worker → Typ
 AreFrom P thread [] = Unit {0}
 AreFrom P thread (w ∷ workers) = P thread w × AreFrom P (suc thread) workers
 
--- caller 0 is done and has taken in the callers of the threads after it; these are the lists of all of them, and each has
--- just the calls of its thread
+-- caller 0 is done and has taken in the callers of the threads after it; these are the lists of all of them, and each
+-- has just the calls of its thread
 pub record HasTaken (e : Engine) (script : ScriptParts) (c : Caller) (lists : List (List Entry)) : Type 0 where
   pub caller : IsCallerOf e c
   pub done : IsDone c

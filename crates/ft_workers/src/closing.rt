@@ -36,8 +36,8 @@ fn take_in(
     Ok(())
 }
 
-/// Takes in all workers in the order of the threads, and closes the engine: the history of what they were answered. It is
-/// out of memory where a worker was.
+/// Takes in all workers in the order of the threads, and closes the engine: the history of what they were answered. It
+/// is out of memory where a worker was.
 pub(crate) fn close_all(
     alloc: Global,
     engine: Engine,

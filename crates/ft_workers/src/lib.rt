@@ -1,5 +1,5 @@
-//! The threads of a script as real threads: each is a worker with a caller of one engine, and makes its calls beside the
-//! others. When all are done, the engine is closed, and what they were answered is one legal history.
+//! The threads of a script as real threads: each is a worker with a caller of one engine, and makes its calls beside
+//! the others. When all are done, the engine is closed, and what they were answered is one legal history.
 #![tactic(auto)]
 
 mod closing;

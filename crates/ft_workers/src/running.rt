@@ -30,8 +30,8 @@ pub struct Ran {
 ///
 /// # Errors
 ///
-/// Memory ran out, for the bank, for a copy that a call makes, or for the history. A worker that has no memory for a call
-/// gives up, and the others go on to their ends.
+/// Memory ran out, for the bank, for a copy that a call makes, or for the history. A worker that has no memory for a
+/// call gives up, and the others go on to their ends.
 pub fn run_workers<R: Threads + Wait + Sync, G: Gate>(
     rt: &R,
     alloc: Global,

@@ -14,8 +14,8 @@ use std::sync::Wait;
 use std::thread;
 use std::thread::Threads;
 
-/// Makes the thread's call at a place, and adds its entry. It answers whether the call was answered, and else memory ran
-/// out.
+/// Makes the thread's call at a place, and adds its entry. It answers whether the call was answered, and else memory
+/// ran out.
 fn make<R: Wait, G: Gate>(
     rt: &R,
     engine: &Engine,
@@ -107,8 +107,8 @@ fn make_own<R: Wait, G: Gate>(
     }
 }
 
-/// Goes online, makes all calls of the script's thread, and goes offline. Where memory runs out the worker gives up what
-/// it is in, and makes no more calls.
+/// Goes online, makes all calls of the script's thread, and goes offline. Where memory runs out the worker gives up
+/// what it is in, and makes no more calls.
 fn work<R: Wait, G: Gate>(
     rt: &R,
     engine: &Engine,

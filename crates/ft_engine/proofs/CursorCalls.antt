@@ -162,7 +162,7 @@ walked_iter kind.List o number n over = refl
 walked_iter kind.Set o number n over = refl
 
 iter_walked : (kind : Kind) (o number : ℕ) (had left : Option Cursor) (v w : View) (result : Step) → KeepsOthers number v w → IsMoveOf kind o (iter_call kind o number) number had v w result left → WalkedBy (iter_call kind o number) v w result
-iter_walked kind o number had left v w (step.Done said stamp) others x n =
+iter_walked kind o number had left v w (step.Done said stamp) others x = λ n.
     let over = option_map container_of (cursor_in n v.log) in
     dite (ℕ_discrete n number)
     (λ (e : n ≡ number).
@@ -174,7 +174,7 @@ iter_walked kind o number had left v w (step.Moved a b) others x = tt
 iter_walked kind o number had left v w step.NoMemory others x = tt
 
 next_walked : (kind : Kind) (number : ℕ) (walker : Cursor) (had left : Option Cursor) (v w : View) (result : Step) → cursor_in number v.log ≡ Some walker → KeepsOthers number v w → IsMoveOf kind (container_of walker) (call.Next number) number had v w result left → WalkedBy (call.Next number) v w result
-next_walked kind number walker had left v w (step.Done said stamp) was others x n =
+next_walked kind number walker had left v w (step.Done said stamp) was others x = λ n.
     dite (ℕ_discrete n number)
     (λ (e : n ≡ number).
     ap (option_map container_of) (subst (λ (z : ℕ). cursor_in z w.log ≡ Some x.0) (sym e) x.3.mine)

@@ -308,27 +308,27 @@ step_owned v w P s t f g mine number lists only finds old waits before now walke
 
 -- ---- the call in flight
 
-due_begun : (f : Flight) → (IsAnswered f → ⊥) → (calls : List Call) → begun_due f calls ≡ calls
-due_begun flight.Idle no calls = refl
-due_begun (flight.Tried c) no calls = refl
-due_begun (flight.Answered c said stamp) no calls = absurd (no tt)
-due_begun (flight.Refused c) no calls = refl
+due_begun : (f : Flight) (calls : List Call) → (IsAnswered f → ⊥) → begun_due f calls ≡ calls
+due_begun flight.Idle calls no_answer = refl
+due_begun (flight.Tried called) calls no_answer = refl
+due_begun (flight.Answered called said stamp) calls no_answer = absurd (no_answer tt)
+due_begun (flight.Refused called) calls no_answer = refl
 
-due_walked : (f : Flight) → (IsAnswered f → ⊥) → (n : ℕ) (over : Option ℕ) → walked_due f n over ≡ over
-due_walked flight.Idle no n over = refl
-due_walked (flight.Tried c) no n over = refl
-due_walked (flight.Answered c said stamp) no n over = absurd (no tt)
-due_walked (flight.Refused c) no n over = refl
+due_walked : (f : Flight) (n : ℕ) (over : Option ℕ) → (IsAnswered f → ⊥) → walked_due f n over ≡ over
+due_walked flight.Idle n over no_answer = refl
+due_walked (flight.Tried called) n over no_answer = refl
+due_walked (flight.Answered called said stamp) n over no_answer = absurd (no_answer tt)
+due_walked (flight.Refused called) n over no_answer = refl
 
 module _ (f : Flight) (called : Call) (unanswered : IsAnswered f → ⊥) (next : IsNext f called) where
   pub flight_named : (o : ℕ) → FlightNames o f → names o called ≡ true
   flight_named o is = by f unanswered next is
     where
       by : (g : Flight) → (IsAnswered g → ⊥) → IsNext g called → FlightNames o g → names o called ≡ true
-      by flight.Idle no same is = absurd is
-      by (flight.Tried tried) no same is = subst (λ (c : Call). names o c ≡ true) same is
-      by (flight.Answered c said stamp) no same is = absurd (no tt)
-      by (flight.Refused c) no same is = absurd same
+      by flight.Idle no_answer same is = absurd is
+      by (flight.Tried tried) no_answer same is = subst (λ (c : Call). names o c ≡ true) same is
+      by (flight.Answered c said stamp) no_answer same is = absurd (no_answer tt)
+      by (flight.Refused c) no_answer same is = absurd same
 
   module _ (thread : ℕ) (found : List Owner) (mine : List NamedEntry) where
     abbrev IsMark : Option ℕ → Type 0
@@ -339,11 +339,11 @@ module _ (f : Flight) (called : Call) (unanswered : IsAnswered f → ⊥) (next 
     mark_stays mark free is = by f mark unanswered next free is
       where
         by : (g : Flight) (m : Option ℕ) → (IsAnswered g → ⊥) → IsNext g called → (g ≡ flight.Idle → m ≡ None) → IsFlightFound thread found mine g m → IsMark m
-        by flight.Idle None no same free is = tt
-        by flight.Idle (Some first) no same free is = absurd (let e : Some first ≡ None = free refl in cc)
-        by (flight.Tried tried) m no same free is = subst (λ (c : Call). IfSome m (λ other. (other ≢ thread) × IsFoundFor found mine c other)) same is
-        by (flight.Answered c said stamp) m no same free is = absurd (no tt)
-        by (flight.Refused c) m no same free is = absurd same
+        by flight.Idle None no_answer same free is = tt
+        by flight.Idle (Some first) no_answer same free is = absurd (let e : Some first ≡ None = free refl in cc)
+        by (flight.Tried tried) m no_answer same free is = subst (λ (c : Call). IfSome m (λ other. (other ≢ thread) × IsFoundFor found mine c other)) same is
+        by (flight.Answered c said stamp) m no_answer same free is = absurd (no_answer tt)
+        by (flight.Refused c) m no_answer same free is = absurd same
 
 -- the first that was found
 pub mark_now : (thread : ℕ) (found : List Owner) (mine : List NamedEntry) (called : Call) (mark : Option ℕ) (owner : ℕ) → IfSome mark (λ other. (other ≢ thread) × IsFoundFor found mine called other) → (owner ≢ thread) × IsFoundFor found mine called owner → IfSome (Some (first_mark mark owner)) (λ other. (other ≢ thread) × IsFoundFor found mine called other)
@@ -358,10 +358,10 @@ other_thread number owner some apart e = apart (omega (arith, some, e))
 module _ (v w : View) (s t : Stack) (f : Flight) (mine : List NamedEntry) (called : Call) (hands : List (Option Cursor)) (number : w.number ≡ v.number) (lists : w.lists ≡ v.lists) (only : LocksOnly (IsLockedFor hands called) v w) (finds : FindsMore v w) (old : AreOwnedBy v s f mine) (unanswered : IsAnswered f → ⊥) (next : IsNext f called) (free : f ≡ flight.Idle → s.mark ≡ None)
     (at_hand : (n : ℕ) (walker : Cursor) → cursor_at hands n ≡ Some walker → cursor_in n v.log ≡ Some walker) where
   walks : (n : ℕ) (walker : Cursor) → cursor_at hands n ≡ Some walker → walked_by n mine ≡ Some (container_of walker)
-  walks n walker at = sym (old.walked n ∙ due_walked f unanswered n (walked_by n mine)) ∙ ap (option_map container_of) (at_hand n walker at)
+  walks n walker at = sym (old.walked n ∙ due_walked f n (walked_by n mine) unanswered) ∙ ap (option_map container_of) (at_hand n walker at)
 
   walked_same : ((n : ℕ) → cursor_in n w.log ≡ cursor_in n v.log) → (n : ℕ) → option_map container_of (cursor_in n w.log) ≡ walked_by n mine
-  walked_same cursors n = ap (option_map container_of) (cursors n) ∙ (old.walked n ∙ due_walked f unanswered n (walked_by n mine))
+  walked_same cursors n = ap (option_map container_of) (cursors n) ∙ (old.walked n ∙ due_walked f n (walked_by n mine) unanswered)
 
   before_named : (o : ℕ) → FlightNames o f → IsNamedIn o mine ⊎ (names o called ≡ true)
   before_named o flies = inr (flight_named f called unanswered next o flies)
@@ -370,7 +370,7 @@ module _ (v w : View) (s t : Stack) (f : Flight) (mine : List NamedEntry) (calle
   now_named o is = (used o hands mine called walks is).1
 
   begun_same : locked_in t ≡ locked_in s → AreBegunBy (locked_in t) (begun_by mine)
-  begun_same same = subst (λ (x : List (ℕ × ℕ) × List Call). AreBegunBy x.0 x.1) (λ i. (sym same i, due_begun f unanswered (begun_by mine) i)) old.begun
+  begun_same same = subst (λ (x : List (ℕ × ℕ) × List Call). AreBegunBy x.0 x.1) (λ i. (sym same i, due_begun f (begun_by mine) unanswered i)) old.begun
 
   was_marked : IfSome s.mark (λ other. (other ≢ v.number - 1) × IsFoundFor (found_owners w.log) mine called other)
   was_marked =
@@ -405,8 +405,8 @@ module _ (v w : View) (s t : Stack) (f : Flight) (mine : List NamedEntry) (calle
       step_owned v w (IsLockedFor hands called) s t f (flight.Answered called said stamp) mine number lists only finds old
       (subst (λ (m : Option ℕ). IfSome m (λ other. (other ≢ v.number - 1) × IsFoundFor (found_owners w.log) mine called other)) (sym mark) was_marked)
       before_named now_named
-      (λ n. moved n ∙ ap (walked_after n called) (old.walked n ∙ due_walked f unanswered n (walked_by n mine)))
-      (stack_begun called s t (begun_by mine) stack (subst (AreBegunBy (locked_in s)) (due_begun f unanswered (begun_by mine)) old.begun))
+      (λ n. moved n ∙ ap (walked_after n called) (old.walked n ∙ due_walked f n (walked_by n mine) unanswered))
+      (stack_begun called s t (begun_by mine) stack (subst (AreBegunBy (locked_in s)) (due_begun f (begun_by mine) unanswered) old.begun))
 
 -- ---- the innermost section is taken up again
 
@@ -510,8 +510,8 @@ start_owned v s log none = record {
 pub abandoned_owned : (v w : View) (s t : Stack) (f : Flight) (mine : List NamedEntry) → w.number ≡ v.number → w.lists ≡ v.lists → SameOwners v w → ((n : ℕ) → cursor_in n w.log ≡ cursor_in n v.log) → (IsAnswered f → ⊥) → ((o : ℕ) → FlightNames o f → IsNamedIn o mine) → s.sections ≡ [] → t.sections ≡ [] → AreOwnedBy v s f mine → AreOwnedBy w t flight.Idle mine
 abandoned_owned v w s t f mine number lists same cursors unanswered names none gone old =
     step_owned v w (λ o. ⊥) s t f flight.Idle mine number lists (same_locks_only (λ o. ⊥) v w same) (same_finds_more v w same) old tt (λ o flies. inl (names o flies)) (λ o no. absurd no)
-    (λ n. ap (option_map container_of) (cursors n) ∙ (old.walked n ∙ due_walked f unanswered n (walked_by n mine)))
-    (subst (λ (x : List (ℕ × ℕ) × List Call). AreBegunBy x.0 x.1) (λ i. ((ap pairs_in none ∙ sym (ap pairs_in gone)) i, due_begun f unanswered (begun_by mine) i)) old.begun)
+    (λ n. ap (option_map container_of) (cursors n) ∙ (old.walked n ∙ due_walked f n (walked_by n mine) unanswered))
+    (subst (λ (x : List (ℕ × ℕ) × List Call). AreBegunBy x.0 x.1) (λ i. ((ap pairs_in none ∙ sym (ap pairs_in gone)) i, due_begun f (begun_by mine) unanswered i)) old.begun)
   where
     pairs_in : List OpenSection → List (ℕ × ℕ)
     pairs_in xs = reverse (map pair_of xs)

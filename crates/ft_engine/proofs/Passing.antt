@@ -216,7 +216,7 @@ ready_joined b p q u n r pass stack is =
     }
 
 -- it has announced anew and collected
-enters_calm : (v : View) (n m : ℕ) → IsStill v → IsCalm v (noted (Announce m n) (noted (WriteNumber n) v))
+pub enters_calm : (v : View) (n m : ℕ) → IsStill v → IsCalm v (noted (Announce m n) (noted (WriteNumber n) v))
 enters_calm v n m s = record {
   number = refl;
   next = refl;

@@ -8,7 +8,8 @@ use Rattle.ft_trace.specs.declared.View.{View}
 -- the pass with this number is among these with the lock of o
 abbrev pub is_owner_in : ℕ → ℕ → List Owner → Bool
 is_owner_in o q [] = false
-is_owner_in o q (one ∷ more) = cond (one.container == o) (cond (one.pass == q) true (is_owner_in o q more)) (is_owner_in o q more)
+is_owner_in o q (one ∷ more) =
+    cond (one.container == o) (cond (one.pass == q) true (is_owner_in o q more)) (is_owner_in o q more)
 
 -- each of the first ones is among the others
 abbrev pub AreOwners : List Owner → List Owner → Type 0

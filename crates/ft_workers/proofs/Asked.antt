@@ -5,6 +5,7 @@ use Rattle.std.specs.Option.{option_map_or}
 use Rattle.std.specs.Prelude.{Option, IfSome, fold, slice_get, sum}
 use Rattle.std.proofs.lemmas.List.{get_or-map, length-map}
 use Rattle.std.proofs.lemmas.List.Elements.{All-nil}
+use Rattle.std.proofs.lemmas.List.Sums.{sum_by-cons}
 use Rattle.std.proofs.lemmas.Option.{slice_get_cases, slice_get_past, get_or_from_slice_get, slice_get_within}
 use Rattle.ft_model.specs.declared.call.Call.{Call}
 use Rattle.ft_model.specs.declared.call.Call.TheVariants as call
@@ -64,8 +65,15 @@ calls_at script i own at = ap (λ (o : Option Thread). option_map_or (λ (t : Th
 
 sum_has : (ts : List Thread) (i : ℕ) (own : Thread) → slice_get ts i ≡ Some own → length own.calls ≤ sum (map (λ thread. length thread.calls) ts)
 sum_has [] i own at = absurd (let none : None ≡ Some own = at in cc)
-sum_has (t ∷ ts) zero own at = let same : t ≡ own = let e : Some t ≡ Some own = at in cc in let long : length t.calls ≡ length own.calls = ap (λ (x : Thread). length x.calls) same in omega (arith, long)
-sum_has (t ∷ ts) (suc i) own at = let rest = sum_has ts i own at in omega (arith, rest)
+sum_has (t ∷ ts) zero own at =
+    let same : t ≡ own = let e : Some t ≡ Some own = at in cc in
+    let long : length t.calls ≡ length own.calls = ap (λ (x : Thread). length x.calls) same in
+    let all = sum_by-cons (λ (n : ℕ). n) (length t.calls) (map (λ (x : Thread). length x.calls) ts) in
+    omega (arith, long, all)
+sum_has (t ∷ ts) (suc i) own at =
+    let rest = sum_has ts i own at in
+    let all = sum_by-cons (λ (n : ℕ). n) (length t.calls) (map (λ (x : Thread). length x.calls) ts) in
+    omega (arith, rest, all)
 
 -- they may be made on a bank for the script
 pub calls_on : (script : ScriptParts) (k : Shape) (i : ℕ) (own : Thread) → IsScript script → IsBankFor script k → slice_get script.threads i ≡ Some own → AreCallsOn k own.calls

@@ -1,4 +1,5 @@
 -- A worker between two calls: its next call may be made, and what comes of it.
+use Rattle.std.specs.declared.alloc.Global.{Global}
 use Rattle.std.proofs.Common.{◌≡◌, ◌+◌, ◌-◌, ◌<◌, ◌≤◌, ℕ, true, false, List, [], ◌∷◌, ◌++◌, length, map, reverse, take, get_or, refl, sym, ap, ◌∙◌, subst, arith, inl, inr, None, Some}
 use Rattle.std.specs.Prelude.{Any, IsTrue, Option, Vec, fold, is_some, slice_get, vec_capacity}
 use Rattle.std.proofs.lemmas.List.{get_or-map, get_or-reverse, length-map, length-reverse, length-take, map-append, take_all}
@@ -189,9 +190,9 @@ visited e i calls place w x is same caller rows kept =
       member = visited_member e i w.caller x.caller is.member same caller;
       idle = same.flight ∙ is.idle;
       cursors = ap length same.cursors ∙ is.cursors;
-      kept = subst (IsKept x.caller) (ap (λ (v : Vec NamedEntry). v.items) (sym rows)) (kept w.entries.items is.kept);
-      made = ap (λ (v : Vec NamedEntry). map (λ (e : NamedEntry). e.call) v.items) rows ∙ is.made;
-      rows = subst (λ (v : Vec NamedEntry). length calls ≤ vec_capacity v) (sym rows) is.rows;
+      kept = subst (IsKept x.caller) (ap (λ (v : Vec NamedEntry Global). v.items) (sym rows)) (kept w.entries.items is.kept);
+      made = ap (λ (v : Vec NamedEntry Global). map (λ (e : NamedEntry). e.call) v.items) rows ∙ is.made;
+      rows = subst (λ (v : Vec NamedEntry Global). length calls ≤ vec_capacity v) (sym rows) is.rows;
     }
 
 -- the call at the place was answered, and its entry added

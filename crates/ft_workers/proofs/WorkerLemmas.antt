@@ -1,7 +1,8 @@
 -- Workers in their order, new ones, and those that are taken in.
 use Rattle.std.proofs.Common.{◌≡◌, ◌+◌, ◌<◌, ◌≤◌, ℕ, zero, suc, List, [], ◌∷◌, ◌++◌, length, map, refl, sym, ap, ◌∙◌, subst, arith, None}
-use Rattle.std.specs.Prelude.{slice_index_or, vec_capacity}
+use Rattle.std.specs.Prelude.{Option, slice_index_or, vec_capacity}
 use Rattle.std.proofs.lemmas.List.{length-replicate}
+use Rattle.ft_model.specs.declared.cursor.Cursor.{Cursor}
 use Rattle.ft_model.specs.declared.entry.Entry.{Entry as NamedEntry}
 use Rattle.ft_model.specs.declared.script.ScriptParts.{ScriptParts}
 use Rattle.ft_model.specs.Histories.{calls_of}
@@ -50,7 +51,7 @@ fresh_new e script i w none rows x =
     record {
       member = record { caller = x.caller; thread = x.thread; next = x.next; parts = x.parts; taken = x.taken };
       idle = x.flight;
-      cursors = ap length x.hands ∙ length-replicate most_cursors None;
+      cursors = ap length x.hands ∙ length-replicate {A = Option Cursor} most_cursors None;
       kept = subst (IsKept w.caller) (sym none) (new_kept e most_cursors i w.caller x);
       made = ap (map (λ (e : NamedEntry). e.call)) none;
       rows = rows;

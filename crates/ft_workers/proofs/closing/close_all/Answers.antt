@@ -1,3 +1,4 @@
+use Rattle.std.specs.declared.alloc.Global.{Global}
 use Rattle.std.proofs.Common.{◌≡◌, List, length, map, sym, ◌∙◌, subst, ap}
 use Rattle.std.specs.List.{flat_map}
 use Rattle.std.specs.List.Sorted.{IsPermutation}
@@ -16,12 +17,12 @@ returns-clause-legal c =
     let taken = c.loop-worker.invariant.0 in
     let lists = map (λ list. list.items) c.loop-worker.lists.items in
     let history = c.in_ok-history.history.items in
-    let moved = subst (λ (l : List Entry). IsPermutation l history) (sym (flat_map-map (λ (mine : List Entry). mine) (λ (list : Vec Entry). list.items) c.loop-worker.lists.items)) c.in_ok-history.ensures.entries in
+    let moved = subst (λ (l : List Entry). IsPermutation l history) (sym (flat_map-map (λ (mine : List Entry). mine) (λ (list : Vec Entry Global). list.items) c.loop-worker.lists.items)) c.in_ok-history.ensures.entries in
     ended_legal c.args.script.now (shape_of (bank_of c.args.engine)) lists c.parts.ensures.rule c.requires.bank (sym taken.parts ∙ c.close.requires.all) taken.made history moved (c.in_ok-history.ensures.legal c.args.script.now)
 
 pub returns-clause-entries : goal.returns-clause-entries
 returns-clause-entries c =
     let lists = map (λ list. list.items) c.loop-worker.lists.items in
     let history = c.in_ok-history.history.items in
-    let moved = subst (λ (l : List Entry). IsPermutation l history) (sym (flat_map-map (λ (mine : List Entry). mine) (λ (list : Vec Entry). list.items) c.loop-worker.lists.items)) c.in_ok-history.ensures.entries in
+    let moved = subst (λ (l : List Entry). IsPermutation l history) (sym (flat_map-map (λ (mine : List Entry). mine) (λ (list : Vec Entry Global). list.items) c.loop-worker.lists.items)) c.in_ok-history.ensures.entries in
     pass_entries c.args.script.now lists (lists_in c.in_ok-history.closed) (had_in c.in_ok-history.closed) (found_in c.in_ok-history.closed) history c.in_ok-history.ensures.closed (returns-clause-legal c) moved

@@ -15,7 +15,7 @@ call-requires-clause-may g c =
     (slice_get_read calls (length calls) c.args.place c.index.result.now refl c.requires.place c.index.ensures)
 
 pub returns-clause-made : goal.returns-clause-made
-returns-clause-made g c yes =
+returns-clause-made g c went =
     let w = c.args.worker.now in
     let calls = c.args.calls.now in
     let called = c.index.result.now in

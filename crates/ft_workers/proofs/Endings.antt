@@ -8,6 +8,7 @@ use Rattle.std.proofs.lemmas.List.{length_push}
 use Rattle.std.proofs.lemmas.List.Sorted.{length_permutation}
 use mathlib.Core.Logic.{dite}
 use native.Mathlib.Decide.{ℕ_discrete}
+use native.Mathlib.Numerals.{unary_clauses}
 use Rattle.ft_model.specs.declared.call.Call.{Call}
 use Rattle.ft_model.specs.declared.entry.Entry.{Entry}
 use Rattle.ft_model.specs.declared.entry.Storage.TheVariants as storage
@@ -108,8 +109,8 @@ no_entries : (history : List Entry) → length history ≡ 0 → history ≡ []
 no_entries [] none = refl
 no_entries (e ∷ history) none = absurd (omega (arith, none))
 
-no_place : {P : Type 0} (place : ℕ) (e : Entry) → slice_get [] place ≡ Some e → P
-no_place place e at = absurd (let none : None ≡ Some e = at in cc)
+no_place : (P : ℕ → Entry → Type 0) (place : ℕ) (e : Entry) → slice_get [] place ≡ Some e → P place e
+no_place P place e at = absurd (let none : None ≡ Some e = at in cc)
 
 empty_history : (script : ScriptParts) → length script.threads ≡ 0 → IsHistoryOf storage.Tables script [] []
 empty_history script none =
@@ -118,20 +119,20 @@ empty_history script none =
         order = λ k d from within. absurd (let w = within in omega (arith, w));
         chronicle = record {
           whole = record { calls = λ t. sym (calls_past script t (omega (arith, none))); indexes = λ t. refl };
-          answered = no_place;
-          marked = no_place;
-          kept = no_place;
-          counted = no_place;
-          earned = no_place;
+          answered = no_place _;
+          marked = no_place _;
+          kept = no_place _;
+          counted = no_place _;
+          earned = no_place _;
         };
       };
-      fitting = no_place;
+      fitting = no_place _;
       written = refl;
     }
 
 max_some : (n : ℕ) → (n ≢ 0) → max n 1 ≡ n
 max_some zero some = absurd (some refl)
-max_some (suc n) some = ap suc (max-zero n)
+max_some (suc n) some = simp unary_clauses (ap suc (max-zero n))
 
 -- ---- all threads
 

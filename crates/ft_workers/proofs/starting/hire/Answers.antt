@@ -21,7 +21,7 @@ loop-caller-preserved c =
     let fresh = subst (AreFresh e most_cursors n) steps at.invariant.0 in
     let hired : Worker = c.in_ok-hired.hired in
     let is_fresh : IsFresh e most_cursors n hired.caller = subst (IsFresh e most_cursors n) (sym c.in_ok-hired.ensures.caller) fresh.0 in
-    let rows : length (calls_of script n) ≤ vec_capacity hired.entries = let r = c.in_ok-hired.ensures.rows in subst (λ (k : ℕ). k ≤ vec_capacity hired.entries) (c.call_count-calls.ensures ∙ ap (λ (t : ℕ). length (calls_of script t)) c.len-in-loop-caller.ensures) r in
+    let rows : length (calls_of script n) ≤ vec_capacity hired.entries = let r = c.in_ok-hired.ensures.rows in subst (λ (k : ℕ). k ≤ vec_capacity hired.entries) (c.call_count-calls.ensures ∙ ap (λ (t : ℕ). length (calls_of script t)) (c.len-in-loop-caller.ensures ∙ at.workers.ok.0)) r in
     let new = fresh_new e script n hired c.in_ok-hired.ensures.entries rows is_fresh in
     let items : c.push.new.self.items ≡ at.workers.items ++ hired ∷ [] = c.in_ok-push.ensures.items in
     let more : length c.push.new.self.items ≡ n + 1 = ap length items ∙ length_push at.workers.items hired in

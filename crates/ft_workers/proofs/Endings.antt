@@ -8,7 +8,7 @@ use Rattle.std.proofs.lemmas.List.{length_push}
 use Rattle.std.proofs.lemmas.List.Sorted.{length_permutation}
 use mathlib.Core.Logic.{dite}
 use native.Mathlib.Decide.{ℕ_discrete}
-use native.Mathlib.Numerals.{unary_clauses}
+use native.Mathlib.Nat.{suc-max-suc}
 use Rattle.ft_model.specs.declared.call.Call.{Call}
 use Rattle.ft_model.specs.declared.entry.Entry.{Entry}
 use Rattle.ft_model.specs.declared.entry.Storage.TheVariants as storage
@@ -132,7 +132,7 @@ empty_history script none =
 
 max_some : (n : ℕ) → (n ≢ 0) → max n 1 ≡ n
 max_some zero some = absurd (some refl)
-max_some (suc n) some = simp unary_clauses (ap suc (max-zero n))
+max_some (suc n) some = suc-max-suc n 0 ∙ ap suc (max-zero n)
 
 -- ---- all threads
 

@@ -1,6 +1,6 @@
 -- Workers in their order, new ones, and those that are taken in.
-use Rattle.std.proofs.Common.{◌≡◌, ◌+◌, ◌<◌, ◌≤◌, ℕ, zero, suc, List, [], ◌∷◌, ◌++◌, length, map, refl, sym, ap, ◌∙◌, subst, arith, None}
-use Rattle.std.specs.Prelude.{Option, slice_index_or, vec_capacity}
+use Rattle.std.proofs.Common.{◌≡◌, Bool, true, false, true≢false, ◌+◌, ◌<◌, ◌≤◌, ℕ, zero, suc, List, [], ◌∷◌, ◌++◌, length, map, refl, sym, ap, ◌∙◌, subst, arith, None}
+use Rattle.std.specs.Prelude.{Option, not, slice_index_or, vec_capacity}
 use Rattle.std.proofs.lemmas.List.{length-replicate}
 use Rattle.ft_model.specs.declared.cursor.Cursor.{Cursor}
 use Rattle.ft_model.specs.declared.entry.Entry.{Entry as NamedEntry}
@@ -62,3 +62,8 @@ fresh_new e script i w none rows x =
 pub last_next : (e : Engine) (script : ScriptParts) (c other : Caller) (lists : List (List NamedEntry)) → HasTaken e script c lists → IsMember e (length lists) other → (view (pass_of other)).next ≡ 0
 last_next e script c other [] taken member = absurd taken.kept
 last_next e script c other (own ∷ lists) taken member = member.next
+
+-- what isn't false
+pub not_not : (b : Bool) → not b ≡ false → b ≡ true
+not_not true is = refl
+not_not false is = absurd (true≢false is)

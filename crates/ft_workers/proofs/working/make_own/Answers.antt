@@ -12,7 +12,7 @@ use Rattle.ft_workers.proofs.Asked.{calls_at, calls_on, calls_past}
 use Rattle.ft_workers.proofs.working.make_own.Goals as goal
 
 pub make_all-requires-clause-calls : goal.make_all-requires-clause-calls
-make_all-requires-clause-calls g c =
+make_all-requires-clause-calls g c κs within =
     let script = c.args.script.now in
     let own = c.in-Some.own.now in
     let found = c.in-Some.ensures.lookup in
@@ -20,7 +20,7 @@ make_all-requires-clause-calls g c =
     subst (AreCallsOn (shape_of (bank_of c.args.engine.now))) (sym c.as_slice-in-Some.ensures) (calls_on script (shape_of (bank_of c.args.engine.now)) c.args.thread own c.parts.ensures.rule c.requires.bank at)
 
 pub make_all-requires-clause-worker : goal.make_all-requires-clause-worker
-make_all-requires-clause-worker g c =
+make_all-requires-clause-worker g c κs within =
     let script = c.args.script.now in
     let own = c.in-Some.own.now in
     let found = c.in-Some.ensures.lookup in

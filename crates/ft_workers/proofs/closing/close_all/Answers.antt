@@ -18,7 +18,7 @@ returns-clause-legal c =
     let lists = map (λ list. list.items) c.loop-worker.lists.items in
     let history = c.in_ok-history.history.items in
     let moved = subst (λ (l : List Entry). IsPermutation l history) (sym (flat_map-map (λ (mine : List Entry). mine) (λ (list : Vec Entry Global). list.items) c.loop-worker.lists.items)) c.in_ok-history.ensures.entries in
-    ended_legal c.args.script.now (shape_of (bank_of c.args.engine)) lists c.parts.ensures.rule c.requires.bank (sym taken.parts ∙ c.close.requires.all) taken.made history moved (c.in_ok-history.ensures.legal c.args.script.now)
+    ended_legal c.args.script.now (shape_of (bank_of c.args.engine)) lists c.parts-parts.ensures.rule c.requires.bank (sym taken.parts ∙ c.close.requires.all) taken.made history moved (c.in_ok-history.ensures.legal c.args.script.now)
 
 pub returns-clause-entries : goal.returns-clause-entries
 returns-clause-entries c =

@@ -5,7 +5,7 @@ use Rattle.ft_workers.proofs.WorkerLemmas.{each_from, from_each}
 use Rattle.ft_workers.proofs.running.run_workers.Goals as goal
 
 pub work_all-requires-clause-workers : goal.work_all-requires-clause-workers
-work_all-requires-clause-workers g c =
+work_all-requires-clause-workers g c κs within =
     let e = c.in_ok-engine.engine in
     let script = c.args.script.now in
     each_from (IsNew e script) c.as_mut_slice.result.now (subst (AreFrom (IsNew e script) 0) (sym c.as_mut_slice.ensures.value) c.in_ok-engine.ensures.workers)

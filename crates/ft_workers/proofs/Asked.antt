@@ -15,7 +15,6 @@ use Rattle.ft_model.specs.declared.script.Thread.{Thread}
 use Rattle.ft_model.specs.Calls.{moved_cursor}
 use Rattle.ft_model.specs.Histories.{calls_of, cursors_of}
 use Rattle.ft_model.specs.Scripts.{IsCallOf, IsScript, IsThread}
-use Rattle.ft_trace.specs.OwnCursors.{AsksWithin}
 use Rattle.ft_trace.specs.declared.Shape.{Shape}
 use Rattle.ft_closing.specs.Numbering.{AskOwnCursors}
 use Rattle.ft_engine.specs.Closings.{AreAllMade}

@@ -1,5 +1,5 @@
 -- How many sections are open after some of a thread's calls.
-use Rattle.std.proofs.Common.{◌≡◌, ℕ, zero, suc, ◌+◌, ◌-◌, ◌<◌, List, [], ◌∷◌, length, map, reverse, take, drop, refl, sym, ap, ◌∙◌, subst, arith, None, Some}
+use Rattle.std.proofs.Common.{◌≡◌, ℕ, zero, suc, ◌+◌, ◌-◌, ◌<◌, List, [], ◌∷◌, length, map, take, drop, refl, sym, ap, ◌∙◌, subst, arith, None, Some}
 use Rattle.std.specs.Prelude.{fold, slice_get}
 use Rattle.std.proofs.lemmas.List.{length-map, length-reverse}
 use Rattle.ft_model.specs.declared.call.Call.{Call}
@@ -12,7 +12,7 @@ use Rattle.ft_bank.specs.Passes.{view}
 use Rattle.ft_engine.specs.declared.caller.Caller.{Caller}
 use Rattle.ft_engine.specs.declared.caller.Flight.{Flight}
 use Rattle.ft_engine.specs.Callers.{IsIdle, pass_of, thread_of}
-use Rattle.ft_engine.specs.Keeping.{AreKeptBy, IsKept, mark_count, marks_in, more_marks, open_marks}
+use Rattle.ft_engine.specs.Keeping.{AreKeptBy, IsKept, mark_count}
 use Rattle.ft_engine.specs.Names.{FitsSections}
 
 -- ---- depths by calls

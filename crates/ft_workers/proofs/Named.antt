@@ -1,6 +1,6 @@
 -- What a call of a script names is in a bank that is made for the script.
 use Rattle.std.proofs.Common.{◌≡◌, ℕ, ◌<◌, List, length, true, refl, sym, ap, ◌∙◌, subst, arith, None, Some}
-use Rattle.std.specs.Prelude.{Option, IfSome, is_some, slice_get, map}
+use Rattle.std.specs.Prelude.{Option, IfSome, is_some, slice_get}
 use Rattle.std.proofs.lemmas.List.{length-map}
 use Rattle.std.proofs.lemmas.Option.{get_or_from_slice_get, slice_get-map, slice_get_within}
 use Rattle.ft_model.specs.declared.call.Call.{Call}
@@ -23,7 +23,7 @@ use Rattle.ft_trace.specs.declared.Shape.{Shape}
 use Rattle.ft_trace.specs.Addresses.{containers_in}
 use Rattle.ft_bank.specs.Keys.{IsKeyIn}
 use Rattle.ft_engine.specs.Callers.{IsOfKindIn}
-use Rattle.ft_engine.specs.Names.{AreOfKindIn, HasKey, HasRoomFor, IsCallIn, key_of_dict, key_of_set}
+use Rattle.ft_engine.specs.Names.{AreOfKindIn, IsCallIn, key_of_dict, key_of_set}
 
 if_some_both : {X : Type 0} (P Q : X → Type 0) → ((x : X) → P x → Q x) → (o : Option X) → IfSome o P → IfSome o Q
 if_some_both P Q each None holds = tt

@@ -1,5 +1,5 @@
 -- Workers: what they keep of the callers of an engine whose bank is made for a script, and of what these were answered.
-use Rattle.std.specs.Prelude.{◌≡◌, ℕ, suc, ◌+◌, ◌<◌, ◌≤◌, max, List, [], ◌∷◌, IsTrue, length, map, take, slice_index_or, vec_capacity}
+use Rattle.std.specs.Prelude.{◌≡◌, ℕ, suc, ◌<◌, ◌≤◌, max, List, [], ◌∷◌, IsTrue, length, map, take, slice_index_or, vec_capacity}
 use Rattle.ft_hash.specs.Hashes.{text_hash}
 use Rattle.ft_model.specs.declared.call.Call.{Call}
 use Rattle.ft_model.specs.declared.entry.Entry.{Entry}

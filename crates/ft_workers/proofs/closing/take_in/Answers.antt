@@ -1,5 +1,5 @@
 use Rattle.std.specs.declared.alloc.Global.{Global}
-use Rattle.std.proofs.Common.{◌≡◌, ℕ, ◌++◌, List, [], ◌∷◌, map, sym, ap, subst, ◌∙◌}
+use Rattle.std.proofs.Common.{◌≡◌, ℕ, ◌++◌, [], ◌∷◌, map, sym, ap, subst, ◌∙◌}
 use Rattle.std.specs.Prelude.{IsTrue, Vec}
 use Rattle.std.proofs.lemmas.List.{length-map, map-append}
 use Rattle.ft_model.specs.declared.entry.Entry.{Entry}

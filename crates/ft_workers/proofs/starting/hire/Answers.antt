@@ -5,7 +5,6 @@ use Rattle.std.proofs.lemmas.List.{length_push}
 use Rattle.ft_model.specs.Histories.{calls_of}
 use Rattle.ft_model.specs.Limits.{most_cursors}
 use Rattle.ft_engine.specs.Callers.{AreFresh, IsFresh}
-use Rattle.ft_engine.specs.declared.caller.Caller.{Caller}
 use Rattle.ft_workers.specs.declared.workers.Worker.{Worker}
 use Rattle.ft_workers.specs.Workers.{AreFrom, IsNew}
 use Rattle.ft_workers.proofs.WorkerLemmas.{fresh_new, from_push}

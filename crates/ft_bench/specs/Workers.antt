@@ -22,3 +22,6 @@ IsReady e c = IsFree e c × (0 < announces (view (pass_of c)).log)
 -- the caller of each of these threads is in no call
 abbrev pub AreWorkers : Engine → List Worker → Type 0
 AreWorkers e workers = All (λ w. IsFree e w.caller) workers
+
+abbrev pub AreReady : Engine → List Caller → Type 0
+AreReady e callers = All (IsReady e) callers

@@ -21,7 +21,7 @@ fn fill_of(workload: Workload, key: u32) -> Option<Call> {
             _ => None,
         },
         Workload::Set(_) if key % 2 == 0 => Some(call_of(Operation::Add(key), 0)),
-        Workload::Set(_) => None,
+        Workload::Set(_) | Workload::Script => None,
     }
 }
 
@@ -50,7 +50,7 @@ pub(crate) fn freshens(alloc: Global, workload: Workload) -> Result<Vec<Call>, A
             calls.push(on_list(ListCall::Clear))?;
             calls.push(on_list(ListCall::Extend { other: ITEMS }))?;
         }
-        Workload::Dict(_) | Workload::Set(_) => {}
+        Workload::Dict(_) | Workload::Set(_) | Workload::Script => {}
     }
     Ok(calls)
 }

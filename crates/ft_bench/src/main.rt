@@ -12,6 +12,7 @@ mod outcome;
 mod pairs;
 mod rounds;
 mod run;
+mod script;
 mod shape;
 mod start;
 mod stream;
@@ -21,7 +22,7 @@ mod worker;
 mod workload;
 
 use crate::outcome::show;
-use crate::run::run;
+use crate::run::run_workload;
 use crate::words::{Order, read_order};
 use crate::workload::{Workload, workloads};
 use std::io;
@@ -38,7 +39,7 @@ fn main(rt: HostRuntime) -> io::Result<()> {
         Order::Usage => println!(rt; "usage: ft_bench [list | WORKLOAD THREADS [SECONDS]]"),
         Order::List => list(&rt),
         Order::All => run_all(&rt),
-        Order::One(workload, threads, nanos) => match run(&rt, rt.alloc(), workload, threads, nanos)? {
+        Order::One(workload, threads, nanos) => match run_workload(&rt, rt.alloc(), workload, threads, nanos)? {
             Some(outcome) => show(&rt, workload, outcome),
             None => println!(rt; "out of memory"),
         },
@@ -49,16 +50,16 @@ fn main(rt: HostRuntime) -> io::Result<()> {
 fn list(rt: &impl Print) -> io::Result<()> {
     for workload in workloads() {
         let (name, threads) = (workload.name(), workload.threads());
-        println!(rt; "{name}:{threads}")?;
+        print!(rt; "{name}:{threads} ")?;
     }
-    Ok(())
+    println!(rt)
 }
 
 /// Runs each workload for a few milliseconds in two threads, and writes how many answers were wrong.
 fn run_all<R: AllocGlobal + Clock + Print + Threads + Wait + Sync>(rt: &R) -> io::Result<()> {
     for workload in workloads() {
         let name = workload.name();
-        match run(rt, rt.alloc(), workload, 2, QUICK)? {
+        match run_workload(rt, rt.alloc(), workload, 2, QUICK)? {
             Some(outcome) => println!(rt; "{name} bad={}", outcome.wrong)?,
             None => println!(rt; "out of memory")?,
         }

@@ -22,6 +22,21 @@ pub struct Outcome {
     pub longest: u64,
 }
 
+impl Outcome {
+    /// Nothing came of it yet.
+    pub(crate) fn nothing() -> Outcome {
+        Outcome {
+            made: 0,
+            wrong: 0,
+            nanos: 0,
+            pairs: 0,
+            pair_nanos: 0,
+            stall: 0,
+            longest: 0,
+        }
+    }
+}
+
 /// The longest stall of any thread in this round.
 fn stall_of(workers: &[Worker], round: usize) -> u64 {
     let mut longest = 0u64;
@@ -62,13 +77,9 @@ pub(crate) fn outcome_of(alloc: Global, workers: &[Worker]) -> Result<Outcome, A
     let stalls = stalls_of(alloc, workers)?;
     let middle = stalls.get(stalls.len() / 2).copied();
     let mut outcome = Outcome {
-        made: 0,
-        wrong: 0,
-        nanos: 0,
-        pairs: 0,
-        pair_nanos: 0,
         stall: middle.unwrap_or(0),
         longest: stalls.last().copied().unwrap_or(0),
+        ..Outcome::nothing()
     };
     for worker in workers {
         outcome = with(outcome, &worker.tally);

@@ -1,5 +1,4 @@
 //! The rounds of a thread: it goes online, makes its operations, and goes offline.
-ghost use Rattle.std.specs.Prelude.{◌≡◌};
 ghost use Rattle.ft_bench.specs.Workers.{IsFree, IsReady};
 
 use crate::answers::{answer, read};
@@ -8,8 +7,8 @@ use crate::operation::Operation;
 use crate::pairs::{fill, watch};
 use crate::worker::Worker;
 use crate::workload::Workload;
-use ft_engine::Engine;
-use ft_model::Call;
+use ft_engine::{Caller, Engine};
+use ft_model::{Call, Reply};
 use std::alloc::Global;
 use std::sync::Wait;
 use std::time::Clock;
@@ -36,6 +35,25 @@ pub(crate) fn since<R: Clock>(rt: &R, start: u64) -> u64 {
     end.saturating_sub(start)
 }
 
+/// What the call of an operation answers: by a look where it reads.
+fn reply_of<R: Wait>(
+    rt: &R,
+    engine: &Engine,
+    alloc: Global,
+    caller: &mut Caller,
+    operation: Operation,
+    call: &Call,
+) -> Option<Reply>
+    requires { IsReady engine.now caller.old }
+    ensures { IsReady engine.now caller.new }
+{
+    if operation.is_read() {
+        read(rt, engine, alloc, caller, call)
+    } else {
+        answer(rt, engine, alloc, caller, call)
+    }
+}
+
 /// Makes one operation, and counts it.
 pub(crate) fn make<R: Wait>(
     rt: &R,
@@ -48,11 +66,7 @@ pub(crate) fn make<R: Wait>(
     ensures { IsReady engine.now worker.new.caller }
 {
     let call = worker.tally.call_of(operation);
-    let reply = if operation.is_read() {
-        read(rt, engine, alloc, &mut worker.caller, &call)
-    } else {
-        answer(rt, engine, alloc, &mut worker.caller, &call)
-    };
+    let reply = reply_of(rt, engine, alloc, &mut worker.caller, operation, &call);
     worker.tally.count(operation, &reply);
 }
 
@@ -147,6 +161,7 @@ fn take_turns<R: Wait + Clock>(
             fill(rt, engine, alloc, course, worker, pairs)
         }
         Workload::Growth(_) => watch(rt, engine, alloc, course, worker),
+        Workload::Script => {}
     }
 }
 

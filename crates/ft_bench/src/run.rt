@@ -3,6 +3,7 @@
 use crate::course::Course;
 use crate::fills::{fills, freshens};
 use crate::outcome::{Outcome, outcome_of};
+use crate::script::run_script;
 use crate::start::start;
 use crate::threads::go_all;
 use crate::workload::Workload;
@@ -31,9 +32,8 @@ fn course_of(
     })
 }
 
-/// What comes of a workload in so many threads, whose rounds take so many nanoseconds together; nothing where memory ran
-/// out.
-pub(crate) fn run<R: Threads + Wait + Clock + Sync>(
+/// What comes of the rounds of all threads; nothing where memory ran out.
+fn run_threads<R: Threads + Wait + Clock + Sync>(
     rt: &R,
     alloc: Global,
     workload: Workload,
@@ -46,4 +46,19 @@ pub(crate) fn run<R: Threads + Wait + Clock + Sync>(
     };
     go_all(rt, &engine, alloc, &course, workers.as_mut_slice());
     Ok(Some(outcome_of(alloc, workers.as_slice())?))
+}
+
+/// What comes of a workload in so many threads, whose rounds take so many nanoseconds together; nothing where memory ran
+/// out.
+pub(crate) fn run_workload<R: Threads + Wait + Clock + Sync>(
+    rt: &R,
+    alloc: Global,
+    workload: Workload,
+    threads: u32,
+    nanos: u64,
+) -> Result<Option<Outcome>, AllocError> {
+    match workload {
+        Workload::Script => run_script(rt, alloc, nanos),
+        _ => run_threads(rt, alloc, workload, threads, nanos),
+    }
 }

@@ -41,7 +41,7 @@ fn kinds_of(alloc: Global, workload: Workload) -> Result<Vec<Kind>, AllocError> 
     match workload {
         Workload::Dict(_) | Workload::Growth(_) => Ok(vec![in alloc; Kind::Dict]?),
         Workload::List(_) => Ok(vec![in alloc; Kind::List, Kind::List]?),
-        Workload::Set(_) => Ok(vec![in alloc; Kind::Set]?),
+        Workload::Set(_) | Workload::Script => Ok(vec![in alloc; Kind::Set]?),
     }
 }
 

@@ -27,7 +27,7 @@ fn operation_of(workload: Workload, number: u64) -> Operation {
         Workload::List(_) => Operation::Item(key),
         Workload::Set(adds) if part < adds => Operation::Add(key),
         Workload::Set(adds) if part < adds.saturating_mul(2) => Operation::Discard(key),
-        Workload::Set(_) => Operation::Has(key),
+        Workload::Set(_) | Workload::Script => Operation::Has(key),
     }
 }
 

@@ -30,20 +30,38 @@ fn prepare<R: Wait>(
     done
 }
 
+/// Makes the calls that the run begins with, before its first round. Says whether each was done.
+fn fill_first<R: Wait>(
+    rt: &R,
+    engine: &Engine,
+    alloc: Global,
+    course: &Course,
+    worker: &mut Worker,
+) -> bool
+    requires { IsFree engine.now worker.old.caller }
+    ensures { IsFree engine.now worker.new.caller }
+{
+    if worker.tally.meetings != 0 {
+        return true;
+    }
+    prepare(rt, engine, alloc, worker, course.fills.as_slice())
+}
+
 /// What the first thread does between two rounds: it makes all as it is to be at the start of a round, or ends the run.
 fn begin<R: Wait>(rt: &R, engine: &Engine, alloc: Global, course: &Course, worker: &mut Worker)
     requires { IsFree engine.now worker.old.caller }
     ensures { IsFree engine.now worker.new.caller }
 {
-    let mut done = true;
-    if worker.tally.meetings == 0 {
-        done = prepare(rt, engine, alloc, worker, course.fills.as_slice());
+    if worker.tally.thread != 0 {
+        return;
     }
-    done = done && prepare(rt, engine, alloc, worker, course.freshens.as_slice());
-    if !done {
+    let filled = fill_first(rt, engine, alloc, course, worker);
+    let fresh = prepare(rt, engine, alloc, worker, course.freshens.as_slice());
+    if !filled || !fresh {
         worker.tally.wrong = worker.tally.wrong.saturating_add(1);
+        course.end();
     }
-    if !done || worker.tally.nanos >= course.nanos {
+    if worker.tally.nanos >= course.nanos {
         course.end();
     }
     course.set_filling(true);
@@ -70,9 +88,7 @@ fn go_round<R: Wait + Clock>(
     requires { IsFree engine.now worker.old.caller }
     ensures { IsFree engine.now worker.new.caller }
 {
-    if worker.tally.thread == 0 {
-        begin(rt, engine, alloc, course, worker);
-    }
+    begin(rt, engine, alloc, course, worker);
     meet(rt, engine, course, worker);
     if course.is_over() {
         return false;

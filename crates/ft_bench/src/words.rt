@@ -41,7 +41,10 @@ fn nanos_of(word: &str) -> Option<u64> {
     };
     let seconds = u64::from(whole.parse::<u16>().ok()?);
     let thousandths = u64::from(part.parse::<u16>().ok()?);
-    Some((seconds * 1000 + thousandths * unit) * 1_000_000)
+    let all = seconds
+        .saturating_mul(1000)
+        .saturating_add(thousandths.saturating_mul(unit));
+    Some(all.saturating_mul(1_000_000))
 }
 
 /// What these words ask for, the first being the program's name.

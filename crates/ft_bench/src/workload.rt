@@ -13,10 +13,12 @@ pub enum Workload {
     /// A set of the even ones of 1,000 integers, of which so many of a hundred operations add one, as many discard one,
     /// and the others look one up.
     Set(u32),
+    /// The calls of a script that is made, in one thread.
+    Script,
 }
 
 /// All workloads.
-pub(crate) fn workloads() -> [Workload; 9] {
+pub(crate) fn workloads() -> [Workload; 10] {
     [
         Workload::Dict(0),
         Workload::Dict(5),
@@ -27,6 +29,7 @@ pub(crate) fn workloads() -> [Workload; 9] {
         Workload::List(5),
         Workload::Set(25),
         Workload::Set(5),
+        Workload::Script,
     ]
 }
 
@@ -43,12 +46,14 @@ impl Workload {
             Workload::List(_) => "E95",
             Workload::Set(25) => "F",
             Workload::Set(_) => "F90",
+            Workload::Script => "G",
         }
     }
 
     /// The numbers of threads that it is meant for.
     pub(crate) fn threads(self) -> &'static str {
         match self {
+            Workload::Script => "1",
             Workload::Growth(_) => "2,4",
             Workload::Dict(_) | Workload::List(_) | Workload::Set(_) => "1,2,4",
         }

@@ -1,7 +1,7 @@
 #!/usr/bin/env python3
 """The workloads of crates/ft_bench with the built-in dict, list and set of this python3 and its threads:
-peer.py list | WORKLOAD THREADS [SECONDS]. The streams and the output are those of ft_bench. With a global interpreter lock
-only one thread runs at a time; a free-threaded build may be given as the interpreter."""
+peer.py list | WORKLOAD THREADS [SECONDS]. The streams and the output are those of ft_bench. With a global interpreter
+lock only one thread runs at a time; a free-threaded build may be given as the interpreter."""
 
 import sys
 import threading

@@ -58,7 +58,8 @@ inline std::vector<Operation> operations(const Workload& w, u32 thread) {
 }
 
 inline u64 now() {
-    return std::chrono::duration_cast<std::chrono::nanoseconds>(std::chrono::steady_clock::now().time_since_epoch()).count();
+    using namespace std::chrono;
+    return duration_cast<nanoseconds>(steady_clock::now().time_since_epoch()).count();
 }
 
 // A meeting of all threads, of those that spin.
@@ -146,6 +147,7 @@ template <class P> void go(P& p, const Workload& w, Course& c, Tally& t) {
 
 inline void show(const Workload& w, std::vector<Tally>& ts) {
     u64 made = 0, wrong = 0, nanos = 0, longest = 0;
+    double pair_nanos = std::max<u64>(ts[0].pair_nanos, 1);
     for (auto& t : ts) made += t.made, wrong += t.wrong, nanos = std::max(nanos, t.nanos);
     std::printf("%llu %llu.%09llu bad=%llu", (unsigned long long)made, (unsigned long long)(nanos / 1000000000),
                 (unsigned long long)(nanos % 1000000000), (unsigned long long)wrong);
@@ -159,8 +161,9 @@ inline void show(const Workload& w, std::vector<Tally>& ts) {
         }
         std::sort(stalls.begin(), stalls.end());
         if (!stalls.empty()) longest = stalls.back();
-        std::printf(" write_mops=%.3f stall_med_ns=%llu stall_max_ns=%llu", ts[0].pairs * 1e3 / std::max<u64>(ts[0].pair_nanos, 1),
-                    (unsigned long long)(stalls.empty() ? 0 : stalls[stalls.size() / 2]), (unsigned long long)longest);
+        u64 middle = stalls.empty() ? 0 : stalls[stalls.size() / 2];
+        std::printf(" write_mops=%.3f stall_med_ns=%llu stall_max_ns=%llu", ts[0].pairs * 1e3 / pair_nanos,
+                    (unsigned long long)middle, (unsigned long long)longest);
     }
     std::printf("\n");
 }

@@ -1,5 +1,5 @@
-// oneTBB's concurrent_unordered_map: reads and insertions at the same time, without locks. A value is an atomic; it has no
-// erasure that may meet other calls, so there is no set.
+// oneTBB's concurrent_unordered_map: reads and insertions at the same time, without locks. A value is an atomic; it has
+// no erasure that may meet other calls, so there is no set.
 #include "streams.hpp"
 #include <memory>
 #include <oneapi/tbb/concurrent_unordered_map.h>

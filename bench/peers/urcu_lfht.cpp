@@ -1,5 +1,5 @@
-// liburcu's cds_lfht, a lock-free hash table under RCU of the flavour memb: a read is a lookup inside a read-side critical
-// section; a set replaces the node and frees the old one after a grace period, by call_rcu.
+// liburcu's cds_lfht, a lock-free hash table under RCU of the flavour memb: a read is a lookup inside a read-side
+// critical section; a set replaces the node and frees the old one after a grace period, by call_rcu.
 #include "streams.hpp"
 #define _LGPL_SOURCE 1
 #define URCU_INLINE_SMALL_FUNCTIONS 1
@@ -16,9 +16,13 @@ static unsigned long hash_of(i64 key) {
     u64 h = u64(key) * 0x9e3779b97f4a7c15ull;
     return h ^ (h >> 32);
 }
-static Node* node_of(cds_lfht_node* n) { return reinterpret_cast<Node*>(reinterpret_cast<char*>(n) - offsetof(Node, node)); }
+static Node* node_of(cds_lfht_node* n) {
+    return reinterpret_cast<Node*>(reinterpret_cast<char*>(n) - offsetof(Node, node));
+}
 static int is_key(cds_lfht_node* n, const void* key) { return node_of(n)->key == *static_cast<const i64*>(key); }
-static void free_node(rcu_head* h) { delete reinterpret_cast<Node*>(reinterpret_cast<char*>(h) - offsetof(Node, head)); }
+static void free_node(rcu_head* h) {
+    delete reinterpret_cast<Node*>(reinterpret_cast<char*>(h) - offsetof(Node, head));
+}
 
 struct Peer {
     cds_lfht* table = nullptr;

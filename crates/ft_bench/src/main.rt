@@ -39,7 +39,13 @@ fn main(rt: HostRuntime) -> io::Result<()> {
         Order::Usage => println!(rt; "usage: ft_bench [list | WORKLOAD THREADS [SECONDS]]"),
         Order::List => list(&rt),
         Order::All => run_all(&rt),
-        Order::One(workload, threads, nanos) => match run_workload(&rt, rt.alloc(), workload, threads, nanos)? {
+        Order::One(workload, threads, nanos) => match run_workload(
+            &rt,
+            rt.alloc(),
+            workload,
+            threads,
+            nanos,
+        )? {
             Some(outcome) => show(&rt, workload, outcome),
             None => println!(rt; "out of memory"),
         },

@@ -120,13 +120,7 @@ fn make_for<R: Wait + Clock>(
 }
 
 /// Makes operations until so many items have been appended, and at most a hundred for each of these.
-fn make_appends<R: Wait>(
-    rt: &R,
-    engine: &Engine,
-    alloc: Global,
-    worker: &mut Worker,
-    appends: u32,
-)
+fn make_appends<R: Wait>(rt: &R, engine: &Engine, alloc: Global, worker: &mut Worker, appends: u32)
     requires { IsReady engine.now worker.old.caller }
     ensures { IsReady engine.now worker.new.caller }
 {

@@ -17,6 +17,7 @@ use std::time::Clock;
 
 /// How many calls the script has, and how many of these each of its four threads has.
 const CALLS: u32 = 100_000;
+
 const SHARE: usize = 25_000;
 
 /// The script; nothing where memory ran out.
@@ -47,7 +48,11 @@ fn shape_of(alloc: Global, script: &ScriptParts) -> Result<Shape, AllocError> {
 }
 
 /// Each caller goes online.
-fn enter_all(alloc: Global, engine: &Engine, callers: Vec<Caller>) -> Result<Vec<Caller>, AllocError>
+fn enter_all(
+    alloc: Global,
+    engine: &Engine,
+    callers: Vec<Caller>,
+) -> Result<Vec<Caller>, AllocError>
     requires { AreFree engine.now callers.items }
     ensures { IfOk result (λ ready. AreReady engine.now ready.items) }
 {
@@ -61,10 +66,7 @@ fn enter_all(alloc: Global, engine: &Engine, callers: Vec<Caller>) -> Result<Vec
 }
 
 /// The engine of a script, and a caller for each of its threads; nothing where memory ran out.
-fn start(
-    alloc: Global,
-    script: &ScriptParts,
-) -> Result<Option<(Engine, Vec<Caller>)>, AllocError>
+fn start(alloc: Global, script: &ScriptParts) -> Result<Option<(Engine, Vec<Caller>)>, AllocError>
     ensures { IfOk result (λ made. IfSome made (λ m. AreReady m.0 m.1.items)) }
 {
     let shape = shape_of(alloc, script)?;

@@ -13,6 +13,7 @@ use std::alloc::{AllocError, Global};
 
 /// How many classes up to 10, and up to 12, there are.
 const SMALL: u32 = 8;
+
 const MIDDLE: u32 = 10;
 /// How many classes there are.
 const CLASSES: u32 = 14;
@@ -46,7 +47,11 @@ fn kinds_of(alloc: Global, workload: Workload) -> Result<Vec<Kind>, AllocError> 
 }
 
 /// The shape of the bank for so many threads.
-pub(crate) fn shape_of(alloc: Global, workload: Workload, threads: u32) -> Result<Shape, AllocError> {
+pub(crate) fn shape_of(
+    alloc: Global,
+    workload: Workload,
+    threads: u32,
+) -> Result<Shape, AllocError> {
     Ok(Shape {
         kinds: kinds_of(alloc, workload)?,
         texts: Vec::new(alloc),

@@ -101,13 +101,7 @@ fn go_round<R: Wait + Clock>(
 }
 
 /// All rounds of a thread.
-fn go<R: Wait + Clock>(
-    rt: &R,
-    engine: &Engine,
-    alloc: Global,
-    course: &Course,
-    worker: &mut Worker,
-)
+fn go<R: Wait + Clock>(rt: &R, engine: &Engine, alloc: Global, course: &Course, worker: &mut Worker)
     requires { IsFree engine.now worker.old.caller }
     ensures { IsFree engine.now worker.new.caller }
 {

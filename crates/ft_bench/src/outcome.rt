@@ -61,7 +61,7 @@ fn stalls_of(alloc: Global, workers: &[Worker]) -> Result<Vec<u64>, AllocError> 
 }
 
 /// The outcome with what a thread did.
-fn with(outcome: Outcome, tally: &Tally) -> Outcome {
+fn added(outcome: Outcome, tally: &Tally) -> Outcome {
     Outcome {
         made: outcome.made.saturating_add(tally.made),
         wrong: outcome.wrong.saturating_add(tally.wrong),
@@ -82,7 +82,7 @@ pub(crate) fn outcome_of(alloc: Global, workers: &[Worker]) -> Result<Outcome, A
         ..Outcome::nothing()
     };
     for worker in workers {
-        outcome = with(outcome, &worker.tally);
+        outcome = added(outcome, &worker.tally);
     }
     Ok(outcome)
 }

@@ -18,6 +18,7 @@ use Rattle.ft_trace.specs.Words.{picture, root_in, Stands}
 use Rattle.ft_trace.specs.Holds.{held, known}
 use Rattle.ft_bank.specs.Writes.{Committed, KeepsUnwritten}
 use Rattle.ft_trace.proofs.Cases.{hit, miss}
+use Rattle.ft_trace.proofs.Owning.{owners_then}
 use Rattle.ft_trace.proofs.Seeing.{seen_up}
 use Rattle.ft_trace.proofs.Untouched.{untouched_in}
 use Rattle.ft_bank.specs.Whole.{SamePass, SameWork, OnlyLoaded, OnlyPut, EndsWrite, Wrote, hand_after, debt_after, write_entry}
@@ -37,14 +38,14 @@ IsCalm (PutFresh t i x) = Unit {0}
 IsCalm act = ⊥
 
 pub calm : (a : Act) (v : View) → IsCalm a → SameWork v (noted a v)
-calm (Version o f) v ok = record { pass = record { number = refl; next = refl; parts = refl; shape = refl; locks = λ p. refl; writes = λ p. refl; announced = refl; flight = refl; begun = refl; cursors = λ n. refl; tokens = refl; learnt = refl; lists = refl; floor = refl; since = refl; seen = le_refl (seen_writes v) }; left = refl; entries = refl; committed = λ p. refl; emptied = λ p. refl; hands = λ t. refl; used = refl; debt = refl; owes = refl; past = refl }
-calm (ReadBlock o i f) v ok = record { pass = record { number = refl; next = refl; parts = refl; shape = refl; locks = λ p. refl; writes = λ p. refl; announced = refl; flight = refl; begun = refl; cursors = λ n. refl; tokens = refl; learnt = refl; lists = refl; floor = refl; since = refl; seen = le_refl (seen_writes v) }; left = refl; entries = refl; committed = λ p. refl; emptied = λ p. refl; hands = λ t. refl; used = refl; debt = refl; owes = refl; past = refl }
-calm (ReadTable t i f) v ok = record { pass = record { number = refl; next = refl; parts = refl; shape = refl; locks = λ p. refl; writes = λ p. refl; announced = refl; flight = refl; begun = refl; cursors = λ n. refl; tokens = refl; learnt = refl; lists = refl; floor = refl; since = refl; seen = le_refl (seen_writes v) }; left = refl; entries = refl; committed = λ p. refl; emptied = λ p. refl; hands = λ t. refl; used = refl; debt = refl; owes = refl; past = refl }
-calm (ReadCounter f) v ok = record { pass = record { number = refl; next = refl; parts = refl; shape = refl; locks = λ p. refl; writes = λ p. refl; announced = refl; flight = refl; begun = refl; cursors = λ n. refl; tokens = refl; learnt = refl; lists = refl; floor = refl; since = refl; seen = seen_up (ReadCounter f) v }; left = refl; entries = refl; committed = λ p. refl; emptied = λ p. refl; hands = λ t. refl; used = refl; debt = refl; owes = refl; past = refl }
-calm (ReadRoot o f) v ok = record { pass = record { number = refl; next = refl; parts = refl; shape = refl; locks = λ p. refl; writes = λ p. refl; announced = refl; flight = refl; begun = refl; cursors = λ n. refl; tokens = refl; learnt = refl; lists = refl; floor = refl; since = refl; seen = le_refl (seen_writes v) }; left = refl; entries = refl; committed = λ p. refl; emptied = λ p. refl; hands = λ t. refl; used = refl; debt = refl; owes = refl; past = refl }
-calm (PutBlock o i x) v ok = record { pass = record { number = refl; next = refl; parts = refl; shape = refl; locks = λ p. refl; writes = λ p. refl; announced = refl; flight = refl; begun = refl; cursors = λ n. refl; tokens = refl; learnt = refl; lists = refl; floor = refl; since = refl; seen = le_refl (seen_writes v) }; left = refl; entries = refl; committed = λ p. refl; emptied = λ p. refl; hands = λ t. refl; used = refl; debt = refl; owes = refl; past = refl }
-calm (PutTable o t i x) v ok = record { pass = record { number = refl; next = refl; parts = refl; shape = refl; locks = λ p. refl; writes = λ p. refl; announced = refl; flight = refl; begun = refl; cursors = λ n. refl; tokens = refl; learnt = refl; lists = refl; floor = refl; since = refl; seen = le_refl (seen_writes v) }; left = refl; entries = refl; committed = λ p. refl; emptied = λ p. refl; hands = λ t. refl; used = refl; debt = refl; owes = refl; past = refl }
-calm (PutFresh t i x) v ok = record { pass = record { number = refl; next = refl; parts = refl; shape = refl; locks = λ p. refl; writes = λ p. refl; announced = refl; flight = refl; begun = refl; cursors = λ n. refl; tokens = refl; learnt = refl; lists = refl; floor = refl; since = refl; seen = le_refl (seen_writes v) }; left = refl; entries = refl; committed = λ p. refl; emptied = λ p. refl; hands = λ t. refl; used = refl; debt = refl; owes = refl; past = refl }
+calm (Version o f) v ok = record { pass = record { number = refl; next = refl; parts = refl; shape = refl; locks = λ p. refl; writes = λ p. refl; announced = refl; flight = refl; begun = refl; cursors = λ n. refl; tokens = refl; learnt = refl; lists = refl; floor = refl; since = refl; owners = record { had = refl; found = refl }; seen = le_refl (seen_writes v) }; left = refl; entries = refl; committed = λ p. refl; emptied = λ p. refl; hands = λ t. refl; used = refl; debt = refl; owes = refl; past = refl }
+calm (ReadBlock o i f) v ok = record { pass = record { number = refl; next = refl; parts = refl; shape = refl; locks = λ p. refl; writes = λ p. refl; announced = refl; flight = refl; begun = refl; cursors = λ n. refl; tokens = refl; learnt = refl; lists = refl; floor = refl; since = refl; owners = record { had = refl; found = refl }; seen = le_refl (seen_writes v) }; left = refl; entries = refl; committed = λ p. refl; emptied = λ p. refl; hands = λ t. refl; used = refl; debt = refl; owes = refl; past = refl }
+calm (ReadTable t i f) v ok = record { pass = record { number = refl; next = refl; parts = refl; shape = refl; locks = λ p. refl; writes = λ p. refl; announced = refl; flight = refl; begun = refl; cursors = λ n. refl; tokens = refl; learnt = refl; lists = refl; floor = refl; since = refl; owners = record { had = refl; found = refl }; seen = le_refl (seen_writes v) }; left = refl; entries = refl; committed = λ p. refl; emptied = λ p. refl; hands = λ t. refl; used = refl; debt = refl; owes = refl; past = refl }
+calm (ReadCounter f) v ok = record { pass = record { number = refl; next = refl; parts = refl; shape = refl; locks = λ p. refl; writes = λ p. refl; announced = refl; flight = refl; begun = refl; cursors = λ n. refl; tokens = refl; learnt = refl; lists = refl; floor = refl; since = refl; owners = record { had = refl; found = refl }; seen = seen_up (ReadCounter f) v }; left = refl; entries = refl; committed = λ p. refl; emptied = λ p. refl; hands = λ t. refl; used = refl; debt = refl; owes = refl; past = refl }
+calm (ReadRoot o f) v ok = record { pass = record { number = refl; next = refl; parts = refl; shape = refl; locks = λ p. refl; writes = λ p. refl; announced = refl; flight = refl; begun = refl; cursors = λ n. refl; tokens = refl; learnt = refl; lists = refl; floor = refl; since = refl; owners = record { had = refl; found = refl }; seen = le_refl (seen_writes v) }; left = refl; entries = refl; committed = λ p. refl; emptied = λ p. refl; hands = λ t. refl; used = refl; debt = refl; owes = refl; past = refl }
+calm (PutBlock o i x) v ok = record { pass = record { number = refl; next = refl; parts = refl; shape = refl; locks = λ p. refl; writes = λ p. refl; announced = refl; flight = refl; begun = refl; cursors = λ n. refl; tokens = refl; learnt = refl; lists = refl; floor = refl; since = refl; owners = record { had = refl; found = refl }; seen = le_refl (seen_writes v) }; left = refl; entries = refl; committed = λ p. refl; emptied = λ p. refl; hands = λ t. refl; used = refl; debt = refl; owes = refl; past = refl }
+calm (PutTable o t i x) v ok = record { pass = record { number = refl; next = refl; parts = refl; shape = refl; locks = λ p. refl; writes = λ p. refl; announced = refl; flight = refl; begun = refl; cursors = λ n. refl; tokens = refl; learnt = refl; lists = refl; floor = refl; since = refl; owners = record { had = refl; found = refl }; seen = le_refl (seen_writes v) }; left = refl; entries = refl; committed = λ p. refl; emptied = λ p. refl; hands = λ t. refl; used = refl; debt = refl; owes = refl; past = refl }
+calm (PutFresh t i x) v ok = record { pass = record { number = refl; next = refl; parts = refl; shape = refl; locks = λ p. refl; writes = λ p. refl; announced = refl; flight = refl; begun = refl; cursors = λ n. refl; tokens = refl; learnt = refl; lists = refl; floor = refl; since = refl; owners = record { had = refl; found = refl }; seen = le_refl (seen_writes v) }; left = refl; entries = refl; committed = λ p. refl; emptied = λ p. refl; hands = λ t. refl; used = refl; debt = refl; owes = refl; past = refl }
 calm a v ok = absurd ok
 
 -- a load
@@ -68,7 +69,7 @@ pub loaded_by : (a : Act) (v w : View) → IsLoad a → w ≡ noted a v → Only
 loaded_by a v w ok is = subst (OnlyLoaded v) (sym is) (load_only a v ok)
 
 pub same_pass : (v : View) → SamePass v v
-same_pass v = record { number = refl; next = refl; parts = refl; shape = refl; locks = λ p. refl; writes = λ p. refl; announced = refl; flight = refl; begun = refl; cursors = λ n. refl; tokens = refl; learnt = refl; lists = refl; floor = refl; since = refl; seen = le_refl (seen_writes v) }
+same_pass v = record { number = refl; next = refl; parts = refl; shape = refl; locks = λ p. refl; writes = λ p. refl; announced = refl; flight = refl; begun = refl; cursors = λ n. refl; tokens = refl; learnt = refl; lists = refl; floor = refl; since = refl; owners = record { had = refl; found = refl }; seen = le_refl (seen_writes v) }
 
 pub same_work : (v : View) → SameWork v v
 same_work v = record { pass = same_pass v; left = refl; entries = refl; committed = λ p. refl; emptied = λ p. refl; hands = λ t. refl; used = refl; debt = refl; owes = refl; past = refl }
@@ -91,6 +92,7 @@ module _ (u v w : View) where
     lists = b.lists ∙ a.lists;
     floor = b.floor ∙ a.floor;
     since = b.since ∙ a.since;
+    owners = owners_then u v w a.owners b.owners;
     seen = le_trans a.seen b.seen;
   }
 
@@ -180,6 +182,7 @@ module _ (called : Call) (said : Reply) (number g : ℕ) (snap : Snap) (u c z w 
         lists = p1.lists;
         floor = p1.floor;
         since = p1.since;
+        owners = record { had = p1.owners.had; found = p1.owners.found };
         seen = low;
         shows = let shown_at = le_trans (le-max_right (shown u.log) (number + 1)) (le-max_right u.learnt (max (shown u.log) (number + 1))) in let up = le_trans shown_at p1.seen in omega (arith, up);
         left = let l = w1.left in omega (arith, l, some);
@@ -247,6 +250,7 @@ module _ (called : Call) (said : Reply) (number f : ℕ) (v s u w : View) where
           lists = ends.lists ∙ p1.lists;
           floor = ends.floor ∙ p1.floor;
           since = ends.since ∙ p1.since;
+          owners = record { had = ends.owners.had ∙ p1.owners.had; found = ends.owners.found ∙ p1.owners.found };
           seen = let low = le_trans p1.seen ends.seen in let more = ends.shows in omega (arith, low, more);
         };
         seen = le_trans p1.seen ends.seen;

@@ -3,9 +3,11 @@ use Rattle.std.specs.Prelude.{All, List}
 use Rattle.std.specs.List.{flat_map}
 use Rattle.ft_model.specs.declared.call.Call.{Call}
 use Rattle.ft_trace.specs.declared.Entry.{Entry}
+use Rattle.ft_trace.specs.declared.Owner.{Owner}
 use Rattle.ft_trace.specs.declared.Shape.{Shape}
 use Rattle.ft_trace.specs.Acts.{all_lists}
 use Rattle.ft_trace.specs.InOrder.{AreInOrder}
+use Rattle.ft_trace.specs.Owners.{had_locks, found_owners}
 use Rattle.ft_trace.specs.OwnOrder.{AreInOwnOrder, IsWriteIn}
 use Rattle.ft_bank.specs.Shapes.{plan}
 use Rattle.ft_bank.specs.declared.closed.Closed.{Closed}
@@ -20,6 +22,13 @@ lists_in c = all_lists c.pass.seat.me.0
 -- the entries of all passes
 abbrev pub entries_in : Closed → List Entry
 entries_in c = flat_map (λ entries. entries) (lists_in c)
+
+-- the locks that passes have had, and the passes that were found with locks
+abbrev pub had_in : Closed → List Owner
+had_in c = had_locks c.pass.seat.me.0.number c.pass.seat.me.0.log
+
+abbrev pub found_in : Closed → List Owner
+found_in c = found_owners c.pass.seat.me.0.log
 
 -- There are writes, the oldest first, beside which all these entries stand: each write is that of one entry, and each
 -- entry has the reply of the plain containers at its stamp, or that of a section, or a MemoryError with its cause

@@ -24,4 +24,4 @@ IsNoteOf b n = n.seat.table_id ≡ b.table.shared.table_id
 
 -- what the pass knows once it has learnt that there are this many writes; from a note it takes over no table
 abbrev pub knowing : ℕ → View → View
-knowing n v = record v { log = TookOver [] ∷ v.log; learnt = max v.learnt n }
+knowing n v = record v { log = TookOver [] [] [] ∷ v.log; learnt = max v.learnt n }

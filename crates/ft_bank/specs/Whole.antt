@@ -9,6 +9,7 @@ use Rattle.ft_trace.specs.declared.View.{View}
 use Rattle.ft_trace.specs.Addresses.{containers_in}
 use Rattle.ft_trace.specs.Acts.{has_lock, is_writing, has_committed, has_emptied, stage, stage_next, announces, used, debt, debt_next, flight, owes, mem, past, seen_writes}
 use Rattle.ft_trace.specs.Floors.{at_floor}
+use Rattle.ft_trace.specs.Owners.{SameOwners}
 use Rattle.ft_trace.specs.Hands.{cursor_in}
 use Rattle.ft_trace.specs.Sections.{begun}
 use Rattle.ft_trace.specs.Worlds.{kept_at, changes}
@@ -18,7 +19,8 @@ use Rattle.ft_bank.specs.Writes.{MayHave}
 
 -- It is the same pass: it has the same locks, has made the same versions odd, announces the same, is in the midst of
 -- the same taking or giving, has begun the same sections, has the same cursors and the same entries of passes that it
--- took in, has the floor as before and since the same moment, and has seen no fewer writes. (profile)
+-- took in, has the floor as before and since the same moment, has taken no lock and found none with another pass, and has
+-- seen no fewer writes. (profile)
 pub record SamePass (v w : View) : Type 0 where
   pub number : w.number ≡ v.number
   pub next : w.next ≡ v.next
@@ -35,6 +37,7 @@ pub record SamePass (v w : View) : Type 0 where
   pub lists : w.lists ≡ v.lists
   pub floor : w.has_floor ≡ v.has_floor
   pub since : at_floor w.log ≡ at_floor v.log
+  pub owners : SameOwners v w
   pub seen : seen_writes v ≤ seen_writes w
 
 -- The same pass has made no entry and no call, and has the same tables in hand; and each write that it has begun is as
@@ -96,6 +99,7 @@ pub record EndsWrite (called : Call) (said : Reply) (number : ℕ) (v w : View) 
   pub lists : w.lists ≡ v.lists
   pub floor : w.has_floor ≡ v.has_floor
   pub since : at_floor w.log ≡ at_floor v.log
+  pub owners : SameOwners v w
   pub seen : seen_writes v ≤ number
   pub shows : number < seen_writes w
   pub left : v.left ≡ suc w.left

@@ -39,7 +39,8 @@ pub struct Bank {
 
 impl Bank {
     ghost use Rattle.ft_bank.specs.Passes.{shape_of, view, IsPassOf};
-    ghost use Rattle.ft_bank.specs.Closings.{shape_in, lists_in, entries_in};
+    ghost use Rattle.ft_bank.specs.Closings.{shape_in, lists_in, entries_in, had_in, found_in};
+    ghost use Rattle.ft_trace.specs.Owners.{had_locks, found_owners};
     ghost use Rattle.ft_bank.specs.Retired.{TakesOver};
     ghost use Rattle.ft_bank.specs.Sections.{stack_of, no_sections};
 
@@ -140,6 +141,8 @@ impl Bank {
         requires all { (view pass).parts ≡ (shape_of self).passes }
         ensures shape { shape_in result ≡ shape_of self }
         ensures lists { lists_in result ≡ all_lists (view pass) }
+        ensures had { had_in result ≡ had_locks (view pass).number (view pass).log }
+        ensures found { found_in result ≡ found_owners (view pass).log }
         ensures count { length (entries_in result) + (view pass).left ≡ (shape_of self).passes * (shape_of self).calls }
     {
         let Bank {

@@ -15,7 +15,8 @@ pub struct Closed {
 }
 
 impl Closed {
-    ghost use Rattle.ft_bank.specs.Closings.{IsWhole};
+    ghost use Rattle.ft_bank.specs.Closings.{IsWhole, had_in, found_in};
+    ghost use Rattle.ft_trace.specs.Owners.{AreOwners};
 
     /// The entries have one history of writes: each write's number is its place there, each number is
     /// that of one entry, and each entry has the reply of the plain containers at its stamp; a
@@ -23,5 +24,10 @@ impl Closed {
     /// section that it says it kept no other pass wrote on the section's containers.
     pub fn entries_are_whole(&self)
         ensures { IsWhole self.now }
+    {}
+
+    /// Whoever was found with the lock of a container had taken it.
+    pub fn owners_are_known(&self)
+        ensures { AreOwners (found_in self.now) (had_in self.now) }
     {}
 }

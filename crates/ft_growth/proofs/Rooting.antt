@@ -124,6 +124,7 @@ module _ (called : Call) (said : Reply) (number f root : ℕ) (v r u w : View) w
           lists = ends.lists ∙ p1.lists;
           floor = ends.floor ∙ p1.floor;
           since = ends.since ∙ p1.since;
+          owners = record { had = ends.owners.had ∙ p1.owners.had; found = ends.owners.found ∙ p1.owners.found };
           learnt = ends.learnt ∙ p1.learnt;
         };
         left = sym w1.left ∙ ends.left;

@@ -11,6 +11,7 @@ use Rattle.ft_trace.specs.declared.View.{View}
 use Rattle.ft_trace.specs.Acts.{flight, has_goal, noted}
 use Rattle.ft_trace.specs.Hands.{cursor_in}
 use Rattle.ft_trace.specs.Holds.{held}
+use Rattle.ft_trace.specs.Owners.{SameOwners}
 use Rattle.ft_trace.specs.Words.{root_in}
 use Rattle.ft_trace.specs.Worlds.{changes}
 use Rattle.ft_bank.specs.declared.table.Table.{Table}
@@ -26,7 +27,7 @@ use Rattle.ft_qsbr.specs.Collecting.{Collected, StaysOrGoes}
 use Rattle.ft_section.specs.declared.answers.Objects.{Objects}
 use Rattle.ft_section.specs.declared.answers.Step.{Step}
 use Rattle.ft_section.specs.declared.answers.Step.TheVariants as step
-use Rattle.ft_section.specs.Locking.{OnlyLocked, FoundOwner}
+use Rattle.ft_section.specs.Locking.{OnlyLocked, FoundOwner, LocksWithin}
 use Rattle.ft_section.specs.Takings.{HasLocks, IsOf}
 use Rattle.ft_growth.specs.declared.adding.Added.{Added}
 use Rattle.ft_growth.specs.declared.adding.Added.TheVariants as added
@@ -123,10 +124,12 @@ step_after (added.Moved a b) said = step.Moved a b
 pub record UnderLocks (objects : Objects) (F : View → View → Type 0) (v w : View) : Type 0 where
   pub before : View
   pub took : OnlyLocked v before
+  pub within : LocksWithin objects v before
   pub locks : HasLocks before objects
   pub after : View
   pub did : F before after
   pub gone : OnlyLocked after w
+  pub owners : SameOwners after w
 
 -- What the try of a call answers that comes to F under the locks of these containers, and replies so where it is made;
 -- or a step of it found another pass with one of these locks. It takes no memory. (C API, critical sections)

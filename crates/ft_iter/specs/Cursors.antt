@@ -20,8 +20,9 @@ use Rattle.ft_bank.specs.Answered.{AnsweredCursor}
 use Rattle.ft_section.specs.declared.answers.Objects.TheVariants.{One}
 use Rattle.ft_section.specs.declared.answers.Step.{Step}
 use Rattle.ft_section.specs.declared.answers.Step.TheVariants as step
-use Rattle.ft_section.specs.Locking.{OnlyLocked, FoundOwner}
+use Rattle.ft_section.specs.Locking.{OnlyLocked, FoundOwner, LocksWithin}
 use Rattle.ft_section.specs.Takings.{IsOf}
+use Rattle.ft_trace.specs.Owners.{SameOwners}
 
 -- one `next` of a cursor over a container with this content (Python manual, Iterator Types)
 abbrev pub step_in : Content → Cursor → CursorStep
@@ -29,14 +30,16 @@ step_in c (cursor.Dict o walk size expected last) = dict_next (dict_of c).pairs 
 step_in c (cursor.List o index ended) = list_next (list_of c) o index ended
 step_in c (cursor.Set o walk size last) = set_next (set_of c).elements o walk size last
 
--- the pass took its lock, gave this reply with this stamp, which it loaded while it had it, and let go of the lock;
+-- the pass took the lock of the container o, gave this reply with this stamp, which it loaded while it had it, and let go of the lock;
 -- this cursor is its own under the number then
-pub record MovedUnderLock (called : Call) (said : Reply) (stamp number : ℕ) (left : Cursor) (v w : View) : Type 0 where
+pub record MovedUnderLock (o : ℕ) (called : Call) (said : Reply) (stamp number : ℕ) (left : Cursor) (v w : View) : Type 0 where
   pub before : View
   pub after : View
   pub took : OnlyLocked v before
+  pub within : LocksWithin (One o) v before
   pub answered : AnsweredCursor called said stamp number left before after
   pub gone : OnlyLocked after w
+  pub owners : SameOwners after w
   pub mine : cursor_in number w.log ≡ Some left
 
 -- The pass has the cursors that it had under all other numbers. (Python manual, Iterator Types)
@@ -53,7 +56,7 @@ IsOver kind o walker = (container_of walker ≡ o) × (cursor_kind walker ≡ ki
 abbrev pub IsMoveOf : Kind → ℕ → Call → ℕ → Option Cursor → View → View → Step → Option Cursor → Type 0
 IsMoveOf kind o called number had v w (step.Done said stamp) left =
     (walker : Cursor) × (left ≡ Some walker) × IsOver kind o walker
-    × MovedUnderLock called said stamp.number number walker v w
+    × MovedUnderLock o called said stamp.number number walker v w
     × (stamp.wrote ≡ false)
 IsMoveOf kind o called number had v w (step.NotYet p q) left =
     (left ≡ had) × OnlyLocked v w × IsOf p (One o) × FoundOwner p q v w

@@ -54,7 +54,7 @@ IsCopied called v w (Err e) = IsWithout called v w
 -- What such a call on these containers answers. It was made; or a step of it found another pass with the lock of one of
 -- them; or there was no memory for its reply, and it left all as it was. (C API, critical sections)
 abbrev pub IsCopyOf : Objects → Call → View → View → Step → Type 0
-IsCopyOf objects called v w (step.Done said stamp) = MadeUnderLocks called said stamp v w
+IsCopyOf objects called v w (step.Done said stamp) = MadeUnderLocks objects called said stamp v w
 IsCopyOf objects called v w (step.NotYet p q) = OnlyLocked v w × IsOf p objects × FoundOwner p q v w
 IsCopyOf objects called v w (step.Moved a b) = ⊥
 IsCopyOf objects called v w step.NoMemory = UnderLocks objects (IsWithout called) v w

@@ -8,6 +8,7 @@ use Rattle.ft_model.specs.declared.reply.Reply.{Reply}
 use Rattle.ft_model.specs.declared.reply.Reply.TheVariants as reply
 use Rattle.ft_model.specs.Tables.{StoredWorld}
 use Rattle.ft_trace.specs.declared.View.{View}
+use Rattle.ft_trace.specs.Owners.{SameOwners}
 use Rattle.ft_trace.specs.Worlds.{reply_in}
 use Rattle.ft_bank.specs.Whole.{OnlyLoaded}
 use Rattle.ft_bank.specs.Writes.{MayHave}
@@ -15,7 +16,7 @@ use Rattle.ft_section.specs.declared.answers.Objects.{Objects}
 use Rattle.ft_section.specs.declared.answers.Stamp.{Stamp}
 use Rattle.ft_section.specs.declared.answers.Step.{Step}
 use Rattle.ft_section.specs.declared.answers.Step.TheVariants as step
-use Rattle.ft_section.specs.Locking.{OnlyLocked, FoundOwner}
+use Rattle.ft_section.specs.Locking.{OnlyLocked, FoundOwner, LocksWithin}
 use Rattle.ft_section.specs.Takings.{IsOf}
 use Rattle.ft_search.specs.Calls.{MadeAs, MadeUnderLocks}
 
@@ -32,19 +33,21 @@ abbrev pub IsCopied : Call → View → View → Result (Reply × Stamp) AllocEr
 IsCopied called v w (Ok made) = MadeAs called made.0 made.1 v w
 IsCopied called v w (Err e) = OnlyLoaded v w × TakesMemory called v
 
--- the pass took the locks of such a call, loaded words, and let go of the locks
-pub record LeftAlone (called : Call) (v w : View) : Type 0 where
+-- the pass took the locks of these containers for such a call, loaded words, and let go of the locks
+pub record LeftAlone (objects : Objects) (called : Call) (v w : View) : Type 0 where
   pub before : View
   pub after : View
   pub took : OnlyLocked v before
+  pub within : LocksWithin objects v before
   pub loaded : OnlyLoaded before after
   pub takes : TakesMemory called before
   pub gone : OnlyLocked after w
+  pub owners : SameOwners after w
 
 -- What such a call on these containers answers. It was made; or a step of it found another pass with the lock of one of
 -- them; or there was no memory for its reply, and it left all as it was. (C API, critical sections)
 abbrev pub IsCopyOf : Objects → Call → View → View → Step → Type 0
-IsCopyOf objects called v w (step.Done said stamp) = MadeUnderLocks called said stamp v w
+IsCopyOf objects called v w (step.Done said stamp) = MadeUnderLocks objects called said stamp v w
 IsCopyOf objects called v w (step.NotYet p q) = OnlyLocked v w × IsOf p objects × FoundOwner p q v w
 IsCopyOf objects called v w (step.Moved a b) = ⊥
-IsCopyOf objects called v w step.NoMemory = LeftAlone called v w
+IsCopyOf objects called v w step.NoMemory = LeftAlone objects called v w

@@ -3,10 +3,11 @@ use Rattle.std.proofs.Common.{◌≡◌, ◌⊎◌, ℕ, zero, suc, ◌≤◌, l
 use mathlib.Core.Logic.{dite}
 use native.Mathlib.Decide.{ℕ_discrete}
 use Rattle.ft_trace.specs.declared.Act.{Act}
-use Rattle.ft_trace.specs.declared.Act.TheVariants.{Unlock, Answer, AnswerCursor, TakeFloor, ReadHeader, GiveTable, RaiseCount, PutHeader, Retire}
+use Rattle.ft_trace.specs.declared.Act.TheVariants.{Lock, Unlock, Answer, AnswerCursor, TakeFloor, TookOver, ReadHeader, GiveTable, RaiseCount, PutHeader, Retire}
 use Rattle.ft_trace.specs.declared.View.{View}
 use Rattle.ft_trace.specs.Acts.{flight, seen_writes, stage}
 use Rattle.ft_trace.specs.Floors.{at_floor}
+use Rattle.ft_trace.specs.Owners.{SameOwners}
 use Rattle.ft_trace.specs.Hands.{cursor_in}
 use Rattle.ft_trace.specs.Sections.{begun}
 use Rattle.ft_trace.proofs.Cases.{miss, here}
@@ -19,13 +20,15 @@ use Rattle.ft_bank.specs.Takings.{Cleared, IsTaking, KeepsBut, loads_of_none, lo
 use Rattle.ft_bank.specs.Whole.{SamePass}
 use Rattle.ft_qsbr.specs.Collecting.{AreGivings, StaysOrGoes, loads_of}
 
--- none of these adds an entry, lets go of a lock or takes the floor
+-- none of these adds an entry, takes a lock or lets it go, takes the floor or takes another pass in
 abbrev pub LeavePass : List Act → Type 0
 LeavePass [] = Unit {0}
 LeavePass (Answer c r n ∷ l) = ⊥
 LeavePass (AnswerCursor c r n m x y ∷ l) = ⊥
 LeavePass (Unlock o ∷ l) = ⊥
 LeavePass (TakeFloor f s ∷ l) = ⊥
+LeavePass (Lock o f s ∷ l) = ⊥
+LeavePass (TookOver tables had found ∷ l) = ⊥
 LeavePass (act ∷ l) = LeavePass l
 
 leave_then : (xs ys : List Act) → LeavePass xs → LeavePass ys → LeavePass (xs ++ ys)
@@ -34,6 +37,8 @@ leave_then (Answer c r n ∷ xs) ys x y = absurd x
 leave_then (AnswerCursor c r n m f t ∷ xs) ys x y = absurd x
 leave_then (Unlock o ∷ xs) ys x y = absurd x
 leave_then (TakeFloor f s ∷ xs) ys x y = absurd x
+leave_then (Lock o f s ∷ xs) ys x y = absurd x
+leave_then (TookOver tables had found ∷ xs) ys x y = absurd x
 leave_then (a ∷ xs) ys x y = leave_then xs ys x y
 
 pub begun_stays : (acts : List Act) (v : View) → LeavePass acts → begun (noted_all acts v).log ≡ begun v.log
@@ -42,6 +47,8 @@ begun_stays (Answer c r n ∷ l) v ok = absurd ok
 begun_stays (AnswerCursor c r n m f t ∷ l) v ok = absurd ok
 begun_stays (Unlock o ∷ l) v ok = absurd ok
 begun_stays (TakeFloor f s ∷ l) v ok = absurd ok
+begun_stays (Lock o f s ∷ l) v ok = absurd ok
+begun_stays (TookOver tables had found ∷ l) v ok = absurd ok
 begun_stays (a ∷ l) v ok = begun_stays l v ok
 
 pub cursors_stay : (acts : List Act) (v : View) (number : ℕ) → LeavePass acts → cursor_in number (noted_all acts v).log ≡ cursor_in number v.log
@@ -50,6 +57,8 @@ cursors_stay (Answer c r n ∷ l) v number ok = absurd ok
 cursors_stay (AnswerCursor c r n m f t ∷ l) v number ok = absurd ok
 cursors_stay (Unlock o ∷ l) v number ok = absurd ok
 cursors_stay (TakeFloor f s ∷ l) v number ok = absurd ok
+cursors_stay (Lock o f s ∷ l) v number ok = absurd ok
+cursors_stay (TookOver tables had found ∷ l) v number ok = absurd ok
 cursors_stay (a ∷ l) v number ok = cursors_stay l v number ok
 
 pub floor_stays : (acts : List Act) (v : View) → LeavePass acts → (noted_all acts v).has_floor ≡ v.has_floor
@@ -58,6 +67,8 @@ floor_stays (Answer c r n ∷ l) v ok = absurd ok
 floor_stays (AnswerCursor c r n m f t ∷ l) v ok = absurd ok
 floor_stays (Unlock o ∷ l) v ok = absurd ok
 floor_stays (TakeFloor f s ∷ l) v ok = absurd ok
+floor_stays (Lock o f s ∷ l) v ok = absurd ok
+floor_stays (TookOver tables had found ∷ l) v ok = absurd ok
 floor_stays (a ∷ l) v ok = floor_stays l v ok
 
 pub since_stays : (acts : List Act) (v : View) → LeavePass acts → at_floor (noted_all acts v).log ≡ at_floor v.log
@@ -66,7 +77,19 @@ since_stays (Answer c r n ∷ l) v ok = absurd ok
 since_stays (AnswerCursor c r n m f t ∷ l) v ok = absurd ok
 since_stays (Unlock o ∷ l) v ok = absurd ok
 since_stays (TakeFloor f s ∷ l) v ok = absurd ok
+since_stays (Lock o f s ∷ l) v ok = absurd ok
+since_stays (TookOver tables had found ∷ l) v ok = absurd ok
 since_stays (a ∷ l) v ok = since_stays l v ok
+
+pub owners_stay : (acts : List Act) (v : View) → LeavePass acts → SameOwners v (noted_all acts v)
+owners_stay [] v ok = record { had = refl; found = refl }
+owners_stay (Answer c r n ∷ l) v ok = absurd ok
+owners_stay (AnswerCursor c r n m f t ∷ l) v ok = absurd ok
+owners_stay (Unlock o ∷ l) v ok = absurd ok
+owners_stay (TakeFloor f s ∷ l) v ok = absurd ok
+owners_stay (Lock o f s ∷ l) v ok = absurd ok
+owners_stay (TookOver tables had found ∷ l) v ok = absurd ok
+owners_stay (a ∷ l) v ok = let same = owners_stay l v ok in record { had = same.had; found = same.found }
 
 pub seen_stays : (acts : List Act) (v : View) → seen_writes v ≤ seen_writes (noted_all acts v)
 seen_stays [] v = le_refl (seen_writes v)
@@ -130,8 +153,8 @@ taking_leaves class (took.Moved a b) acts x =
 
 -- ---- the pass
 
-pub same_by : (F : ℕ → Type 0) (v w : View) → KeepsBut F v w → flight w.log ≡ flight v.log → begun w.log ≡ begun v.log → ((n : ℕ) → cursor_in n w.log ≡ cursor_in n v.log) → w.has_floor ≡ v.has_floor → at_floor w.log ≡ at_floor v.log → w.learnt ≡ v.learnt → seen_writes v ≤ seen_writes w → SamePass v w
-same_by F v w keeps idle sections cursors floor since learnt seen = record {
+pub same_by : (F : ℕ → Type 0) (v w : View) → KeepsBut F v w → flight w.log ≡ flight v.log → begun w.log ≡ begun v.log → ((n : ℕ) → cursor_in n w.log ≡ cursor_in n v.log) → w.has_floor ≡ v.has_floor → at_floor w.log ≡ at_floor v.log → SameOwners v w → w.learnt ≡ v.learnt → seen_writes v ≤ seen_writes w → SamePass v w
+same_by F v w keeps idle sections cursors floor since owners learnt seen = record {
   number = keeps.held.number;
   next = keeps.held.next;
   parts = keeps.held.parts;
@@ -146,6 +169,7 @@ same_by F v w keeps idle sections cursors floor since learnt seen = record {
   lists = keeps.held.lists;
   floor = floor;
   since = since;
+  owners = owners;
   learnt = learnt;
   seen = seen;
 }
@@ -153,4 +177,4 @@ same_by F v w keeps idle sections cursors floor since learnt seen = record {
 pub retirement_same : (t n g : ℕ) (v w : View) → w ≡ noted_all (PutHeader t g ∷ Retire t n ∷ []) v → SamePass v w
 retirement_same t n g v w is =
     subst (SamePass v) (sym is)
-    (record { number = refl; next = refl; parts = refl; shape = refl; locks = λ p. refl; writes = λ p. refl; announced = refl; flight = refl; begun = refl; cursors = λ n. refl; tokens = refl; lists = refl; floor = refl; since = refl; learnt = refl; seen = le_refl (seen_writes v) })
+    (record { number = refl; next = refl; parts = refl; shape = refl; locks = λ p. refl; writes = λ p. refl; announced = refl; flight = refl; begun = refl; cursors = λ n. refl; tokens = refl; lists = refl; floor = refl; since = refl; owners = record { had = refl; found = refl }; learnt = refl; seen = le_refl (seen_writes v) })

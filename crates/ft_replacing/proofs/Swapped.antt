@@ -90,6 +90,7 @@ module _ (called : Call) (said : Reply) (number f t g : ℕ) (snap : Snap) (v u 
           lists = p1.lists;
           floor = p1.floor;
           since = p1.since;
+          owners = record { had = p1.owners.had; found = p1.owners.found };
           seen = omega (arith, low, shows_it);
         };
         seen = low;

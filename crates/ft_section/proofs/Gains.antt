@@ -1,6 +1,7 @@
 -- What a try for a lock leaves.
-use Rattle.std.proofs.Common.{◌≡◌, ◌≢◌, ◌<◌, ◌+◌, ◌==◌, ℕ, Bool, true, false, cond, List, [], ◌∷◌, ◌++◌, refl, sym, ap, ◌∙◌, subst, arith, append_assoc}
+use Rattle.std.proofs.Common.{◌≡◌, ◌≢◌, ◌<◌, ◌+◌, ◌==◌, ℕ, Bool, true, false, cond, List, [], ◌∷◌, ◌++◌, inl, inr, ⊎_elim, refl, sym, ap, ◌∙◌, subst, arith, append_assoc}
 use Rattle.std.proofs.lemmas.Bool.{true≢false, eqb-true, ne_eqb}
+use Rattle.std.specs.Prelude.{if◌then◌else◌}
 use Rattle.ft_bank.specs.Locks.{KeepsOthers}
 use Rattle.ft_section.specs.Locking.{OnlyLocked, Took, FoundOwner, at_one}
 use Rattle.ft_section.proofs.InCalls.{one_if, counted}
@@ -11,7 +12,10 @@ use Rattle.ft_trace.specs.declared.View.{View}
 use Rattle.ft_trace.specs.Addresses.{containers_in}
 use Rattle.ft_trace.specs.Acts.{has_lock, noted}
 use Rattle.ft_trace.specs.Holds.{held, known}
+use Rattle.ft_trace.specs.Owners.{is_owner_in, had_locks, found_owners, FindsMore, LocksOnly}
 use Rattle.ft_trace.specs.Words.{Stands}
+use Rattle.ft_trace.proofs.Cases.{miss}
+use Rattle.ft_trace.proofs.Owning.{one_or, is_first, found_stays, grown_finds_more}
 
 -- a try for a lock that the pass doesn't have
 only_tried : (v : View) (o f : ℕ) (s : Snap) → has_lock o v.log ≡ false → KeepsOthers o v (noted (Lock o f s) v) → OnlyLocked v (noted (Lock o f s) v)
@@ -52,6 +56,17 @@ stays : (b h : Bool) → h ≡ true → cond b true h ≡ true
 stays true h had = refl
 stays false h had = had
 
+-- the lock that was taken now, if one was
+pub at_one_is : (o : ℕ) (now : Bool) (r : ℕ) → (if now then at_one o r else 0) ≢ 0 → o ≡ r
+at_one_is o true r some_one = eqb-true o r (counted (o == r) some_one)
+at_one_is o false r some_one = absurd (some_one refl)
+
+only_one : (v : View) (o : ℕ) (s : Snap) → LocksOnly (λ p. at_one o p ≢ 0) v (noted (Lock o 0 s) v)
+only_one v o s p q is =
+    ⊎_elim (λ (z : ((o == p) ≡ true) × ((v.number == q) ≡ true)). inr (sym (eqb-true v.number q z.1), λ none. let e : at_one o p ≡ 1 = ap one_if z.0 in omega (arith, e, none)))
+    (λ (z : is_owner_in p q (had_locks v.number v.log) ≡ true). inl z)
+    (one_or p q (o == p) (v.number == q) (is_owner_in p q (had_locks v.number v.log)) is)
+
 -- the lock was free
 pub took_lock : (v : View) (o : ℕ) (s : Snap) → has_lock o v.log ≡ false → o < containers_in v.shape → KeepsOthers o v (noted (Lock o 0 s) v) → Stands v.shape.texts (held o (noted (Lock o 0 s) v)) (known o (noted (Lock o 0 s) v)) → Took (at_one o) v (noted (Lock o 0 s) v)
 took_lock v o s free low keeps stands =
@@ -63,6 +78,7 @@ took_lock v o s free low keeps stands =
       low = λ p some_one. subst (λ (z : ℕ). z < containers_in v.shape) (same p some_one) low;
       stands = λ p some_one. subst (λ (z : ℕ). Stands v.shape.texts (held z (noted (Lock o 0 s) v)) (known z (noted (Lock o 0 s) v))) (same p some_one) stands;
       begun = refl;
+      only = only_one v o s;
     }
 
 same_has : (b c h : Bool) → c ≡ false → cond b (cond c true h) h ≡ h
@@ -81,6 +97,7 @@ tried_lock v o f s free found keeps =
       low = λ p some_one. absurd (some_one refl);
       stands = λ p some_one. absurd (some_one refl);
       begun = refl;
+      only = λ p q is. inl (sym (ap (is_owner_in p q) (miss f 0 (record { container = o; pass = v.number } ∷ had_locks v.number v.log) (had_locks v.number v.log) found)) ∙ is);
     }
 
 -- what was found in a later part of a call was found in the call
@@ -93,3 +110,16 @@ later_found u v w o q l f =
       is = f.is ∙ ap (λ (x : List Act). f.newer ++ Lock o (q + 1) f.snap ∷ x) (ap (λ (x : List Act). f.older ++ x) l.grew ∙ sym (append_assoc f.older l.newer u.log));
       other = λ e. f.other (e ∙ sym l.number);
     }
+
+-- what was found is found for good
+pub found_is : (o q : ℕ) (v w : View) → FoundOwner o q v w → is_owner_in o (q + 1) (found_owners w.log) ≡ true
+found_is o q v w f =
+    let rest = found_owners (f.older ++ v.log) in
+    let here : found_owners (Lock o (q + 1) f.snap ∷ (f.older ++ v.log)) ≡ record { container = o; pass = q + 1 } ∷ rest =
+    miss (q + 1) 0 rest (record { container = o; pass = q + 1 } ∷ rest) (λ e. absurd (omega (arith, e))) in
+    ap (λ (l : List Act). is_owner_in o (q + 1) (found_owners l)) f.is
+    ∙ found_stays o (q + 1) f.newer (Lock o (q + 1) f.snap ∷ (f.older ++ v.log)) (ap (is_owner_in o (q + 1)) here ∙ is_first o (q + 1) rest)
+
+-- and what had been found before
+pub locked_finds_more : (v w : View) → OnlyLocked v w → FindsMore v w
+locked_finds_more v w l = grown_finds_more v w l.newer l.grew

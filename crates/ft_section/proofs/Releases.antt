@@ -16,6 +16,7 @@ use Rattle.ft_trace.specs.declared.View.{View}
 use Rattle.ft_trace.specs.Addresses.{containers_in}
 use Rattle.ft_trace.specs.Acts.{has_lock, noted}
 use Rattle.ft_trace.specs.Sections.{Begun, begun, without, is_among}
+use Rattle.ft_trace.proofs.Owning.{same_owners, owners_then}
 
 -- one lock after others
 pub only_then : (u v w : View) → OnlyLocked u v → OnlyLocked v w → ((p : ℕ) → has_lock p u.log ≡ true → has_lock p w.log ≡ true → has_lock p v.log ≡ true) → OnlyLocked u w
@@ -143,18 +144,20 @@ pub let_one : (v : View) (o : ℕ) → has_lock o v.log ≡ true → LetGo (at_o
 let_one v o has =
     record {
       locked = only_unlocked v o;
+      owners = record { had = refl; found = refl };
       count = λ p. go_count (o == p) (has_lock p v.log) (λ e. subst (λ (z : ℕ). has_lock z v.log ≡ true) (eqb-true o p e) has);
       begun = λ sections a apart. begun_after o (begun v.log) sections (apart o (λ e. at_self o e)) a;
     }
 
 -- no lock is let go
 pub let_none : (v : View) → LetGo (λ o. 0) v v
-let_none v = record { locked = only_same v; count = λ o. omega arith; begun = λ sections a apart. a }
+let_none v = record { locked = only_same v; owners = same_owners v; count = λ o. omega arith; begun = λ sections a apart. a }
 
 -- some locks after others
 pub let_then : (u v w : View) (f g : ℕ → ℕ) → LetGo f u v → LetGo g v w → LetGo (λ o. f o + g o) u w
 let_then u v w f g l m =
     record {
+      owners = owners_then u v w l.owners m.owners;
       locked = only_then u v w l.locked m.locked (λ p had has. has_counted p v (λ zero_v. let c = m.count p in let h = counted_has p w has in omega (arith, c, h, zero_v)));
       count = λ o. let a = l.count o in let b = m.count o in omega (arith, a, b);
       begun = λ sections a apart. m.begun sections (l.begun sections a (λ o some_one. apart o (λ e. some_one (omega (arith, e))))) (λ o some_one. apart o (λ e. some_one (omega (arith, e))));
@@ -165,6 +168,7 @@ pub let_as : (u v : View) (f g : ℕ → ℕ) → ((o : ℕ) → f o ≡ g o) �
 let_as u v f g same l =
     record {
       locked = l.locked;
+      owners = l.owners;
       count = λ o. let a = l.count o in let b = same o in omega (arith, a, b);
       begun = λ sections a apart. l.begun sections a (λ o some_one. apart o (λ e. some_one (same o ∙ e)));
     }

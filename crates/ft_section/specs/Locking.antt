@@ -6,7 +6,9 @@ use Rattle.ft_bank.specs.declared.sections.OpenSection.{OpenSection}
 use Rattle.ft_bank.specs.Passes.{shape_of, view, IsPassOf}
 use Rattle.ft_bank.specs.declared.sections.Taking.{Taking}
 use Rattle.ft_bank.specs.Sections.{Stack, stack_of, noted_in, taken_in, suspended, nothing_taken}
+use Rattle.ft_section.specs.declared.answers.Objects.{Objects}
 use Rattle.ft_section.specs.Ready.{lock_count, AreBegun}
+use Rattle.ft_section.specs.Takings.{IsOf}
 use Rattle.ft_trace.specs.declared.Act.{Act}
 use Rattle.ft_trace.specs.declared.Act.TheVariants.{Lock}
 use Rattle.ft_trace.specs.declared.Snap.{Snap}
@@ -15,6 +17,7 @@ use Rattle.ft_trace.specs.Addresses.{containers_in}
 use Rattle.ft_trace.specs.Acts.{has_lock, is_writing, has_committed, has_emptied, stage, announces, used, debt, owes, flight}
 use Rattle.ft_trace.specs.Floors.{at_floor}
 use Rattle.ft_trace.specs.Hands.{cursor_in}
+use Rattle.ft_trace.specs.Owners.{LocksOnly, SameOwners}
 use Rattle.ft_trace.specs.Holds.{held, known}
 use Rattle.ft_trace.specs.Sections.{begun}
 use Rattle.ft_trace.specs.Words.{Stands}
@@ -60,6 +63,10 @@ pub record FoundOwner (o q : ℕ) (v w : View) : Type 0 where
   pub is : w.log ≡ newer ++ Lock o (q + 1) snap ∷ (older ++ v.log)
   pub other : q + 1 ≢ v.number
 
+-- of locks the pass has taken only such as are of these containers (C API, critical sections)
+abbrev pub LocksWithin : Objects → View → View → Type 0
+LocksWithin objects v w = LocksOnly (λ o. IsOf o objects) v w
+
 -- the pass has taken the locks that the number is 1 of, which it didn't have, and knows what their words stand for
 pub record Took (amount : ℕ → ℕ) (v w : View) : Type 0 where
   pub locked : OnlyLocked v w
@@ -68,10 +75,12 @@ pub record Took (amount : ℕ → ℕ) (v w : View) : Type 0 where
   pub low : (o : ℕ) → amount o ≢ 0 → o < containers_in v.shape
   pub stands : (o : ℕ) → amount o ≢ 0 → Stands w.shape.texts (held o w) (known o w)
   pub begun : begun w.log ≡ begun v.log
+  pub only : LocksOnly (λ o. amount o ≢ 0) v w
 
 -- the pass has let go of the locks that the number is 1 of
 pub record LetGo (amount : ℕ → ℕ) (v w : View) : Type 0 where
   pub locked : OnlyLocked v w
+  pub owners : SameOwners v w
   pub count : (o : ℕ) → lock_count o w + amount o ≡ lock_count o v
   pub begun : (sections : List OpenSection) → AreBegun sections (begun v.log)
       → ((o : ℕ) → amount o ≢ 0 → noted_in o sections ≡ 0) → AreBegun sections (begun w.log)

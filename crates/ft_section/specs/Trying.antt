@@ -9,7 +9,7 @@ use Rattle.ft_section.specs.declared.answers.Objects.{Objects}
 use Rattle.ft_section.specs.declared.answers.Step.{Step}
 use Rattle.ft_section.specs.declared.answers.Step.TheVariants as step
 use Rattle.ft_section.specs.Floors.{KnewOwners}
-use Rattle.ft_section.specs.Locking.{KeepsLower, with_own, waiting}
+use Rattle.ft_section.specs.Locking.{KeepsLower, LocksWithin, with_own, waiting}
 use Rattle.ft_section.specs.Ready.{IsWaiting, MayTry, MayResume}
 use Rattle.ft_section.specs.Takings.{lower_of}
 
@@ -32,6 +32,7 @@ pub record WaitsFor (b : Bank) (objects : Objects) (o owner : ℕ) (p q : Pass) 
   pub waits : IsWaiting b q objects
   pub stack : stack_of q ≡ waiting (with_own (stack_of p) (stack_of q).own) owner
   pub kept : KeepsLower (lower_of objects) o p q
+  pub within : LocksWithin objects (view p) (view q)
   pub known : KnewOwners objects (view p) (got.NotYet o owner)
 
 -- The call had its locks, and has let go of those that it took itself. (C API, critical sections)

@@ -7,7 +7,7 @@ ghost use Rattle.ft_bank.specs.Sections.{stack_of, nothing_taken};
 ghost use Rattle.ft_model.specs.declared.reply.Reply.TheVariants as reply;
 ghost use Rattle.ft_section.specs.Answers.{IfEntered, IfBeginWaits};
 ghost use Rattle.ft_section.specs.Floors.{began_by, first_owned, floor_word};
-ghost use Rattle.ft_section.specs.Locking.{OnlyLocked, KeepsLocks, FoundOwner};
+ghost use Rattle.ft_section.specs.Locking.{OnlyLocked, KeepsLocks, FoundOwner, LocksWithin};
 ghost use Rattle.ft_section.specs.Ready.{IsReady, IsMaking, MayTry, MayResume};
 ghost use Rattle.ft_section.specs.Sectioning.{IsSaid, AreNoted, begin_of, answered_view};
 ghost use Rattle.ft_section.specs.Takings.{IsOf, AreIn, HasLocks, lower_of, upper_of};
@@ -98,6 +98,7 @@ pub fn try_begin(bank: &Bank, pass: &mut Pass, objects: Objects) -> Began
     requires left { 0 < (view pass.old).left }
     ensures entry { IfEntered result (λ s. (v : View) × OnlyLocked (view pass.old) v × KeepsLocks (view pass.old) v
         × HasLocks v objects × (view pass.new ≡ answered_view (begin_of objects) reply.Entered s.number v)) }
+    ensures within { LocksWithin objects (view pass.old) (view pass.new) }
     ensures seen { IfEntered result (λ s. seen_writes (view pass.old) ≤ s.number) }
     ensures read { IfEntered result (λ s. s.wrote ≡ false) }
     ensures section { IfEntered result (λ s. (own : Taking) × AreNoted objects own × (stack_of pass.new ≡ record (stack_of pass.old) {

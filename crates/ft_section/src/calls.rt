@@ -5,7 +5,7 @@ ghost use Rattle.ft_bank.specs.Passes.{shape_of, view};
 ghost use Rattle.ft_bank.specs.Sections.{stack_of, nothing_taken, taken_in};
 ghost use Rattle.ft_section.specs.declared.answers.Objects.{Objects};
 ghost use Rattle.ft_section.specs.Answers.{IfHave, IfNotYet};
-ghost use Rattle.ft_section.specs.Locking.{OnlyLocked, KeepsLocks, FoundOwner, with_own, waiting, first_mark, marks_more};
+ghost use Rattle.ft_section.specs.Locking.{OnlyLocked, KeepsLocks, FoundOwner, LocksWithin, with_own, waiting, first_mark, marks_more};
 ghost use Rattle.ft_section.specs.Ready.{IsInCall, IsMarked, AreSuspended, IsMaking, MayTry, MayResume, lock_count};
 ghost use Rattle.ft_section.specs.Floors.{FindsSame, KnewOwners};
 ghost use Rattle.ft_section.specs.Sectioning.{AreNoted};
@@ -13,6 +13,7 @@ ghost use Rattle.ft_section.specs.Takings.{IsOf, AreIn, HasLocks};
 ghost use Rattle.ft_section.specs.Trying.{HasTaken, WaitsFor};
 ghost use Rattle.ft_trace.specs.Addresses.{containers_in};
 ghost use Rattle.ft_trace.specs.Acts.{has_lock};
+ghost use Rattle.ft_trace.specs.Owners.{SameOwners};
 
 use crate::answers::{Got, Object, Objects, Owner};
 use crate::letting::{let_all_go, let_taking_go};
@@ -46,6 +47,7 @@ pub(crate) fn wait(bank: &Bank, pass: &mut Pass, owner: Owner)
     requires marked { (q : ℕ) → (stack_of pass.old).mark ≡ Some q → All IsMarked (stack_of pass.old).sections }
     ensures inside { IsInCall bank.now pass.new }
     ensures locked { OnlyLocked (view pass.old) (view pass.new) }
+    ensures owners { SameOwners (view pass.old) (view pass.new) }
     ensures stack { stack_of pass.new ≡ waiting (stack_of pass.old) owner }
     ensures suspended { AreSuspended (stack_of pass.new).sections }
 {
@@ -65,6 +67,7 @@ pub fn take_for(bank: &Bank, pass: &mut Pass, objects: Objects) -> Got
     requires may { MayTry bank.now pass.old objects }
     requires containers { AreIn (shape_of bank.now) objects }
     ensures locked { OnlyLocked (view pass.old) (view pass.new) }
+    ensures within { LocksWithin objects (view pass.old) (view pass.new) }
     ensures making { IfHave result (IsMaking bank.now pass.new) }
     ensures has { IfHave result (HasLocks (view pass.new) objects × KeepsLocks (view pass.old) (view pass.new)) }
     ensures took { IfHave result (HasTaken objects pass.old pass.new) }
@@ -89,6 +92,7 @@ pub fn take_for(bank: &Bank, pass: &mut Pass, objects: Objects) -> Got
 pub fn let_go(bank: &Bank, pass: &mut Pass)
     requires { IsMaking bank.now pass.old }
     ensures locked { OnlyLocked (view pass.old) (view pass.new) }
+    ensures owners { SameOwners (view pass.old) (view pass.new) }
     ensures count { (o : ℕ) → lock_count o (view pass.new) + taken_in o (stack_of pass.old).own ≡ lock_count o (view pass.old) }
     ensures stack { stack_of pass.new ≡ with_own (stack_of pass.old) nothing_taken }
     ensures may { (objects : Objects) → MayTry bank.now pass.new objects }

@@ -5,6 +5,7 @@ ghost use Rattle.ft_bank.specs.Sections.{stack_of, no_sections};
 ghost use Rattle.ft_section.specs.Locking.{OnlyLocked};
 ghost use Rattle.ft_section.specs.Ready.{IsInCall, IsReady};
 ghost use Rattle.ft_trace.specs.Acts.{has_lock};
+ghost use Rattle.ft_trace.specs.Owners.{SameOwners};
 
 use crate::letting::let_each_go;
 use ft_bank::{Bank, Pass, Sections, Taking};
@@ -32,6 +33,7 @@ fn forget(pass: &mut Pass)
 pub fn drop_all(bank: &Bank, pass: &mut Pass)
     requires { IsInCall bank.now pass.old }
     ensures locked { OnlyLocked (view pass.old) (view pass.new) }
+    ensures owners { SameOwners (view pass.old) (view pass.new) }
     ensures free { (o : ℕ) → has_lock o (view pass.new).log ≡ false }
     ensures stack { stack_of pass.new ≡ no_sections }
     ensures ready { IsReady bank.now pass.new }

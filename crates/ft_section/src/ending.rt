@@ -12,6 +12,7 @@ ghost use Rattle.ft_section.specs.Sectioning.{IsSaid, IsUntouched, ended_by, rep
 ghost use Rattle.ft_trace.specs.declared.Act.{Act};
 ghost use Rattle.ft_trace.specs.Acts.{seen_writes};
 ghost use Rattle.ft_trace.specs.Addresses.{counter};
+ghost use Rattle.ft_trace.specs.Owners.{SameOwners};
 ghost use Rattle.ft_trace.specs.Sections.{Begun, begun, IsInnermostHeld};
 
 use crate::answers::{Ended, Stamp};
@@ -53,6 +54,7 @@ pub fn end(bank: &Bank, pass: &mut Pass) -> Ended
     requires depth { 0 < length (stack_of pass.old).sections }
     requires left { 0 < (view pass.old).left }
     ensures entry { OnlyLocked (answered_view call.End (reply_of result) (stamp_of result).number (view pass.old)) (view pass.new) }
+    ensures owners { SameOwners (view pass.old) (view pass.new) }
     ensures seen { seen_writes (view pass.old) ≤ (stamp_of result).number }
     ensures read { (stamp_of result).wrote ≡ false }
     ensures section { (outer : List OpenSection) (top : OpenSection) → (stack_of pass.old).sections ≡ outer ++ top ∷ [] →

@@ -10,6 +10,7 @@ ghost use Rattle.ft_section.specs.Floors.{FindsSame, first_found, first_owned, o
 ghost use Rattle.ft_section.specs.Takings.{IsOwnFor};
 ghost use Rattle.ft_trace.specs.Addresses.{containers_in};
 ghost use Rattle.ft_trace.specs.Acts.{has_lock};
+ghost use Rattle.ft_trace.specs.Owners.{LocksOnly};
 
 use crate::answers::{Object, Owner};
 use ft_bank::{Bank, OpenSection, Pass, Taking};
@@ -112,6 +113,7 @@ fn take_lower(bank: &Bank, pass: &mut Pass) -> Result<(), (Object, Owner)>
     ensures has { OnOk result (has_lock (stack_of pass.old).own.lower (view pass.new).log ≡ true) }
     ensures none { OnErr result (stack_of pass.new ≡ stack_of pass.old) }
     ensures lacked { OnErr result (has_lock (stack_of pass.old).own.lower (view pass.old).log ≡ false) }
+    ensures only { LocksOnly (λ o. o ≡ (stack_of pass.old).own.lower) (view pass.old) (view pass.new) }
     ensures found { IfErr result (λ e. (e.0 ≡ (stack_of pass.old).own.lower) × FoundOwner e.0 e.1 (view pass.old) (view pass.new)) }
     ensures known { (view pass.old).has_floor ≡ true → first_found result ≡
         owner_or (stack_of pass.old).own.lower (owner_of (stack_of pass.old).own.lower (view pass.old)) None }
@@ -139,6 +141,7 @@ fn take_upper(bank: &Bank, pass: &mut Pass) -> Result<(), (Object, Owner)>
     ensures once { has_lock (stack_of pass.old).own.upper (view pass.old).log ≡ true → stack_of pass.new ≡ stack_of pass.old }
     ensures none { OnErr result (stack_of pass.new ≡ stack_of pass.old) }
     ensures lacked { OnErr result (has_lock (stack_of pass.old).own.upper (view pass.old).log ≡ false) }
+    ensures only { LocksOnly (λ o. o ≡ (stack_of pass.old).own.upper) (view pass.old) (view pass.new) }
     ensures found { IfErr result (λ e. (e.0 ≡ (stack_of pass.old).own.upper) × FoundOwner e.0 e.1 (view pass.old) (view pass.new)) }
     ensures known { (view pass.old).has_floor ≡ true → first_found result ≡
         owner_or (stack_of pass.old).own.upper (owner_of (stack_of pass.old).own.upper (view pass.old)) None }
@@ -176,6 +179,7 @@ pub(crate) fn take_both(
     ensures none { OnErr result ((stack_of pass.new).own.took_upper ≡ false) }
     ensures kept { IfErr result (λ e. KeepsLower lower e.0 pass.old pass.new) }
     ensures lacked { OnErr result ((has_lock lower (view pass.old).log ≡ false) ⊎ (has_lock upper (view pass.old).log ≡ false)) }
+    ensures only { LocksOnly (λ o. (o ≡ lower) ⊎ (o ≡ upper)) (view pass.old) (view pass.new) }
     ensures found { IfErr result (λ e. ((e.0 ≡ lower) ⊎ (e.0 ≡ upper)) × FoundOwner e.0 e.1 (view pass.old) (view pass.new)) }
     ensures known { (view pass.old).has_floor ≡ true → first_found result ≡ first_owned lower upper (view pass.old) }
     ensures finds { OnOk result (FindsSame (view pass.old) (view pass.new)) }

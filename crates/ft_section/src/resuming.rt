@@ -8,6 +8,7 @@ ghost use Rattle.ft_section.specs.Answers.{IfBack, IfStillWaits};
 ghost use Rattle.ft_section.specs.Floors.{first_owned, resumed_by};
 ghost use Rattle.ft_section.specs.Locking.{OnlyLocked, FoundOwner, KeepsLower, TakenUp, with_own, waiting};
 ghost use Rattle.ft_section.specs.Ready.{HasTop, IsReady, MayResume};
+ghost use Rattle.ft_trace.specs.Owners.{LocksOnly, SameOwners};
 
 use crate::answers::Resumed;
 use crate::calls::wait;
@@ -36,6 +37,9 @@ fn joined(locks: Taking, own: Taking) -> Taking
 pub fn resume(bank: &Bank, pass: &mut Pass) -> Resumed
     requires { MayResume bank.now pass.old }
     ensures locked { OnlyLocked (view pass.old) (view pass.new) }
+    ensures only { (outer : List OpenSection) (top : OpenSection) → (stack_of pass.old).sections ≡ outer ++ top ∷ [] →
+        LocksOnly (λ o. (o ≡ top.locks.lower) ⊎ (o ≡ top.locks.upper)) (view pass.old) (view pass.new) }
+    ensures owners { (stack_of pass.old).sections ≡ [] → SameOwners (view pass.old) (view pass.new) }
     ensures ready { IfBack result (λ mark. IsReady bank.now pass.new) }
     ensures mark { IfBack result (λ mark. mark ≡ (stack_of pass.old).mark) }
     ensures stack { IfBack result (λ mark. TakenUp (stack_of pass.old) (stack_of pass.new)) }

@@ -11,8 +11,8 @@ ghost use Rattle.ft_section.specs.declared.answers.Step.TheVariants as steps;
 ghost use Rattle.ft_section.specs.Ready.{MayTry};
 
 use ft_bank::{Bank, Pass};
-use ft_dict_tests::{Wanted, four, is_made, only, reads, writes};
-use ft_model::{Key, Keys, Raise, Reply, Value};
+use ft_dict_tests::{Wanted, four, is_made, only, reads, reads_elements, writes};
+use ft_model::{Key, Raise, Reply, Value};
 use ft_section::{Step, new_passes_are_ready};
 use ft_set::{
     try_add, try_and, try_clear, try_discard, try_disjoint, try_eq, try_has, try_items, try_len,
@@ -50,15 +50,6 @@ enum Call {
     /// The same of set 3.
     AddOther(i64),
     HasOther(i64),
-}
-
-/// Integers, as `items` replies them.
-fn elements(alloc: Global, of: &[i64]) -> Result<Reply, AllocError> {
-    let mut all = Vec::new(alloc);
-    for key in of {
-        all.push(Key::Int(*key))?;
-    }
-    Ok(Reply::Set(Keys::from_vec(all)))
 }
 
 /// Tries a call.
@@ -118,6 +109,26 @@ fn first_wrong(
     None
 }
 
+/// Puts rows that add so many elements from 0 on to set 2, the first as the write of number 0.
+fn push_adds(rows: &mut Vec<(Call, Wanted)>, count: u32) -> Result<(), AllocError> {
+    for key in 0..count {
+        let row = (
+            Call::Add(i64::from(key)),
+            writes(Reply::Done, u64::from(key)),
+        );
+        rows.push(row)?;
+    }
+    Ok(())
+}
+
+/// Puts these rows after the others.
+fn push_rows(rows: &mut Vec<(Call, Wanted)>, more: Vec<(Call, Wanted)>) -> Result<(), AllocError> {
+    for row in more {
+        rows.push(row)?;
+    }
+    Ok(())
+}
+
 /// The place of the first row that isn't so in a new bank with so many tables of class 3, and of each greater class.
 fn in_new_bank(
     alloc: Global,
@@ -142,34 +153,34 @@ fn in_new_bank(
 #[test]
 fn the_first_element_goes_first(rt: HostRuntime) -> Result<(), Fail> {
     let alloc = rt.alloc();
-    let rows = vec![in alloc;
+    let rows = [
         (Call::Pop, reads(Reply::Raised(Raise::NoKey), 0)),
         (Call::Add(3), writes(Reply::Done, 0)),
         (Call::Add(1), writes(Reply::Done, 1)),
         (Call::Add(2), writes(Reply::Done, 2)),
         (Call::Add(3), writes(Reply::Done, 3)),
-        (Call::Items, reads(elements(alloc, &[3, 1, 2])?, 4)),
+        (Call::Items, reads_elements(&[3, 1, 2], 4)),
         (Call::Pop, writes(Reply::Value(Value::Int(3)), 4)),
         (Call::Add(3), writes(Reply::Done, 5)),
         (Call::Discard(1), writes(Reply::Done, 6)),
         (Call::Add(4), writes(Reply::Done, 7)),
         (Call::Add(5), writes(Reply::Done, 8)),
-        (Call::Items, reads(elements(alloc, &[2, 3, 4, 5])?, 9)),
+        (Call::Items, reads_elements(&[2, 3, 4, 5], 9)),
         (Call::Pop, writes(Reply::Value(Value::Int(2)), 9)),
         (Call::Remove(3), writes(Reply::Done, 10)),
         (Call::Len, reads(Reply::Count(2), 11)),
         (Call::Clear, writes(Reply::Done, 11)),
         (Call::Pop, reads(Reply::Raised(Raise::NoKey), 12)),
-        (Call::Items, reads(elements(alloc, &[])?, 12)),
-    ]?;
-    assert_eq!(rt; in_new_bank(alloc, 4, 4, rows.as_slice())?, None);
+        (Call::Items, reads_elements(&[], 12)),
+    ];
+    assert_eq!(rt; in_new_bank(alloc, 4, 4, &rows)?, None);
     Ok(())
 }
 
 #[test]
 fn sets_are_compared_by_their_elements(rt: HostRuntime) -> Result<(), Fail> {
     let alloc = rt.alloc();
-    let rows = vec![in alloc;
+    let rows = [
         (Call::Eq, reads(Reply::Truth(true), 0)),
         (Call::Subset, reads(Reply::Truth(true), 0)),
         (Call::Disjoint, reads(Reply::Truth(true), 0)),
@@ -189,15 +200,15 @@ fn sets_are_compared_by_their_elements(rt: HostRuntime) -> Result<(), Fail> {
         (Call::Eq, reads(Reply::Truth(false), 5)),
         (Call::Subset, reads(Reply::Truth(true), 5)),
         (Call::Has(7), reads(Reply::Truth(false), 5)),
-    ]?;
-    assert_eq!(rt; in_new_bank(alloc, 4, 4, rows.as_slice())?, None);
+    ];
+    assert_eq!(rt; in_new_bank(alloc, 4, 4, &rows)?, None);
     Ok(())
 }
 
 #[test]
 fn the_fifth_element_of_a_set_takes_a_greater_table(rt: HostRuntime) -> Result<(), Fail> {
     let alloc = rt.alloc();
-    let rows = vec![in alloc;
+    let rows = [
         (Call::Add(1), writes(Reply::Done, 0)),
         (Call::Add(2), writes(Reply::Done, 1)),
         (Call::Add(3), writes(Reply::Done, 2)),
@@ -213,16 +224,16 @@ fn the_fifth_element_of_a_set_takes_a_greater_table(rt: HostRuntime) -> Result<(
         (Call::AddOther(2305843009213693951), writes(Reply::Done, 9)),
         (
             Call::AddOther(5),
-            reads(Reply::Raised(Raise::Memory(5)), 10)
+            reads(Reply::Raised(Raise::Memory(5)), 10),
         ),
         (Call::HasOther(5), reads(Reply::Truth(false), 10)),
         (Call::HasOther(-2), reads(Reply::Truth(true), 10)),
         (
             Call::HasOther(4611686018427387902),
-            reads(Reply::Truth(false), 10)
+            reads(Reply::Truth(false), 10),
         ),
-    ]?;
-    assert_eq!(rt; in_new_bank(alloc, 4, 1, rows.as_slice())?, None);
+    ];
+    assert_eq!(rt; in_new_bank(alloc, 4, 1, &rows)?, None);
     Ok(())
 }
 
@@ -230,7 +241,7 @@ fn the_fifth_element_of_a_set_takes_a_greater_table(rt: HostRuntime) -> Result<(
 fn elements_stay_that_the_other_set_has_or_has_not(rt: HostRuntime) -> Result<(), Fail> {
     let alloc = rt.alloc();
     // The hash of -1 is that of -2; 2^61 - 1 has the hash of 0.
-    let rows = vec![in alloc;
+    let rows = [
         (Call::And, writes(Reply::Done, 0)),
         (Call::Add(1), writes(Reply::Done, 1)),
         (Call::Add(-1), writes(Reply::Done, 2)),
@@ -245,44 +256,44 @@ fn elements_stay_that_the_other_set_has_or_has_not(rt: HostRuntime) -> Result<()
         (Call::Sub, writes(Reply::Done, 10)),
         (
             Call::Items,
-            reads(elements(alloc, &[1, -1, 2305843009213693951])?, 11)
+            reads_elements(&[1, -1, 2305843009213693951], 11),
         ),
         (Call::HasOther(0), reads(Reply::Truth(true), 11)),
         (Call::AndItself, writes(Reply::Done, 11)),
         (Call::Has(-1), reads(Reply::Truth(true), 12)),
         (Call::Add(7), writes(Reply::Done, 12)),
         (Call::And, writes(Reply::Done, 13)),
-        (Call::Items, reads(elements(alloc, &[7])?, 14)),
+        (Call::Items, reads_elements(&[7], 14)),
         (Call::HasOther(-2), reads(Reply::Truth(true), 14)),
         (Call::SubItself, writes(Reply::Done, 14)),
         (Call::Has(7), reads(Reply::Truth(false), 15)),
         (Call::Add(7), writes(Reply::Done, 15)),
         (Call::Has(7), reads(Reply::Truth(true), 16)),
         (Call::HasOther(7), reads(Reply::Truth(true), 16)),
-    ]?;
-    assert_eq!(rt; in_new_bank(alloc, 4, 4, rows.as_slice())?, None);
+    ];
+    assert_eq!(rt; in_new_bank(alloc, 4, 4, &rows)?, None);
     Ok(())
 }
 
 #[test]
 fn elements_of_another_set_go_last_in_their_order(rt: HostRuntime) -> Result<(), Fail> {
     let alloc = rt.alloc();
-    let rows = vec![in alloc;
+    let rows = [
         (Call::Or, writes(Reply::Done, 0)),
-        (Call::Items, reads(elements(alloc, &[])?, 1)),
+        (Call::Items, reads_elements(&[], 1)),
         (Call::AddOther(5), writes(Reply::Done, 1)),
         (Call::AddOther(-2), writes(Reply::Done, 2)),
         (Call::AddOther(9), writes(Reply::Done, 3)),
         (Call::Add(9), writes(Reply::Done, 4)),
         (Call::Or, writes(Reply::Done, 5)),
-        (Call::Items, reads(elements(alloc, &[9, 5, -2])?, 6)),
+        (Call::Items, reads_elements(&[9, 5, -2], 6)),
         (Call::OrItself, writes(Reply::Done, 6)),
-        (Call::Items, reads(elements(alloc, &[9, 5, -2])?, 7)),
+        (Call::Items, reads_elements(&[9, 5, -2], 7)),
         (Call::Discard(5), writes(Reply::Done, 7)),
         (Call::Or, writes(Reply::Done, 8)),
-        (Call::Items, reads(elements(alloc, &[9, -2, 5])?, 9)),
-    ]?;
-    assert_eq!(rt; in_new_bank(alloc, 4, 4, rows.as_slice())?, None);
+        (Call::Items, reads_elements(&[9, -2, 5], 9)),
+    ];
+    assert_eq!(rt; in_new_bank(alloc, 4, 4, &rows)?, None);
     Ok(())
 }
 
@@ -290,7 +301,7 @@ fn elements_of_another_set_go_last_in_their_order(rt: HostRuntime) -> Result<(),
 fn many_elements_of_another_set_take_a_greater_table(rt: HostRuntime) -> Result<(), Fail> {
     let alloc = rt.alloc();
     // The hash of -1 is that of -2; 2^61 - 1 has the hash of 0. A table of class 3 has room for four elements.
-    let rows = vec![in alloc;
+    let rows = [
         (Call::AddOther(5), writes(Reply::Done, 0)),
         (Call::AddOther(-2), writes(Reply::Done, 1)),
         (Call::AddOther(9), writes(Reply::Done, 2)),
@@ -301,17 +312,17 @@ fn many_elements_of_another_set_take_a_greater_table(rt: HostRuntime) -> Result<
         (Call::Or, writes(Reply::Done, 7)),
         (
             Call::Items,
-            reads(elements(alloc, &[9, -1, 5, -2, 2305843009213693951, 0])?, 8)
+            reads_elements(&[9, -1, 5, -2, 2305843009213693951, 0], 8),
         ),
         (Call::Clear, writes(Reply::Done, 8)),
         (Call::Or, writes(Reply::Done, 9)),
         (
             Call::Items,
-            reads(elements(alloc, &[5, -2, 9, 2305843009213693951, 0])?, 10)
+            reads_elements(&[5, -2, 9, 2305843009213693951, 0], 10),
         ),
         (Call::Eq, reads(Reply::Truth(true), 10)),
-    ]?;
-    assert_eq!(rt; in_new_bank(alloc, 4, 4, rows.as_slice())?, None);
+    ];
+    assert_eq!(rt; in_new_bank(alloc, 4, 4, &rows)?, None);
     Ok(())
 }
 
@@ -319,7 +330,7 @@ fn many_elements_of_another_set_take_a_greater_table(rt: HostRuntime) -> Result<
 fn no_element_is_put_where_there_is_no_table(rt: HostRuntime) -> Result<(), Fail> {
     let alloc = rt.alloc();
     // Five elements take a table of class 5, of which the other set has the only one.
-    let rows = vec![in alloc;
+    let rows = [
         (Call::AddOther(1), writes(Reply::Done, 0)),
         (Call::AddOther(2), writes(Reply::Done, 1)),
         (Call::AddOther(3), writes(Reply::Done, 2)),
@@ -327,16 +338,16 @@ fn no_element_is_put_where_there_is_no_table(rt: HostRuntime) -> Result<(), Fail
         (Call::AddOther(5), writes(Reply::Done, 4)),
         (Call::Add(9), writes(Reply::Done, 5)),
         (Call::Or, reads(Reply::Raised(Raise::Memory(5)), 6)),
-        (Call::Items, reads(elements(alloc, &[9])?, 6)),
+        (Call::Items, reads_elements(&[9], 6)),
         (Call::OrItself, writes(Reply::Done, 6)),
         (Call::Clear, writes(Reply::Done, 7)),
         (Call::Or, reads(Reply::Raised(Raise::Memory(5)), 8)),
-        (Call::Items, reads(elements(alloc, &[])?, 8)),
+        (Call::Items, reads_elements(&[], 8)),
         (Call::Add(2), writes(Reply::Done, 8)),
         (Call::Or, reads(Reply::Raised(Raise::Memory(5)), 9)),
-        (Call::Items, reads(elements(alloc, &[2])?, 9)),
-    ]?;
-    assert_eq!(rt; in_new_bank(alloc, 4, 1, rows.as_slice())?, None);
+        (Call::Items, reads_elements(&[2], 9)),
+    ];
+    assert_eq!(rt; in_new_bank(alloc, 4, 1, &rows)?, None);
     Ok(())
 }
 
@@ -344,9 +355,9 @@ fn no_element_is_put_where_there_is_no_table(rt: HostRuntime) -> Result<(), Fail
 fn elements_of_both_sets_go_and_new_ones_come_last(rt: HostRuntime) -> Result<(), Fail> {
     let alloc = rt.alloc();
     // The hash of -1 is that of -2. A table of class 3 has room for four elements, one of class 4 for nine.
-    let rows = vec![in alloc;
+    let rows = [
         (Call::Xor, writes(Reply::Done, 0)),
-        (Call::Items, reads(elements(alloc, &[])?, 1)),
+        (Call::Items, reads_elements(&[], 1)),
         (Call::AddOther(-2), writes(Reply::Done, 1)),
         (Call::AddOther(0), writes(Reply::Done, 2)),
         (Call::AddOther(7), writes(Reply::Done, 3)),
@@ -354,26 +365,26 @@ fn elements_of_both_sets_go_and_new_ones_come_last(rt: HostRuntime) -> Result<()
         (Call::Add(-1), writes(Reply::Done, 5)),
         (Call::Add(0), writes(Reply::Done, 6)),
         (Call::Xor, writes(Reply::Done, 7)),
-        (Call::Items, reads(elements(alloc, &[1, -1, -2, 7])?, 8)),
+        (Call::Items, reads_elements(&[1, -1, -2, 7], 8)),
         (Call::Len, reads(Reply::Count(4), 8)),
         (Call::HasOther(0), reads(Reply::Truth(true), 8)),
         (Call::Xor, writes(Reply::Done, 8)),
-        (Call::Items, reads(elements(alloc, &[1, -1, 0])?, 9)),
+        (Call::Items, reads_elements(&[1, -1, 0], 9)),
         (Call::Has(-2), reads(Reply::Truth(false), 9)),
         (Call::XorItself, writes(Reply::Done, 9)),
-        (Call::Items, reads(elements(alloc, &[])?, 10)),
+        (Call::Items, reads_elements(&[], 10)),
         (Call::Xor, writes(Reply::Done, 10)),
-        (Call::Items, reads(elements(alloc, &[-2, 0, 7])?, 11)),
+        (Call::Items, reads_elements(&[-2, 0, 7], 11)),
         (Call::Eq, reads(Reply::Truth(true), 11)),
         (Call::Discard(0), writes(Reply::Done, 11)),
         (Call::Xor, writes(Reply::Done, 12)),
-        (Call::Items, reads(elements(alloc, &[0])?, 13)),
+        (Call::Items, reads_elements(&[0], 13)),
         (Call::Xor, writes(Reply::Done, 13)),
-        (Call::Items, reads(elements(alloc, &[-2, 7])?, 14)),
+        (Call::Items, reads_elements(&[-2, 7], 14)),
         (Call::Xor, writes(Reply::Done, 14)),
-        (Call::Items, reads(elements(alloc, &[0])?, 15)),
-    ]?;
-    assert_eq!(rt; in_new_bank(alloc, 6, 4, rows.as_slice())?, None);
+        (Call::Items, reads_elements(&[0], 15)),
+    ];
+    assert_eq!(rt; in_new_bank(alloc, 6, 4, &rows)?, None);
     Ok(())
 }
 
@@ -381,7 +392,7 @@ fn elements_of_both_sets_go_and_new_ones_come_last(rt: HostRuntime) -> Result<()
 fn a_symmetric_difference_takes_the_table_for_what_is_left(rt: HostRuntime) -> Result<(), Fail> {
     let alloc = rt.alloc();
     // 2^61 - 1 and twice that have the hash of 0.
-    let rows = vec![in alloc;
+    let rows = [
         (Call::AddOther(5), writes(Reply::Done, 0)),
         (Call::AddOther(4611686018427387902), writes(Reply::Done, 1)),
         (Call::AddOther(9), writes(Reply::Done, 2)),
@@ -392,13 +403,10 @@ fn a_symmetric_difference_takes_the_table_for_what_is_left(rt: HostRuntime) -> R
         (Call::Xor, writes(Reply::Done, 7)),
         (
             Call::Items,
-            reads(
-                elements(alloc, &[-1, 5, 4611686018427387902, 2305843009213693951, 0])?,
-                8
-            )
+            reads_elements(&[-1, 5, 4611686018427387902, 2305843009213693951, 0], 8),
         ),
         (Call::Xor, writes(Reply::Done, 8)),
-        (Call::Items, reads(elements(alloc, &[-1, 9])?, 9)),
+        (Call::Items, reads_elements(&[-1, 9], 9)),
         (Call::Clear, writes(Reply::Done, 9)),
         (Call::Add(5), writes(Reply::Done, 10)),
         (Call::Add(9), writes(Reply::Done, 11)),
@@ -407,13 +415,10 @@ fn a_symmetric_difference_takes_the_table_for_what_is_left(rt: HostRuntime) -> R
         (Call::Xor, writes(Reply::Done, 14)),
         (
             Call::Items,
-            reads(
-                elements(alloc, &[1, 4611686018427387902, 2305843009213693951])?,
-                15
-            )
+            reads_elements(&[1, 4611686018427387902, 2305843009213693951], 15),
         ),
-    ]?;
-    assert_eq!(rt; in_new_bank(alloc, 4, 2, rows.as_slice())?, None);
+    ];
+    assert_eq!(rt; in_new_bank(alloc, 4, 2, &rows)?, None);
     Ok(())
 }
 
@@ -421,7 +426,7 @@ fn a_symmetric_difference_takes_the_table_for_what_is_left(rt: HostRuntime) -> R
 fn a_symmetric_difference_without_a_table_changes_nothing(rt: HostRuntime) -> Result<(), Fail> {
     let alloc = rt.alloc();
     // Five elements and more take a table of class 5, of which the other set has the only one; four take class 4.
-    let rows = vec![in alloc;
+    let rows = [
         (Call::AddOther(1), writes(Reply::Done, 0)),
         (Call::AddOther(2), writes(Reply::Done, 1)),
         (Call::AddOther(3), writes(Reply::Done, 2)),
@@ -429,15 +434,43 @@ fn a_symmetric_difference_without_a_table_changes_nothing(rt: HostRuntime) -> Re
         (Call::AddOther(5), writes(Reply::Done, 4)),
         (Call::Add(9), writes(Reply::Done, 5)),
         (Call::Xor, reads(Reply::Raised(Raise::Memory(5)), 6)),
-        (Call::Items, reads(elements(alloc, &[9])?, 6)),
+        (Call::Items, reads_elements(&[9], 6)),
         (Call::XorItself, writes(Reply::Done, 6)),
         (Call::Xor, reads(Reply::Raised(Raise::Memory(5)), 7)),
-        (Call::Items, reads(elements(alloc, &[])?, 7)),
+        (Call::Items, reads_elements(&[], 7)),
         (Call::Add(2), writes(Reply::Done, 7)),
         (Call::Xor, writes(Reply::Done, 8)),
-        (Call::Items, reads(elements(alloc, &[1, 3, 4, 5])?, 9)),
+        (Call::Items, reads_elements(&[1, 3, 4, 5], 9)),
         (Call::HasOther(2), reads(Reply::Truth(true), 9)),
-    ]?;
-    assert_eq!(rt; in_new_bank(alloc, 4, 1, rows.as_slice())?, None);
+    ];
+    assert_eq!(rt; in_new_bank(alloc, 4, 1, &rows)?, None);
+    Ok(())
+}
+
+#[test]
+fn a_set_has_at_most_39321_elements(rt: HostRuntime) -> Result<(), Fail> {
+    let alloc = rt.alloc();
+    let mut rows = Vec::new(alloc);
+    push_adds(&mut rows, 39321)?;
+    push_rows(
+        &mut rows,
+        vec![in alloc;
+            (Call::Len, reads(Reply::Count(39321), 39321)),
+            (Call::Add(39321), reads(Reply::Raised(Raise::Over), 39321)),
+            (Call::Len, reads(Reply::Count(39321), 39321)),
+            (Call::Has(39320), reads(Reply::Truth(true), 39321)),
+            (Call::Has(39321), reads(Reply::Truth(false), 39321)),
+            (Call::Add(5), writes(Reply::Done, 39321)),
+            (Call::Discard(7), writes(Reply::Done, 39322)),
+            // Each entry of its table was used, and the one table of that class is its own.
+            (
+                Call::Add(39321),
+                reads(Reply::Raised(Raise::Memory(16)), 39323),
+            ),
+            (Call::Len, reads(Reply::Count(39320), 39323)),
+            (Call::Pop, writes(Reply::Value(Value::Int(0)), 39323)),
+        ]?,
+    )?;
+    assert_eq!(rt; in_new_bank(alloc, 1, 1, rows.as_slice())?, None);
     Ok(())
 }

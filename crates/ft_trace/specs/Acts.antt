@@ -10,6 +10,7 @@ use Rattle.ft_trace.specs.declared.Shape.{Shape}
 use Rattle.ft_model.specs.declared.call.Call.{Call}
 use Rattle.ft_trace.specs.declared.View.{View}
 use Rattle.ft_trace.specs.Bits.{bit, bit_on, bit_off}
+use Rattle.ft_trace.specs.Owners.{had_locks, found_owners}
 use Rattle.ft_trace.specs.Addresses.{Word, counter, write_number, announced_of, count_of_class, bits, lock_of, version_of, block, header, cell, class_of, at, free_word_of, free_bit_of}
 
 -- the word of an action
@@ -43,7 +44,7 @@ place (Announce p x) = announced_of p
 place (ReadAnnounced p f) = announced_of p
 place (WriteNumber f) = write_number
 place (TakeFloor f s) = counter
-place (TookOver tables) = counter
+place (TookOver tables had found) = counter
 
 -- what the word becomes, by the pass of this number, where n was there
 abbrev pub word_after : ℕ → Act → ℕ → ℕ
@@ -143,7 +144,7 @@ stage_next t (TakeTable p f s) n = cond (p == t) (cond (bit (free_bit_of t) f ==
 stage_next t (GiveTable p) n = cond (p == t) 0 n
 stage_next t (PutRoot o r old) n = cond (r == suc t) 0 (cond (old == suc t) 3 n)
 stage_next t (Retire p f) n = cond (p == t) 4 n
-stage_next t (TookOver tables) n = cond (is_handed t tables) 4 n
+stage_next t (TookOver tables had found) n = cond (is_handed t tables) 4 n
 stage_next t act n = n
 
 abbrev pub stage : ℕ → List Act → ℕ
@@ -153,7 +154,7 @@ stage t (a ∷ l) = stage_next t a (stage t l)
 -- the number that all must have announced before t is given back
 abbrev pub goal_next : ℕ → Act → ℕ → ℕ
 goal_next t (Retire p f) g = cond (p == t) (f + 1) g
-goal_next t (TookOver tables) g = handed_goal t tables g
+goal_next t (TookOver tables had found) g = handed_goal t tables g
 goal_next t act g = g
 
 abbrev pub goal : ℕ → List Act → ℕ
@@ -164,7 +165,7 @@ goal t (a ∷ l) = goal_next t a (goal t l)
 abbrev pub has_goal_next : ℕ → Act → Bool → Bool
 has_goal_next t (PutHeader p x) b = cond (p == t) true b
 has_goal_next t (GiveTable p) b = cond (p == t) false b
-has_goal_next t (TookOver tables) b = cond (is_handed t tables) true b
+has_goal_next t (TookOver tables had found) b = cond (is_handed t tables) true b
 has_goal_next t act b = b
 
 abbrev pub has_goal : ℕ → List Act → Bool
@@ -174,7 +175,7 @@ has_goal t (a ∷ l) = has_goal_next t a (has_goal t l)
 -- the tables whose goals the pass has put into their headers or that it took over, also such as it has given back since
 abbrev pub put_tables_next : Act → List ℕ → List ℕ
 put_tables_next (PutHeader t x) ts = t ∷ ts
-put_tables_next (TookOver tables) ts = map (λ one. one.table) tables ++ ts
+put_tables_next (TookOver tables had found) ts = map (λ one. one.table) tables ++ ts
 put_tables_next act ts = ts
 
 abbrev pub put_tables : List Act → List ℕ
@@ -215,7 +216,7 @@ reads t (a ∷ l) = reads_next t a (reads t l)
 -- since it retired t the pass has found that the pass p stood at 0 or at the goal
 abbrev pub clear_next : ℕ → ℕ → ℕ → Act → Bool → Bool
 clear_next t p g (Retire q f) b = cond (q == t) false b
-clear_next t p g (TookOver tables) b = cond (is_handed t tables) false b
+clear_next t p g (TookOver tables had found) b = cond (is_handed t tables) false b
 clear_next t p g (ReadAnnounced q f) b = cond (q == p) (cond (f == 0) true (cond (nat_lt f g) b true)) b
 clear_next t p g act b = b
 
@@ -303,7 +304,7 @@ has_floor_next act b = b
 -- the words of the bank by the log of the pass with this number, right while no other pass may act
 abbrev pub floor_words_next : Shape → ℕ → Act → List ℕ → List ℕ
 floor_words_next k number (TakeFloor f s) ws = s.words
-floor_words_next k number (TookOver tables) ws = ws
+floor_words_next k number (TookOver tables had found) ws = ws
 floor_words_next k number act ws =
     slice_set ws (at k (place act)) (word_after number act (slice_index ws (at k (place act))))
 
@@ -395,7 +396,7 @@ abbrev pub lists_of : View → List (List Entry)
 lists_of w = cond (w.number == 0) w.lists (all_lists w)
 
 -- What two passes know, in the first one's place, and the second afterwards. The first one takes over the tables that
--- the second keeps retired; a note has none.
+-- the second keeps retired, which locks it has had and which owners it has found; a note has none of them.
 abbrev pub both : View → View → View
 both v w =
     record {
@@ -404,7 +405,7 @@ both v w =
       parts = v.parts + w.parts;
       left = v.left + w.left;
       shape = v.shape;
-      log = TookOver (hands_over w.log) ∷ v.log;
+      log = TookOver (hands_over w.log) (had_locks w.number w.log) (found_owners w.log) ∷ v.log;
       entries = v.entries;
       lists = v.lists ++ lists_of w;
       tokens = v.tokens + w.tokens;

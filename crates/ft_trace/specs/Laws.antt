@@ -28,6 +28,7 @@ use Rattle.ft_trace.specs.Counts.{word_bits, taking, giving, owing}
 use Rattle.ft_trace.specs.Entries.{total, is_number, AllRight, Numbered}
 use Rattle.ft_trace.specs.Addresses.{Word, Inside, at, sizes_of, part_of, counter, write_number, announced_of, count_of_class, bits, lock_of, version_of, block, header, containers_in, tables_in, class_of, slots, IsTable, free_word_of, free_bit_of}
 use Rattle.ft_trace.specs.Acts.{has_lock, is_writing, reads, stage, goal, has_goal, clear, announces, owes, all_entries}
+use Rattle.ft_trace.specs.Owners.{is_owner_in, had_locks, found_owners, AreOwners}
 use Rattle.ft_trace.specs.Ages.{age, all_acts}
 use Rattle.ft_trace.specs.Worlds.{kept, first_writes, kind_in, reply_in}
 use Rattle.ft_trace.specs.Words.{entry_at, item_at, walk_of, table_of, picture}
@@ -61,6 +62,19 @@ LocksNameHolders =
     × (word k es (lock_of o) ≢ 0 → (j : ℕ) × (u : View) × HasView k es j u × (has_lock o u.log ≡ true))
     × ((i j : ℕ) (u w : View) → HasView k es i u → HasView k es j w → has_lock o u.log ≡ true
     → has_lock o w.log ≡ true → i ≡ j)
+
+-- whoever was found with the lock of a container had taken it: its pass knows, or the one that has taken it in
+abbrev pub FoundOwnersHadLocks : Type 0
+FoundOwnersHadLocks =
+    (k : Shape) (es : List Event) → Valid k es → (j : ℕ) (u : View) → HasView k es j u → (o q : ℕ)
+    → is_owner_in o q (found_owners u.log) ≡ true
+    → (i : ℕ) × (w : View) × HasView k es i w × (is_owner_in o q (had_locks w.number w.log) ≡ true)
+
+-- a pass that stands for all passes knows it itself
+abbrev pub OneKnowsAllOwners : Type 0
+OneKnowsAllOwners =
+    (k : Shape) (es : List Event) → Valid k es → (j : ℕ) (u : View) → HasView k es j u → u.parts ≡ k.passes
+    → AreOwners (found_owners u.log) (had_locks u.number u.log)
 
 -- the version of a container is odd exactly while a pass writes it, and that pass has its lock
 abbrev pub VersionsAreOddInWrites : Type 0

@@ -15,7 +15,7 @@ ghost use Rattle.ft_trace.specs.SetWrites.{ElementsMayBeAdded, ElementsMayBeDisc
 ghost use Rattle.ft_trace.specs.GrowWrites.{DictsMayGrow};
 ghost use Rattle.ft_trace.specs.SetGrowWrites.{SetsMayGrow};
 ghost use Rattle.ft_trace.specs.ListGrowWrites.{ListsMayGrow};
-ghost use Rattle.ft_trace.specs.Laws.{ContentsFit, StoredTablesAreInOrder, WordsLieApart, PairsAreUnderTheirKeys, ElementsAreUnderTheirKeys, OnePassIsAlone, StampsRise, MemoryErrorsAreEarned, LocksNameHolders, VersionsAreOddInWrites, EvenTablesAreShut, OddVersionsAreInWrites, NumbersAreOnce, EntriesAreRight, OneHasAllEntries, EvenWordsStand, ZeroRootsHaveNothing, HoldersKnow, TablesAreSomewhere, TablesAreInOnePlace, CountsStand, TablesAreOwed, EmptyClassesAreEarned, AnnouncedNumbersAreLow, FoundTablesAreKept, TablesAreFreeBeforeRoots, GoalsStand, GivenUpTablesRest, TablesAreSound, TableWordsStay, HitsAreRight, MissesAreRight, BareRootsAreRight, ItemsAreRight, ListsFitTheirTables, LooksAreRight, LooksAtBothAreRight, ChangedRootsAreNew, NumbersHaveRoom, NextSerialsAreLow, CallsAreCounted};
+ghost use Rattle.ft_trace.specs.Laws.{ContentsFit, StoredTablesAreInOrder, WordsLieApart, PairsAreUnderTheirKeys, ElementsAreUnderTheirKeys, OnePassIsAlone, StampsRise, MemoryErrorsAreEarned, LocksNameHolders, FoundOwnersHadLocks, OneKnowsAllOwners, VersionsAreOddInWrites, EvenTablesAreShut, OddVersionsAreInWrites, NumbersAreOnce, EntriesAreRight, OneHasAllEntries, EvenWordsStand, ZeroRootsHaveNothing, HoldersKnow, TablesAreSomewhere, TablesAreInOnePlace, CountsStand, TablesAreOwed, EmptyClassesAreEarned, AnnouncedNumbersAreLow, FoundTablesAreKept, TablesAreFreeBeforeRoots, GoalsStand, GivenUpTablesRest, TablesAreSound, TableWordsStay, HitsAreRight, MissesAreRight, BareRootsAreRight, ItemsAreRight, ListsFitTheirTables, LooksAreRight, LooksAtBothAreRight, ChangedRootsAreNew, NumbersHaveRoom, NextSerialsAreLow, CallsAreCounted};
 
 use ft_layout::{
     puts_change_one_item, used_entries_follow_a_dict, used_entries_follow_a_set,
@@ -25,6 +25,12 @@ use ft_layout::{
 /// A lock word is the number of the one pass that has the lock.
 pub fn locks_name_their_holders()
     ensures { LocksNameHolders }
+{}
+
+/// Whoever was found with the lock of a container had taken it, and a pass that stands for all passes knows it.
+pub fn found_owners_had_locks()
+    ensures passes { FoundOwnersHadLocks }
+    ensures all { OneKnowsAllOwners }
 {}
 
 /// The version of a container is odd exactly while a pass writes it.

@@ -103,8 +103,8 @@ pub enum Act {
     /// Loads the counter and keeps what stands in the bank, by a pass that has all tokens.
     TakeFloor(u64, Snap),
     /// No step of its own: what the pass got when it took in another, the tables that the other kept
-    /// retired.
-    TookOver(LinkedList<Handed>),
+    /// retired, the locks that it has had, and the owners that it has found.
+    TookOver(LinkedList<Handed>, LinkedList<Owner>, LinkedList<Owner>),
 }
 
 /// A retired table that goes from one pass to another.
@@ -113,6 +113,14 @@ pub struct Handed {
     pub table: u64,
     /// Its goal: the number that all must have announced before it is given back.
     pub goal: u64,
+}
+
+/// A pass that had the lock of a container.
+pub struct Owner {
+    /// The container.
+    pub container: u64,
+    /// The pass: its number as lock words say it.
+    pub pass: u64,
 }
 
 /// A call with its reply and its stamp.

@@ -40,8 +40,10 @@ returns-in-Have-clause-made c = record {
   before = view c.take_for.new.pass;
   after = view c.eq_locked-reply.new.pass;
   took = c.in-Have.ensures.locked;
+  within = c.in-Have.ensures.within;
   made = c.eq_locked-reply.ensures.made;
   gone = c.let_go.ensures.locked;
+  owners = c.let_go.ensures.owners;
 }
 
 pub returns-in-NotYet-clause-may : goal.returns-in-NotYet-clause-may

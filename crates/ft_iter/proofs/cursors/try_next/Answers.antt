@@ -6,6 +6,7 @@ use Rattle.ft_trace.specs.Acts.{has_lock}
 use Rattle.ft_trace.specs.Addresses.{containers_in}
 use Rattle.ft_bank.specs.Passes.{shape_of, view}
 use Rattle.ft_section.specs.declared.answers.Objects.TheVariants.{One}
+use Rattle.ft_section.specs.Locking.{LocksWithin}
 use Rattle.ft_section.specs.Ready.{IsWaiting}
 use Rattle.ft_section.specs.Takings.{IsOf}
 use Rattle.ft_section.specs.Trying.{HasTaken, WaitsFor}
@@ -58,8 +59,10 @@ returns-in-Have-clause-moved c = (
     before = view c.take_for.new.pass;
     after = view c.next_locked-reply.new.pass;
     took = c.in-Have.ensures.locked;
+    within = subst (λ (z : ℕ). LocksWithin (One z) (view c.args.pass.now) (view c.take_for.new.pass)) c.container-container.ensures c.in-Have.ensures.within;
     answered = c.next_locked-reply.ensures.answered;
     gone = c.let_go.ensures.locked;
+    owners = c.let_go.ensures.owners;
     mine = returns-in-Have-clause-cursor c;
   },
   c.next_locked-reply.ensures.wrote,

@@ -33,7 +33,7 @@ returns-in-Have-clause-tried c =
     let added = subst (λ (i : ℤ). AddsItems k a.l (call.List a.l (list.Insert i a.value)) 1 (view c.take_for.new.pass) (view c.insert_by-added.new.pass) what) (to_z-of_z {w = w64} {z = a.index} c.ranges.index) c.insert_by-added.ensures.added in
     subst (λ (s : Step). IsTryOf (One a.l) F reply.Done v w s) (sym c.step_of.ensures)
     (tried_as (One a.l) F reply.Done v w what
-    (record { before = view c.take_for.new.pass; took = c.in-Have.ensures.locked; locks = c.in-Have.ensures.has.0; after = view c.insert_by-added.new.pass; did = added; gone = c.let_go.ensures.locked }))
+    (record { before = view c.take_for.new.pass; took = c.in-Have.ensures.locked; within = c.in-Have.ensures.within; locks = c.in-Have.ensures.has.0; after = view c.insert_by-added.new.pass; did = added; gone = c.let_go.ensures.locked; owners = c.let_go.ensures.owners }))
 
 pub returns-in-Have-clause-cursors : goal.returns-in-Have-clause-cursors
 returns-in-Have-clause-cursors c number = c.let_go.ensures.locked.cursors number ∙ (c.insert_by-added.ensures.cursors number ∙ c.in-Have.ensures.locked.cursors number)

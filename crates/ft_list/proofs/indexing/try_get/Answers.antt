@@ -47,8 +47,10 @@ returns-in-Have-clause-read c =
         before = view c.take_for.new.pass;
         after = view c.get_locked-reply.new.pass;
         took = c.in-Have.ensures.locked;
+        within = c.in-Have.ensures.within;
         answered = subst (λ (i : ℤ). Answered (call.List c.args.l (list.Get i)) r.0 r.1.number (view c.take_for.new.pass) (view c.get_locked-reply.new.pass)) index c.get_locked-reply.ensures.answered;
         gone = c.let_go.ensures.locked;
+        owners = c.let_go.ensures.owners;
       },
       c.get_locked-reply.ensures.wrote,
     )

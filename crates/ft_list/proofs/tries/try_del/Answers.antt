@@ -33,8 +33,10 @@ returns-in-Have-clause-made c = record {
   before = view c.take_for.new.pass;
   after = view c.del_locked-reply.new.pass;
   took = c.in-Have.ensures.locked;
+  within = c.in-Have.ensures.within;
   made = subst (λ (i : ℤ). MadeAs (call.List c.args.l (list.Del i)) c.del_locked-reply.result.0 c.del_locked-reply.result.1 (view c.take_for.new.pass) (view c.del_locked-reply.new.pass)) (to_z-of_z {w = w64} {z = c.args.index} c.ranges.index) c.del_locked-reply.ensures.made;
   gone = c.let_go.ensures.locked;
+  owners = c.let_go.ensures.owners;
 }
 
 pub returns-in-NotYet-clause-may : goal.returns-in-NotYet-clause-may

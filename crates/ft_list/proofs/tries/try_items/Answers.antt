@@ -32,8 +32,10 @@ returns-in-Ok-clause-made c = record {
   before = view c.take_for.new.pass;
   after = view c.items_locked-copied.new.pass;
   took = c.in-Have.ensures.locked;
+  within = c.in-Have.ensures.within;
   made = subst (λ r. IsCopied (call.List c.args.l list.Items) (view c.take_for.new.pass) (view c.items_locked-copied.new.pass) r) c.in-Ok.is (c.items_locked-copied.ensures.copied);
   gone = c.let_go.ensures.locked;
+  owners = c.let_go.ensures.owners;
 }
 
 pub returns-in-Err-clause-made : goal.returns-in-Err-clause-made
@@ -41,9 +43,11 @@ returns-in-Err-clause-made c = record {
   before = view c.take_for.new.pass;
   after = view c.items_locked-copied.new.pass;
   took = c.in-Have.ensures.locked;
+  within = c.in-Have.ensures.within;
   loaded = (subst (λ r. IsCopied (call.List c.args.l list.Items) (view c.take_for.new.pass) (view c.items_locked-copied.new.pass) r) c.in-Err.is (c.items_locked-copied.ensures.copied)).0;
   takes = (subst (λ r. IsCopied (call.List c.args.l list.Items) (view c.take_for.new.pass) (view c.items_locked-copied.new.pass) r) c.in-Err.is (c.items_locked-copied.ensures.copied)).1;
   gone = c.let_go.ensures.locked;
+  owners = c.let_go.ensures.owners;
 }
 
 pub returns-in-NotYet-clause-may : goal.returns-in-NotYet-clause-may

@@ -35,8 +35,10 @@ returns-in-Ok-clause-made c = record {
   before = view c.take_for.new.pass;
   after = view c.slice_locked-copied.new.pass;
   took = c.in-Have.ensures.locked;
+  within = c.in-Have.ensures.within;
   made = subst (λ r. IsCopied (call.List c.args.l (list.Slice c.args.start c.args.end)) (view c.take_for.new.pass) (view c.slice_locked-copied.new.pass) r) c.in-Ok.is (subst (λ (i : ℤ × ℤ). IsCopied (call.List c.args.l (list.Slice i.0 i.1)) (view c.take_for.new.pass) (view c.slice_locked-copied.new.pass) c.slice_locked-copied.result) (λ d. (to_z-of_z {w = w64} {z = c.args.start} c.ranges.start d, to_z-of_z {w = w64} {z = c.args.end} c.ranges.end d)) c.slice_locked-copied.ensures.copied);
   gone = c.let_go.ensures.locked;
+  owners = c.let_go.ensures.owners;
 }
 
 pub returns-in-Err-clause-made : goal.returns-in-Err-clause-made
@@ -44,9 +46,11 @@ returns-in-Err-clause-made c = record {
   before = view c.take_for.new.pass;
   after = view c.slice_locked-copied.new.pass;
   took = c.in-Have.ensures.locked;
+  within = c.in-Have.ensures.within;
   loaded = (subst (λ r. IsCopied (call.List c.args.l (list.Slice c.args.start c.args.end)) (view c.take_for.new.pass) (view c.slice_locked-copied.new.pass) r) c.in-Err.is (subst (λ (i : ℤ × ℤ). IsCopied (call.List c.args.l (list.Slice i.0 i.1)) (view c.take_for.new.pass) (view c.slice_locked-copied.new.pass) c.slice_locked-copied.result) (λ d. (to_z-of_z {w = w64} {z = c.args.start} c.ranges.start d, to_z-of_z {w = w64} {z = c.args.end} c.ranges.end d)) c.slice_locked-copied.ensures.copied)).0;
   takes = (subst (λ r. IsCopied (call.List c.args.l (list.Slice c.args.start c.args.end)) (view c.take_for.new.pass) (view c.slice_locked-copied.new.pass) r) c.in-Err.is (subst (λ (i : ℤ × ℤ). IsCopied (call.List c.args.l (list.Slice i.0 i.1)) (view c.take_for.new.pass) (view c.slice_locked-copied.new.pass) c.slice_locked-copied.result) (λ d. (to_z-of_z {w = w64} {z = c.args.start} c.ranges.start d, to_z-of_z {w = w64} {z = c.args.end} c.ranges.end d)) c.slice_locked-copied.ensures.copied)).1;
   gone = c.let_go.ensures.locked;
+  owners = c.let_go.ensures.owners;
 }
 
 pub returns-in-NotYet-clause-may : goal.returns-in-NotYet-clause-may

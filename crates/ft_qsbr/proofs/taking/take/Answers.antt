@@ -3,6 +3,8 @@ use Rattle.ft_trace.specs.declared.Act.{Act}
 use Rattle.ft_trace.specs.declared.View.{View}
 use Rattle.ft_trace.specs.Acts.{has_goal, seen_writes, stage}
 use Rattle.ft_trace.specs.Floors.{at_floor}
+use Rattle.ft_trace.specs.Owners.{SameOwners}
+use Rattle.ft_trace.proofs.Owning.{owners_then}
 use Rattle.ft_trace.specs.Hands.{cursor_in}
 use Rattle.ft_trace.specs.Sections.{begun}
 use Rattle.ft_bank.specs.declared.takings.Took.{Took}
@@ -11,7 +13,7 @@ use Rattle.ft_bank.specs.Series.{noted_all}
 use Rattle.ft_bank.specs.Takings.{IsTaking, StaysIn}
 use Rattle.ft_bank.proofs.Freeing.{but_same, but_then}
 use Rattle.ft_qsbr.specs.Collecting.{StaysOrGoes, loads_of}
-use Rattle.ft_qsbr.proofs.Passing.{begun_stays, cursors_stay, floor_stays, since_stays, learnt_stays, seen_stays, collection_leaves, given_or_kept, taking_leaves, same_by}
+use Rattle.ft_qsbr.proofs.Passing.{begun_stays, cursors_stay, floor_stays, since_stays, owners_stay, learnt_stays, seen_stays, collection_leaves, given_or_kept, taking_leaves, same_by}
 use Rattle.ft_qsbr.proofs.taking.take.Goals as goal
 
 pub take_table-requires-clause-idle : goal.take_table-requires-clause-idle
@@ -64,9 +66,12 @@ returns-clause-same c =
     let since : at_floor w.log ≡ at_floor v.log =
     ap (λ (u : View). at_floor u.log) d.1.1 ∙ (since_stays d.0 m (taking_leaves c.args.class c.take_table.result d.0 d.2)
     ∙ (ap (λ (u : View). at_floor u.log) x.did ∙ since_stays (x.acts ++ loads_of x.numbers) v (collection_leaves x.acts x.numbers x.givings))) in
+    let owners : SameOwners v w =
+    owners_then v m w (subst (SameOwners v) (sym x.did) (owners_stay (x.acts ++ loads_of x.numbers) v (collection_leaves x.acts x.numbers x.givings)))
+    (subst (SameOwners m) (sym d.1.1) (owners_stay d.0 m (taking_leaves c.args.class c.take_table.result d.0 d.2))) in
     let first : seen_writes v ≤ seen_writes m = subst (λ (u : View). seen_writes v ≤ seen_writes u) (sym x.did) (seen_stays (x.acts ++ loads_of x.numbers) v) in
     let then : seen_writes m ≤ seen_writes w = subst (λ (u : View). seen_writes m ≤ seen_writes u) (sym d.1.1) (seen_stays d.0 m) in
-    same_by F v w (returns-clause-keeps c) (c.take_table.ensures.idle ∙ sym c.requires.idle) sections cursors floor since learnt (le_trans first then)
+    same_by F v w (returns-clause-keeps c) (c.take_table.ensures.idle ∙ sym c.requires.idle) sections cursors floor since owners learnt (le_trans first then)
 
 pub returns-clause-hands : goal.returns-clause-hands
 returns-clause-hands c t stays =

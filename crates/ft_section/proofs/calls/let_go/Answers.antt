@@ -7,6 +7,7 @@ use Rattle.ft_section.specs.Ready.{InCall, AreSuspended, NotesTop}
 use Rattle.ft_section.specs.declared.answers.Objects.TheVariants.{One}
 use Rattle.ft_section.proofs.Goings.{own_went, may_try, may_inside}
 use Rattle.ft_trace.specs.declared.View.{View}
+use Rattle.ft_trace.specs.Owners.{SameOwners}
 use Rattle.ft_section.proofs.calls.let_go.Goals as goal
 
 pub returns-clause-may : goal.returns-clause-may
@@ -31,3 +32,6 @@ pub returns-clause-resume : goal.returns-clause-resume
 returns-clause-resume c =
     let none = ap (λ (x : Stack). x.own) (c.let_taking_go.ensures.stack.1 ∙ c.put_own.ensures.stack) in
     record { inside = may_inside c.args.bank.now c.let_taking_go.new.pass (One 0) (returns-clause-may c (One 0)); own = λ outer top split. inl none; none = λ nil. none }
+
+pub returns-clause-owners : goal.returns-clause-owners
+returns-clause-owners c = subst (λ (v : View). SameOwners v (view c.let_taking_go.new.pass)) c.put_own.ensures.view.1 c.let_taking_go.ensures.go.owners

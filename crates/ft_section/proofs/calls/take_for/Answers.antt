@@ -1,4 +1,4 @@
-use Rattle.std.proofs.Common.{◌≡◌, ℕ, inl, inr, ⊎_elim, ap, sym, subst, ◌∙◌}
+use Rattle.std.proofs.Common.{◌≡◌, ◌⊎◌, ℕ, inl, inr, ⊎_elim, ap, sym, subst, ◌∙◌}
 use Rattle.ft_bank.specs.Passes.{view}
 use Rattle.ft_bank.specs.declared.sections.Taking.{Taking}
 use Rattle.ft_bank.specs.Sections.{Stack, stack_of, taken_in}
@@ -6,6 +6,9 @@ use Rattle.ft_section.specs.Locking.{KeepsLower, with_own, waiting, first_mark}
 use Rattle.ft_section.specs.Floors.{first_owned, got_by}
 use Rattle.ft_section.proofs.Goings.{found_then}
 use Rattle.ft_section.proofs.Releases.{only_then}
+use Rattle.ft_section.specs.Takings.{IsOf}
+use Rattle.ft_trace.specs.Owners.{LocksOnly}
+use Rattle.ft_trace.proofs.Owning.{locks_only_then, locks_only_weaker, same_locks_only}
 use Rattle.ft_section.proofs.calls.take_for.Goals as goal
 
 pub returns-in-Err-clause-locked : goal.returns-in-Err-clause-locked
@@ -19,6 +22,24 @@ returns-in-Err-clause-found c =
       ⊎_elim (λ (e : c.in-Err.o ≡ c.in_order-lower.result.0). inl (e ∙ order.0)) (λ (e : c.in-Err.o ≡ c.in_order-lower.result.1). inr (e ∙ order.1)) f.0,
       found_then (view c.args.pass.now) (view c.take_both.new.pass) (view c.wait.new.pass) c.in-Err.o c.in-Err.owner f.1 c.wait.ensures.locked,
     )
+
+pub returns-in-Ok-clause-within : goal.returns-in-Ok-clause-within
+returns-in-Ok-clause-within c =
+    let order = c.in_order-lower.ensures in
+    locks_only_weaker (λ r. (r ≡ c.in_order-lower.result.0) ⊎ (r ≡ c.in_order-lower.result.1)) (λ r. IsOf r c.args.objects) (view c.args.pass.now) (view c.take_both.new.pass)
+    (λ r e. ⊎_elim (λ (z : r ≡ c.in_order-lower.result.0). inl (z ∙ order.0)) (λ (z : r ≡ c.in_order-lower.result.1). inr (z ∙ order.1)) e) c.take_both.ensures.only
+
+pub returns-in-Err-clause-within : goal.returns-in-Err-clause-within
+returns-in-Err-clause-within c =
+    let order = c.in_order-lower.ensures in
+    let P : ℕ → Type 0 = λ r. IsOf r c.args.objects in
+    let u = view c.args.pass.now in
+    let v = view c.take_both.new.pass in
+    let w = view c.wait.new.pass in
+    locks_only_then P u v w c.wait.ensures.locked.number
+    (locks_only_weaker (λ r. (r ≡ c.in_order-lower.result.0) ⊎ (r ≡ c.in_order-lower.result.1)) P u v
+    (λ r e. ⊎_elim (λ (z : r ≡ c.in_order-lower.result.0). inl (z ∙ order.0)) (λ (z : r ≡ c.in_order-lower.result.1). inr (z ∙ order.1)) e) c.take_both.ensures.only)
+    (same_locks_only P v w c.wait.ensures.owners)
 
 pub returns-in-Err-clause-waiting : goal.returns-in-Err-clause-waiting
 returns-in-Err-clause-waiting c =
@@ -39,5 +60,6 @@ returns-in-Err-clause-waiting c =
       };
       stack = stack ∙ ap (λ (s : Stack). waiting s c.in-Err.owner) (c.take_both.ensures.stack ∙ ap (λ (t : Taking). with_own (stack_of c.args.pass.now) t) (sym own));
       kept = subst (λ (l : ℕ). KeepsLower l c.in-Err.o c.args.pass.now c.wait.new.pass) order.0 (λ r. ap (taken_in r) own ∙ c.in-Err.ensures.kept r);
+      within = returns-in-Err-clause-within c;
       known = λ has. ap got_by (c.in-Err.ensures.known has ∙ (λ i. first_owned (order.0 i) (order.1 i) (view c.args.pass.now)));
     }

@@ -7,6 +7,7 @@ use Rattle.ft_section.specs.Locking.{LetGo, MayLetGo, waiting, marks_more, first
 use Rattle.ft_section.specs.Ready.{InCall, AreSuspended}
 use Rattle.ft_section.proofs.Waits.{may_sweep, waits}
 use Rattle.ft_trace.specs.declared.View.{View}
+use Rattle.ft_trace.specs.Owners.{SameOwners}
 use Rattle.ft_section.proofs.calls.wait.Goals as goal
 
 pub let_all_go-requires : goal.let_all_go-requires
@@ -54,3 +55,7 @@ returns-clause-inside c =
 
 pub returns-clause-suspended : goal.returns-clause-suspended
 returns-clause-suspended c = subst (λ (x : Stack). AreSuspended x.sections) (sym (returns-clause-stack c)) (waits_here c).1
+
+pub returns-clause-owners : goal.returns-clause-owners
+returns-clause-owners c =
+    subst (λ (v : View). SameOwners v (view c.let_all_go.new.pass)) (c.put_mark.ensures.view.1 ∙ c.put_sections.ensures.view.1) c.let_all_go.ensures.go.owners

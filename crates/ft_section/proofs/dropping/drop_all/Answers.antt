@@ -37,3 +37,6 @@ pub returns-clause-ready : goal.returns-clause-ready
 returns-clause-ready c =
     let k = c.let_each_go.ensures.stack in
     dropped c.args.bank.now c.args.pass.now c.let_each_go.new.pass c.requires (k.0 ∙ c.forget.ensures.view.0) (k.1 ∙ c.forget.ensures.stack) (gone c)
+
+pub returns-clause-owners : goal.returns-clause-owners
+returns-clause-owners c = (gone c).owners

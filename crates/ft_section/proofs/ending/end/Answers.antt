@@ -11,6 +11,7 @@ use Rattle.ft_section.proofs.Ends.{end_may, ended, kept_held}
 use Rattle.ft_trace.specs.declared.View.{View}
 use Rattle.ft_trace.specs.Sections.{Begun}
 use Rattle.ft_trace.proofs.KeptSections.{kept_sections_are_untouched}
+use Rattle.ft_trace.specs.Owners.{SameOwners}
 use Rattle.ft_section.proofs.ending.end.Goals as goal
 
 pub make_entry-number-requires-clause-said : goal.make_entry-number-requires-clause-said
@@ -62,3 +63,8 @@ returns-clause-resume c =
       own = λ outer top cut. inl own;
       none = λ nil. own;
     }
+
+pub returns-clause-owners : goal.returns-clause-owners
+returns-clause-owners c =
+    let go = subst (λ (v : View). SameOwners v (view c.let_taking_go.new.pass)) (c.put_sections.ensures.view.1 ∙ c.make_entry-number.ensures.view) c.let_taking_go.ensures.go.owners in
+    record { had = go.had; found = go.found }

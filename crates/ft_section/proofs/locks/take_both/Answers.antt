@@ -1,4 +1,4 @@
-use Rattle.std.proofs.Common.{None, ◌≡◌, ◌<◌, ℕ, true, inr, ap, ◌∙◌, subst, sym}
+use Rattle.std.proofs.Common.{None, ◌≡◌, ◌<◌, ℕ, ◌⊎◌, true, inl, inr, ap, ◌∙◌, subst, sym}
 use Rattle.std.proofs.lemmas.Result.{IfErr-weaker}
 use Rattle.ft_bank.specs.Passes.{view}
 use Rattle.ft_bank.specs.Sections.{Stack, stack_of}
@@ -14,6 +14,8 @@ use Rattle.ft_trace.specs.declared.Shape.{Shape}
 use Rattle.ft_trace.specs.Addresses.{containers_in}
 use Rattle.ft_section.specs.Floors.{owner_of, owner_or, first_found}
 use Rattle.ft_section.proofs.Floors.{owner_none}
+use Rattle.ft_trace.specs.Owners.{LocksOnly}
+use Rattle.ft_trace.proofs.Owning.{locks_only_then, locks_only_weaker}
 use Rattle.ft_section.proofs.locks.take_both.Goals as goal
 
 pub take_lower-requires-clause-inside : goal.take_lower-requires-clause-inside
@@ -59,3 +61,17 @@ returns-clause-known c has =
     let owner : owner_of upper v ≡ owner_of upper u = finds.1 upper low ∙ ap (owner_of upper) same in
     c.take_upper.ensures.known finds.0 ∙ (ap (λ (o : ℕ). owner_or o (owner_of o v) None) here ∙ (ap (λ (q : Option ℕ). owner_or upper q None) owner
     ∙ sym (owner_none lower (owner_of lower u) (owner_or upper (owner_of upper u) None) first)))
+
+pub returns-clause-only : goal.returns-clause-only
+returns-clause-only c =
+    let u = view c.args.pass.now in
+    let v = view c.take_lower.new.pass in
+    let w = view c.take_upper.new.pass in
+    let P : ℕ → Type 0 = λ r. (r ≡ c.args.lower) ⊎ (r ≡ c.args.upper) in
+    let lower : (stack_of c.put_own.new.self).own.lower ≡ c.args.lower = ap (λ (s : Stack). s.own.lower) c.put_own.ensures.stack in
+    let stack = c.take_lower.ensures.stack.1 ∙ ap (λ (s : Stack). with_own s (record s.own { took_lower = c.take_lower.ensures.stack.0 })) c.put_own.ensures.stack in
+    let upper : (stack_of c.take_lower.new.pass).own.upper ≡ c.args.upper = ap (λ (s : Stack). s.own.upper) stack in
+    let first = subst (λ (z : View). LocksOnly P z v) c.put_own.ensures.view.1
+    (locks_only_weaker (λ r. r ≡ (stack_of c.put_own.new.self).own.lower) P (view c.put_own.new.self) v (λ r e. inl (e ∙ lower)) c.take_lower.ensures.only) in
+    locks_only_then P u v w c.take_upper.ensures.locked.number first
+    (locks_only_weaker (λ r. r ≡ (stack_of c.take_lower.new.pass).own.upper) P v w (λ r e. inr (e ∙ upper)) c.take_upper.ensures.only)

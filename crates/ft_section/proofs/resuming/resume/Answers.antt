@@ -1,4 +1,4 @@
-use Rattle.std.proofs.Common.{◌≡◌, ◌<◌, ◌≤◌, ◌+◌, ℕ, List, [], ◌∷◌, false, length, inr, ⊎_elim, refl, sym, ap, ◌∙◌, subst, arith, length-append}
+use Rattle.std.proofs.Common.{◌≡◌, ◌<◌, ◌≤◌, ◌+◌, ◌⊎◌, ℕ, List, [], ◌∷◌, false, length, inr, ⊎_elim, refl, sym, ap, ◌∙◌, subst, arith, length-append}
 use Rattle.std.specs.Prelude.{All, None}
 use Rattle.std.proofs.lemmas.Bool.{true≢false}
 use Rattle.std.proofs.lemmas.List.{same_from_push}
@@ -18,6 +18,8 @@ use Rattle.ft_section.proofs.Resumes.{push_some, top_taking, top_apart, resumed,
 use Rattle.ft_trace.specs.declared.Shape.{Shape}
 use Rattle.ft_trace.specs.Acts.{has_lock}
 use Rattle.ft_trace.specs.Addresses.{containers_in}
+use Rattle.ft_trace.specs.Owners.{LocksOnly, SameOwners}
+use Rattle.ft_trace.proofs.Owning.{locks_only_then, same_locks_only, same_owners}
 use Rattle.ft_section.proofs.resuming.resume.Goals as goal
 
 pub returns-in_default-clause-locked : goal.returns-in_default-clause-locked
@@ -163,3 +165,44 @@ returns-in-Err-clause-kept c outer top cut =
     let same = same_from_push c.pop.new.self outer c.in-Some.top top (sym split ∙ cut) in
     let own = ap (λ (s : Stack). s.own) c.wait.ensures.stack in
     subst (λ (s : OpenSection). KeepsLower s.locks.lower c.in-Err.o c.args.pass.now c.wait.new.pass) same.1 (λ r. ap (taken_in r) own ∙ c.in-Err.ensures.kept r)
+
+-- the locks that were taken are of the innermost section
+
+pub returns-in_default-clause-only : goal.returns-in_default-clause-only
+returns-in_default-clause-only c outer top cut =
+    let none = sym (c.copied-sections.ensures ∙ c.sections.ensures) ∙ (c.pop.ensures.none c.in_default.is).0 in
+    absurd (push_some outer top (sym cut ∙ none))
+
+pub returns-in_default-clause-owners : goal.returns-in_default-clause-owners
+returns-in_default-clause-owners c nil = subst (SameOwners (view c.args.pass.now)) (sym c.put_mark.ensures.view.1) (same_owners (view c.args.pass.now))
+
+pub returns-in-Ok-clause-only : goal.returns-in-Ok-clause-only
+returns-in-Ok-clause-only c outer top cut =
+    let u = view c.args.pass.now in
+    let w = view c.put_mark-in-Ok.new.self in
+    let split = sym (c.copied-sections.ensures ∙ c.sections.ensures) ∙ c.pop.ensures.some c.in-Some.top c.in-Some.is in
+    let same = same_from_push c.pop.new.self outer c.in-Some.top top (sym split ∙ cut) in
+    let views = c.put_mark-in-Ok.ensures.view.1 ∙ (c.put_own.ensures.view.1 ∙ c.put_sections.ensures.view.1) in
+    subst (λ (s : OpenSection). LocksOnly (λ o. (o ≡ s.locks.lower) ⊎ (o ≡ s.locks.upper)) u w) same.1
+    (subst (LocksOnly (λ o. (o ≡ c.in-Some.top.locks.lower) ⊎ (o ≡ c.in-Some.top.locks.upper)) u) (sym views) c.take_both.ensures.only)
+
+pub returns-in-Ok-clause-owners : goal.returns-in-Ok-clause-owners
+returns-in-Ok-clause-owners c nil =
+    let split = sym (c.copied-sections.ensures ∙ c.sections.ensures) ∙ c.pop.ensures.some c.in-Some.top c.in-Some.is in
+    absurd (push_some c.pop.new.self c.in-Some.top (sym split ∙ nil))
+
+pub returns-in-Err-clause-only : goal.returns-in-Err-clause-only
+returns-in-Err-clause-only c outer top cut =
+    let u = view c.args.pass.now in
+    let v = view c.take_both.new.pass in
+    let w = view c.wait.new.pass in
+    let P : ℕ → Type 0 = λ o. (o ≡ c.in-Some.top.locks.lower) ⊎ (o ≡ c.in-Some.top.locks.upper) in
+    let split = sym (c.copied-sections.ensures ∙ c.sections.ensures) ∙ c.pop.ensures.some c.in-Some.top c.in-Some.is in
+    let same = same_from_push c.pop.new.self outer c.in-Some.top top (sym split ∙ cut) in
+    subst (λ (s : OpenSection). LocksOnly (λ o. (o ≡ s.locks.lower) ⊎ (o ≡ s.locks.upper)) u w) same.1
+    (locks_only_then P u v w c.wait.ensures.locked.number c.take_both.ensures.only (same_locks_only P v w c.wait.ensures.owners))
+
+pub returns-in-Err-clause-owners : goal.returns-in-Err-clause-owners
+returns-in-Err-clause-owners c nil =
+    let split = sym (c.copied-sections.ensures ∙ c.sections.ensures) ∙ c.pop.ensures.some c.in-Some.top c.in-Some.is in
+    absurd (push_some c.pop.new.self c.in-Some.top (sym split ∙ nil))

@@ -41,8 +41,10 @@ returns-in-Have-clause-read c = (
     before = view c.take_for.new.pass;
     after = view c.has_locked-reply.new.pass;
     took = c.in-Have.ensures.locked;
+    within = c.in-Have.ensures.within;
     answered = c.has_locked-reply.ensures.answered;
     gone = c.let_go.ensures.locked;
+    owners = c.let_go.ensures.owners;
   },
   c.has_locked-reply.ensures.wrote,
 )

@@ -47,7 +47,7 @@ fn main(rt: HostRuntime) -> io::Result<()> {
             nanos,
         )? {
             Some(outcome) => show(&rt, workload, outcome),
-            None => println!(rt; "out of memory"),
+            None => println!(rt; "not run: no threads, too many, or no memory"),
         },
     }
 }
@@ -67,7 +67,7 @@ fn run_all<R: AllocGlobal + Clock + Print + Threads + Wait + Sync>(rt: &R) -> io
         let name = workload.name();
         match run_workload(rt, rt.alloc(), workload, 2, QUICK)? {
             Some(outcome) => println!(rt; "{name} bad={}", outcome.wrong)?,
-            None => println!(rt; "out of memory")?,
+            None => println!(rt; "not run: no threads, too many, or no memory")?,
         }
     }
     Ok(())

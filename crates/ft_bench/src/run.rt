@@ -32,7 +32,7 @@ fn course_of(
     })
 }
 
-/// What comes of the rounds of all threads; nothing where memory ran out.
+/// What comes of the rounds of all threads; nothing where the shape doesn't fit or memory ran out.
 fn run_threads<R: Threads + Wait + Clock + Sync>(
     rt: &R,
     alloc: Global,
@@ -48,8 +48,8 @@ fn run_threads<R: Threads + Wait + Clock + Sync>(
     Ok(Some(outcome_of(alloc, workers.as_slice())?))
 }
 
-/// What comes of a workload in so many threads, whose rounds take so many nanoseconds together; nothing where memory ran
-/// out.
+/// What comes of a workload in so many threads, whose rounds take so many nanoseconds together; nothing where there are
+/// no threads or too many of them, or memory ran out.
 pub(crate) fn run_workload<R: Threads + Wait + Clock + Sync>(
     rt: &R,
     alloc: Global,

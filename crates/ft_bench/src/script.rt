@@ -15,9 +15,9 @@ use std::alloc::{AllocError, Global};
 use std::sync::Wait;
 use std::time::Clock;
 
-/// How many calls the script has, and how many of these each of its four threads has.
+/// How many calls the script has.
 const CALLS: u32 = 100_000;
-
+/// How many of them each of its four threads has.
 const SHARE: usize = 25_000;
 
 /// The script; nothing where memory ran out.

@@ -11,9 +11,9 @@ use ft_bank::Shape;
 use ft_model::Kind;
 use std::alloc::{AllocError, Global};
 
-/// How many classes up to 10, and up to 12, there are.
+/// How many classes up to 10 there are.
 const SMALL: u32 = 8;
-
+/// How many classes up to 12 there are.
 const MIDDLE: u32 = 10;
 /// How many classes there are.
 const CLASSES: u32 = 14;

@@ -48,8 +48,8 @@ pub(crate) fn answer<R: Wait>(
     }
 }
 
-/// What a call that reads answers, by a look where that gives an answer; nothing where it may not be made, or memory ran
-/// out.
+/// What a call that reads answers, by a look where that gives an answer; nothing where it may not be made, or memory
+/// ran out.
 pub(crate) fn read<R: Wait>(
     rt: &R,
     engine: &Engine,

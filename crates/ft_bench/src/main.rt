@@ -1,7 +1,7 @@
-//! Times calls of an engine from many threads: `ft_bench WORKLOAD THREADS [SECONDS]` runs one workload for so long, 0.25 s
-//! where no time is given, and writes how many calls were made, in how many seconds, and how many of them were answered
-//! wrongly. `ft_bench list` writes the workloads, each with its numbers of threads. Without words the program runs each
-//! workload for a few milliseconds, and writes no time.
+//! Times calls of an engine from many threads: `ft_bench WORKLOAD THREADS [SECONDS]` runs one workload for so long,
+//! 0.25 s where no time is given, and writes how many calls were made, in how many seconds, and how many of them were
+//! answered wrongly. `ft_bench list` writes the workloads, each with its numbers of threads. Without words the program
+//! runs each workload for a few milliseconds, and writes no time.
 #![tactic(auto)]
 
 mod answers;

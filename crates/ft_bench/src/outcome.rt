@@ -92,13 +92,12 @@ pub(crate) fn outcome_of(alloc: Global, workers: &[Worker]) -> Result<Outcome, A
 pub(crate) fn show(rt: &impl Print, workload: Workload, outcome: Outcome) -> io::Result<()> {
     let (seconds, nanos) = (outcome.nanos / 1_000_000_000, outcome.nanos % 1_000_000_000);
     let (made, wrong) = (outcome.made, outcome.wrong);
+    print!(rt; "{made} {seconds}.{nanos:09} bad={wrong}")?;
     let Workload::Growth(_) = workload else {
-        return println!(rt; "{made} {seconds}.{nanos:09} bad={wrong}");
+        return println!(rt);
     };
     let thousands = outcome.pairs.saturating_mul(1_000_000) / outcome.pair_nanos.max(1);
     let (millions, part) = (thousands / 1000, thousands % 1000);
     let (stall, longest) = (outcome.stall, outcome.longest);
-    println!(rt;
-        "{made} {seconds}.{nanos:09} bad={wrong} write_mops={millions}.{part:03} stall_med_ns={stall} stall_max_ns={longest}"
-    )
+    println!(rt; " write_mops={millions}.{part:03} stall_med_ns={stall} stall_max_ns={longest}")
 }

@@ -1,6 +1,6 @@
-//! The calls of a script that is made, by callers of one engine in one thread: round by round each of the script's threads
-//! makes its next call, which is the order of its turns. No section is open, so no call waits. Each run has an engine of
-//! its own, whose making isn't timed; the text is read once, before.
+//! The calls of a script that is made, by callers of one engine in one thread: round by round each of the script's
+//! threads makes its next call, which is the order of its turns. No section is open, so no call waits. Each run has an
+//! engine of its own, whose making isn't timed; the text is read once, before.
 ghost use Rattle.std.specs.Prelude.{IfOk, IfSome};
 ghost use Rattle.ft_bench.specs.Workers.{AreFree, AreReady, IsReady};
 

@@ -1,4 +1,4 @@
-use Rattle.std.proofs.Common.{◌≡◌, ◌∷◌, subst, sym, All}
+use Rattle.std.proofs.Common.{◌≡◌, List, ◌∷◌, subst, sym, All}
 use Rattle.std.specs.Vec.Iter.{into_iter_items}
 use Rattle.std.proofs.lemmas.List.Elements.{All-push}
 use Rattle.ft_bench.specs.Workers.{AreFree, IsFree}
@@ -14,6 +14,6 @@ pub loop-caller-preserved : goal.loop-caller-preserved
 loop-caller-preserved c =
     let steps : into_iter_items c.loop-caller.caller-iterator ≡ c.in-Some.caller ∷ into_iter_items c.next.new.self = c.in-Some.ensures.steps.0 in (
       (subst (AreFree c.args.engine.now) steps c.loop-caller.invariant.0).1,
-      subst (All (λ (w : Worker). IsFree c.args.engine.now w.caller)) (sym c.in_ok-push.ensures.items)
+      subst (All (λ (w : Worker). IsFree c.args.engine.now w.caller)) (sym {A = List Worker} c.in_ok-push.ensures.items)
           (All-push (λ (w : Worker). IsFree c.args.engine.now w.caller) c.loop-caller.workers.items _ c.loop-caller.invariant.1 c.in_ok-hire_one.ensures),
     )

@@ -1,57 +1,74 @@
-//! Times steps of a bank and calls on lists, each beside the bare steps of `atomic_table` that it stands on, in one
-//! run. The one argument is a number of rounds; without it the program makes a few rounds and writes no time.
+//! Times calls of an engine from many threads: `ft_bench WORKLOAD THREADS [SECONDS]` runs one workload for so long,
+//! 0.25 s where no time is given, and writes how many calls were made, in how many seconds, and how many of them were
+//! answered wrongly. `ft_bench list` writes the workloads, each with its numbers of threads. Without words the program
+//! runs each workload for a few milliseconds, and writes no time.
 #![tactic(auto)]
 
-mod bank_steps;
-mod bare_steps;
-mod list_steps;
-mod list_times;
-mod times;
+mod answers;
+mod course;
+mod fills;
+mod operation;
+mod outcome;
+mod pairs;
+mod rounds;
+mod run;
+mod script;
+mod shape;
+mod start;
+mod stream;
+mod threads;
+mod words;
+mod worker;
+mod workload;
 
-use crate::list_times::measure_lists;
-use crate::times::{Time, measure};
+use crate::outcome::show;
+use crate::run::run_workload;
+use crate::words::{Order, read_order};
+use crate::workload::{Workload, workloads};
+use std::io;
 use std::rt::Env;
-use std::{env, io};
+use std::sync::Wait;
+use std::thread::Threads;
+use std::time::Clock;
 
-/// How many rounds are made where no number is given.
-const QUICK: u32 = 100;
+/// How long a workload runs where all of them are run, in nanoseconds.
+const QUICK: u64 = 2_000_000;
 
 fn main(rt: HostRuntime) -> io::Result<()> {
-    let rounds = given_rounds(&rt)?;
-    let Some(times) = measure(&rt, rt.alloc(), rounds.unwrap_or(QUICK))? else {
-        return println!(rt; "out of memory");
-    };
-    show(&rt, "load", times.loads, rounds)?;
-    show(&rt, "lock, load and unlock", times.locks, rounds)?;
-    show(&rt, "lock, write and unlock", times.writes, rounds)?;
-    show(&rt, "take and give back", times.takings, rounds)?;
-    let Some(times) = measure_lists(&rt, rt.alloc(), rounds.unwrap_or(QUICK))? else {
-        return println!(rt; "out of memory");
-    };
-    show(&rt, "lock, set an item and unlock", times.sets, rounds)?;
-    show(&rt, "take a table and retire it", times.retirements, rounds)?;
-    show(&rt, "set items in two threads", times.in_two, rounds)
-}
-
-/// The number of rounds that the command line names, if it names one.
-fn given_rounds<R: Env + AllocGlobal>(rt: &R) -> io::Result<Option<u32>> {
-    let words = env::args(rt)?.collect::<Vec<String>>(rt.alloc())?;
-    let Some(word) = words.get(1) else {
-        return Ok(None);
-    };
-    Ok(word.parse::<u32>().ok())
-}
-
-/// A line with the two times in nanoseconds and their ratio; where no number of rounds was given, the name alone.
-fn show(rt: &impl Print, name: &str, time: Time, rounds: Option<u32>) -> io::Result<()> {
-    if rounds.is_none() {
-        return println!(rt; "{name}");
+    match read_order(&rt)? {
+        Order::Usage => println!(rt; "usage: ft_bench [list | WORKLOAD THREADS [SECONDS]]"),
+        Order::List => list(&rt),
+        Order::All => run_all(&rt),
+        Order::One(workload, threads, nanos) => match run_workload(
+            &rt,
+            rt.alloc(),
+            workload,
+            threads,
+            nanos,
+        )? {
+            Some(outcome) => show(&rt, workload, outcome),
+            None => println!(rt; "not run: no threads, too many, or no memory"),
+        },
     }
-    let ratio = time.bank.saturating_mul(100) / time.bare.max(1);
-    let (bank, bank_part) = (time.bank / 100, time.bank % 100);
-    let (bare, bare_part) = (time.bare / 100, time.bare % 100);
-    let (whole, part) = (ratio / 100, ratio % 100);
-    println!(rt;
-        "{name}: {bank}.{bank_part:02} ns, bare {bare}.{bare_part:02} ns, ratio {whole}.{part:02}"
-    )
+}
+
+/// The workloads, each with the numbers of threads that it is meant for.
+fn list(rt: &impl Print) -> io::Result<()> {
+    for workload in workloads() {
+        let (name, threads) = (workload.name(), workload.threads());
+        print!(rt; "{name}:{threads} ")?;
+    }
+    println!(rt)
+}
+
+/// Runs each workload for a few milliseconds in two threads, and writes how many answers were wrong.
+fn run_all<R: AllocGlobal + Clock + Print + Threads + Wait + Sync>(rt: &R) -> io::Result<()> {
+    for workload in workloads() {
+        let name = workload.name();
+        match run_workload(rt, rt.alloc(), workload, 2, QUICK)? {
+            Some(outcome) => println!(rt; "{name} bad={}", outcome.wrong)?,
+            None => println!(rt; "not run: no threads, too many, or no memory")?,
+        }
+    }
+    Ok(())
 }

@@ -1,7 +1,0 @@
-use Rattle.std.proofs.Common.{◌≡◌}
-use Rattle.ft_bank.specs.Passes.{view}
-use Rattle.ft_bank_tests.specs.Working.{IsWorker}
-use Rattle.ft_bench.proofs.bank_steps.load_all.Given as goal
-
-abbrev pub invariant-loop : goal.invariant-loop
-invariant-loop l = IsWorker l.bank l.pass × ((view l.pass).left ≡ (view l.fn.pass).left)

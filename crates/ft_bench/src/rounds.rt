@@ -1,0 +1,176 @@
+//! The rounds of a thread: it goes online, makes its operations, and goes offline.
+ghost use Rattle.ft_bench.specs.Workers.{IsFree, IsReady};
+
+use crate::answers::{answer, read};
+use crate::course::Course;
+use crate::operation::Operation;
+use crate::pairs::{fill, watch};
+use crate::worker::Worker;
+use crate::workload::Workload;
+use ft_engine::{Caller, Engine};
+use ft_model::{Call, Reply};
+use std::alloc::Global;
+use std::sync::Wait;
+use std::time::Clock;
+
+/// How many operations are made between two looks at the clock, and between two quiescent points.
+const BATCH: u32 = 1024;
+/// How many items are appended in a round.
+const APPENDS: u32 = 3072;
+
+/// The time in nanoseconds; the greatest number where the clock can't be read, which ends the run.
+pub(crate) fn now<R: Clock>(rt: &R) -> u64 {
+    match rt.monotonic() {
+        Ok(time) => u64::try_from(time.as_nanos()).unwrap_or(u64::MAX),
+        Err(_) => u64::MAX,
+    }
+}
+
+/// The time since then; the greatest number where the clock couldn't be read.
+pub(crate) fn since<R: Clock>(rt: &R, start: u64) -> u64 {
+    let end = now(rt);
+    if end == u64::MAX {
+        return end;
+    }
+    end.saturating_sub(start)
+}
+
+/// What the call of an operation answers: by a look where it reads.
+fn reply_of<R: Wait>(
+    rt: &R,
+    engine: &Engine,
+    alloc: Global,
+    caller: &mut Caller,
+    operation: Operation,
+    call: &Call,
+) -> Option<Reply>
+    requires { IsReady engine.now caller.old }
+    ensures { IsReady engine.now caller.new }
+{
+    if operation.is_read() {
+        read(rt, engine, alloc, caller, call)
+    } else {
+        answer(rt, engine, alloc, caller, call)
+    }
+}
+
+/// Makes one operation, and counts it.
+pub(crate) fn make<R: Wait>(
+    rt: &R,
+    engine: &Engine,
+    alloc: Global,
+    worker: &mut Worker,
+    operation: Operation,
+)
+    requires { IsReady engine.now worker.old.caller }
+    ensures { IsReady engine.now worker.new.caller }
+{
+    let call = worker.tally.call_of(operation);
+    let reply = reply_of(rt, engine, alloc, &mut worker.caller, operation, &call);
+    worker.tally.count(operation, &reply);
+}
+
+/// Makes the next operation. Says whether it appended an item.
+fn make_next<R: Wait>(rt: &R, engine: &Engine, alloc: Global, worker: &mut Worker) -> bool
+    requires { IsReady engine.now worker.old.caller }
+    ensures { IsReady engine.now worker.new.caller }
+{
+    let Some(operation) = worker.tally.next_operation() else {
+        return false;
+    };
+    make(rt, engine, alloc, worker, operation);
+    matches!(operation, Operation::Append(_))
+}
+
+/// Makes the next operations, so many of them.
+pub(crate) fn make_some<R: Wait>(
+    rt: &R,
+    engine: &Engine,
+    alloc: Global,
+    worker: &mut Worker,
+    count: u32,
+)
+    requires { IsReady engine.now worker.old.caller }
+    ensures { IsReady engine.now worker.new.caller }
+{
+    for _ in 0..count {
+        make_next(rt, engine, alloc, worker);
+    }
+}
+
+/// Makes operations until so much time has passed.
+fn make_for<R: Wait + Clock>(
+    rt: &R,
+    engine: &Engine,
+    alloc: Global,
+    worker: &mut Worker,
+    nanos: u64,
+)
+    requires { IsReady engine.now worker.old.caller }
+    ensures { IsReady engine.now worker.new.caller }
+{
+    let start = now(rt);
+    for _ in rt.forever() {
+        make_some(rt, engine, alloc, worker, BATCH);
+        if since(rt, start) >= nanos {
+            return;
+        }
+        answer(rt, engine, alloc, &mut worker.caller, &Call::Quiesce);
+    }
+}
+
+/// Makes operations until so many items have been appended, and at most a hundred for each of these.
+fn make_appends<R: Wait>(rt: &R, engine: &Engine, alloc: Global, worker: &mut Worker, appends: u32)
+    requires { IsReady engine.now worker.old.caller }
+    ensures { IsReady engine.now worker.new.caller }
+{
+    let mut left = appends;
+    for _ in 0..appends.saturating_mul(100) {
+        if left == 0 {
+            return;
+        }
+        if make_next(rt, engine, alloc, worker) {
+            left = left.saturating_sub(1);
+        }
+    }
+}
+
+/// The part of a thread in a round.
+fn take_turns<R: Wait + Clock>(
+    rt: &R,
+    engine: &Engine,
+    alloc: Global,
+    course: &Course,
+    worker: &mut Worker,
+)
+    requires { IsReady engine.now worker.old.caller }
+    ensures { IsReady engine.now worker.new.caller }
+{
+    match course.workload {
+        Workload::Dict(_) | Workload::Set(_) => make_for(rt, engine, alloc, worker, course.nanos),
+        Workload::List(_) => {
+            make_appends(rt, engine, alloc, worker, APPENDS / course.threads.max(1))
+        }
+        Workload::Growth(pairs) if worker.tally.thread == 0 => {
+            fill(rt, engine, alloc, course, worker, pairs)
+        }
+        Workload::Growth(_) => watch(rt, engine, alloc, course, worker),
+        Workload::Script => {}
+    }
+}
+
+/// A round of a thread: it goes online, takes its part, and goes offline.
+pub(crate) fn play<R: Wait + Clock>(
+    rt: &R,
+    engine: &Engine,
+    alloc: Global,
+    course: &Course,
+    worker: &mut Worker,
+)
+    requires { IsFree engine.now worker.old.caller }
+    ensures { IsFree engine.now worker.new.caller }
+{
+    engine.enter(&mut worker.caller);
+    take_turns(rt, engine, alloc, course, worker);
+    engine.leave(&mut worker.caller);
+}

@@ -1,0 +1,65 @@
+//! The engine of a run, with a worker for each thread.
+ghost use Rattle.std.specs.Prelude.{IfOk, IfSome};
+ghost use Rattle.ft_bench.specs.Workers.{AreFree, AreWorkers, IsFree};
+
+use crate::shape::shape_of;
+use crate::stream::operations;
+use crate::worker::{Tally, Worker};
+use crate::workload::Workload;
+use ft_engine::{Caller, Engine};
+use std::alloc::{AllocError, Global};
+
+/// The worker of a caller.
+fn hire_one(
+    alloc: Global,
+    engine: &Engine,
+    workload: Workload,
+    caller: Caller,
+) -> Result<Worker, AllocError>
+    requires { IsFree engine.now caller }
+    ensures { IfOk result (λ worker. IsFree engine.now worker.caller) }
+{
+    let _ = engine;
+    let thread = caller.thread();
+    let operations = operations(alloc, workload, thread)?;
+    Ok(Worker {
+        caller,
+        tally: Tally::new(thread, operations, Vec::new(alloc)),
+    })
+}
+
+/// The worker of each of these callers.
+fn hire(
+    alloc: Global,
+    engine: &Engine,
+    workload: Workload,
+    callers: Vec<Caller>,
+) -> Result<Vec<Worker>, AllocError>
+    requires { AreFree engine.now callers.items }
+    ensures { IfOk result (λ workers. AreWorkers engine.now workers.items) }
+{
+    let mut workers = Vec::new(alloc);
+    for caller in callers {
+        workers.push(hire_one(alloc, engine, workload, caller)?)?;
+    }
+    Ok(workers)
+}
+
+/// The engine of a run, and a worker for each thread; nothing where the shape doesn't fit or memory ran out.
+pub(crate) fn start(
+    alloc: Global,
+    workload: Workload,
+    threads: u32,
+) -> Result<Option<(Engine, Vec<Worker>)>, AllocError>
+    ensures { IfOk result (λ made. IfSome made (λ m. AreWorkers m.0 m.1.items)) }
+{
+    let shape = shape_of(alloc, workload, threads)?;
+    if !shape.fits() {
+        return Ok(None);
+    }
+    let Ok((engine, callers)) = Engine::new(alloc, shape, 0) else {
+        return Ok(None);
+    };
+    let workers = hire(alloc, &engine, workload, callers)?;
+    Ok(Some((engine, workers)))
+}

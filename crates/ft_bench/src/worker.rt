@@ -1,0 +1,84 @@
+//! A thread of a run: its caller, its operations, and what came of them.
+
+use crate::operation::{Operation, call_of, is_right};
+use ft_engine::Caller;
+use ft_model::{Call, Reply};
+
+/// A thread of a run.
+#[derive(Drop)]
+pub struct Worker {
+    pub(crate) caller: Caller,
+    pub(crate) tally: Tally,
+}
+
+/// A thread's operations, and what came of those that it made.
+#[derive(Drop)]
+pub struct Tally {
+    /// The thread, from 0 on.
+    pub(crate) thread: u32,
+    /// Its operations, which it walks round.
+    pub(crate) operations: Vec<Operation>,
+    /// How many operations of these it has come past.
+    pub(crate) place: u32,
+    /// How many operations were made.
+    pub(crate) made: u64,
+    /// How many of them were answered wrongly, or couldn't be made.
+    pub(crate) wrong: u64,
+    /// How long all rounds took, in nanoseconds.
+    pub(crate) nanos: u64,
+    /// How often the threads of the run have met.
+    pub(crate) meetings: u64,
+    /// How many pairs were set by the thread that fills a dict.
+    pub(crate) pairs: u64,
+    /// How long that took, in nanoseconds.
+    pub(crate) pair_nanos: u64,
+    /// The longest time of 64 gets in each round, in nanoseconds.
+    pub(crate) stalls: Vec<u64>,
+}
+
+impl Tally {
+    /// What a thread begins with.
+    pub(crate) fn new(thread: u32, operations: Vec<Operation>, stalls: Vec<u64>) -> Tally {
+        Tally {
+            thread,
+            operations,
+            place: 0,
+            made: 0,
+            wrong: 0,
+            nanos: 0,
+            meetings: 0,
+            pairs: 0,
+            pair_nanos: 0,
+            stalls,
+        }
+    }
+
+    /// The operation that comes next.
+    pub(crate) fn next_operation(&mut self) -> Option<Operation> {
+        let length = self.operations.len();
+        if length == 0 {
+            return None;
+        }
+        let found = self.operations.get(self.place as usize % length).copied();
+        self.place = self.place.wrapping_add(1);
+        found
+    }
+
+    /// The call of an operation: a value that it stores is a new one.
+    pub(crate) fn call_of(&self, operation: Operation) -> Call {
+        call_of(operation, self.place)
+    }
+
+    /// Counts an operation by its reply, or one that couldn't be made.
+    pub(crate) fn count(&mut self, operation: Operation, reply: &Option<Reply>) {
+        let right = match reply {
+            Some(reply) => is_right(operation, reply),
+            None => false,
+        };
+        if right {
+            self.made = self.made.saturating_add(1);
+        } else {
+            self.wrong = self.wrong.saturating_add(1);
+        }
+    }
+}

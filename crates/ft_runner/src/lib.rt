@@ -22,5 +22,6 @@ pub use laws::{
     what_is_written_is_found_legal,
 };
 pub use program::run_program;
+pub use ft_workers::{Gate, NoGate};
 pub use report::{Fault, Report};
-pub use tool::{Gate, NoGate, run_still, run_tool};
+pub use tool::{run_still, run_tool};

@@ -2,6 +2,7 @@
 //! last ten runs: they are what a second model of the turns gives, written apart from this one.
 
 mod making;
+mod running;
 
 use ft_io::{MemSink, MemSource};
 use ft_model::Rule;
@@ -227,6 +228,8 @@ fn check<R: Threads + Wait + Sync + Abort + AllocGlobal>(rt: &R, case: &Case) ->
     assert_eq!(rt; report.status, case.status, "at {:?}", case.input);
     assert_eq!(rt; report.fault, case.fault, "at {:?}", case.input);
     assert_eq!(rt; report.history.len(), case.entries, "at {:?}", case.input);
+    let is_left = case.command == "run" && (case.status == 0 || case.status == 4);
+    assert_eq!(rt; report.closed.is_some(), is_left, "at {:?}", case.input);
     assert_eq!(rt; sink.bytes(), case.put.as_bytes(), "at {:?}", case.input);
     assert_eq!(rt;
         errors.bytes(),
@@ -637,6 +640,14 @@ fn call_still(alloc: Global, command: &str, input: Vec<u8>) -> Result<Called, Fa
     })
 }
 
+/// Has a transcript checked against its script.
+fn call_check(alloc: Global, script: &str, transcript: &[u8]) -> Result<Called, Fail> {
+    let mut input = script.as_bytes().to_vec(alloc)?;
+    input.extend_from_slice(b"---\n")?;
+    input.extend_from_slice(transcript)?;
+    call_still(alloc, "check", input)
+}
+
 #[test]
 fn more_than_is_taken_is_too_long(rt: HostRuntime) -> Result<(), Fail> {
     let alloc = rt.alloc();
@@ -734,12 +745,13 @@ fn push_sets(text: &mut String, alloc: Global, from: u32, to: u32) -> Result<(),
     Ok(())
 }
 
-/// Two threads that set a thousand keys of a dict each.
-fn long_script(alloc: Global) -> Result<String, AllocError> {
+/// Two threads that set so many keys of a dict each, up to a thousand.
+fn long_script(alloc: Global, each: u16) -> Result<String, AllocError> {
+    let most = u32::from(each.min(1000));
     let mut text = String::from_str(alloc, "dict d\nthread A\n")?;
-    push_sets(&mut text, alloc, 1, 1001)?;
+    push_sets(&mut text, alloc, 1, most + 1)?;
     text.push_str("items d\nthread B\n")?;
-    push_sets(&mut text, alloc, 1001, 2001)?;
+    push_sets(&mut text, alloc, most + 1, 2 * most + 1)?;
     Ok(text)
 }
 
@@ -751,7 +763,7 @@ fn count_of(bytes: &[u8], wanted: u8) -> usize {
 #[test]
 fn a_long_script_is_run_and_checked(rt: HostRuntime) -> Result<(), Fail> {
     let alloc = rt.alloc();
-    let text = long_script(alloc)?;
+    let text = long_script(alloc, 1000)?;
     let run = call_still(alloc, "turns", text.as_bytes().to_vec(alloc)?)?;
     assert_eq!(rt; run.status, 0);
     assert_eq!(rt; run.entries, 2001);
@@ -759,10 +771,7 @@ fn a_long_script_is_run_and_checked(rt: HostRuntime) -> Result<(), Fail> {
     assert_eq!(rt; count_of(&run.put, b':'), 4000);
     assert_eq!(rt; count_of(&run.put, b'\n'), 2002);
 
-    let mut input = text.as_bytes().to_vec(alloc)?;
-    input.extend_from_slice(b"---\n")?;
-    input.extend_from_slice(&run.put)?;
-    let checked = call_still(alloc, "check", input)?;
+    let checked = call_check(alloc, text.as_str(), &run.put)?;
     assert_eq!(rt; checked.put.as_slice(), b"legal\n".as_slice());
     Ok(())
 }

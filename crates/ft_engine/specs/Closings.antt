@@ -1,10 +1,11 @@
 -- Callers that are done, and the entries of all of them.
-use Rattle.std.specs.Prelude.{◌≡◌, suc, List, [], ◌∷◌, length}
+use Rattle.std.specs.Prelude.{◌≡◌, ℕ, suc, List, [], ◌∷◌, length, map, Some, slice_get}
 use Rattle.ft_model.specs.declared.call.Call.{Call}
 use Rattle.ft_model.specs.declared.entry.Entry.{Entry as NamedEntry}
 use Rattle.ft_model.specs.declared.entry.Storage.TheVariants as storage
 use Rattle.ft_model.specs.declared.script.ScriptParts.{ScriptParts}
-use Rattle.ft_model.specs.Numbers.{AreDone, AreNumberedLists, IsHistoryOf}
+use Rattle.ft_model.specs.Histories.{calls_of}
+use Rattle.ft_model.specs.Numbers.{IsHistoryOf}
 use Rattle.ft_trace.specs.declared.Shape.{Shape}
 use Rattle.ft_trace.specs.Acts.{announces}
 use Rattle.ft_bank.specs.Passes.{view}
@@ -33,10 +34,11 @@ pub record AreOfScript (script : ScriptParts) (k : Shape) (lists : List (List Na
   pub cursors : AskOwnCursors script lists
   pub count : length lists ≡ length script.threads
 
--- each call of the script was made, and each mark is right, by whatever writes stand beside the entries
+-- each call of the script was made
 abbrev pub AreAllMade : ScriptParts → List (List NamedEntry) → Type 0
 AreAllMade script lists =
-    (calls : List Call) → AreNumberedLists storage.Tables script calls lists → AreDone script calls lists
+    (thread : ℕ) (mine : List NamedEntry) → slice_get lists thread ≡ Some mine
+    → map (λ entry. entry.call) mine ≡ calls_of script thread
 
 -- a legal history of the script, with containers on tables, in which MemoryErrors fit
 abbrev pub IsLegalFor : ScriptParts → List NamedEntry → Type 0

@@ -1,0 +1,68 @@
+//! The bank of a script.
+ghost use Rattle.std.specs.Prelude.{◌≡◌, IfOk, map};
+ghost use Rattle.ft_bank.specs.Shapes.{IsShape, plan};
+ghost use Rattle.ft_hash.specs.Hashes.{text_hash};
+ghost use Rattle.ft_model.specs.Names.{IsString};
+ghost use Rattle.ft_model.specs.Worlds.{kinds_of};
+ghost use Rattle.ft_workers.specs.Workers.{IsBankFor};
+ghost use Rattle.std.specs.Prelude.{All};
+
+use ft_bank::Shape;
+use ft_hash::hash_text;
+use ft_model::{Declaration, Kind, MOST_CALLS, Script, Text};
+use std::alloc::{AllocError, Global};
+use std::str;
+
+/// The kinds of the containers.
+fn kinds(alloc: Global, containers: &[Declaration]) -> Result<Vec<Kind>, AllocError>
+    ensures { IfOk result (λ kinds. kinds.items ≡ kinds_of containers.now) }
+{
+    let mut kinds = Vec::with_capacity(alloc, containers.len())?;
+    for declaration in containers {
+        kinds.push(declaration.kind)?;
+    }
+    Ok(kinds)
+}
+
+/// The hashes of the strings.
+fn texts(alloc: Global, strings: &[Text]) -> Result<Vec<u64>, AllocError>
+    requires { All IsString strings.now }
+    ensures { IfOk result (λ texts. texts.items ≡ map text_hash strings.now) }
+{
+    let mut texts = Vec::with_capacity(alloc, strings.len())?;
+    for text in strings {
+        let Ok(text) = str::from_utf8(text.as_slice()) else {
+            unreachable!();
+        };
+        texts.push(hash_text(text))?;
+    }
+    Ok(texts)
+}
+
+/// How many tables there are of each class.
+fn tables(alloc: Global, counts: &[u32]) -> Result<Vec<u32>, AllocError>
+    ensures { IfOk result (λ tables. tables.items ≡ counts.now) }
+{
+    let mut tables = Vec::with_capacity(alloc, counts.len())?;
+    for count in counts {
+        tables.push(*count)?;
+    }
+    Ok(tables)
+}
+
+/// The shape of the script's bank: a pass for each thread, one at least, and for each as many calls as a script has at
+/// most.
+pub(crate) fn shape_for(alloc: Global, script: &Script) -> Result<Shape, AllocError>
+    ensures shape { IfOk result (λ shape. IsShape shape) }
+    ensures bank { IfOk result (λ shape. IsBankFor script.now (plan shape)) }
+{
+    let parts = script.parts();
+    Ok(Shape {
+        kinds: kinds(alloc, parts.containers.as_slice())?,
+        texts: texts(alloc, parts.strings.as_slice())?,
+        tables: tables(alloc, parts.tables.as_slice())?,
+        heap: parts.heap,
+        passes: (parts.threads.len() as u32).max(1),
+        calls: MOST_CALLS,
+    })
+}

@@ -1,0 +1,60 @@
+//! The engine of a script, with a worker for each thread.
+ghost use Rattle.std.specs.Prelude.{◌≡◌, ℕ, IfOk, length, max};
+ghost use Rattle.ft_bank.specs.Passes.{shape_of};
+ghost use Rattle.ft_engine.specs.Callers.{AreFresh, bank_of};
+ghost use Rattle.ft_model.specs.Limits.{most_cursors};
+ghost use Rattle.ft_workers.specs.Workers.{AreFrom, IsBankFor, IsNew};
+
+use crate::shape::shape_for;
+use crate::workers::Worker;
+use ft_engine::{Caller, Engine};
+use ft_model::{MOST_CURSORS, Script, Thread};
+use std::alloc::{AllocError, Global};
+
+/// The worker of a caller, with rows for the entries of all calls of its thread.
+fn worker(alloc: Global, own: Option<&Thread>, caller: Caller) -> Result<Worker, AllocError> {
+    let calls = match own {
+        Some(own) => own.calls.len(),
+        None => 0,
+    };
+    Ok(Worker {
+        caller,
+        entries: Vec::with_capacity(alloc, calls)?,
+        done: false,
+    })
+}
+
+/// The worker of each of these callers.
+fn hire(
+    alloc: Global,
+    engine: &Engine,
+    script: &Script,
+    callers: Vec<Caller>,
+) -> Result<Vec<Worker>, AllocError>
+    requires callers { AreFresh engine.now most_cursors 0 callers.items }
+    ensures workers { IfOk result (λ workers. AreFrom (IsNew engine.now script.now) 0 workers.items) }
+    ensures count { IfOk result (λ workers. length workers.items ≡ length callers.items) }
+{
+    let _ = engine;
+    let parts = script.parts();
+    let mut workers = Vec::with_capacity(alloc, callers.len())?;
+    for caller in callers {
+        let own = parts.threads.as_slice().get(workers.len());
+        workers.push(worker(alloc, own, caller)?)?;
+    }
+    Ok(workers)
+}
+
+/// The engine of a script, and a worker for each of its threads, one at least.
+pub(crate) fn start(alloc: Global, script: &Script) -> Result<(Engine, Vec<Worker>), AllocError>
+    ensures bank { IfOk result (λ made. IsBankFor script.now (shape_of (bank_of made.0))) }
+    ensures workers { IfOk result (λ made. AreFrom (IsNew made.0 script.now) 0 made.1.items) }
+    ensures count { IfOk result (λ made. length made.1.items ≡ (shape_of (bank_of made.0)).passes) }
+{
+    let shape = shape_for(alloc, script)?;
+    let Ok((engine, callers)) = Engine::new(alloc, shape, MOST_CURSORS as u32) else {
+        return Err(AllocError);
+    };
+    let workers = hire(alloc, &engine, script, callers)?;
+    Ok((engine, workers))
+}

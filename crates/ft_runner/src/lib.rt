@@ -16,12 +16,12 @@ mod tool;
 mod writing;
 
 pub use command::Subcommand;
+pub use ft_workers::{Gate, NoGate};
 pub use laws::{
     bad_lines_are_reported, legal_histories_are_read_back, reports_have_their_causes,
     scripts_are_refused, scripts_are_run, transcripts_are_checked, verdicts_are_reported,
     what_is_written_is_found_legal,
 };
 pub use program::run_program;
-pub use ft_workers::{Gate, NoGate};
 pub use report::{Fault, Report};
 pub use tool::{run_still, run_tool};

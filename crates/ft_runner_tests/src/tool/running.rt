@@ -39,7 +39,8 @@ fn crowd(alloc: Global) -> Result<String, AllocError> {
     let mut text = String::from_str(alloc, "dict d\ndict e\n")?;
     for key in 1..65 {
         let lines = format!(in alloc;
-            "thread T{key}\nbegin d e\nset d {key} 0\nset e {key} 0\nend\n")?;
+            "thread T{key}\nbegin d e\nset d {key} 0\nset e {key} 0\nend\n"
+        )?;
         text.push_str(lines.as_str())?;
     }
     Ok(text)
@@ -133,6 +134,9 @@ fn a_list_past_the_largest_table_is_not_legal(rt: HostRuntime) -> Result<(), Fai
     }
     let checked = call_check(alloc, script.as_str(), transcript.as_bytes())?;
     assert_eq!(rt; checked.status, 7);
-    assert_eq!(rt; checked.put.as_slice(), b"not legal at 18: memory\n".as_slice());
+    assert_eq!(rt;
+        checked.put.as_slice(),
+        b"not legal at 18: memory\n".as_slice()
+    );
     Ok(())
 }

@@ -101,8 +101,8 @@ short_end script entries rule legal few place entry at ends =
           let matched = match_of script rule entries (next_of_legal storage.Tables script entries legal) place entry at ends in
           let section : Section = record { containers = containers_of matched.1.call; begun = matched.0 } in
           let stack = section_ended entries matched.0 place matched.1 entry matched.2 in
-          let P : Section → Type 0 = λ open. IsCountedBy entries entry.thread place open entry.reply in
-          let counted : IsCountedBy entries entry.thread place section entry.reply = subst (λ (open : List Section). IfInnermost open P) stack (subst (λ (called : Call). IfEnds (sections_at entries entry.thread place) called P) ends (legal.chronicle.counted place entry at)) in
+          let P : Section → Type 0 = λ inner. IsCountedBy entries entry.thread place inner entry.reply in
+          let counted : IsCountedBy entries entry.thread place section entry.reply = subst (λ (inner : List Section). IfInnermost inner P) stack (subst (λ (called : Call). IfEnds (sections_at entries entry.thread place) called P) ends (legal.chronicle.counted place entry at)) in
           let count : IsCountedBy entries entry.thread place section (reply.Suspended suspended.0) = subst (IsCountedBy entries entry.thread place section) suspended.1 counted in
           let most = few_marked entries entry.thread place section (let low = slice_get_within entries place entry at in omega (arith, low)) in
           subst IsShortReply (sym suspended.1) (omega (arith, count.1, most, few))
@@ -129,8 +129,8 @@ legal_on_tables script entries legal stays =
         kept = there.kept;
         counted = there.counted;
         earned = λ place entry at.
-        let same = stored_here script entries place entry.stamp (there.answered place entry at).stamp in
-        earned_within (kinds_of script.containers) script.tables (length script.threads) (writes (take place entries)) (entries_of entry.thread (take place entries)) entry.call entry.reply (there.earned place entry at)
-        (subst (λ (world : List Content). would_pass world entry.call ≡ false) (sym same) (stays place entry at));
+            let same = stored_here script entries place entry.stamp (there.answered place entry at).stamp in
+            earned_within (kinds_of script.containers) script.tables (length script.threads) (writes (take place entries)) (entries_of entry.thread (take place entries)) entry.call entry.reply (there.earned place entry at)
+            (subst (λ (world : List Content). would_pass world entry.call ≡ false) (sym same) (stays place entry at));
       };
     }

@@ -1,6 +1,6 @@
 -- What holds of a legal history whose containers are on tables: they have no more than the largest table holds, so that
 -- what replies count is low.
-use Rattle.std.proofs.Common.{◌≡◌, ◌∙◌, ℕ, zero, suc, ◌+◌, ◌<◌, ◌≤◌, true, false, ◌-◌, List, [], ◌∷◌, length, get_or, take, Some, refl, sym, ap, subst, inl, inr, arith, ◌⊎◌}
+use Rattle.std.proofs.Common.{◌≡◌, ◌∙◌, ℕ, zero, suc, ◌+◌, ◌≤◌, true, false, ◌-◌, List, [], ◌∷◌, length, get_or, take, Some, refl, sym, ap, subst, inl, inr, arith, ◌⊎◌}
 use Rattle.std.specs.Prelude.{All, slice_get}
 use Rattle.std.specs.List.{between, count_by}
 use Rattle.std.proofs.lemmas.Bool.{ltb-false, true≢false}

@@ -118,15 +118,15 @@ fn perform<S: Source, K: Sink>(
     ensures other { IfSome result (λ outcome. asked ≢ Ok (Some subcommand.Run)) }
     ensures untouched { IfNone result ((source.new ≡ source.old) × (sink.new ≡ sink.old)) }
 {
-    Some(match asked {
-        Ok(Some(Subcommand::Run)) => return None,
-        Ok(Some(Subcommand::Turns)) => turns(alloc, source, sink),
-        Ok(Some(Subcommand::Check)) => check(alloc, source, sink),
-        Ok(Some(Subcommand::Make(calls))) => make(alloc, calls, sink),
-        Ok(Some(Subcommand::MakeTurns(calls))) => make_turns(alloc, calls, sink),
-        Ok(None) => Outcome::Usage,
-        Err(AllocError) => Outcome::Memory,
-    })
+    match asked {
+        Ok(Some(Subcommand::Run)) => None,
+        Ok(Some(Subcommand::Turns)) => Some(turns(alloc, source, sink)),
+        Ok(Some(Subcommand::Check)) => Some(check(alloc, source, sink)),
+        Ok(Some(Subcommand::Make(calls))) => Some(make(alloc, calls, sink)),
+        Ok(Some(Subcommand::MakeTurns(calls))) => Some(make_turns(alloc, calls, sink)),
+        Ok(None) => Some(Outcome::Usage),
+        Err(AllocError) => Some(Outcome::Memory),
+    }
 }
 
 /// Reads a script, a line and a transcript, and checks it.

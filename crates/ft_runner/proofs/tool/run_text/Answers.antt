@@ -1,7 +1,7 @@
 use Rattle.std.proofs.Common.{◌≡◌, refl}
 use Rattle.std.specs.Prelude.{Some}
 use Rattle.ft_runner.specs.declared.command.Subcommand.TheVariants as subcommand
-use Rattle.ft_runner.specs.Reports.{IsLeft, Leaves}
+use Rattle.ft_runner.specs.Reports.{Leaves}
 use Rattle.ft_runner.proofs.ReportLemmas.{run_failed, run_forgotten, run_refused, run_short, run_written, IsRun}
 use Rattle.ft_runner.proofs.RunHistories.{entries_made, short_made, world_made}
 use Rattle.ft_runner.proofs.tool.run_text.Goals as goal

@@ -84,7 +84,7 @@ lists_stay kinds b cs (own ∷ lists) right all =
 abbrev OfLog : ℕ → View → Type 0
 OfLog j u = u.entries ≡ own_entries u.log
 
-of_log : (k : Shape) (es : List Event) → Valid k es → (j : ℕ) (u : View) → get_elem? (run k es).views j ≡ some u → OfLog j u
+pub of_log : (k : Shape) (es : List Event) → Valid k es → (j : ℕ) (u : View) → get_elem? (run k es).views j ≡ some u → OfLog j u
 of_log k [] valid = one_view OfLog (starter k) refl
 of_log k (did id v a ∷ es) valid = let old = of_log k es valid.0 in set_views OfLog _ id (noted a v) (ap (entries_next a) (old id v valid.1.0)) (λ j u _ e. old j u e)
 of_log k (forked id v ∷ es) valid = let old = of_log k es valid.0 in one_more OfLog _ (made v) refl (set_views OfLog _ id (maker v) (old id v valid.1.0) (λ j u _ e. old j u e))

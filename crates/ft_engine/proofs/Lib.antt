@@ -16,3 +16,4 @@ pub mod IterCalls
 pub mod KeyedCalls
 pub mod GivingUp
 pub mod LookCalls
+pub mod NewCallers

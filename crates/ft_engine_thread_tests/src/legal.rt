@@ -1,10 +1,10 @@
 //! Histories of threads that run at the same time are legal.
 
-use crate::running::run;
-use crate::scripts::repeated;
+use crate::scripts::{alike, numbered, repeated};
 use ft_history::{Verdict, judge};
 use ft_model::Storage;
 use ft_script::parse;
+use ft_workers::{NoGate, run_workers};
 use std::alloc::Global;
 use std::process::Abort;
 use std::sync::Wait;
@@ -15,18 +15,60 @@ use std::thread::Threads;
 fn legal_entries<R: Threads + Wait + Sync>(
     rt: &R,
     alloc: Global,
+    text: &str,
+) -> Result<usize, Fail> {
+    let script = parse(alloc, text.as_bytes())?;
+    let ran = run_workers(rt, alloc, &script, &NoGate)?;
+    let verdict = judge(alloc, Storage::Tables, &script, ran.history.as_slice())?;
+    if verdict != Verdict::Legal {
+        return Err(Fail::from("the history is legal"));
+    }
+    Ok(ran.history.len())
+}
+
+/// The same of a script in which each thread makes its lines that many times.
+fn repeated_entries<R: Threads + Wait + Sync>(
+    rt: &R,
+    alloc: Global,
     containers: &str,
     threads: &[(&str, &str)],
     times: u32,
 ) -> Result<usize, Fail> {
     let text = repeated(alloc, containers, threads, times)?;
-    let script = parse(alloc, text.as_bytes())?;
-    let history = run(rt, alloc, script.parts())?;
-    let verdict = judge(alloc, Storage::Tables, &script, history.as_slice())?;
-    if verdict != Verdict::Legal {
-        return Err(Fail::from("the history is legal"));
+    legal_entries(rt, alloc, &text)
+}
+
+#[test]
+fn scripts_with_few_calls(rt: HostRuntime) -> Result<(), Fail> {
+    let scripts = [
+        ("", 0),
+        ("dict d\nset s\n", 0),
+        ("thread A\n", 0),
+        ("thread A\nthread B\nthread C\n", 0),
+        ("list l\nthread A\nthread B\nappend l 1\nthread C\n", 1),
+        ("dict d\nthread A\nset d \"a\" 1\nget d \"a\"\nget d \"b\"\n", 3),
+        ("dict d\nthread A\nset d 1 1\niter d c\nnext c\nnext c\n", 4),
+    ];
+    for (text, entries) in scripts {
+        let made = legal_entries(&rt, rt.alloc(), text)?;
+        assert_eq!(rt; made, entries);
     }
-    Ok(history.len())
+    Ok(())
+}
+
+#[test]
+fn most_threads_on_one_dict(rt: HostRuntime) -> Result<(), Fail> {
+    let lines = "set d 1 5\nget d 1\nset d 2 6\ndel d 1\nitems d\n";
+    let text = alike(rt.alloc(), "dict d\n", 64, lines)?;
+    assert_eq!(rt; legal_entries(&rt, rt.alloc(), &text)?, 320);
+    Ok(())
+}
+
+#[test]
+fn most_threads_in_sections_on_two_dicts(rt: HostRuntime) -> Result<(), Fail> {
+    let text = numbered(rt.alloc(), 64)?;
+    assert_eq!(rt; legal_entries(&rt, rt.alloc(), &text)?, 256);
+    Ok(())
 }
 
 #[test]
@@ -34,7 +76,7 @@ fn four_threads_on_one_dict(rt: HostRuntime) -> Result<(), Fail> {
     let writer = "set d 1 5\nget d 1\nset d 2 6\ndel d 1\n";
     let reader = "get d 1\nhas d 2\nlen d\nsetdefault d 3 1\n";
     let threads = [("A", writer), ("B", reader), ("C", writer), ("D", reader)];
-    let entries = legal_entries(&rt, rt.alloc(), "dict d\n", &threads, 100)?;
+    let entries = repeated_entries(&rt, rt.alloc(), "dict d\n", &threads, 100)?;
     assert_eq!(rt; entries, 1600);
     Ok(())
 }
@@ -43,13 +85,8 @@ fn four_threads_on_one_dict(rt: HostRuntime) -> Result<(), Fail> {
 fn sections_on_two_dicts_in_both_orders(rt: HostRuntime) -> Result<(), Fail> {
     let one = "begin d e\nset d 1 1\nset e 1 1\nend\n";
     let other = "begin e d\nget d 1\nset e 2 2\nend\n";
-    let entries = legal_entries(
-        &rt,
-        rt.alloc(),
-        "dict d\ndict e\n",
-        &[("A", one), ("B", other)],
-        100,
-    )?;
+    let threads = [("A", one), ("B", other)];
+    let entries = repeated_entries(&rt, rt.alloc(), "dict d\ndict e\n", &threads, 100)?;
     assert_eq!(rt; entries, 800);
     Ok(())
 }
@@ -64,8 +101,8 @@ fn nested_sections_in_opposite_orders(rt: HostRuntime) -> Result<(), Fail> {
         ("C", "begin l\nbegin s\nadd s 1\npop l\nend\nend\n"),
         ("D", "begin s\nbegin l\ndiscard s 1\nlen l\nend\nend\n"),
     ];
-    let entries = legal_entries(&rt, rt.alloc(), containers, &threads, 50)?;
-    assert_eq!(rt; entries, 1200);
+    let entries = repeated_entries(&rt, rt.alloc(), containers, &threads, 125)?;
+    assert_eq!(rt; entries, 3000);
     Ok(())
 }
 
@@ -77,7 +114,7 @@ fn three_threads_on_a_dict_a_list_and_a_set(rt: HostRuntime) -> Result<(), Fail>
         ("B", "pop l\nremove s 1\ndel d 1\nquiesce\n"),
         ("C", "iter d c\nnext c\nitems l\nitems s\nquiesce\n"),
     ];
-    let entries = legal_entries(&rt, rt.alloc(), containers, &threads, 100)?;
+    let entries = repeated_entries(&rt, rt.alloc(), containers, &threads, 100)?;
     assert_eq!(rt; entries, 1300);
     Ok(())
 }

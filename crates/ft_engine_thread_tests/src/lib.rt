@@ -1,19 +1,11 @@
-//! Scripts whose threads are threads, with a caller each of one engine: what all of them were answered is one history,
+//! Scripts whose threads are threads, each with a caller of one engine: what all of them were answered is one history,
 //! and it is legal. No crate stands on this one.
 #![tactic(auto)]
 
-mod closing;
 #[cfg(test)]
 mod legal;
-mod running;
+#[cfg(test)]
+mod meeting;
 mod scripts;
-mod starting;
-mod workers;
-mod working;
 
-pub use crate::closing::close_all;
-pub use crate::running::run;
-pub use crate::scripts::repeated;
-pub use crate::starting::start;
-pub use crate::workers::Worker;
-pub use crate::working::work_all;
+pub use crate::scripts::{alike, numbered, repeated};

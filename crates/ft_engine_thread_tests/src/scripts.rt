@@ -1,4 +1,4 @@
-//! Scripts in which each thread makes the same calls over and over.
+//! Scripts in which threads make the same calls over and over.
 
 use std::alloc::{AllocError, Global};
 
@@ -18,6 +18,32 @@ pub fn repeated(
         for _ in 0..times {
             text.push_str(lines)?;
         }
+    }
+    Ok(text)
+}
+
+/// The text of a script with that many threads, each with the same lines.
+pub fn alike(
+    alloc: Global,
+    containers: &str,
+    threads: u32,
+    lines: &str,
+) -> Result<String, AllocError> {
+    let mut text = String::new(alloc);
+    text.push_str(containers)?;
+    for thread in 0..threads {
+        text.push_str(&format!(in alloc; "thread T{thread}\n{lines}")?)?;
+    }
+    Ok(text)
+}
+
+/// The text of a script with that many threads, each of which stores its number in two dicts in one section.
+pub fn numbered(alloc: Global, threads: u32) -> Result<String, AllocError> {
+    let mut text = String::new(alloc);
+    text.push_str("dict d\ndict e\n")?;
+    for thread in 0..threads {
+        let lines = format!(in alloc; "thread T{thread}\nbegin d e\nset d {thread} 0\nset e {thread} 0\nend\n")?;
+        text.push_str(&lines)?;
     }
     Ok(text)
 }

@@ -48,7 +48,7 @@ none_before (mine ∷ lists) from own thread low =
     (filter_none (λ (e : Entry). e.thread == thread) mine (λ i d within. ne_eqb (get_or mine i d).thread thread (λ is. let e : (get_or mine i d).thread ≡ from + 0 = own 0 mine refl i d within in omega arith)))
     ∙ none_before lists (from + 1) (own_rest from mine lists own) thread (omega arith)
 
-own_entries : (lists : List (List Entry)) (from : ℕ) → OwnFrom from lists → (k : ℕ) → entries_of (from + k) (flat lists) ≡ get_or lists k []
+pub own_entries : (lists : List (List Entry)) (from : ℕ) → OwnFrom from lists → (k : ℕ) → entries_of (from + k) (flat lists) ≡ get_or lists k []
 own_entries [] from own k = refl
 own_entries (mine ∷ lists) from own zero =
     filter-append (λ (e : Entry). e.thread == (from + 0)) mine (flat lists)

@@ -38,7 +38,7 @@ use Rattle.ft_trace.proofs.Spots.{stamp_then}
 use Rattle.ft_trace.proofs.Stamps.{stays}
 
 -- a write asks no cursor
-writes_no_cursor : (c : Call) (said : Reply) → is_write c said ≡ true → moved_cursor c ≡ None
+pub writes_no_cursor : (c : Call) (said : Reply) → is_write c said ≡ true → moved_cursor c ≡ None
 writes_no_cursor c said wrote = by (moved_cursor c) refl
   where
     by : (z : Option ℕ) → moved_cursor c ≡ z → moved_cursor c ≡ None

@@ -1,22 +1,33 @@
 //! The engine of a script, with a worker for each thread.
-ghost use Rattle.std.specs.Prelude.{◌≡◌, ℕ, IfOk, length, max};
+ghost use Rattle.std.specs.Prelude.{◌≡◌, ◌≤◌, [], IfOk, length, vec_capacity};
 ghost use Rattle.ft_bank.specs.Passes.{shape_of};
 ghost use Rattle.ft_engine.specs.Callers.{AreFresh, bank_of};
+ghost use Rattle.ft_model.specs.Histories.{calls_of};
 ghost use Rattle.ft_model.specs.Limits.{most_cursors};
 ghost use Rattle.ft_workers.specs.Workers.{AreFrom, IsBankFor, IsNew};
 
 use crate::shape::shape_for;
 use crate::workers::Worker;
 use ft_engine::{Caller, Engine};
-use ft_model::{MOST_CURSORS, Script, Thread};
+use ft_model::{MOST_CURSORS, Script};
 use std::alloc::{AllocError, Global};
 
-/// The worker of a caller, with rows for the entries of all calls of its thread.
-fn worker(alloc: Global, own: Option<&Thread>, caller: Caller) -> Result<Worker, AllocError> {
-    let calls = match own {
+/// How many calls the script's thread has; none where there is no such thread.
+fn call_count(script: &Script, thread: usize) -> usize
+    ensures { result ≡ length (calls_of script.now thread) }
+{
+    match script.parts().threads.as_slice().get(thread) {
         Some(own) => own.calls.len(),
         None => 0,
-    };
+    }
+}
+
+/// The worker of a caller, with rows for the entries of that many calls.
+fn worker(alloc: Global, caller: Caller, calls: usize) -> Result<Worker, AllocError>
+    ensures caller { IfOk result (λ worker. worker.caller ≡ caller) }
+    ensures entries { IfOk result (λ worker. worker.entries.items ≡ []) }
+    ensures rows { IfOk result (λ worker. calls ≤ vec_capacity worker.entries) }
+{
     Ok(Worker {
         caller,
         entries: Vec::with_capacity(alloc, calls)?,
@@ -36,11 +47,10 @@ fn hire(
     ensures count { IfOk result (λ workers. length workers.items ≡ length callers.items) }
 {
     let _ = engine;
-    let parts = script.parts();
     let mut workers = Vec::with_capacity(alloc, callers.len())?;
     for caller in callers {
-        let own = parts.threads.as_slice().get(workers.len());
-        workers.push(worker(alloc, own, caller)?)?;
+        let calls = call_count(script, workers.len());
+        workers.push(worker(alloc, caller, calls)?)?;
     }
     Ok(workers)
 }

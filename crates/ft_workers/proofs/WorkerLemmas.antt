@@ -1,19 +1,19 @@
 -- Workers in their order, new ones, and those that are taken in.
-use Rattle.std.proofs.Common.{◌≡◌, ◌+◌, ◌<◌, ℕ, zero, suc, false, List, [], ◌∷◌, ◌++◌, length, map, reverse, refl, sym, ap, subst, arith}
-use Rattle.std.specs.Prelude.{slice_index_or}
-use Rattle.std.proofs.lemmas.List.Elements.{All-nil}
+use Rattle.std.proofs.Common.{◌≡◌, ◌+◌, ◌<◌, ◌≤◌, ℕ, zero, suc, List, [], ◌∷◌, ◌++◌, length, map, refl, sym, ap, ◌∙◌, subst, arith, None}
+use Rattle.std.specs.Prelude.{slice_index_or, vec_capacity}
+use Rattle.std.proofs.lemmas.List.{length-replicate}
 use Rattle.ft_model.specs.declared.entry.Entry.{Entry as NamedEntry}
+use Rattle.ft_model.specs.declared.script.ScriptParts.{ScriptParts}
+use Rattle.ft_model.specs.Histories.{calls_of}
+use Rattle.ft_model.specs.Limits.{most_cursors}
 use Rattle.ft_bank.specs.Passes.{view}
-use Rattle.ft_bank.specs.Sections.{stack_of}
-use Rattle.ft_bank.specs.declared.sections.OpenSection.{OpenSection}
 use Rattle.ft_engine.specs.declared.caller.Caller.{Caller}
-use Rattle.ft_engine.specs.declared.caller.Flight.{Flight}
-use Rattle.ft_engine.specs.declared.caller.Flight.TheVariants as flight
 use Rattle.ft_engine.specs.declared.engine.Engine.{Engine}
-use Rattle.ft_engine.specs.Callers.{IsFresh, pass_of, thread_of}
-use Rattle.ft_engine.specs.Keeping.{IsKept, AreKeptBy}
-use Rattle.ft_engine_thread_tests.specs.declared.workers.Worker.{Worker}
-use Rattle.ft_engine_thread_tests.specs.Workers.{AreEach, AreFrom, HasTaken, IsFree, IsMember}
+use Rattle.ft_engine.specs.Callers.{IsFresh, pass_of}
+use Rattle.ft_engine.specs.Keeping.{IsKept}
+use Rattle.ft_engine.proofs.NewCallers.{new_kept}
+use Rattle.ft_workers.specs.declared.workers.Worker.{Worker}
+use Rattle.ft_workers.specs.Workers.{AreEach, AreFrom, HasTaken, IsMember, IsNew}
 
 -- ---- orders
 
@@ -45,30 +45,19 @@ from_each P ws each = all_at P 0 ws (λ thread w low. subst (λ (n : ℕ). P n (
 
 -- ---- a new worker
 
-none_kept : (c : Caller) → (view (pass_of c)).entries ≡ [] → c.flight ≡ flight.Idle → (stack_of (pass_of c)).sections ≡ [] → IsKept c []
-none_kept c entries idle sections =
-    subst (λ (f : Flight). AreKeptBy (thread_of c) (view (pass_of c)).entries (stack_of (pass_of c)) f []) (sym idle)
-    (record {
-      same = entries;
-      own = All-nil (λ entry. entry.thread ≡ thread_of c);
-      indexes = refl;
-      counted = λ place entry at. absurd (let e = at in cc);
-      sections = ap (λ (ss : List OpenSection). reverse (map (λ section. section.marks) ss)) sections;
-      ends = tt;
-    })
-
-pub fresh_free : (e : Engine) (room thread : ℕ) (w : Worker) → w.entries.items ≡ [] → w.done ≡ false → IsFresh e room thread w.caller → IsFree e thread w
-fresh_free e room thread w none undone x = (
-  record {
-    member = record { caller = x.caller; thread = x.thread; next = x.next; parts = x.parts; taken = x.taken };
-    kept = subst (IsKept w.caller) (sym none) (none_kept w.caller x.entries x.flight x.sections);
-    done = λ done. absurd (let d = done in let u = undone in grind (arith, d, u));
-  },
-  x.flight,
-)
+pub fresh_new : (e : Engine) (script : ScriptParts) (i : ℕ) (w : Worker) → w.entries.items ≡ [] → length (calls_of script i) ≤ vec_capacity w.entries → IsFresh e most_cursors i w.caller → IsNew e script i w
+fresh_new e script i w none rows x =
+    record {
+      member = record { caller = x.caller; thread = x.thread; next = x.next; parts = x.parts; taken = x.taken };
+      idle = x.flight;
+      cursors = ap length x.hands ∙ length-replicate most_cursors None;
+      kept = subst (IsKept w.caller) (sym none) (new_kept e most_cursors i w.caller x);
+      made = ap (map (λ (e : NamedEntry). e.call)) none;
+      rows = rows;
+    }
 
 -- ---- workers that are taken in
 
-pub last_next : (e : Engine) (c other : Caller) (lists : List (List NamedEntry)) → HasTaken e c lists → IsMember e (length lists) other → (view (pass_of other)).next ≡ 0
-last_next e c other [] taken member = absurd taken.kept
-last_next e c other (own ∷ lists) taken member = member.next
+pub last_next : (e : Engine) (script : ScriptParts) (c other : Caller) (lists : List (List NamedEntry)) → HasTaken e script c lists → IsMember e (length lists) other → (view (pass_of other)).next ≡ 0
+last_next e script c other [] taken member = absurd taken.kept
+last_next e script c other (own ∷ lists) taken member = member.next

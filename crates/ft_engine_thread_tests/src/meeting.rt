@@ -1,0 +1,109 @@
+//! A gate at which two threads meet, so that their calls come in one order.
+
+use crossbeam_utils::Backoff;
+use ft_history::{Verdict, judge_with_world};
+use ft_model::{Content, Entry, Storage, Value};
+use ft_script::parse;
+use ft_workers::{Gate, run_workers};
+use std::process::Abort;
+use std::sync::atomic::{AtomicU64, Ordering};
+use std::test::Fail;
+
+/// How often a thread that is held looks whether it may go on.
+const TURNS: u32 = 1_000_000;
+
+/// Thread 0 with one call, and thread 1 with two. Each is held before its first call until the other has come to its
+/// own; then thread 0 until the other's first call was answered, and thread 1 before its second call until the one of
+/// thread 0 was answered.
+struct Meeting {
+    first_came: AtomicU64,
+    first_answered: AtomicU64,
+    second_came: AtomicU64,
+    second_answered: AtomicU64,
+    /// How often a thread was held for too long, or came to a call that wasn't its next one.
+    wrong: AtomicU64,
+}
+
+impl Meeting {
+    /// Holds the thread until the word says so many.
+    fn hold(&self, word: &AtomicU64, count: u64) {
+        let backoff = Backoff::new();
+        for _ in 0..TURNS {
+            if word.load(Ordering::SeqCst) >= count {
+                return;
+            }
+            backoff.snooze();
+        }
+        self.wrong.fetch_add(1, Ordering::SeqCst);
+    }
+
+    /// Counts a call, which is to be the next one.
+    fn count(&self, word: &AtomicU64, index: u32) {
+        let before = word.fetch_add(1, Ordering::SeqCst);
+        if before.wrapping_add(1) != u64::from(index) {
+            self.wrong.fetch_add(1, Ordering::SeqCst);
+        }
+    }
+}
+
+impl Gate for Meeting {
+    fn before(&self, thread: u32, index: u32) {
+        if thread == 0 {
+            self.count(&self.first_came, index);
+            self.hold(&self.second_came, 1);
+            self.hold(&self.second_answered, 1);
+        } else {
+            self.count(&self.second_came, index);
+            self.hold(&self.first_came, 1);
+            if index == 2 {
+                self.hold(&self.first_answered, 1);
+            }
+        }
+    }
+
+    fn after(&self, thread: u32, index: u32) {
+        if thread == 0 {
+            self.count(&self.first_answered, index);
+        } else {
+            self.count(&self.second_answered, index);
+        }
+    }
+}
+
+/// Whether the entries are those of these threads and indexes, in this order.
+fn come_so(entries: &[Entry], order: &[(u32, u32)]) -> bool {
+    entries.len() == order.len()
+        && entries
+            .iter()
+            .zip(order)
+            .all(|(entry, place)| entry.thread == place.0 && entry.index == place.1)
+}
+
+#[test]
+fn a_gate_holds_two_threads(rt: HostRuntime) -> Result<(), Fail> {
+    let gate = Meeting {
+        first_came: AtomicU64::new(0),
+        first_answered: AtomicU64::new(0),
+        second_came: AtomicU64::new(0),
+        second_answered: AtomicU64::new(0),
+        wrong: AtomicU64::new(0),
+    };
+    let text = "list l\nthread A\nappend l 1\nthread B\nappend l 2\nappend l 3\n";
+    let script = parse(rt.alloc(), text.as_bytes())?;
+    let ran = run_workers(&rt, rt.alloc(), &script, &gate)?;
+    let entries = ran.history.as_slice();
+    assert!(rt; come_so(entries, &[(1, 1), (0, 1), (1, 2)]));
+    assert_eq!(rt; gate.wrong.load(Ordering::SeqCst), 0);
+    assert_eq!(rt; gate.first_came.load(Ordering::SeqCst), 1);
+    assert_eq!(rt; gate.first_answered.load(Ordering::SeqCst), 1);
+    assert_eq!(rt; gate.second_came.load(Ordering::SeqCst), 2);
+    assert_eq!(rt; gate.second_answered.load(Ordering::SeqCst), 2);
+    let judged = judge_with_world(rt.alloc(), Storage::Tables, &script, entries)?;
+    assert_eq!(rt; judged.verdict, Verdict::Legal);
+    let [Content::List(list)] = judged.world.contents() else {
+        return Err(Fail::from("there is one list"));
+    };
+    let wanted = [Value::Int(2), Value::Int(1), Value::Int(3)];
+    assert!(rt; list.items() == wanted.as_slice());
+    Ok(())
+}

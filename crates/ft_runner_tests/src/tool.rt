@@ -745,13 +745,13 @@ fn push_sets(text: &mut String, alloc: Global, from: u32, to: u32) -> Result<(),
     Ok(())
 }
 
-/// Two threads that set so many keys of a dict each, up to a thousand.
-fn long_script(alloc: Global, each: u16) -> Result<String, AllocError> {
-    let most = u32::from(each.min(1000));
+/// Two threads that set keys of a dict: the first one those from 1 to the middle, and the other one
+/// those from there to the end.
+fn long_script(alloc: Global, middle: u32, end: u32) -> Result<String, AllocError> {
     let mut text = String::from_str(alloc, "dict d\nthread A\n")?;
-    push_sets(&mut text, alloc, 1, most + 1)?;
+    push_sets(&mut text, alloc, 1, middle)?;
     text.push_str("items d\nthread B\n")?;
-    push_sets(&mut text, alloc, most + 1, 2 * most + 1)?;
+    push_sets(&mut text, alloc, middle, end)?;
     Ok(text)
 }
 
@@ -763,7 +763,7 @@ fn count_of(bytes: &[u8], wanted: u8) -> usize {
 #[test]
 fn a_long_script_is_run_and_checked(rt: HostRuntime) -> Result<(), Fail> {
     let alloc = rt.alloc();
-    let text = long_script(alloc, 1000)?;
+    let text = long_script(alloc, 1001, 2001)?;
     let run = call_still(alloc, "turns", text.as_bytes().to_vec(alloc)?)?;
     assert_eq!(rt; run.status, 0);
     assert_eq!(rt; run.entries, 2001);

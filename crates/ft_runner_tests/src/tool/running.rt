@@ -37,7 +37,7 @@ fn call_run<R: Threads + Wait + Sync + AllocGlobal>(rt: &R, script: &str) -> Res
 /// Sixty-four threads, each with a section on two dicts in which it sets a key of its own in both.
 fn crowd(alloc: Global) -> Result<String, AllocError> {
     let mut text = String::from_str(alloc, "dict d\ndict e\n")?;
-    for key in 1..65 {
+    for key in 1..65_u32 {
         let lines = format!(in alloc;
             "thread T{key}\nbegin d e\nset d {key} 0\nset e {key} 0\nend\n"
         )?;
@@ -51,7 +51,7 @@ fn threads_make_one_legal_history(rt: HostRuntime) -> Result<(), Fail> {
     let alloc = rt.alloc();
     // Scripts, and how many entries and how many lines come of them.
     for (script, entries, lines) in [
-        (long_script(alloc, 200)?, 401, 402),
+        (long_script(alloc, 201, 401)?, 401, 402),
         (crowd(alloc)?, 256, 258),
     ] {
         let run = call_run(&rt, script.as_str())?;
@@ -126,9 +126,8 @@ fn a_list_past_the_largest_table_is_not_legal(rt: HostRuntime) -> Result<(), Fai
     let alloc = rt.alloc();
     let mut script = String::from_str(alloc, "list l\nthread A\nappend l 1\n")?;
     let mut transcript = String::from_str(alloc, "A.1 w0 append l 1 = ok\n")?;
-    for write in 1..18 {
+    for (write, index) in (1..18_u32).zip(2..19_u32) {
         script.push_str("extend l l\n")?;
-        let index = write + 1;
         let line = format!(in alloc; "A.{index} w{write} extend l l = ok\n")?;
         transcript.push_str(line.as_str())?;
     }

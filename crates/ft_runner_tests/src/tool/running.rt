@@ -5,6 +5,7 @@ use super::{Called, Case, EXAMPLE, call_check, check, count_of, long_script, wor
 use ft_io::{MemSink, MemSource};
 use ft_runner::{Fault, NoGate, run_tool};
 use std::alloc::{AllocError, Global};
+use std::process::Abort;
 use std::sync::Wait;
 use std::test::Fail;
 use std::thread::Threads;
@@ -46,23 +47,33 @@ fn crowd(alloc: Global) -> Result<String, AllocError> {
     Ok(text)
 }
 
-#[test]
-fn threads_make_one_legal_history(rt: HostRuntime) -> Result<(), Fail> {
-    let alloc = rt.alloc();
-    // Scripts, and how many entries and how many lines come of them.
-    for (script, entries, lines) in [
-        (long_script(alloc, 201, 401)?, 401, 402),
-        (crowd(alloc)?, 256, 258),
-    ] {
-        let run = call_run(&rt, script.as_str())?;
-        assert_eq!(rt; run.status, 0);
-        assert_eq!(rt; run.entries, entries);
-        assert_eq!(rt; count_of(&run.put, b'\n'), lines);
-        assert_eq!(rt; run.reported.as_slice(), b"".as_slice());
-        let checked = call_check(alloc, script.as_str(), &run.put)?;
-        assert_eq!(rt; checked.put.as_slice(), b"legal\n".as_slice());
-    }
+/// Runs a script: it is to come to so many entries and lines, and to a history that is found legal.
+fn check_run<R: Threads + Wait + Sync + Abort + AllocGlobal>(
+    rt: &R,
+    script: &str,
+    entries: usize,
+    lines: usize,
+) -> Result<(), Fail> {
+    let run = call_run(rt, script)?;
+    assert_eq!(rt; run.status, 0);
+    assert_eq!(rt; run.entries, entries);
+    assert_eq!(rt; count_of(&run.put, b'\n'), lines);
+    assert_eq!(rt; run.reported.as_slice(), b"".as_slice());
+    let checked = call_check(rt.alloc(), script, &run.put)?;
+    assert_eq!(rt; checked.put.as_slice(), b"legal\n".as_slice());
     Ok(())
+}
+
+#[test]
+fn two_threads_set_keys_of_one_dict(rt: HostRuntime) -> Result<(), Fail> {
+    let script = long_script(rt.alloc(), 201, 401)?;
+    check_run(&rt, script.as_str(), 401, 402)
+}
+
+#[test]
+fn sixty_four_threads_have_sections_on_two_dicts(rt: HostRuntime) -> Result<(), Fail> {
+    let script = crowd(rt.alloc())?;
+    check_run(&rt, script.as_str(), 256, 258)
 }
 
 // Under `turns` there would be a table for the second dict too.

@@ -1,7 +1,8 @@
-use Rattle.std.proofs.Common.{◌≡◌, ◌∙◌, ◌×◌, ◌⊎◌, ◌≤◌, ℕ, List, Result, Ok, length, refl, sym, ap, subst, inl, inr}
+use Rattle.std.proofs.Common.{◌≡◌, ◌∙◌, ◌⊎◌, ◌≤◌, ℕ, List, Result, Ok, length, refl, sym, ap, subst, inl, inr}
 use Rattle.ft_history.specs.declared.verdict.Verdict.TheVariants as verdict
 use Rattle.ft_io.specs.Streams.{added}
 use Rattle.ft_model.specs.declared.entry.Entry.{Entry}
+use Rattle.ft_model.specs.declared.entry.Storage.TheVariants as storage
 use Rattle.ft_model.specs.declared.script.ScriptParts.{ScriptParts}
 use Rattle.ft_model.specs.Histories.{writes, world_at, IsLegal}
 use Rattle.ft_script.specs.declared.fault.ScriptFault.{ScriptFault}
@@ -54,5 +55,5 @@ returns-clause-turns c text written script report wrote ended read stays few on 
     let of = text_of_written subcommand.Turns text written refl wrote in
     let history = wrote.report.history.items in
     let same = one_script text of.script script of.read read in
-    let legal = subst (λ (s : ScriptParts). IsLegal _ s history) same of.legal in
+    let legal = subst (λ (s : ScriptParts). IsLegal storage.Plain s history) same of.legal in
     found_legal text written script history read (legal_on_tables script history legal stays) of.few (of.is ∙ ap (λ (s : ScriptParts). transcript s history) same) ended few report on

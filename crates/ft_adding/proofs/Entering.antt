@@ -14,7 +14,7 @@ use Rattle.ft_trace.specs.Addresses.{class_of, slots}
 use Rattle.ft_trace.specs.Holds.{held, known}
 use Rattle.ft_trace.specs.Kinds.{rows, IsKeyed}
 use Rattle.ft_trace.specs.Words.{Picture, root_in, entry_at, entry_of}
-use Rattle.ft_trace.specs.Worlds.{Kept, kind_in}
+use Rattle.ft_trace.specs.Worlds.{ContainerState, kind_in}
 use Rattle.ft_bank.specs.declared.table.Table.{Table}
 use Rattle.ft_bank.specs.Passes.{view}
 use Rattle.ft_bank.specs.Tables.{name_of}

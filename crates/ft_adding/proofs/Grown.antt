@@ -10,7 +10,7 @@ use Rattle.ft_trace.specs.Acts.{has_lock, is_writing, owes, stage, used, noted}
 use Rattle.ft_trace.specs.Addresses.{containers_in}
 use Rattle.ft_trace.specs.Holds.{held, known}
 use Rattle.ft_trace.specs.Words.{Picture, root_in, Stands}
-use Rattle.ft_trace.specs.Worlds.{Kept, changes}
+use Rattle.ft_trace.specs.Worlds.{ContainerState, changes}
 use Rattle.ft_bank.specs.declared.table.Table.{Table}
 use Rattle.ft_bank.specs.Tables.{name_of}
 use Rattle.ft_bank.specs.Whole.{OnlyPut, EndsWrite, Wrote}
@@ -28,7 +28,7 @@ knows_on k o old v w same_words same_content lock writes keyed = record {
   keyed = keyed.keyed;
   locked = lock ∙ keyed.locked;
   even = writes ∙ keyed.even;
-  stands = subst (λ (x : Picture × Kept). Stands k.texts x.0 x.1) (λ d. (sym same_words d, sym same_content d)) keyed.stands;
+  stands = subst (λ (x : Picture × ContainerState). Stands k.texts x.0 x.1) (λ d. (sym same_words d, sym same_content d)) keyed.stands;
   table_in = keyed.table_in;
   root = ap root_in same_words ∙ keyed.root;
 }
@@ -61,7 +61,7 @@ filled_has v x only found has = record {
   words = has.words;
 }
 
-pub leaves_filled : (o : ℕ) (called : Call) (said : Reply) (left : Kept) (v x : View) → OnlyFilled v x → Leaves o called said left v → Leaves o called said left x
+pub leaves_filled : (o : ℕ) (called : Call) (said : Reply) (left : ContainerState) (v x : View) → OnlyFilled v x → Leaves o called said left v → Leaves o called said left x
 leaves_filled o called said left v x only leaves = record {
   write = leaves.write;
   changed = leaves.changed;

@@ -28,7 +28,7 @@ use Rattle.ft_trace.specs.Kinds.{rows, version_at, IsKeyed}
 use Rattle.ft_trace.specs.Openings.{Shut}
 use Rattle.ft_trace.specs.Traces.{Possible}
 use Rattle.ft_trace.specs.Words.{Picture, root_in, Stands}
-use Rattle.ft_trace.specs.Worlds.{Kept, kind_in}
+use Rattle.ft_trace.specs.Worlds.{ContainerState, kind_in}
 use Rattle.ft_trace.proofs.ByKind.{keyed_fit}
 use Rattle.ft_trace.proofs.Held.{root_known}
 use Rattle.ft_trace.proofs.Known.{class_known, table_is_long}

@@ -15,7 +15,7 @@ use Rattle.ft_trace.specs.Holds.{held, known}
 use Rattle.ft_trace.specs.Kinds.{rows, version_at, CarefulAs}
 use Rattle.ft_trace.specs.Openings.{Timely}
 use Rattle.ft_trace.specs.Words.{Picture, entry_at}
-use Rattle.ft_trace.specs.Worlds.{Kept, kind_in}
+use Rattle.ft_trace.specs.Worlds.{ContainerState, kind_in}
 use Rattle.ft_bank.specs.Passes.{view}
 use Rattle.ft_bank.specs.Tables.{name_of}
 use Rattle.ft_bank.specs.Whole.{OnlyPut}
@@ -117,7 +117,7 @@ module _ (s : TableWords) (k : Shape) (shape : (view s.pass.now).shape ≡ k) (s
       λ i x h time.
       subst (λ (z : ℕ × ℕ). IsCareful w z.0 z.1 i x) (sym (λ j. (place.o j, name_of (place.table j))))
       (careful_at k s.o (name_of s.table) i x (laid (slots c) calls ws) d w (l.only.work.pass.shape ∙ shape) (l.only.work.committed s.o ∙ early) l.table
-      (ap (λ (z : Kept). z.content) (work_knows (view s.pass.now) w s.o l.only.work)) h time) in
+      (ap (λ (z : ContainerState). z.content) (work_knows (view s.pass.now) w s.o l.only.work)) h time) in
       by place at a care
     where
       by : SamePlace s between → ((i x : ℕ) → CarefulAs kind c (laid (slots c) calls ws) d i x → Timely (version_at kind c) (rows kind c) i x false → IsCareful (view between.pass.now) between.o (name_of between.table) i x) → (a : Access) → IsCarefulCall kind c d (laid (slots c) calls ws) a → MayMake between a

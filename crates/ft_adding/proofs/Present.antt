@@ -12,7 +12,7 @@ use Rattle.ft_trace.specs.declared.View.{View}
 use Rattle.ft_trace.specs.Acts.{flight, used}
 use Rattle.ft_trace.specs.Holds.{held, known}
 use Rattle.ft_trace.specs.Words.{root_in}
-use Rattle.ft_trace.specs.Worlds.{Kept, changes}
+use Rattle.ft_trace.specs.Worlds.{ContainerState, changes}
 use Rattle.ft_bank.specs.declared.table.Table.{Table}
 use Rattle.ft_bank.specs.Whole.{OnlyLoaded, Wrote}
 use Rattle.ft_bank.proofs.Whole.{loaded_then, work_knows}
@@ -30,10 +30,10 @@ holds_not (content.Set elements) key none = none
 holds_not (content.List values) key none = absurd none
 
 -- what the key takes, and whether it is one too many, as the container is known
-abbrev puts_takes : Kept → Key → Option ℕ
+abbrev puts_takes : ContainerState → Key → Option ℕ
 puts_takes x key = if holds x.content key then None else key_takes x.content x.table
 
-abbrev puts_over : Kept → Key → Bool
+abbrev puts_over : ContainerState → Key → Bool
 puts_over x key = if holds x.content key then false else nat_lt (most_of x.content) (length_of x.content + 1)
 
 module _ (k : Shape) (o : ℕ) (key : Key) (called : Call) (said : Reply) (v u w : View) (only : OnlyLoaded v u) where
@@ -43,8 +43,8 @@ module _ (k : Shape) (o : ℕ) (key : Key) (called : Call) (said : Reply) (v u w
   -- it is there
   pub puts_present : (stamp : Stamp) → changes called ≡ o → holds (known o u).content key ≡ true → stamp.wrote ≡ true → Wrote called said stamp.number u w → root_in (held o w) ≡ root_in (held o u) → PutsKey k o key called said v w (added.Made stamp)
   puts_present stamp at there is wrote root =
-      let takes : None ≡ puts_takes (known o v) key = sym (ap (λ (b : Bool). if b then None else key_takes (known o u).content (known o u).table) there) ∙ ap (λ (z : Kept). puts_takes z key) same in
-      let over : false ≡ puts_over (known o v) key = sym (ap (λ (b : Bool). if b then false else nat_lt (most_of (known o u).content) (length_of (known o u).content + 1)) there) ∙ ap (λ (z : Kept). puts_over z key) same in
+      let takes : None ≡ puts_takes (known o v) key = sym (ap (λ (b : Bool). if b then None else key_takes (known o u).content (known o u).table) there) ∙ ap (λ (z : ContainerState). puts_takes z key) same in
+      let over : false ≡ puts_over (known o v) key = sym (ap (λ (b : Bool). if b then false else nat_lt (most_of (known o u).content) (length_of (known o u).content + 1)) there) ∙ ap (λ (z : ContainerState). puts_over z key) same in
       let root_at = subst (λ (n : ℕ). root_in (held n w) ≡ root_in (held n u)) (sym at) root in
       let made : IsAdded k None false called said u w (added.Made stamp) = (refl, is, record { wrote = wrote; root = root_at }) in
       (u, only, subst (λ (z : Option ℕ × Bool). IsAdded k z.0 z.1 called said u w (added.Made stamp)) (λ i. (takes i, over i)) made)
@@ -53,8 +53,8 @@ module _ (k : Shape) (o : ℕ) (key : Key) (called : Call) (said : Reply) (v u w
   pub puts_absent : (what : Added) → IsHeldAt (known o u).content key None → AddsOne k o called said u w what → PutsKey k o key called said v w what
   puts_absent what none is =
       let not = holds_not (known o u).content key none in
-      let takes : key_takes (known o u).content (known o u).table ≡ puts_takes (known o v) key = sym (ap (λ (b : Bool). if b then None else key_takes (known o u).content (known o u).table) not) ∙ ap (λ (z : Kept). puts_takes z key) same in
-      let over : nat_lt (most_of (known o u).content) (length_of (known o u).content + 1) ≡ puts_over (known o v) key = sym (ap (λ (b : Bool). if b then false else nat_lt (most_of (known o u).content) (length_of (known o u).content + 1)) not) ∙ ap (λ (z : Kept). puts_over z key) same in
+      let takes : key_takes (known o u).content (known o u).table ≡ puts_takes (known o v) key = sym (ap (λ (b : Bool). if b then None else key_takes (known o u).content (known o u).table) not) ∙ ap (λ (z : ContainerState). puts_takes z key) same in
+      let over : nat_lt (most_of (known o u).content) (length_of (known o u).content + 1) ≡ puts_over (known o v) key = sym (ap (λ (b : Bool). if b then false else nat_lt (most_of (known o u).content) (length_of (known o u).content + 1)) not) ∙ ap (λ (z : ContainerState). puts_over z key) same in
       let x = is.0 in
       (x, loaded_then v u x only is.1, subst (λ (z : Option ℕ × Bool). IsAdded k z.0 z.1 called said x w what) (λ i. (takes i, over i)) is.2)
 
@@ -72,6 +72,6 @@ may_add k o old v u only unused idle may keyed = record {
 pub adds_one : (k : Shape) (o : ℕ) (called : Call) (said : Reply) (v u w : View) (what : Added) (takes : Option ℕ) (over : Bool) → OnlyLoaded v u → key_takes (known o u).content (known o u).table ≡ takes → nat_lt (most_of (known o u).content) (length_of (known o u).content + 1) ≡ over → IsAdded k takes over called said u w what → AddsOne k o called said v w what
 adds_one k o called said v u w what takes over only same_takes same_over is =
     let known_same : known o u ≡ known o v = work_knows v u o only.work in
-    let t : takes ≡ key_takes (known o v).content (known o v).table = sym same_takes ∙ ap (λ (z : Kept). key_takes z.content z.table) known_same in
-    let b : over ≡ nat_lt (most_of (known o v).content) (length_of (known o v).content + 1) = sym same_over ∙ ap (λ (z : Kept). nat_lt (most_of z.content) (length_of z.content + 1)) known_same in
+    let t : takes ≡ key_takes (known o v).content (known o v).table = sym same_takes ∙ ap (λ (z : ContainerState). key_takes z.content z.table) known_same in
+    let b : over ≡ nat_lt (most_of (known o v).content) (length_of (known o v).content + 1) = sym same_over ∙ ap (λ (z : ContainerState). nat_lt (most_of z.content) (length_of z.content + 1)) known_same in
     (u, only, subst (λ (z : Option ℕ × Bool). IsAdded k z.0 z.1 called said u w what) (λ i. (t i, b i)) is)

@@ -29,7 +29,7 @@ use Rattle.ft_trace.specs.Kinds.{rows, version_at, SoundAs, IsKeyed}
 use Rattle.ft_trace.specs.Openings.{Shut}
 use Rattle.ft_trace.specs.Traces.{Possible}
 use Rattle.ft_trace.specs.Words.{Picture, root_in, entry_at, entry_of, Stands}
-use Rattle.ft_trace.specs.Worlds.{Kept, kind_in}
+use Rattle.ft_trace.specs.Worlds.{ContainerState, kind_in}
 use Rattle.ft_trace.proofs.ByKind.{keyed_fit}
 use Rattle.ft_trace.proofs.Cases.{hit}
 use Rattle.ft_trace.proofs.DictWrites as dict

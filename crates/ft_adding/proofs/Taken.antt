@@ -13,7 +13,7 @@ use Rattle.ft_trace.specs.Acts.{has_lock, owes, stage}
 use Rattle.ft_trace.specs.Addresses.{containers_in, class_of}
 use Rattle.ft_trace.specs.Holds.{held, known}
 use Rattle.ft_trace.specs.Traces.{Possible}
-use Rattle.ft_trace.specs.Worlds.{Kept}
+use Rattle.ft_trace.specs.Worlds.{ContainerState}
 use Rattle.ft_bank.specs.declared.table.Table.{Table}
 use Rattle.ft_bank.specs.Tables.{name_of, IsTableIn}
 use Rattle.ft_bank.specs.Takings.{KeepsBut}
@@ -35,8 +35,8 @@ adds_later o called said key stored v u has locks same adds = record {
   replied = λ found h. adds.replied found (has found h);
   declared = λ found h. adds.declared found (has found h);
   lacks = λ found h. adds.lacks found (has found h);
-  over = λ found h. adds.over found (has found h) ∙ ap (λ (z : Kept). nat_lt (most_of z.content) (length_of z.content + 1)) (sym same);
-  takes = λ found h. adds.takes found (has found h) ∙ ap (λ (z : Kept). key_takes z.content z.table) (sym same);
+  over = λ found h. adds.over found (has found h) ∙ ap (λ (z : ContainerState). nat_lt (most_of z.content) (length_of z.content + 1)) (sym same);
+  takes = λ found h. adds.takes found (has found h) ∙ ap (λ (z : ContainerState). key_takes z.content z.table) (sym same);
   left_is = λ found h. adds.left_is found (has found h) ∙ (λ i. record { content = with_key (sym same i).content key stored; table = grown_table (sym same i).table (key_takes (sym same i).content (sym same i).table) 1 (length_of (sym same i).content + 1) });
 }
 

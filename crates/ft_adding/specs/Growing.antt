@@ -26,7 +26,7 @@ use Rattle.ft_trace.specs.Holds.{held, known}
 use Rattle.ft_trace.specs.Kinds.{IsKeyed}
 use Rattle.ft_trace.specs.Sections.{HasLocksOf}
 use Rattle.ft_trace.specs.Words.{root_in, Stands}
-use Rattle.ft_trace.specs.Worlds.{kept_at, kind_in, changes}
+use Rattle.ft_trace.specs.Worlds.{state_at, kind_in, changes}
 use Rattle.ft_bank.specs.declared.table.Table.{Table}
 use Rattle.ft_bank.specs.Tables.{name_of, root_for, IsTableIn}
 use Rattle.ft_bank.specs.Whole.{OnlyLoaded}
@@ -113,7 +113,7 @@ pub record AddsKey (o : ℕ) (called : Call) (said : Reply) (key : Key) (stored 
       → would_pass found.world called ≡ nat_lt (most_of (known o v).content) (length_of (known o v).content + 1)
   pub takes : (found : StoredWorld) → MayHave v found
       → takes_in found called ≡ key_takes (known o v).content (known o v).table
-  pub left_is : (found : StoredWorld) → MayHave v found → kept_at (after_stored found called) o ≡ record {
+  pub left_is : (found : StoredWorld) → MayHave v found → state_at (after_stored found called) o ≡ record {
     content = with_key (known o v).content key stored;
     table = grown_table (known o v).table (key_takes (known o v).content (known o v).table) 1
         (length_of (known o v).content + 1);

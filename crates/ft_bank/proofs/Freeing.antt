@@ -21,7 +21,7 @@ use Rattle.ft_trace.specs.Words.{table_of}
 use Rattle.ft_trace.specs.Acts.{clear, place, has_lock, has_lock_next, is_writing_next, has_committed_next, has_emptied_next, stage, stage_next, used_next, debt_next, announces_next, left_next, entries_next, flight, owes, noted}
 use Rattle.ft_trace.specs.Holds.{held, known, in_hand}
 use Rattle.ft_trace.specs.Traces.{Event, did, run, word, writes_of, history, IsAllShut, May, Ready, ReadyAs}
-use Rattle.ft_trace.specs.Worlds.{kept}
+use Rattle.ft_trace.specs.Worlds.{container_after}
 use Rattle.ft_trace.proofs.Addresses.{class_of_number, number_of_number, at_low}
 use Rattle.ft_trace.proofs.Bits.{off_is, on_is}
 use Rattle.ft_trace.proofs.Cases.{hit, miss, here}
@@ -65,7 +65,7 @@ module _ (F : ℕ → Type 0) (v : View) (a : Act) (aside : IsAside a) (same : (
       let w = noted a v in
       let now = did d.1 v a ∷ es in
       let next = acted_knows v a d in
-      let still = still_of k es now d.2.0 o low (λ x in_it of. stays k es d.1 v a d.2.1.3 x in_it (λ e. aside.apart k es o (subst (Of k es o) (sym e) of))) (ap (λ (cs : List Call). kept k.kinds cs o) (aside.writes (history es))) in
+      let still = still_of k es now d.2.0 o low (λ x in_it of. stays k es d.1 v a d.2.1.3 x in_it (λ e. aside.apart k es o (subst (Of k es o) (sym e) of))) (ap (λ (cs : List Call). container_after k.kinds cs o) (aside.writes (history es))) in
       let has : has_lock o w.log ≡ true = aside.lock o (has_lock o v.log) ∙ mine in (
         words_known w o low has now d.1 next ∙ (still.picture ∙ sym (words_known v o low mine es d.1 (d.2.0, d.2.1.0))),
         content_known w o has now d.1 next ∙ (still.content ∙ sym (content_known v o mine es d.1 (d.2.0, d.2.1.0))),

@@ -12,7 +12,7 @@ use Rattle.ft_trace.specs.Acts.{has_lock, has_lock_next, is_writing, stage, note
 use Rattle.ft_trace.specs.Causes.{Loaded}
 use Rattle.ft_trace.specs.Finding.{IsNew}
 use Rattle.ft_trace.specs.Words.{Picture, root_in, picture, Stands}
-use Rattle.ft_trace.specs.Worlds.{kept}
+use Rattle.ft_trace.specs.Worlds.{container_after}
 use Rattle.ft_trace.specs.Holds.{held, known, in_hand}
 use Rattle.ft_trace.specs.Traces.{Event, did, run, word, Valid, Sure}
 use Rattle.ft_trace.proofs.Cases.{hit, not_true}
@@ -65,7 +65,7 @@ lock_keeps v o f s d p low other mine =
     let k = v.shape in
     let is = d.2.1.3.2 in (
       ap (λ (z : Snap). picture k p z.words) is ∙ sym (words_known v p low mine d.0 d.1 (d.2.0, d.2.1.0)),
-      ap (λ (z : Snap). kept k.kinds z.calls p) is ∙ sym (content_known v p mine d.0 d.1 (d.2.0, d.2.1.0)),
+      ap (λ (z : Snap). container_after k.kinds z.calls p) is ∙ sym (content_known v p mine d.0 d.1 (d.2.0, d.2.1.0)),
     )
 
 -- a load with the lock finds what the pass knows

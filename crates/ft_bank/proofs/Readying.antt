@@ -9,7 +9,7 @@ use Rattle.ft_trace.specs.declared.View.{View}
 use Rattle.ft_trace.specs.declared.Act.TheVariants.{StartWrite, ReadTable, PutRoot, PutTable, PutFresh, Commit, StopWrite}
 use Rattle.ft_trace.specs.Addresses.{containers_in, class_of, size, IsTable, counter}
 use Rattle.ft_trace.specs.Acts.{has_lock, is_writing, has_committed, stage, noted}
-use Rattle.ft_trace.specs.Worlds.{Kept, kept, kind_in, changes}
+use Rattle.ft_trace.specs.Worlds.{ContainerState, container_after, kind_in, changes}
 use Rattle.ft_trace.specs.Words.{root_in, Stands}
 use Rattle.ft_trace.specs.Kinds.{rows, version_at, ClearAs}
 use Rattle.ft_trace.specs.Openings.{Shut, Low}
@@ -83,7 +83,7 @@ commit_ready v c r few may es id knows small =
             let known_root = root_known v o low mine es id knows ∙ names in
             let words = (table_known v o low t mine known_root es id knows).0 in
             let content = content_known v o mine es id knows in
-            subst (λ (x : List ℕ × Kept). ClearAs (kind_in k.kinds o) k.texts (class_of t) x.0 x.1.content (kept k.kinds (c ∷ history es) o).content) (λ d. (words d, content d)) (may.clear now t has known_root)),
+            subst (λ (x : List ℕ × ContainerState). ClearAs (kind_in k.kinds o) k.texts (class_of t) x.0 x.1.content (container_after k.kinds (c ∷ history es) o).content) (λ d. (words d, content d)) (may.clear now t has known_root)),
         low,
         refl,
         (λ class owed. may.takes now class has owed),
@@ -103,7 +103,7 @@ commit_leaves v c r n s d =
     let is : s ≡ snap (run k es) (history es) = d.2.1.3.7 in record {
       found = stored_newest k.kinds (history es);
       has = has_now v es d.1 (d.2.0, d.2.1.0);
-      left = λ p. ap (λ (z : Snap). kept k.kinds (c ∷ z.calls) p) is;
+      left = λ p. ap (λ (z : Snap). container_after k.kinds (c ∷ z.calls) p) is;
     }
 
 pub read_ready : (v : View) (j t i : ℕ) → IsTable v.shape t → i < size (class_of t) → Ready v j (λ n. ReadTable t i n)
@@ -148,7 +148,7 @@ root_ready v j o root low tables may es id knows less =
         now,
         (λ t e.
             let q = root_names root t e in
-            subst (λ (z : ℕ). IsTable k z × (stage z v.log ≡ 1) × SoundFor k (run k es).words o z (kept k.kinds (history es) o).content) q.2 (tables q.0 q.1, may.fresh q.0 q.1, sound_sure v o low (name_of q.0) (tables q.0 q.1) mine (may.fresh q.0 q.1) (may.sound q.0 q.1) es id knows)),
+            subst (λ (z : ℕ). IsTable k z × (stage z v.log ≡ 1) × SoundFor k (run k es).words o z (container_after k.kinds (history es) o).content) q.2 (tables q.0 q.1, may.fresh q.0 q.1, sound_sure v o low (name_of q.0) (tables q.0 q.1) mine (may.fresh q.0 q.1) (may.sound q.0 q.1) es id knows)),
         (λ q names.
             subst (Shut (version_at kind (class_of q)) (rows kind (class_of q))) (table_known v o low q mine names es id knows).0 (may.shut q names)),
         may.spare,

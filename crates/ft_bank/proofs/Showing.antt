@@ -32,7 +32,7 @@ use Rattle.ft_trace.specs.declared.Shape.{Shape}
 use Rattle.ft_trace.specs.declared.View.{View}
 use Rattle.ft_trace.specs.Acts.{has_lock, past}
 use Rattle.ft_trace.specs.Causes.{AreOfOneCall, HasCause}
-use Rattle.ft_trace.specs.Worlds.{Kept, kind_in, kept, first_writes, reply_in}
+use Rattle.ft_trace.specs.Worlds.{ContainerState, kind_in, container_after, first_writes, reply_in}
 use Rattle.ft_trace.specs.Addresses.{containers_in}
 use Rattle.ft_trace.specs.Holds.{known}
 use Rattle.ft_trace.specs.Traces.{Event, Valid, Knows, run, history, Possible, Sure}
@@ -223,7 +223,7 @@ loaded_then v n l es id knows =
     let pasts : past v.log ≡ past w.view.log = ap past l.is ∙ (keep.1 ∙ ap past (sym w.log)) in
     subst (λ (cs : List Call). MayHave v (stored_newest k.kinds cs)) (sym then_)
     (record {
-      agrees = λ p low mine. had.agrees p (subst (λ (z : Shape). p < containers_in z) (sym shape) low) (sym (locks p) ∙ mine) ∙ (λ d. kept (shape d).kinds (sym pasts d) p);
+      agrees = λ p low mine. had.agrees p (subst (λ (z : Shape). p < containers_in z) (sym shape) low) (sym (locks p) ∙ mine) ∙ (λ d. container_after (shape d).kinds (sym pasts d) p);
       containers = had.containers ∙ ap containers_in shape;
       kinds = had.kinds ∙ ap (λ (z : Shape). z.kinds) shape;
       order = had.order;
@@ -279,7 +279,7 @@ serials_have_room v o possible few mine =
     (λ (x : Possible v).
     let k = v.shape in
     let es = x.0 in
-    let same = ap (λ (z : Kept). serial_of z.content) (content_known v o mine es x.1 x.2) in
+    let same = ap (λ (z : ContainerState). serial_of z.content) (content_known v o mine es x.1 x.2) in
     let next = rule.next_serials_are_low k es x.2.0 o in
     let count = counter_room k es x.2.0 in
     let room : serial_of (known o v).content + 2 ^ 16 < 2 ^ 63 = omega (arith, same, next, count, few) in

@@ -12,7 +12,7 @@ use Rattle.ft_trace.specs.Floors.{at_floor}
 use Rattle.ft_trace.specs.Owners.{SameOwners}
 use Rattle.ft_trace.specs.Hands.{cursor_in}
 use Rattle.ft_trace.specs.Sections.{begun}
-use Rattle.ft_trace.specs.Worlds.{kept_at, changes}
+use Rattle.ft_trace.specs.Worlds.{state_at, changes}
 use Rattle.ft_trace.specs.Words.{root_in, Stands}
 use Rattle.ft_trace.specs.Holds.{held, known}
 use Rattle.ft_bank.specs.Writes.{MayHave}
@@ -114,7 +114,7 @@ pub record EndsWrite (called : Call) (said : Reply) (number : ℕ) (v w : View) 
       → (held p w ≡ held p v) × (known p w ≡ known p v)
   pub found : StoredWorld
   pub has : MayHave v found
-  pub content : known (changes called) w ≡ kept_at (after_stored found called) (changes called)
+  pub content : known (changes called) w ≡ state_at (after_stored found called) (changes called)
   pub stands : Stands v.shape.texts (held (changes called) w) (known (changes called) w)
 
 -- The pass made this call as one whole write, with this reply, and the write has this number: at least all writes that
@@ -140,5 +140,5 @@ pub record Wrote (called : Call) (said : Reply) (number : ℕ) (v w : View) : Ty
       → (held p w ≡ held p v) × (known p w ≡ known p v)
   pub found : StoredWorld
   pub has : MayHave v found
-  pub content : known (changes called) w ≡ kept_at (after_stored found called) (changes called)
+  pub content : known (changes called) w ≡ state_at (after_stored found called) (changes called)
   pub stands : Stands v.shape.texts (held (changes called) w) (known (changes called) w)

@@ -10,7 +10,7 @@ use Rattle.ft_model.specs.Worlds.{kind_of, no_hands, IsDeclared}
 use Rattle.ft_trace.specs.declared.View.{View}
 use Rattle.ft_trace.specs.Addresses.{containers_in, class_of}
 use Rattle.ft_trace.specs.Acts.{has_lock, is_writing, has_committed, has_emptied, owes, stage, used}
-use Rattle.ft_trace.specs.Worlds.{kept_at, kind_in, changes, may_empty, reply_in}
+use Rattle.ft_trace.specs.Worlds.{state_at, kind_in, changes, may_empty, reply_in}
 use Rattle.ft_trace.specs.Words.{Picture, root_in}
 use Rattle.ft_trace.specs.Kinds.{rows, version_at, SoundAs, CarefulAs, ClearAs}
 use Rattle.ft_trace.specs.Openings.{Shut, Timely}
@@ -21,7 +21,7 @@ use Rattle.ft_bank.specs.declared.table.Table.{Table}
 use Rattle.ft_bank.specs.Tables.{name_of, root_for, words_for}
 
 -- a stored world that the bank may have where a pass knows this: it has every container, those whose locks the pass has
--- as the pass knows them, each is of its kind, its tables are in order, and words can tell what it has
+-- as the pass knows them, each is of its kind, its tables are in order, and words can represent what it has
 pub record MayHave (v : View) (stored : StoredWorld) : Type 0 where
   pub agrees : AgreesWith v stored
   pub containers : length stored.world ≡ containers_in v.shape
@@ -30,7 +30,7 @@ pub record MayHave (v : View) (stored : StoredWorld) : Type 0 where
   pub words : All FitsContent stored.world
 
 -- The call may be written with this reply, whatever the bank has that agrees with what the pass knows. It is a write of
--- a container whose version the pass has made odd, words can tell its keys and values, and the pass has a call left.
+-- a container whose version the pass has made odd, words can represent its keys and values, and the pass has a call left.
 -- The reply is that of the plain containers, which have what the call names, and none passes its greatest length. In
 -- the table that stays each entry or item with an even version says the same after the call, and each that is added is
 -- there. Where the pass has lowered a count and not raised it again, the call takes a table of that class; where it has
@@ -46,7 +46,7 @@ pub record MayCommit (v : View) (call : Call) (reply : Reply) : Type 0 where
   pub fits : (stored : StoredWorld) → MayHave v stored → would_pass stored.world call ≡ false
   pub clear : (stored : StoredWorld) (t : ℕ) → MayHave v stored → root_in (held (changes call) v) ≡ suc t
       → ClearAs (kind_in v.shape.kinds (changes call)) v.shape.texts (class_of t) (held (changes call) v).table
-      (known (changes call) v).content (kept_at (after_stored stored call) (changes call)).content
+      (known (changes call) v).content (state_at (after_stored stored call) (changes call)).content
   pub takes : (stored : StoredWorld) (class : ℕ) → MayHave v stored → owes v.log ≡ suc class
       → takes_in stored call ≡ Some class
   pub empties : has_emptied (changes call) v.log ≡ true → may_empty call ≡ true
@@ -57,7 +57,7 @@ pub record MayCommit (v : View) (call : Call) (reply : Reply) : Type 0 where
 pub record Committed (v w : View) (call : Call) : Type 0 where
   pub found : StoredWorld
   pub has : MayHave v found
-  pub left : (p : ℕ) → known p w ≡ kept_at (after_stored found call) p
+  pub left : (p : ℕ) → known p w ≡ state_at (after_stored found call) p
 
 -- no version of an entry or item is odd in the table that the root of o names, as the pass knows it
 abbrev pub IsShut : ℕ → View → Type 0

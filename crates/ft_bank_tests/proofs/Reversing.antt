@@ -24,7 +24,7 @@ use Rattle.ft_trace.specs.Addresses.{containers_in}
 use Rattle.ft_trace.specs.Acts.{has_lock, is_writing, has_emptied, noted, seen_writes}
 use Rattle.ft_trace.specs.Reading.{IsNothing}
 use Rattle.ft_trace.specs.Traces.{Possible}
-use Rattle.ft_trace.specs.Worlds.{Kept, kept_at, kind_in}
+use Rattle.ft_trace.specs.Worlds.{ContainerState, state_at, kind_in}
 use Rattle.ft_trace.specs.Words.{Picture, root_in, Stands}
 use Rattle.ft_trace.specs.Holds.{held, known}
 use Rattle.ft_trace.proofs.Cases.{hit}
@@ -71,9 +71,9 @@ module _ (k : Shape) (l : ℕ) (v : View) (possible : ∥ Possible v ∥₁) (sh
       let code : list_code (kind_of (known l v).content) ≡ 1 = ∥∥₁_elim {P = list_code (kind_of (known l v).content) ≡ 1} possible (ℕ_set _ _) (λ p. ap list_code (kind_known v l may.locked p ∙ is_kind)) in
       as_empty (known l v).content code nothing.1
 
-  module _ (stored : StoredWorld) (agrees : kept_at stored l ≡ known l v) (containers : length stored.world ≡ containers_in v.shape) where
+  module _ (stored : StoredWorld) (agrees : state_at stored l ≡ known l v) (containers : length stored.world ≡ containers_in v.shape) where
     there : slice_index_or stored.world l (content.List []) ≡ content.List []
-    there = ap (λ (z : Kept). z.content) agrees ∙ empty
+    there = ap (λ (z : ContainerState). z.content) agrees ∙ empty
 
     in_world : l < length stored.world
     in_world = subst (λ (n : ℕ). l < n) (sym containers) low
@@ -87,10 +87,10 @@ module _ (k : Shape) (l : ℕ) (v : View) (possible : ∥ Possible v ∥₁) (sh
     content_after = get_or-set_same stored.world l (content.List (reverse (list_at stored.world l))) (content.List []) in_world ∙ ap content.List turned
 
     -- it leaves the list as it is
-    kept_after : kept_at (after_stored stored (reversal l)) l ≡ known l v
+    kept_after : state_at (after_stored stored (reversal l)) l ≡ known l v
     kept_after =
         let c = content_after ∙ sym empty in
-        let t = ap (λ (z : Kept). z.table) agrees in
+        let t = ap (λ (z : ContainerState). z.table) agrees in
         λ d. record { content = c d; table = t d }
 
   module _ (f : ℕ) where
@@ -128,7 +128,7 @@ module _ (k : Shape) (l : ℕ) (v : View) (possible : ∥ Possible v ∥₁) (sh
       held_after = ap (λ (z : View). held l z) is
 
       stands_begun : Stands k.texts (held l c) (known l c)
-      stands_begun = subst (λ (z : Picture × Kept). Stands k.texts z.0 z.1) (λ d. (sym held_after d, sym known_after d)) may.stands
+      stands_begun = subst (λ (z : Picture × ContainerState). Stands k.texts z.0 z.1) (λ d. (sym held_after d, sym known_after d)) may.stands
 
       shut_begun : IsShut l c
       shut_begun t names = let root = ap root_in held_after ∙ bare in absurd (omega (arith, names, root))
@@ -169,7 +169,7 @@ may_loaded k l v w only may =
       kind = may.kind;
       locked = only.work.pass.locks l ∙ may.locked;
       even = only.work.pass.writes l ∙ may.even;
-      stands = subst (λ (z : Picture × Kept). Stands k.texts z.0 z.1) (λ d. (sym h d, sym n d)) may.stands;
+      stands = subst (λ (z : Picture × ContainerState). Stands k.texts z.0 z.1) (λ d. (sym h d, sym n d)) may.stands;
       owes = only.work.owes ∙ may.owes;
       left = subst (λ (z : ℕ). 0 < z) (sym only.work.left) may.left;
     }

@@ -28,7 +28,7 @@ pub struct Course {
 }
 
 impl Course {
-    /// Waits until all threads have come to this meeting, of which there were so many before.
+    /// Waits until all threads have come to this meeting, of which there were that many before.
     pub(crate) fn meet<R: Wait>(&self, rt: &R, before: u64) {
         self.arrivals.fetch_add(1, Ordering::SeqCst);
         let all = before

@@ -15,7 +15,7 @@ const FIRST: u32 = 8;
 /// How many gets are timed together.
 const GETS: u32 = 64;
 
-/// Sets keys until there are so many pairs.
+/// Sets keys until there are that many pairs.
 fn set_all<R: Wait>(rt: &R, engine: &Engine, alloc: Global, worker: &mut Worker, pairs: u32)
     requires { IsReady engine.now worker.old.caller }
     ensures { IsReady engine.now worker.new.caller }
@@ -25,7 +25,7 @@ fn set_all<R: Wait>(rt: &R, engine: &Engine, alloc: Global, worker: &mut Worker,
     }
 }
 
-/// Fills the dict until there are so many pairs, and counts them and their time.
+/// Fills the dict until there are that many pairs, and counts them and their time.
 pub(crate) fn fill<R: Wait + Clock>(
     rt: &R,
     engine: &Engine,

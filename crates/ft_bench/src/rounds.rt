@@ -82,7 +82,7 @@ fn make_next<R: Wait>(rt: &R, engine: &Engine, alloc: Global, worker: &mut Worke
     matches!(operation, Operation::Append(_))
 }
 
-/// Makes the next operations, so many of them.
+/// Makes the next operations, that many of them.
 pub(crate) fn make_some<R: Wait>(
     rt: &R,
     engine: &Engine,
@@ -119,7 +119,7 @@ fn make_for<R: Wait + Clock>(
     }
 }
 
-/// Makes operations until so many items have been appended, and at most a hundred for each of these.
+/// Makes operations until that many items have been appended, and at most a hundred for each of these.
 fn make_appends<R: Wait>(rt: &R, engine: &Engine, alloc: Global, worker: &mut Worker, appends: u32)
     requires { IsReady engine.now worker.old.caller }
     ensures { IsReady engine.now worker.new.caller }

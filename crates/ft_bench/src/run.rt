@@ -48,7 +48,7 @@ fn run_threads<R: Threads + Wait + Clock + Sync>(
     Ok(Some(outcome_of(alloc, workers.as_slice())?))
 }
 
-/// What comes of a workload in so many threads, whose rounds take so many nanoseconds together; nothing where there are
+/// What comes of a workload in that many threads, whose rounds take that many nanoseconds together; nothing where there are
 /// no threads or too many of them, or memory ran out.
 pub(crate) fn run_workload<R: Threads + Wait + Clock + Sync>(
     rt: &R,

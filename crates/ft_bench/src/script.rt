@@ -183,7 +183,7 @@ fn run_once<R: Wait + Clock>(
     }))
 }
 
-/// What comes of runs of the script that take so many nanoseconds together; nothing where memory ran out.
+/// What comes of runs of the script that take that many nanoseconds together; nothing where memory ran out.
 pub(crate) fn run_script<R: Wait + Clock>(
     rt: &R,
     alloc: Global,

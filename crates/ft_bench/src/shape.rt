@@ -46,7 +46,7 @@ fn kinds_of(alloc: Global, workload: Workload) -> Result<Vec<Kind>, AllocError> 
     }
 }
 
-/// The shape of the bank for so many threads.
+/// The shape of the bank for that many threads.
 pub(crate) fn shape_of(
     alloc: Global,
     workload: Workload,

@@ -11,7 +11,7 @@ pub enum Order {
     All,
     /// The list of the workloads.
     List,
-    /// A workload, in so many threads, for so many nanoseconds.
+    /// A workload, in that many threads, for that many nanoseconds.
     One(Workload, u32, u64),
     /// The words say nothing that can be done.
     Usage,

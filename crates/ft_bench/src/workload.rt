@@ -3,14 +3,14 @@
 /// A workload. In each, a thread's stream of numbers says which operations it makes.
 #[derive(Clone, Copy, Debug, PartialEq, Eq)]
 pub enum Workload {
-    /// A dict of 1,000 keys, of which each hundred operations of a thread set so many, and get the others.
+    /// A dict of 1,000 keys, of which each hundred operations of a thread set that many, and get the others.
     Dict(u32),
-    /// A dict that one thread fills from 8 pairs to so many, while the others get the eight.
+    /// A dict that one thread fills from 8 pairs to that many, while the others get the eight.
     Growth(u32),
-    /// A list of 1,000 items, to which so many of a hundred operations append, while the others get one of the first
+    /// A list of 1,000 items, to which that many of a hundred operations append, while the others get one of the first
     /// thousand.
     List(u32),
-    /// A set of the even ones of 1,000 integers, of which so many of a hundred operations add one, as many discard one,
+    /// A set of the even ones of 1,000 integers, of which that many of a hundred operations add one, as many discard one,
     /// and the others look one up.
     Set(u32),
     /// The calls of a script that is made, in one thread.

@@ -4,16 +4,15 @@ use Rattle.std.specs.Prelude.{All, Some, None, IfSome, slice_get, ◌==◌, ◌|
 use Rattle.std.specs.List.{list_any}
 use Rattle.std.specs.Option.{option_map_or}
 use Rattle.std.proofs.lemmas.Bool.{eqb-true}
-use Rattle.std.proofs.lemmas.List.Elements.{All-nil, All-cons, All-head, All-tail}
+use Rattle.std.proofs.lemmas.List.Elements.{All-nil, All-cons}
 use Rattle.ft_model.specs.declared.call.Call.{Call}
 use Rattle.ft_model.specs.declared.call.Call.TheVariants as call
 use Rattle.ft_model.specs.declared.cursor.Cursor.{Cursor}
 use Rattle.ft_model.specs.declared.entry.Entry.{Entry as NamedEntry}
 use Rattle.ft_model.specs.declared.entry.Storage.TheVariants as storage
-use Rattle.ft_model.specs.declared.script.Kind.{Kind}
 use Rattle.ft_model.specs.declared.script.ScriptParts.{ScriptParts}
 use Rattle.ft_model.specs.Calls.{moved_cursor}
-use Rattle.ft_model.specs.Histories.{calls_of, cursors_of, EachAt, has_call_on, names}
+use Rattle.ft_model.specs.Histories.{cursors_of, EachAt, has_call_on, names}
 use Rattle.ft_model.specs.Numbers.{after_begins, begins_of, begun_containers, hands_after, needs_after, AreNumberedLists, IsMarkedAfter, IsNumberedThread}
 use Rattle.ft_model.specs.Worlds.{container_of, containers_used, cursor_at, kinds_of}
 use Rattle.ft_trace.specs.declared.Entry.{Entry}

@@ -1,6 +1,6 @@
 -- The cursors of a thread go over the containers of its last `iter`s.
 use Rattle.std.proofs.Common.{◌≡◌, ◌≢◌, ◌<◌, ℕ, zero, suc, Bool, true, false, true≢false, List, [], ◌∷◌, length, refl, sym, ap, ◌∙◌, subst, length-set, get_or-set_same, get_or-set_other}
-use Rattle.std.specs.Prelude.{◌==◌, Option, Some, None, IfSome, All, fold, option_map, slice_set, if◌then◌else◌}
+use Rattle.std.specs.Prelude.{◌==◌, Option, Some, None, All, fold, option_map, slice_set, if◌then◌else◌}
 use Rattle.std.proofs.lemmas.List.Elements.{All-head, All-tail}
 use mathlib.Core.Logic.{dite}
 use native.Mathlib.Decide.{ℕ_discrete}
@@ -30,10 +30,9 @@ use Rattle.ft_model.specs.Answers.{Answer, answer, cursor_step, is_memory, moves
 use Rattle.ft_model.specs.Calls.{can_add, moved_cursor}
 use Rattle.ft_model.specs.Cursors.{CursorStep, dict_iter, dict_next, dict_walk, list_iter, list_next, list_walk, next_element, next_pair, set_iter, set_next, set_walk}
 use Rattle.ft_model.specs.Histories.{after_stamped, hands_by}
-use Rattle.ft_model.specs.Tables.{IsEarnedReply, stored_by}
-use Rattle.ft_model.specs.Worlds.{container_of, cursor_at, dict_at, list_at, no_hands, set_at, start_hands}
+use Rattle.ft_model.specs.Tables.{IsEarnedReply}
+use Rattle.ft_model.specs.Worlds.{container_of, cursor_at, dict_at, list_at, set_at, start_hands}
 use Rattle.std.specs.Prelude.{slice_get, take}
-use Rattle.ft_trace.specs.OwnCursors.{AsksWithin}
 use Rattle.ft_trace.proofs.Cases.{here, miss}
 use Rattle.ft_trace.proofs.PlainAnswers.{plain_answer}
 use Rattle.ft_closing.specs.Marks.{over_after, walked_after, walked_by}

@@ -81,7 +81,7 @@ IsNamedIn o mine = list_any (λ entry. names o entry.call) mine ≡ true
 abbrev pub HasNamed : ℕ → List Owner → List NamedEntry → Type 0
 HasNamed thread had mine = (o : ℕ) → is_owner_in o (thread + 1) had ≡ true → IsNamedIn o mine
 
--- they are all passes of the first so many threads
+-- they are all passes of the first that many threads
 abbrev pub AreOfFirst : ℕ → List Owner → Type 0
 AreOfFirst count owners = (o q : ℕ) → is_owner_in o q owners ≡ true → (1 ≤ q) × (q ≤ count)
 

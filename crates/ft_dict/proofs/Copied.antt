@@ -21,7 +21,7 @@ use Rattle.ft_trace.specs.declared.View.{View}
 use Rattle.ft_trace.specs.Addresses.{containers_in}
 use Rattle.ft_trace.specs.Holds.{held, known}
 use Rattle.ft_trace.specs.Traces.{Possible}
-use Rattle.ft_trace.specs.Worlds.{kept_at, kind_in}
+use Rattle.ft_trace.specs.Worlds.{state_at, kind_in}
 use Rattle.ft_trace.proofs.Known.{declared_at}
 use Rattle.ft_trace.proofs.Naming.{named_locked}
 use Rattle.ft_bank.specs.Writes.{MayHave}
@@ -99,7 +99,7 @@ module _ (k : Shape) (d e : ℕ) (v : View) (shape : v.shape ≡ k) (possible : 
     takes : takes_in stored called ≡ copy_takes (length pairs.pairs)
     takes = ap (λ (z : DictContent). copy_takes (length z.pairs)) first
 
-    kept : kept_at (after_stored stored called) e ≡ record { content = left; table = copy_leaves (length pairs.pairs) }
+    kept : state_at (after_stored stored called) e ≡ record { content = left; table = copy_leaves (length pairs.pairs) }
     kept =
         let c = at_second (content.List []) in
         let t = get_or-set_same stored.tables e (copy_leaves (length (dict_at world d).pairs)) no_table (many_tables e v given two.2 other.locked two.1 stored has) ∙ ap (λ (z : DictContent). copy_leaves (length z.pairs)) first in

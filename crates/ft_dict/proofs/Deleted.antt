@@ -26,7 +26,7 @@ use Rattle.ft_trace.specs.Addresses.{containers_in}
 use Rattle.ft_trace.specs.FitCalls.{FitsValue}
 use Rattle.ft_trace.specs.Holds.{known}
 use Rattle.ft_trace.specs.Kinds.{under}
-use Rattle.ft_trace.specs.Worlds.{Kept, kind_in}
+use Rattle.ft_trace.specs.Worlds.{ContainerState, kind_in}
 use Rattle.ft_trace.proofs.LookReplies as looked
 use Rattle.ft_trace.proofs.SameKeys.{any_found}
 use Rattle.ft_bank.specs.Writes.{MayHave}
@@ -55,7 +55,7 @@ module _ (d : ℕ) (v : View) (pairs : DictContent) (low : d < containers_in v.s
   value_there value h stored has = ap (λ (z : DictContent). dict_get z.pairs key) (sym (dict_is d v pairs low mine is_dict stored has)) ∙ got v d key (Some value) low mine fits stored has (Some value) h
 
   -- what a deletion leaves, as writes of entries have it
-  abbrev left : Kept
+  abbrev left : ContainerState
   left = record { content = without_key (known d v).content key; table = (known d v).table }
 
   left_is : record { content = content.Dict (dict_del pairs key); table = (known d v).table } ≡ left
@@ -64,19 +64,19 @@ module _ (d : ℕ) (v : View) (pairs : DictContent) (low : d < containers_in v.s
   pub del_leaves : (kind payload : ℕ) → IsHeldAt (known d v).content key (Some (kind, payload)) → Leaves d (call.Dict d (dict.Del key)) reply.Done left v
   del_leaves kind payload held =
       let h = subst (λ (z : Content). IsHeldAt z key (Some (kind, payload))) is_dict held in
-      subst (λ (z : Kept). Leaves d (call.Dict d (dict.Del key)) reply.Done z v) left_is
+      subst (λ (z : ContainerState). Leaves d (call.Dict d (dict.Del key)) reply.Done z v) left_is
       (leaves_stay d v pairs (dict_del pairs key) (dict.Del key) reply.Done low mine is_dict refl refl refl refl refl fits
       (λ stored has. ap (λ (b : Bool). if b then puts stored.world no_hands d (content.Dict (dict_del pairs key)) reply.Done else shows stored.world no_hands (reply.Raised raise.NoKey)) (has_there kind payload h stored has)))
 
   pub pop_leaves : (value : Value) → HasValue (known d v).content key (Some value) → Leaves d (call.Dict d (dict.Pop key)) (reply.Value value) left v
   pop_leaves value h =
-      subst (λ (z : Kept). Leaves d (call.Dict d (dict.Pop key)) (reply.Value value) z v) left_is
+      subst (λ (z : ContainerState). Leaves d (call.Dict d (dict.Pop key)) (reply.Value value) z v) left_is
       (leaves_stay d v pairs (dict_del pairs key) (dict.Pop key) (reply.Value value) low mine is_dict refl refl refl refl refl fits
       (λ stored has. ap (λ (z : Option Value). option_map_or (λ value. puts stored.world no_hands d (content.Dict (dict_del pairs key)) (reply.Value value)) z (shows stored.world no_hands (reply.Raised raise.NoKey))) (value_there value h stored has)))
 
   pub popd_leaves : (default value : Value) → FitsValue default → HasValue (known d v).content key (Some value) → Leaves d (call.Dict d (dict.PopOr key default)) (reply.Value value) left v
   popd_leaves default value fit h =
-      subst (λ (z : Kept). Leaves d (call.Dict d (dict.PopOr key default)) (reply.Value value) z v) left_is
+      subst (λ (z : ContainerState). Leaves d (call.Dict d (dict.PopOr key default)) (reply.Value value) z v) left_is
       (leaves_stay d v pairs (dict_del pairs key) (dict.PopOr key default) (reply.Value value) low mine is_dict refl refl refl refl refl (fits, fit)
       (λ stored has. ap (λ (z : Option Value). option_map_or (λ value. puts stored.world no_hands d (content.Dict (dict_del pairs key)) (reply.Value value)) z (shows stored.world no_hands (reply.Value default))) (value_there value h stored has)))
 
@@ -88,7 +88,7 @@ module _ (d : ℕ) (v : View) (pairs : DictContent) (low : d < containers_in v.s
     pub default_leaves : (default : Value) → FitsValue default → Leaves d (call.Dict d (dict.PopOr key default)) (reply.Value default) (known d v) v
     default_leaves default fit =
         let same : record { content = content.Dict pairs; table = (known d v).table } ≡ known d v = λ i. record { content = sym is_dict i; table = (known d v).table } in
-        subst (λ (z : Kept). Leaves d (call.Dict d (dict.PopOr key default)) (reply.Value default) z v) same
+        subst (λ (z : ContainerState). Leaves d (call.Dict d (dict.PopOr key default)) (reply.Value default) z v) same
         (leaves_stay d v pairs pairs (dict.PopOr key default) (reply.Value default) low mine is_dict refl refl refl refl refl (fits, fit)
         (λ stored has.
         ap (λ (z : Option Value). option_map_or (λ value. puts stored.world no_hands d (content.Dict (dict_del pairs key)) (reply.Value value)) z (shows stored.world no_hands (reply.Value default))) (not_found pairs.pairs key missing)
@@ -131,14 +131,14 @@ module _ (d : ℕ) (v : View) (pairs : DictContent) (low : d < containers_in v.s
   set_leaves value kind payload fit held =
       let h = subst (λ (z : Content). IsHeldAt z key (Some (kind, payload))) is_dict held in
       let same : record { content = content.Dict (dict_set pairs key value); table = (known d v).table } ≡ record { content = with_value_at (known d v).content key value; table = (known d v).table } = λ i. record { content = with_value_at (sym is_dict i) key value; table = (known d v).table } in
-      subst (λ (z : Kept). Leaves d (call.Dict d (dict.Set key value)) reply.Done z v) same
+      subst (λ (z : ContainerState). Leaves d (call.Dict d (dict.Set key value)) reply.Done z v) same
       (leaves_same d v pairs (dict_set pairs key value) (dict.Set key value) reply.Done low mine is_dict refl refl refl refl refl (fits, fit)
       (λ stored has. let s = set_same value (has_there d v pairs low mine is_dict key fits kind payload h stored has) in (s.0, s.1, refl)))
 
   pub setdefault_leaves : (default value : Value) → FitsValue default → HasValue (known d v).content key (Some value) → Leaves d (call.Dict d (dict.SetDefault key default)) (reply.Value value) (known d v) v
   setdefault_leaves default value fit h =
       let same : record { content = content.Dict pairs; table = (known d v).table } ≡ known d v = λ i. record { content = sym is_dict i; table = (known d v).table } in
-      subst (λ (z : Kept). Leaves d (call.Dict d (dict.SetDefault key default)) (reply.Value value) z v) same
+      subst (λ (z : ContainerState). Leaves d (call.Dict d (dict.SetDefault key default)) (reply.Value value) z v) same
       (leaves_same d v pairs pairs (dict.SetDefault key default) (reply.Value value) low mine is_dict refl refl refl refl refl (fits, fit)
       (λ stored has. (
         refl,

@@ -28,7 +28,7 @@ use Rattle.ft_trace.specs.Acts.{has_lock}
 use Rattle.ft_trace.specs.Addresses.{containers_in}
 use Rattle.ft_trace.specs.FitCalls.{FitsDictCall, FitsContent}
 use Rattle.ft_trace.specs.Holds.{known}
-use Rattle.ft_trace.specs.Worlds.{Kept, kept_at, reply_in}
+use Rattle.ft_trace.specs.Worlds.{ContainerState, state_at, reply_in}
 use Rattle.ft_trace.proofs.Known.{declared_at, at_any}
 use Rattle.ft_trace.proofs.Naming.{named_locked}
 use Rattle.ft_bank.specs.Writes.{MayHave}
@@ -45,7 +45,7 @@ module _ (d : ℕ) (v : View) (pairs : DictContent) (low : d < containers_in v.s
   world = stored.world
 
   pub there : slice_index_or world d (content.List []) ≡ content.Dict pairs
-  there = ap (λ (z : Kept). z.content) (has.agrees d low mine) ∙ is_dict
+  there = ap (λ (z : ContainerState). z.content) (has.agrees d low mine) ∙ is_dict
 
   pub many : d < length world
   many = subst (λ (n : ℕ). d < n) (sym has.containers) low
@@ -60,7 +60,7 @@ module _ (d : ℕ) (v : View) (pairs : DictContent) (low : d < containers_in v.s
   each_fits = subst FitsContent there (has.words d (content.List []) many)
 
   pub table_is : table_at stored.tables d ≡ (known d v).table
-  table_is = ap (λ (z : Kept). z.table) (has.agrees d low mine)
+  table_is = ap (λ (z : ContainerState). z.table) (has.agrees d low mine)
 
   -- a reply that leaves the dict as it is
   pub shows_puts : (said : Reply) → shows world no_hands said ≡ puts world no_hands d (content.Dict pairs) said
@@ -84,7 +84,7 @@ module _ (d : ℕ) (v : View) (pairs : DictContent) (low : d < containers_in v.s
       pub left_at : (e : Content) → slice_index_or (after_write world (call.Dict d dc)) d e ≡ content.Dict news
       left_at e = ap (λ (z : Answer). slice_index_or z.world d e) answer_is ∙ get_or-set_same world d (content.Dict news) e many
 
-      stays : dict_change dc ≡ change.Stays → kept_at (after_stored stored (call.Dict d dc)) d ≡ record { content = content.Dict news; table = (known d v).table }
+      stays : dict_change dc ≡ change.Stays → state_at (after_stored stored (call.Dict d dc)) d ≡ record { content = content.Dict news; table = (known d v).table }
       stays same =
           let c = left_at (content.List []) in
           let t = ap (λ (z : TableChange). table_at (change_leaves stored.tables d z (grown_table (table_at stored.tables d) (takes_in stored (call.Dict d dc)) ((dict_at (after_write world (call.Dict d dc)) d).next - (dict_at world d).next) (length (dict_at (after_write world (call.Dict d dc)) d).pairs)) (copy_leaves (length (dict_at world d).pairs))) d) same ∙ table_is in
@@ -136,7 +136,7 @@ module _ (d : ℕ) (v : View) (pairs news : DictContent) (dc : DictCall) (said :
       ap (λ (z : TableChange). change_takes z (dict_takes T (dict_at stored.world d) (dict_at after d)) (copy_takes (length (dict_at stored.world d).pairs))) grows
       ∙ ap (λ (z : ℕ). if outgrows_dict T z then Some (dict_class (length (dict_at after d).pairs)) else None) none_drawn
 
-  pub same_kept : kept_at (after_stored stored called) d ≡ record { content = content.Dict news; table = (known d v).table }
+  pub same_kept : state_at (after_stored stored called) d ≡ record { content = content.Dict news; table = (known d v).table }
   same_kept =
       let drawn = (dict_at after d).next - (dict_at stored.world d).next in
       let many_pairs = length (dict_at after d).pairs in
@@ -179,7 +179,7 @@ leaves_same d v pairs news dc said low mine is_dict changing quiet other cursor 
 pub clear_leaves : (d : ℕ) (v : View) (pairs : DictContent) → d < containers_in v.shape → has_lock d v.log ≡ true → (known d v).content ≡ content.Dict pairs → Leaves d (call.Dict d dict.Clear) reply.Done (cleared_kept (known d v)) v
 clear_leaves d v pairs low mine is_dict =
     let same : record { content = content.Dict (dict_clear pairs); table = no_table } ≡ cleared_kept (known d v) = λ i. record { content = cleared (sym is_dict i); table = no_table } in
-    subst (λ (z : Kept). Leaves d (call.Dict d dict.Clear) reply.Done z v) same
+    subst (λ (z : ContainerState). Leaves d (call.Dict d dict.Clear) reply.Done z v) same
     (record {
       write = refl;
       changed = refl;

@@ -29,7 +29,7 @@ use Rattle.ft_trace.specs.Acts.{has_lock}
 use Rattle.ft_trace.specs.Addresses.{containers_in}
 use Rattle.ft_trace.specs.FitCalls.{FitsDictCall, FitsValue}
 use Rattle.ft_trace.specs.Holds.{known}
-use Rattle.ft_trace.specs.Worlds.{kept_at}
+use Rattle.ft_trace.specs.Worlds.{state_at}
 use Rattle.ft_trace.proofs.Growing.{added_next, added_length}
 use Rattle.ft_trace.proofs.Naming.{named_locked}
 use Rattle.ft_bank.specs.Writes.{MayHave}
@@ -76,7 +76,7 @@ module _ (d : ℕ) (v : View) (pairs : DictContent) (low : d < containers_in v.s
         ap (λ (z : TableChange). change_takes z (dict_takes T (dict_at found.world d) (dict_at after d)) (copy_takes (length (dict_at found.world d).pairs))) grows
         ∙ (λ i. if outgrows_dict (table i) (one i) then Some (dict_class (count i)) else None)
 
-    left_kept : kept_at (after_stored found called) d ≡ record { content = content.Dict news; table = grown_table had (key_takes (content.Dict pairs) had) 1 (length pairs.pairs + 1) }
+    left_kept : state_at (after_stored found called) d ≡ record { content = content.Dict news; table = grown_table had (key_takes (content.Dict pairs) had) 1 (length pairs.pairs + 1) }
     left_kept =
         let some = (dict_at after d).next - (dict_at found.world d).next in
         let all = length (dict_at after d).pairs in

@@ -30,7 +30,7 @@ use Rattle.ft_trace.specs.Kinds.{rows}
 use Rattle.ft_trace.specs.Traces.{Possible}
 use Rattle.ft_trace.proofs.DictWrites.{LiveEntriesArePairs}
 use Rattle.ft_trace.specs.Words.{Picture, root_in}
-use Rattle.ft_trace.specs.Worlds.{Kept, kind_in}
+use Rattle.ft_trace.specs.Worlds.{ContainerState, kind_in}
 use Rattle.ft_bank.specs.declared.table.Table.{Table}
 use Rattle.ft_bank.specs.Tables.{IsTableIn, name_of}
 use Rattle.ft_search.specs.Calls.{IsShownBy}
@@ -167,7 +167,7 @@ module _ (k : Shape) (d : ℕ) (v : View) (shape : v.shape ≡ k) (possible : �
     pub popped_leaves : Leaves d (call.Dict d dict.PopItem) (reply.Pair last.key last.value) (record { content = without_key (known d v).content last.key; table = (known d v).table }) v
     popped_leaves =
         let same : record { content = content.Dict (dict_del pairs' last.key); table = (known d v).table } ≡ record { content = without_key (known d v).content last.key; table = (known d v).table } = λ i. record { content = without_key (sym is_dict' i) last.key; table = (known d v).table } in
-        subst (λ (z : Kept). Leaves d (call.Dict d dict.PopItem) (reply.Pair last.key last.value) z v) same
+        subst (λ (z : ContainerState). Leaves d (call.Dict d dict.PopItem) (reply.Pair last.key last.value) z v) same
         (leaves_stay d v pairs' (dict_del pairs' last.key) dict.PopItem (reply.Pair last.key last.value) low' may.locked is_dict' refl refl refl refl refl tt
         (λ stored has.
         ap (λ (z : Option DictPair). option_map_or (λ (pair : DictPair). puts stored.world no_hands d (content.Dict (without_last pairs')) (reply.Pair pair.key pair.value)) z (shows stored.world no_hands (reply.Raised raise.NoKey))) here.2.1

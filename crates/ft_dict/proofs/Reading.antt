@@ -31,7 +31,7 @@ use Rattle.ft_trace.specs.Holds.{known}
 use Rattle.ft_trace.specs.Kinds.{under}
 use Rattle.ft_trace.specs.LookReplies.{key_reply, DictReplies}
 use Rattle.ft_trace.specs.Traces.{Possible, history}
-use Rattle.ft_trace.specs.Worlds.{Kept, reply_in}
+use Rattle.ft_trace.specs.Worlds.{ContainerState, reply_in}
 use Rattle.ft_trace.proofs.FitCalls.{contents_fit}
 use Rattle.ft_trace.proofs.Held.{content_known}
 use Rattle.ft_trace.proofs.Known.{at_any}
@@ -67,7 +67,7 @@ fit_known : (v : View) (d : ℕ) (pairs : DictContent) → Possible v → d < co
 fit_known v d pairs p low mine is =
     let world = (stored_newest v.shape.kinds (history p.0)).world in
     let many : d < length world = subst (λ (z : ℕ). d < z) (sym (as_many v.shape.kinds (history p.0))) low in
-    subst FitsContent (sym (ap (λ (z : Kept). z.content) (content_known v d mine p.0 p.1 p.2)) ∙ is) (contents_fit v.shape p.0 p.2.0 d (content.List []) many)
+    subst FitsContent (sym (ap (λ (z : ContainerState). z.content) (content_known v d mine p.0 p.1 p.2)) ∙ is) (contents_fit v.shape p.0 p.2.0 d (content.List []) many)
 
 -- and so the words under a key are those of a value
 pub value_known : (v : View) (d : ℕ) (key : Key) (pairs : DictContent) (kind payload serial : ℕ) → Possible v → d < containers_in v.shape → has_lock d v.log ≡ true → (known d v).content ≡ content.Dict pairs → FitsKey key → under (content.Dict pairs) key ≡ kind ∷ payload ∷ serial ∷ [] → (value : Value) × IsStored kind payload (Plain value)
@@ -82,7 +82,7 @@ module _ (w : View) (d : ℕ) (key : Key) (found : Option Value) (low : d < cont
   many = subst (λ (z : ℕ). d < z) (sym may.containers) low
 
   there : (pairs : DictContent) → (known d w).content ≡ content.Dict pairs → slice_index_or stored.world d (content.List []) ≡ content.Dict pairs
-  there pairs is = ap (λ (z : Kept). z.content) (may.agrees d low mine) ∙ is
+  there pairs is = ap (λ (z : ContainerState). z.content) (may.agrees d low mine) ∙ is
 
   dict_is : (pairs : DictContent) → (known d w).content ≡ content.Dict pairs → dict_at stored.world d ≡ pairs
   dict_is pairs is = ap dict_of (at_any stored.world d (content.Dict empty_dict) (content.List []) many ∙ there pairs is)
@@ -108,7 +108,7 @@ module _ (v u : View) (d : ℕ) (key : Key) (found : Option Value) (loaded : Onl
   replied : (stored : StoredWorld) → MayHave w stored → DictReplies stored d key found
   replied stored may =
       dict_replies w d key found (subst (λ k. d < containers_in k) (sym loaded.work.pass.shape) low) (loaded.work.pass.locks d ∙ mine) fits stored may
-      (subst (λ (z : Kept). HasValue z.content key found) (sym (work_knows v u d loaded.work)) has)
+      (subst (λ (z : ContainerState). HasValue z.content key found) (sym (work_knows v u d loaded.work)) has)
 
   plain : (call : Call) (said : Reply) → is_write call said ≡ false → moved_cursor call ≡ None → ((stored : StoredWorld) → MayHave w stored → IsReplied call said (reply_in stored call)) → ((stored : StoredWorld) → HasCause stored w.log call said n) → IsShown w call said n
   plain call said reads none right cause = held_shown v u n loaded left call said reads none right cause

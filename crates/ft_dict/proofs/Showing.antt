@@ -17,7 +17,7 @@ use Rattle.ft_trace.specs.declared.View.{View}
 use Rattle.ft_trace.specs.Holds.{held}
 use Rattle.ft_trace.specs.Traces.{Possible}
 use Rattle.ft_trace.specs.Words.{Picture, Stands}
-use Rattle.ft_trace.specs.Worlds.{kept_at, kind_in, reply_in}
+use Rattle.ft_trace.specs.Worlds.{state_at, kind_in, reply_in}
 use Rattle.ft_search.specs.Calls.{IsShownBy}
 use Rattle.ft_search.specs.Writing.{MayWriteEntries}
 use Rattle.ft_search.proofs.Lengths.{IsPlain}
@@ -28,9 +28,9 @@ use Rattle.ft_keyed.proofs.Knowing.{dict_there, had_kind, had_stands}
 
 -- ---- all pairs
 
-pub items_reply : (k : Shape) (d : ℕ) (copy : List (Key × Value)) (x : Picture) (stored : StoredWorld) → kind_of (kept_at stored d).content ≡ kind.Dict → Stands k.texts x (kept_at stored d) → IsOfDict k (λ (dict : DictContent). copy ≡ items_of dict.pairs) x → reply_in stored (call.Dict d dict.Items) ≡ reply.Dict copy
+pub items_reply : (k : Shape) (d : ℕ) (copy : List (Key × Value)) (x : Picture) (stored : StoredWorld) → kind_of (state_at stored d).content ≡ kind.Dict → Stands k.texts x (state_at stored d) → IsOfDict k (λ (dict : DictContent). copy ≡ items_of dict.pairs) x → reply_in stored (call.Dict d dict.Items) ≡ reply.Dict copy
 items_reply k d copy x stored is stands shows =
-    ap (λ (z : DictContent). reply.Dict (items_of z.pairs)) (dict_there stored.world d is) ∙ ap reply.Dict (sym (shows (kept_at stored d) is stands))
+    ap (λ (z : DictContent). reply.Dict (items_of z.pairs)) (dict_there stored.world d is) ∙ ap reply.Dict (sym (shows (state_at stored d) is stands))
 
 -- there is one at least where a copy has one
 pub some_mapped : (pairs : List DictPair) → 0 < length (items_of pairs) → 0 < length pairs
@@ -42,10 +42,10 @@ items_plain d copy = record { reads = refl; cursor = refl; adds = refl; memory =
 
 -- ---- equality
 
-pub eq_reply : (k : Shape) (d e : ℕ) (same : Bool) (x y : Picture) (stored : StoredWorld) → kind_of (kept_at stored d).content ≡ kind.Dict → kind_of (kept_at stored e).content ≡ kind.Dict → Stands k.texts x (kept_at stored d) → Stands k.texts y (kept_at stored e)
+pub eq_reply : (k : Shape) (d e : ℕ) (same : Bool) (x y : Picture) (stored : StoredWorld) → kind_of (state_at stored d).content ≡ kind.Dict → kind_of (state_at stored e).content ≡ kind.Dict → Stands k.texts x (state_at stored d) → Stands k.texts y (state_at stored e)
     → AreOfDicts k (λ dict others. same ≡ same_pairs dict.pairs others.pairs) x y → reply_in stored (call.Dict d (dict.Eq e)) ≡ reply.Truth same
 eq_reply k d e same x y stored is is' stands stands' shows =
-    (λ i. reply.Truth (same_pairs (dict_there stored.world d is i).pairs (dict_there stored.world e is' i).pairs)) ∙ ap reply.Truth (sym (shows (kept_at stored d) is stands (kept_at stored e) is' stands'))
+    (λ i. reply.Truth (same_pairs (dict_there stored.world d is i).pairs (dict_there stored.world e is' i).pairs)) ∙ ap reply.Truth (sym (shows (state_at stored d) is stands (state_at stored e) is' stands'))
 
 pub eq_plain : (d e : ℕ) (same : Bool) → IsPlain (call.Dict d (dict.Eq e)) (reply.Truth same)
 eq_plain d e same = record { reads = refl; cursor = refl; adds = refl; memory = refl; replied = λ plain is. inr is; cause = λ stored log n. refl }
@@ -57,7 +57,7 @@ module _ (k : Shape) (d : ℕ) (v : View) (shape : v.shape ≡ k) (possible : �
   pub items_taken : IsOfDict k (λ (dict : DictContent). 0 < length (items_of dict.pairs)) (held d v) → TakesMemory (call.Dict d dict.Items) v
   items_taken some stored has =
       let at = had_kind k d v shape possible may stored has ∙ is in
-      subst (λ (z : DictContent). 0 < length (items_of z.pairs)) (sym (dict_there stored.world d at)) (some (kept_at stored d) at (had_stands k d v shape possible may stored has))
+      subst (λ (z : DictContent). 0 < length (items_of z.pairs)) (sym (dict_there stored.world d at)) (some (state_at stored d) at (had_stands k d v shape possible may stored has))
 
   pub items_shown : (copy : List (Key × Value)) → IsOfDict k (λ (dict : DictContent). copy ≡ items_of dict.pairs) (held d v) → IsShownBy (call.Dict d dict.Items) (reply.Dict copy) v
   items_shown copy shows = record {

@@ -19,13 +19,13 @@ use Rattle.ft_trace.specs.declared.View.{View}
 use Rattle.ft_trace.specs.Addresses.{containers_in}
 use Rattle.ft_trace.specs.Holds.{known}
 use Rattle.ft_trace.specs.Traces.{Possible}
-use Rattle.ft_trace.specs.Worlds.{kept_at, kind_in}
+use Rattle.ft_trace.specs.Worlds.{state_at, kind_in}
 use Rattle.ft_trace.proofs.Known.{declared_at}
 use Rattle.ft_trace.proofs.Naming.{named_locked}
 use Rattle.ft_bank.specs.Writes.{MayHave}
 use Rattle.ft_search.specs.Writing.{MayWriteEntries}
 use Rattle.ft_adding.specs.Growing.{keys_take}
-use Rattle.ft_merging.specs.Joining.{JoinsKeys, join_takes, joined, joined_kept, new_keys}
+use Rattle.ft_merging.specs.Joining.{JoinsKeys, join_takes, joined, joined_state, new_keys}
 use Rattle.ft_merging.proofs.JoinedPairs.{update_length}
 use Rattle.ft_merging.proofs.Pairs.{named_cap}
 use Rattle.ft_dict.proofs.Deleted.{known_dict}
@@ -105,7 +105,7 @@ module _ (k : Shape) (d e : ℕ) (v : View) (shape : v.shape ≡ k) (possible : 
         let d1 : (dict_at after d).next - (dict_at found.world d).next ≡ news.next - pairs.next = λ i. (dict_of (left_at (content.Dict empty_dict) i)).next - (one i).next in
         (λ i. if outgrows_dict (t1 i) (d1 i) then Some (dict_class (c i)) else None) ∙ (λ i. keys_take (sym known_is i) (known d v).table (serial_of (joined (sym known_is i) (sym other_known i)) - serial_of (sym known_is i)))
 
-    left_is : kept_at (after_stored found called) d ≡ joined_kept (known d v) (known e v).content
+    left_is : state_at (after_stored found called) d ≡ joined_state (known d v) (known e v).content
     left_is =
         let c = left_at (content.List []) ∙ joined_is in
         let t1 = had in

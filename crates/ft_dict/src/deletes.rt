@@ -129,7 +129,7 @@ fn write_default(
     (said, written(number))
 }
 
-/// A value's integer has 64 bits, and its string's number 32, so that words can tell it.
+/// A value's integer has 64 bits, and its string's number 32, so that words can represent it.
 pub(crate) fn value_fits(value: Value)
     ensures { FitsStored (Plain value) }
 {

@@ -123,7 +123,7 @@ fn first_wrong(
     None
 }
 
-/// Puts rows that set so many keys from 0 on, each to itself, in dict 0 or in the other one. The first is the write of
+/// Puts rows that set that many keys from 0 on, each to itself, in dict 0 or in the other one. The first is the write of
 /// this number.
 fn push_sets(
     rows: &mut Vec<(Call, Wanted)>,
@@ -152,7 +152,7 @@ fn push_rows(rows: &mut Vec<(Call, Wanted)>, more: Vec<(Call, Wanted)>) -> Resul
     Ok(())
 }
 
-/// The place of the first row that isn't so in a new bank with so many tables of class 3, and of each greater class.
+/// The place of the first row that isn't so in a new bank with that many tables of class 3, and of each greater class.
 fn in_new_bank(
     alloc: Global,
     least: u32,

@@ -46,7 +46,7 @@ pub fn writes(reply: Reply, number: u64) -> Wanted
     }
 }
 
-/// A call is to write nothing, after so many writes.
+/// A call is to write nothing, after that many writes.
 pub fn reads(reply: Reply, number: u64) -> Wanted
     ensures { (result.said ≡ said.Reply reply) × (result.number ≡ number) × (result.wrote ≡ false) }
 {
@@ -57,7 +57,7 @@ pub fn reads(reply: Reply, number: u64) -> Wanted
     }
 }
 
-/// A call is to reply these pairs, after so many writes.
+/// A call is to reply these pairs, after that many writes.
 pub fn reads_pairs(of: &'static [(i64, i64)], number: u64) -> Wanted
     ensures { (result.said ≡ said.Pairs of.entry) × (result.number ≡ number) × (result.wrote ≡ false) }
 {
@@ -68,7 +68,7 @@ pub fn reads_pairs(of: &'static [(i64, i64)], number: u64) -> Wanted
     }
 }
 
-/// A call is to reply these elements, after so many writes.
+/// A call is to reply these elements, after that many writes.
 pub fn reads_elements(of: &'static [i64], number: u64) -> Wanted
     ensures { (result.said ≡ said.Elements of.entry) × (result.number ≡ number) × (result.wrote ≡ false) }
 {
@@ -79,7 +79,7 @@ pub fn reads_elements(of: &'static [i64], number: u64) -> Wanted
     }
 }
 
-/// Two dicts, 0 and 1, and two sets, 2 and 3; so many tables of class 3, and so many of each greater class; one pass
+/// Two dicts, 0 and 1, and two sets, 2 and 3; that many tables of class 3, and that many of each greater class; one pass
 /// with fifty thousand calls.
 ///
 /// # Errors

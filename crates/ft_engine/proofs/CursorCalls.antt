@@ -1,6 +1,6 @@
 -- What `iter` and `next` come to, and the cursors that a caller has then.
-use Rattle.std.proofs.Common.{◌≡◌, ◌≢◌, ◌≤◌, ◌<◌, ◌-◌, ℕ, zero, suc, Bool, true, false, List, [], ◌∷◌, length, set, refl, sym, ap, ◌∙◌, subst, arith, inl, inr, ⊎_elim, le_trans}
-use Rattle.std.specs.Prelude.{Option, Some, None, option_map, slice_index_or}
+use Rattle.std.proofs.Common.{◌≡◌, ◌≢◌, ◌≤◌, ◌<◌, ◌-◌, ℕ, zero, suc, Bool, false, List, [], ◌∷◌, length, set, refl, sym, ap, ◌∙◌, subst, arith, ⊎_elim, le_trans}
+use Rattle.std.specs.Prelude.{Option, Some, option_map, slice_index_or}
 use Rattle.std.proofs.lemmas.List.{length-set}
 use mathlib.Core.Logic.{dite}
 use native.Mathlib.Decide.{ℕ_discrete}
@@ -23,19 +23,16 @@ use Rattle.ft_trace.proofs.Cases.{here, miss}
 use Rattle.ft_trace.proofs.Seeing.{seen_up}
 use Rattle.ft_bank.specs.declared.bank.Bank.{Bank}
 use Rattle.ft_bank.specs.declared.pass.Pass.{Pass}
-use Rattle.ft_bank.specs.Answered.{AnsweredCursor}
 use Rattle.ft_bank.specs.Passes.{view}
-use Rattle.ft_section.specs.declared.answers.Objects.{Objects}
 use Rattle.ft_section.specs.declared.answers.Objects.TheVariants.{One}
 use Rattle.ft_section.specs.declared.answers.Stamp.{Stamp}
 use Rattle.ft_section.specs.declared.answers.Step.{Step}
 use Rattle.ft_section.specs.declared.answers.Step.TheVariants as step
-use Rattle.ft_section.specs.Locking.{OnlyLocked}
 use Rattle.ft_section.specs.Trying.{SectionsAfter}
 use Rattle.ft_iter.specs.Cursors.{IsMoveOf, IsOver, KeepsOthers, MovedUnderLock, iter_call}
 use Rattle.ft_closing.specs.Marks.{over_after, walked_after}
 use Rattle.ft_engine.specs.Answering.{AddsEntry, AreHandsOf, IsTryOf, LeavesHands}
-use Rattle.ft_engine.specs.Callers.{AreOver, IsOfKindIn}
+use Rattle.ft_engine.specs.Callers.{IsOfKindIn}
 use Rattle.ft_engine.specs.Flights.{objects_of}
 use Rattle.ft_engine.specs.Keeping.{made_entry}
 use Rattle.ft_engine.proofs.Looking.{IsPlain, tried_of}

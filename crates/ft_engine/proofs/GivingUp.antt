@@ -1,5 +1,5 @@
 -- What a caller has still that gave up what it was in.
-use Rattle.std.proofs.Common.{◌≡◌, ◌-◌, ℕ, List, [], refl, sym, ap, ◌∙◌, subst, length, arith, ⊎_elim}
+use Rattle.std.proofs.Common.{◌≡◌, ◌-◌, ℕ, List, [], sym, ap, ◌∙◌, subst, length, arith, ⊎_elim}
 use Rattle.std.specs.Prelude.{Option}
 use Rattle.ft_model.specs.declared.cursor.Cursor.{Cursor}
 use Rattle.ft_model.specs.declared.entry.Entry.{Entry as NamedEntry}

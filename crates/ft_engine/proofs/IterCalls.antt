@@ -1,6 +1,6 @@
 -- A call on a dict or a set that makes a cursor is an `iter`.
 use Rattle.std.proofs.Common.{◌≡◌, ℕ, ap}
-use Rattle.std.specs.Prelude.{Option, Some, None}
+use Rattle.std.specs.Prelude.{Some, None}
 use Rattle.ft_model.specs.declared.call.DictCall.{DictCall}
 use Rattle.ft_model.specs.declared.call.DictCall.TheVariants as dict
 use Rattle.ft_model.specs.declared.call.SetCall.{SetCall}

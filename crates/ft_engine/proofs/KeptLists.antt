@@ -199,6 +199,6 @@ module _ (c d other : Caller) (n : ℕ) (m : List NamedEntry) (mine theirs : Lis
         subst (λ (x : ℕ × List (List Entry)). AreKeptFrom (suc x.0) (mine ++ theirs) x.1 (had_of d) (found_of d)) (λ i. (threads i, lists i)) all,
       )
 
-pub joined_kept : (c d other : Caller) (n : ℕ) (mine theirs : List (List NamedEntry)) → view d.pass ≡ noted (ReadCounter n) (both (view c.pass) (view other.pass)) → stack_of d.pass ≡ stack_of c.pass → d.flight ≡ c.flight → (view other.pass).number ≢ 0 → IsIdle other → AreKept c mine → AreKept other theirs → thread_of other ≡ thread_of c + length mine → AreKept d (mine ++ theirs)
-joined_kept c d other n [] theirs is stack flies live idle are more next = absurd are
-joined_kept c d other n (m ∷ mine) theirs is stack flies live idle are more next = joined_all c d other n m mine theirs is stack flies live are more next idle
+pub joined_state : (c d other : Caller) (n : ℕ) (mine theirs : List (List NamedEntry)) → view d.pass ≡ noted (ReadCounter n) (both (view c.pass) (view other.pass)) → stack_of d.pass ≡ stack_of c.pass → d.flight ≡ c.flight → (view other.pass).number ≢ 0 → IsIdle other → AreKept c mine → AreKept other theirs → thread_of other ≡ thread_of c + length mine → AreKept d (mine ++ theirs)
+joined_state c d other n [] theirs is stack flies live idle are more next = absurd are
+joined_state c d other n (m ∷ mine) theirs is stack flies live idle are more next = joined_all c d other n m mine theirs is stack flies live are more next idle

@@ -1,6 +1,6 @@
 -- What a caller has after a look.
-use Rattle.std.proofs.Common.{◌≡◌, ◌<◌, ◌≤◌, ◌+◌, ◌-◌, ℕ, suc, true, false, List, [], ◌∷◌, ◌++◌, length, refl, sym, ap, ◌∙◌, subst, arith}
-use Rattle.std.specs.Prelude.{Some, None, Option, IfNone, not}
+use Rattle.std.proofs.Common.{◌≡◌, ◌<◌, ◌≤◌, ◌+◌, ◌-◌, ℕ, true, false, List, [], ◌∷◌, ◌++◌, length, refl, sym, ap, ◌∙◌, subst, arith}
+use Rattle.std.specs.Prelude.{Some, None, Option, not}
 use Rattle.ft_model.specs.declared.call.Call.{Call}
 use Rattle.ft_model.specs.declared.call.Call.TheVariants as call
 use Rattle.ft_model.specs.declared.call.DictCall.{DictCall}
@@ -10,8 +10,6 @@ use Rattle.ft_model.specs.declared.entry.Entry.{Entry as NamedEntry}
 use Rattle.ft_model.specs.declared.reply.Reply.{Reply}
 use Rattle.ft_model.specs.Calls.{is_locked_dict, is_locked_list, is_locked_set, moved_cursor}
 use Rattle.ft_trace.specs.declared.Entry.{Entry}
-use Rattle.ft_trace.specs.declared.View.{View}
-use Rattle.ft_trace.specs.Acts.{has_lock}
 use Rattle.ft_trace.specs.Owners.{SameOwners}
 use Rattle.ft_trace.proofs.Owning.{same_finds_more, same_locks_only}
 use Rattle.ft_bank.specs.declared.bank.Bank.{Bank}
@@ -33,10 +31,10 @@ use Rattle.ft_engine.specs.declared.caller.Flight.{Flight}
 use Rattle.ft_engine.specs.declared.caller.Flight.TheVariants as flight
 use Rattle.ft_engine.specs.declared.engine.Engine.{Engine}
 use Rattle.ft_engine.specs.Answering.{AddsEntry, IsLockedFor, IsLooked}
-use Rattle.ft_engine.specs.Attempts.{MayAttempt, StaysCaller, after_look, flight_looked, kept_looked}
+use Rattle.ft_engine.specs.Attempts.{StaysCaller, after_look, flight_looked, kept_looked}
 use Rattle.ft_engine.specs.Callers.{IsCallerOf, thread_of}
 use Rattle.ft_engine.specs.Contentions.{may_look}
-use Rattle.ft_engine.specs.Flights.{IsAnswered, IsIn, IsNext}
+use Rattle.ft_engine.specs.Flights.{IsIn, IsNext}
 use Rattle.ft_engine.specs.Keeping.{AreKeptBy, IsKept, kept_entry, marks_in}
 use Rattle.ft_engine.specs.Owning.{AreOwnedBy}
 use Rattle.ft_engine.specs.Stacks.{StackAfter}
@@ -44,7 +42,7 @@ use Rattle.ft_engine.proofs.Callers.{at_hand, idle_free}
 use Rattle.ft_engine.proofs.IterCalls.{iter_dict, iter_set}
 use Rattle.ft_engine.proofs.ListCalls.{iter_list}
 use Rattle.ft_engine.proofs.Keeping.{kept_answered, kept_done, kept_refused, no_answer_idle}
-use Rattle.ft_engine.proofs.Looking.{IsPlain, loaded_in, loaded_ready}
+use Rattle.ft_engine.proofs.Looking.{IsPlain, loaded_ready}
 use Rattle.ft_engine.proofs.Outcomes.{answered_adds, loaded_nothing}
 use Rattle.ft_engine.proofs.Owned.{answered_owned, calm_owned, done_owned, refused_owned}
 use Rattle.ft_engine.proofs.Within.{answered_owners, loaded_owners, looks_still, walked_none}

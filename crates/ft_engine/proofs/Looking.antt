@@ -1,5 +1,5 @@
 -- A look comes before the try of its call: the pass may try the call after it, and what the try comes to is what both do.
-use Rattle.std.proofs.Common.{◌≡◌, ◌<◌, ◌+◌, ℕ, Bool, true, false, true≢false, List, [], ◌∷◌, ◌++◌, refl, sym, ap, ◌∙◌, subst, inl, inr, ⊎_elim, append_assoc, le_refl}
+use Rattle.std.proofs.Common.{◌≡◌, ◌<◌, ◌+◌, ℕ, true, false, true≢false, List, [], ◌∷◌, ◌++◌, refl, sym, ap, ◌∙◌, subst, inl, inr, ⊎_elim, append_assoc}
 use Rattle.std.specs.Prelude.{◌==◌, ◌||◌, Option, Some, None, is_some, option_map, if◌then◌else◌}
 use Rattle.ft_model.specs.declared.call.Call.{Call}
 use Rattle.ft_model.specs.declared.cursor.Cursor.{Cursor}
@@ -11,14 +11,13 @@ use Rattle.ft_trace.specs.declared.Act.TheVariants.{Lock}
 use Rattle.ft_trace.specs.declared.View.{View}
 use Rattle.ft_trace.specs.Acts.{has_lock}
 use Rattle.ft_trace.specs.Owners.{SameOwners}
-use Rattle.ft_trace.specs.Sections.{begun}
 use Rattle.ft_trace.proofs.Owning.{grown_finds_more, owners_then}
 use Rattle.ft_bank.specs.declared.bank.Bank.{Bank}
 use Rattle.ft_bank.specs.declared.pass.Pass.{Pass}
 use Rattle.ft_bank.specs.Passes.{view, DidNothing, IsPassOf}
 use Rattle.ft_bank.specs.Sections.{Stack, stack_of, taken_in, nothing_taken}
 use Rattle.ft_bank.specs.Whole.{OnlyLoaded}
-use Rattle.ft_bank.proofs.Whole.{loaded_then, same_work}
+use Rattle.ft_bank.proofs.Whole.{same_work}
 use Rattle.ft_section.specs.declared.answers.Got.{Got}
 use Rattle.ft_section.specs.declared.answers.Got.TheVariants as got
 use Rattle.ft_section.specs.declared.answers.Look.{Look}
@@ -29,20 +28,20 @@ use Rattle.ft_section.specs.declared.answers.Step.{Step}
 use Rattle.ft_section.specs.declared.answers.Step.TheVariants as step
 use Rattle.ft_section.specs.Floors.{KnewOwners}
 use Rattle.ft_section.specs.Locking.{FoundOwner, OnlyLocked, at_one, waiting, with_own}
-use Rattle.ft_section.specs.Ready.{AreSuspended, InCall, IsMaking, IsReady, IsStill, IsWaiting, MayTry, NotesTop}
+use Rattle.ft_section.specs.Ready.{AreSuspended, InCall, IsMaking, IsReady, IsWaiting, MayTry, NotesTop}
 use Rattle.ft_section.specs.Takings.{IsOwnFor, lower_of, upper_of}
 use Rattle.ft_section.specs.Trying.{HasLetGo, SectionsAfter}
 use Rattle.ft_section.proofs.Goings.{notes_top}
 use Rattle.ft_section.proofs.Making.{in_call_stays}
 use Rattle.ft_section.proofs.Resumes.{none_some}
 use Rattle.ft_search.proofs.Trying.{LeavesSections, making_read, still_loaded}
-use Rattle.ft_engine.specs.Answering.{AddsEntry, AddsNothing, HasAnswer, HasNone, HasToWait, IsEndOf, IsTryOf, KnewLocks, Looked, settled}
+use Rattle.ft_engine.specs.Answering.{AddsEntry, AddsNothing, IsEndOf, IsTryOf, KnewLocks, Looked, settled}
 use Rattle.ft_closing.specs.Marks.{walked_after}
 use Rattle.ft_engine.specs.Contentions.{may_look}
 use Rattle.ft_engine.specs.Flights.{is_begin, objects_of}
 use Rattle.ft_engine.specs.Keeping.{marks_after, marks_in}
 use Rattle.ft_engine.specs.Stacks.{StackAfter}
-use Rattle.ft_engine.proofs.Outcomes.{Outcome, answered_adds, before_adds, loaded_nothing, locked_entry}
+use Rattle.ft_engine.proofs.Outcomes.{Outcome, answered_adds, before_adds, loaded_nothing}
 use Rattle.ft_engine.proofs.Within.{WalkedBy, answered_owners, for_then, loaded_owners, looks_still, same_for, walked_none, within_for}
 use Rattle.ft_engine.proofs.SectionCalls.{nothing_entry, nothing_then, only_nothing, same_nothing}
 

@@ -1,5 +1,5 @@
 -- Who was found with locks, and which locks a pass has had, as its calls are tried, answered and ended.
-use Rattle.std.proofs.Common.{◌≡◌, ◌≢◌, ◌≤◌, ◌<◌, ◌+◌, ◌-◌, ℕ, zero, suc, Bool, true, false, List, [], ◌∷◌, ◌++◌, map, reverse, length, drop, take, refl, sym, ap, ◌∙◌, subst, arith, ◌⊎◌, inl, inr, ⊎_elim}
+use Rattle.std.proofs.Common.{◌≡◌, ◌≢◌, ◌≤◌, ◌<◌, ◌+◌, ◌-◌, ℕ, Bool, true, false, List, [], ◌∷◌, ◌++◌, map, reverse, length, drop, take, refl, sym, ap, ◌∙◌, subst, arith, ◌⊎◌, inl, inr, ⊎_elim}
 use Rattle.std.specs.Prelude.{Option, Some, None, IfSome, ◌==◌, ◌||◌, nat_lt, fold, option_map, slice_get, if◌then◌else◌}
 use Rattle.std.specs.List.{list_any}
 use Rattle.std.specs.Option.{option_map_or}
@@ -30,13 +30,13 @@ use Rattle.ft_bank.specs.Sections.{Stack, nothing_taken, suspended}
 use Rattle.ft_section.specs.declared.answers.Objects.{Objects}
 use Rattle.ft_section.specs.declared.answers.Stamp.{Stamp}
 use Rattle.ft_section.specs.Locking.{TakenUp, first_mark, marks_more, noting, waiting, with_own}
-use Rattle.ft_section.specs.Takings.{IsOf, lower_of, upper_of}
+use Rattle.ft_section.specs.Takings.{IsOf}
 use Rattle.ft_closing.specs.Marks.{AreMarksFound, IsFoundFor, IsNamedIn, inner_after, needed_after, over_after, used_after, walked_after, walked_by}
 use Rattle.ft_closing.proofs.RightMarks.{if_some, or_more}
 use Rattle.ft_engine.specs.declared.caller.Flight.{Flight}
 use Rattle.ft_engine.specs.declared.caller.Flight.TheVariants as flight
 use Rattle.ft_engine.specs.Answering.{HasWalked, IsLockedFor}
-use Rattle.ft_engine.specs.Flights.{IsAnswered, IsNext, objects_by, objects_of}
+use Rattle.ft_engine.specs.Flights.{IsAnswered, IsNext, objects_by}
 use Rattle.ft_engine.specs.Keeping.{kept_entry}
 use Rattle.ft_engine.specs.Owning.{AreBegunBy, AreOwnedBy, FlightNames, IsFlightFound, begun_after, begun_by, begun_due, locked_in, walked_due}
 use Rattle.ft_engine.specs.Stacks.{StackAfter}

@@ -13,7 +13,7 @@ use Rattle.ft_trace.specs.Holds.{held, known}
 use Rattle.ft_trace.specs.Owners.{SameOwners}
 use Rattle.ft_trace.specs.Sections.{begun}
 use Rattle.ft_trace.specs.Words.{Picture, Stands}
-use Rattle.ft_trace.specs.Worlds.{Kept}
+use Rattle.ft_trace.specs.Worlds.{ContainerState}
 use Rattle.ft_trace.proofs.Owning.{owners_then}
 use Rattle.ft_trace.proofs.Seeing.{seen_up}
 use Rattle.ft_bank.specs.declared.bank.Bank.{Bank}
@@ -80,7 +80,7 @@ stands_by v w s shape locks words o low has =
     let low' : o < containers_in v.shape = subst (λ (k : Shape). o < containers_in k) shape low in
     let had : has_lock o v.log ≡ true = sym (locks o) ∙ has in
     let e = words o low' had in
-    subst (λ (x : Shape × Picture × Kept). Stands x.0.texts x.1 x.2) (λ d. (sym shape d, sym e.0 d, sym e.1 d)) (s.stands o low' had)
+    subst (λ (x : Shape × Picture × ContainerState). Stands x.0.texts x.1 x.2) (λ d. (sym shape d, sym e.0 d, sym e.1 d)) (s.stands o low' had)
 
 -- ---- one step
 

@@ -22,7 +22,7 @@ use Rattle.ft_bank.specs.declared.pass.Pass.{Pass}
 use Rattle.ft_bank.specs.declared.sections.OpenSection.{OpenSection}
 use Rattle.ft_bank.specs.declared.sections.Taking.{Taking}
 use Rattle.ft_bank.specs.Passes.{view, IsPassOf}
-use Rattle.ft_bank.specs.Sections.{Stack, stack_of, nothing_taken}
+use Rattle.ft_bank.specs.Sections.{Stack, stack_of}
 use Rattle.ft_section.specs.declared.answers.Ended.{Ended}
 use Rattle.ft_section.specs.declared.answers.Ended.TheVariants as ended
 use Rattle.ft_section.specs.declared.answers.Objects.{Objects}
@@ -30,7 +30,7 @@ use Rattle.ft_section.specs.declared.answers.Stamp.{Stamp}
 use Rattle.ft_section.specs.Answers.{stamp_of}
 use Rattle.ft_section.specs.Locking.{KeepsLocks, OnlyLocked, with_own}
 use Rattle.ft_section.specs.Ready.{InCall, IsReady, IsStill, MayResume}
-use Rattle.ft_section.specs.Sectioning.{AreNoted, answered_view, begin_of, ended_by, reply_of}
+use Rattle.ft_section.specs.Sectioning.{answered_view, begin_of, ended_by, reply_of}
 use Rattle.ft_section.specs.Takings.{HasBoth, HasLocks}
 use Rattle.ft_section.proofs.Goings.{only_sees}
 use Rattle.ft_section.proofs.Making.{in_call_stays}

@@ -14,12 +14,10 @@ use Rattle.ft_model.specs.declared.reply.Reply.{Reply}
 use Rattle.std.specs.Prelude.{List}
 use Rattle.ft_model.specs.Calls.{cursor_of_dict, cursor_of_list, cursor_of_set, is_locked_dict, is_locked_list, is_locked_set, moved_cursor}
 use Rattle.ft_model.specs.Worlds.{container_of}
-use Rattle.ft_trace.specs.declared.Act.TheVariants.{Answer, AnswerCursor, PutHeader, Retire}
 use Rattle.ft_trace.specs.declared.Shape.{Shape}
 use Rattle.ft_trace.specs.declared.View.{View}
-use Rattle.ft_trace.specs.Acts.{noted}
 use Rattle.ft_trace.specs.Hands.{cursor_in}
-use Rattle.ft_trace.specs.Owners.{FindsMore, LocksOnly, SameOwners}
+use Rattle.ft_trace.specs.Owners.{FindsMore, SameOwners}
 use Rattle.ft_trace.proofs.Owning.{finds_more_then, grown_finds_more, locks_only_then, locks_only_weaker, owners_then, same_finds_more, same_locks_only, same_owners}
 use Rattle.ft_bank.specs.declared.takings.Took.{Took}
 use Rattle.ft_bank.specs.Answered.{Answered, AnsweredCursor}

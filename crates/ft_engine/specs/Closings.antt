@@ -10,7 +10,6 @@ use Rattle.ft_trace.specs.Acts.{announces}
 use Rattle.ft_trace.specs.Owners.{found_owners, had_locks}
 use Rattle.ft_bank.specs.Passes.{view}
 use Rattle.ft_bank.specs.Sections.{stack_of}
-use Rattle.ft_closing.specs.Marks.{AreMade}
 use Rattle.ft_closing.specs.Numbering.{AreKeptFrom, AskOwnCursors, IsFor}
 use Rattle.ft_engine.specs.declared.caller.Caller.{Caller}
 use Rattle.ft_engine.specs.Callers.{IsIdle, taken_of, thread_of}
@@ -37,10 +36,6 @@ pub record AreOfScript (script : ScriptParts) (k : Shape) (lists : List (List Na
   pub shape : IsFor script k
   pub cursors : AskOwnCursors script lists
   pub count : length lists ≡ length script.threads
-
--- each call of the script was made, each thread's in its order
-abbrev pub AreAllMade : ScriptParts → List (List NamedEntry) → Type 0
-AreAllMade script lists = AreMade script lists
 
 -- a legal history of the script, with containers on tables, in which MemoryErrors fit
 abbrev pub IsLegalFor : ScriptParts → List NamedEntry → Type 0

@@ -91,7 +91,7 @@ IsEndCounted thread mine (flight.Refused called) = Unit {0}
 
 -- These are a thread's entries, the oldest first, of calls that have ended: those of its pass with the thread, indexes
 -- that count from 1, and the marks of those that waited, but for the one of the call in flight. An `end` says how many
--- entries in its section waited, and so many does the pass count in each open section, with the call in flight where it
+-- entries in its section waited, and that many does the pass count in each open section, with the call in flight where it
 -- waited. (profile)
 pub record AreKeptBy (thread : ℕ) (entries : List Entry) (s : Stack) (f : Flight) (mine : List NamedEntry)
     : Type 0 where

@@ -27,7 +27,7 @@ pub enum Called {
     NoMemory,
 }
 
-/// The pause after so many tries, each longer than the one before, up to 64 turns of a loop. A thread keeps a lock
+/// The pause after that many tries, each longer than the one before, up to 64 turns of a loop. A thread keeps a lock
 /// for the steps of one call, mostly, so whoever waits for it stays on its processor at first. Where the lock stays
 /// taken, its thread may have no processor, or is in a section with more calls: from then on the pause yields.
 fn pause(backoff: &Backoff, tries: u32) {

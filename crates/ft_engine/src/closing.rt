@@ -11,7 +11,8 @@ ghost use Rattle.ft_bank.specs.Closings.{shape_in, lists_in, had_in, found_in};
 ghost use Rattle.ft_bank.specs.Passes.{shape_of, view};
 ghost use Rattle.ft_closing.specs.Numbering.{AreKeptFrom};
 ghost use Rattle.ft_engine.specs.Callers.{IsCallerOf, bank_of, pass_of, thread_of};
-ghost use Rattle.ft_engine.specs.Closings.{AreKept, IsDone, AreOfScript, AreAllMade, IsLegalFor};
+ghost use Rattle.ft_closing.specs.Marks.{AreMade};
+ghost use Rattle.ft_engine.specs.Closings.{AreKept, IsDone, AreOfScript, IsLegalFor};
 
 use crate::caller::Caller;
 use crate::engine::Engine;
@@ -45,7 +46,7 @@ impl Engine {
             ∥ ((calls : List Call) × AreNumberedLists storage.Tables script calls (map (λ list. list.items) lists.items)) ∥₁) }
         ensures legal { IfOk result (λ made. (script : ScriptParts) →
             AreOfScript script (shape_of (bank_of self)) (map (λ list. list.items) lists.items) →
-            AreAllMade script (map (λ list. list.items) lists.items) → IsLegalFor script made.0.items) }
+            AreMade script (map (λ list. list.items) lists.items) → IsLegalFor script made.0.items) }
     {
         let Engine { bank, .. } = self;
         let Caller {

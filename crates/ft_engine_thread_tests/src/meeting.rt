@@ -26,7 +26,7 @@ struct Meeting {
 }
 
 impl Meeting {
-    /// Holds the thread until the word says so many.
+    /// Holds the thread until the word says that many.
     fn hold(&self, word: &AtomicU64, count: u64) {
         let backoff = Backoff::new();
         for _ in 0..TURNS {

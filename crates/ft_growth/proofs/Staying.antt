@@ -11,7 +11,7 @@ use Rattle.ft_trace.specs.Acts.{has_lock, is_writing, stage, stage_next, owes, u
 use Rattle.ft_trace.specs.Addresses.{containers_in}
 use Rattle.ft_trace.specs.Holds.{held, known}
 use Rattle.ft_trace.specs.Words.{Picture, root_in, Stands}
-use Rattle.ft_trace.specs.Worlds.{Kept, changes}
+use Rattle.ft_trace.specs.Worlds.{ContainerState, changes}
 use Rattle.ft_trace.specs.Sections.{begun}
 use Rattle.ft_trace.proofs.Cases.{hit, miss, here}
 use Rattle.ft_bank.specs.declared.bank.Bank.{Bank}
@@ -53,7 +53,7 @@ module _ (called : Call) (said : Reply) (n : ℕ) (v w : View) (s : IsStill v) (
       (λ (e : p ≡ o). subst (λ (q : ℕ). Stands v.shape.texts (held q w) (known q w)) (sym e) wrote.stands)
       (λ ne.
       let e = wrote.others p low' ne mine (s.even p) in
-      subst (λ (x : Picture × Kept). Stands v.shape.texts x.0 x.1) (λ d. (sym e.0 d, sym e.1 d)) (s.stands p low' mine)))
+      subst (λ (x : Picture × ContainerState). Stands v.shape.texts x.0 x.1) (λ d. (sym e.0 d, sym e.1 d)) (s.stands p low' mine)))
 
   -- where the tables are in no hand that it leaves
   wrote_still_so : ((t : ℕ) → IsOut (stage t w.log)) → IsStill w
@@ -84,7 +84,7 @@ module _ (k : Shape) (class : ℕ) (r : Took) (v w : View) (s : IsStill v) (trie
       let mine : has_lock p v.log ≡ true = sym (tried.same.locks p) ∙ has in
       let e = tried.keeps.held.words p low' mine in
       subst (λ (z : Shape). Stands z.texts (held p w) (known p w)) (sym shape)
-      (subst (λ (x : Picture × Kept). Stands v.shape.texts x.0 x.1) (λ d. (sym e.0 d, sym e.1 d)) (s.stands p low' mine))
+      (subst (λ (x : Picture × ContainerState). Stands v.shape.texts x.0 x.1) (λ d. (sym e.0 d, sym e.1 d)) (s.stands p low' mine))
 
   -- a taking that has no table
   pub tried_still : ((t : ℕ) → IsOut (stage t w.log)) → owes w.log ≡ 0 → IsStill w
@@ -173,9 +173,9 @@ module _ (k : Shape) (class : ℕ) (called : Call) (said : Reply) (n : ℕ) (v w
       (λ (x : p ≡ at). subst (λ (q : ℕ). Stands taken.shape.texts (held q grew.done) (known q grew.done)) (sym x) grew.wrote.stands)
       (λ ne.
       let o = grew.wrote.others p low' ne mine quiet in
-      subst (λ (x : Picture × Kept). Stands taken.shape.texts x.0 x.1) (λ d. (sym o.0 d, sym o.1 d)) (tried_stands k class (took.Taken grew.table) v taken s grew.tried p low' mine)) in
+      subst (λ (x : Picture × ContainerState). Stands taken.shape.texts x.0 x.1) (λ d. (sym o.0 d, sym o.1 d)) (tried_stands k class (took.Taken grew.table) v taken s grew.tried p low' mine)) in
       subst (λ (z : Shape). Stands z.texts (held p w) (known p w)) (sym shape)
-      (subst (λ (x : Picture × Kept). Stands taken.shape.texts x.0 x.1) (λ d. (sym e.0 d, sym e.1 d)) done)
+      (subst (λ (x : Picture × ContainerState). Stands taken.shape.texts x.0 x.1) (λ d. (sym e.0 d, sym e.1 d)) done)
 
   pub grew_same : SamePass v w
   grew_same = pass_then v taken w grew.tried.same (pass_then taken grew.done w grew.wrote.pass (retired_same old grew.done w grew.retired))
@@ -269,7 +269,7 @@ module _ (called : Call) (said : Reply) (n : ℕ) (v w : View) (s : IsStill v) (
         stands = λ p low has.
             let e = retired_knows before given.done w given.retired p in
             let old = stands_after called said n v given.done s given.wrote p (subst (λ (z : Shape). p < containers_in z) same.shape low) (sym (same.locks p) ∙ has) in
-            subst (λ (x : Shape × Picture × Kept). Stands x.0.texts x.1 x.2) (λ d. (sym same.shape d, sym e.0 d, sym e.1 d)) old;
+            subst (λ (x : Shape × Picture × ContainerState). Stands x.0.texts x.1 x.2) (λ d. (sym same.shape d, sym e.0 d, sym e.1 d)) old;
       }
 
 pub making_given : (b : Bank) (p q : Pass) → IsMaking b p → IsPassOf b q → stack_of q ≡ stack_of p → (u : View) → OnlyLoaded (view p) u → (called : Call) (said : Reply) (n : ℕ) → GaveUp called said n u (view q) → IsMaking b q

@@ -22,7 +22,7 @@ use Rattle.ft_trace.specs.Hands.{cursor_in, MovesCursor}
 use Rattle.ft_trace.specs.Holds.{known}
 use Rattle.ft_trace.specs.Sections.{begun}
 use Rattle.ft_trace.specs.Traces.{Possible}
-use Rattle.ft_trace.specs.Worlds.{Kept, kind_in}
+use Rattle.ft_trace.specs.Worlds.{ContainerState, kind_in}
 use Rattle.ft_trace.proofs.Known.{kind_known}
 use Rattle.ft_trace.proofs.Cases.{hit, miss}
 use Rattle.ft_bank.specs.declared.bank.Bank.{Bank}
@@ -49,7 +49,7 @@ cursor-shown v u o n number called said left loaded some_call moved low mine rig
     (record { left = subst (λ (z : ℕ). 0 < z) (sym loaded.work.left) some_call; newer = []; rest = u.log; is = refl; own = tt; locks = tt }) moved
     (λ stored may.
     let holds = holds-known (noted (ReadCounter n) u) o stored may (subst (λ (k : Shape). o < containers_in k) (sym loaded.work.pass.shape) low) (loaded.work.pass.locks o ∙ mine) in
-    let same : (known o u).content ≡ (known o v).content = ap (λ (z : Kept). z.content) (work_knows v u o loaded.work) in
+    let same : (known o u).content ≡ (known o v).content = ap (λ (z : ContainerState). z.content) (work_knows v u o loaded.work) in
     subst (λ (z : Option Cursor). MovesCursor stored.world called number z said left) (sym (loaded.work.pass.cursors number)) (right stored.world (λ d. holds d ∙ same)))
 
 -- the entry that follows

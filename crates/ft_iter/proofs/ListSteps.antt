@@ -11,7 +11,7 @@ use Rattle.ft_model.specs.declared.data.Value.TheVariants as value
 use Rattle.ft_layout.specs.Containers.{IsListWords, StandsAs}
 use Rattle.ft_layout.proofs.Powers.{slots_range}
 use Rattle.ft_trace.specs.Words.{Picture, Stands}
-use Rattle.ft_trace.specs.Worlds.{Kept}
+use Rattle.ft_trace.specs.Worlds.{ContainerState}
 use Rattle.ft_list.specs.Indexes.{item_named}
 
 past-end : {A : Type 0} (l : List A) (n : ℕ) → length l ≤ n → slice_get l n ≡ None
@@ -44,7 +44,7 @@ short-words block words (Some c) items says =
     omega (arith, few, low, high)
 
 -- no list is longer than the largest table holds
-pub list-short : (texts : List ℕ) (x : Picture) (kept : Kept) (items : List Value) → Stands texts x kept → kept.content ≡ content.List items → length items ≤ 2 ^ 16
+pub list-short : (texts : List ℕ) (x : Picture) (kept : ContainerState) (items : List Value) → Stands texts x kept → kept.content ≡ content.List items → length items ≤ 2 ^ 16
 list-short texts x kept items stands is =
     let says = subst (λ (c : Content). StandsAs texts x.block (0 ∷ 0 ∷ x.table) kept.table c) is stands in
     short-words x.block (0 ∷ 0 ∷ x.table) kept.table.class items says.0

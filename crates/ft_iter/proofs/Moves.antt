@@ -25,7 +25,7 @@ use Rattle.ft_trace.specs.Acts.{has_lock}
 use Rattle.ft_trace.specs.Addresses.{containers_in}
 use Rattle.ft_trace.specs.Hands.{MovesCursor}
 use Rattle.ft_trace.specs.Holds.{known}
-use Rattle.ft_trace.specs.Worlds.{Kept}
+use Rattle.ft_trace.specs.Worlds.{ContainerState}
 use Rattle.ft_trace.specs.declared.View.{View}
 use Rattle.ft_bank.specs.Writes.{MayHave}
 use Rattle.ft_iter.specs.Cursors.{step_in, iter_call, iter_cursor, IsOver}
@@ -36,7 +36,7 @@ Holds world o c = (d : Content) → slice_index_or world o d ≡ c
 
 pub holds-known : (v : View) (o : ℕ) (stored : StoredWorld) → MayHave v stored → o < containers_in v.shape → has_lock o v.log ≡ true → Holds stored.world o (known o v).content
 holds-known v o stored may low mine d =
-    at_any stored.world o d (content.List []) (subst (λ (n : ℕ). o < n) (sym may.containers) low) ∙ ap (λ (z : Kept). z.content) (may.agrees o low mine)
+    at_any stored.world o d (content.List []) (subst (λ (n : ℕ). o < n) (sym may.containers) low) ∙ ap (λ (z : ContainerState). z.content) (may.agrees o low mine)
 
 step-known : (world : List Content) (c : Content) (walker : Cursor) → Holds world (container_of walker) c → cursor_step world walker ≡ step_in c walker
 step-known world c (cursor.Dict o walk size expected last) holds = ap (λ (z : Content). dict_next (dict_of z).pairs o walk size expected last) (holds (content.Dict empty_dict))

@@ -17,7 +17,7 @@ use Rattle.ft_trace.specs.Holds.{known}
 use Rattle.ft_trace.specs.Kinds.{IsKeyed}
 use Rattle.ft_trace.specs.Traces.{Possible}
 use Rattle.ft_trace.specs.Words.{Picture, root_in, Stands}
-use Rattle.ft_trace.specs.Worlds.{Kept, kind_in}
+use Rattle.ft_trace.specs.Worlds.{ContainerState, kind_in}
 use Rattle.ft_trace.specs.declared.Shape.{Shape}
 use Rattle.ft_trace.specs.declared.View.{View}
 use Rattle.ft_trace.proofs.Known.{class_known}
@@ -68,7 +68,7 @@ set-bare texts block words (Some class) fill set last says bare = absurd (let is
 
 -- ---- by the words that are held
 
-module _ (texts : List ℕ) (x : Picture) (kept : Kept) (stands : Stands texts x kept) where
+module _ (texts : List ℕ) (x : Picture) (kept : ContainerState) (stands : Stands texts x kept) where
   abbrev words : List ℕ
   words = 0 ∷ 0 ∷ x.table
 

@@ -30,9 +30,10 @@ step_in c (cursor.Dict o walk size expected last) = dict_next (dict_of c).pairs 
 step_in c (cursor.List o index ended) = list_next (list_of c) o index ended
 step_in c (cursor.Set o walk size last) = set_next (set_of c).elements o walk size last
 
--- the pass took the lock of the container o, gave this reply with this stamp, which it loaded while it had it, and let go of the lock;
--- this cursor is its own under the number then
-pub record MovedUnderLock (o : ℕ) (called : Call) (said : Reply) (stamp number : ℕ) (left : Cursor) (v w : View) : Type 0 where
+-- the pass took the lock of the container o, gave this reply with this stamp, which it loaded while it had it, and let
+-- go of the lock; this cursor is its own under the number then
+pub record MovedUnderLock (o : ℕ) (called : Call) (said : Reply) (stamp number : ℕ) (left : Cursor)
+    (v w : View) : Type 0 where
   pub before : View
   pub after : View
   pub took : OnlyLocked v before

@@ -28,7 +28,7 @@ use Rattle.ft_trace.specs.Kinds.{ClearAs, IsKeyed, rows, version_at}
 use Rattle.ft_trace.specs.Openings.{Shut}
 use Rattle.ft_trace.specs.Traces.{Possible}
 use Rattle.ft_trace.specs.Words.{Picture, root_in, Stands}
-use Rattle.ft_trace.specs.Worlds.{Kept, changes, kept_at, kind_in, may_empty, reply_in}
+use Rattle.ft_trace.specs.Worlds.{ContainerState, changes, state_at, kind_in, may_empty, reply_in}
 use Rattle.ft_trace.proofs.Cases.{hit}
 use Rattle.ft_trace.proofs.Clearing.{held_shut}
 use Rattle.ft_bank.specs.declared.table.Table.{Table}
@@ -102,7 +102,7 @@ set_bare texts block words None fill set says bare =
 set_bare texts block words (Some class) fill set says bare = absurd (let is = says.head.root.1.2 in omega (arith, is, bare))
 
 -- where the root names no table, a clear leaves the same
-pub bare_stays : (texts : List ℕ) (words : Picture) (kept : Kept) → IsKeyed (kind_of kept.content) → Stands texts words kept → root_in words ≡ 0 → cleared_kept kept ≡ kept
+pub bare_stays : (texts : List ℕ) (words : Picture) (kept : ContainerState) → IsKeyed (kind_of kept.content) → Stands texts words kept → root_in words ≡ 0 → cleared_kept kept ≡ kept
 bare_stays texts words kept keyed stands bare = by kept.content kept.table keyed stands
   where
     by : (c : Content) (table : TableUse) → IsKeyed (kind_of c) → StandsAs texts words.block (0 ∷ 0 ∷ words.table) table c → cleared_kept (record { content = c; table = table }) ≡ record { content = c; table = table }
@@ -219,7 +219,7 @@ module _ (k : Shape) (o : ℕ) (table : Table) (called : Call) (f : ℕ) (v s r 
 
     pub emptying_stands : Stands k.texts (held o c) (known o c)
     emptying_stands =
-        subst (λ (z : Kept). Stands k.texts (held o c) z) (sym kept_then)
+        subst (λ (z : ContainerState). Stands k.texts (held o c) z) (sym kept_then)
         (empty_stands k.texts (held o c) (known o v).content keyed (subst (λ (x : Picture). IsBlock x.block None 0 0 (serial_of (known o v).content)) (sym held_on) head_then))
 
     pub emptying_root : root_in (held o c) ≡ 0

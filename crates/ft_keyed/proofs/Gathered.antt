@@ -23,7 +23,7 @@ use Rattle.ft_model.specs.Worlds.{dict_of, kind_of, length_of, set_of}
 use Rattle.ft_trace.specs.declared.Shape.{Shape}
 use Rattle.ft_trace.specs.Addresses.{class_of, slots}
 use Rattle.ft_trace.specs.Words.{Picture, Stands, root_in}
-use Rattle.ft_trace.specs.Worlds.{Kept}
+use Rattle.ft_trace.specs.Worlds.{ContainerState}
 use Rattle.ft_trace.proofs.Known.{class_known}
 use Rattle.ft_trace.proofs.Nothing.{no_table_stands}
 use Rattle.ft_search.proofs.Places.{slots_of_class}

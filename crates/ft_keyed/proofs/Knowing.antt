@@ -15,7 +15,7 @@ use Rattle.ft_trace.specs.Addresses.{containers_in}
 use Rattle.ft_trace.specs.Holds.{held, known}
 use Rattle.ft_trace.specs.Traces.{Possible}
 use Rattle.ft_trace.specs.Words.{Picture, Stands}
-use Rattle.ft_trace.specs.Worlds.{Kept, kept_at, kind_in}
+use Rattle.ft_trace.specs.Worlds.{ContainerState, state_at, kind_in}
 use Rattle.ft_bank.specs.declared.pass.Pass.{Pass}
 use Rattle.ft_bank.specs.Passes.{view}
 use Rattle.ft_bank.specs.Whole.{OnlyLoaded}
@@ -52,11 +52,11 @@ module _ (k : Shape) (o : ℕ) (v : View) (shape : v.shape ≡ k) (possible : �
   low : o < containers_in v.shape
   low = subst (λ (z : Shape). o < containers_in z) (sym shape) may.container
 
-  pub had_kind : kind_of (kept_at stored o).content ≡ kind_in k.kinds o
-  had_kind = ap (λ (z : Kept). kind_of z.content) (has.agrees o low may.locked) ∙ kind_is k v o shape possible may.locked
+  pub had_kind : kind_of (state_at stored o).content ≡ kind_in k.kinds o
+  had_kind = ap (λ (z : ContainerState). kind_of z.content) (has.agrees o low may.locked) ∙ kind_is k v o shape possible may.locked
 
-  pub had_stands : Stands k.texts (held o v) (kept_at stored o)
-  had_stands = subst (λ (z : Kept). Stands k.texts (held o v) z) (sym (has.agrees o low may.locked)) may.stands
+  pub had_stands : Stands k.texts (held o v) (state_at stored o)
+  had_stands = subst (λ (z : ContainerState). Stands k.texts (held o v) z) (sym (has.agrees o low may.locked)) may.stands
 
 -- ---- the dict or the set at a place of a world
 

@@ -24,7 +24,7 @@ use Rattle.ft_model.proofs.DictLaws.{absent_in, distinct_tail}
 use Rattle.ft_model.proofs.KeyLemmas.{same_key-true}
 use Rattle.ft_trace.specs.declared.Shape.{Shape}
 use Rattle.ft_trace.specs.Words.{Picture, Stands}
-use Rattle.ft_trace.specs.Worlds.{Kept}
+use Rattle.ft_trace.specs.Worlds.{ContainerState}
 use Rattle.ft_bank.specs.declared.pass.Pass.{Pass}
 use Rattle.ft_list.specs.Pairs.{ReadsBoth}
 use Rattle.ft_list.proofs.Indexes.{reads_none}
@@ -151,7 +151,7 @@ none_lacks pairs other distinct =
     (any_same (λ p. not (has_pair other.pairs p)) (λ (p : DictPair). lacks other (p.key, p.value)) pairs (λ p. ap not (has_is other.pairs distinct p))
     ∙ sym (any_map (lacks other) (λ (p : DictPair). (p.key, p.value)) pairs))
 
-pub dict_is : (k : Shape) (x : Picture) (kept : Kept) → kind_of kept.content ≡ kind.Dict → Stands k.texts x kept → IsDict (dict_of kept.content).next (dict_of kept.content).pairs
+pub dict_is : (k : Shape) (x : Picture) (kept : ContainerState) → kind_of kept.content ≡ kind.Dict → Stands k.texts x kept → IsDict (dict_of kept.content).next (dict_of kept.content).pairs
 dict_is k x kept is stands = by kept.content is stands
   where
     by : (c : Content) → kind_of c ≡ kind.Dict → StandsAs k.texts x.block (0 ∷ 0 ∷ x.table) kept.table c → IsDict (dict_of c).next (dict_of c).pairs

@@ -22,7 +22,7 @@ use Rattle.ft_trace.specs.Addresses.{class_of, places, slots}
 use Rattle.ft_trace.specs.Carefuls.{IsLive}
 use Rattle.ft_trace.specs.Kinds.{IsKeyed}
 use Rattle.ft_trace.specs.Words.{Picture, Stands, entry_of, root_in}
-use Rattle.ft_trace.specs.Worlds.{Kept}
+use Rattle.ft_trace.specs.Worlds.{ContainerState}
 use Rattle.ft_trace.proofs.Known.{class_known}
 use Rattle.ft_bank.specs.declared.table.Table.{Table}
 use Rattle.ft_bank.specs.Tables.{IsTableIn, name_of}
@@ -128,7 +128,7 @@ missing_read k t place x at = (
 -- ---- the used entries of what words stand for
 
 -- a dict or a set whose root names the table t has entries there
-pub entries_of : (k : Shape) (x : Picture) (kept : Kept) (t : ℕ) → IsKeyed (kind_of kept.content) → Stands k.texts x kept → root_in x ≡ suc t
+pub entries_of : (k : Shape) (x : Picture) (kept : ContainerState) (t : ℕ) → IsKeyed (kind_of kept.content) → Stands k.texts x kept → root_in x ≡ suc t
     → (way : Way) × ((used : List UsedEntry) × IsTableOf way k.texts (class_mask (class_of t)) used (0 ∷ 0 ∷ x.table) × (length used ≡ slice_index x.block 2) × AreEntriesOf used kept.content)
 entries_of k x kept t keyed stands names = by kept.content keyed stands
   where

@@ -25,7 +25,7 @@ use Rattle.ft_model.specs.Contents.{DictContent, IsSet, SetContent, dict_get, ha
 use Rattle.ft_model.specs.Worlds.{kind_of}
 use Rattle.ft_trace.specs.declared.Shape.{Shape}
 use Rattle.ft_trace.specs.Words.{Picture, Stands, root_in}
-use Rattle.ft_trace.specs.Worlds.{Kept}
+use Rattle.ft_trace.specs.Worlds.{ContainerState}
 use Rattle.ft_trace.proofs.DictWrites.{LiveEntriesArePairs}
 use Rattle.ft_trace.proofs.Known.{class_known}
 use Rattle.ft_bank.specs.declared.table.Table.{Table}
@@ -110,7 +110,7 @@ module _ (laws : EntryLaws) (k : Shape) (class fill : ℕ) (x : Picture) (key : 
 
 -- ---- by the way in which it is searched
 
-module _ (laws : EntryLaws) (k : Shape) (x : Picture) (how : Way) (key : Key) (kept : Kept) (is : kind_of kept.content ≡ kind_by how) (stands : Stands k.texts x kept) where
+module _ (laws : EntryLaws) (k : Shape) (x : Picture) (how : Way) (key : Key) (kept : ContainerState) (is : kind_of kept.content ≡ kind_by how) (stands : Stands k.texts x kept) where
   pub sought_bare : root_in x ≡ 0 → IsAtKey kept.content key None
   sought_bare bare = by how kept.content is stands
     where

@@ -14,7 +14,7 @@ use Rattle.ft_trace.specs.Addresses.{containers_in}
 use Rattle.ft_trace.specs.Reading.{Agrees, Among, Between, Looked, LookedAtBoth}
 use Rattle.ft_trace.specs.Traces.{Possible}
 use Rattle.ft_trace.specs.Words.{Picture, Stands}
-use Rattle.ft_trace.specs.Worlds.{kind_in, kept_at, reply_in}
+use Rattle.ft_trace.specs.Worlds.{kind_in, state_at, reply_in}
 use Rattle.ft_bank.specs.declared.pass.Pass.{Pass}
 use Rattle.ft_bank.specs.Answered.{Answered}
 use Rattle.ft_bank.specs.Passes.{view}
@@ -101,7 +101,7 @@ module _ (k : Shape) (o : ℕ) (shows : Picture → Type 0) (w : Window) (p q : 
   pub saw_answered : (called : Call) (said : Reply) (z : View) → z ≡ noted (Answer called said w.number) (view q) → (view p).learnt ≤ shown (view p).log → ∥ Possible z ∥₁ → Answered called said w.number (view p) z
   saw_answered called said z did settled possible = answered_after (view p) (view q) z called said w.number acts saw_loaded own counted did settled possible
 
-  module _ (called : Call) (said : Reply) (plain : IsPlain called said) (other : said ≢ reply.Kept) (replied : (x : Picture) (stored : StoredWorld) → kind_of (kept_at stored o).content ≡ kind_in k.kinds o → Stands k.texts x (kept_at stored o) → shows x → reply_in stored called ≡ said) where
+  module _ (called : Call) (said : Reply) (plain : IsPlain called said) (other : said ≢ reply.Kept) (replied : (x : Picture) (stored : StoredWorld) → kind_of (state_at stored o).content ≡ kind_in k.kinds o → Stands k.texts x (state_at stored o) → shows x → reply_in stored called ≡ said) where
     looked : WasStill w → Looked k called o said w.number (view q).log
     looked still = record {
       mid = ReadCounter w.number ∷ part;
@@ -178,7 +178,7 @@ module _ (k : Shape) (o m : ℕ) (shows : Picture → Picture → Type 0) (w u :
   )
 
   module _ (called : Call) (said : Reply) (plain : IsPlain called said) (other : said ≢ reply.Kept)
-      (replied : (x y : Picture) (stored : StoredWorld) → kind_of (kept_at stored o).content ≡ kind_in k.kinds o → kind_of (kept_at stored m).content ≡ kind_in k.kinds m → Stands k.texts x (kept_at stored o) → Stands k.texts y (kept_at stored m) → shows x y → reply_in stored called ≡ said) where
+      (replied : (x y : Picture) (stored : StoredWorld) → kind_of (state_at stored o).content ≡ kind_in k.kinds o → kind_of (state_at stored m).content ≡ kind_in k.kinds m → Stands k.texts x (state_at stored o) → Stands k.texts y (state_at stored m) → shows x y → reply_in stored called ≡ said) where
     looked_at_both : WasStill w → WasStill u → LookedAtBoth k called o m said w.number (view q).log
     looked_at_both still calm =
         let between = both_between still calm in

@@ -10,7 +10,7 @@ use Rattle.ft_trace.specs.declared.Shape.{Shape}
 use Rattle.ft_trace.specs.declared.View.{View}
 use Rattle.ft_trace.specs.Holds.{held}
 use Rattle.ft_trace.specs.Words.{root_in}
-use Rattle.ft_trace.specs.Worlds.{Kept}
+use Rattle.ft_trace.specs.Worlds.{ContainerState}
 use Rattle.ft_bank.specs.declared.table.Table.{Table}
 use Rattle.ft_bank.specs.Tables.{root_for, IsTableIn}
 use Rattle.ft_bank.specs.Whole.{OnlyLoaded}
@@ -30,7 +30,7 @@ cleared (content.Set set) = content.Set (set_clear set)
 cleared (content.List values) = content.List values
 
 -- and it has no table (profile)
-abbrev pub cleared_kept : Kept → Kept
+abbrev pub cleared_kept : ContainerState → ContainerState
 cleared_kept kept = record { content = cleared kept.content; table = no_table }
 
 -- the root of the container names this table of the bank, or none

@@ -5,14 +5,14 @@ use Rattle.ft_model.specs.Contents.{DictContent, SetContent}
 use Rattle.ft_model.specs.Worlds.{dict_of, kind_of, set_of}
 use Rattle.ft_trace.specs.declared.Shape.{Shape}
 use Rattle.ft_trace.specs.Words.{Picture, Stands}
-use Rattle.ft_trace.specs.Worlds.{Kept}
+use Rattle.ft_trace.specs.Worlds.{ContainerState}
 
 -- where these words stand for a dict, this is so of it
 abbrev pub IsOfDict : Shape → (DictContent → Type 0) → Picture → Type 0
 IsOfDict k holds x =
-    (kept : Kept) → kind_of kept.content ≡ kind.Dict → Stands k.texts x kept → holds (dict_of kept.content)
+    (kept : ContainerState) → kind_of kept.content ≡ kind.Dict → Stands k.texts x kept → holds (dict_of kept.content)
 
 -- where these words stand for a set, this is so of it
 abbrev pub IsOfSet : Shape → (SetContent → Type 0) → Picture → Type 0
 IsOfSet k holds x =
-    (kept : Kept) → kind_of kept.content ≡ kind.Set → Stands k.texts x kept → holds (set_of kept.content)
+    (kept : ContainerState) → kind_of kept.content ≡ kind.Set → Stands k.texts x kept → holds (set_of kept.content)

@@ -17,7 +17,7 @@ use Rattle.ft_model.specs.Contents.{dict_get, has_element}
 use Rattle.ft_model.specs.Worlds.{kind_of}
 use Rattle.ft_trace.specs.declared.Shape.{Shape}
 use Rattle.ft_trace.specs.Words.{Picture, Stands, root_in}
-use Rattle.ft_trace.specs.Worlds.{Kept}
+use Rattle.ft_trace.specs.Worlds.{ContainerState}
 use Rattle.ft_bank.specs.declared.table.Table.{Table}
 use Rattle.ft_bank.specs.Tables.{name_of}
 use Rattle.ft_search.specs.Held.{ReadsEntry}
@@ -46,5 +46,5 @@ IsAtKey (content.List values) key read = ⊥
 -- where this is the key's hash, and these words stand for a dict or a set that is searched this way
 abbrev pub IsFoundIn : Shape → Way → ℕ → Key → Option (ℕ × ℕ) → Picture → Type 0
 IsFoundIn k way hash key read x =
-    hash ≡ hash_of k.texts key → (kept : Kept) → kind_of kept.content ≡ kind_by way → Stands k.texts x kept
+    hash ≡ hash_of k.texts key → (kept : ContainerState) → kind_of kept.content ≡ kind_by way → Stands k.texts x kept
     → IsAtKey kept.content key read

@@ -36,7 +36,7 @@ IsLockOf word pass = IsHolder pass × (word ≡ pass + 1)
 
 -- ---- keys
 
--- a key that words can tell: an integer of 64 bits, or a string with a number of 32 bits
+-- a key that words can represent: an integer of 64 bits, or a string with a number of 32 bits
 abbrev pub FitsKey : Key → Type 0
 FitsKey (key.Int n) = FitsSigned w64 n
 FitsKey (key.Text sym) = sym.0 < 2 ^ 32
@@ -67,7 +67,7 @@ pub record IsGoneKey (kind payload : ℕ) (key : Key) : Type 0 where
   pub kind_is : kind ≡ gone_kind key
   pub payload_is : payload ≡ key_payload key
 
--- the number of a string, where 32 bits can tell it
+-- the number of a string, where 32 bits can represent it
 abbrev pub IsText : ℕ → Sym → Type 0
 IsText payload sym = (sym.0 < 2 ^ 32) × (payload ≡ sym.0)
 
@@ -103,7 +103,7 @@ entry_words pair =
     0 ∷ pair.hash ∷ key_kind pair.key ∷ key_payload pair.key ∷ stored_kind pair.value ∷ stored_payload pair.value
     ∷ pair.serial ∷ 0 ∷ []
 
--- a pair that words can tell
+-- a pair that words can represent
 abbrev pub FitsPair : Pair → Type 0
 FitsPair pair = FitsKey pair.key × FitsStored pair.value
 

@@ -69,7 +69,7 @@ pub(crate) fn gone_key_of(kind: u64, payload: u64) -> Option<Key>
     }
 }
 
-/// The string with this number, where 32 bits can tell it.
+/// The string with this number, where 32 bits can represent it.
 pub(crate) fn string_of(payload: u64) -> Option<Sym>
     ensures { (sym : Sym) → IsText payload sym ↔ (result ≡ Some sym) }
 {

@@ -15,7 +15,7 @@ use Rattle.ft_trace.specs.declared.Shape.{Shape}
 use Rattle.ft_trace.specs.declared.View.{View}
 use Rattle.ft_trace.specs.Acts.{owes, stage}
 use Rattle.ft_trace.specs.Addresses.{containers_in, class_of, slots}
-use Rattle.ft_trace.specs.Worlds.{Kept}
+use Rattle.ft_trace.specs.Worlds.{ContainerState}
 use Rattle.ft_trace.specs.Holds.{known}
 use Rattle.ft_trace.specs.Traces.{Possible}
 use Rattle.ft_bank.specs.declared.table.Table.{Table}
@@ -139,7 +139,7 @@ module _ (F : ℕ → Type 0) (v u : View) (same : SamePass v u) (keeps : KeepsB
   tried_news k count addition shape is values = news_on k count addition v u (λ p list. (keeps.held.words p (subst (λ (z : Shape). p < containers_in z) (sym shape) list.container) list.locked).1) is values
 
   pub tried_items : (k : Shape) (o : ℕ) (old : Option Table) → v.shape ≡ k → KnowsList k o old v → items_of o u ≡ items_of o v
-  tried_items k o old shape list = ap (λ (z : Kept). list_of z.content) (keeps.held.words o (subst (λ (z : Shape). o < containers_in z) (sym shape) list.container) list.locked).1
+  tried_items k o old shape list = ap (λ (z : ContainerState). list_of z.content) (keeps.held.words o (subst (λ (z : Shape). o < containers_in z) (sym shape) list.container) list.locked).1
 
   -- it may put the table into the root
   pub tried_may : (k : Shape) (o : ℕ) (old : Option Table) (table : Table) (class : ℕ) → v.shape ≡ k → MayAdd k o old v → IsTableIn k table → table.class ≡ class → stage (name_of table) u.log ≡ 1 → owes u.log ≡ suc class → MayGrow k o old table u
@@ -159,6 +159,6 @@ adds_items k o n old v u w total called what loaded list shape possible total_is
     let same : known o u ≡ known o v = work_knows v u o loaded.work in
     let table = list_use k o old u list (knows_content k o old u shape possible list) in
     let takes : list_takes (use_of old) total ≡ list_takes (known o v).table (length (items_of o v) + n) =
-    λ d. list_takes ((sym table ∙ ap (λ (z : Kept). z.table) same) d) (total_is d) in
+    λ d. list_takes ((sym table ∙ ap (λ (z : ContainerState). z.table) same) d) (total_is d) in
     let over : nat_lt most_items total ≡ nat_lt most_items (length (items_of o v) + n) = ap (λ (z : ℕ). nat_lt most_items z) total_is in
     (u, loaded, subst (λ (z : Option ℕ × Bool). IsAdded k z.0 z.1 called reply.Done u w what) (λ d. (takes d, over d)) is)

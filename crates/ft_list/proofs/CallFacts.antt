@@ -28,7 +28,7 @@ use Rattle.ft_trace.specs.declared.View.{View}
 use Rattle.ft_trace.specs.Addresses.{containers_in}
 use Rattle.ft_trace.specs.Acts.{has_lock}
 use Rattle.ft_trace.specs.FitCalls.{FitsListCall}
-use Rattle.ft_trace.specs.Worlds.{Kept}
+use Rattle.ft_trace.specs.Worlds.{ContainerState}
 use Rattle.ft_trace.proofs.Naming.{named_locked}
 use Rattle.ft_trace.specs.Holds.{known}
 use Rattle.ft_bank.specs.Writes.{MayHave}
@@ -172,7 +172,7 @@ module _ (o : ℕ) (lc : ListCall) (values news : List Value) (v : View) (low : 
     content_is = content_after o lc reply.Done values news v low mine is_list stored has (call_is.answered stored has)
 
     table_is : table_at stored.tables o ≡ (known o v).table
-    table_is = ap (λ (z : Kept). z.table) (has.agrees o low mine)
+    table_is = ap (λ (z : ContainerState). z.table) (has.agrees o low mine)
 
     takes_wanted : takes_in stored (call.List o lc) ≡ wanted
     takes_wanted =

@@ -23,7 +23,7 @@ use Rattle.ft_trace.specs.declared.Shape.{Shape}
 use Rattle.ft_trace.specs.declared.View.{View}
 use Rattle.ft_trace.specs.Addresses.{containers_in, class_of, slots}
 use Rattle.ft_trace.specs.Acts.{has_lock, is_writing, has_emptied, owes}
-use Rattle.ft_trace.specs.Worlds.{Kept, kept_at, kind_in, changes}
+use Rattle.ft_trace.specs.Worlds.{ContainerState, state_at, kind_in, changes}
 use Rattle.ft_trace.specs.Words.{root_in}
 use Rattle.ft_trace.specs.Items.{ItemClear}
 use Rattle.ft_trace.specs.Kinds.{ClearAs}
@@ -41,7 +41,7 @@ module _ (o : ℕ) (lc : ListCall) (said : Reply) (values news : List Value) (v 
   world = stored.world
 
   pub list_there : slice_index_or world o (content.List []) ≡ content.List values
-  list_there = ap (λ (z : Kept). z.content) (has.agrees o low mine) ∙ is_list
+  list_there = ap (λ (z : ContainerState). z.content) (has.agrees o low mine) ∙ is_list
 
   pub list_is : list_at world o ≡ values
   list_is = ap list_of list_there
@@ -82,7 +82,7 @@ module _ (k : Shape) (o : ℕ) (table : Table) (first past : ℕ) (lc : ListCall
   is_kind : kind.List ≡ kind_in v.shape.kinds o
   is_kind = sym (ap (λ (z : Shape). kind_in z.kinds o) shape ∙ list.kind)
 
-  left_after : (stored : StoredWorld) → MayHave v stored → kept_at (after_stored stored called) o ≡ record { content = content.List news; table = record { class = Some class; fill = 0 } }
+  left_after : (stored : StoredWorld) → MayHave v stored → state_at (after_stored stored called) o ≡ record { content = content.List news; table = record { class = Some class; fill = 0 } }
   left_after stored has =
       let c = content_after o lc said values news v low' list.locked is_list stored has (call_is.answered stored has) in
       let t = table_after stored has in
@@ -95,11 +95,11 @@ module _ (k : Shape) (o : ℕ) (table : Table) (first past : ℕ) (lc : ListCall
   clear : ItemClear (slots class) (held o v).table values news
   clear = record { keeps = changing.shut; short = few }
 
-  clears : (stored : StoredWorld) (t : ℕ) → MayHave v stored → root_in (held o v) ≡ suc t → ClearAs (kind_in v.shape.kinds o) v.shape.texts (class_of t) (held o v).table (known o v).content (kept_at (after_stored stored called) o).content
+  clears : (stored : StoredWorld) (t : ℕ) → MayHave v stored → root_in (held o v) ≡ suc t → ClearAs (kind_in v.shape.kinds o) v.shape.texts (class_of t) (held o v).table (known o v).content (state_at (after_stored stored called) o).content
   clears stored t has names =
       let same : name_of table ≡ t = let e : suc (name_of table) ≡ suc t = sym list.root ∙ names in omega (arith, e) in
-      subst (λ (n : ℕ). ClearAs (kind_in v.shape.kinds o) v.shape.texts (class_of n) (held o v).table (known o v).content (kept_at (after_stored stored called) o).content) same
-      (subst (λ (z : Kind × Content × Content). ClearAs z.0 v.shape.texts class (held o v).table z.1 z.2) (λ d. (is_kind d, sym is_list d, sym (ap (λ (z : Kept). z.content) (left_after stored has)) d)) clear)
+      subst (λ (n : ℕ). ClearAs (kind_in v.shape.kinds o) v.shape.texts (class_of n) (held o v).table (known o v).content (state_at (after_stored stored called) o).content) same
+      (subst (λ (z : Kind × Content × Content). ClearAs z.0 v.shape.texts class (held o v).table z.1 z.2) (λ d. (is_kind d, sym is_list d, sym (ap (λ (z : ContainerState). z.content) (left_after stored has)) d)) clear)
 
   declared : (stored : StoredWorld) → MayHave v stored → IsDeclared stored.world no_hands called
   declared stored has = record {
@@ -120,7 +120,7 @@ module _ (k : Shape) (o : ℕ) (table : Table) (first past : ℕ) (lc : ListCall
       reply_is = λ stored has. inr (sym (ap (λ (z : Answer). z.reply) (answer_is o lc said values news v low' list.locked is_list stored has (call_is.answered stored has))));
       declared = declared;
       fits = call_is.caps;
-      clear = subst (λ (n : ℕ). (stored : StoredWorld) (t : ℕ) → MayHave v stored → root_in (held n v) ≡ suc t → ClearAs (kind_in v.shape.kinds n) v.shape.texts (class_of t) (held n v).table (known n v).content (kept_at (after_stored stored called) n).content) (sym changed) clears;
+      clear = subst (λ (n : ℕ). (stored : StoredWorld) (t : ℕ) → MayHave v stored → root_in (held n v) ≡ suc t → ClearAs (kind_in v.shape.kinds n) v.shape.texts (class_of t) (held n v).table (known n v).content (state_at (after_stored stored called) n).content) (sym changed) clears;
       takes = takes_owed;
       empties = λ e. absurd (true≢false (sym e ∙ subst (λ (n : ℕ). has_emptied n v.log ≡ false) (sym changed) full));
     };

@@ -18,7 +18,7 @@ use Rattle.ft_trace.specs.Addresses.{containers_in}
 use Rattle.ft_trace.specs.Holds.{held, known}
 use Rattle.ft_trace.specs.Traces.{Possible}
 use Rattle.ft_trace.specs.Words.{Picture, root_in, Stands}
-use Rattle.ft_trace.specs.Worlds.{Kept}
+use Rattle.ft_trace.specs.Worlds.{ContainerState}
 use Rattle.ft_trace.proofs.Cases.{hit}
 use Rattle.ft_trace.proofs.Known.{declared_at}
 use Rattle.ft_trace.proofs.Naming.{named_locked}
@@ -40,7 +40,7 @@ abbrev pub clear_of : ℕ → Call
 clear_of o = call.List o list.Clear
 
 -- what it leaves
-abbrev pub empty_kept : Kept
+abbrev pub empty_kept : ContainerState
 empty_kept = record { content = content.List []; table = no_table }
 
 module _ (o : ℕ) (values : List Value) (u : View) (low : o < containers_in u.shape) (mine : has_lock o u.log ≡ true) (is_list : (known o u).content ≡ content.List values) where
@@ -75,7 +75,7 @@ module _ (o : ℕ) (values : List Value) (u : View) (low : o < containers_in u.s
       committed.left o ∙ (λ d. record { content = left d; table = table d })
 
 -- the words of an empty list without a table
-pub bare_stands : (texts : List ℕ) (words : Picture) (kept : Kept) → kept ≡ empty_kept → IsBlock words.block None 0 0 0 → Stands texts words kept
+pub bare_stands : (texts : List ℕ) (words : Picture) (kept : ContainerState) → kept ≡ empty_kept → IsBlock words.block None 0 0 0 → Stands texts words kept
 bare_stands texts words kept is head = subst (Stands texts words) (sym is) (record { head = head; table = refl }, refl)
 
 -- a block whose root names no table, and that counts nothing
@@ -132,7 +132,7 @@ module _ (k : Shape) (o : ℕ) (table : Table) (v s r u : View) (f : ℕ) (may :
   mine_then = puts.work.pass.locks o ∙ (ap (λ (z : View). has_lock o z.log) both_rooted ∙ may.list.locked)
 
   list_then : (known o u).content ≡ content.List (items_of o v)
-  list_then = ap (λ (z : Kept). z.content) (known_then o) ∙ is_list
+  list_then = ap (λ (z : ContainerState). z.content) (known_then o) ∙ is_list
 
   -- its block
   head_then : IsBlock (held o u).block None 0 0 0

@@ -21,7 +21,7 @@ use Rattle.ft_trace.specs.Addresses.{containers_in, class_of, slots}
 use Rattle.ft_trace.specs.Holds.{held, known}
 use Rattle.ft_trace.specs.Traces.{Possible}
 use Rattle.ft_trace.specs.Words.{Picture, root_in, Stands, item_of}
-use Rattle.ft_trace.specs.Worlds.{Kept, kind_in}
+use Rattle.ft_trace.specs.Worlds.{ContainerState, kind_in}
 use Rattle.ft_bank.specs.declared.table.Table.{Table}
 use Rattle.ft_bank.specs.Tables.{name_of}
 use Rattle.ft_bank.specs.Whole.{OnlyLoaded, OnlyPut}
@@ -104,19 +104,19 @@ knows_then k o v w same_words same_content lock writes list = record {
   kind = list.kind;
   locked = lock ∙ list.locked;
   even = writes ∙ list.even;
-  stands = subst (λ (x : Picture × Kept). Stands k.texts x.0 x.1) (λ d. (sym same_words d, sym same_content d)) list.stands;
+  stands = subst (λ (x : Picture × ContainerState). Stands k.texts x.0 x.1) (λ d. (sym same_words d, sym same_content d)) list.stands;
 }
 
 -- ---- an addition
 
 pub added_on : (addition : Addition) (v w : View) → ((p : ℕ) → known p w ≡ known p v) → (values : List Value) → with_added addition w values ≡ with_added addition v values
 added_on (One place value) v w same values = refl
-added_on (All other more) v w same values = ap (λ (x : Kept). values ++ list_of x.content) (same other)
+added_on (All other more) v w same values = ap (λ (x : ContainerState). values ++ list_of x.content) (same other)
 
 -- or of those whose items it adds
 pub news_on : (k : Shape) (count : ℕ) (addition : Addition) (v w : View) → ((p : ℕ) → KnowsItems k p v → known p w ≡ known p v) → IsAddition k count addition v → (values : List Value) → with_added addition w values ≡ with_added addition v values
 news_on k count (One place value) v w same is values = refl
-news_on k count (All other more) v w same is values = ap (λ (x : Kept). values ++ list_of x.content) (same other is.1)
+news_on k count (All other more) v w same is values = ap (λ (x : ContainerState). values ++ list_of x.content) (same other is.1)
 
 pub added_long : (k : Shape) (count : ℕ) (addition : Addition) (v : View) (values : List Value) → IsAddition k count addition v → count ≡ length values → length (with_added addition v values) ≡ count + count_in addition
 added_long k count (One place value) v values is long =
@@ -138,7 +138,7 @@ pub addition_on : (k : Shape) (count : ℕ) (addition : Addition) (v w : View) �
 addition_on k count (One place value) v w same is = is
 addition_on k count (All other more) v w same is =
     let x = same other is.1 in
-    (is.0 ∙ ap (λ (z : Kept). length (list_of z.content)) (sym x.1), knows_then k other v w x.0 x.1 x.2 x.3 is.1)
+    (is.0 ∙ ap (λ (z : ContainerState). length (list_of z.content)) (sym x.1), knows_then k other v w x.0 x.1 x.2 x.3 is.1)
 
 pub addition_loaded : (k : Shape) (count : ℕ) (addition : Addition) (v w : View) → OnlyLoaded v w → IsAddition k count addition v → IsAddition k count addition w
 addition_loaded k count addition v w l is = addition_on k count addition v w (λ p list. (loaded_held v w p l, work_knows v w p l.work, l.work.pass.locks p, l.work.pass.writes p)) is
@@ -155,7 +155,7 @@ module _ (k : Shape) (o : ℕ) (table : Table) (v s : View) (list : WritesList k
   class = class_of (name_of table)
 
   items_same : (p : ℕ) → items_of p s ≡ items_of p v
-  items_same p = ap (λ (z : Kept). list_of z.content) (known_same p)
+  items_same p = ap (λ (z : ContainerState). list_of z.content) (known_same p)
 
   gives_itself : GivesItems k o o s
   gives_itself = record {
@@ -187,7 +187,7 @@ pub gives_loaded : (k : Shape) (o m : ℕ) (v w : View) → OnlyLoaded v w → G
 gives_loaded k o m v w l gives =
     let h = loaded_held v w m l in
     let c : known m w ≡ known m v = work_knows v w m l.work in
-    let long : length (items_of m w) ≡ length (items_of m v) = ap (λ (z : Kept). length (list_of z.content)) c in
+    let long : length (items_of m w) ≡ length (items_of m v) = ap (λ (z : ContainerState). length (list_of z.content)) c in
     record {
       container = gives.container;
       locked = l.work.pass.locks m ∙ gives.locked;
@@ -195,7 +195,7 @@ gives_loaded k o m v w l gives =
       stores = λ t p names low.
           let x = gives.stores t p (sym (ap root_in h) ∙ names) (omega (arith, low, long)) in (
             x.0,
-            subst (λ (z : Picture × Kept). IsStored (item_of z.0.table p 1) (item_of z.0.table p 2) (stored_at (list_of z.1.content) p)) (λ d. (sym h d, sym c d)) x.1,
+            subst (λ (z : Picture × ContainerState). IsStored (item_of z.0.table p 1) (item_of z.0.table p 2) (stored_at (list_of z.1.content) p)) (λ d. (sym h d, sym c d)) x.1,
           );
       bare = λ none. long ∙ gives.bare (sym (ap root_in h) ∙ none);
     }
@@ -224,7 +224,7 @@ module _ (k : Shape) (o m : ℕ) (table : Table) (v w : View) (shape : v.shape �
       | inl e ↦ subst (λ (q : ℕ). (t p : ℕ) → root_in (held q w) ≡ suc t → p < length (items_of q w) → (p < slots (class_of t)) × IsStored (item_of (held q w).table p 1) (item_of (held q w).table p 2) (stored_at (items_of q w) p)) (sym e)
           (λ t p names low.
           let same : name_of table ≡ t = let x : suc (name_of table) ≡ suc t = sym after.root ∙ names in omega (arith, x) in
-          let all : items_of o w ≡ values = ap (λ (z : Kept). list_of z.content) (work_knows v w o only.work) ∙ items in
+          let all : items_of o w ≡ values = ap (λ (z : ContainerState). list_of z.content) (work_knows v w o only.work) ∙ items in
           let long : length (items_of o w) ≡ length values = ap length all in
           let less : p < slots (class_of (name_of table)) = omega (arith, low, long, few) in (
             subst (λ (n : ℕ). p < slots (class_of n)) same less,
@@ -235,13 +235,13 @@ module _ (k : Shape) (o m : ℕ) (table : Table) (v w : View) (shape : v.shape �
       | inr ne ↦ λ t p names low.
           let h = held_same ne in
           let c : known m w ≡ known m v = work_knows v w m only.work in
-          let long : length (items_of m w) ≡ length (items_of m v) = ap (λ (z : Kept). length (list_of z.content)) c in
+          let long : length (items_of m w) ≡ length (items_of m v) = ap (λ (z : ContainerState). length (list_of z.content)) c in
           let x = gives.stores t p (sym (ap root_in h) ∙ names) (omega (arith, low, long)) in (
             x.0,
-            subst (λ (z : Picture × Kept). IsStored (item_of z.0.table p 1) (item_of z.0.table p 2) (stored_at (list_of z.1.content) p)) (λ d. (sym h d, sym c d)) x.1,
+            subst (λ (z : Picture × ContainerState). IsStored (item_of z.0.table p 1) (item_of z.0.table p 2) (stored_at (list_of z.1.content) p)) (λ d. (sym h d, sym c d)) x.1,
           )
     ];
-    bare = λ none. ap (λ (z : Kept). length (list_of z.content)) (work_knows v w m only.work) ∙ gives.bare (sym root_put ∙ none);
+    bare = λ none. ap (λ (z : ContainerState). length (list_of z.content)) (work_knows v w m only.work) ∙ gives.bare (sym root_put ∙ none);
   }
 
 -- ---- once they are put, and then the length

@@ -12,7 +12,7 @@ use Rattle.ft_layout.specs.Containers.{IsRoot, IsBlock}
 use Rattle.ft_trace.specs.declared.Shape.{Shape}
 use Rattle.ft_trace.specs.declared.View.{View}
 use Rattle.ft_trace.specs.Addresses.{class_of}
-use Rattle.ft_trace.specs.Worlds.{Kept, kind_in}
+use Rattle.ft_trace.specs.Worlds.{ContainerState, kind_in}
 use Rattle.ft_trace.specs.Words.{Picture, root_in, Stands}
 use Rattle.ft_trace.specs.Kinds.{rows, version_at}
 use Rattle.ft_trace.specs.Openings.{Shut}
@@ -26,13 +26,13 @@ use Rattle.ft_list.specs.Items.{IsChanging, MayFinish, WritesList, items_of}
 use Rattle.ft_list.proofs.Words.{all_shut}
 
 -- a list with these items and a table of this class
-abbrev pub list_kept : Table → List Value → Kept
+abbrev pub list_kept : Table → List Value → ContainerState
 list_kept table values = record { content = content.List values; table = record { class = Some (class_of (name_of table)); fill = 0 } }
 
 pub kept_after : (o : ℕ) (table : Table) (called : Call) (said : Reply) (first past : ℕ) (u w : View) → (m : MayFinish o table called said first past u) → Committed u w called → known o w ≡ list_kept table m.after
 kept_after o table called said first past u w m committed = committed.left o ∙ m.left committed.found committed.has
 
-pub list_stands : (texts : List ℕ) (table : Table) (values before : List Value) (first past : ℕ) (words : Picture) (kept : Kept) → kept ≡ list_kept table values → IsBlock words.block (Some (class_of (name_of table))) (length values) 0 0 → IsChanging (class_of (name_of table)) before values first past words.table → Stands texts words kept
+pub list_stands : (texts : List ℕ) (table : Table) (values before : List Value) (first past : ℕ) (words : Picture) (kept : ContainerState) → kept ≡ list_kept table values → IsBlock words.block (Some (class_of (name_of table))) (length values) 0 0 → IsChanging (class_of (name_of table)) before values first past words.table → Stands texts words kept
 list_stands texts table values before first past words kept is head changing =
     subst (Stands texts words) (sym is) (record { head = head; table = changing.table }, refl)
 
@@ -50,7 +50,7 @@ pub stands_at_end : (texts : List ℕ) (o : ℕ) (table : Table) (called : Call)
 stands_at_end texts o table called said first past u w z m committed same work block closed =
     let class = class_of (name_of table) in
     let after = kept_after o table called said first past u w m committed in
-    let items : items_of o w ≡ m.after = ap (λ (k : Kept). list_of k.content) after in
+    let items : items_of o w ≡ m.after = ap (λ (k : ContainerState). list_of k.content) after in
     let blocks : (held o u).block ≡ (held o z).block = sym (block ∙ ap (λ (x : Picture). x.block) same) in
     list_stands texts table m.after m.after past past (held o z) (known o z)
     (work_knows w z o work ∙ after)

@@ -20,7 +20,7 @@ use Rattle.ft_trace.specs.Acts.{noted, shown}
 use Rattle.ft_trace.specs.Addresses.{containers_in}
 use Rattle.ft_trace.specs.Reading.{Among, Between, Looked, LookedAtBoth}
 use Rattle.ft_trace.specs.Traces.{Possible}
-use Rattle.ft_trace.specs.Worlds.{kind_in, kept_at}
+use Rattle.ft_trace.specs.Worlds.{kind_in, state_at}
 use Rattle.ft_bank.specs.declared.pass.Pass.{Pass}
 use Rattle.ft_bank.specs.Answered.{Answered}
 use Rattle.ft_bank.specs.Passes.{view}
@@ -85,7 +85,7 @@ module _ (k : Shape) (o : ℕ) (holds : List Value → Type 0) (w : Window) (p q
       between = between_own o (ReadCounter w.number ∷ part) acts (view p).log (view q).log own
           (record { version = w.opened; even = still.1; newer = []; rest = []; is = λ d. Version o (still.0 d) ∷ ((ReadCounter w.number ∷ part) ++ Version o w.opened ∷ []) });
       stamp = record { newer = []; rest = part; is = refl };
-      answers = λ x stored is_kind stands agrees. replied stored.world (list_of (kept_at stored o).content) (saw.3 x (agrees_older k o x (ReadCounter w.number ∷ []) part agrees) (kept_at stored o) (is_kind ∙ is) stands);
+      answers = λ x stored is_kind stands agrees. replied stored.world (list_of (state_at stored o).content) (saw.3 x (agrees_older k o x (ReadCounter w.number ∷ []) part agrees) (state_at stored o) (is_kind ∙ is) stands);
     }
 
     pub saw_shown : WasStill w → (view q).shape ≡ k → o < containers_in k → kind_in k.kinds o ≡ kind.List → 0 < (view p).left → IsShown (view q) (call.List o lc) said w.number
@@ -166,7 +166,7 @@ module _ (k : Shape) (o m : ℕ) (holds : List Value → List Value → Type 0) 
           answers = λ x y stored kind_is kind_is' stands stands' agrees agrees'.
               let near = agrees_newer k o x both (Version m u.opened ∷ []) (agrees_older k o x (Version m u.closed ∷ (ReadCounter w.number ∷ [])) (both ++ Version m u.opened ∷ []) agrees) in
               let far = agrees_older k m y (ReadCounter w.number ∷ []) both agrees' in
-              ap reply.Truth (sym (means (list_of (kept_at stored o).content) (list_of (kept_at stored m).content) (saw.3 x y near far (kept_at stored o) (kept_at stored m) (kind_is ∙ is) (kind_is' ∙ is') stands stands')));
+              ap reply.Truth (sym (means (list_of (state_at stored o).content) (list_of (state_at stored m).content) (saw.3 x y near far (state_at stored o) (state_at stored m) (kind_is ∙ is) (kind_is' ∙ is') stands stands')));
         }
 
     pub saw_both_shown : WasStill w → WasStill u → (view q).shape ≡ k → o < containers_in k → m < containers_in k → kind_in k.kinds o ≡ kind.List → kind_in k.kinds m ≡ kind.List → 0 < (view p).left → IsShown (view q) (call.List o (list.Eq m)) (reply.Truth alike) w.number

@@ -15,7 +15,7 @@ use Rattle.ft_trace.specs.declared.Shape.{Shape}
 use Rattle.ft_trace.specs.declared.View.{View}
 use Rattle.ft_trace.specs.Addresses.{class_of}
 use Rattle.ft_trace.specs.Acts.{has_lock, is_writing, has_emptied, owes, noted}
-use Rattle.ft_trace.specs.Worlds.{Kept, changes}
+use Rattle.ft_trace.specs.Worlds.{ContainerState, changes}
 use Rattle.ft_trace.specs.Words.{root_in}
 use Rattle.ft_trace.specs.Holds.{held, known}
 use Rattle.ft_trace.proofs.Cases.{hit}
@@ -58,7 +58,7 @@ module _ (k : Shape) (o : ℕ) (old : Option Table) (table : Table) (v r u : Vie
       let g = grows_on v u known_then shape_then locks_then o lc values news class grows in
       let owed : owes u.log ≡ suc class = puts.work.owes ∙ (ap (λ (z : View). owes z.log) is ∙ may.owed) in
       subst (λ (z : Call). MayFinish o table z reply.Done first past u) (sym names)
-      (may_finish k o table first past lc reply.Done values news u list shape (ap (λ (z : Kept). z.content) (known_then o) ∙ is_list)
+      (may_finish k o table first past lc reply.Done values news u list shape (ap (λ (z : ContainerState). z.content) (known_then o) ∙ is_list)
       g.write g.table
       (λ stored c has e. let same : class ≡ c = omega (arith, e, owed) in g.takes stored has ∙ ap (λ (n : ℕ). Some n) same)
       changing

@@ -22,7 +22,7 @@ use Rattle.ft_trace.specs.Kinds.{rows, version_at, SoundAs}
 use Rattle.ft_trace.specs.Openings.{Shut}
 use Rattle.ft_trace.specs.Traces.{Possible}
 use Rattle.ft_trace.specs.Words.{Picture, root_in, Stands, item_of, table_of}
-use Rattle.ft_trace.specs.Worlds.{Kept, kind_in}
+use Rattle.ft_trace.specs.Worlds.{ContainerState, kind_in}
 use Rattle.ft_trace.proofs.Cases.{hit}
 use Rattle.ft_bank.specs.declared.table.Table.{Table}
 use Rattle.ft_bank.specs.Tables.{name_of, IsTableIn}
@@ -45,7 +45,7 @@ knows_on k o old v w same_words same_content lock writes list = record {
   kind = list.kind;
   locked = lock ∙ list.locked;
   even = writes ∙ list.even;
-  stands = subst (λ (x : Picture × Kept). Stands k.texts x.0 x.1) (λ d. (sym same_words d, sym same_content d)) list.stands;
+  stands = subst (λ (x : Picture × ContainerState). Stands k.texts x.0 x.1) (λ d. (sym same_words d, sym same_content d)) list.stands;
   table_in = list.table_in;
   root = ap root_in same_words ∙ list.root;
 }

@@ -31,7 +31,7 @@ use Rattle.ft_trace.specs.LookReplies.{item_reply}
 use Rattle.ft_trace.specs.Reading.{Among, Agrees, Looked}
 use Rattle.ft_trace.specs.Words.{Picture, root_in, item_of, Stands}
 use Rattle.ft_trace.specs.Traces.{Possible}
-use Rattle.ft_trace.specs.Worlds.{Kept, kept_at, kind_in, reply_in}
+use Rattle.ft_trace.specs.Worlds.{ContainerState, state_at, kind_in, reply_in}
 use Rattle.ft_trace.proofs.Known.{class_known}
 use Rattle.ft_trace.proofs.Nothing.{no_table_stands}
 use Rattle.ft_bank.specs.declared.pass.Pass.{Pass}
@@ -187,7 +187,7 @@ reads_table k o t i f p q is low did holds = (
 
 -- ---- what words say of a list
 
-list_words : (texts : List ℕ) (x : Picture) (kept : Kept) → kind_of kept.content ≡ kind.List → Stands texts x kept → IsListWords x.block (0 ∷ 0 ∷ x.table) kept.table.class (list_of kept.content)
+list_words : (texts : List ℕ) (x : Picture) (kept : ContainerState) → kind_of kept.content ≡ kind.List → Stands texts x kept → IsListWords x.block (0 ∷ 0 ∷ x.table) kept.table.class (list_of kept.content)
 list_words texts x kept is stands = by kept.content kept.table is stands
   where
     by : (c : Content) (table : TableUse) → kind_of c ≡ kind.List → StandsAs texts x.block (0 ∷ 0 ∷ x.table) table c → IsListWords x.block (0 ∷ 0 ∷ x.table) table.class (list_of c)
@@ -196,7 +196,7 @@ list_words texts x kept is stands = by kept.content kept.table is stands
     by (content.Set set) table e s = absurd (cc)
 
 -- a list has no more items than its table has places, and each says its value
-pub item_says : (texts : List ℕ) (x : Picture) (kept : Kept) (t : ℕ) → IsClass (class_of t) → kind_of kept.content ≡ kind.List → Stands texts x kept → root_in x ≡ suc t → (length (list_of kept.content) ≤ slots (class_of t))
+pub item_says : (texts : List ℕ) (x : Picture) (kept : ContainerState) (t : ℕ) → IsClass (class_of t) → kind_of kept.content ≡ kind.List → Stands texts x kept → root_in x ≡ suc t → (length (list_of kept.content) ≤ slots (class_of t))
     × ((place : ℕ) → place < length (list_of kept.content) → IsStored (item_of x.table place 1) (item_of x.table place 2) (Plain (slice_index_or (list_of kept.content) place value.Nothing)))
 item_says texts x kept t class is stands names =
     let values = list_of kept.content in
@@ -207,7 +207,7 @@ item_says texts x kept t class is stands names =
     )
 
 -- one without a table has none
-pub no_items : (texts : List ℕ) (x : Picture) (kept : Kept) → root_in x ≡ 0 → Stands texts x kept → length (list_of kept.content) ≡ 0
+pub no_items : (texts : List ℕ) (x : Picture) (kept : ContainerState) → root_in x ≡ 0 → Stands texts x kept → length (list_of kept.content) ≡ 0
 no_items texts x kept none stands = by kept.content (no_table_stands texts x kept none stands).1
   where
     by : (c : Content) → length_of c ≡ 0 → length (list_of c) ≡ 0
@@ -216,23 +216,23 @@ no_items texts x kept none stands = by kept.content (no_table_stands texts x kep
     by (content.Set set) e = refl
 
 -- how many items there are, as the block says it
-pub items_counted : (k : Shape) (x : Picture) (count : ℕ) → count ≡ slice_index x.block 1 → (kept : Kept) → kind_of kept.content ≡ kind.List → Stands k.texts x kept → count ≡ length (list_of kept.content)
+pub items_counted : (k : Shape) (x : Picture) (count : ℕ) → count ≡ slice_index x.block 1 → (kept : ContainerState) → kind_of kept.content ≡ kind.List → Stands k.texts x kept → count ≡ length (list_of kept.content)
 items_counted k x count counts kept is stands = counts ∙ (list_words k.texts x kept is stands).head.count_is
 
 -- the index by the count that was read
 pub named_by : (k : Shape) (x : Picture) (index : ℤ) (count : ℕ) (found : Option Value) → count ≡ slice_index x.block 1
-    → ((kept : Kept) → kind_of kept.content ≡ kind.List → Stands k.texts x kept → count ≡ length (list_of kept.content) → found ≡ option_map (λ place. slice_index_or (list_of kept.content) place value.Nothing) (index_in count index)) → IsItemNamed k index found x
+    → ((kept : ContainerState) → kind_of kept.content ≡ kind.List → Stands k.texts x kept → count ≡ length (list_of kept.content) → found ≡ option_map (λ place. slice_index_or (list_of kept.content) place value.Nothing) (index_in count index)) → IsItemNamed k index found x
 named_by k x index count found counts right kept is stands =
     let many = items_counted k x count counts kept is stands in
     right kept is stands many ∙ ap (λ (n : ℕ). option_map (λ (place : ℕ). slice_index_or (list_of kept.content) place value.Nothing) (index_in n index)) many
 
 -- ---- what `l[i]` replies
 
-get_replied : (stored : StoredWorld) (o : ℕ) (index : ℤ) (found : Option Value) → found ≡ item_named (list_of (kept_at stored o).content) index → reply_in stored (call.List o (list.Get index)) ≡ item_reply found
+get_replied : (stored : StoredWorld) (o : ℕ) (index : ℤ) (found : Option Value) → found ≡ item_named (list_of (state_at stored o).content) index → reply_in stored (call.List o (list.Get index)) ≡ item_reply found
 get_replied stored o index found is = by (index_in (length items) index) ∙ ap item_reply (sym is)
   where
     items : List Value
-    items = list_of (kept_at stored o).content
+    items = list_of (state_at stored o).content
 
     by : (z : Option ℕ) → (option_map_or (λ at. shows stored.world no_hands (reply.Value (slice_index_or items at value.Nothing))) z (shows stored.world no_hands (reply.Raised raise.NoIndex))).reply ≡ item_reply (option_map (λ place. slice_index_or items place value.Nothing) z)
     by None = refl
@@ -284,7 +284,7 @@ get_shown v w o index found n part ask own is s =
       mid = s.mid;
       between = between_own o s.mid part v.log w.log own s.between;
       stamp = s.counted;
-      answers = λ x stored is_kind stands agrees. get_replied stored o index found (s.shows x agrees (kept_at stored o) (is_kind ∙ is) stands);
+      answers = λ x stored is_kind stands agrees. get_replied stored o index found (s.shows x agrees (state_at stored o) (is_kind ∙ is) stands);
     } in
     looks_are_shown w called o (item_reply found) n ask plain.reads plain.cursor plain.adds plain.memory (item_other found) (plain.replied (item_reply found) refl) looked
 
@@ -295,8 +295,8 @@ get_held v u o index found n loaded left low mine is =
     let called = call.List o (list.Get index) in
     let plain = get_plain o index found in
     let right : (stored : StoredWorld) → MayHave (noted (ReadCounter n) u) stored → IsReplied called (item_reply found) (reply_in stored called) = λ stored may.
-    let kept : kept_at stored o ≡ known o v = may.agrees o (subst (λ (k : Shape). o < containers_in k) (sym loaded.work.pass.shape) low) (loaded.work.pass.locks o ∙ mine) ∙ work_knows v u o loaded.work in
-    plain.replied (reply_in stored called) (sym (get_replied stored o index found (is ∙ ap (λ (z : Kept). item_named (list_of z.content) index) (sym kept)))) in
+    let kept : state_at stored o ≡ known o v = may.agrees o (subst (λ (k : Shape). o < containers_in k) (sym loaded.work.pass.shape) low) (loaded.work.pass.locks o ∙ mine) ∙ work_knows v u o loaded.work in
+    plain.replied (reply_in stored called) (sym (get_replied stored o index found (is ∙ ap (λ (z : ContainerState). item_named (list_of z.content) index) (sym kept)))) in
     held_shown v u n loaded left called (item_reply found) plain.reads plain.cursor right (λ stored. plain.cause stored (ReadCounter n ∷ u.log) n)
 
 -- what such a pass reads

@@ -14,7 +14,7 @@ use Rattle.ft_trace.specs.declared.Shape.{Shape}
 use Rattle.ft_trace.specs.declared.View.{View}
 use Rattle.ft_trace.specs.Addresses.{containers_in, class_of, slots}
 use Rattle.ft_trace.specs.Acts.{has_lock, is_writing}
-use Rattle.ft_trace.specs.Worlds.{Kept, kind_in}
+use Rattle.ft_trace.specs.Worlds.{ContainerState, kind_in}
 use Rattle.ft_trace.specs.Words.{Picture, root_in, Stands, item_of}
 use Rattle.ft_trace.specs.Kinds.{rows, version_at}
 use Rattle.ft_trace.specs.Openings.{Shut}
@@ -86,13 +86,13 @@ may_loaded k o v w only may =
       kind = may.kind;
       locked = only.work.pass.locks o ∙ may.locked;
       even = only.work.pass.writes o ∙ may.even;
-      stands = subst (λ (z : Picture × Kept). Stands k.texts z.0 z.1) (λ d. (sym h d, sym n d)) may.stands;
+      stands = subst (λ (z : Picture × ContainerState). Stands k.texts z.0 z.1) (λ d. (sym h d, sym n d)) may.stands;
       owes = only.work.owes ∙ may.owes;
       left = subst (λ (z : ℕ). 0 < z) (sym only.work.left) may.left;
     }
 
 pub items_loaded : (o : ℕ) (v w : View) → OnlyLoaded v w → items_of o w ≡ items_of o v
-items_loaded o v w only = ap (λ (z : Kept). list_of z.content) (work_knows v w o only.work)
+items_loaded o v w only = ap (λ (z : ContainerState). list_of z.content) (work_knows v w o only.work)
 
 -- a pass of a bank that may write a list knows that it is one
 pub content_of : (k : Shape) (o : ℕ) (v : View) → v.shape ≡ k → ∥ Possible v ∥₁ → MayWriteList k o v → (known o v).content ≡ content.List (items_of o v)

@@ -18,7 +18,7 @@ use Rattle.ft_trace.specs.Acts.{has_lock, noted, seen_writes}
 use Rattle.ft_trace.specs.Addresses.{containers_in}
 use Rattle.ft_trace.specs.Holds.{held, known}
 use Rattle.ft_trace.specs.Words.{Picture, root_in, Stands}
-use Rattle.ft_trace.specs.Worlds.{Kept, kept_at, changes}
+use Rattle.ft_trace.specs.Worlds.{ContainerState, state_at, changes}
 use Rattle.ft_trace.proofs.Known.{declared_at}
 use Rattle.ft_bank.specs.Whole.{OnlyPut, Wrote}
 use Rattle.ft_bank.specs.Writes.{MayHave, MayCommit, Committed, IsShut}
@@ -37,10 +37,10 @@ module _ (o : ℕ) (lc : ListCall) (said : Reply) (values : List Value) (v : Vie
   changed = ap (λ (b : Bool). unwrap_or (if b then Some o else None) 0) c.write.changing
 
   -- the list is as it was
-  left_same : (stored : StoredWorld) → MayHave v stored → kept_at (after_stored stored called) o ≡ known o v
+  left_same : (stored : StoredWorld) → MayHave v stored → state_at (after_stored stored called) o ≡ known o v
   left_same stored has =
       let inside = content_after o lc said values values v low mine is_list stored has (c.write.answered stored has) ∙ sym is_list in
-      let table = c.table stored has ∙ ap (λ (z : Kept). z.table) (has.agrees o low mine) in
+      let table = c.table stored has ∙ ap (λ (z : ContainerState). z.table) (has.agrees o low mine) in
       λ d. record { content = inside d; table = table d }
 
   declared : (stored : StoredWorld) → MayHave v stored → IsDeclared stored.world no_hands called
@@ -80,7 +80,7 @@ module _ (k : Shape) (o : ℕ) (v s : View) (f : ℕ) (may : MayWriteList k o v)
     same_kept = committed.left o ∙ (leaves_later o v s s f begun (put_same s o) called said (known o v) leaves).left_is committed.found committed.has
 
     pub nothing_stands : Stands k.texts (held o w) (known o w)
-    nothing_stands = subst (λ (z : Picture × Kept). Stands k.texts z.0 z.1) (sym (λ d. (same_held d, same_kept d))) may.stands
+    nothing_stands = subst (λ (z : Picture × ContainerState). Stands k.texts z.0 z.1) (sym (λ d. (same_held d, same_kept d))) may.stands
 
     pub nothing_shut : IsShut o w
     nothing_shut t names = absurd (let r : root_in (held o w) ≡ 0 = ap root_in same_held ∙ bare in omega (arith, r, names))

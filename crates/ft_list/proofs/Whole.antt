@@ -17,7 +17,7 @@ use Rattle.ft_trace.specs.declared.Shape.{Shape}
 use Rattle.ft_trace.specs.declared.View.{View}
 use Rattle.ft_trace.specs.Addresses.{containers_in, class_of}
 use Rattle.ft_trace.specs.Acts.{has_lock, is_writing, has_emptied, owes, noted}
-use Rattle.ft_trace.specs.Worlds.{Kept, changes}
+use Rattle.ft_trace.specs.Worlds.{ContainerState, changes}
 use Rattle.ft_trace.specs.Words.{root_in}
 use Rattle.ft_trace.specs.Holds.{held, known}
 use Rattle.ft_trace.proofs.Cases.{hit}
@@ -97,11 +97,11 @@ module _ (k : Shape) (o : ℕ) (table : Table) (v s u : View) (f : ℕ) (may : M
       let none : owes u.log ≡ 0 = puts.work.owes ∙ (ap (λ (z : View). owes z.log) begun ∙ may.owes) in
       let low : o < containers_in v.shape = subst (λ (z : Shape). o < containers_in z) (sym shape ∙ same_shape) may.container in
       subst (λ (z : Call). MayFinish o table z said first past u) (sym is)
-      (may_finish k o table first past lc said values news u list shape (ap (λ (z : Kept). z.content) (same_known o) ∙ is_list)
+      (may_finish k o table first past lc said values news u list shape (ap (λ (z : ContainerState). z.content) (same_known o) ∙ is_list)
       (write_on v u same_known same_shape locks_on o lc said values news call_is.write)
       (λ stored has.
       let old = has_before v u same_known same_shape locks_on stored has in
-      call_is.table stored old ∙ (ap (λ (z : Kept). z.table) (old.agrees o low may.locked) ∙ kept))
+      call_is.table stored old ∙ (ap (λ (z : ContainerState). z.table) (old.agrees o low may.locked) ∙ kept))
       (λ stored class has e. absurd (omega (arith, e, none)))
       changing
       (subst (λ (n : ℕ). 0 < n) (sym (puts.work.left ∙ ap (λ (z : View). z.left) begun)) may.left)

@@ -18,7 +18,7 @@ use Rattle.ft_trace.specs.Addresses.{containers_in}
 use Rattle.ft_trace.specs.Holds.{held}
 use Rattle.ft_trace.specs.Reading.{Agrees, Among, Between}
 use Rattle.ft_trace.specs.Words.{Picture, root_in, item_of, Stands}
-use Rattle.ft_trace.specs.Worlds.{Kept}
+use Rattle.ft_trace.specs.Worlds.{ContainerState}
 use Rattle.ft_bank.specs.declared.pass.Pass.{Pass}
 use Rattle.ft_bank.specs.Passes.{view}
 use Rattle.ft_bank.specs.Series.{DidAll}
@@ -50,13 +50,13 @@ IsValueIn t place found x =
 -- where these words stand for a list that has an item at the place, it is this
 abbrev pub IsItemAt : Shape → ℕ → Option Value → Picture → Type 0
 IsItemAt k place found x =
-    (kept : Kept) → kind_of kept.content ≡ kind.List → Stands k.texts x kept → place < length (list_of kept.content)
+    (kept : ContainerState) → kind_of kept.content ≡ kind.List → Stands k.texts x kept → place < length (list_of kept.content)
     → found ≡ Some (slice_index_or (list_of kept.content) place value.Nothing)
 
 -- where these words stand for a list, the index names this item of it, or none
 abbrev pub IsItemNamed : Shape → ℤ → Option Value → Picture → Type 0
 IsItemNamed k index found x =
-    (kept : Kept) → kind_of kept.content ≡ kind.List → Stands k.texts x kept
+    (kept : ContainerState) → kind_of kept.content ≡ kind.List → Stands k.texts x kept
     → found ≡ item_named (list_of kept.content) index
 
 -- Between two loads of the version of the list that gave the same even number, the counter was loaded, and words that

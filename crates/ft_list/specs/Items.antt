@@ -17,7 +17,7 @@ use Rattle.ft_trace.specs.declared.Shape.{Shape}
 use Rattle.ft_trace.specs.declared.View.{View}
 use Rattle.ft_trace.specs.Addresses.{containers_in, class_of, slots}
 use Rattle.ft_trace.specs.Acts.{has_lock, is_writing}
-use Rattle.ft_trace.specs.Worlds.{kept_at, kind_in, changes}
+use Rattle.ft_trace.specs.Worlds.{state_at, kind_in, changes}
 use Rattle.ft_trace.specs.Words.{Picture, root_in, item_at, item_of}
 use Rattle.ft_trace.specs.Items.{words_at}
 use Rattle.ft_trace.specs.Holds.{held, known}
@@ -105,7 +105,7 @@ pub record MayFinish (o : ℕ) (table : Table) (called : Call) (said : Reply) (f
   pub before : List Value
   pub after : List Value
   pub left : (stored : StoredWorld) → MayHave v stored
-      → kept_at (after_stored stored called) o
+      → state_at (after_stored stored called) o
       ≡ record { content = content.List after; table = record { class = Some (class_of (name_of table)); fill = 0 } }
   pub head : IsBlock (held o v).block (Some (class_of (name_of table))) (length after) 0 0
   pub changing : IsChanging (class_of (name_of table)) before after first past (held o v).table

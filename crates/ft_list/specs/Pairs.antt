@@ -12,7 +12,7 @@ use Rattle.ft_trace.specs.Addresses.{containers_in}
 use Rattle.ft_trace.specs.Holds.{held}
 use Rattle.ft_trace.specs.Reading.{Agrees}
 use Rattle.ft_trace.specs.Words.{Picture, Stands}
-use Rattle.ft_trace.specs.Worlds.{Kept}
+use Rattle.ft_trace.specs.Worlds.{ContainerState}
 use Rattle.ft_bank.specs.declared.pass.Pass.{Pass}
 use Rattle.ft_bank.specs.Answered.{Answered}
 use Rattle.ft_bank.specs.Passes.{view}
@@ -33,7 +33,7 @@ ReadsBoth k o m shows p q =
 -- where these words stand for two lists, this is so of the items of both
 abbrev pub AreOfItems : Shape → (List Value → List Value → Type 0) → Picture → Picture → Type 0
 AreOfItems k holds x y =
-    (one other : Kept) → kind_of one.content ≡ kind.List → kind_of other.content ≡ kind.List → Stands k.texts x one
+    (one other : ContainerState) → kind_of one.content ≡ kind.List → kind_of other.content ≡ kind.List → Stands k.texts x one
     → Stands k.texts y other → holds (list_of one.content) (list_of other.content)
 
 -- What a call answers that reads two containers, each between two loads of its version. It gave a reply, which is the

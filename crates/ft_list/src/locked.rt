@@ -197,7 +197,7 @@ pub fn del_locked(bank: &Bank, pass: &mut Pass, l: Object, index: i64) -> (Reply
     }
 }
 
-/// A value's integer has 64 bits, and its string's number 32, so that words can tell it.
+/// A value's integer has 64 bits, and its string's number 32, so that words can represent it.
 pub(crate) fn value_fits(value: Value)
     ensures { FitsStored (Plain value) }
 {

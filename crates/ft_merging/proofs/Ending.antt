@@ -31,7 +31,7 @@ use Rattle.ft_trace.specs.Kinds.{under, rows, version_at, CarefulAs, ClearAs, Is
 use Rattle.ft_trace.specs.Openings.{Shut, Timely}
 use Rattle.ft_trace.specs.Traces.{Possible}
 use Rattle.ft_trace.specs.Words.{Picture, root_in, entry_at, entry_of, Stands}
-use Rattle.ft_trace.specs.Worlds.{Kept, kind_in, changes}
+use Rattle.ft_trace.specs.Worlds.{ContainerState, kind_in, changes}
 use Rattle.ft_trace.proofs.ByKind.{keyed_low}
 use Rattle.ft_trace.proofs.DictWrites as dict
 use Rattle.ft_trace.proofs.EntryPuts.{entry_close}
@@ -61,36 +61,36 @@ module _ (laws : Laws) (texts : List ℕ) (x : Picture) (t : ℕ) (is_class : Is
   abbrev n : ℕ
   n = slots c
 
-  dict_says : (pairs : DictContent) (kept : Kept) → kept.content ≡ content.Dict pairs → Stands texts x kept → IsDictWords texts x.block (0 ∷ 0 ∷ x.table) (Some c) kept.table.fill pairs
+  dict_says : (pairs : DictContent) (kept : ContainerState) → kept.content ≡ content.Dict pairs → Stands texts x kept → IsDictWords texts x.block (0 ∷ 0 ∷ x.table) (Some c) kept.table.fill pairs
   dict_says pairs kept is stands =
       let here : Stands texts x (record { content = content.Dict pairs; table = kept.table }) = subst (λ (z : Content). Stands texts x (record { content = z; table = kept.table })) is stands in
       subst (λ (z : Option ℕ). IsDictWords texts x.block (0 ∷ 0 ∷ x.table) z kept.table.fill pairs) (class_known texts x kept t stands names) here
 
-  pub set_says : (elements : SetContent) (kept : Kept) → kept.content ≡ content.Set elements → Stands texts x kept → IsSetWords texts x.block (0 ∷ 0 ∷ x.table) (Some c) kept.table.fill elements
+  pub set_says : (elements : SetContent) (kept : ContainerState) → kept.content ≡ content.Set elements → Stands texts x kept → IsSetWords texts x.block (0 ∷ 0 ∷ x.table) (Some c) kept.table.fill elements
   set_says elements kept is stands =
       let here : Stands texts x (record { content = content.Set elements; table = kept.table }) = subst (λ (z : Content). Stands texts x (record { content = z; table = kept.table })) is stands in
       subst (λ (z : Option ℕ). IsSetWords texts x.block (0 ∷ 0 ∷ x.table) z kept.table.fill elements) (class_known texts x kept t stands names) here
 
   -- a live entry says what there is
-  right_of : (d : Content) (kept : Kept) → kept.content ≡ d → IsKeyed (kind_of d) → Stands texts x kept → (p : ℕ) (key : Key) → p < rows (kind_of d) c → IsLive n x.table p key → under d key ≡ said_of n x.table p
+  right_of : (d : Content) (kept : ContainerState) → kept.content ≡ d → IsKeyed (kind_of d) → Stands texts x kept → (p : ℕ) (key : Key) → p < rows (kind_of d) c → IsLive n x.table p key → under d key ≡ said_of n x.table p
   right_of (content.Dict pairs) kept is keyed stands p key low live = dict.dict_right laws.pairs texts x.block c kept.table.fill is_class pairs x.table (dict_says pairs kept is stands) p key low live
   right_of (content.Set elements) kept is keyed stands p key low live = set.set_right laws.elements texts x.block c kept.table.fill is_class elements x.table (set_says elements kept is stands) p key low live
   right_of (content.List values) kept is keyed stands p key low live = absurd keyed
 
   -- what may be committed that leaves this
-  pub clear_of : (d : Content) (kept : Kept) → kept.content ≡ d → IsKeyed (kind_of d) → Stands texts x kept → (before : Content) → ((p : ℕ) (key : Key) → p < rows (kind_of d) c → entry_of n x.table p 0 % 2 ≡ 0 → IsLive n x.table p key → under d key ≡ under before key) → ClearAs (kind_of d) texts c x.table before d
+  pub clear_of : (d : Content) (kept : ContainerState) → kept.content ≡ d → IsKeyed (kind_of d) → Stands texts x kept → (before : Content) → ((p : ℕ) (key : Key) → p < rows (kind_of d) c → entry_of n x.table p 0 % 2 ≡ 0 → IsLive n x.table p key → under d key ≡ under before key) → ClearAs (kind_of d) texts c x.table before d
   clear_of (content.Dict pairs) kept is keyed stands before same = record { keeps = λ p key low even live. same p key low even live; adds = λ key fits none some. dict.dict_reached laws.pairs texts x.block c kept.table.fill is_class pairs x.table (dict_says pairs kept is stands) key fits some }
   clear_of (content.Set elements) kept is keyed stands before same = record { keeps = λ p key low even live. same p key low even live; adds = λ key fits none some. set.set_reached laws.elements texts x.block c kept.table.fill is_class elements x.table (set_says elements kept is stands) key fits some }
   clear_of (content.List values) kept is keyed stands before same = absurd keyed
 
   -- a version may be made even
-  close_of : (d : Content) (kept : Kept) → kept.content ≡ d → IsKeyed (kind_of d) → Stands texts x kept → (p : ℕ) → p < rows (kind_of d) c → entry_of n x.table p 0 % 2 ≡ 1 → ((key : Key) → IsDead n x.table p key → under d key ≡ []) → CarefulAs (kind_of d) c x.table d (entry_at n p 0) (entry_of n x.table p 0 + 1)
+  close_of : (d : Content) (kept : ContainerState) → kept.content ≡ d → IsKeyed (kind_of d) → Stands texts x kept → (p : ℕ) → p < rows (kind_of d) c → entry_of n x.table p 0 % 2 ≡ 1 → ((key : Key) → IsDead n x.table p key → under d key ≡ []) → CarefulAs (kind_of d) c x.table d (entry_at n p 0) (entry_of n x.table p 0 + 1)
   close_of (content.Dict pairs) kept is keyed stands p low odd gone = entry_close n (places c) x.table (under (content.Dict pairs)) p (entry_of n x.table p 0 + 1) refl (omega (arith, odd)) (λ key live. right_of (content.Dict pairs) kept is keyed stands p key low live) gone
   close_of (content.Set elements) kept is keyed stands p low odd gone = entry_close n (set_entries c) x.table (under (content.Set elements)) p (entry_of n x.table p 0 + 1) refl (omega (arith, odd)) (λ key live. right_of (content.Set elements) kept is keyed stands p key low live) gone
   close_of (content.List values) kept is keyed stands p low odd gone = absurd keyed
 
   -- a version that is put into an entry changes nothing
-  version_put : dict.EntryVersionsChangeNothing → (d : Content) (kept : Kept) → kept.content ≡ d → IsKeyed (kind_of d) → Stands texts x kept → (p y : ℕ) → Stands texts (with_table x (entry_at n p 0) y) kept
+  version_put : dict.EntryVersionsChangeNothing → (d : Content) (kept : ContainerState) → kept.content ≡ d → IsKeyed (kind_of d) → Stands texts x kept → (p y : ℕ) → Stands texts (with_table x (entry_at n p 0) y) kept
   unfolding slots
   version_put versions (content.Dict pairs) kept is keyed stands p y =
       let says = dict_says pairs kept is stands in
@@ -140,7 +140,7 @@ module _ (t m : ℕ) (x : Picture) (p : ℕ) (low : entry_at (slots (class_of t)
   was_odd : (q : ℕ) → version_of t (raised_at t p x) q % 2 ≡ 1 → version_of t x q % 2 ≡ 1
   was_odd q now = let e = raised_else t x p q 0 (omega arith) (inl (still_odd q now)) in omega (arith, e, now)
 
-  pub raised_dead : (kept : Kept) → NoneDead t m x kept → NoneDead t m (raised_at t p x) kept
+  pub raised_dead : (kept : ContainerState) → NoneDead t m x kept → NoneDead t m (raised_at t p x) kept
   raised_dead kept none q key less now dead =
       none q key less (was_odd q now)
       (sym (raised_else t x p q 2 (omega arith) (inr (omega arith))) ∙ dead.0, sym (raised_else t x p q 3 (omega arith) (inr (omega arith))) ∙ dead.1)
@@ -176,8 +176,8 @@ module _ (k : Shape) (o : ℕ) (table : Table) (from fill : ℕ) (v w : View) (o
   closing_loaded = record {
     writes = writes_on k o table v w (loaded_put v w o only) (ap root_in (loaded_held v w o only)) closing.writes;
     late = only.work.committed o ∙ closing.late;
-    stands = subst (λ (y : Picture × Kept). Stands k.texts y.0 y.1) (λ d. (held_back d, sym (work_knows v w o only.work) d)) closing.stands;
-    gone = subst (λ (y : Picture × Kept). NoneDead lt lm y.0 y.1) (λ d. (held_back d, sym (work_knows v w o only.work) d)) closing.gone;
+    stands = subst (λ (y : Picture × ContainerState). Stands k.texts y.0 y.1) (λ d. (held_back d, sym (work_knows v w o only.work) d)) closing.stands;
+    gone = subst (λ (y : Picture × ContainerState). NoneDead lt lm y.0 y.1) (λ d. (held_back d, sym (work_knows v w o only.work) d)) closing.gone;
     opened = subst (λ (y : Picture). (p : ℕ) → p < lm → version_of lt y p % 2 ≡ 1 → p < fill) held_back closing.opened;
     shut = subst (λ (y : Picture). (p : ℕ) → p < lm → p < from → version_of lt y p % 2 ≡ 0) held_back closing.shut;
   }
@@ -224,8 +224,8 @@ module _ (laws : Laws) (k : Shape) (o : ℕ) (table : Table) (place fill : ℕ) 
       record {
         writes = writes_on k o table v z only (ap root_in held_is) closing.writes;
         late = only.work.committed o ∙ closing.late;
-        stands = subst (λ (y : Picture × Kept). Stands k.texts y.0 y.1) (λ d. (back d, knows d)) (version_put laws k.texts (held o v) ct class_is closing.writes.root versions (known o v).content (known o v) refl is_keyed closing.stands place (entry_of cn (held o v).table place 0 + 1));
-        gone = subst (λ (y : Picture × Kept). NoneDead ct cm y.0 y.1) (λ d. (back d, knows d)) (raised_dead ct cm (held o v) place inside odd (known o v) closing.gone);
+        stands = subst (λ (y : Picture × ContainerState). Stands k.texts y.0 y.1) (λ d. (back d, knows d)) (version_put laws k.texts (held o v) ct class_is closing.writes.root versions (known o v).content (known o v) refl is_keyed closing.stands place (entry_of cn (held o v).table place 0 + 1));
+        gone = subst (λ (y : Picture × ContainerState). NoneDead ct cm y.0 y.1) (λ d. (back d, knows d)) (raised_dead ct cm (held o v) place inside odd (known o v) closing.gone);
         opened = subst (λ (y : Picture). (p : ℕ) → p < cm → version_of ct y p % 2 ≡ 1 → p < fill) back (raised_opened ct cm (held o v) place inside odd fill closing.opened);
         shut = subst (λ (y : Picture). (p : ℕ) → p < cm → p < place + 1 → version_of ct y p % 2 ≡ 0) back (raised_shut ct cm (held o v) place inside odd closing.shut);
       }
@@ -272,8 +272,8 @@ module _ (k : Shape) (o : ℕ) (table : Table) (fill : ℕ) (called : Call) (sai
           root = ap (λ (z : View). root_in (held o z)) is ∙ b.writes.root;
         };
         late = ap (λ (z : View). has_committed o z.log) is;
-        stands = subst (λ (y : Picture × Kept). Stands k.texts y.0 y.1) (λ d. (held_then d, known_then d)) b.stands;
-        gone = subst (λ (y : Picture × Kept). NoneDead ft fm y.0 y.1) (λ d. (held_then d, known_then d)) b.gone;
+        stands = subst (λ (y : Picture × ContainerState). Stands k.texts y.0 y.1) (λ d. (held_then d, known_then d)) b.stands;
+        gone = subst (λ (y : Picture × ContainerState). NoneDead ft fm y.0 y.1) (λ d. (held_then d, known_then d)) b.gone;
         opened = subst (λ (y : Picture × ℕ). (p : ℕ) → p < fm → version_of ft y.0 p % 2 ≡ 1 → p < y.1) (λ d. (held_then d, m.used d)) b.opened;
         shut = λ p less none. absurd (omega (arith, none));
       }

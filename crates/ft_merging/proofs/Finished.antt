@@ -30,7 +30,7 @@ use Rattle.ft_trace.specs.Kinds.{ClearAs, rows, under, version_at}
 use Rattle.ft_trace.specs.Openings.{Shut}
 use Rattle.ft_trace.specs.Traces.{Possible}
 use Rattle.ft_trace.specs.Words.{Picture, root_in, Stands}
-use Rattle.ft_trace.specs.Worlds.{Kept, kind_in}
+use Rattle.ft_trace.specs.Worlds.{ContainerState, kind_in}
 use Rattle.ft_trace.proofs.Cases.{hit}
 use Rattle.ft_trace.proofs.FitCalls.{set_fits_words}
 use Rattle.ft_trace.proofs.Known.{class_known}
@@ -48,7 +48,7 @@ use Rattle.ft_search.proofs.Changing.{shut_known}
 use Rattle.ft_search.proofs.Endings.{leaves_later, may_commit, writes_begun}
 use Rattle.ft_search.proofs.Holding.{set_known}
 use Rattle.ft_search.proofs.Puts.{table_class}
-use Rattle.ft_merging.specs.Thinning.{stays, thinned, thinned_kept}
+use Rattle.ft_merging.specs.Thinning.{stays, thinned, thinned_state}
 use Rattle.ft_merging.specs.Internal.Thinning.{IsThinned, spared}
 use Rattle.ft_merging.specs.Internal.Writing.{IsMidway, MayFinishAll, version_of}
 use Rattle.ft_merging.proofs.Ending.{Laws, clear_of}
@@ -86,7 +86,7 @@ other_stays k s t v w shape only ne may =
       keyed = may.keyed;
       locked = only.work.pass.locks t ∙ may.locked;
       even = only.work.pass.writes t ∙ may.even;
-      stands = subst (λ (z : Picture × Kept). Stands k.texts z.0 z.1) (λ d. (same d, knows d)) may.stands;
+      stands = subst (λ (z : Picture × ContainerState). Stands k.texts z.0 z.1) (λ d. (same d, knows d)) may.stands;
       owes = only.work.owes ∙ may.owes;
       left = subst (λ (z : ℕ). 0 < z) (sym only.work.left) may.left;
     }
@@ -163,7 +163,7 @@ module _ (k : Shape) (s : ℕ) (table : Table) (kept : Bool) (others : SetConten
       absurd (omega (arith, none, word, kind, some))
 
   -- what it has once those are out that don't stay
-  abbrev pub thinned_to : Kept
+  abbrev pub thinned_to : ContainerState
   thinned_to = record { content = content.Set (thinned kept others first); table = (known s v).table }
 
   -- before the first deletion
@@ -174,11 +174,11 @@ module _ (k : Shape) (s : ℕ) (table : Table) (kept : Bool) (others : SetConten
       writes = writes_begun k s table v u f begun may has;
       early = ap (λ (z : View). has_committed s z.log) begun ∙ hit s false (has_committed s v.log);
       stands = subst (λ (z : Picture). Stands k.texts z (record { content = content.Set first; table = (known s v).table })) held_back first_stands;
-      same = λ p key less even live. ap (λ (z : Content). under z key) (sym first_known ∙ ap (λ (z : Kept). z.content) known_back);
+      same = λ p key less even live. ap (λ (z : Content). under z key) (sym first_known ∙ ap (λ (z : ContainerState). z.content) known_back);
       gone = subst (λ (z : Picture). (p : ℕ) (key : Key) → p < rows (kind_in k.kinds s) (class_of t) → version_of t z p % 2 ≡ 1 → IsDead (slots (class_of t)) z.table p key → under (content.Set first) key ≡ []) held_back (λ p key less odd dead. let e = evens p less in absurd (omega (arith, e, odd)));
       opened = subst (λ (z : Picture). (p : ℕ) → p < rows (kind_in k.kinds s) (class_of t) → version_of t z p % 2 ≡ 1 → p < (known s v).table.fill) held_back (λ p less odd. let e = evens p less in absurd (omega (arith, e, odd)));
     };
-    first_is = ap (λ (z : Kept). z.content) (sym known_back) ∙ first_known;
+    first_is = ap (λ (z : ContainerState). z.content) (sym known_back) ∙ first_known;
     fits = set_fits_words k.texts (held s v).block (0 ∷ 0 ∷ (held s v).table) (class_of t) (known s v).table.fill first first_says;
     comes = ap (λ (es : List Element). content.Set (record { next = first.next; elements = es })) (spared_own kept others first first.elements (λ key there. there));
     even = subst (λ (z : Picture). (p : ℕ) → p < rows (kind_in k.kinds s) (class_of t) → 0 ≤ p → p < (known s v).table.fill → version_of t z p % 2 ≡ 0) held_back (λ p less up low. evens p less);
@@ -189,7 +189,7 @@ module _ (k : Shape) (s : ℕ) (table : Table) (kept : Bool) (others : SetConten
 
   -- after the last one
   module _ (laws : Laws) (w : View) (only : OnlyPut s u w) (last : ℕ) (left : SetContent) (table_left : TableUse) (th : IsThinned k s table kept others first (record { content = content.Set left; table = table_left }) last last w) (called : Call) (said : Reply) (leaves : Leaves s called said (record { content = content.Set left; table = table_left }) v) where
-    abbrev after : Kept
+    abbrev after : ContainerState
     after = record { content = content.Set left; table = table_left }
 
     known_now : known s w ≡ known s v
@@ -201,7 +201,7 @@ module _ (k : Shape) (s : ℕ) (table : Table) (kept : Bool) (others : SetConten
     here : ClearAs kind.Set k.texts (class_of t) (held s w).table (known s v).content (content.Set left)
     here =
         clear_of laws k.texts (held s w) t (table_class k table has.table_in) midway.writes.root (content.Set left) after refl tt midway.stands (known s v).content
-        (λ p key low even live. midway.same p key (subst (λ (z : Kind). p < rows z (class_of t)) (sym is) low) even live ∙ ap (λ (z : Kept). under z.content key) known_now)
+        (λ p key low even live. midway.same p key (subst (λ (z : Kind). p < rows z (class_of t)) (sym is) low) even live ∙ ap (λ (z : ContainerState). under z.content key) known_now)
 
     clears : (q : ℕ) → root_in (held s w) ≡ suc q → ClearAs (kind_in v.shape.kinds s) v.shape.texts (class_of q) (held s w).table (known s v).content after.content
     clears q names =
@@ -224,7 +224,7 @@ module _ (k : Shape) (s : ℕ) (table : Table) (kept : Bool) (others : SetConten
 -- ---- a set that has none
 
 -- it has no elements
-pub none_thinned : (k : Shape) (v : View) (s : ℕ) (kept : Bool) (others : Kept) → v.shape ≡ k → ∥ Possible v ∥₁ → MayWriteEntries k s v → kind_in k.kinds s ≡ kind.Set → root_in (held s v) ≡ 0 → thinned_kept kept others (known s v) ≡ known s v
+pub none_thinned : (k : Shape) (v : View) (s : ℕ) (kept : Bool) (others : ContainerState) → v.shape ≡ k → ∥ Possible v ∥₁ → MayWriteEntries k s v → kind_in k.kinds s ≡ kind.Set → root_in (held s v) ≡ 0 → thinned_state kept others (known s v) ≡ known s v
 none_thinned k v s kept others shape possible may is bare =
     let set_is = is_set k v s shape possible may.locked is in
     let first = set_of (known s v).content in
@@ -257,7 +257,7 @@ module _ (v u : View) (l : OnlyLoaded v u) where
   }
 
   -- a call leaves the same
-  pub leaves_loaded : (o : ℕ) (called : Call) (said : Reply) (left : Kept) → Leaves o called said left v → Leaves o called said left u
+  pub leaves_loaded : (o : ℕ) (called : Call) (said : Reply) (left : ContainerState) → Leaves o called said left v → Leaves o called said left u
   leaves_loaded o called said left x = record {
     write = x.write;
     changed = x.changed;

@@ -24,7 +24,7 @@ use Rattle.ft_trace.specs.Carefuls.{IsLive}
 use Rattle.ft_trace.specs.Holds.{held, known}
 use Rattle.ft_trace.specs.Kinds.{ClearAs, IsKeyed, rows, under}
 use Rattle.ft_trace.specs.Words.{Picture, root_in}
-use Rattle.ft_trace.specs.Worlds.{Kept, changes, kept_at, kind_in, reply_in}
+use Rattle.ft_trace.specs.Worlds.{ContainerState, changes, state_at, kind_in, reply_in}
 use Rattle.ft_trace.specs.Writes.{MayPuts, with_puts}
 use Rattle.ft_bank.specs.declared.table.Table.{Table}
 use Rattle.ft_bank.specs.Tables.{name_of}
@@ -43,7 +43,7 @@ use Rattle.ft_adding.specs.Placing.{StoresAs, with_entry, with_key}
 use Rattle.ft_adding.proofs.Finishing.{Since, has_since}
 use Rattle.ft_adding.proofs.Placed.{PlaceLaws, pair_for, use_with}
 use Rattle.ft_adding.proofs.Wanted.{most_few}
-use Rattle.ft_merging.specs.Joining.{JoinsKeys, joined, joined_kept, new_keys}
+use Rattle.ft_merging.specs.Joining.{JoinsKeys, joined, joined_state, new_keys}
 use Rattle.ft_merging.specs.Internal.Joining.{AreLeft, IsJoining, NoneAhead, NoneGone, NoneOf, lacking, stored_puts}
 use Rattle.ft_merging.specs.Internal.Writing.{IsMidway, MayFinishAll, version_of}
 use Rattle.ft_merging.proofs.Ending.{Laws, clear_of, parity}
@@ -69,7 +69,7 @@ joining_loaded k o by own t table goal end place counts v w only j =
       alive = subst (λ (x : Picture). NoneGone (name_of own) (rows (kind_in k.kinds o) (class_of (name_of own))) x) mine j.alive;
       room = j.room;
       used = j.used;
-      filled = j.filled ∙ ap (λ (z : Kept). z.table.fill) (sym (work_knows v w t only.work));
+      filled = j.filled ∙ ap (λ (z : ContainerState). z.table.fill) (sym (work_knows v w t only.work));
       source = subst (λ (x : Picture). IsTableOf by k.texts (class_mask (class_of (name_of table))) j.used (0 ∷ 0 ∷ x.table)) other j.source;
       left = j.left;
       ahead = subst (λ (x : Picture). NoneAhead (name_of own) (rows (kind_in k.kinds o) (class_of (name_of own))) x (drop place j.used)) mine j.ahead;
@@ -162,7 +162,7 @@ module _ (k : Shape) (o : ℕ) (by : Way) (own : Table) (t : ℕ) (table : Table
             alive = put.alive;
             room = j.room;
             used = j.used;
-            filled = j.filled ∙ ap (λ (y : Kept). y.table.fill) (sym (work_knows v z t only.work));
+            filled = j.filled ∙ ap (λ (y : ContainerState). y.table.fill) (sym (work_knows v z t only.work));
             source = subst (λ (x : Picture). IsTableOf by k.texts (class_mask (class_of (name_of table))) j.used (0 ∷ 0 ∷ x.table)) (sym other) j.source;
             left = left_there (kind_by by) j.mid goal j.same_kind counts.fill end key e.serial later stored (step key (Some stored) same is) there;
             ahead = ahead_there k o own (with_key j.mid key stored) counts.fill at v z put key fits live later ahead_later none_later;
@@ -200,7 +200,7 @@ module _ (k : Shape) (o : ℕ) (by : Way) (own : Table) (t : ℕ) (table : Table
               alive = alive_put laws k o by own j.mid counts v j.midway j.same_kind j.kind_is j.count_is j.alive slot key stored fits hash stores ok absent free room_by z only words writes;
               room = j.room;
               used = j.used;
-              filled = j.filled ∙ ap (λ (y : Kept). y.table.fill) (sym (work_knows v z t only.work));
+              filled = j.filled ∙ ap (λ (y : ContainerState). y.table.fill) (sym (work_knows v z t only.work));
               source = subst (λ (x : Picture). IsTableOf by k.texts (class_mask (class_of (name_of table))) j.used (0 ∷ 0 ∷ x.table)) (sym other) j.source;
               left = next.0;
               ahead = ahead_put laws k o by own j.mid counts v j.midway j.same_kind j.kind_is j.count_is j.alive slot key stored fits hash stores ok absent free room_by z only words writes later ahead_later none_later;
@@ -258,15 +258,15 @@ joining_begins k o by own t table d counts more u midway same_kind kind_eq count
 -- ---- after the last one
 
 module _ (laws : Laws) (k : Shape) (o : ℕ) (by : Way) (own : Table) (t : ℕ) (table : Table) (end fill : ℕ) (counts : Counts) (v u : View) (since : Since o v u) (shape : v.shape ≡ k) (low : o < containers_in k) (some : 0 < v.left) (called : Call) (joins : JoinsKeys o t called v) (cap : passes_cap (joined (known o v).content (known t v).content) ≡ false)
-    (takes : (found : StoredWorld) (class : ℕ) → MayHave v found → owes v.log ≡ suc class → takes_in found called ≡ Some class) (left_table : (joined_kept (known o v) (known t v).content).table ≡ use_with (class_of (name_of own)) end) (j : IsJoining k o by own t table (joined (known o v).content (known t v).content) end fill counts u) (all : fill ≡ (known t u).table.fill) where
+    (takes : (found : StoredWorld) (class : ℕ) → MayHave v found → owes v.log ≡ suc class → takes_in found called ≡ Some class) (left_table : (joined_state (known o v) (known t v).content).table ≡ use_with (class_of (name_of own)) end) (j : IsJoining k o by own t table (joined (known o v).content (known t v).content) end fill counts u) (all : fill ≡ (known t u).table.fill) where
   abbrev c : ℕ
   c = class_of (name_of own)
 
   abbrev goal : Content
   goal = joined (known o v).content (known t v).content
 
-  abbrev left : Kept
-  left = joined_kept (known o v) (known t v).content
+  abbrev left : ContainerState
+  left = joined_state (known o v) (known t v).content
 
   none_left : drop fill j.used ≡ []
   none_left = drop_all fill j.used (let f = j.filled in omega (arith, f, all))
@@ -279,7 +279,7 @@ module _ (laws : Laws) (k : Shape) (o : ℕ) (by : Way) (own : Table) (t : ℕ) 
       let comes = at_end.comes in
       let fits = at_end.fits in
       let f : counts.fill ≡ end = omega (arith, fits) in
-      subst (λ (z : Kept). IsMidway k o own z u) ((λ i. record { content = comes i; table = use_with c (f i) }) ∙ (λ i. record { content = goal; table = sym left_table i })) j.midway
+      subst (λ (z : ContainerState). IsMidway k o own z u) ((λ i. record { content = comes i; table = use_with c (f i) }) ∙ (λ i. record { content = goal; table = sym left_table i })) j.midway
 
   kind_goal : kind_of goal ≡ kind_by by
   kind_goal = ap kind_of (sym at_end.comes) ∙ j.same_kind
@@ -290,20 +290,20 @@ module _ (laws : Laws) (k : Shape) (o : ℕ) (by : Way) (own : Table) (t : ℕ) 
   texts_u : k.texts ≡ u.shape.texts
   texts_u = sym (ap (λ (z : Shape). z.texts) (since.shape ∙ shape))
 
-  left_since : (found : StoredWorld) → MayHave u found → kept_at (after_stored found called) o ≡ left
+  left_since : (found : StoredWorld) → MayHave u found → state_at (after_stored found called) o ≡ left
   left_since found has = joins.left_is found (has_since o v u since found has)
 
   here : ClearAs (kind_of goal) k.texts c (held o u).table (known o v).content goal
   here =
       clear_of laws k.texts (held o u) (name_of own) (table_class k own midway.writes.table_in) midway.writes.root goal left refl (subst IsKeyed (sym (kind_goal ∙ sym j.kind_is)) midway.writes.keyed) midway.stands (known o v).content
-      (λ p key less even live. midway.same p key (subst (λ (z : Kind). p < rows z c) (kind_goal ∙ sym j.kind_is) less) even live ∙ ap (λ (z : Kept). under z.content key) (since.knows o))
+      (λ p key less even live. midway.same p key (subst (λ (z : Kind). p < rows z c) (kind_goal ∙ sym j.kind_is) less) even live ∙ ap (λ (z : ContainerState). under z.content key) (since.knows o))
 
-  clears : (found : StoredWorld) (q : ℕ) → MayHave u found → root_in (held o u) ≡ suc q → ClearAs (kind_in u.shape.kinds o) u.shape.texts (class_of q) (held o u).table (known o u).content (kept_at (after_stored found called) o).content
+  clears : (found : StoredWorld) (q : ℕ) → MayHave u found → root_in (held o u) ≡ suc q → ClearAs (kind_in u.shape.kinds o) u.shape.texts (class_of q) (held o u).table (known o u).content (state_at (after_stored found called) o).content
   clears found q has names =
       let same : name_of own ≡ q = let e : suc (name_of own) ≡ suc q = sym midway.writes.root ∙ names in omega (arith, e) in
       let l = left_since found has in
-      subst (λ (n : ℕ). ClearAs (kind_in u.shape.kinds o) u.shape.texts (class_of n) (held o u).table (known o u).content (kept_at (after_stored found called) o).content) same
-      (subst (λ (z : Kind × List ℕ × Kept × Kept). ClearAs z.0 z.1 c (held o u).table z.2.content z.3.content) (λ d. (kind_u d, texts_u d, sym (since.knows o) d, sym l d)) here)
+      subst (λ (n : ℕ). ClearAs (kind_in u.shape.kinds o) u.shape.texts (class_of n) (held o u).table (known o u).content (state_at (after_stored found called) o).content) same
+      (subst (λ (z : Kind × List ℕ × ContainerState × ContainerState). ClearAs z.0 z.1 c (held o u).table z.2.content z.3.content) (λ d. (kind_u d, texts_u d, sym (since.knows o) d, sym l d)) here)
 
   commits : MayCommit u called reply.Done
   commits =
@@ -317,7 +317,7 @@ module _ (laws : Laws) (k : Shape) (o : ℕ) (by : Way) (own : Table) (t : ℕ) 
         reply_is = λ found has. plain_replied called reply.Done (reply_in found called) joins.write (joins.replied found (has_since o v u since found has));
         declared = λ found has. joins.declared found (has_since o v u since found has);
         fits = λ found has. joins.over found (has_since o v u since found has) ∙ cap;
-        clear = subst (λ (n : ℕ). (found : StoredWorld) (q : ℕ) → MayHave u found → root_in (held n u) ≡ suc q → ClearAs (kind_in u.shape.kinds n) u.shape.texts (class_of q) (held n u).table (known n u).content (kept_at (after_stored found called) n).content) name clears;
+        clear = subst (λ (n : ℕ). (found : StoredWorld) (q : ℕ) → MayHave u found → root_in (held n u) ≡ suc q → ClearAs (kind_in u.shape.kinds n) u.shape.texts (class_of q) (held n u).table (known n u).content (state_at (after_stored found called) n).content) name clears;
         takes = λ found class has owed. takes found class (has_since o v u since found has) (sym since.owes ∙ owed);
         empties = λ e. absurd (true≢false (sym e ∙ subst (λ (n : ℕ). has_emptied n u.log ≡ false) name since.emptied));
         locks = λ p e. since.locks p ∙ joins.locks p e;

@@ -14,7 +14,7 @@ use Rattle.ft_trace.specs.Addresses.{class_of}
 use Rattle.ft_trace.specs.Holds.{held, known}
 use Rattle.ft_trace.specs.Kinds.{IsKeyed, rows}
 use Rattle.ft_trace.specs.Words.{root_in}
-use Rattle.ft_trace.specs.Worlds.{Kept, changes}
+use Rattle.ft_trace.specs.Worlds.{ContainerState, changes}
 use Rattle.ft_bank.specs.declared.table.Table.{Table}
 use Rattle.ft_bank.specs.Tables.{name_of, IsTableIn}
 use Rattle.ft_bank.specs.Whole.{OnlyLoaded, Wrote}
@@ -29,7 +29,7 @@ use Rattle.ft_search.specs.Rounds.{kind_by}
 use Rattle.ft_search.specs.Writing.{Leaves}
 use Rattle.ft_search.proofs.Puts.{few_places}
 use Rattle.ft_adding.specs.Growing.{most_of}
-use Rattle.ft_merging.specs.Joining.{JoinsBy, JoinsKeys, join_takes, joined, joined_kept, new_keys}
+use Rattle.ft_merging.specs.Joining.{JoinsBy, JoinsKeys, join_takes, joined, joined_state, new_keys}
 use Rattle.ft_merging.proofs.Joined.{cap_few, joined_more}
 use Rattle.ft_merging.proofs.JoinedReads.{Source}
 use Rattle.ft_merging.proofs.JoinedRoom.{cap_is, most_joined, same_kept, taken_room}
@@ -46,7 +46,7 @@ joins_later o t called v u has locks mine other joins = record {
   lacks = λ found h. joins.lacks found (has found h);
   over = λ found h. joins.over found (has found h) ∙ (λ i. passes_cap (joined (sym mine i).content (sym other i).content));
   takes = λ found h. joins.takes found (has found h) ∙ (λ i. join_takes (sym mine i) (sym other i).content);
-  left_is = λ found h. joins.left_is found (has found h) ∙ (λ i. joined_kept (sym mine i) (sym other i).content);
+  left_is = λ found h. joins.left_is found (has found h) ∙ (λ i. joined_state (sym mine i) (sym other i).content);
 }
 
 -- where nothing is new it leaves what there was
@@ -86,11 +86,11 @@ pub joins_by : (k : Shape) (o t : ℕ) (called : Call) (v u w : View) (what : Ad
 joins_by k o t called v u w what only is =
     let mine = work_knows v u o only.work in
     let other = work_knows v u t only.work in
-    (u, only, subst (λ (z : Kept × Kept). IsAdded k (join_takes z.0 z.1.content) (passes_cap (joined z.0.content z.1.content)) called reply.Done u w what) (λ i. (mine i, other i)) is)
+    (u, only, subst (λ (z : ContainerState × ContainerState). IsAdded k (join_takes z.0 z.1.content) (passes_cap (joined z.0.content z.1.content)) called reply.Done u w what) (λ i. (mine i, other i)) is)
 
 pub joins_then : (k : Shape) (o t : ℕ) (called : Call) (v u w : View) (what : Added) → OnlyLoaded v u → JoinsBy k o t called u w what → JoinsBy k o t called v w what
 joins_then k o t called v u w what only is = joins_by k o t called v is.0 w what (loaded_then v u is.0 only is.1)
-    (subst (λ (z : Kept × Kept). IsAdded k (join_takes z.0 z.1.content) (passes_cap (joined z.0.content z.1.content)) called reply.Done is.0 w what) (λ i. (sym (work_knows u is.0 o is.1.work) i, sym (work_knows u is.0 t is.1.work) i)) is.2)
+    (subst (λ (z : ContainerState × ContainerState). IsAdded k (join_takes z.0 z.1.content) (passes_cap (joined z.0.content z.1.content)) called reply.Done is.0 w what) (λ i. (sym (work_knows u is.0 o is.1.work) i, sym (work_knows u is.0 t is.1.work) i)) is.2)
 
 -- it leaves the cursors of its pass
 pub joins_cursors : (k : Shape) (o t : ℕ) (called : Call) (v w : View) (what : Added) → JoinsBy k o t called v w what → KeepsCursors v w
@@ -123,5 +123,5 @@ pub over_joined : (d others : Content) (n : ℕ) → length_of (joined d others)
 over_joined d others n is many = cap_is (joined d others) ∙ lt-ltb (most_of (joined d others)) (length_of (joined d others)) (let m = most_joined d others in omega (arith, many, m, is))
 
 -- the table that is taken has room
-pub new_room : (k : Shape) (by : Way) (t : ℕ) (table : Table) (v : View) (s : Source k by t table v) (kept : Kept) (class : ℕ) → kind_of kept.content ≡ kind_by by → passes_cap (joined kept.content (known t v).content) ≡ false → join_takes kept (known t v).content ≡ Some class → length_of kept.content + new_keys kept.content (known t v).content ≤ rows (kind_by by) class
+pub new_room : (k : Shape) (by : Way) (t : ℕ) (table : Table) (v : View) (s : Source k by t table v) (kept : ContainerState) (class : ℕ) → kind_of kept.content ≡ kind_by by → passes_cap (joined kept.content (known t v).content) ≡ false → join_takes kept (known t v).content ≡ Some class → length_of kept.content + new_keys kept.content (known t v).content ≤ rows (kind_by by) class
 new_room k by t table v s kept class same cap takes = taken_room kept.content by kept.table class (new_keys kept.content (known t v).content) same (few_joined kept.content (known t v).content _ (many_joined k by t table v s kept.content same) cap) takes

@@ -16,7 +16,7 @@ use Rattle.ft_trace.specs.Holds.{held, in_hand, known}
 use Rattle.ft_trace.specs.Kinds.{rows, under}
 use Rattle.ft_trace.specs.Traces.{Possible}
 use Rattle.ft_trace.specs.Words.{Picture, entry_of, Stands}
-use Rattle.ft_trace.specs.Worlds.{Kept, kind_in}
+use Rattle.ft_trace.specs.Worlds.{ContainerState, kind_in}
 use Rattle.ft_trace.proofs.Cases.{hit}
 use Rattle.ft_bank.specs.declared.table.Table.{Table}
 use Rattle.ft_bank.specs.Tables.{name_of}
@@ -90,7 +90,7 @@ module _ (heads : Heads) (laws : Laws) (k : Shape) (o : ℕ) (by : Way) (old : O
     writes = writes;
     early = only.work.committed o ∙ (ap (λ (w : View). has_committed o w.log) did ∙ hit o false (has_committed o x.log));
     stands = stands;
-    same = λ p key less even live. ap (λ (w : Kept). under w.content key) (known_on o);
+    same = λ p key less even live. ap (λ (w : ContainerState). under w.content key) (known_on o);
     gone = λ p key less odd dead. absurd (alive p key less odd dead);
     opened = λ p less odd. let e = evens p less in absurd (omega (arith, e, odd));
   }
@@ -101,8 +101,8 @@ module _ (heads : Heads) (laws : Laws) (k : Shape) (o : ℕ) (by : Way) (old : O
   pub new_begins : IsJoining k o by new t table (joined (known o z).content (known t z).content) (counts.count + more) 0 all z
   new_begins =
       let source = source_known laws k t table z shape_z possible_z other_on by kind_t in
-      let goal : joined d (known t z).content ≡ joined (known o z).content (known t z).content = ap (λ (w : Kept). joined w.content (known t z).content) (known_on o) in
+      let goal : joined d (known t z).content ≡ joined (known o z).content (known t z).content = ap (λ (w : ContainerState). joined w.content (known t z).content) (known_on o) in
       subst (λ (w : Content). IsJoining k o by new t table w (counts.count + more) 0 all z) goal
       (joining_begins k o by new t table d all more z midway (kinds ∙ kind_eq) kind_eq many.0 many.1 alive evens source
-      (subst (λ (w : Kept). passes_cap (joined d w.content) ≡ false) (known_on t) cap) serials
-      (more_is ∙ ap (λ (w : Kept). new_keys d w.content) (known_on t)) room)
+      (subst (λ (w : ContainerState). passes_cap (joined d w.content) ≡ false) (known_on t) cap) serials
+      (more_is ∙ ap (λ (w : ContainerState). new_keys d w.content) (known_on t)) room)

@@ -25,7 +25,7 @@ use Rattle.ft_trace.specs.Addresses.{class_of, containers_in, slots}
 use Rattle.ft_trace.specs.Holds.{held, known}
 use Rattle.ft_trace.specs.Kinds.{rows}
 use Rattle.ft_trace.specs.Words.{Picture, entry_of, root_in, Stands}
-use Rattle.ft_trace.specs.Worlds.{Kept}
+use Rattle.ft_trace.specs.Worlds.{ContainerState}
 use Rattle.ft_trace.proofs.FitCalls.{dict_fits_words, set_fits_words}
 use Rattle.ft_trace.proofs.Known.{class_known}
 use Rattle.ft_trace.proofs.LookReplies as replies
@@ -165,7 +165,7 @@ set_source elements k t table v knows others is =
 -- ---- keys that were sought
 
 -- a key that is held is there
-pub holds_some : (k : Shape) (x : Picture) (kept : Kept) (class : ℕ) → Stands k.texts x kept → kept.table.class ≡ Some class → (key : Key) (a b : ℕ) → FitsKey key → IsHeldAt kept.content key (Some (a, b)) → holds kept.content key ≡ true
+pub holds_some : (k : Shape) (x : Picture) (kept : ContainerState) (class : ℕ) → Stands k.texts x kept → kept.table.class ≡ Some class → (key : Key) (a b : ℕ) → FitsKey key → IsHeldAt kept.content key (Some (a, b)) → holds kept.content key ≡ true
 holds_some k x kept class stands class_is key a b fits there = by kept.content (subst (λ (z : Option ℕ). StandsAs k.texts x.block (0 ∷ 0 ∷ x.table) (record { class = z; fill = kept.table.fill }) kept.content) class_is stands) there
   where
     by : (d : Content) → StandsAs k.texts x.block (0 ∷ 0 ∷ x.table) (record { class = Some class; fill = kept.table.fill }) d → IsHeldAt d key (Some (a, b)) → holds d key ≡ true

@@ -12,13 +12,13 @@ use Rattle.ft_keys.specs.declared.walk.Way.{Way}
 use Rattle.ft_keys.specs.declared.walk.Way.TheVariants as way
 use Rattle.ft_trace.specs.Addresses.{class_of, places}
 use Rattle.ft_trace.specs.Kinds.{rows}
-use Rattle.ft_trace.specs.Worlds.{Kept}
+use Rattle.ft_trace.specs.Worlds.{ContainerState}
 use Rattle.ft_bank.specs.declared.table.Table.{Table}
 use Rattle.ft_bank.specs.Tables.{name_of}
 use Rattle.ft_search.specs.Rounds.{kind_by}
 use Rattle.ft_adding.specs.Growing.{keys_take, most_of, use_of}
 use Rattle.ft_adding.proofs.Placed.{use_with}
-use Rattle.ft_merging.specs.Joining.{join_takes, joined, joined_kept, new_keys}
+use Rattle.ft_merging.specs.Joining.{join_takes, joined, joined_state, new_keys}
 
 none_if : (b : Bool) (x : ℕ) → (if b then Some x else None) ≡ None → b ≡ false
 none_if true x e = absurd (true≢false (ap is_some e))
@@ -88,23 +88,23 @@ bare_none (content.List values) way.Set fill (suc more) same none = absurd (cc)
 
 -- ---- the table that it has then
 
-pub stays_table : (kept : Kept) (others : Content) (own : Table) (fill more : ℕ) → kept.table ≡ use_of (Some own) fill → join_takes kept others ≡ None → more ≡ new_keys kept.content others → class_of (name_of own) ≡ own.class → (joined_kept kept others).table ≡ use_with (class_of (name_of own)) (fill + more)
+pub stays_table : (kept : ContainerState) (others : Content) (own : Table) (fill more : ℕ) → kept.table ≡ use_of (Some own) fill → join_takes kept others ≡ None → more ≡ new_keys kept.content others → class_of (name_of own) ≡ own.class → (joined_state kept others).table ≡ use_with (class_of (name_of own)) (fill + more)
 stays_table kept others own fill more is none more_is same =
     ap (λ (z : Option ℕ). grown_table kept.table z (new_keys kept.content others) (length_of (joined kept.content others))) none
     ∙ (λ i. record { class = (ap (λ (z : TableUse). z.class) is ∙ ap (λ (n : ℕ). Some n) (sym same)) i; fill = (is i).fill + sym more_is i })
 
-pub taken_table : (kept : Kept) (others : Content) (class count : ℕ) → join_takes kept others ≡ Some class → length_of (joined kept.content others) ≡ count → (joined_kept kept others).table ≡ use_with class count
+pub taken_table : (kept : ContainerState) (others : Content) (class count : ℕ) → join_takes kept others ≡ Some class → length_of (joined kept.content others) ≡ count → (joined_state kept others).table ≡ use_with class count
 taken_table kept others class count takes all =
     ap (λ (z : Option ℕ). grown_table kept.table z (new_keys kept.content others) (length_of (joined kept.content others))) takes ∙ (λ i. record { class = Some class; fill = all i })
 
 -- ---- where nothing is new
 
-pub same_kept : (kept : Kept) (others : Content) → joined kept.content others ≡ kept.content → (joined_kept kept others ≡ kept) × (join_takes kept others ≡ None)
+pub same_kept : (kept : ContainerState) (others : Content) → joined kept.content others ≡ kept.content → (joined_state kept others ≡ kept) × (join_takes kept others ≡ None)
 same_kept kept others same =
     let n : new_keys kept.content others ≡ 0 = let s = ap serial_of same in omega (arith, s) in
     let none : join_takes kept others ≡ None = ap (keys_take kept.content kept.table) n ∙ takes_none kept.content kept.table in
     let fill : kept.table.fill + new_keys kept.content others ≡ kept.table.fill = omega (arith, n) in
-    let table : (joined_kept kept others).table ≡ kept.table = ap (λ (z : Option ℕ). grown_table kept.table z (new_keys kept.content others) (length_of (joined kept.content others))) none ∙ (λ i. record { class = kept.table.class; fill = fill i }) in
+    let table : (joined_state kept others).table ≡ kept.table = ap (λ (z : Option ℕ). grown_table kept.table z (new_keys kept.content others) (length_of (joined kept.content others))) none ∙ (λ i. record { class = kept.table.class; fill = fill i }) in
     ((λ i. record { content = same i; table = table i }), none)
   where
     takes_none : (d : Content) (was : TableUse) → keys_take d was 0 ≡ None

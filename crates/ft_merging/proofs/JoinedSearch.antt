@@ -15,7 +15,7 @@ use Rattle.ft_keys.specs.declared.walk.Way.{Way}
 use Rattle.ft_keys.specs.declared.walk.Way.TheVariants as way
 use Rattle.ft_trace.specs.declared.Shape.{Shape}
 use Rattle.ft_trace.specs.Words.{Picture, root_in, Stands}
-use Rattle.ft_trace.specs.Worlds.{Kept}
+use Rattle.ft_trace.specs.Worlds.{ContainerState}
 use Rattle.ft_trace.proofs.DictWrites as dict
 use Rattle.ft_trace.proofs.SetKnown as set
 use Rattle.ft_trace.proofs.Known.{class_known}
@@ -39,7 +39,7 @@ of_kind way.Dict (content.List values) is = absurd (cc)
 of_kind way.Set (content.Dict pairs) is = absurd (cc)
 of_kind way.Set (content.List values) is = absurd (cc)
 
-module _ (missing_key : MissingKeys) (missing_element : MissingElements) (first_pair : dict.FirstEntriesArePairs) (first_element : set.FirstEntriesAreElements) (free : FirstFreeSlots) (k : Shape) (x : Picture) (by : Way) (table : Table) (in_bank : IsTableIn k table) (names : root_in x ≡ suc (name_of table)) (key : Key) (fits : FitsKey key) (low : hash_of k.texts key < 2 ^ 64) (left : List ℕ) (kept : Kept) (kind_eq : kind_of kept.content ≡ kind_by by) (stands : Stands k.texts x kept) where
+module _ (missing_key : MissingKeys) (missing_element : MissingElements) (first_pair : dict.FirstEntriesArePairs) (first_element : set.FirstEntriesAreElements) (free : FirstFreeSlots) (k : Shape) (x : Picture) (by : Way) (table : Table) (in_bank : IsTableIn k table) (names : root_in x ≡ suc (name_of table)) (key : Key) (fits : FitsKey key) (low : hash_of k.texts key < 2 ^ 64) (left : List ℕ) (kept : ContainerState) (kind_eq : kind_of kept.content ≡ kind_by by) (stands : Stands k.texts x kept) where
   abbrev mask : ℕ
   mask = class_mask table.class
 

@@ -14,7 +14,7 @@ use Rattle.ft_trace.specs.Holds.{held, known}
 use Rattle.ft_trace.specs.Kinds.{IsKeyed, rows, under}
 use Rattle.ft_trace.specs.Traces.{Possible}
 use Rattle.ft_trace.specs.Words.{Picture, Stands}
-use Rattle.ft_trace.specs.Worlds.{Kept, kind_in}
+use Rattle.ft_trace.specs.Worlds.{ContainerState, kind_in}
 use Rattle.ft_trace.proofs.Cases.{hit}
 use Rattle.ft_bank.specs.declared.table.Table.{Table}
 use Rattle.ft_bank.specs.Tables.{name_of, IsTableIn}
@@ -111,7 +111,7 @@ module _ (heads : Heads) (laws : Laws) (k : Shape) (o : ℕ) (by : Way) (own : T
     writes = writes_begun k o own v u f begun (may_write k o (Some own) v may) (record { table_in = table_in; root = may.keyed.root });
     early = ap (λ (z : View). has_committed o z.log) begun ∙ hit o false (has_committed o v.log);
     stands = subst (λ (x : Picture). Stands k.texts x (record { content = d; table = use_with c counts.fill })) held_back (subst (λ (z : TableUse). Stands k.texts (held o v) (record { content = d; table = z })) use_is may.keyed.stands);
-    same = λ p key less even live. ap (λ (z : Kept). under z.content key) (known_back o);
+    same = λ p key less even live. ap (λ (z : ContainerState). under z.content key) (known_back o);
     gone = λ p key less odd dead. absurd (alive p key less odd dead);
     opened = λ p less odd. let e = evens_on p less in absurd (omega (arith, e, odd));
   }
@@ -129,8 +129,8 @@ module _ (heads : Heads) (laws : Laws) (k : Shape) (o : ℕ) (by : Way) (own : T
   here_begins =
       let n = counts_known heads k o (Some own) v counts may.keyed are in
       let source = source_known laws k t table u shape_u possible_u (knows_begun k o t (Some table) v u f begun two other) by kind_t in
-      let goal : joined d (known t u).content ≡ joined (known o u).content (known t u).content = ap (λ (z : Kept). joined z.content (known t u).content) (known_back o) in
+      let goal : joined d (known t u).content ≡ joined (known o u).content (known t u).content = ap (λ (z : ContainerState). joined z.content (known t u).content) (known_back o) in
       subst (λ (z : Content). IsJoining k o by own t table z (counts.fill + more) 0 counts u) goal
       (joining_begins k o by own t table d counts more u midway (kinds ∙ kind_eq) kind_eq n.0 n.1 alive evens_on source
-      (subst (λ (z : Kept). passes_cap (joined d z.content) ≡ false) (known_back t) cap) serials
-      (more_is ∙ ap (λ (z : Kept). new_keys d z.content) (known_back t)) here_room)
+      (subst (λ (z : ContainerState). passes_cap (joined d z.content) ≡ false) (known_back t) cap) serials
+      (more_is ∙ ap (λ (z : ContainerState). new_keys d z.content) (known_back t)) here_room)

@@ -28,7 +28,7 @@ use Rattle.ft_trace.specs.Carefuls.{IsDead, IsLive, said_of}
 use Rattle.ft_trace.specs.Holds.{held, known}
 use Rattle.ft_trace.specs.Kinds.{IsKeyed, rows, under}
 use Rattle.ft_trace.specs.Words.{Picture, entry_at, entry_of, Stands}
-use Rattle.ft_trace.specs.Worlds.{Kept, kind_in}
+use Rattle.ft_trace.specs.Worlds.{ContainerState, kind_in}
 use Rattle.ft_trace.proofs.ByKind.{keyed_fit}
 use Rattle.ft_trace.proofs.DictWrites as dict
 use Rattle.ft_trace.proofs.DictWrites.{FirstEntriesArePairs}
@@ -284,7 +284,7 @@ module _ (laws : PlaceLaws) (k : Shape) (o : ℕ) (by : Way) (own : Table) (mid 
       writes = writes;
       early = only.work.committed o ∙ midway.early;
       stands = subst (λ (w : Picture). Stands k.texts w (record { content = news; table = use_with c (p + 1) })) back says_now.0;
-      same = subst (λ (w : Picture × Kept). (q : ℕ) (a : Key) → q < rows (kind_in k.kinds o) c → version_of t w.0 q % 2 ≡ 0 → IsLive n w.0.table q a → under news a ≡ under w.1.content a) (λ i. (back i, knows i)) same_now;
+      same = subst (λ (w : Picture × ContainerState). (q : ℕ) (a : Key) → q < rows (kind_in k.kinds o) c → version_of t w.0 q % 2 ≡ 0 → IsLive n w.0.table q a → under news a ≡ under w.1.content a) (λ i. (back i, knows i)) same_now;
       gone = λ q a less odd dead. absurd (alive_put q a less odd dead);
       opened = subst (λ (w : Picture). (q : ℕ) → q < rows (kind_in k.kinds o) c → version_of t w q % 2 ≡ 1 → q < p + 1) back opened_then;
     }

@@ -25,7 +25,7 @@ use Rattle.ft_trace.specs.EntryWrites.{value_puts}
 use Rattle.ft_trace.specs.Holds.{held, known}
 use Rattle.ft_trace.specs.Kinds.{rows, under}
 use Rattle.ft_trace.specs.Words.{Picture, entry_of, Stands}
-use Rattle.ft_trace.specs.Worlds.{Kept, kind_in}
+use Rattle.ft_trace.specs.Worlds.{ContainerState, kind_in}
 use Rattle.ft_trace.specs.Writes.{MayPuts, with_puts}
 use Rattle.ft_trace.proofs.DictWrites as dict
 use Rattle.ft_trace.proofs.EntryPuts.{key3, other3, ver3}
@@ -177,7 +177,7 @@ module _ (laws : ValueLaws) (k : Shape) (o : ℕ) (own : Table) (pairs : DictCon
           writes = writes;
           early = only.work.committed o ∙ midway.early;
           stands = subst (λ (w : Picture). Stands k.texts w (record { content = content.Dict news; table = use_with c fill })) back says_now;
-          same = subst (λ (w : Picture × Kept). (q : ℕ) (a : Key) → q < m → version_of t w.0 q % 2 ≡ 0 → IsLive n w.0.table q a → will a ≡ under w.1.content a) (λ i. (back i, knows i)) same_now;
+          same = subst (λ (w : Picture × ContainerState). (q : ℕ) (a : Key) → q < m → version_of t w.0 q % 2 ≡ 0 → IsLive n w.0.table q a → will a ≡ under w.1.content a) (λ i. (back i, knows i)) same_now;
           gone = λ q a less odd dead. absurd (gone q a less odd dead);
           opened = subst (λ (w : Picture). (q : ℕ) → q < m → version_of t w q % 2 ≡ 1 → q < fill) back opened_now;
         };
@@ -211,7 +211,7 @@ module _ (laws : ValueLaws) (k : Shape) (o : ℕ) (own : Table) (fill : ℕ) (v 
           writes = writes;
           early = only.work.committed o ∙ midway.early;
           stands = subst (λ (w : Picture). Stands k.texts w (record { content = content.Set elements; table = use_with (class_of (name_of own)) fill })) back midway.stands;
-          same = subst (λ (w : Picture × Kept). (q : ℕ) (a : Key) → q < rows (kind_in k.kinds o) (class_of (name_of own)) → version_of (name_of own) w.0 q % 2 ≡ 0 → IsLive (slots (class_of (name_of own))) w.0.table q a → under (content.Set elements) a ≡ under w.1.content a) (λ i. (back i, knows i)) midway.same;
+          same = subst (λ (w : Picture × ContainerState). (q : ℕ) (a : Key) → q < rows (kind_in k.kinds o) (class_of (name_of own)) → version_of (name_of own) w.0 q % 2 ≡ 0 → IsLive (slots (class_of (name_of own))) w.0.table q a → under (content.Set elements) a ≡ under w.1.content a) (λ i. (back i, knows i)) midway.same;
           gone = λ q a less odd dead. absurd (gone q a less odd dead);
           opened = subst (λ (w : Picture). (q : ℕ) → q < rows (kind_in k.kinds o) (class_of (name_of own)) → version_of (name_of own) w q % 2 ≡ 1 → q < fill) back midway.opened;
         };

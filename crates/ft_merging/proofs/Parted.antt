@@ -34,7 +34,7 @@ use Rattle.ft_trace.specs.Holds.{held, known}
 use Rattle.ft_trace.specs.Kinds.{is_key, rows, under}
 use Rattle.ft_trace.specs.Traces.{Possible}
 use Rattle.ft_trace.specs.Words.{Picture, Stands, entry_of}
-use Rattle.ft_trace.specs.Worlds.{Kept, kind_in}
+use Rattle.ft_trace.specs.Worlds.{ContainerState, kind_in}
 use Rattle.ft_trace.proofs.FitCalls.{set_fits_words}
 use Rattle.ft_trace.proofs.SetKnown as set
 use Rattle.ft_trace.proofs.Tellings.{key_is, live_tells, one_tells}
@@ -129,7 +129,7 @@ module _ (elements : set.FirstEntriesAreElements) (k : Shape) (s t : ℕ) (own t
       let comes : j.mid ≡ content.Set both = at_end.comes ∙ ap (λ (z : Content). joined z (known t v).content) is_first in
       let fits = at_end.fits in
       let g : counts.fill ≡ end = omega (arith, fits) in
-      subst (λ (z : Kept). IsMidway k s own z w) (λ i. record { content = comes i; table = use_with c (g i) }) j.midway
+      subst (λ (z : ContainerState). IsMidway k s own z w) (λ i. record { content = comes i; table = use_with c (g i) }) j.midway
 
   -- the words of entries that were used before
   kept_word : (p word : ℕ) → p < fill → word < 8 → entry_of n (held s w).table p word ≡ entry_of n (held s v).table p word
@@ -168,7 +168,7 @@ module _ (elements : set.FirstEntriesAreElements) (k : Shape) (s t : ℕ) (own t
   parting_begins = record {
     mid = both;
     midway = midway;
-    first_is = ap (λ (z : Kept). z.content) (work_knows u w s only.work ∙ ap (known s) begun) ∙ is_first;
+    first_is = ap (λ (z : ContainerState). z.content) (work_knows u w s only.work ∙ ap (known s) begun) ∙ is_first;
     fits = set_fits_words k.texts (held s v).block (0 ∷ 0 ∷ (held s v).table) c (known s v).table.fill first (first_says k s own false others v u f shape possible may is has begun);
     comes = xor_comes others first;
     even = λ p less up low. let e = kept_word p 0 low (omega arith) in let g = evens k s own false others v u f shape possible may is has begun p less in omega (arith, e, g);

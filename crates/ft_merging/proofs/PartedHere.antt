@@ -16,11 +16,11 @@ use Rattle.ft_layout.specs.Tables.{UsedEntry, is_live}
 use Rattle.ft_layout.proofs.Powers.{slots_range}
 use Rattle.ft_trace.specs.declared.View.{View}
 use Rattle.ft_trace.specs.Holds.{known}
-use Rattle.ft_trace.specs.Worlds.{Kept}
+use Rattle.ft_trace.specs.Worlds.{ContainerState}
 use Rattle.ft_search.specs.Writing.{Leaves}
 use Rattle.ft_adding.proofs.Placed.{use_with}
 use Rattle.ft_merging.specs.Joining.{join_takes, joined, new_keys}
-use Rattle.ft_merging.specs.Parting.{PartsSets, part_takes, parted, parted_kept}
+use Rattle.ft_merging.specs.Parting.{PartsSets, part_takes, parted, parted_state}
 use Rattle.ft_merging.proofs.JoinedContents.{or_length}
 
 if_none : (b : Bool) (x y : ℕ) → (if b then Some x else None) ≡ None → (if b then Some y else None) ≡ None
@@ -28,7 +28,7 @@ if_none true x y e = absurd (true≢false (ap is_some e))
 if_none false x y e = refl
 
 -- where it takes no table to part, it takes none to join
-pub join_stays : (kept : Kept) (others : Content) (first : SetContent) → kept.content ≡ content.Set first → part_takes kept others ≡ None → join_takes kept others ≡ None
+pub join_stays : (kept : ContainerState) (others : Content) (first : SetContent) → kept.content ≡ content.Set first → part_takes kept others ≡ None → join_takes kept others ≡ None
 join_stays kept others first is none =
     subst (λ (z : Content). join_takes (record { content = z; table = kept.table }) others ≡ None) (sym is)
     (if_none (outgrows_set kept.table ((set_or first (set_of others).elements).next - first.next)) (set_class (length (parted (content.Set first) others).elements)) (set_class (length first.elements + ((set_or first (set_of others).elements).next - first.next)))
@@ -57,7 +57,7 @@ parts_here s t called v class fill more first parts is table more_is none few =
     let kept = known s v in
     let others = (known t v).content in
     let drawn = part_draws kept.content others first is in
-    let left : (parted_kept kept others).table ≡ use_with class (fill + more) =
+    let left : (parted_state kept others).table ≡ use_with class (fill + more) =
     ap (λ (z : Option ℕ). grown_table kept.table z ((parted kept.content others).next - (set_of kept.content).next) (length (parted kept.content others).elements)) none
     ∙ (λ i. record { class = (table i).class; fill = (table i).fill + (drawn ∙ sym more_is) i }) in
     record {

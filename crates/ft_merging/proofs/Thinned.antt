@@ -36,7 +36,7 @@ use Rattle.ft_trace.specs.Carefuls.{IsLive, IsDead, said_of}
 use Rattle.ft_trace.specs.Holds.{held, known}
 use Rattle.ft_trace.specs.Kinds.{element_words, is_key, rows, under}
 use Rattle.ft_trace.specs.Words.{Picture, root_in, entry_at, entry_of, Stands}
-use Rattle.ft_trace.specs.Worlds.{Kept, kind_in}
+use Rattle.ft_trace.specs.Worlds.{ContainerState, kind_in}
 use Rattle.ft_trace.specs.Writes.{to_block, to_table, with_puts, MayPut, MayPuts}
 use Rattle.ft_trace.proofs.ByKind.{keyed_low}
 use Rattle.ft_trace.proofs.EntryPuts.{dead_is, dead_kind, dead_open, dead_others, dead_same}
@@ -275,7 +275,7 @@ module _ (laws : SetLaws) (texts : List ℕ) (x : Picture) (tab : TableUse) (t :
 
 -- ---- what the pass knows
 
-pub midway_loaded : (k : Shape) (o : ℕ) (table : Table) (mid : Kept) (v w : View) → OnlyLoaded v w → IsMidway k o table mid v → IsMidway k o table mid w
+pub midway_loaded : (k : Shape) (o : ℕ) (table : Table) (mid : ContainerState) (v w : View) → OnlyLoaded v w → IsMidway k o table mid v → IsMidway k o table mid w
 midway_loaded k o table mid v w only b =
     let back : held o v ≡ held o w = sym (loaded_held v w o only) in
     let knows : known o v ≡ known o w = sym (work_knows v w o only.work) in
@@ -285,12 +285,12 @@ midway_loaded k o table mid v w only b =
       writes = writes_on k o table v w (loaded_put v w o only) (ap root_in (sym back)) b.writes;
       early = only.work.committed o ∙ b.early;
       stands = subst (λ (y : Picture). Stands k.texts y mid) back b.stands;
-      same = subst (λ (y : Picture × Kept). (p : ℕ) (key : Key) → p < m → version_of t y.0 p % 2 ≡ 0 → IsLive (slots (class_of t)) y.0.table p key → under mid.content key ≡ under y.1.content key) (λ d. (back d, knows d)) b.same;
+      same = subst (λ (y : Picture × ContainerState). (p : ℕ) (key : Key) → p < m → version_of t y.0 p % 2 ≡ 0 → IsLive (slots (class_of t)) y.0.table p key → under mid.content key ≡ under y.1.content key) (λ d. (back d, knows d)) b.same;
       gone = subst (λ (y : Picture). NoneDead t m y mid) back b.gone;
       opened = subst (λ (y : Picture). (p : ℕ) → p < m → version_of t y p % 2 ≡ 1 → p < mid.table.fill) back b.opened;
     }
 
-module _ (k : Shape) (s : ℕ) (table : Table) (kept : Bool) (others first : SetContent) (to : Kept) (last place : ℕ) (v w : View) (only : OnlyLoaded v w) (th : IsThinned k s table kept others first to last place v) where
+module _ (k : Shape) (s : ℕ) (table : Table) (kept : Bool) (others first : SetContent) (to : ContainerState) (last place : ℕ) (v w : View) (only : OnlyLoaded v w) (th : IsThinned k s table kept others first to last place v) where
   abbrev lt : ℕ
   lt = name_of table
 
@@ -307,7 +307,7 @@ module _ (k : Shape) (s : ℕ) (table : Table) (kept : Bool) (others first : Set
   thinned_loaded = record {
     mid = th.mid;
     midway = midway_loaded k s table (record { content = content.Set th.mid; table = to.table }) v w only th.midway;
-    first_is = ap (λ (y : Kept). y.content) (sym knows') ∙ th.first_is;
+    first_is = ap (λ (y : ContainerState). y.content) (sym knows') ∙ th.first_is;
     fits = th.fits;
     comes = th.comes;
     even = subst (λ (y : Picture). (p : ℕ) → p < lm → place ≤ p → p < last → version_of lt y p % 2 ≡ 0) back' th.even;
@@ -315,7 +315,7 @@ module _ (k : Shape) (s : ℕ) (table : Table) (kept : Bool) (others first : Set
     rest = subst (λ (y : Picture). (p : ℕ) (key : Key) → p < lm → last ≤ p → FitsKey key → IsLive (slots (class_of lt)) y.table p key → spared kept others first key ≡ true) back' th.rest;
   }
 
-module _ (k : Shape) (s : ℕ) (table : Table) (kept : Bool) (others first : SetContent) (to : Kept) (last place : ℕ) (v : View) (is : kind_in k.kinds s ≡ kind.Set) (th : IsThinned k s table kept others first to last place v) where
+module _ (k : Shape) (s : ℕ) (table : Table) (kept : Bool) (others first : SetContent) (to : ContainerState) (last place : ℕ) (v : View) (is : kind_in k.kinds s ≡ kind.Set) (th : IsThinned k s table kept others first to last place v) where
   abbrev vt : ℕ
   vt = name_of table
 
@@ -334,7 +334,7 @@ module _ (k : Shape) (s : ℕ) (table : Table) (kept : Bool) (others first : Set
   class_is : IsClass (class_of vt)
   class_is = table_class k table th.midway.writes.table_in
 
-  abbrev now : Kept
+  abbrev now : ContainerState
   now = record { content = content.Set th.mid; table = tab }
 
   class_some : tab.class ≡ Some (class_of vt)
@@ -440,7 +440,7 @@ module _ (k : Shape) (s : ℕ) (table : Table) (kept : Bool) (others first : Set
         writes = writes_on k s table v z only (ap root_in puts ∙ now_root laws k.texts words_now tab vt class_is th.mid says_now place key low live fits class_some th.midway.writes.root long even_here) th.midway.writes;
         early = only.work.committed s ∙ th.midway.early;
         stands = subst (λ (y : Picture). Stands k.texts y (record { content = mid_then; table = tab })) back (now_stands laws k.texts words_now tab vt class_is th.mid says_now place key low live fits class_some th.midway.writes.root long even_here);
-        same = subst (λ (y : Picture × Kept). (p : ℕ) (a : Key) → p < rows (kind_in k.kinds s) (class_of vt) → version_of vt y.0 p % 2 ≡ 0 → IsLive vn y.0.table p a → under mid_then a ≡ under y.1.content a) (λ d. (back d, knows d)) same_then;
+        same = subst (λ (y : Picture × ContainerState). (p : ℕ) (a : Key) → p < rows (kind_in k.kinds s) (class_of vt) → version_of vt y.0 p % 2 ≡ 0 → IsLive vn y.0.table p a → under mid_then a ≡ under y.1.content a) (λ d. (back d, knows d)) same_then;
         gone = subst (λ (y : Picture). NoneDead vt (rows (kind_in k.kinds s) (class_of vt)) y (record { content = mid_then; table = tab })) back gone_then;
         opened = subst (λ (y : Picture). (p : ℕ) → p < rows (kind_in k.kinds s) (class_of vt) → version_of vt y p % 2 ≡ 1 → p < tab.fill) back opened_then;
       }
@@ -449,7 +449,7 @@ module _ (k : Shape) (s : ℕ) (table : Table) (kept : Bool) (others first : Set
       thinned_goes = record {
         mid = set_discard th.mid key;
         midway = midway_then;
-        first_is = ap (λ (y : Kept). y.content) (sym knows) ∙ th.first_is;
+        first_is = ap (λ (y : ContainerState). y.content) (sym knows) ∙ th.first_is;
         fits = th.fits;
         comes = ap (λ (es : List Element). content.Set (record { next = th.mid.next; elements = es })) (discard_stays (spared kept others first) key out th.mid.elements) ∙ th.comes;
         even = subst (λ (y : Picture). (p : ℕ) → p < rows (kind_in k.kinds s) (class_of vt) → place + 1 ≤ p → p < last → version_of vt y p % 2 ≡ 0) back even_then;

@@ -14,7 +14,7 @@ use Rattle.ft_trace.specs.declared.View.{View}
 use Rattle.ft_trace.specs.FitCalls.{FitsCall}
 use Rattle.ft_trace.specs.Holds.{known}
 use Rattle.ft_trace.specs.Sections.{HasLocksOf}
-use Rattle.ft_trace.specs.Worlds.{Kept, changes, kept_at}
+use Rattle.ft_trace.specs.Worlds.{ContainerState, changes, state_at}
 use Rattle.ft_bank.specs.Whole.{OnlyLoaded}
 use Rattle.ft_bank.specs.Writes.{MayHave}
 use Rattle.ft_growth.specs.declared.adding.Added.{Added}
@@ -34,12 +34,12 @@ abbrev pub new_keys : Content → Content → ℕ
 new_keys content others = serial_of (joined content others) - serial_of content
 
 -- the class of the table that it takes for them, if its own has no room (profile)
-abbrev pub join_takes : Kept → Content → Option ℕ
+abbrev pub join_takes : ContainerState → Content → Option ℕ
 join_takes kept others = keys_take kept.content kept.table (new_keys kept.content others)
 
 -- it, and the table that it has then
-abbrev pub joined_kept : Kept → Content → Kept
-joined_kept kept others =
+abbrev pub joined_state : ContainerState → Content → ContainerState
+joined_state kept others =
     record {
       content = joined kept.content others;
       table = grown_table
@@ -65,7 +65,7 @@ pub record JoinsKeys (o t : ℕ) (called : Call) (v : View) : Type 0 where
   pub takes : (found : StoredWorld) → MayHave v found
       → takes_in found called ≡ join_takes (known o v) (known t v).content
   pub left_is : (found : StoredWorld) → MayHave v found
-      → kept_at (after_stored found called) o ≡ joined_kept (known o v) (known t v).content
+      → state_at (after_stored found called) o ≡ joined_state (known o v) (known t v).content
 
 -- What such a call comes to under the locks: after loads, by the class of the table that o takes for the new keys, if
 -- it takes one, and by whether it would have more keys than the largest table holds.

@@ -14,7 +14,7 @@ use Rattle.ft_trace.specs.declared.View.{View}
 use Rattle.ft_trace.specs.FitCalls.{FitsCall}
 use Rattle.ft_trace.specs.Holds.{known}
 use Rattle.ft_trace.specs.Sections.{HasLocksOf}
-use Rattle.ft_trace.specs.Worlds.{Kept, changes, kept_at, may_empty}
+use Rattle.ft_trace.specs.Worlds.{ContainerState, changes, state_at, may_empty}
 use Rattle.ft_bank.specs.Whole.{OnlyLoaded}
 use Rattle.ft_bank.specs.Writes.{MayHave}
 use Rattle.ft_growth.specs.declared.adding.Added.{Added}
@@ -26,12 +26,12 @@ abbrev pub parted : Content → Content → SetContent
 parted set others = set_xor (set_of set) (set_of others).elements
 
 -- the class of the table that it takes, if its own has no room for its new elements (profile)
-abbrev pub part_takes : Kept → Content → Option ℕ
+abbrev pub part_takes : ContainerState → Content → Option ℕ
 part_takes kept others = set_takes kept.table (set_of kept.content) (parted kept.content others)
 
 -- it, and the table that it has then
-abbrev pub parted_kept : Kept → Content → Kept
-parted_kept kept others =
+abbrev pub parted_state : ContainerState → Content → ContainerState
+parted_state kept others =
     record {
       content = content.Set (parted kept.content others);
       table = grown_table
@@ -58,7 +58,7 @@ pub record PartsSets (s t : ℕ) (called : Call) (v : View) : Type 0 where
   pub takes : (found : StoredWorld) → MayHave v found
       → takes_in found called ≡ part_takes (known s v) (known t v).content
   pub left_is : (found : StoredWorld) → MayHave v found
-      → kept_at (after_stored found called) s ≡ parted_kept (known s v) (known t v).content
+      → state_at (after_stored found called) s ≡ parted_state (known s v) (known t v).content
 
 -- What such a call comes to under the locks: after loads, by the class of the table that s takes, if it takes one, and
 -- by whether it would have more elements than the largest table holds.

@@ -56,7 +56,7 @@ fn close_all(bank: &Bank, pass: &mut Pass, o: Object, table: Table, fill: u64)
 }
 
 /// Raises the counter for a call, and makes the versions of the entries that were put and of the container even again;
-/// so many entries of its table are used. Answers the number of the write.
+/// that many entries of its table are used. Answers the number of the write.
 pub(crate) fn finish_entries(
     bank: &Bank,
     pass: &mut Pass,

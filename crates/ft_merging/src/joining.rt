@@ -217,7 +217,7 @@ fn join_in_old(
     }
 }
 
-/// Puts the keys of another container into one that has this table or none, where so many are new.
+/// Puts the keys of another container into one that has this table or none, where that many are new.
 fn join_more(
     bank: &Bank,
     pass: &mut Pass,

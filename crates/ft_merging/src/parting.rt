@@ -29,7 +29,7 @@ use ft_layout::{used_entries_follow_a_dict, used_entries_follow_a_set, words_are
 use ft_model::{Call, Reply};
 use ft_section::Object;
 
-/// How many elements of a set, which has this table with so many used entries, another set lacks.
+/// How many elements of a set, which has this table with that many used entries, another set lacks.
 pub fn count_lacking(
     bank: &Bank,
     pass: &mut Pass,

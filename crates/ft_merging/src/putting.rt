@@ -12,7 +12,7 @@ ghost use Rattle.ft_trace.specs.Addresses.{class_of, slots};
 ghost use Rattle.ft_trace.specs.Holds.{held, known};
 ghost use Rattle.ft_trace.specs.Kinds.{rows};
 ghost use Rattle.ft_trace.specs.Words.{Stands, entry_of, root_in};
-ghost use Rattle.ft_trace.specs.Worlds.{Kept, kind_in};
+ghost use Rattle.ft_trace.specs.Worlds.{ContainerState, kind_in};
 ghost use Rattle.ft_trace.specs.Writes.{MayPuts, with_puts};
 ghost use Rattle.ft_bank.specs.Passes.{shape_of, view, IsPassOf};
 ghost use Rattle.ft_bank.specs.Sections.{stack_of};
@@ -57,7 +57,7 @@ fn seek_in(
     ensures stack { stack_of pass.new ≡ stack_of pass.old }
     ensures only { OnlyLoaded (view pass.old) (view pass.new) }
     ensures low { hash_of (shape_of bank.now).texts key < 2 ^ 64 }
-    ensures spot { (mid : Kept) → kind_of mid.content ≡ kind_by way →
+    ensures spot { (mid : ContainerState) → kind_of mid.content ≡ kind_by way →
         Stands (shape_of bank.now).texts (held o (view pass.old)) mid →
         IsSought (shape_of bank.now) way own key (held o (view pass.old)) mid.content result }
 {

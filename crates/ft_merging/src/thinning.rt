@@ -13,13 +13,13 @@ ghost use Rattle.ft_trace.specs.Carefuls.{IsLive};
 ghost use Rattle.ft_trace.specs.Holds.{held, known};
 ghost use Rattle.ft_trace.specs.Kinds.{rows};
 ghost use Rattle.ft_trace.specs.Words.{root_in};
-ghost use Rattle.ft_trace.specs.Worlds.{Kept, kind_in};
+ghost use Rattle.ft_trace.specs.Worlds.{ContainerState, kind_in};
 ghost use Rattle.ft_bank.specs.Passes.{shape_of, view, IsPassOf};
 ghost use Rattle.ft_bank.specs.Sections.{stack_of};
 ghost use Rattle.ft_bank.specs.Tables.{name_of};
 ghost use Rattle.ft_bank.specs.Whole.{OnlyLoaded, OnlyPut, Wrote};
 ghost use Rattle.ft_search.specs.Writing.{HasTable, Leaves, MayWriteEntries};
-ghost use Rattle.ft_merging.specs.Thinning.{stays, thinned_kept};
+ghost use Rattle.ft_merging.specs.Thinning.{stays, thinned_state};
 ghost use Rattle.ft_merging.specs.Internal.Thinning.{IsThinned};
 
 use crate::closing::finish_entries;
@@ -76,7 +76,7 @@ fn goes_at(
     requires other_set { kind_in (shape_of bank.now).kinds t ≡ kind.Set }
     requires place { place < rows kind.Set (class_of (name_of table)) }
     requires other { s ≢ t → MayWriteEntries (shape_of bank.now) t (view pass.old) }
-    requires thinned { (to : Kept) × (last : ℕ) × (place < last) × IsThinned (shape_of bank.now) s table kept
+    requires thinned { (to : ContainerState) × (last : ℕ) × (place < last) × IsThinned (shape_of bank.now) s table kept
         (set_of (known t (view pass.old)).content) (set_of (known s (view pass.old)).content) to last place
         (view pass.old) }
     ensures pass { IsPassOf bank.now pass.new }
@@ -110,13 +110,13 @@ fn thin_at(bank: &Bank, pass: &mut Pass, s: Object, table: Table, t: Object, kep
     requires other_set { kind_in (shape_of bank.now).kinds t ≡ kind.Set }
     requires place { place < rows kind.Set (class_of (name_of table)) }
     requires other { s ≢ t → MayWriteEntries (shape_of bank.now) t (view pass.old) }
-    requires thinned { (to : Kept) × (last : ℕ) × (place < last) × IsThinned (shape_of bank.now) s table kept
+    requires thinned { (to : ContainerState) × (last : ℕ) × (place < last) × IsThinned (shape_of bank.now) s table kept
         (set_of (known t (view pass.old)).content) (set_of (known s (view pass.old)).content) to last place
         (view pass.old) }
     ensures pass { IsPassOf bank.now pass.new }
     ensures stack { stack_of pass.new ≡ stack_of pass.old }
     ensures only { OnlyPut s (view pass.old) (view pass.new) }
-    ensures thinned { (to : Kept) (last : ℕ) → place < last →
+    ensures thinned { (to : ContainerState) (last : ℕ) → place < last →
         IsThinned (shape_of bank.now) s table kept (set_of (known t (view pass.old)).content)
         (set_of (known s (view pass.old)).content) to last place (view pass.old) →
         IsThinned (shape_of bank.now) s table kept (set_of (known t (view pass.old)).content)
@@ -145,13 +145,13 @@ pub(crate) fn thin_all(
     requires other_set { kind_in (shape_of bank.now).kinds t ≡ kind.Set }
     requires fill { fill ≤ rows kind.Set (class_of (name_of table)) }
     requires other { s ≢ t → MayWriteEntries (shape_of bank.now) t (view pass.old) }
-    requires thinned { (to : Kept) × IsThinned (shape_of bank.now) s table kept
+    requires thinned { (to : ContainerState) × IsThinned (shape_of bank.now) s table kept
         (set_of (known t (view pass.old)).content) (set_of (known s (view pass.old)).content) to fill 0
         (view pass.old) }
     ensures pass { IsPassOf bank.now pass.new }
     ensures stack { stack_of pass.new ≡ stack_of pass.old }
     ensures only { OnlyPut s (view pass.old) (view pass.new) }
-    ensures thinned { (to : Kept) → IsThinned (shape_of bank.now) s table kept
+    ensures thinned { (to : ContainerState) → IsThinned (shape_of bank.now) s table kept
         (set_of (known t (view pass.old)).content) (set_of (known s (view pass.old)).content) to fill 0
         (view pass.old) →
         IsThinned (shape_of bank.now) s table kept (set_of (known t (view pass.old)).content)
@@ -182,7 +182,7 @@ fn thin_table(
     requires table { HasTable (shape_of bank.now) s table (view pass.old) }
     requires fill { fill ≡ (known s (view pass.old)).table.fill }
     requires leaves { Leaves s called.now reply.Done
-        (thinned_kept kept (known t (view pass.old)) (known s (view pass.old))) (view pass.old) }
+        (thinned_state kept (known t (view pass.old)) (known s (view pass.old))) (view pass.old) }
     ensures pass { IsPassOf bank.now pass.new }
     ensures stack { stack_of pass.new ≡ stack_of pass.old }
     ensures wrote { Wrote called.now reply.Done result (view pass.old) (view pass.new) }
@@ -205,7 +205,7 @@ pub fn thin_by(bank: &Bank, pass: &mut Pass, s: Object, t: Object, kept: bool, c
     requires set { kind_in (shape_of bank.now).kinds s ≡ kind.Set }
     requires other_set { kind_in (shape_of bank.now).kinds t ≡ kind.Set }
     requires leaves { Leaves s called.now reply.Done
-        (thinned_kept kept (known t (view pass.old)) (known s (view pass.old))) (view pass.old) }
+        (thinned_state kept (known t (view pass.old)) (known s (view pass.old))) (view pass.old) }
     ensures pass { IsPassOf bank.now pass.new }
     ensures stack { stack_of pass.new ≡ stack_of pass.old }
     ensures wrote { Wrote called.now reply.Done result (view pass.old) (view pass.new) }

@@ -21,7 +21,7 @@ use Rattle.ft_trace.specs.Addresses.{class_of, slots}
 use Rattle.ft_trace.specs.Holds.{held, in_hand, known}
 use Rattle.ft_trace.specs.Kinds.{rows}
 use Rattle.ft_trace.specs.Words.{Picture, entry_at, entry_of}
-use Rattle.ft_trace.specs.Worlds.{Kept}
+use Rattle.ft_trace.specs.Worlds.{ContainerState}
 use Rattle.ft_bank.specs.declared.table.Table.{Table}
 use Rattle.ft_bank.specs.Tables.{name_of, IsTableIn}
 use Rattle.ft_search.proofs.Puts.{table_class}
@@ -158,12 +158,12 @@ module _ (k : Shape) (s : ℕ) (from : Table) (t : ℕ) (table : Table) (first :
       let same = next_out (none_apart k.texts others e is) in
       record {
         source = subst (λ (x : Picture). IsSetTable k.texts (class_mask (class_of (name_of from))) used (0 ∷ 0 ∷ x.table)) (sym words) c.source;
-        filled = c.filled ∙ ap (λ (x : Kept). x.table.fill) (sym mine_known);
+        filled = c.filled ∙ ap (λ (x : ContainerState). x.table.fill) (sym mine_known);
         started = c.started;
         next = c.next;
-        is_set = subst (λ (x : Kept). IsSet c.next (mine ++ chosen (set_of x.content).elements first used)) (sym other_known) c.is_set;
-        room = subst (λ (x : Kept). length (mine ++ chosen (set_of x.content).elements first used) ≤ rows kind.Set (class_of (name_of table))) (sym other_known) c.room;
-        has = subst (λ (x : Kept). HasChosen k table (mine ++ chosen (set_of x.content).elements first (take (place + 1) used)) count z) (sym other_known) (subst (λ (l : List Element). HasChosen k table (mine ++ l) count z) (sym same) (record {
+        is_set = subst (λ (x : ContainerState). IsSet c.next (mine ++ chosen (set_of x.content).elements first used)) (sym other_known) c.is_set;
+        room = subst (λ (x : ContainerState). length (mine ++ chosen (set_of x.content).elements first used) ≤ rows kind.Set (class_of (name_of table))) (sym other_known) c.room;
+        has = subst (λ (x : ContainerState). HasChosen k table (mine ++ chosen (set_of x.content).elements first (take (place + 1) used)) count z) (sym other_known) (subst (λ (l : List Element). HasChosen k table (mine ++ l) count z) (sym same) (record {
           counted = c.has.counted;
           made = subst (λ (ws : List ℕ). IsSetTable k.texts (class_mask (class_of (name_of table))) (map used_element (mine ++ placed)) (0 ∷ 0 ∷ ws)) (sym hand) c.has.made;
           versions = λ p less. ap (λ (ws : List ℕ). entry_of (slots (class_of (name_of table))) ws p 0) hand ∙ c.has.versions p less;
@@ -223,12 +223,12 @@ module _ (k : Shape) (s : ℕ) (from : Table) (t : ℕ) (table : Table) (first :
         let n3 = length-append mine placed in
         record {
           source = subst (λ (x : Picture). IsSetTable k.texts (class_mask (class_of (name_of from))) used (0 ∷ 0 ∷ x.table)) (sym words) c.source;
-          filled = c.filled ∙ ap (λ (x : Kept). x.table.fill) (sym mine_known);
+          filled = c.filled ∙ ap (λ (x : ContainerState). x.table.fill) (sym mine_known);
           started = c.started;
           next = c.next;
-          is_set = subst (λ (x : Kept). IsSet c.next (mine ++ chosen (set_of x.content).elements first used)) (sym other_known) c.is_set;
-          room = subst (λ (x : Kept). length (mine ++ chosen (set_of x.content).elements first used) ≤ rows kind.Set (class_of (name_of table))) (sym other_known) c.room;
-          has = subst (λ (x : Kept). HasChosen k table (mine ++ chosen (set_of x.content).elements first (take (place + 1) used)) (count + 1) z) (sym other_known) (record {
+          is_set = subst (λ (x : ContainerState). IsSet c.next (mine ++ chosen (set_of x.content).elements first used)) (sym other_known) c.is_set;
+          room = subst (λ (x : ContainerState). length (mine ++ chosen (set_of x.content).elements first used) ≤ rows kind.Set (class_of (name_of table))) (sym other_known) c.room;
+          has = subst (λ (x : ContainerState). HasChosen k table (mine ++ chosen (set_of x.content).elements first (take (place + 1) used)) (count + 1) z) (sym other_known) (record {
             counted = omega (arith, h, last, n1, n2, n3);
             made = subst (λ (l : List UsedEntry). IsSetTable k.texts (class_mask (class_of (name_of table))) l (0 ∷ 0 ∷ in_hand (name_of table) z)) entry added;
             versions = λ p less. versions p ∙ c.has.versions p less;

@@ -21,7 +21,7 @@ use Rattle.ft_trace.specs.declared.View.{View}
 use Rattle.ft_trace.specs.Acts.{has_lock}
 use Rattle.ft_trace.specs.Holds.{known}
 use Rattle.ft_trace.specs.Kinds.{rows}
-use Rattle.ft_trace.specs.Worlds.{Kept}
+use Rattle.ft_trace.specs.Worlds.{ContainerState}
 use Rattle.ft_bank.specs.Whole.{OnlyLoaded}
 use Rattle.ft_bank.specs.Writes.{MayHave}
 use Rattle.ft_bank.proofs.Whole.{loaded_then, work_knows}
@@ -30,8 +30,8 @@ use Rattle.ft_growth.specs.Adding.{IsAdded, KeepsCursors}
 use Rattle.ft_growth.proofs.Cursors.{added_cursors}
 use Rattle.ft_search.specs.Writing.{Leaves}
 use Rattle.ft_merging.specs.Joining.{joined, new_keys}
-use Rattle.ft_merging.specs.Parting.{PartsBy, PartsSets, part_takes, parted, parted_kept}
-use Rattle.ft_merging.specs.Thinning.{thinned, thinned_kept}
+use Rattle.ft_merging.specs.Parting.{PartsBy, PartsSets, part_takes, parted, parted_state}
+use Rattle.ft_merging.specs.Thinning.{thinned, thinned_state}
 use Rattle.ft_merging.proofs.JoinedContents.{from_length}
 use Rattle.ft_merging.proofs.JoinedSame.{no_length}
 use Rattle.ft_replacing.specs.Replacing.{Replaces}
@@ -49,7 +49,7 @@ new_length d others first is =
 pub none_drawn : (d others : Content) → joined d others ≡ d → new_keys d others ≡ 0
 none_drawn d others same = let s = ap serial_of same in omega (arith, s)
 
--- so many are there then
+-- that many are there then
 pub parted_length : (d others : Content) (first : SetContent) (stay more : ℕ) → d ≡ content.Set first → stay ≡ length (those_not_in (set_of others).elements first.elements) → more ≡ new_keys d others → length (parted d others).elements ≡ stay + more
 parted_length d others first stay more is stays news =
     let a = length-append (those_not_in (set_of others).elements first.elements) (elements_from first.next (those_not_in first.elements (set_of others).elements)) in
@@ -78,7 +78,7 @@ part_few d others first more is news few =
     omega (arith, n, low)
 
 -- the table that is taken has room
-pub part_room : (kept : Kept) (others : Content) (class : ℕ) → passes_cap (content.Set (parted kept.content others)) ≡ false → part_takes kept others ≡ Some class → length (parted kept.content others).elements ≤ rows kind.Set class
+pub part_room : (kept : ContainerState) (others : Content) (class : ℕ) → passes_cap (content.Set (parted kept.content others)) ≡ false → part_takes kept others ≡ Some class → length (parted kept.content others).elements ≤ rows kind.Set class
 part_room kept others class few takes =
     let all = length (parted kept.content others).elements in
     let is = if_some (outgrows_set kept.table ((parted kept.content others).next - (set_of kept.content).next)) (set_class all) class takes in
@@ -90,7 +90,7 @@ part_room kept others class few takes =
 
 -- ---- where none is new
 
-module _ (kept others : Kept) (first : SetContent) (is : kept.content ≡ content.Set first) (none : new_keys kept.content others.content ≡ 0) where
+module _ (kept others : ContainerState) (first : SetContent) (is : kept.content ≡ content.Set first) (none : new_keys kept.content others.content ≡ 0) where
   abbrev oth : SetContent
   oth = set_of others.content
 
@@ -116,10 +116,10 @@ module _ (kept others : Kept) (first : SetContent) (is : kept.content ≡ conten
   pub thin_takes : part_takes kept others.content ≡ None
   thin_takes = ap (λ (n : ℕ). if outgrows_set kept.table n then Some (set_class (length (parted kept.content others.content).elements)) else None) drawn
 
-  pub thin_kept : parted_kept kept others.content ≡ thinned_kept false others kept
+  pub thin_kept : parted_state kept others.content ≡ thinned_state false others kept
   thin_kept =
       let fill : kept.table.fill + 0 ≡ kept.table.fill = omega arith in
-      let table : (parted_kept kept others.content).table ≡ kept.table =
+      let table : (parted_state kept others.content).table ≡ kept.table =
       (λ i. grown_table kept.table (thin_takes i) (drawn i) (length (parted kept.content others.content).elements)) ∙ (λ i. record { class = kept.table.class; fill = fill i }) in
       λ i. record { content = content.Set (thin_same i); table = table i }
 
@@ -132,7 +132,7 @@ module _ (kept others : Kept) (first : SetContent) (is : kept.content ≡ conten
 
 -- ---- the calls
 
-pub parts_thins : (s t : ℕ) (called : Call) (v : View) → PartsSets s t called v → parted_kept (known s v) (known t v).content ≡ thinned_kept false (known t v) (known s v) → passes_cap (content.Set (parted (known s v).content (known t v).content)) ≡ false → Leaves s called reply.Done (thinned_kept false (known t v) (known s v)) v
+pub parts_thins : (s t : ℕ) (called : Call) (v : View) → PartsSets s t called v → parted_state (known s v) (known t v).content ≡ thinned_state false (known t v) (known s v) → passes_cap (content.Set (parted (known s v).content (known t v).content)) ≡ false → Leaves s called reply.Done (thinned_state false (known t v) (known s v)) v
 parts_thins s t called v parts same few = record {
   write = parts.write;
   changed = parts.changed;
@@ -173,7 +173,7 @@ parts_later s t called v u has locks mine other parts = record {
   lacks = λ found h. parts.lacks found (has found h);
   over = λ found h. parts.over found (has found h) ∙ (λ i. passes_cap (content.Set (parted (sym mine i).content (sym other i).content)));
   takes = λ found h. parts.takes found (has found h) ∙ (λ i. part_takes (sym mine i) (sym other i).content);
-  left_is = λ found h. parts.left_is found (has found h) ∙ (λ i. parted_kept (sym mine i) (sym other i).content);
+  left_is = λ found h. parts.left_is found (has found h) ∙ (λ i. parted_state (sym mine i) (sym other i).content);
 }
 
 -- and what it comes to after loads, seen from before them
@@ -181,12 +181,12 @@ pub parts_by : (k : Shape) (s t : ℕ) (called : Call) (v u w : View) (what : Ad
 parts_by k s t called v u w what only is =
     let mine = work_knows v u s only.work in
     let other = work_knows v u t only.work in
-    (u, only, subst (λ (z : Kept × Kept). IsAdded k (part_takes z.0 z.1.content) (passes_cap (content.Set (parted z.0.content z.1.content))) called reply.Done u w what) (λ i. (mine i, other i)) is)
+    (u, only, subst (λ (z : ContainerState × ContainerState). IsAdded k (part_takes z.0 z.1.content) (passes_cap (content.Set (parted z.0.content z.1.content))) called reply.Done u w what) (λ i. (mine i, other i)) is)
 
 pub parts_then : (k : Shape) (s t : ℕ) (called : Call) (v u w : View) (what : Added) → OnlyLoaded v u → PartsBy k s t called u w what → PartsBy k s t called v w what
 parts_then k s t called v u w what only is =
     parts_by k s t called v is.0 w what (loaded_then v u is.0 only is.1)
-    (subst (λ (z : Kept × Kept). IsAdded k (part_takes z.0 z.1.content) (passes_cap (content.Set (parted z.0.content z.1.content))) called reply.Done is.0 w what) (λ i. (sym (work_knows u is.0 s is.1.work) i, sym (work_knows u is.0 t is.1.work) i)) is.2)
+    (subst (λ (z : ContainerState × ContainerState). IsAdded k (part_takes z.0 z.1.content) (passes_cap (content.Set (parted z.0.content z.1.content))) called reply.Done is.0 w what) (λ i. (sym (work_knows u is.0 s is.1.work) i, sym (work_knows u is.0 t is.1.work) i)) is.2)
 
 -- it leaves the cursors of its pass
 pub parts_cursors : (k : Shape) (s t : ℕ) (called : Call) (v w : View) (what : Added) → PartsBy k s t called v w what → KeepsCursors v w

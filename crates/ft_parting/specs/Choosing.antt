@@ -43,7 +43,7 @@ at_serials first n (entry ∷ entries) =
 abbrev pub chosen : List Element → Option ℕ → List UsedEntry → List Element
 chosen others first used = at_serials first 0 (filter (is_apart others) used)
 
--- A table that is fresh in the pass's hand has these elements, so many, and no version that isn't 0. (profile)
+-- A table that is fresh in the pass's hand has these elements, that many, and no version that isn't 0. (profile)
 pub record HasChosen (k : Shape) (table : Table) (elements : List Element) (count : ℕ) (v : View) : Type 0 where
   pub counted : count ≡ length elements
   pub made : IsSetTable k.texts (class_mask (class_of (name_of table))) (map used_element elements)
@@ -52,7 +52,7 @@ pub record HasChosen (k : Shape) (table : Table) (elements : List Element) (coun
       → entry_of (slots (class_of (name_of table))) (in_hand (name_of table) v) p 0 ≡ 0
 
 -- In a table that is fresh in the pass's hand, which has these elements at first, those of the set s are put whose
--- entries come before this place and that the set t hasn't, with their serials or with new ones: so many elements are
+-- entries come before this place and that the set t hasn't, with their serials or with new ones: that many elements are
 -- there. For all of them there is room, and then they are a set's. (profile)
 pub record IsChosen (k : Shape) (s : ℕ) (from : Table) (t : ℕ) (table : Table) (first : Option ℕ) (start : ℕ)
     (used : List UsedEntry) (mine : List Element) (place count : ℕ) (v : View) : Type 0 where

@@ -172,7 +172,7 @@ fn part_in_old(
     }
 }
 
-/// Parts a set, which has this table or none, with another one, where so many of its elements stay and so many are new.
+/// Parts a set, which has this table or none, with another one, where that many of its elements stay and that many are new.
 fn part_more(
     bank: &Bank,
     pass: &mut Pass,

@@ -24,7 +24,7 @@ use Rattle.ft_trace.specs.declared.View.{View}
 use Rattle.ft_trace.specs.Acts.{has_lock}
 use Rattle.ft_trace.specs.Addresses.{places}
 use Rattle.ft_trace.specs.Kinds.{rows}
-use Rattle.ft_trace.specs.Worlds.{Kept}
+use Rattle.ft_trace.specs.Worlds.{ContainerState}
 use Rattle.ft_bank.specs.Writes.{MayHave}
 use Rattle.ft_search.specs.Writing.{Leaves}
 use Rattle.ft_keyed.specs.Clearing.{cleared_kept}
@@ -94,7 +94,7 @@ none_copied pairs e = by pairs (ltb-false 0 (length pairs) (if_none (nat_lt 0 (l
     by (pair ∷ some) few = absurd (omega (arith, few))
 
 -- and is a clear then
-pub copy_clears : (o : ℕ) (called : Call) (given pairs : DictContent) (kept : Kept) (v : View) → kept.content ≡ content.Dict given → copy_takes (length pairs.pairs) ≡ None → Replaces o called (content.Dict (dict_copy given pairs.pairs)) None v → Leaves o called reply.Done (cleared_kept kept) v
+pub copy_clears : (o : ℕ) (called : Call) (given pairs : DictContent) (kept : ContainerState) (v : View) → kept.content ≡ content.Dict given → copy_takes (length pairs.pairs) ≡ None → Replaces o called (content.Dict (dict_copy given pairs.pairs)) None v → Leaves o called reply.Done (cleared_kept kept) v
 copy_clears o called given pairs kept v is none r =
     let bare = none_copied pairs.pairs none in
     let next : given.next + 0 ≡ given.next = omega arith in

@@ -22,7 +22,7 @@ use Rattle.ft_trace.specs.Kinds.{IsKeyed, rows, version_at, SoundAs}
 use Rattle.ft_trace.specs.Openings.{Shut}
 use Rattle.ft_trace.specs.Traces.{Possible}
 use Rattle.ft_trace.specs.Words.{Picture, root_in, Stands}
-use Rattle.ft_trace.specs.Worlds.{Kept, changes, kind_in}
+use Rattle.ft_trace.specs.Worlds.{ContainerState, changes, kind_in}
 use Rattle.ft_trace.proofs.Addresses.{at_apart}
 use Rattle.ft_trace.proofs.Cases.{hit, miss}
 use Rattle.ft_trace.proofs.DictWrites.{FirstEntriesArePairs}
@@ -195,7 +195,7 @@ module _ (k : Shape) (o : ℕ) (old : Option Table) (table : Table) (called : Ca
     all_made = made ∙ ap (noted (Commit called reply.Done number snap)) both_rooted
 
     content_then : (known o c).content ≡ left
-    content_then = ap (λ (z : Kept). z.content) (committed.left o ∙ e.replaces.left_is committed.found (has_before committed.found committed.has))
+    content_then = ap (λ (z : ContainerState). z.content) (committed.left o ∙ e.replaces.left_is committed.found (has_before committed.found committed.has))
 
     kept_then : known o c ≡ record { content = left; table = replaced_table (Some class) (length_of left) }
     kept_then = committed.left o ∙ e.replaces.left_is committed.found (has_before committed.found committed.has)
@@ -273,7 +273,7 @@ module _ (k : Shape) (o : ℕ) (old : Option Table) (table : Table) (called : Ca
       known_u = work_knows z u o puts.work ∙ (ap (λ (y : View). known o y) rooted ∙ kept_then)
 
       pub stands_u : Stands k.texts (held o u) (known o u)
-      stands_u = subst (λ (y : Picture × Kept). Stands k.texts y.0 y.1) (λ i. (sym held_u i, sym known_u i)) says
+      stands_u = subst (λ (y : Picture × ContainerState). Stands k.texts y.0 y.1) (λ i. (sym held_u i, sym known_u i)) says
 
       shape_u : u.shape ≡ k
       shape_u = puts.work.pass.shape ∙ (ap (λ (y : View). y.shape) rooted ∙ shape_c)

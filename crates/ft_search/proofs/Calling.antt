@@ -18,7 +18,7 @@ use Rattle.ft_trace.specs.Addresses.{containers_in}
 use Rattle.ft_trace.specs.Holds.{held, known}
 use Rattle.ft_trace.specs.Words.{Picture, root_in, Stands}
 use Rattle.ft_trace.specs.Kinds.{IsKeyed}
-use Rattle.ft_trace.specs.Worlds.{Kept, changes, kind_in, reply_in}
+use Rattle.ft_trace.specs.Worlds.{ContainerState, changes, kind_in, reply_in}
 use Rattle.ft_trace.proofs.Cases.{hit}
 use Rattle.ft_bank.specs.declared.bank.Bank.{Bank}
 use Rattle.ft_bank.specs.declared.pass.Pass.{Pass}
@@ -163,7 +163,7 @@ wrote_still called said n v w s x keeps =
           (λ (e : p ≡ o). subst (λ (q : ℕ). Stands v.shape.texts (held q w) (known q w)) (sym e) x.stands)
           (λ ne.
           let e = x.others p low' ne mine (s.even p) in
-          subst (λ (y : Picture × Kept). Stands v.shape.texts y.0 y.1) (λ d. (sym e.0 d, sym e.1 d)) (s.stands p low' mine)) in
+          subst (λ (y : Picture × ContainerState). Stands v.shape.texts y.0 y.1) (λ d. (sym e.0 d, sym e.1 d)) (s.stands p low' mine)) in
           subst (λ (k : Shape). Stands k.texts (held p w) (known p w)) (sym shape) then_stands;
     }
 
@@ -184,7 +184,7 @@ shown_replied called said v n x stored has = x.plain stored (x.replied stored (r
 
 -- ---- after loads, for whoever looked for a key first
 
-pub written_made : (o : ℕ) (left : Kept) (called : Call) (said : Reply) (n : ℕ) (stamp : Stamp) (v u w : View) (part : List Act) → OnlyLoaded v u → u.log ≡ part ++ v.log → Leaves o called said left u → Wrote called said n u w → root_in (held o w) ≡ root_in (held o u) → stamp ≡ record { number = n; wrote = true } → MadeAs called said stamp v w
+pub written_made : (o : ℕ) (left : ContainerState) (called : Call) (said : Reply) (n : ℕ) (stamp : Stamp) (v u w : View) (part : List Act) → OnlyLoaded v u → u.log ≡ part ++ v.log → Leaves o called said left u → Wrote called said n u w → root_in (held o w) ≡ root_in (held o u) → stamp ≡ record { number = n; wrote = true } → MadeAs called said stamp v w
 written_made o left called said n stamp v u w part loaded log leaves wrote root is =
     made_loaded v u loaded called said stamp w part log
     (subst (λ (z : Stamp). MadeAs called said z u w) (sym is)

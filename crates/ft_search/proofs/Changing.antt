@@ -17,7 +17,7 @@ use Rattle.ft_trace.specs.Kinds.{rows, version_at, CarefulAs, ClearAs}
 use Rattle.ft_trace.specs.Openings.{Shut, Timely}
 use Rattle.ft_trace.specs.Traces.{Possible}
 use Rattle.ft_trace.specs.Words.{Picture, root_in, entry_at, entry_of, Stands}
-use Rattle.ft_trace.specs.Worlds.{Kept, kind_in}
+use Rattle.ft_trace.specs.Worlds.{ContainerState, kind_in}
 use Rattle.ft_trace.specs.Writes.{Put, to_table, with_puts, MayPut, MayPuts}
 use Rattle.ft_trace.proofs.Clearing.{held_shut}
 use Rattle.ft_trace.proofs.Known.{kind_known}
@@ -26,7 +26,7 @@ use Rattle.ft_search.specs.Writing.{raised_at}
 
 -- The puts before the commit may be made; then it may be made, and the version of the entry be made even again, the only one
 -- that is odd. Then the words stand for what is left.
-pub record Changing (texts : List ℕ) (t : ℕ) (x : Picture) (before : Kept) (place : ℕ) (early : List Put) (left : Kept) : Type 0 where
+pub record Changing (texts : List ℕ) (t : ℕ) (x : Picture) (before : ContainerState) (place : ℕ) (early : List Put) (left : ContainerState) : Type 0 where
   pub puts : MayPuts (kind_of before.content) t before.content false x early
   pub clear : ClearAs (kind_of before.content) texts (class_of t) (with_puts x early).table before.content left.content
   pub odd : entry_of (slots (class_of t)) (with_puts x early).table place 0 % 2 ≡ 1

@@ -32,7 +32,7 @@ use Rattle.ft_trace.specs.declared.Shape.{Shape}
 use Rattle.ft_trace.specs.declared.View.{View}
 use Rattle.ft_trace.specs.Holds.{held, known}
 use Rattle.ft_trace.specs.Traces.{Possible}
-use Rattle.ft_trace.specs.Worlds.{Kept, kind_in}
+use Rattle.ft_trace.specs.Worlds.{ContainerState, kind_in}
 use Rattle.ft_trace.specs.Writes.{to_block, to_table, with_puts, MayPut, MayPuts}
 use Rattle.ft_trace.proofs.ByKind.{keyed_fit, keyed_low}
 use Rattle.ft_trace.proofs.DictWrites as dict
@@ -395,7 +395,7 @@ module _ (k : Shape) (o : ℕ) (table : Table) (place : ℕ) (key : Key) (v w1 w
   pub opens : IsCareful w2 o pt (entry_at pn place 0) (entry_of pn (held o w2).table place 0 + 1)
   opens =
       subst (λ (z : Picture). IsCareful w2 o pt (entry_at pn place 0) (entry_of pn z.table place 0 + 1)) (sym counted_words)
-      (put_at k o pt (entry_at pn place 0) (entry_of pn (held o v).table place 0 + 1) false counted (known o v).content w2 (counted_only.work.pass.shape ∙ shape) (counted_only.work.committed o ∙ early) counted_words (ap (λ (z : Kept). z.content) (work_knows v w2 o counted_only.work)) may.1.0)
+      (put_at k o pt (entry_at pn place 0) (entry_of pn (held o v).table place 0 + 1) false counted (known o v).content w2 (counted_only.work.pass.shape ∙ shape) (counted_only.work.committed o ∙ early) counted_words (ap (λ (z : ContainerState). z.content) (work_knows v w2 o counted_only.work)) may.1.0)
 
   module _ (w3 : View) (only3 : OnlyPut o w2 w3) (held3 : held o w3 ≡ raised_at pt place (held o w2)) (gone : ℕ) (is_gone : gone ≡ gone_kind key) where
     abbrev opened' : Picture
@@ -410,7 +410,7 @@ module _ (k : Shape) (o : ℕ) (table : Table) (place : ℕ) (key : Key) (v w1 w
     pub dies : IsCareful w3 o pt (entry_at pn place 2) gone
     dies =
         subst (λ (z : ℕ). IsCareful w3 o pt (entry_at pn place 2) z) (sym is_gone)
-        (put_at k o pt (entry_at pn place 2) (gone_kind key) false opened' (known o v).content w3 (opened_only.work.pass.shape ∙ shape) (opened_only.work.committed o ∙ early) opened_words (ap (λ (z : Kept). z.content) (work_knows v w3 o opened_only.work)) may.1.1.0)
+        (put_at k o pt (entry_at pn place 2) (gone_kind key) false opened' (known o v).content w3 (opened_only.work.pass.shape ∙ shape) (opened_only.work.committed o ∙ early) opened_words (ap (λ (z : ContainerState). z.content) (work_knows v w3 o opened_only.work)) may.1.1.0)
 
     pub deleted_only : (w4 : View) → OnlyPut o w3 w4 → OnlyPut o v w4
     deleted_only w4 only4 = put_then v w3 w4 o opened_only only4

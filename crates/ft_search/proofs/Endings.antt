@@ -21,7 +21,7 @@ use Rattle.ft_trace.specs.Kinds.{rows, version_at, CarefulAs, ClearAs, IsKeyed}
 use Rattle.ft_trace.specs.Openings.{Shut, Timely}
 use Rattle.ft_trace.specs.Traces.{Possible}
 use Rattle.ft_trace.specs.Words.{Picture, root_in, entry_at, entry_of, Stands}
-use Rattle.ft_trace.specs.Worlds.{Kept, kept_at, kind_in, changes, reply_in}
+use Rattle.ft_trace.specs.Worlds.{ContainerState, state_at, kind_in, changes, reply_in}
 use Rattle.ft_trace.specs.Writes.{Put, with_puts}
 use Rattle.ft_trace.proofs.Cases.{hit}
 use Rattle.ft_trace.proofs.Clearing.{held_shut}
@@ -53,7 +53,7 @@ module _ (o : ℕ) (v s u : View) (f : ℕ) (begun : s ≡ noted (StartWrite o f
   }
 
   -- a call leaves the same
-  pub leaves_later : (called : Call) (said : Reply) (left : Kept) → Leaves o called said left v → Leaves o called said left u
+  pub leaves_later : (called : Call) (said : Reply) (left : ContainerState) → Leaves o called said left v → Leaves o called said left u
   leaves_later called said left l = record {
     write = l.write;
     changed = l.changed;
@@ -66,7 +66,7 @@ module _ (o : ℕ) (v s u : View) (f : ℕ) (begun : s ≡ noted (StartWrite o f
   }
 
   -- where its words say what it leaves, it may be committed
-  pub may_commit : (called : Call) (said : Reply) (left : Kept) → Leaves o called said left v → o < containers_in v.shape → 0 < v.left → owes v.log ≡ 0
+  pub may_commit : (called : Call) (said : Reply) (left : ContainerState) → Leaves o called said left v → o < containers_in v.shape → 0 < v.left → owes v.log ≡ 0
       → ((t : ℕ) → root_in (held o u) ≡ suc t → ClearAs (kind_in v.shape.kinds o) v.shape.texts (class_of t) (held o u).table (known o v).content left.content)
       → MayCommit u called said
   may_commit called said left l low some none clear =
@@ -74,8 +74,8 @@ module _ (o : ℕ) (v s u : View) (f : ℕ) (begun : s ≡ noted (StartWrite o f
       let odd : is_writing o u.log ≡ true = puts.work.pass.writes o ∙ (ap (λ (z : View). is_writing o z.log) begun ∙ hit o true (is_writing o v.log)) in
       let empty : has_emptied o u.log ≡ false = puts.work.emptied o ∙ (ap (λ (z : View). has_emptied o z.log) begun ∙ hit o false (has_emptied o v.log)) in
       let owed : owes u.log ≡ 0 = puts.work.owes ∙ (ap (λ (z : View). owes z.log) begun ∙ none) in
-      let clears : (stored : StoredWorld) (t : ℕ) → MayHave u stored → root_in (held o u) ≡ suc t → ClearAs (kind_in u.shape.kinds o) u.shape.texts (class_of t) (held o u).table (known o u).content (kept_at (after_stored stored called) o).content =
-      λ stored t has names. subst (λ (z : Shape × Kept × Kept). ClearAs (kind_in z.0.kinds o) z.0.texts (class_of t) (held o u).table z.1.content z.2.content)
+      let clears : (stored : StoredWorld) (t : ℕ) → MayHave u stored → root_in (held o u) ≡ suc t → ClearAs (kind_in u.shape.kinds o) u.shape.texts (class_of t) (held o u).table (known o u).content (state_at (after_stored stored called) o).content =
+      λ stored t has names. subst (λ (z : Shape × ContainerState × ContainerState). ClearAs (kind_in z.0.kinds o) z.0.texts (class_of t) (held o u).table z.1.content z.2.content)
       (sym (λ d. (same_shape d, same_known o d, late.left_is stored has d))) (clear t names) in
       let at : o ≡ changes called = sym l.changed in
       record {
@@ -87,7 +87,7 @@ module _ (o : ℕ) (v s u : View) (f : ℕ) (begun : s ≡ noted (StartWrite o f
         reply_is = λ stored has. plain_replied called said (reply_in stored called) l.write (late.replied stored has);
         declared = late.declared;
         fits = late.fits;
-        clear = subst (λ (n : ℕ). (stored : StoredWorld) (t : ℕ) → MayHave u stored → root_in (held n u) ≡ suc t → ClearAs (kind_in u.shape.kinds n) u.shape.texts (class_of t) (held n u).table (known n u).content (kept_at (after_stored stored called) n).content) at clears;
+        clear = subst (λ (n : ℕ). (stored : StoredWorld) (t : ℕ) → MayHave u stored → root_in (held n u) ≡ suc t → ClearAs (kind_in u.shape.kinds n) u.shape.texts (class_of t) (held n u).table (known n u).content (state_at (after_stored stored called) n).content) at clears;
         takes = λ stored class has e. absurd (omega (arith, e, owed));
         locks = late.locks;
         empties = λ e. absurd (true≢false (sym e ∙ subst (λ (n : ℕ). has_emptied n u.log ≡ false) at empty));
@@ -126,7 +126,7 @@ module _ (o : ℕ) (table : Table) (place : ℕ) (called : Call) (said : Reply) 
       let odd = m.odd in
       let now : known o made ≡ m.left = subst (λ (z : View). known o z ≡ m.left) is (left_known w committed) in
       let care : CarefulAs (kind_in u.shape.kinds o) (class_of t) (held o u).table (known o made).content (entry_at n place 0) (entry_of n (held o u).table place 0 + 1) =
-      subst (λ (z : Kept). CarefulAs (kind_in u.shape.kinds o) (class_of t) (held o u).table z.content (entry_at n place 0) (entry_of n (held o u).table place 0 + 1)) (sym now) m.close in
+      subst (λ (z : ContainerState). CarefulAs (kind_in u.shape.kinds o) (class_of t) (held o u).table z.content (entry_at n place 0) (entry_of n (held o u).table place 0 + 1)) (sym now) m.close in
       let timely : Timely (version_at (kind_in u.shape.kinds o) (class_of t)) (rows (kind_in u.shape.kinds o) (class_of t)) (entry_at n place 0) (entry_of n (held o u).table place 0 + 1) true =
       record { before = λ q less at one. absurd (omega (arith, one, odd)); later = λ q less at two. refl } in
       let all : IsCareful made o t (entry_at n place 0) (entry_of n (held o made).table place 0 + 1) = record { care = care; timely = timely } in
@@ -141,7 +141,7 @@ module _ (o : ℕ) (table : Table) (place : ℕ) (called : Call) (said : Reply) 
 
     -- the words stand for what the call leaves
     pub stands_then : Stands u.shape.texts (held o z) (known o z)
-    stands_then = subst (λ (x : Picture × Kept). Stands u.shape.texts x.0 x.1) (sym (λ d. (words_are d, (work_knows w z o only.work ∙ left_known w committed) d))) m.stands
+    stands_then = subst (λ (x : Picture × ContainerState). Stands u.shape.texts x.0 x.1) (sym (λ d. (words_are d, (work_knows w z o only.work ∙ left_known w committed) d))) m.stands
 
     pub shut_then : root_in (held o z) ≡ suc t → IsShut o z
     shut_then root q names =
@@ -186,7 +186,7 @@ module _ (k : Shape) (o : ℕ) (v s : View) (f : ℕ) (may : MayWriteEntries k o
     same_kept = committed.left o ∙ (leaves_later o v s s f begun (put_same s o) called said (known o v) leaves).left_is committed.found committed.has
 
     pub nothing_stands : Stands k.texts (held o w) (known o w)
-    nothing_stands = subst (λ (x : Picture × Kept). Stands k.texts x.0 x.1) (sym (λ d. (same_held d, same_kept d))) may.stands
+    nothing_stands = subst (λ (x : Picture × ContainerState). Stands k.texts x.0 x.1) (sym (λ d. (same_held d, same_kept d))) may.stands
 
     shape_now : w.shape ≡ v.shape
     shape_now = ap (λ (z : View). z.shape) is ∙ ap (λ (z : View). z.shape) begun
@@ -213,7 +213,7 @@ module _ (k : Shape) (o : ℕ) (v s : View) (f : ℕ) (may : MayWriteEntries k o
 
 -- ---- a write that changes one entry
 
-module _ (k : Shape) (o : ℕ) (table : Table) (v s u : View) (f : ℕ) (may : MayWriteEntries k o v) (shape : v.shape ≡ k) (begun : s ≡ noted (StartWrite o f) v) (only : OnlyPut o s u) (place : ℕ) (early : List Put) (left : Kept) (change : Changing k.texts (name_of table) (held o v) (known o v) place early left)
+module _ (k : Shape) (o : ℕ) (table : Table) (v s u : View) (f : ℕ) (may : MayWriteEntries k o v) (shape : v.shape ≡ k) (begun : s ≡ noted (StartWrite o f) v) (only : OnlyPut o s u) (place : ℕ) (early : List Put) (left : ContainerState) (change : Changing k.texts (name_of table) (held o v) (known o v) place early left)
     (kind_eq : kind_of (known o v).content ≡ kind_in k.kinds o) (words : held o u ≡ with_puts (held o v) early) (root : root_in (held o u) ≡ suc (name_of table)) (called : Call) (said : Reply) (leaves : Leaves o called said left v) where
   abbrev c' : ℕ
   c' = class_of (name_of table)

@@ -27,7 +27,7 @@ use Rattle.ft_trace.specs.Holds.{known}
 use Rattle.ft_trace.specs.Kinds.{under}
 use Rattle.ft_trace.specs.Traces.{Possible}
 use Rattle.ft_trace.specs.Words.{Picture, entry_of, root_in, Stands}
-use Rattle.ft_trace.specs.Worlds.{Kept, kind_in}
+use Rattle.ft_trace.specs.Worlds.{ContainerState, kind_in}
 use Rattle.ft_trace.specs.declared.Shape.{Shape}
 use Rattle.ft_trace.specs.declared.View.{View}
 use Rattle.ft_trace.proofs.DictWrites as dict
@@ -142,7 +142,7 @@ pub of_way : (way : Way) (v : View) (o : ℕ) → ∥ Possible v ∥₁ → has_
 of_way way.Dict v o possible mine is = dict_known v o possible mine is
 of_way way.Set v o possible mine is = set_known v o possible mine is
 
-module _ (missing_key : MissingKeys) (missing_element : MissingElements) (texts : List ℕ) (x : Picture) (kept : Kept) (stands : Stands texts x kept) (key : Key) where
+module _ (missing_key : MissingKeys) (missing_element : MissingElements) (texts : List ℕ) (x : Picture) (kept : ContainerState) (stands : Stands texts x kept) (key : Key) where
   abbrev all_words : List ℕ
   all_words = 0 ∷ 0 ∷ x.table
 

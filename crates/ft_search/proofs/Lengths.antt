@@ -26,7 +26,7 @@ use Rattle.ft_trace.specs.Causes.{HasCause}
 use Rattle.ft_trace.specs.Holds.{known}
 use Rattle.ft_trace.specs.Reading.{Between, Among, Looked}
 use Rattle.ft_trace.specs.Words.{Picture, Stands}
-use Rattle.ft_trace.specs.Worlds.{Kept, kept_at, kind_in, reply_in}
+use Rattle.ft_trace.specs.Worlds.{ContainerState, state_at, kind_in, reply_in}
 use Rattle.ft_trace.proofs.Known.{mapped}
 use Rattle.ft_bank.specs.declared.pass.Pass.{Pass}
 use Rattle.ft_bank.specs.Reads.{IsShown}
@@ -59,11 +59,11 @@ len_is world o (content.Dict dict) e = ap (λ (z : Content). reply.Count (length
 len_is world o (content.List items) e = ap (λ (z : Content). reply.Count (length (list_of z))) e
 len_is world o (content.Set set) e = ap (λ (z : Content). reply.Count (length (set_of z).elements)) (set_there world o set e)
 
-pub len_replied : (kind : Kind) (stored : StoredWorld) (o : ℕ) → kind_of (kept_at stored o).content ≡ kind → reply_in stored (len_of kind o) ≡ reply.Count (length_of (kept_at stored o).content)
-len_replied kind stored o is = ap (λ (z : Kind). reply_in stored (len_of z o)) (sym is) ∙ len_is stored.world o (kept_at stored o).content refl
+pub len_replied : (kind : Kind) (stored : StoredWorld) (o : ℕ) → kind_of (state_at stored o).content ≡ kind → reply_in stored (len_of kind o) ≡ reply.Count (length_of (state_at stored o).content)
+len_replied kind stored o is = ap (λ (z : Kind). reply_in stored (len_of z o)) (sym is) ∙ len_is stored.world o (state_at stored o).content refl
 
 -- the words of a container say it
-pub count_is : (texts : List ℕ) (x : Picture) (kept : Kept) → Stands texts x kept → slice_index x.block 1 ≡ length_of kept.content
+pub count_is : (texts : List ℕ) (x : Picture) (kept : ContainerState) → Stands texts x kept → slice_index x.block 1 ≡ length_of kept.content
 count_is texts x kept stands = by kept.content kept.table stands
   where
     by : (c : Content) (table : TableUse) → StandsAs texts x.block (0 ∷ 0 ∷ x.table) table c → slice_index x.block 1 ≡ length_of c
@@ -150,14 +150,14 @@ len_shown v w called o count n part ask own is s =
       mid = s.mid;
       between = between_own o s.mid part v.log w.log own s.between;
       stamp = s.counted;
-      answers = λ x stored is_kind stands agrees. len_replied kind stored o is_kind ∙ ap reply.Count (sym (agrees.block 1 count (omega arith) s.read ∙ count_is k.texts x (kept_at stored o) stands));
+      answers = λ x stored is_kind stands agrees. len_replied kind stored o is_kind ∙ ap reply.Count (sym (agrees.block 1 count (omega arith) s.read ∙ count_is k.texts x (state_at stored o) stands));
     } in
     subst (λ (z : Call). IsShown w z (reply.Count count) n) (sym is) (looks_are_shown w (len_of kind o) o (reply.Count count) n ask plain.reads plain.cursor plain.adds plain.memory (λ e. absurd (cc)) (plain.replied (reply.Count count) refl) looked)
 
 -- ---- under the lock
 
 -- the kind of what is stored
-pub kind_had : (v : View) (stored : StoredWorld) (o : ℕ) → MayHave v stored → kind_of (kept_at stored o).content ≡ kind_in v.shape.kinds o
+pub kind_had : (v : View) (stored : StoredWorld) (o : ℕ) → MayHave v stored → kind_of (state_at stored o).content ≡ kind_in v.shape.kinds o
 kind_had v stored o may = sym (mapped kind_of stored.world o (content.List [])) ∙ ap (λ (l : List Kind). slice_index_or l o kind.List) may.kinds
 
 pub len_held : (v u : View) (called : Call) (o count n : ℕ) → OnlyLoaded v u → 0 < v.left → o < containers_in v.shape → has_lock o v.log ≡ true → called ≡ len_of (kind_in v.shape.kinds o) o → count ≡ length_of (known o v).content → IsShown (noted (ReadCounter n) u) called (reply.Count count) n
@@ -166,8 +166,8 @@ len_held v u called o count n loaded left low mine is counts =
     let w = noted (ReadCounter n) u in
     let plain = len_plain kind o count in
     let right : (stored : StoredWorld) → MayHave w stored → IsReplied (len_of kind o) (reply.Count count) (reply_in stored (len_of kind o)) = λ stored may.
-    let kinds : kind_of (kept_at stored o).content ≡ kind = kind_had w stored o may ∙ ap (λ (k : Shape). kind_in k.kinds o) loaded.work.pass.shape in
-    let kept : kept_at stored o ≡ known o v = may.agrees o (subst (λ (k : Shape). o < containers_in k) (sym loaded.work.pass.shape) low) (loaded.work.pass.locks o ∙ mine) ∙ work_knows v u o loaded.work in
-    plain.replied (reply_in stored (len_of kind o)) (ap reply.Count (counts ∙ ap (λ (z : Kept). length_of z.content) (sym kept)) ∙ sym (len_replied kind stored o kinds)) in
+    let kinds : kind_of (state_at stored o).content ≡ kind = kind_had w stored o may ∙ ap (λ (k : Shape). kind_in k.kinds o) loaded.work.pass.shape in
+    let kept : state_at stored o ≡ known o v = may.agrees o (subst (λ (k : Shape). o < containers_in k) (sym loaded.work.pass.shape) low) (loaded.work.pass.locks o ∙ mine) ∙ work_knows v u o loaded.work in
+    plain.replied (reply_in stored (len_of kind o)) (ap reply.Count (counts ∙ ap (λ (z : ContainerState). length_of z.content) (sym kept)) ∙ sym (len_replied kind stored o kinds)) in
     subst (λ (z : Call). IsShown w z (reply.Count count) n) (sym is)
     (held_shown v u n loaded left (len_of kind o) (reply.Count count) plain.reads plain.cursor right (λ stored. plain.cause stored (ReadCounter n ∷ u.log) n))

@@ -13,7 +13,7 @@ use Rattle.ft_trace.specs.declared.Act.{Act}
 use Rattle.ft_trace.specs.declared.View.{View}
 use Rattle.ft_trace.specs.Addresses.{containers_in, class_of, slots, places}
 use Rattle.ft_trace.specs.Acts.{has_lock, noted}
-use Rattle.ft_trace.specs.Worlds.{Kept, kind_in}
+use Rattle.ft_trace.specs.Worlds.{ContainerState, kind_in}
 use Rattle.ft_trace.specs.Words.{Picture, root_in, entry_at, entry_of}
 use Rattle.ft_trace.specs.Kinds.{rows, version_at, CarefulAs, IsKeyed}
 use Rattle.ft_trace.specs.Openings.{Timely}
@@ -104,6 +104,6 @@ careful_loaded v w o t i x only care =
     let shape = only.work.pass.shape in
     let late = only.work.committed o in
     record {
-      care = subst (λ (z : Shape × Picture × Kept). CarefulAs (kind_in z.0.kinds o) (class_of t) z.1.table z.2.content i x) (sym (λ d. (shape d, same d, knows d))) care.care;
+      care = subst (λ (z : Shape × Picture × ContainerState). CarefulAs (kind_in z.0.kinds o) (class_of t) z.1.table z.2.content i x) (sym (λ d. (shape d, same d, knows d))) care.care;
       timely = subst (λ (z : Shape × Bool). Timely (version_at (kind_in z.0.kinds o) (class_of t)) (rows (kind_in z.0.kinds o) (class_of t)) i x z.1) (sym (λ d. (shape d, late d))) care.timely;
     }

@@ -23,7 +23,7 @@ use Rattle.ft_trace.specs.Carefuls.{IsLive}
 use Rattle.ft_trace.specs.Holds.{held, known}
 use Rattle.ft_trace.specs.Kinds.{rows}
 use Rattle.ft_trace.specs.Words.{Picture, root_in, entry_of, Stands}
-use Rattle.ft_trace.specs.Worlds.{Kept, kind_in}
+use Rattle.ft_trace.specs.Worlds.{ContainerState, kind_in}
 use Rattle.ft_trace.proofs.DictWrites as dict
 use Rattle.ft_trace.proofs.SetKnown as set
 use Rattle.ft_trace.proofs.Known.{class_known}
@@ -46,7 +46,7 @@ abbrev pub FirstFreeSlots : Type 0
 FirstFreeSlots = (mask : ℕ) (words : List ℕ) (key : Key) (first left : List ℕ) (slot : ℕ) → EndsAt mask words key first left (Free slot) → FirstFree words first (Some slot)
 
 -- in the table of a container whose words stand for this
-module _ (first_pair : dict.FirstEntriesArePairs) (first_element : set.FirstEntriesAreElements) (k : Shape) (x : Picture) (kept : Kept) (key : Key) (table : Table) (in_bank : IsTableIn k table) (names : root_in x ≡ suc (name_of table)) (stands : Stands k.texts x kept) (low : hash_of k.texts key < 2 ^ 64) (left : List ℕ) where
+module _ (first_pair : dict.FirstEntriesArePairs) (first_element : set.FirstEntriesAreElements) (k : Shape) (x : Picture) (kept : ContainerState) (key : Key) (table : Table) (in_bank : IsTableIn k table) (names : root_in x ≡ suc (name_of table)) (stands : Stands k.texts x kept) (low : hash_of k.texts key < 2 ^ 64) (left : List ℕ) where
   abbrev c : ℕ
   c = table.class
 
@@ -155,7 +155,7 @@ module _ (k : Shape) (o : ℕ) (v w : View) (only : OnlyLoaded v w) where
     keyed = may.keyed;
     locked = only.work.pass.locks o ∙ may.locked;
     even = only.work.pass.writes o ∙ may.even;
-    stands = subst (λ (z : Picture × Kept). Stands k.texts z.0 z.1) (λ d. (same.0 d, same.1 d)) may.stands;
+    stands = subst (λ (z : Picture × ContainerState). Stands k.texts z.0 z.1) (λ d. (same.0 d, same.1 d)) may.stands;
     owes = only.work.owes ∙ may.owes;
     left = subst (λ (z : ℕ). 0 < z) (sym only.work.left) may.left;
   }
@@ -174,7 +174,7 @@ module _ (k : Shape) (o : ℕ) (v w : View) (only : OnlyLoaded v w) where
   spot_loaded way key (spot.At table place kind payload) s = (
     table_loaded table s.0,
     entry_loaded table place key s.1,
-    subst (λ (z : Kept). IsHeldAt z.content key (Some (kind, payload))) same.1 s.2,
+    subst (λ (z : ContainerState). IsHeldAt z.content key (Some (kind, payload))) same.1 s.2,
     subst (λ (z : Picture). kind ≡ entry_of (slots (class_of (name_of table))) z.table place 4) same.0 s.3,
     subst (λ (z : Picture). payload ≡ entry_of (slots (class_of (name_of table))) z.table place 5) same.0 s.4,
   )
@@ -182,6 +182,6 @@ module _ (k : Shape) (o : ℕ) (v w : View) (only : OnlyLoaded v w) where
     table_loaded table s.0,
     s.1,
     subst (λ (z : Picture). FirstFree (0 ∷ 0 ∷ z.table) (walk_slots way (hash_of k.texts key) (class_mask table.class)) (Some slot)) same.0 s.2,
-    subst (λ (z : Kept). IsHeldAt z.content key None) same.1 s.3,
+    subst (λ (z : ContainerState). IsHeldAt z.content key None) same.1 s.3,
   )
-  spot_loaded way key spot.Bare s = (ap root_in (sym same.0) ∙ s.0, subst (λ (z : Kept). IsHeldAt z.content key None) same.1 s.1)
+  spot_loaded way key spot.Bare s = (ap root_in (sym same.0) ∙ s.0, subst (λ (z : ContainerState). IsHeldAt z.content key None) same.1 s.1)

@@ -11,7 +11,7 @@ use Rattle.ft_trace.specs.Addresses.{containers_in}
 use Rattle.ft_trace.specs.Holds.{held, known}
 use Rattle.ft_trace.specs.Sections.{Begun, begun, begun_by}
 use Rattle.ft_trace.specs.Words.{Picture, Stands}
-use Rattle.ft_trace.specs.Worlds.{Kept}
+use Rattle.ft_trace.specs.Worlds.{ContainerState}
 use Rattle.ft_bank.specs.declared.bank.Bank.{Bank}
 use Rattle.ft_bank.specs.declared.pass.Pass.{Pass}
 use Rattle.ft_bank.specs.Answered.{Answered}
@@ -37,7 +37,7 @@ still_loaded v u o s =
       flight = o.work.pass.flight ∙ s.flight;
       stands = λ p low has.
           let old = s.stands p (subst (λ (k : Shape). p < containers_in k) o.work.pass.shape low) (sym (o.work.pass.locks p) ∙ has) in
-          subst (λ (x : Shape × Picture × Kept). Stands x.0.texts x.1 x.2) (sym (λ d. (o.work.pass.shape d, loaded_held v u p o d, work_knows v u p o.work d))) old;
+          subst (λ (x : Shape × Picture × ContainerState). Stands x.0.texts x.1 x.2) (sym (λ d. (o.work.pass.shape d, loaded_held v u p o d, work_knows v u p o.work d))) old;
     }
 
 still_answered : (called : Call) (said : Reply) (n : ℕ) (u : View) → IsStill u → IsStill (noted (Answer called said n) u)

@@ -35,7 +35,7 @@ use Rattle.ft_trace.specs.Kinds.{under, rows, version_at, CarefulAs, ClearAs}
 use Rattle.ft_trace.specs.Openings.{Shut}
 use Rattle.ft_trace.specs.Traces.{Possible}
 use Rattle.ft_trace.specs.Words.{Picture, root_in, entry_at, entry_of, walk_of, Stands}
-use Rattle.ft_trace.specs.Worlds.{Kept, kind_in}
+use Rattle.ft_trace.specs.Worlds.{ContainerState, kind_in}
 use Rattle.ft_trace.specs.Writes.{to_table, with_puts, MayPut, MayPuts}
 use Rattle.ft_trace.proofs.ByKind.{keyed_low}
 use Rattle.ft_trace.proofs.DictWrites as dict
@@ -240,7 +240,7 @@ module _ (k : Shape) (o : ℕ) (table : Table) (place : ℕ) (value : Value) (v 
   pub first_word : (kind_word : ℕ) → kind_word ≡ stored_kind (Plain value) → IsCareful w1 o pt (entry_at pn place 4) kind_word
   first_word kind_word is =
       subst (λ (z : ℕ). IsCareful w1 o pt (entry_at pn place 4) z) (sym is)
-      (put_at k o pt (entry_at pn place 4) (stored_kind (Plain value)) false (raised_at pt place (held o v)) (known o v).content w1 (only1.work.pass.shape ∙ shape) (only1.work.committed o ∙ early) held1 (ap (λ (z : Kept). z.content) (work_knows v w1 o only1.work)) may.1.0)
+      (put_at k o pt (entry_at pn place 4) (stored_kind (Plain value)) false (raised_at pt place (held o v)) (known o v).content w1 (only1.work.pass.shape ∙ shape) (only1.work.committed o ∙ early) held1 (ap (λ (z : ContainerState). z.content) (work_knows v w1 o only1.work)) may.1.0)
 
   -- a word of the entry that the raise leaves
   pub still_found : (w : ℕ) → 0 < w → (found : ℕ) → found ≡ entry_of pn (held o v).table place w → found ≡ entry_of pn (held o w1).table place w
@@ -261,7 +261,7 @@ module _ (k : Shape) (o : ℕ) (table : Table) (place : ℕ) (value : Value) (v 
     pub second_word : (payload : ℕ) → payload ≡ stored_payload (Plain value) → IsCareful w2 o pt (entry_at pn place 5) payload
     second_word payload is =
         subst (λ (z : ℕ). IsCareful w2 o pt (entry_at pn place 5) z) (sym is)
-        (put_at k o pt (entry_at pn place 5) (stored_payload (Plain value)) false with_kind (known o v).content w2 (kind_only.work.pass.shape ∙ shape) (kind_only.work.committed o ∙ early) kind_words (ap (λ (z : Kept). z.content) (work_knows v w2 o kind_only.work)) may.1.1.0)
+        (put_at k o pt (entry_at pn place 5) (stored_payload (Plain value)) false with_kind (known o v).content w2 (kind_only.work.pass.shape ∙ shape) (kind_only.work.committed o ∙ early) kind_words (ap (λ (z : ContainerState). z.content) (work_knows v w2 o kind_only.work)) may.1.1.0)
 
     pub found_on : (found : ℕ) → found ≡ entry_of pn (held o w1).table place 5 → found ≡ entry_of pn (held o w2).table place 5
     found_on found is = is ∙ (sym (get_or-set_other (held o w1).table (entry_at pn place 4) (entry_at pn place 5) kind_word 0 (λ e. absurd (omega (arith, e)))) ∙ sym (ap (λ (z : Picture). entry_of pn z.table place 5) held2))

@@ -23,7 +23,7 @@ use Rattle.ft_trace.specs.Kinds.{rows, version_at, CarefulAs, IsKeyed}
 use Rattle.ft_trace.specs.Openings.{Shut}
 use Rattle.ft_trace.specs.Sections.{HasLocksOf}
 use Rattle.ft_trace.specs.Words.{Picture, root_in, entry_at, entry_of, Stands}
-use Rattle.ft_trace.specs.Worlds.{Kept, kept_at, kind_in, changes}
+use Rattle.ft_trace.specs.Worlds.{ContainerState, state_at, kind_in, changes}
 use Rattle.ft_trace.specs.Writes.{Put, to_block}
 use Rattle.ft_bank.specs.declared.table.Table.{Table}
 use Rattle.ft_bank.specs.Tables.{name_of, IsTableIn}
@@ -59,7 +59,7 @@ pub record WritesEntries (k : Shape) (o : ℕ) (table : Table) (v : View) : Type
 -- A call is a write of the container o that takes no table: the plain containers reply so to it, whatever else the bank
 -- has that agrees with what the pass knows, and o has this content and this table then; the pass has the locks of the
 -- containers that it names, and none passes its greatest length. (Python manual, Mapping Types, Set Types)
-pub record Leaves (o : ℕ) (called : Call) (said : Reply) (left : Kept) (v : View) : Type 0 where
+pub record Leaves (o : ℕ) (called : Call) (said : Reply) (left : ContainerState) (v : View) : Type 0 where
   pub write : is_write called said ≡ true
   pub changed : changes called ≡ o
   pub words : FitsCall called
@@ -67,7 +67,7 @@ pub record Leaves (o : ℕ) (called : Call) (said : Reply) (left : Kept) (v : Vi
   pub replied : IsReplyTo called said v
   pub declared : (stored : StoredWorld) → MayHave v stored → IsDeclared stored.world no_hands called
   pub fits : (stored : StoredWorld) → MayHave v stored → would_pass stored.world called ≡ false
-  pub left_is : (stored : StoredWorld) → MayHave v stored → kept_at (after_stored stored called) o ≡ left
+  pub left_is : (stored : StoredWorld) → MayHave v stored → state_at (after_stored stored called) o ≡ left
 
 -- the place is one of an entry of the container's table that is there with this key
 pub record IsEntryOf (k : Shape) (o : ℕ) (table : Table) (place : ℕ) (key : Key) (v : View) : Type 0 where
@@ -92,8 +92,8 @@ raised_at t place x =
 pub record MayFinish (o : ℕ) (table : Table) (place : ℕ) (called : Call) (said : Reply) (v : View) : Type 0 where
   pub may : MayCommit v called said
   pub changed : changes called ≡ o
-  pub left : Kept
-  pub left_is : (stored : StoredWorld) → MayHave v stored → kept_at (after_stored stored called) o ≡ left
+  pub left : ContainerState
+  pub left_is : (stored : StoredWorld) → MayHave v stored → state_at (after_stored stored called) o ≡ left
   pub odd : entry_of (slots (class_of (name_of table))) (held o v).table place 0 % 2 ≡ 1
   pub close : CarefulAs (kind_in v.shape.kinds o) (class_of (name_of table)) (held o v).table left.content
       (entry_at (slots (class_of (name_of table))) place 0)

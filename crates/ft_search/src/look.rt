@@ -88,7 +88,7 @@ fn look_round(
     }
 }
 
-/// A key has what words tell of it.
+/// A key has what words represent of it.
 pub(crate) fn key_fits(key: Key)
     ensures { FitsKey key }
 {

@@ -36,7 +36,7 @@ use Rattle.ft_trace.specs.FitCalls.{FitsSetCall, FitsContent}
 use Rattle.ft_trace.specs.Holds.{known}
 use Rattle.ft_trace.specs.Kinds.{under}
 use Rattle.ft_trace.specs.Traces.{Possible}
-use Rattle.ft_trace.specs.Worlds.{Kept, kept_at, kind_in, reply_in}
+use Rattle.ft_trace.specs.Worlds.{ContainerState, state_at, kind_in, reply_in}
 use Rattle.ft_trace.proofs.Known.{declared_at, at_any}
 use Rattle.ft_trace.proofs.LookReplies.{element_there}
 use Rattle.ft_trace.proofs.Naming.{named_locked}
@@ -70,7 +70,7 @@ module _ (s : ℕ) (v : View) (elements : SetContent) (low : s < containers_in v
   world = stored.world
 
   pub there : slice_index_or world s (content.List []) ≡ content.Set elements
-  there = ap (λ (z : Kept). z.content) (has.agrees s low mine) ∙ is_set
+  there = ap (λ (z : ContainerState). z.content) (has.agrees s low mine) ∙ is_set
 
   pub many : s < length world
   many = subst (λ (n : ℕ). s < n) (sym has.containers) low
@@ -85,7 +85,7 @@ module _ (s : ℕ) (v : View) (elements : SetContent) (low : s < containers_in v
   each_fits = subst FitsContent there (has.words s (content.List []) many)
 
   pub table_is : table_at stored.tables s ≡ (known s v).table
-  table_is = ap (λ (z : Kept). z.table) (has.agrees s low mine)
+  table_is = ap (λ (z : ContainerState). z.table) (has.agrees s low mine)
 
   module _ (sc : SetCall) (said : Reply) where
     pub replies : (a : Answer) → answer_set world no_hands s elements sc ≡ a → a.reply ≡ said → reply_in stored (call.Set s sc) ≡ said
@@ -105,7 +105,7 @@ module _ (s : ℕ) (v : View) (elements : SetContent) (low : s < containers_in v
       pub left_at : (e : Content) → slice_index_or (after_write world (call.Set s sc)) s e ≡ content.Set news
       left_at e = ap (λ (z : Answer). slice_index_or z.world s e) answer_is ∙ get_or-set_same world s (content.Set news) e many
 
-      stays : set_change sc ≡ change.Stays → kept_at (after_stored stored (call.Set s sc)) s ≡ record { content = content.Set news; table = (known s v).table }
+      stays : set_change sc ≡ change.Stays → state_at (after_stored stored (call.Set s sc)) s ≡ record { content = content.Set news; table = (known s v).table }
       stays same =
           let c = left_at (content.List []) in
           let t = ap (λ (z : TableChange). table_at (change_leaves stored.tables s z (grown_table (table_at stored.tables s) (takes_in stored (call.Set s sc)) ((set_at (after_write world (call.Set s sc)) s).next - (set_at world s).next) (length (set_at (after_write world (call.Set s sc)) s).elements)) no_table) s) same ∙ table_is in
@@ -132,7 +132,7 @@ module _ (s : ℕ) (v : View) (elements : SetContent) (low : s < containers_in v
   pub has_there : (kind payload : ℕ) → IsHeldAt (content.Set elements) key (Some (kind, payload)) → (stored : StoredWorld) → MayHave v stored → has_element elements.elements key ≡ true
   has_there kind payload held stored has = element_there elements key fits (each_fits s v elements low mine is_set stored has) (some_words (under (content.Set elements) key) kind payload held.0 held.1)
 
-  abbrev left : Kept
+  abbrev left : ContainerState
   left = record { content = without_key (known s v).content key; table = (known s v).table }
 
   left_is : record { content = content.Set (set_discard elements key); table = (known s v).table } ≡ left
@@ -140,13 +140,13 @@ module _ (s : ℕ) (v : View) (elements : SetContent) (low : s < containers_in v
 
   pub discard_leaves : Leaves s (call.Set s (set.Discard key)) reply.Done left v
   discard_leaves =
-      subst (λ (z : Kept). Leaves s (call.Set s (set.Discard key)) reply.Done z v) left_is
+      subst (λ (z : ContainerState). Leaves s (call.Set s (set.Discard key)) reply.Done z v) left_is
       (leaves_stay s v elements (set_discard elements key) (set.Discard key) reply.Done low mine is_set refl refl refl refl refl fits (λ stored has. refl))
 
   pub remove_leaves : (kind payload : ℕ) → IsHeldAt (known s v).content key (Some (kind, payload)) → Leaves s (call.Set s (set.Remove key)) reply.Done left v
   remove_leaves kind payload held =
       let h = subst (λ (z : Content). IsHeldAt z key (Some (kind, payload))) is_set held in
-      subst (λ (z : Kept). Leaves s (call.Set s (set.Remove key)) reply.Done z v) left_is
+      subst (λ (z : ContainerState). Leaves s (call.Set s (set.Remove key)) reply.Done z v) left_is
       (leaves_stay s v elements (set_discard elements key) (set.Remove key) reply.Done low mine is_set refl refl refl refl refl fits
       (λ stored has. ap (λ (b : Bool). if b then puts stored.world no_hands s (content.Set (set_discard elements key)) reply.Done else shows stored.world no_hands (reply.Raised raise.NoKey)) (has_there kind payload h stored has)))
 
@@ -157,7 +157,7 @@ module _ (s : ℕ) (v : View) (elements : SetContent) (low : s < containers_in v
     pub nothing_leaves : Leaves s (call.Set s (set.Discard key)) reply.Done (known s v) v
     nothing_leaves =
         let same : left ≡ known s v = sym left_is ∙ ((λ i. record { content = content.Set (record { next = elements.next; elements = discard_same elements.elements key missing i }); table = (known s v).table }) ∙ (λ i. record { content = sym is_set i; table = (known s v).table })) in
-        subst (λ (z : Kept). Leaves s (call.Set s (set.Discard key)) reply.Done z v) same discard_leaves
+        subst (λ (z : ContainerState). Leaves s (call.Set s (set.Discard key)) reply.Done z v) same discard_leaves
 
     pub remove_raises : IsShownBy (call.Set s (set.Remove key)) (reply.Raised raise.NoKey) v
     remove_raises = record {
@@ -201,7 +201,7 @@ module _ (s : ℕ) (v : View) (elements news : SetContent) (sc : SetCall) (said 
       ap (λ (z : TableChange). change_takes z (set_takes T (set_at stored.world s) (set_at after s)) None) grows
       ∙ ap (λ (z : ℕ). if outgrows_set T z then Some (set_class (length (set_at after s).elements)) else None) none_drawn
 
-  pub same_kept : kept_at (after_stored stored called) s ≡ record { content = content.Set news; table = (known s v).table }
+  pub same_kept : state_at (after_stored stored called) s ≡ record { content = content.Set news; table = (known s v).table }
   same_kept =
       let drawn = (set_at after s).next - (set_at stored.world s).next in
       let many_elements = length (set_at after s).elements in
@@ -246,7 +246,7 @@ module _ (s : ℕ) (v : View) (elements : SetContent) (low : s < containers_in v
       let h = subst (λ (z : Content). IsHeldAt z key (Some (kind, payload))) is_set held in
       let grown : SetContent = record { next = elements.next + 1; elements = elements.elements ++ record { serial = elements.next; key = key } ∷ [] } in
       let same : record { content = content.Set elements; table = (known s v).table } ≡ known s v = λ i. record { content = sym is_set i; table = (known s v).table } in
-      subst (λ (z : Kept). Leaves s (call.Set s (set.Add key)) reply.Done z v) same
+      subst (λ (z : ContainerState). Leaves s (call.Set s (set.Add key)) reply.Done z v) same
       (leaves_same s v elements elements (set.Add key) reply.Done low mine is_set refl refl refl refl refl fits
       (λ stored has. (
         refl,
@@ -259,7 +259,7 @@ module _ (s : ℕ) (v : View) (elements : SetContent) (low : s < containers_in v
 pub clear_leaves : (s : ℕ) (v : View) (elements : SetContent) → s < containers_in v.shape → has_lock s v.log ≡ true → (known s v).content ≡ content.Set elements → Leaves s (call.Set s set.Clear) reply.Done (cleared_kept (known s v)) v
 clear_leaves s v elements low mine is_set =
     let same : record { content = content.Set (set_clear elements); table = no_table } ≡ cleared_kept (known s v) = λ i. record { content = cleared (sym is_set i); table = no_table } in
-    subst (λ (z : Kept). Leaves s (call.Set s set.Clear) reply.Done z v) same
+    subst (λ (z : ContainerState). Leaves s (call.Set s set.Clear) reply.Done z v) same
     (record {
       write = refl;
       changed = refl;

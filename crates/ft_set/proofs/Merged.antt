@@ -18,7 +18,7 @@ use Rattle.ft_trace.specs.Worlds.{kind_in}
 use Rattle.ft_trace.proofs.Known.{declared_at}
 use Rattle.ft_trace.proofs.Naming.{named_locked}
 use Rattle.ft_bank.specs.Writes.{MayHave}
-use Rattle.ft_merging.specs.Thinning.{thinned_kept}
+use Rattle.ft_merging.specs.Thinning.{thinned_state}
 use Rattle.ft_merging.proofs.Finished.{is_set}
 use Rattle.ft_search.specs.Writing.{Leaves, MayWriteEntries}
 use Rattle.ft_set.proofs.Leaving.{many, set_is, table_is, there}
@@ -56,7 +56,7 @@ module _ (k : Shape) (s t : ℕ) (v : View) (shape : v.shape ≡ k) (possible : 
         ∙ (λ i. content.Set (f (one i) (two i)))
 
   -- `s &= t`
-  pub and_leaves : Leaves s (call.Set s (set.And t)) reply.Done (thinned_kept true (known t v) (known s v)) v
+  pub and_leaves : Leaves s (call.Set s (set.And t)) reply.Done (thinned_state true (known t v) (known s v)) v
   and_leaves = record {
     write = refl;
     changed = refl;
@@ -76,7 +76,7 @@ module _ (k : Shape) (s t : ℕ) (v : View) (shape : v.shape ≡ k) (possible : 
   }
 
   -- `s -= t`
-  pub sub_leaves : Leaves s (call.Set s (set.Sub t)) reply.Done (thinned_kept false (known t v) (known s v)) v
+  pub sub_leaves : Leaves s (call.Set s (set.Sub t)) reply.Done (thinned_state false (known t v) (known s v)) v
   sub_leaves = record {
     write = refl;
     changed = refl;

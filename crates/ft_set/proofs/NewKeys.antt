@@ -27,7 +27,7 @@ use Rattle.ft_trace.specs.Acts.{has_lock}
 use Rattle.ft_trace.specs.Addresses.{containers_in}
 use Rattle.ft_trace.specs.FitCalls.{FitsSetCall}
 use Rattle.ft_trace.specs.Holds.{known}
-use Rattle.ft_trace.specs.Worlds.{kept_at}
+use Rattle.ft_trace.specs.Worlds.{state_at}
 use Rattle.ft_trace.proofs.SetGrowing.{added_next, added_length}
 use Rattle.ft_trace.proofs.Naming.{named_locked}
 use Rattle.ft_bank.specs.Writes.{MayHave}
@@ -73,7 +73,7 @@ module _ (s : ℕ) (v : View) (elements : SetContent) (low : s < containers_in v
         ap (λ (z : TableChange). change_takes z (set_takes T (set_at found.world s) (set_at after s)) None) grows
         ∙ (λ i. if outgrows_set (table i) (one i) then Some (set_class (count i)) else None)
 
-    left_kept : kept_at (after_stored found called) s ≡ record { content = content.Set news; table = grown_table had (key_takes (content.Set elements) had) 1 (length elements.elements + 1) }
+    left_kept : state_at (after_stored found called) s ≡ record { content = content.Set news; table = grown_table had (key_takes (content.Set elements) had) 1 (length elements.elements + 1) }
     left_kept =
         let some = (set_at after s).next - (set_at found.world s).next in
         let all = length (set_at after s).elements in

@@ -30,7 +30,7 @@ use Rattle.ft_trace.specs.Holds.{held, known}
 use Rattle.ft_trace.specs.Kinds.{rows}
 use Rattle.ft_trace.specs.Traces.{Possible}
 use Rattle.ft_trace.specs.Words.{Picture, root_in}
-use Rattle.ft_trace.specs.Worlds.{Kept, kind_in}
+use Rattle.ft_trace.specs.Worlds.{ContainerState, kind_in}
 use Rattle.ft_bank.specs.declared.table.Table.{Table}
 use Rattle.ft_bank.specs.Tables.{IsTableIn, name_of}
 use Rattle.ft_search.specs.Calls.{IsShownBy}
@@ -172,7 +172,7 @@ module _ (k : Shape) (s : ℕ) (v : View) (shape : v.shape ≡ k) (possible : �
     pub popped_leaves : Leaves s (call.Set s set.Pop) (reply.Value (as_value first.key)) (record { content = without_key (known s v).content first.key; table = (known s v).table }) v
     popped_leaves =
         let same : record { content = content.Set (set_discard elements' first.key); table = (known s v).table } ≡ record { content = without_key (known s v).content first.key; table = (known s v).table } = λ i. record { content = without_key (sym is_set' i) first.key; table = (known s v).table } in
-        subst (λ (z : Kept). Leaves s (call.Set s set.Pop) (reply.Value (as_value first.key)) z v) same
+        subst (λ (z : ContainerState). Leaves s (call.Set s set.Pop) (reply.Value (as_value first.key)) z v) same
         (leaves_stay s v elements' (set_discard elements' first.key) set.Pop (reply.Value (as_value first.key)) low' may.locked is_set' refl refl refl refl refl tt
         (λ stored has.
         ap (λ (z : Option Element). option_map_or (λ (element : Element). puts stored.world no_hands s (content.Set (without_first elements')) (reply.Value (as_value element.key))) z (shows stored.world no_hands (reply.Raised raise.NoKey))) here.3.1

@@ -17,7 +17,7 @@ use Rattle.ft_trace.specs.Addresses.{containers_in}
 use Rattle.ft_trace.specs.FitCalls.{FitsContent}
 use Rattle.ft_trace.specs.Holds.{known}
 use Rattle.ft_trace.specs.Kinds.{under}
-use Rattle.ft_trace.specs.Worlds.{Kept}
+use Rattle.ft_trace.specs.Worlds.{ContainerState}
 use Rattle.ft_trace.proofs.Known.{at_any}
 use Rattle.ft_trace.proofs.LookReplies.{element_there}
 use Rattle.ft_bank.specs.Reads.{IsShown}
@@ -40,8 +40,8 @@ module _ (v u : View) (s : ℕ) (key : Key) (read : Option (ℕ × ℕ)) (loaded
 
     there : slice_index_or stored.world s (content.List []) ≡ content.Set elements
     there =
-        ap (λ (z : Kept). z.content) (may.agrees s (subst (λ k. s < containers_in k) (sym loaded.work.pass.shape) low) (loaded.work.pass.locks s ∙ mine))
-        ∙ (ap (λ (z : Kept). z.content) (work_knows v u s loaded.work) ∙ is)
+        ap (λ (z : ContainerState). z.content) (may.agrees s (subst (λ k. s < containers_in k) (sym loaded.work.pass.shape) low) (loaded.work.pass.locks s ∙ mine))
+        ∙ (ap (λ (z : ContainerState). z.content) (work_knows v u s loaded.work) ∙ is)
 
     set_is : set_at stored.world s ≡ elements
     set_is = ap set_of (at_any stored.world s (content.Set empty_set) (content.List []) many ∙ there)

@@ -15,7 +15,7 @@ use Rattle.ft_trace.specs.declared.View.{View}
 use Rattle.ft_trace.specs.Holds.{held}
 use Rattle.ft_trace.specs.Traces.{Possible}
 use Rattle.ft_trace.specs.Words.{Picture, Stands}
-use Rattle.ft_trace.specs.Worlds.{kept_at, kind_in, reply_in}
+use Rattle.ft_trace.specs.Worlds.{state_at, kind_in, reply_in}
 use Rattle.ft_search.specs.Calls.{IsShownBy}
 use Rattle.ft_search.specs.Writing.{MayWriteEntries}
 use Rattle.ft_search.proofs.Lengths.{IsPlain}
@@ -26,9 +26,9 @@ use Rattle.ft_keyed.proofs.Knowing.{set_there, had_kind, had_stands}
 
 -- ---- all elements
 
-pub items_reply : (k : Shape) (s : ℕ) (copy : List Key) (x : Picture) (stored : StoredWorld) → kind_of (kept_at stored s).content ≡ kind.Set → Stands k.texts x (kept_at stored s) → IsOfSet k (λ (set : SetContent). copy ≡ map (λ (e : Element). e.key) set.elements) x → reply_in stored (call.Set s set.Items) ≡ reply.Set copy
+pub items_reply : (k : Shape) (s : ℕ) (copy : List Key) (x : Picture) (stored : StoredWorld) → kind_of (state_at stored s).content ≡ kind.Set → Stands k.texts x (state_at stored s) → IsOfSet k (λ (set : SetContent). copy ≡ map (λ (e : Element). e.key) set.elements) x → reply_in stored (call.Set s set.Items) ≡ reply.Set copy
 items_reply k s copy x stored is stands shows =
-    ap (λ (z : SetContent). reply.Set (map (λ (e : Element). e.key) z.elements)) (set_there stored.world s is) ∙ ap reply.Set (sym (shows (kept_at stored s) is stands))
+    ap (λ (z : SetContent). reply.Set (map (λ (e : Element). e.key) z.elements)) (set_there stored.world s is) ∙ ap reply.Set (sym (shows (state_at stored s) is stands))
 
 -- there is one at least where a copy has one
 pub some_mapped : (elements : List Element) → 0 < length (map (λ (e : Element). e.key) elements) → 0 < length elements
@@ -40,25 +40,25 @@ items_plain s copy = record { reads = refl; cursor = refl; adds = refl; memory =
 
 -- ---- equality
 
-pub eq_reply : (k : Shape) (s t : ℕ) (same : Bool) (x y : Picture) (stored : StoredWorld) → kind_of (kept_at stored s).content ≡ kind.Set → kind_of (kept_at stored t).content ≡ kind.Set → Stands k.texts x (kept_at stored s) → Stands k.texts y (kept_at stored t)
+pub eq_reply : (k : Shape) (s t : ℕ) (same : Bool) (x y : Picture) (stored : StoredWorld) → kind_of (state_at stored s).content ≡ kind.Set → kind_of (state_at stored t).content ≡ kind.Set → Stands k.texts x (state_at stored s) → Stands k.texts y (state_at stored t)
     → AreOfSets k (λ set others. same ≡ same_elements set.elements others.elements) x y → reply_in stored (call.Set s (set.Eq t)) ≡ reply.Truth same
 eq_reply k s t same x y stored is is' stands stands' shows =
-    (λ i. reply.Truth (same_elements (set_there stored.world s is i).elements (set_there stored.world t is' i).elements)) ∙ ap reply.Truth (sym (shows (kept_at stored s) is stands (kept_at stored t) is' stands'))
+    (λ i. reply.Truth (same_elements (set_there stored.world s is i).elements (set_there stored.world t is' i).elements)) ∙ ap reply.Truth (sym (shows (state_at stored s) is stands (state_at stored t) is' stands'))
 
 pub eq_plain : (s t : ℕ) (same : Bool) → IsPlain (call.Set s (set.Eq t)) (reply.Truth same)
 eq_plain s t same = record { reads = refl; cursor = refl; adds = refl; memory = refl; replied = λ plain is. inr is; cause = λ stored log n. refl }
 
 -- ---- subsets and sets apart
 
-pub subset_reply : (k : Shape) (s t : ℕ) (within : Bool) (x y : Picture) (stored : StoredWorld) → kind_of (kept_at stored s).content ≡ kind.Set → kind_of (kept_at stored t).content ≡ kind.Set → Stands k.texts x (kept_at stored s) → Stands k.texts y (kept_at stored t)
+pub subset_reply : (k : Shape) (s t : ℕ) (within : Bool) (x y : Picture) (stored : StoredWorld) → kind_of (state_at stored s).content ≡ kind.Set → kind_of (state_at stored t).content ≡ kind.Set → Stands k.texts x (state_at stored s) → Stands k.texts y (state_at stored t)
     → AreOfSets k (λ set others. within ≡ is_subset set.elements others.elements) x y → reply_in stored (call.Set s (set.Subset t)) ≡ reply.Truth within
 subset_reply k s t within x y stored is is' stands stands' shows =
-    (λ i. reply.Truth (is_subset (set_there stored.world s is i).elements (set_there stored.world t is' i).elements)) ∙ ap reply.Truth (sym (shows (kept_at stored s) is stands (kept_at stored t) is' stands'))
+    (λ i. reply.Truth (is_subset (set_there stored.world s is i).elements (set_there stored.world t is' i).elements)) ∙ ap reply.Truth (sym (shows (state_at stored s) is stands (state_at stored t) is' stands'))
 
-pub disjoint_reply : (k : Shape) (s t : ℕ) (apart : Bool) (x y : Picture) (stored : StoredWorld) → kind_of (kept_at stored s).content ≡ kind.Set → kind_of (kept_at stored t).content ≡ kind.Set → Stands k.texts x (kept_at stored s) → Stands k.texts y (kept_at stored t)
+pub disjoint_reply : (k : Shape) (s t : ℕ) (apart : Bool) (x y : Picture) (stored : StoredWorld) → kind_of (state_at stored s).content ≡ kind.Set → kind_of (state_at stored t).content ≡ kind.Set → Stands k.texts x (state_at stored s) → Stands k.texts y (state_at stored t)
     → AreOfSets k (λ set others. apart ≡ is_disjoint set.elements others.elements) x y → reply_in stored (call.Set s (set.Disjoint t)) ≡ reply.Truth apart
 disjoint_reply k s t apart x y stored is is' stands stands' shows =
-    (λ i. reply.Truth (is_disjoint (set_there stored.world s is i).elements (set_there stored.world t is' i).elements)) ∙ ap reply.Truth (sym (shows (kept_at stored s) is stands (kept_at stored t) is' stands'))
+    (λ i. reply.Truth (is_disjoint (set_there stored.world s is i).elements (set_there stored.world t is' i).elements)) ∙ ap reply.Truth (sym (shows (state_at stored s) is stands (state_at stored t) is' stands'))
 
 -- ---- under the locks
 
@@ -67,7 +67,7 @@ module _ (k : Shape) (s : ℕ) (v : View) (shape : v.shape ≡ k) (possible : �
   pub items_taken : IsOfSet k (λ (set : SetContent). 0 < length (map (λ (e : Element). e.key) set.elements)) (held s v) → TakesMemory (call.Set s set.Items) v
   items_taken some stored has =
       let at = had_kind k s v shape possible may stored has ∙ is in
-      subst (λ (z : SetContent). 0 < length (map (λ (e : Element). e.key) z.elements)) (sym (set_there stored.world s at)) (some (kept_at stored s) at (had_stands k s v shape possible may stored has))
+      subst (λ (z : SetContent). 0 < length (map (λ (e : Element). e.key) z.elements)) (sym (set_there stored.world s at)) (some (state_at stored s) at (had_stands k s v shape possible may stored has))
 
   pub items_shown : (copy : List Key) → IsOfSet k (λ (set : SetContent). copy ≡ map (λ (e : Element). e.key) set.elements) (held s v) → IsShownBy (call.Set s set.Items) (reply.Set copy) v
   items_shown copy shows = record {

@@ -109,7 +109,7 @@ fn first_wrong(
     None
 }
 
-/// Puts rows that add so many elements from 0 on to set 2, the first as the write of number 0.
+/// Puts rows that add that many elements from 0 on to set 2, the first as the write of number 0.
 fn push_adds(rows: &mut Vec<(Call, Wanted)>, count: u32) -> Result<(), AllocError> {
     for key in 0..count {
         let row = (
@@ -129,7 +129,7 @@ fn push_rows(rows: &mut Vec<(Call, Wanted)>, more: Vec<(Call, Wanted)>) -> Resul
     Ok(())
 }
 
-/// The place of the first row that isn't so in a new bank with so many tables of class 3, and of each greater class.
+/// The place of the first row that isn't so in a new bank with that many tables of class 3, and of each greater class.
 fn in_new_bank(
     alloc: Global,
     least: u32,

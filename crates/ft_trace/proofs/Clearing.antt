@@ -18,7 +18,7 @@ use Rattle.ft_trace.specs.declared.Act.{Act}
 use Rattle.ft_trace.specs.declared.Act.TheVariants.{StartWrite, PutRoot, PutBlock, Commit, StopWrite, Unlock}
 use Rattle.ft_trace.specs.Addresses.{Word, containers_in, counter, version_of, lock_of, block, class_of, at, extent, Inside}
 use Rattle.ft_trace.specs.Acts.{place, Reports, has_lock, is_writing, has_committed, used, owes, mem, noted}
-use Rattle.ft_trace.specs.Worlds.{Kept, kind_in}
+use Rattle.ft_trace.specs.Worlds.{ContainerState, kind_in}
 use Rattle.ft_trace.specs.Words.{root_of, inner, Picture, root_in, picture, Stands}
 use Rattle.ft_trace.specs.Kinds.{rows, version_at}
 use Rattle.ft_trace.specs.Openings.{Shut}
@@ -162,7 +162,7 @@ module _ (v : View) (o : ℕ) (values : List Value) (live : IsAwake v) (possible
   declared n es id knows =
       let world = (stored_newest k.kinds (history es)).world in
       let there = there_is world o (content.List []) (subst (λ (z : ℕ). o < z) (sym (as_many k.kinds (history es))) low) in
-      let is : slice_index_or world o (content.List []) ≡ content.List values = ap (λ (z : Kept). z.content) (sym (content_known (c3 n) o mine es id knows)) ∙ is_list in
+      let is : slice_index_or world o (content.List []) ≡ content.List values = ap (λ (z : ContainerState). z.content) (sym (content_known (c3 n) o mine es id knows)) ∙ is_list in
       record { one = ap (option_map kind_of) (there ∙ ap Some is); both = tt; room = tt }
 
   step1 : (n : ℕ) × Possible (c1 n)
@@ -215,7 +215,7 @@ module _ (v : View) (o : ℕ) (values : List Value) (live : IsAwake v) (possible
         low,
         odd,
         refl,
-        stop_sure (c4 n m s) o low mine (subst (λ (z : Picture × Kept). Stands k.texts z.0 z.1) (λ d. (sym shown d, sym (after_clear n m s) d)) (empty_stands k.texts kind.List)) es id knows,
+        stop_sure (c4 n m s) o low mine (subst (λ (z : Picture × ContainerState). Stands k.texts z.0 z.1) (λ d. (sym shown d, sym (after_clear n m s) d)) (empty_stands k.texts kind.List)) es id knows,
         version_up (c4 n m s) refl es id knows,
         (λ t names. absurd (omega (arith, names, root, root_now))),
       ))

@@ -16,7 +16,7 @@ use Rattle.ft_model.specs.declared.script.Kind.TheVariants as kind
 use Rattle.ft_model.specs.Worlds.{empty_content}
 use Rattle.ft_model.specs.Tables.{no_table}
 use Rattle.std.specs.Prelude.{replicate, map, slice_index_or}
-use Rattle.ft_trace.specs.Worlds.{Kept, kept, kind_in}
+use Rattle.ft_trace.specs.Worlds.{ContainerState, container_after, kind_in}
 use Rattle.ft_trace.proofs.Untouched.{untouched}
 use Rattle.ft_trace.specs.Words.{table_of, inner, Picture, picture, Stands}
 use Rattle.ft_trace.specs.Traces.{Event, did, forked, joined, sent, run, word, writes_of, history, StandsFor, May, Valid}
@@ -84,9 +84,9 @@ alters k es valid id v at o low never x in_it of act may = stays k es id v act m
 -- nothing that an even version stands for changes
 pub record Still (k : Shape) (es now : List Event) (o : ℕ) : Type 0 where
   pub picture : picture k o (run k now).words ≡ picture k o (run k es).words
-  pub content : kept k.kinds (history now) o ≡ kept k.kinds (history es) o
+  pub content : container_after k.kinds (history now) o ≡ container_after k.kinds (history es) o
 
-pub still_of : (k : Shape) (es now : List Event) → Valid k es → (o : ℕ) → o < containers_in k → ((x : Word) → Inside k x → Of k es o x → word k now x ≡ word k es x) → kept k.kinds (history now) o ≡ kept k.kinds (history es) o → Still k es now o
+pub still_of : (k : Shape) (es now : List Event) → Valid k es → (o : ℕ) → o < containers_in k → ((x : Word) → Inside k x → Of k es o x → word k now x ≡ word k es x) → container_after k.kinds (history now) o ≡ container_after k.kinds (history es) o → Still k es now o
 still_of k es now valid o low words content = record {
   picture =
       (picture_same k o (run k now).words (run k es).words (λ i small. words (block o i) (low, small) refl)
@@ -94,7 +94,7 @@ still_of k es now valid o low words content = record {
   content = content;
 }
 
-pub content_by : (k : Shape) (es : List Event) (v : View) (o : ℕ) → (is_writing o v.log ≡ true → ⊥) → (a : Act) → May k (run k es) (history es) v a → kept k.kinds (writes_of a (history es)) o ≡ kept k.kinds (history es) o
+pub content_by : (k : Shape) (es : List Event) (v : View) (o : ℕ) → (is_writing o v.log ≡ true → ⊥) → (a : Act) → May k (run k es) (history es) v a → container_after k.kinds (writes_of a (history es)) o ≡ container_after k.kinds (history es) o
 content_by k es v o never (Commit c r f s) may = untouched k.kinds c (history es) o (λ e. never (subst (λ (z : ℕ). is_writing z v.log ≡ true) e may.1))
 content_by k es v o never act may = refl
 
@@ -131,14 +131,14 @@ mapped f [] i d = refl
 mapped f (x ∷ xs) zero d = refl
 mapped f (x ∷ xs) (suc i) d = mapped f xs i d
 
-pub opened_kept : (kinds : List Kind) (o : ℕ) → kept kinds [] o ≡ record { content = empty_content (kind_in kinds o); table = no_table }
+pub opened_kept : (kinds : List Kind) (o : ℕ) → container_after kinds [] o ≡ record { content = empty_content (kind_in kinds o); table = no_table }
 opened_kept kinds o =
     let c = mapped empty_content kinds o kind.List in
     let t = mapped (λ (z : Kind). no_table) kinds o kind.List in
     λ d. record { content = c d; table = t d }
 
 pub stands_for : (k : Shape) (es now : List Event) (o : ℕ) → Still k es now o → StandsFor k (run k es) (history es) o → StandsFor k (run k now) (history now) o
-stands_for k es now o same old = subst (λ (z : Picture × Kept). Stands k.texts z.0 z.1) (λ i. (sym same.picture i, sym same.content i)) old
+stands_for k es now o same old = subst (λ (z : Picture × ContainerState). Stands k.texts z.0 z.1) (λ i. (sym same.picture i, sym same.content i)) old
 
 -- the words of o stand for what the history makes of it
 pub stands : (k : Shape) (es : List Event) → Valid k es → (o : ℕ) → o < containers_in k → version k es o % 2 ≡ 0 → StandsFor k (run k es) (history es) o
@@ -148,7 +148,7 @@ stands k [] valid o low even =
     let b = block_zero k o (run k []).words zeros in
     let none : Picture = record { block = replicate 6 0; table = [] } in
     let p : picture k o (run k []).words ≡ none = λ d. record { block = b d; table = inner k (r d) (run k []).words } in
-    subst (λ (z : Picture × Kept). Stands k.texts z.0 z.1) (λ i. (sym p i, sym (opened_kept k.kinds o) i)) (empty_stands k.texts (kind_in k.kinds o))
+    subst (λ (z : Picture × ContainerState). Stands k.texts z.0 z.1) (λ i. (sym p i, sym (opened_kept k.kinds o) i)) (empty_stands k.texts (kind_in k.kinds o))
 stands k (did id v a ∷ es) valid o low even =
     dite (ℕ_discrete (version k es o % 2) 0)
     (λ (was : version k es o % 2 ≡ 0). stands_for k es (did id v a ∷ es) o (still k es (did id v a) valid o low was) (stands k es valid.0 o low was))

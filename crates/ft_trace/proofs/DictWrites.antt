@@ -37,7 +37,7 @@ use Rattle.ft_trace.specs.declared.Snap.{Snap}
 use Rattle.ft_trace.specs.declared.View.{View}
 use Rattle.ft_trace.specs.Addresses.{containers_in, class_of, slots, places, size}
 use Rattle.ft_trace.specs.Acts.{has_lock}
-use Rattle.ft_trace.specs.Worlds.{Kept, kept, kind_in}
+use Rattle.ft_trace.specs.Worlds.{ContainerState, container_after, kind_in}
 use Rattle.ft_trace.specs.Words.{root_in, Stands, index_of, entry_at, entry_of, walk_of}
 use Rattle.ft_trace.specs.Carefuls.{said_of, IsLive, Reached, Clear}
 use Rattle.ft_trace.specs.Kinds.{under, rows, version_at, ClearAs}
@@ -162,7 +162,7 @@ module _ (v : View) (o : ℕ) (pairs : DictContent) (low : o < containers_in v.s
   stored = stored_newest v.shape.kinds calls
 
   pub dict_there : slice_index_or stored.world o (content.List []) ≡ content.Dict pairs
-  dict_there = ap (λ (z : Kept). z.content) (agree o low mine) ∙ is_dict
+  dict_there = ap (λ (z : ContainerState). z.content) (agree o low mine) ∙ is_dict
 
   pub dict_in : o < length stored.world
   dict_in = subst (λ (z : ℕ). o < z) (sym (as_many v.shape.kinds calls)) low
@@ -171,7 +171,7 @@ module _ (v : View) (o : ℕ) (pairs : DictContent) (low : o < containers_in v.s
   dict_in_tables = subst (λ (z : ℕ). o < z) (sym (tables_as_many v.shape.kinds calls)) low
 
   pub dict_table_is : table_at stored.tables o ≡ (known o v).table
-  dict_table_is = ap (λ (z : Kept). z.table) (agree o low mine)
+  dict_table_is = ap (λ (z : ContainerState). z.table) (agree o low mine)
 
   pub dict_found : dict_at stored.world o ≡ pairs
   dict_found = ap dict_of (at_any stored.world o (content.Dict empty_dict) (content.List []) dict_in ∙ dict_there)
@@ -377,7 +377,7 @@ module _ (versions : EntryVersionsChangeNothing) (follow : WordsFollowAValue) (l
         ∙ (ap (λ (z : Option ℕ). grown_table T z drawn count) takes_none
         ∙ ((λ d. record { class = T.class; fill = fill_is d }) ∙ dict_table_is v o pairs may.low may.mine is_dict calls agree))
 
-    after : kept k.kinds (called ∷ calls) o ≡ record { content = content.Dict news; table = (known o v).table }
+    after : container_after k.kinds (called ∷ calls) o ≡ record { content = content.Dict news; table = (known o v).table }
     after = let c1 = dict_left_at v o pairs may.low may.mine is_dict calls agree key value (content.List []) in let t1 = table_after in λ d. record { content = c1 d; table = t1 d }
 
     short : length news.pairs ≤ most_pairs
@@ -386,14 +386,14 @@ module _ (versions : EntryVersionsChangeNothing) (follow : WordsFollowAValue) (l
     commits : MayCommit v o t write calls
     commits =
         let content_after = dict_left_at v o pairs may.low may.mine is_dict calls agree key value (content.List []) in
-        let clear_as : ClearAs (kind_in k.kinds o) k.texts c put (known o v).content (kept k.kinds (called ∷ calls) o).content = subst (λ (z : Kind × Content × Content). ClearAs z.0 k.texts c put z.1 z.2) (λ d. (kind_eq d, sym is_dict d, sym content_after d)) clear in
+        let clear_as : ClearAs (kind_in k.kinds o) k.texts c put (known o v).content (container_after k.kinds (called ∷ calls) o).content = subst (λ (z : Kind × Content × Content). ClearAs z.0 k.texts c put z.1 z.2) (λ d. (kind_eq d, sym is_dict d, sym content_after d)) clear in
         let ends_as : Stands k.texts (at_end v o write) (record { content = content.Dict news; table = (known o v).table }) = subst (λ (z : Option ℕ). IsDictWords k.texts b (0 ∷ 0 ∷ (at_end v o write).table) z fill news) (sym class_eq) ends in
         record {
           replied = inr (sym (ap (λ (z : Answer). z.reply) (dict_answered v o pairs may.low may.mine is_dict calls agree key value)));
           within = dict_passes_not v o pairs may.low may.mine is_dict calls agree key value short;
           declared = record { one = declared_at found.world o (content.Dict pairs) (dict_in v o pairs may.low may.mine is_dict calls agree) (dict_there v o pairs may.low may.mine is_dict calls agree); both = tt; room = tt };
           takes = λ class e. absurd (let none = may.none in omega (arith, e, none));
-          clear = λ q root. let same : t ≡ q = let r : suc t ≡ suc q = sym names ∙ root in omega (arith, r) in subst (λ (z : ℕ). ClearAs (kind_in k.kinds o) k.texts (class_of z) put (known o v).content (kept k.kinds (called ∷ calls) o).content) same clear_as;
+          clear = λ q root. let same : t ≡ q = let r : suc t ≡ suc q = sym names ∙ root in omega (arith, r) in subst (λ (z : ℕ). ClearAs (kind_in k.kinds o) k.texts (class_of z) put (known o v).content (container_after k.kinds (called ∷ calls) o).content) same clear_as;
           late = subst (λ (z : Kind × Content). MayPuts z.0 t z.1 true (at_commit v o write) (entry_closed n ws place)) (λ d. (kind_eq d, sym content_after d)) late;
           stands = subst (Stands k.texts (at_end v o write)) (sym after) ends_as;
         }

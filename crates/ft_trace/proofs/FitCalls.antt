@@ -1,4 +1,4 @@
--- Calls whose keys and values words can tell leave contents whose keys and values words can tell.
+-- Calls whose keys and values words can represent leave contents whose keys and values words can represent.
 use Rattle.std.proofs.Common.{◌≡◌, ℕ, suc, zero, ◌+◌, ◌-◌, Bool, true, false, not, List, [], ◌∷◌, ◌++◌, length, map, take, drop, reverse, get_or, set, Option, Some, None, sym, ap, subst}
 use Rattle.std.specs.Prelude.{All, IfSome, nat_lt, negsuc, slice_get, slice_set, remove, if◌then◌else◌}
 use Rattle.std.specs.Option.{option_map_or, unwrap_or}
@@ -213,7 +213,7 @@ mapped : {X Y : Type 0} (P : X → Type 0) (f : Y → X) (ys : List Y) → All P
 mapped P f [] each = All-nil (λ y. P (f y))
 mapped P f (y ∷ ys) each = All-cons (λ y. P (f y)) y ys (All-head P (f y) (map f ys) each) (mapped P f ys (All-tail P (f y) (map f ys) each))
 
--- words can tell what a live entry says
+-- words can represent what a live entry says
 abbrev FitsUsed : UsedEntry → Type 0
 FitsUsed entry = IfSome entry.stored (λ stored. FitsKey entry.key × FitsStored stored)
 

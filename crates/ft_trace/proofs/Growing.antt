@@ -33,7 +33,7 @@ use Rattle.ft_trace.specs.declared.Snap.{Snap}
 use Rattle.ft_trace.specs.declared.View.{View}
 use Rattle.ft_trace.specs.Addresses.{class_of, slots, places}
 use Rattle.ft_trace.specs.Acts.{mem}
-use Rattle.ft_trace.specs.Worlds.{kept, kind_in}
+use Rattle.ft_trace.specs.Worlds.{container_after, kind_in}
 use Rattle.ft_trace.specs.Words.{Stands, entry_at, entry_of, walk_of}
 use Rattle.ft_trace.specs.Carefuls.{IsLive, Sound, Careful, Clear}
 use Rattle.ft_trace.specs.Kinds.{is_key, pair_words, under, rows, version_at, SoundAs, ClearAs}
@@ -254,20 +254,20 @@ module _ (versions : EntryVersionsChangeNothing) (first : FirstEntriesArePairs) 
         ∙ (ap (λ (z : Option ℕ). grown_table T z drawn count) takes_one
         ∙ ap (λ (z : ℕ). taken c z) count_is)
 
-    after : kept k.kinds (called ∷ calls) o ≡ record { content = content.Dict news; table = record { class = Some c; fill = fill } }
+    after : container_after k.kinds (called ∷ calls) o ≡ record { content = content.Dict news; table = record { class = Some c; fill = fill } }
     after = let c1 = dict_left_at v o pairs begin.low begin.mine is_dict calls agree key value (content.List []) in let t1 = table_after in λ d. record { content = c1 d; table = t1 d }
 
     commits : MayCommit v o t write calls
     commits =
         let content_after = dict_left_at v o pairs begin.low begin.mine is_dict calls agree key value (content.List []) in
-        let clear_as : ClearAs (kind_in k.kinds o) k.texts c zs (known o v).content (kept k.kinds (called ∷ calls) o).content = subst (λ (z : Kind × Content × Content). ClearAs z.0 k.texts c zs z.1 z.2) (λ d. (kind_eq d, sym is_dict d, sym content_after d)) clear in
+        let clear_as : ClearAs (kind_in k.kinds o) k.texts c zs (known o v).content (container_after k.kinds (called ∷ calls) o).content = subst (λ (z : Kind × Content × Content). ClearAs z.0 k.texts c zs z.1 z.2) (λ d. (kind_eq d, sym is_dict d, sym content_after d)) clear in
         let ends_as : Stands k.texts (at_end v o write) (record { content = content.Dict news; table = record { class = Some c; fill = fill } }) = ends in
         record {
           replied = inr (sym (ap (λ (z : Answer). z.reply) (dict_answered v o pairs begin.low begin.mine is_dict calls agree key value)));
           within = dict_passes_not v o pairs begin.low begin.mine is_dict calls agree key value (dict_short first k.texts block c fill class_is news zs has.words);
           declared = record { one = declared_at found.world o (content.Dict pairs) (dict_in v o pairs begin.low begin.mine is_dict calls agree) (dict_there v o pairs begin.low begin.mine is_dict calls agree); both = tt; room = tt };
           takes = λ class e. let owed = has.owed in let same : c ≡ class = omega (arith, e, owed) in takes_one ∙ ap (λ (z : ℕ). Some z) same;
-          clear = λ q root. let same : t ≡ q = let r : suc t ≡ suc q = sym names_now ∙ root in omega (arith, r) in subst (λ (z : ℕ). ClearAs (kind_in k.kinds o) k.texts (class_of z) zs (known o v).content (kept k.kinds (called ∷ calls) o).content) same clear_as;
+          clear = λ q root. let same : t ≡ q = let r : suc t ≡ suc q = sym names_now ∙ root in omega (arith, r) in subst (λ (z : ℕ). ClearAs (kind_in k.kinds o) k.texts (class_of z) zs (known o v).content (container_after k.kinds (called ∷ calls) o).content) same clear_as;
           late = subst (λ (z : Kind × Content). MayPuts z.0 t z.1 true (at_commit v o write) (to_table (entry_at n p 0) 2 ∷ [])) (λ d. (kind_eq d, sym content_after d)) late;
           stands = subst (Stands k.texts (at_end v o write)) (sym after) ends_as;
         }

@@ -22,20 +22,20 @@ use Rattle.ft_trace.proofs.Versions.{one_up}
 use Rattle.ft_trace.proofs.Announcing.{on_write_number}
 use Rattle.ft_trace.proofs.Places.{on_table, placed}
 
-pub record Kept (k : Shape) (es : List Event) (t : ℕ) : Type 0 where
+pub record InHands (k : Shape) (es : List Event) (t : ℕ) : Type 0 where
   pub by : View
   pub at : get_elem? (run k es).views (keeper es t) ≡ some by
   pub has : stage t by.log ≡ age es t % 5
 
-pub handed : (k : Shape) (es : List Event) → Valid k es → (t : ℕ) → IsTable k t → age es t % 5 ≢ 0 → age es t % 5 ≢ 2 → age es t % 5 ≢ 4 → Kept k es t
+pub handed : (k : Shape) (es : List Event) → Valid k es → (t : ℕ) → IsTable k t → age es t % 5 ≢ 0 → age es t % 5 ≢ 2 → age es t % 5 ≢ 4 → InHands k es t
 handed k [] valid t table free current out = absurd (free refl)
 handed k (did id v a ∷ es) valid t table free current out =
     let g = age es t in
     let w = keeper es t in
     let n = stage t v.log in
     let its = placed k es valid.0 t table in
-    let F : Act → Type 0 = λ b. Valid k (did id v b ∷ es) → aged b t g % 5 ≢ 0 → aged b t g % 5 ≢ 2 → aged b t g % 5 ≢ 4 → Kept k (did id v b ∷ es) t in
-    let mine : (b : Act) → Valid k (did id v b ∷ es) → gone_to id b t w ≡ id → stage_next t b n ≡ aged b t g % 5 → Kept k (did id v b ∷ es) t = λ b ok whom is. record { by = noted b v; at = ap (get_elem? (run k (did id v b ∷ es)).views) whom ∙ set_at (run k es).views id v (noted b v) ok.1.0; has = is } in
+    let F : Act → Type 0 = λ b. Valid k (did id v b ∷ es) → aged b t g % 5 ≢ 0 → aged b t g % 5 ≢ 2 → aged b t g % 5 ≢ 4 → InHands k (did id v b ∷ es) t in
+    let mine : (b : Act) → Valid k (did id v b ∷ es) → gone_to id b t w ≡ id → stage_next t b n ≡ aged b t g % 5 → InHands k (did id v b ∷ es) t = λ b ok whom is. record { by = noted b v; at = ap (get_elem? (run k (did id v b ∷ es)).views) whom ∙ set_at (run k es).views id v (noted b v) ok.1.0; has = is } in
     on_table k es id v t table F
     (λ f s one ok _ _ _.
     let was : g % 5 ≡ 0 = its.free_is (ap (bit (free_bit_of t)) (sym ok.1.2) ∙ one) in

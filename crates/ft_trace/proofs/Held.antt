@@ -4,7 +4,7 @@ use Rattle.ft_model.specs.Tables.{stored_newest}
 use Rattle.ft_trace.specs.declared.View.{View}
 use Rattle.ft_trace.specs.Addresses.{containers_in, block, cell, class_of, IsTable}
 use Rattle.ft_trace.specs.Acts.{has_lock, is_writing, stage, mem}
-use Rattle.ft_trace.specs.Worlds.{Kept, kept, kind_in}
+use Rattle.ft_trace.specs.Worlds.{ContainerState, container_after, kind_in}
 use Rattle.ft_trace.specs.Words.{table_of, root_of, inner, Picture, root_in, picture, Stands}
 use Rattle.ft_trace.specs.Kinds.{SoundAs, CarefulAs}
 use Rattle.ft_trace.specs.Holds.{held, known, in_hand, AgreesWith}
@@ -23,7 +23,7 @@ words_known v o low mine es id knows =
     picture_same k o (mem k v.log) (run k es).words (λ i small. im.words (block o i) (low, small) mine)
     (λ t names. table_same k t (mem k v.log) (run k es).words (λ i small. im.words (cell t i) (root_table k es knows.0 o low t names, small) (inr (o, low, mine, names))))
 
-pub content_known : (v : View) (o : ℕ) → has_lock o v.log ≡ true → Sure v (λ es. known o v ≡ kept v.shape.kinds (history es) o)
+pub content_known : (v : View) (o : ℕ) → has_lock o v.log ≡ true → Sure v (λ es. known o v ≡ container_after v.shape.kinds (history es) o)
 content_known v o mine es id knows = (imaged v.shape es knows.0 id v knows.1).content o mine
 
 -- what is stored has what the pass knows
@@ -42,14 +42,14 @@ module _ (v : View) (o : ℕ) (low : o < containers_in v.shape) where
   held_stands p mine quiet =
       let t = words_known v o low mine p.0 p.1 p.2 in
       let c = content_known v o mine p.0 p.1 p.2 in
-      subst (λ (z : Picture × Kept). Stands v.shape.texts z.0 z.1) (λ d. (sym t d, sym c d)) (holder_stands v.shape p.0 p.2.0 o low p.1 v p.2.1 mine quiet)
+      subst (λ (z : Picture × ContainerState). Stands v.shape.texts z.0 z.1) (λ d. (sym t d, sym c d)) (holder_stands v.shape p.0 p.2.0 o low p.1 v p.2.1 mine quiet)
 
   -- the conditions of the steps, on the words that the pass knows
   pub stop_sure : has_lock o v.log ≡ true → Stands v.shape.texts (held o v) (known o v) → Sure v (λ es. StandsFor v.shape (run v.shape es) (history es) o)
   stop_sure mine stands es id knows =
       let t = words_known v o low mine es id knows in
       let c = content_known v o mine es id knows in
-      subst (λ (z : Picture × Kept). Stands v.shape.texts z.0 z.1) (λ d. (t d, c d)) stands
+      subst (λ (z : Picture × ContainerState). Stands v.shape.texts z.0 z.1) (λ d. (t d, c d)) stands
 
   pub root_known : has_lock o v.log ≡ true → Sure v (λ es. root_in (held o v) ≡ root_of v.shape o (run v.shape es).words)
   root_known mine es id knows = ap root_in (words_known v o low mine es id knows) ∙ block_at v.shape o (run v.shape es).words 0 (omega arith)
@@ -64,14 +64,14 @@ module _ (v : View) (o : ℕ) (low : o < containers_in v.shape) where
       let there = sym (root_known mine es id knows) ∙ names in
       (ap (λ (x : Picture). x.table) p ∙ by_inner (root_of v.shape o (run v.shape es).words) (run v.shape es).words t there, there)
 
-  pub put_sure : (t i x : ℕ) → has_lock o v.log ≡ true → root_in (held o v) ≡ suc t → CarefulAs (kind_in v.shape.kinds o) (class_of t) (held o v).table (known o v).content i x → Sure v (λ es. (root_of v.shape o (run v.shape es).words ≡ suc t) × CarefulFor v.shape (run v.shape es).words o t (kept v.shape.kinds (history es) o).content i x)
+  pub put_sure : (t i x : ℕ) → has_lock o v.log ≡ true → root_in (held o v) ≡ suc t → CarefulAs (kind_in v.shape.kinds o) (class_of t) (held o v).table (known o v).content i x → Sure v (λ es. (root_of v.shape o (run v.shape es).words ≡ suc t) × CarefulFor v.shape (run v.shape es).words o t (container_after v.shape.kinds (history es) o).content i x)
   put_sure t i x mine names care es id knows =
       let w = table_known t mine names es id knows in
       let c = content_known v o mine es id knows in
-      (w.1, subst (λ (z : List ℕ × Kept). CarefulAs (kind_in v.shape.kinds o) (class_of t) z.0 z.1.content i x) (λ d. (w.0 d, c d)) care)
+      (w.1, subst (λ (z : List ℕ × ContainerState). CarefulAs (kind_in v.shape.kinds o) (class_of t) z.0 z.1.content i x) (λ d. (w.0 d, c d)) care)
 
-  pub sound_sure : (t : ℕ) → IsTable v.shape t → has_lock o v.log ≡ true → stage t v.log ≡ 1 → SoundAs (kind_in v.shape.kinds o) v.shape.texts (class_of t) (in_hand t v) (known o v).content → Sure v (λ es. SoundFor v.shape (run v.shape es).words o t (kept v.shape.kinds (history es) o).content)
+  pub sound_sure : (t : ℕ) → IsTable v.shape t → has_lock o v.log ≡ true → stage t v.log ≡ 1 → SoundAs (kind_in v.shape.kinds o) v.shape.texts (class_of t) (in_hand t v) (known o v).content → Sure v (λ es. SoundFor v.shape (run v.shape es).words o t (container_after v.shape.kinds (history es) o).content)
   sound_sure t table mine fresh sound es id knows =
       let w = hand_known v t table fresh es id knows in
       let c = content_known v o mine es id knows in
-      subst (λ (z : List ℕ × Kept). SoundAs (kind_in v.shape.kinds o) v.shape.texts (class_of t) z.0 z.1.content) (λ d. (w d, c d)) sound
+      subst (λ (z : List ℕ × ContainerState). SoundAs (kind_in v.shape.kinds o) v.shape.texts (class_of t) z.0 z.1.content) (λ d. (w d, c d)) sound

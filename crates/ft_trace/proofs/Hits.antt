@@ -10,7 +10,7 @@ use Rattle.ft_trace.specs.declared.View.{View}
 use Rattle.ft_trace.specs.declared.Act.{Act}
 use Rattle.ft_trace.specs.declared.Act.TheVariants.{ReadTable, ReadCounter}
 use Rattle.ft_trace.specs.Addresses.{containers_in, class_of, slots}
-use Rattle.ft_trace.specs.Worlds.{kept, first_writes, kind_in}
+use Rattle.ft_trace.specs.Worlds.{container_after, first_writes, kind_in}
 use Rattle.ft_trace.specs.Words.{entry_at, entry_of}
 use Rattle.ft_trace.specs.Carefuls.{said_of, Later}
 use Rattle.ft_trace.specs.Kinds.{rows, under, IsKeyed}
@@ -114,18 +114,18 @@ module _ (k : Shape) (es : List Event) (valid : Valid k es) (o t p : ℕ) (key :
       l3.key p small (later_used N (rows (kind_in k.kinds o) (class_of t)) (tab k kw.spot.es t) (tab k f.spot.es t) l2 p small used) ∙ (l2.key p small used ∙ sym key_read)
 
   -- the content at the stamp has under the key what the entry said then
-  pub hit_at : (n ≤ count k es) × (under (kept k.kinds (first_writes n (history es)) o).content key ≡ said_of N (tab k then_ t) p)
+  pub hit_at : (n ≤ count k es) × (under (container_after k.kinds (first_writes n (history es)) o).content key ≡ said_of N (tab k then_ t) p)
   hit_at =
       let w = in_now (ReadCounter n) h.stamp in
       let v = same_version (ReadCounter n) h.stamp in
       let names = named_by k then_ w.spot.valid o t open_.table w.spot.now (whom_in (ReadCounter n) h.stamp) in
-      let sound = keyed_sound (kind_in k.kinds o) keyed k.texts (class_of t) (tab k then_ t) (kept k.kinds (history then_) o).content (sound_at k then_ w.spot.valid o low t names) in
+      let sound = keyed_sound (kind_in k.kinds o) keyed k.texts (class_of t) (tab k then_ t) (container_after k.kinds (history then_) o).content (sound_at k then_ w.spot.valid o low t names) in
       let right = sound.right p key small (ap (λ (z : ℕ). z % 2) v.1 ∙ h.even) (kind_then, key_then) in
       let s = stamp_then k then_ es w.spot.valid valid (under_trans then_ now es w.under (under_trans now open_.spot.es es top.under open_.under)) n w.tells in
-      (s.0, ap (λ (cs : List Call). under (kept k.kinds cs o).content key) s.1 ∙ right)
+      (s.0, ap (λ (cs : List Call). under (container_after k.kinds cs o).content key) s.1 ∙ right)
 
   -- a word of the value or serial that was read between
-  pub hit_word : (w f : ℕ) → w < 3 → Among (ReadTable t (entry_at N p (4 + w)) f) h.mid → slice_index (under (kept k.kinds (first_writes n (history es)) o).content key) w ≡ f
+  pub hit_word : (w f : ℕ) → w < 3 → Among (ReadTable t (entry_at N p (4 + w)) f) h.mid → slice_index (under (container_after k.kinds (first_writes n (history es)) o).content key) w ≡ f
   hit_word w f less m = ap (λ (l : List ℕ). slice_index l w) hit_at.1 ∙ (by w less ∙ word_then (4 + w) f (omega arith) (omega arith) m)
     where
       by : (w : ℕ) → w < 3 → slice_index (said_of N (tab k then_ t) p) w ≡ entry_of N (tab k then_ t) p (4 + w)

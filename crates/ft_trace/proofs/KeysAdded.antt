@@ -28,7 +28,7 @@ use Rattle.ft_trace.specs.declared.Shape.{Shape}
 use Rattle.ft_trace.specs.declared.Snap.{Snap}
 use Rattle.ft_trace.specs.declared.View.{View}
 use Rattle.ft_trace.specs.Addresses.{class_of, slots, places, size}
-use Rattle.ft_trace.specs.Worlds.{kept, kind_in}
+use Rattle.ft_trace.specs.Worlds.{container_after, kind_in}
 use Rattle.ft_trace.specs.Words.{root_in, Stands, index_of, entry_at, entry_of, walk_of}
 use Rattle.ft_trace.specs.Carefuls.{Careful, Clear}
 use Rattle.ft_trace.specs.Kinds.{under, rows, version_at, ClearAs}
@@ -280,20 +280,20 @@ module _ (versions : EntryVersionsChangeNothing) (first : FirstEntriesArePairs) 
         ∙ (ap (λ (z : Option ℕ). grown_table T z drawn count) takes_none
         ∙ (λ d. record { class = (table_is d).class; fill = (table_is d).fill + one d }))
 
-    after : kept k.kinds (called ∷ calls) o ≡ record { content = content.Dict news; table = record { class = (known o v).table.class; fill = p + 1 } }
+    after : container_after k.kinds (called ∷ calls) o ≡ record { content = content.Dict news; table = record { class = (known o v).table.class; fill = p + 1 } }
     after = let c1 = dict_left_at v o pairs may.low may.mine is_dict calls agree key value (content.List []) in let t1 = table_after in λ d. record { content = c1 d; table = t1 d }
 
     commits : MayCommit v o t write calls
     commits =
         let content_after = dict_left_at v o pairs may.low may.mine is_dict calls agree key value (content.List []) in
-        let clear_as : ClearAs (kind_in k.kinds o) k.texts c put (known o v).content (kept k.kinds (called ∷ calls) o).content = subst (λ (z : Kind × Content × Content). ClearAs z.0 k.texts c put z.1 z.2) (λ d. (kind_eq d, sym is_dict d, sym content_after d)) clear in
+        let clear_as : ClearAs (kind_in k.kinds o) k.texts c put (known o v).content (container_after k.kinds (called ∷ calls) o).content = subst (λ (z : Kind × Content × Content). ClearAs z.0 k.texts c put z.1 z.2) (λ d. (kind_eq d, sym is_dict d, sym content_after d)) clear in
         let ends_as : Stands k.texts (at_end v o write) (record { content = content.Dict news; table = record { class = (known o v).table.class; fill = p + 1 } }) = subst (λ (z : Option ℕ). IsDictWords k.texts block (0 ∷ 0 ∷ (at_end v o write).table) z (p + 1) news) (sym class_eq) ends in
         record {
           replied = inr (sym (ap (λ (z : Answer). z.reply) (dict_answered v o pairs may.low may.mine is_dict calls agree key value)));
           within = dict_passes_not v o pairs may.low may.mine is_dict calls agree key value (dict_short first k.texts block c (p + 1) class_is news put now);
           declared = record { one = declared_at found.world o (content.Dict pairs) (dict_in v o pairs may.low may.mine is_dict calls agree) (dict_there v o pairs may.low may.mine is_dict calls agree); both = tt; room = tt };
           takes = λ class e. absurd (let none = may.none in omega (arith, e, none));
-          clear = λ q root. let same : t ≡ q = let r : suc t ≡ suc q = sym names_now ∙ root in omega (arith, r) in subst (λ (z : ℕ). ClearAs (kind_in k.kinds o) k.texts (class_of z) put (known o v).content (kept k.kinds (called ∷ calls) o).content) same clear_as;
+          clear = λ q root. let same : t ≡ q = let r : suc t ≡ suc q = sym names_now ∙ root in omega (arith, r) in subst (λ (z : ℕ). ClearAs (kind_in k.kinds o) k.texts (class_of z) put (known o v).content (container_after k.kinds (called ∷ calls) o).content) same clear_as;
           late = subst (λ (z : Kind × Content). MayPuts z.0 t z.1 true (at_commit v o write) (entry_closed n ws p)) (λ d. (kind_eq d, sym content_after d)) late;
           stands = subst (Stands k.texts (at_end v o write)) (sym after) ends_as;
         }

@@ -24,7 +24,7 @@ use Rattle.ft_trace.specs.declared.Shape.{Shape}
 use Rattle.ft_trace.specs.declared.Snap.{Snap}
 use Rattle.ft_trace.specs.declared.View.{View}
 use Rattle.ft_trace.specs.Addresses.{class_of, slots, places, size}
-use Rattle.ft_trace.specs.Worlds.{kept, kind_in}
+use Rattle.ft_trace.specs.Worlds.{container_after, kind_in}
 use Rattle.ft_trace.specs.Words.{root_in, Stands, entry_at, entry_of, walk_of}
 use Rattle.ft_trace.specs.Carefuls.{Clear}
 use Rattle.ft_trace.specs.Kinds.{under, rows, version_at, ClearAs}
@@ -171,24 +171,24 @@ module _ (versions : EntryVersionsChangeNothing) (first : FirstEntriesArePairs) 
         ap (λ (z : DictContent). answer_dict found.world no_hands o z (dict.Del key)) (dict_found v o pairs may.low may.mine is_dict calls agree)
         ∙ ap (λ (z : Bool). if z then puts found.world no_hands o (content.Dict news) reply.Done else shows found.world no_hands (reply.Raised raise.NoKey)) there
 
-    content_after : (kept k.kinds (called ∷ calls) o).content ≡ content.Dict news
+    content_after : (container_after k.kinds (called ∷ calls) o).content ≡ content.Dict news
     content_after = ap (λ (z : Answer). slice_index_or z.world o (content.List [])) answered ∙ get_or-set_same found.world o (content.Dict news) (content.List []) (dict_in v o pairs may.low may.mine is_dict calls agree)
 
     -- the table stays
-    after : kept k.kinds (called ∷ calls) o ≡ record { content = content.Dict news; table = (known o v).table }
+    after : container_after k.kinds (called ∷ calls) o ≡ record { content = content.Dict news; table = (known o v).table }
     after = let c1 = content_after in let t1 = dict_table_is v o pairs may.low may.mine is_dict calls agree in λ d. record { content = c1 d; table = t1 d }
 
     commits : MayCommit v o t write calls
     commits =
         let after_is = content_after in
-        let clear_as : ClearAs (kind_in k.kinds o) k.texts c put (known o v).content (kept k.kinds (called ∷ calls) o).content = subst (λ (z : Kind × Content × Content). ClearAs z.0 k.texts c put z.1 z.2) (λ d. (kind_eq d, sym is_dict d, sym after_is d)) clear in
+        let clear_as : ClearAs (kind_in k.kinds o) k.texts c put (known o v).content (container_after k.kinds (called ∷ calls) o).content = subst (λ (z : Kind × Content × Content). ClearAs z.0 k.texts c put z.1 z.2) (λ d. (kind_eq d, sym is_dict d, sym after_is d)) clear in
         let ends_as : Stands k.texts (at_end v o write) (record { content = content.Dict news; table = (known o v).table }) = subst (λ (z : Option ℕ). IsDictWords k.texts block (0 ∷ 0 ∷ (at_end v o write).table) z fill news) (sym class_eq) ends in
         record {
           replied = inr (sym (ap (λ (z : Answer). z.reply) answered));
           within = refl;
           declared = record { one = declared_at found.world o (content.Dict pairs) (dict_in v o pairs may.low may.mine is_dict calls agree) (dict_there v o pairs may.low may.mine is_dict calls agree); both = tt; room = tt };
           takes = λ class e. absurd (let none = may.none in omega (arith, e, none));
-          clear = λ q root. let same : t ≡ q = let r : suc t ≡ suc q = sym names_now ∙ root in omega (arith, r) in subst (λ (z : ℕ). ClearAs (kind_in k.kinds o) k.texts (class_of z) put (known o v).content (kept k.kinds (called ∷ calls) o).content) same clear_as;
+          clear = λ q root. let same : t ≡ q = let r : suc t ≡ suc q = sym names_now ∙ root in omega (arith, r) in subst (λ (z : ℕ). ClearAs (kind_in k.kinds o) k.texts (class_of z) put (known o v).content (container_after k.kinds (called ∷ calls) o).content) same clear_as;
           late = subst (λ (z : Kind × Content). MayPuts z.0 t z.1 true (at_commit v o write) (entry_closed n ws p)) (λ d. (kind_eq d, sym after_is d)) late;
           stands = subst (Stands k.texts (at_end v o write)) (sym after) ends_as;
         }

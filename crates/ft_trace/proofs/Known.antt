@@ -19,7 +19,7 @@ use Rattle.ft_trace.specs.declared.Act.{Act}
 use Rattle.ft_trace.specs.declared.Act.TheVariants.{Commit}
 use Rattle.ft_trace.specs.Addresses.{containers_in, class_of, size, IsTable}
 use Rattle.ft_trace.specs.Acts.{has_lock, mem}
-use Rattle.ft_trace.specs.Worlds.{Kept, kept, kind_in}
+use Rattle.ft_trace.specs.Worlds.{ContainerState, container_after, kind_in}
 use Rattle.ft_trace.specs.Words.{root_of, inner, Picture, root_in, Stands}
 use Rattle.ft_trace.specs.Holds.{held, known}
 use Rattle.ft_trace.specs.Traces.{Event, did, forked, joined, sent, run, writes_of, history, May, Valid, Possible}
@@ -50,13 +50,13 @@ kinds_stay k (forked id v ∷ es) valid = kinds_stay k es valid.0
 kinds_stay k (sent id v given ∷ es) valid = kinds_stay k es valid.0
 kinds_stay k (joined id v other w ∷ es) valid = kinds_stay k es valid.0
 
-pub kind_then : (k : Shape) (es : List Event) → Valid k es → (o : ℕ) → kind_of (kept k.kinds (history es) o).content ≡ kind_in k.kinds o
+pub kind_then : (k : Shape) (es : List Event) → Valid k es → (o : ℕ) → kind_of (container_after k.kinds (history es) o).content ≡ kind_in k.kinds o
 kind_then k es valid o =
     let world = (stored_newest k.kinds (history es)).world in
     sym (mapped kind_of world o (content.List [])) ∙ ap (λ (l : List Kind). slice_index_or l o kind.List) (kinds_stay k es valid)
 
 pub kind_known : (v : View) (o : ℕ) → has_lock o v.log ≡ true → Possible v → kind_of (known o v).content ≡ kind_in v.shape.kinds o
-kind_known v o mine p = ap (λ (z : Kept). kind_of z.content) (content_known v o mine p.0 p.1 p.2) ∙ kind_then v.shape p.0 p.2.0 o
+kind_known v o mine p = ap (λ (z : ContainerState). kind_of z.content) (content_known v o mine p.0 p.1 p.2) ∙ kind_then v.shape p.0 p.2.0 o
 
 -- the class of the table that a root names
 named_class : (root : ℕ) (class : Option ℕ) (t : ℕ) → IsRoot root class → root ≡ suc t → class ≡ Some (class_of t)
@@ -64,7 +64,7 @@ unfolding class_of
 named_class root None t is e = absurd (omega (arith, is, e))
 named_class root (Some class) t is e = let low = is.1.1 in let at = is.1.2 in ap Some (omega (arith, low, at, e))
 
-pub class_known : (texts : List ℕ) (words : Picture) (kept : Kept) (t : ℕ) → Stands texts words kept → root_in words ≡ suc t → kept.table.class ≡ Some (class_of t)
+pub class_known : (texts : List ℕ) (words : Picture) (kept : ContainerState) (t : ℕ) → Stands texts words kept → root_in words ≡ suc t → kept.table.class ≡ Some (class_of t)
 class_known texts words kept t s names = named_class (root_in words) kept.table.class t (head_of texts words.block (0 ∷ 0 ∷ words.table) kept.table kept.content s).root names
 
 -- the container is there, of the kind of what stands at its place

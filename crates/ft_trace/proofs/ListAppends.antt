@@ -26,7 +26,7 @@ use Rattle.ft_trace.specs.declared.Shape.{Shape}
 use Rattle.ft_trace.specs.declared.Snap.{Snap}
 use Rattle.ft_trace.specs.declared.View.{View}
 use Rattle.ft_trace.specs.Addresses.{class_of, slots, size}
-use Rattle.ft_trace.specs.Worlds.{kept, kind_in}
+use Rattle.ft_trace.specs.Worlds.{container_after, kind_in}
 use Rattle.ft_trace.specs.Words.{root_in, Stands, item_at, item_of}
 use Rattle.ft_trace.specs.Items.{value_words, words_at}
 use Rattle.ft_trace.specs.Kinds.{rows, version_at, ClearAs}
@@ -197,14 +197,14 @@ module _ (versions : VersionsChangeNothing) (one : PutsChangeOneItem) (follow : 
         ∙ (ap (λ (z : Option ℕ). grown_table T z 0 0) takes_none
         ∙ ((λ d. record { class = T.class; fill = fill_is d }) ∙ table_there v o t values may is_list names calls agree))
 
-    after : kept n.kinds (called ∷ calls) o ≡ record { content = content.List news; table = (known o v).table }
+    after : container_after n.kinds (called ∷ calls) o ≡ record { content = content.List news; table = (known o v).table }
     after = let c1 = content_after in let t1 = table_after in λ d. record { content = c1 d; table = t1 d }
 
     passes_not : would_pass found.world called ≡ false
     passes_not =
         ap (λ (z : Content). passes_cap z || false) content_after ∙ ap (λ (z : Bool). z || false) (le-ltb most_items (length news) few)
 
-    clear : ClearAs (kind_in n.kinds o) n.texts c (at_commit v o write).table (known o v).content (kept n.kinds (called ∷ calls) o).content
+    clear : ClearAs (kind_in n.kinds o) n.texts c (at_commit v o write).table (known o v).content (container_after n.kinds (called ∷ calls) o).content
     clear = subst (λ (z : Kind × Content × Content). ClearAs z.0 n.texts c (at_commit v o write).table z.1 z.2) (λ d. (kind_eq d, sym is_list d, sym content_after d)) (item_clear t class_is b ws values news count value names_now long room shut same here short)
 
     commits : MayCommit v o t write calls
@@ -215,7 +215,7 @@ module _ (versions : VersionsChangeNothing) (one : PutsChangeOneItem) (follow : 
           within = passes_not;
           declared = record { one = declared_at found.world o (content.List values) there (list_there v o t values may is_list names calls agree); both = tt; room = tt };
           takes = λ class e. absurd (let none = may.none in omega (arith, e, none));
-          clear = λ q root. let same_table : t ≡ q = let r : suc t ≡ suc q = sym names_now ∙ root in omega (arith, r) in subst (λ (z : ℕ). ClearAs (kind_in n.kinds o) n.texts (class_of z) (at_commit v o write).table (known o v).content (kept n.kinds (called ∷ calls) o).content) same_table clear;
+          clear = λ q root. let same_table : t ≡ q = let r : suc t ≡ suc q = sym names_now ∙ root in omega (arith, r) in subst (λ (z : ℕ). ClearAs (kind_in n.kinds o) n.texts (class_of z) (at_commit v o write).table (known o v).content (container_after n.kinds (called ∷ calls) o).content) same_table clear;
           late = subst (λ (z : Kind × Content). MayPuts z.0 t z.1 true (at_commit v o write) (item_closed ws count)) (λ d. (kind_eq d, sym content_after d)) (item_late t class_is b ws values news count value names_now long room shut same here short);
           stands = subst (Stands n.texts (at_end v o write)) (sym after) ends_as;
         }

@@ -23,7 +23,7 @@ use Rattle.ft_trace.specs.declared.Shape.{Shape}
 use Rattle.ft_trace.specs.declared.Snap.{Snap}
 use Rattle.ft_trace.specs.declared.View.{View}
 use Rattle.ft_trace.specs.Addresses.{class_of, slots, size}
-use Rattle.ft_trace.specs.Worlds.{Kept, kept, kind_in}
+use Rattle.ft_trace.specs.Worlds.{ContainerState, container_after, kind_in}
 use Rattle.ft_trace.specs.Words.{Stands, item_at, item_of}
 use Rattle.ft_trace.specs.Items.{ItemSound, ItemClear, value_words, words_at, said_at}
 use Rattle.ft_trace.specs.Kinds.{rows, version_at, ClearAs, SoundAs}
@@ -164,7 +164,7 @@ module _ (versions : VersionsChangeNothing) (v : View) (o t : ℕ) (value : Valu
     T = table_at found.tables o
 
     there : slice_index_or found.world o (content.List []) ≡ content.List values
-    there = ap (λ (z : Kept). z.content) (agree o begin.low begin.mine) ∙ is_list
+    there = ap (λ (z : ContainerState). z.content) (agree o begin.low begin.mine) ∙ is_list
 
     inside_world : o < length found.world
     inside_world = subst (λ (z : ℕ). o < z) (sym (as_many k.kinds calls)) begin.low
@@ -173,7 +173,7 @@ module _ (versions : VersionsChangeNothing) (v : View) (o t : ℕ) (value : Valu
     in_tables = subst (λ (z : ℕ). o < z) (sym (tables_as_many k.kinds calls)) begin.low
 
     table_is : T ≡ (known o v).table
-    table_is = ap (λ (z : Kept). z.table) (agree o begin.low begin.mine)
+    table_is = ap (λ (z : ContainerState). z.table) (agree o begin.low begin.mine)
 
     answered : answer found.world no_hands called ≡ puts found.world no_hands o (content.List news) reply.Done
     answered = ap (λ (l : List Value). answer_list found.world no_hands o l (list.Append value)) (ap list_of there)
@@ -191,20 +191,20 @@ module _ (versions : VersionsChangeNothing) (v : View) (o t : ℕ) (value : Valu
     table_after =
         get_or-set_same found.tables o (grown_table T (takes_in found called) 0 0) no_table in_tables ∙ ap (λ (z : Option ℕ). grown_table T z 0 0) takes_one
 
-    after : kept k.kinds (called ∷ calls) o ≡ record { content = content.List news; table = record { class = Some c; fill = 0 } }
+    after : container_after k.kinds (called ∷ calls) o ≡ record { content = content.List news; table = record { class = Some c; fill = 0 } }
     after = let c1 = content_after in let t1 = table_after in λ d. record { content = c1 d; table = t1 d }
 
     commits : MayCommit v o t write calls
     commits =
         let after_is = content_after in
-        let clear_as : ClearAs (kind_in k.kinds o) k.texts c zs (known o v).content (kept k.kinds (called ∷ calls) o).content = subst (λ (z : Kind × Content × Content). ClearAs z.0 k.texts c zs z.1 z.2) (λ d. (kind_eq d, sym is_list d, sym after_is d)) clear in
+        let clear_as : ClearAs (kind_in k.kinds o) k.texts c zs (known o v).content (container_after k.kinds (called ∷ calls) o).content = subst (λ (z : Kind × Content × Content). ClearAs z.0 k.texts c zs z.1 z.2) (λ d. (kind_eq d, sym is_list d, sym after_is d)) clear in
         let ends_as : Stands k.texts (at_end v o write) (record { content = content.List news; table = record { class = Some c; fill = 0 } }) = (ends, refl) in
         record {
           replied = inr (sym (ap (λ (z : Answer). z.reply) answered));
           within = ap (λ (z : Content). passes_cap z || false) after_is ∙ ap (λ (z : Bool). z || false) (le-ltb most_items (length news) few);
           declared = record { one = declared_at found.world o (content.List values) inside_world there; both = tt; room = tt };
           takes = λ class e. let owed = has.owed in let same_class : c ≡ class = omega (arith, e, owed) in takes_one ∙ ap (λ (z : ℕ). Some z) same_class;
-          clear = λ q root. let same_table : t ≡ q = let r : suc t ≡ suc q = sym names_now ∙ root in omega (arith, r) in subst (λ (z : ℕ). ClearAs (kind_in k.kinds o) k.texts (class_of z) zs (known o v).content (kept k.kinds (called ∷ calls) o).content) same_table clear_as;
+          clear = λ q root. let same_table : t ≡ q = let r : suc t ≡ suc q = sym names_now ∙ root in omega (arith, r) in subst (λ (z : ℕ). ClearAs (kind_in k.kinds o) k.texts (class_of z) zs (known o v).content (container_after k.kinds (called ∷ calls) o).content) same_table clear_as;
           late = subst (λ (z : Kind × Content). MayPuts z.0 t z.1 true (at_commit v o write) (to_table (item_at p 0) 2 ∷ [])) (λ d. (kind_eq d, sym after_is d)) late;
           stands = subst (Stands k.texts (at_end v o write)) (sym after) ends_as;
         }

@@ -26,7 +26,7 @@ use Rattle.ft_trace.specs.declared.Shape.{Shape}
 use Rattle.ft_trace.specs.declared.Snap.{Snap}
 use Rattle.ft_trace.specs.declared.View.{View}
 use Rattle.ft_trace.specs.Addresses.{class_of, slots, size}
-use Rattle.ft_trace.specs.Worlds.{Kept, kept, kind_in}
+use Rattle.ft_trace.specs.Worlds.{ContainerState, container_after, kind_in}
 use Rattle.ft_trace.specs.Words.{root_in, Stands, item_at, item_of}
 use Rattle.ft_trace.specs.Items.{value_words, words_at}
 use Rattle.ft_trace.specs.Kinds.{rows, version_at, ClearAs}
@@ -91,7 +91,7 @@ module _ (v : View) (o t : ℕ) (values : List Value) (may : MayWrite v o) (is_l
     world = (stored_newest k.kinds calls).world
 
     pub list_there : slice_index_or world o (content.List []) ≡ content.List values
-    list_there = ap (λ (z : Kept). z.content) (agree o may.low may.mine) ∙ is_list
+    list_there = ap (λ (z : ContainerState). z.content) (agree o may.low may.mine) ∙ is_list
 
     pub list_in : o < length world
     list_in = subst (λ (n : ℕ). o < n) (sym (as_many k.kinds calls)) may.low
@@ -99,8 +99,8 @@ module _ (v : View) (o t : ℕ) (values : List Value) (may : MayWrite v o) (is_l
     pub list_is : list_at world o ≡ values
     list_is = ap list_of list_there
 
-    pub table_there : (kept k.kinds calls o).table ≡ (known o v).table
-    table_there = ap (λ (z : Kept). z.table) (agree o may.low may.mine)
+    pub table_there : (container_after k.kinds calls o).table ≡ (known o v).table
+    table_there = ap (λ (z : ContainerState). z.table) (agree o may.low may.mine)
 
 -- l[i] = v
 module _ (versions : VersionsChangeNothing) (one : PutsChangeOneItem) (follow : WordsFollowAPut) (v : View) (o t place : ℕ) (index : ℤ) (value : Value) (values : List Value) (may : MayWrite v o) (is_list : (known o v).content ≡ content.List values) (names : root_in (held o v) ≡ suc t) (means : index_in (length values) index ≡ Some place) (low : place < length values) (fits : FitsStored (Plain value)) where
@@ -172,13 +172,13 @@ module _ (versions : VersionsChangeNothing) (one : PutsChangeOneItem) (follow : 
         ap (λ (l : List Value). answer_list found no_hands o l (list.Set index value)) (list_is v o t values may is_list names calls agree)
         ∙ ap (λ (z : Option ℕ). option_map_or (λ (i : ℕ). puts found no_hands o (content.List (slice_set values i value)) reply.Done) z (shows found no_hands (reply.Raised raise.NoIndex))) means
 
-    content_after : (kept n.kinds (called ∷ calls) o).content ≡ content.List news
+    content_after : (container_after n.kinds (called ∷ calls) o).content ≡ content.List news
     content_after = ap (λ (z : Answer). slice_index_or z.world o (content.List [])) answered ∙ get_or-set_same found o (content.List news) (content.List []) there
 
-    after : kept n.kinds (called ∷ calls) o ≡ record { content = content.List news; table = (known o v).table }
+    after : container_after n.kinds (called ∷ calls) o ≡ record { content = content.List news; table = (known o v).table }
     after = let table = table_there v o t values may is_list names calls agree in λ d. record { content = content_after d; table = table d }
 
-    clear : ClearAs (kind_in n.kinds o) n.texts c (at_commit v o write).table (known o v).content (kept n.kinds (called ∷ calls) o).content
+    clear : ClearAs (kind_in n.kinds o) n.texts c (at_commit v o write).table (known o v).content (container_after n.kinds (called ∷ calls) o).content
     clear = subst (λ (z : Kind × Content × Content). ClearAs z.0 n.texts c (at_commit v o write).table z.1 z.2) (λ d. (kind_eq d, sym is_list d, sym content_after d)) (item_clear t class_is b ws values news place value names long in_table shut same here short)
 
     commits : MayCommit v o t write calls
@@ -187,7 +187,7 @@ module _ (versions : VersionsChangeNothing) (one : PutsChangeOneItem) (follow : 
       within = refl;
       declared = record { one = declared_at found o (content.List values) there (list_there v o t values may is_list names calls agree); both = tt; room = tt };
       takes = λ class e. absurd (let none = may.none in omega (arith, e, none));
-      clear = λ q root. let same_table : t ≡ q = let r : suc t ≡ suc q = sym names ∙ root in omega (arith, r) in subst (λ (z : ℕ). ClearAs (kind_in n.kinds o) n.texts (class_of z) (at_commit v o write).table (known o v).content (kept n.kinds (called ∷ calls) o).content) same_table clear;
+      clear = λ q root. let same_table : t ≡ q = let r : suc t ≡ suc q = sym names ∙ root in omega (arith, r) in subst (λ (z : ℕ). ClearAs (kind_in n.kinds o) n.texts (class_of z) (at_commit v o write).table (known o v).content (container_after n.kinds (called ∷ calls) o).content) same_table clear;
       late = subst (λ (z : Kind × Content). MayPuts z.0 t z.1 true (at_commit v o write) (item_closed ws place)) (λ d. (kind_eq d, sym content_after d)) (item_late t class_is b ws values news place value names long in_table shut same here short);
       stands = subst (Stands n.texts (at_end v o write)) (sym after) (subst (λ (z : Option ℕ). IsListWords b (0 ∷ 0 ∷ (at_end v o write).table) z news × ((known o v).table.fill ≡ 0)) (sym (class_known n.texts (held o v) (known o v) t (held_stands v o may.low may.possible may.mine may.quiet) names)) (ends, says.1));
     }

@@ -36,7 +36,7 @@ use Rattle.ft_trace.specs.Addresses.{containers_in, class_of}
 use Rattle.ft_trace.specs.FitCalls.{FitsValue, FitsContent}
 use Rattle.ft_trace.specs.Items.{value_words, words_at}
 use Rattle.ft_trace.specs.Kinds.{is_key, pair_words, element_words, under, rows, IsKeyed, IsItems}
-use Rattle.ft_trace.specs.Worlds.{kept, kept_at, kind_in, first_writes, reply_in}
+use Rattle.ft_trace.specs.Worlds.{container_after, state_at, kind_in, first_writes, reply_in}
 use Rattle.ft_trace.specs.Traces.{Event, did, forked, joined, sent, history, writes_of, Valid}
 use Rattle.ft_trace.specs.LookReplies.{key_reply, item_reply, DictReplies, stored_at, DictHitsAreReplied, SetHitsAreReplied, MissesAreReplied, ItemsAreReplied, PastItemsAreReplied}
 use Rattle.ft_trace.proofs.FitCalls.{contents_fit}
@@ -180,7 +180,7 @@ module _ (k : Shape) (es : List Event) (valid : Valid k es) (o n : ℕ) (low : o
   then_ = stored_at k es n
 
   abbrev at : Content
-  at = (kept_at then_ o).content
+  at = (state_at then_ o).content
 
   past : Earlier k n (history es)
   past = earlier k es valid n
@@ -195,7 +195,7 @@ module _ (k : Shape) (es : List Event) (valid : Valid k es) (o n : ℕ) (low : o
   fit = subst (All FitsContent) (ap (λ (z : StoredWorld). z.world) stored_is) (contents_fit k past.older past.valid) o (content.List []) many
 
   kind_is : kind_of at ≡ kind_in k.kinds o
-  kind_is = ap (λ (z : StoredWorld). kind_of (kept_at z o).content) (sym stored_is) ∙ kind_then k past.older past.valid o
+  kind_is = ap (λ (z : StoredWorld). kind_of (state_at z o).content) (sym stored_is) ∙ kind_then k past.older past.valid o
 
   dict_there : kind_in k.kinds o ≡ kind.Dict → at ≡ content.Dict (dict_at then_.world o)
   dict_there is = dict_is at (kind_is ∙ is) ∙ ap (λ (z : Content). content.Dict (dict_of z)) (at_any then_.world o (content.List []) (content.Dict empty_dict) many)
@@ -252,7 +252,7 @@ dict_hits_are_replied k es valid o t place key n low is fits small j u at h =
     let content_is = dict_there k es valid o n low is in
     let each = pairs_fit k es valid o n low is in
     let some_words : under (content.Dict dict) key ≢ [] = λ e. r.1 (ap (λ (z : Content). under z key) content_is ∙ e) in
-    let word : (w : ℕ) → slice_index (under (kept k.kinds (first_writes n (history es)) o).content key) w ≡ slice_index (under (content.Dict dict) key) w = λ w. ap (λ (z : Content). slice_index (under z key) w) content_is in
+    let word : (w : ℕ) → slice_index (under (container_after k.kinds (first_writes n (history es)) o).content key) w ≡ slice_index (under (content.Dict dict) key) w = λ w. ap (λ (z : Content). slice_index (under z key) w) content_is in
     let p = there dict key fits each some_words in (
       (replies (stored_at k es n) o key (Some p.0.value) (ap (option_map (λ (pair : DictPair). pair.value)) p.1)).has,
       λ kind payload read.
@@ -267,10 +267,10 @@ set_hits_are_replied k es valid o t place key n low is fits small j u at h =
 
 pub misses_are_replied : MissesAreReplied
 misses_are_replied k es valid o key n low fits j u at (inl m) =
-    let none : (is : IsKeyed (kind_in k.kinds o)) → under (kept k.kinds (first_writes n (history es)) o).content key ≡ [] = λ keyed. (misses_are_right k es valid o m.0 key n fits low keyed j u at m.1).1 in
+    let none : (is : IsKeyed (kind_in k.kinds o)) → under (container_after k.kinds (first_writes n (history es)) o).content key ≡ [] = λ keyed. (misses_are_right k es valid o m.0 key n fits low keyed j u at m.1).1 in
     (λ is. absent_dict k es valid o n low key fits is (none (keyed_dict is)), λ is. absent_set k es valid o n low key fits is (none (keyed_set is)))
 misses_are_replied k es valid o key n low fits j u at (inr bare) =
-    let none = empty_under (kept k.kinds (first_writes n (history es)) o).content key (bare_roots_are_right k es valid o n low j u at bare).1.1 in
+    let none = empty_under (container_after k.kinds (first_writes n (history es)) o).content key (bare_roots_are_right k es valid o n low j u at bare).1.1 in
     (λ is. absent_dict k es valid o n low key fits is none, λ is. absent_set k es valid o n low key fits is none)
 
 list_fits : (c : Content) → FitsContent c → All FitsValue (list_of c)
@@ -298,7 +298,7 @@ items_are_replied k es valid o t place n low is small j u at h kind payload read
     let stored = stored_at k es n in
     let items = list_at stored.world o in
     let r = items_are_right k es valid o t place n low (listed is) small j u at h in
-    let fits : All FitsValue items = list_fits (kept k.kinds (first_writes n (history es)) o).content (fit k es valid o n low) in
+    let fits : All FitsValue items = list_fits (container_after k.kinds (first_writes n (history es)) o).content (fit k es valid o n low) in
     ⊎_elim
     (λ some_one. inl (some_one.0, some_one.1, item_in stored o place (Some some_one.0) some_one.2))
     (λ none. inr (none.0, item_in stored o place None none.1))
@@ -310,5 +310,5 @@ past_items_are_replied k es valid o index n low is j u at (inl p) =
     let beyond = p.1 in
     item_in (stored_at k es n) o index None (none_at (list_at (stored_at k es n).world o) index (omega (arith, short, beyond)))
 past_items_are_replied k es valid o index n low is j u at (inr bare) =
-    let none = empty_list (kept k.kinds (first_writes n (history es)) o).content (bare_roots_are_right k es valid o n low j u at bare).1.1 in
+    let none = empty_list (container_after k.kinds (first_writes n (history es)) o).content (bare_roots_are_right k es valid o n low j u at bare).1.1 in
     item_in (stored_at k es n) o index None (none_at (list_at (stored_at k es n).world o) index (omega (arith, none)))

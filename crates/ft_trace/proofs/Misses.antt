@@ -16,7 +16,7 @@ use Rattle.ft_trace.specs.declared.Act.TheVariants.{ReadTable, ReadCounter}
 use Rattle.ft_trace.specs.Addresses.{containers_in, IsTable, class_of, slots}
 use Rattle.ft_trace.specs.Acts.{reads}
 use Rattle.ft_trace.specs.Ages.{whose}
-use Rattle.ft_trace.specs.Worlds.{kept, first_writes, kind_in}
+use Rattle.ft_trace.specs.Worlds.{container_after, first_writes, kind_in}
 use Rattle.ft_trace.specs.Words.{index_of, entry_at, entry_of, walk_of}
 use Rattle.ft_trace.specs.Carefuls.{IsLive, IsDead, Reached, Later}
 use Rattle.ft_trace.specs.Kinds.{rows, under, IsKeyed}
@@ -81,7 +81,7 @@ module _ (k : Shape) (o : ℕ) (key : Key) (t j : ℕ) (low : o < containers_in 
     used : entry_of N (tab k kw.spot.es t) place 2 ≢ 0
     used =
         let names = named_by k iw.spot.es iw.spot.valid o t table iw.spot.now (iw.whom ∙ (kw.whom ∙ whom)) in
-        let sound = keyed_sound (kind_in k.kinds o) keyed k.texts (class_of t) (tab k iw.spot.es t) (kept k.kinds (history iw.spot.es) o).content (sound_at k iw.spot.es iw.spot.valid o low t names) in
+        let sound = keyed_sound (kind_in k.kinds o) keyed k.texts (class_of t) (tab k iw.spot.es t) (container_after k.kinds (history iw.spot.es) o).content (sound_at k iw.spot.es iw.spot.valid o low t names) in
         later_used N M (tab k iw.spot.es t) (tab k kw.spot.es t) i_later place low_place (sound.named slot place in_table low_place (sym index_read))
 
     same : place ≡ p
@@ -170,13 +170,13 @@ passed_by k o key t j low keyed table start walk read s whom slot in_table probe
 
 -- from a moment at which no entry of the key is met
 absent_at : (k : Shape) (es : List Event) (valid : Valid k es) (o t : ℕ) (key : Key) (n : ℕ) (fits : FitsKey key) (low : o < containers_in k) (keyed : IsKeyed (kind_in k.kinds o)) (table : IsTable k t) (j : ℕ) (start rest : List Act) (s : Spot k t j start rest) → Under s.es es → whose s.es t ≡ o → n ≡ count k s.es
-    → (Reached (slots (class_of t)) (rows (kind_in k.kinds o) (class_of t)) (tab k s.es t) (walk_of (kind_in k.kinds o) k.texts (class_of t) key) key → ⊥) → (n ≤ count k es) × (under (kept k.kinds (first_writes n (history es)) o).content key ≡ [])
+    → (Reached (slots (class_of t)) (rows (kind_in k.kinds o) (class_of t)) (tab k s.es t) (walk_of (kind_in k.kinds o) k.texts (class_of t) key) key → ⊥) → (n ≤ count k es) × (under (container_after k.kinds (first_writes n (history es)) o).content key ≡ [])
 absent_at k es valid o t key n fits low keyed table j start rest s below whom is never =
     let names = named_by k s.es s.valid o t table s.now whom in
-    let sound = keyed_sound (kind_in k.kinds o) keyed k.texts (class_of t) (tab k s.es t) (kept k.kinds (history s.es) o).content (sound_at k s.es s.valid o low t names) in
-    let none : under (kept k.kinds (history s.es) o).content key ≡ [] = ⊎_elim (λ e. e) (λ there. absurd (never (sound.reached key fits there))) (none_or (under (kept k.kinds (history s.es) o).content key)) in
+    let sound = keyed_sound (kind_in k.kinds o) keyed k.texts (class_of t) (tab k s.es t) (container_after k.kinds (history s.es) o).content (sound_at k s.es s.valid o low t names) in
+    let none : under (container_after k.kinds (history s.es) o).content key ≡ [] = ⊎_elim (λ e. e) (λ there. absurd (never (sound.reached key fits there))) (none_or (under (container_after k.kinds (history s.es) o).content key)) in
     let c = stamp_then k s.es es s.valid valid below n is in
-    (c.0, ap (λ (cs : List Call). under (kept k.kinds cs o).content key) c.1 ∙ none)
+    (c.0, ap (λ (cs : List Call). under (container_after k.kinds cs o).content key) c.1 ∙ none)
 
 module _ (k : Shape) (es : List Event) (valid : Valid k es) (o t : ℕ) (key : Key) (n : ℕ) (fits : FitsKey key) (low : o < containers_in k) (keyed : IsKeyed (kind_in k.kinds o)) (j : ℕ) (u : View) (at : get_elem? (run k es).views j ≡ some u) (h : Miss u.log o t (rows (kind_in k.kinds o) (class_of t)) (walk_of (kind_in k.kinds o) k.texts (class_of t) key) key n) where
   abbrev probe : List ℕ
@@ -225,7 +225,7 @@ module _ (k : Shape) (es : List Event) (valid : Valid k es) (o t : ℕ) (key : K
       (λ no. m.before h.steps (omega arith) (still_free (m.inside h.steps (omega arith)))))
 
   -- the miss
-  pub miss_at : (n ≤ count k es) × (under (kept k.kinds (first_writes n (history es)) o).content key ≡ [])
+  pub miss_at : (n ≤ count k es) × (under (container_after k.kinds (first_writes n (history es)) o).content key ≡ [])
   miss_at = absent_at k es valid o t key n fits low keyed open_.table j start h.rest loaded.spot (under_trans then_ top.spot.es es loaded.under (under_trans top.spot.es open_.spot.es es top.under open_.under)) whom_then loaded.tells never
 
 module _ (k : Shape) (es : List Event) (valid : Valid k es) (o t : ℕ) (key : Key) (n : ℕ) (fits : FitsKey key) (low : o < containers_in k) (keyed : IsKeyed (kind_in k.kinds o)) (j : ℕ) (u : View) (at : get_elem? (run k es).views j ≡ some u) (h : Full u.log o t (rows (kind_in k.kinds o) (class_of t)) (walk_of (kind_in k.kinds o) k.texts (class_of t) key) key n) where
@@ -239,7 +239,7 @@ module _ (k : Shape) (es : List Event) (valid : Valid k es) (o t : ℕ) (key : K
   counted_at = go k t j begin h.walk opened_at.table h.window.before opened_at.spot h.mid (ReadCounter n) h.rest h.is
 
   -- the miss where every slot was used
-  pub full_at : (n ≤ count k es) × (under (kept k.kinds (first_writes n (history es)) o).content key ≡ [])
+  pub full_at : (n ≤ count k es) × (under (container_after k.kinds (first_writes n (history es)) o).content key ≡ [])
   full_at =
       absent_at k es valid o t key n fits low keyed opened_at.table j begin h.rest counted_at.spot (under_trans counted_at.spot.es opened_at.spot.es es counted_at.under opened_at.under) (counted_at.whom ∙ opened_at.whom) counted_at.tells
       (λ r.

@@ -8,7 +8,7 @@ use Rattle.ft_model.specs.Tables.{TableUse}
 use Rattle.ft_layout.specs.Tables.{is_live}
 use Rattle.ft_layout.specs.Containers.{IsRoot, block_word, used_pair, used_element, InDictTable, InSetTable, InListTable, StandsAs}
 use Rattle.ft_layout.proofs.KindLaws.{head_of}
-use Rattle.ft_trace.specs.Worlds.{Kept}
+use Rattle.ft_trace.specs.Worlds.{ContainerState}
 use Rattle.ft_trace.specs.Words.{Picture, root_in, Stands}
 use Rattle.ft_trace.specs.Reading.{IsNothing}
 
@@ -31,7 +31,7 @@ nothing_in texts block words table (content.List values) none s =
     let is = subst (λ (z : Option ℕ). InListTable words z values) none s.0.table in
     ap (λ l. length l) is
 
-pub no_table_stands : (texts : List ℕ) (x : Picture) (kept : Kept) → root_in x ≡ 0 → Stands texts x kept → IsNothing kept
+pub no_table_stands : (texts : List ℕ) (x : Picture) (kept : ContainerState) → root_in x ≡ 0 → Stands texts x kept → IsNothing kept
 no_table_stands texts x kept zero_is s =
     let head = head_of texts x.block (0 ∷ 0 ∷ x.table) kept.table kept.content s in
     let class = no_class (block_word x.block 2) kept.table.class head.root zero_is in

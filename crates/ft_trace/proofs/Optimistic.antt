@@ -11,7 +11,7 @@ use Rattle.ft_model.specs.declared.call.Call.{Call}
 use Rattle.ft_model.specs.declared.reply.Reply.{Reply}
 use Rattle.ft_model.specs.Tables.{StoredWorld, stored_newest}
 use Rattle.ft_trace.specs.Addresses.{containers_in}
-use Rattle.ft_trace.specs.Worlds.{Kept, kept_at, kept, kind_in, first_writes, reply_in}
+use Rattle.ft_trace.specs.Worlds.{ContainerState, state_at, container_after, kind_in, first_writes, reply_in}
 use Rattle.ft_trace.specs.Words.{table_of, inner, Picture, root_of, root_in, picture, Stands}
 use Rattle.ft_trace.specs.Reading.{Between, Among, Agrees, IsNothing, Looked, LookedAtBoth}
 use Rattle.ft_model.specs.Worlds.{kind_of}
@@ -69,15 +69,15 @@ module _ (k : Shape) (es : List Event) (valid : Valid k es) (o : ℕ) (low : o <
   still_now a m = quiet_to k (in_now a m).older now top.valid (under_now a m) o low (ap (λ (n : ℕ). n % 2) (same a m) ∙ even_now) (sym (same a m))
 
   -- a load of the counter between them
-  pub at_stamp : (s : ℕ) → Among (ReadCounter s) mid → (s ≤ count k es) × (kept k.kinds (first_writes s (history es)) o ≡ kept k.kinds (history now) o)
+  pub at_stamp : (s : ℕ) → Among (ReadCounter s) mid → (s ≤ count k es) × (container_after k.kinds (first_writes s (history es)) o ≡ container_after k.kinds (history now) o)
   at_stamp s m =
       let w = in_now (ReadCounter s) m in
       let h = stamp_then k w.older es w.valid valid (under_trans w.older now es (under_now (ReadCounter s) m) (record { newer = top.newer; is = top.split })) s w.tells in
-      (h.0, ap (λ (cs : List Call). kept k.kinds cs o) h.1 ∙ sym (still_now (ReadCounter s) m).content)
+      (h.0, ap (λ (cs : List Call). container_after k.kinds cs o) h.1 ∙ sym (still_now (ReadCounter s) m).content)
 
   -- its kind
-  pub kind_at : (s : ℕ) → Among (ReadCounter s) mid → kind_of (kept k.kinds (first_writes s (history es)) o).content ≡ kind_in k.kinds o
-  kind_at s m = ap (λ (z : Kept). kind_of z.content) (at_stamp s m).1 ∙ kind_then k now top.valid o
+  pub kind_at : (s : ℕ) → Among (ReadCounter s) mid → kind_of (container_after k.kinds (first_writes s (history es)) o).content ≡ kind_in k.kinds o
+  kind_at s m = ap (λ (z : ContainerState). kind_of z.content) (at_stamp s m).1 ∙ kind_then k now top.valid o
 
   -- the words of the container between them
   abbrev pub shown : Picture
@@ -107,7 +107,7 @@ module _ (k : Shape) (es : List Event) (valid : Valid k es) (o : ℕ) (low : o <
   }
 
   -- the optimistic read: what follows from the answers, on whatever words and whatever else is stored, holds of what was stored at the load of the counter
-  pub looked : (P : StoredWorld → Type 0) → ((x : Picture) (t : StoredWorld) → kind_of (kept_at t o).content ≡ kind_in k.kinds o → Stands k.texts x (kept_at t o) → Agrees k o mid x → P t) → (s : ℕ) → Among (ReadCounter s) mid → (s ≤ count k es) × P (stored_newest k.kinds (first_writes s (history es)))
+  pub looked : (P : StoredWorld → Type 0) → ((x : Picture) (t : StoredWorld) → kind_of (state_at t o).content ≡ kind_in k.kinds o → Stands k.texts x (state_at t o) → Agrees k o mid x → P t) → (s : ℕ) → Among (ReadCounter s) mid → (s ≤ count k es) × P (stored_newest k.kinds (first_writes s (history es)))
   looked P gives s st =
       let a = at_stamp s st in
       (a.0, gives shown (stored_newest k.kinds (first_writes s (history es))) (kind_at s st) (subst (Stands k.texts shown) (sym a.1) (stands k now top.valid o low even_now)) agrees)
@@ -136,8 +136,8 @@ looked_at_both k es valid call o p low low_too j u at r n h =
     )
 
 -- a root that is 0: there is no table at the counter that was loaded
-pub bare_at : (k : Shape) (es : List Event) (valid : Valid k es) (o n : ℕ) → o < containers_in k → (j : ℕ) (u : View) → get_elem? (run k es).views j ≡ some u → Bare u.log o n → (n ≤ count k es) × IsNothing (kept k.kinds (first_writes n (history es)) o)
+pub bare_at : (k : Shape) (es : List Event) (valid : Valid k es) (o n : ℕ) → o < containers_in k → (j : ℕ) (u : View) → get_elem? (run k es).views j ≡ some u → Bare u.log o n → (n ≤ count k es) × IsNothing (container_after k.kinds (first_writes n (history es)) o)
 bare_at k es valid o n low j u at h =
-    looked k es valid o low j u at h.mid h.between (λ t. IsNothing (kept_at t o))
-    (λ x t is s a. no_table_stands k.texts x (kept_at t o) (sym (a.root 0 h.root)) s)
+    looked k es valid o low j u at h.mid h.between (λ t. IsNothing (state_at t o))
+    (λ x t is s a. no_table_stands k.texts x (state_at t o) (sym (a.root 0 h.root)) s)
     n h.stamp

@@ -1,4 +1,4 @@
--- Keys that words can tell are one key exactly where their words are the same; and what is found in a list.
+-- Keys that words can represent are one key exactly where their words are the same; and what is found in a list.
 use Rattle.std.proofs.Common.{◌≡◌, Bool, true, false, not, cond, List, [], ◌∷◌, Some, None, refl, sym, ap, ◌∙◌, subst}
 use Rattle.std.specs.Prelude.{All, find, filter, is_some, ◌||◌}
 use Rattle.std.specs.List.{list_any}

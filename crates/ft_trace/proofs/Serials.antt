@@ -31,7 +31,7 @@ use Rattle.ft_model.proofs.TableOrder.{order-caps}
 use Rattle.ft_trace.specs.declared.Shape.{Shape}
 use Rattle.ft_trace.specs.declared.Act.{Act}
 use Rattle.ft_trace.specs.declared.Act.TheVariants.{Commit}
-use Rattle.ft_trace.specs.Worlds.{kept}
+use Rattle.ft_trace.specs.Worlds.{container_after}
 use Rattle.ft_trace.specs.Traces.{Event, did, forked, joined, sent, writes_of, history, Valid}
 use Rattle.ft_trace.proofs.Orders.{in_order}
 
@@ -226,5 +226,5 @@ all_low k (sent id v given ∷ es) valid = all_low k es valid.0
 all_low k (joined id v other w ∷ es) valid = all_low k es valid.0
 
 -- the next serial of each container
-pub next_low : (k : Shape) (es : List Event) → Valid k es → (o : ℕ) → serial_of (kept k.kinds (history es) o).content ≤ 65536 * length (history es)
+pub next_low : (k : Shape) (es : List Event) → Valid k es → (o : ℕ) → serial_of (container_after k.kinds (history es) o).content ≤ 65536 * length (history es)
 next_low k es valid o = at_or (IsLow (65536 * length (history es))) (stored_newest k.kinds (history es)).world o (content.List []) (omega arith) (all_low k es valid)

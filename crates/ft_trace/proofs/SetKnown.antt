@@ -23,7 +23,7 @@ use Rattle.ft_layout.proofs.Powers.{slots_range}
 use Rattle.ft_trace.specs.declared.View.{View}
 use Rattle.ft_trace.specs.Addresses.{containers_in, class_of, slots, places}
 use Rattle.ft_trace.specs.Acts.{has_lock}
-use Rattle.ft_trace.specs.Worlds.{Kept, kind_in}
+use Rattle.ft_trace.specs.Worlds.{ContainerState, kind_in}
 use Rattle.ft_trace.specs.Words.{root_in, index_of, entry_at, entry_of, walk_of}
 use Rattle.ft_trace.specs.Carefuls.{said_of, IsLive, Reached, Clear}
 use Rattle.ft_trace.specs.Kinds.{under, rows, version_at}
@@ -122,7 +122,7 @@ module _ (v : View) (o : ℕ) (elements : SetContent) (low : o < containers_in v
   stored = stored_newest v.shape.kinds calls
 
   pub set_there : slice_index_or stored.world o (content.List []) ≡ content.Set elements
-  set_there = ap (λ (z : Kept). z.content) (agree o low mine) ∙ is_set
+  set_there = ap (λ (z : ContainerState). z.content) (agree o low mine) ∙ is_set
 
   pub set_in : o < length stored.world
   set_in = subst (λ (z : ℕ). o < z) (sym (as_many v.shape.kinds calls)) low
@@ -131,7 +131,7 @@ module _ (v : View) (o : ℕ) (elements : SetContent) (low : o < containers_in v
   set_in_tables = subst (λ (z : ℕ). o < z) (sym (tables_as_many v.shape.kinds calls)) low
 
   pub set_table_is : table_at stored.tables o ≡ (known o v).table
-  set_table_is = ap (λ (z : Kept). z.table) (agree o low mine)
+  set_table_is = ap (λ (z : ContainerState). z.table) (agree o low mine)
 
   pub set_found : set_at stored.world o ≡ elements
   set_found = ap set_of (at_any stored.world o (content.Set empty_set) (content.List []) set_in ∙ set_there)

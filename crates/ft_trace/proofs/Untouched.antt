@@ -10,7 +10,7 @@ use Rattle.ft_model.specs.Changes.{changed_by}
 use Rattle.ft_model.specs.Worlds.{empty_content, no_hands}
 use Rattle.ft_model.specs.Tables.{StoredWorld, no_table, stored_newest, after_stored}
 use Rattle.ft_model.proofs.Untouched.{other_contents, other_tables, as_many_contents}
-use Rattle.ft_trace.specs.Worlds.{kept, kept_at, changes}
+use Rattle.ft_trace.specs.Worlds.{container_after, state_at, changes}
 
 -- what is at a place, if anything is
 at_or : {A : Type 0} (l : List A) (i : ℕ) (d : A) → slice_index_or l i d ≡ unwrap_or (slice_get l i) d
@@ -22,14 +22,14 @@ same_at : {A : Type 0} (a b : List A) (i : ℕ) (d : A) → slice_get a i ≡ sl
 same_at a b i d e = at_or a i d ∙ (ap (λ z. unwrap_or z d) e ∙ sym (at_or b i d))
 
 -- what a write leaves of each container that it doesn't change
-pub untouched_in : (s : StoredWorld) (c : Call) (o : ℕ) → changes c ≢ o → kept_at (after_stored s c) o ≡ kept_at s o
+pub untouched_in : (s : StoredWorld) (c : Call) (o : ℕ) → changes c ≢ o → state_at (after_stored s c) o ≡ state_at s o
 untouched_in s c o ne =
     let other : changed_by c ≢ Some o = λ e. ne (ap (λ (z : Option ℕ). unwrap_or z 0) e) in
     let world = same_at _ _ o (content.List []) (other_contents s.world no_hands c o other) in
     let table = same_at _ _ o no_table (other_tables s c o other) in
     λ i. record { content = world i; table = table i }
 
-pub untouched : (kinds : List Kind) (c : Call) (cs : List Call) (o : ℕ) → changes c ≢ o → kept kinds (c ∷ cs) o ≡ kept kinds cs o
+pub untouched : (kinds : List Kind) (c : Call) (cs : List Call) (o : ℕ) → changes c ≢ o → container_after kinds (c ∷ cs) o ≡ container_after kinds cs o
 untouched kinds c cs o ne = untouched_in (stored_newest kinds cs) c o ne
 
 -- there is a content for each container

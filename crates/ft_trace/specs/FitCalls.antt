@@ -1,4 +1,4 @@
--- Calls and contents whose keys and values words can tell: integers of 64 bits, and strings with numbers of 32 bits.
+-- Calls and contents whose keys and values words can represent: integers of 64 bits, and strings with numbers of 32 bits.
 -- (profile)
 use Rattle.std.specs.Prelude.{All}
 use Rattle.ft_model.specs.declared.call.Call.{Call}
@@ -15,13 +15,13 @@ use Rattle.ft_model.specs.declared.content.Content.TheVariants as content
 use Rattle.ft_layout.specs.declared.slot.Stored.TheVariants.{Plain}
 use Rattle.ft_layout.specs.Words.{FitsKey, FitsStored}
 
--- words can tell the value
+-- words can represent the value
 abbrev pub FitsValue : Value → Type 0
 FitsValue value = FitsStored (Plain value)
 
 -- ---- calls
 
--- words can tell the key and the value of a call on a dict
+-- words can represent the key and the value of a call on a dict
 abbrev pub FitsDictCall : DictCall → Type 0
 FitsDictCall (dict.Get key) = FitsKey key
 FitsDictCall (dict.GetOr key default) = FitsKey key × FitsValue default
@@ -40,7 +40,7 @@ FitsDictCall (dict.CopyTo other) = Unit {0}
 FitsDictCall (dict.Eq other) = Unit {0}
 FitsDictCall (dict.Iter cursor) = Unit {0}
 
--- words can tell the value of a call on a list
+-- words can represent the value of a call on a list
 abbrev pub FitsListCall : ListCall → Type 0
 FitsListCall (list.Append value) = FitsValue value
 FitsListCall (list.Insert index value) = FitsValue value
@@ -61,7 +61,7 @@ FitsListCall list.Items = Unit {0}
 FitsListCall (list.Eq other) = Unit {0}
 FitsListCall (list.Iter cursor) = Unit {0}
 
--- words can tell the key of a call on a set
+-- words can represent the key of a call on a set
 abbrev pub FitsSetCall : SetCall → Type 0
 FitsSetCall (set.Add key) = FitsKey key
 FitsSetCall (set.Discard key) = FitsKey key
@@ -80,7 +80,7 @@ FitsSetCall (set.Disjoint other) = Unit {0}
 FitsSetCall set.Clear = Unit {0}
 FitsSetCall (set.Iter cursor) = Unit {0}
 
--- words can tell the keys and values of a call
+-- words can represent the keys and values of a call
 abbrev pub FitsCall : Call → Type 0
 FitsCall (call.Dict o dict_call) = FitsDictCall dict_call
 FitsCall (call.List o list_call) = FitsListCall list_call
@@ -92,7 +92,7 @@ FitsCall call.Quiesce = Unit {0}
 
 -- ---- contents
 
--- words can tell each key and each value of a content
+-- words can represent each key and each value of a content
 abbrev pub FitsContent : Content → Type 0
 FitsContent (content.Dict dict) = All (λ pair. FitsKey pair.key × FitsValue pair.value) dict.pairs
 FitsContent (content.List values) = All FitsValue values

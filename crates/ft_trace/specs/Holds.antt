@@ -4,7 +4,7 @@ use Rattle.ft_model.specs.Tables.{StoredWorld}
 use Rattle.ft_trace.specs.declared.View.{View}
 use Rattle.ft_trace.specs.Addresses.{containers_in}
 use Rattle.ft_trace.specs.Acts.{has_lock, mem, past}
-use Rattle.ft_trace.specs.Worlds.{Kept, kept_at, kept}
+use Rattle.ft_trace.specs.Worlds.{ContainerState, state_at, container_after}
 use Rattle.ft_trace.specs.Words.{Picture, picture, table_of}
 
 -- the words of o, whose lock it has
@@ -12,8 +12,8 @@ abbrev pub held : ℕ → View → Picture
 held o v = picture v.shape o (mem v.shape v.log)
 
 -- what the history makes of o
-abbrev pub known : ℕ → View → Kept
-known o v = kept v.shape.kinds (past v.log) o
+abbrev pub known : ℕ → View → ContainerState
+known o v = container_after v.shape.kinds (past v.log) o
 
 -- the words of a table that is fresh in its hand
 abbrev pub in_hand : ℕ → View → List ℕ
@@ -21,4 +21,4 @@ in_hand t v = table_of v.shape t (mem v.shape v.log)
 
 -- this stored world has what the pass knows of the containers whose locks it has
 abbrev pub AgreesWith : View → StoredWorld → Type 0
-AgreesWith v t = (p : ℕ) → p < containers_in v.shape → has_lock p v.log ≡ true → kept_at t p ≡ known p v
+AgreesWith v t = (p : ℕ) → p < containers_in v.shape → has_lock p v.log ≡ true → state_at t p ≡ known p v

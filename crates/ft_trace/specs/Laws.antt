@@ -30,7 +30,7 @@ use Rattle.ft_trace.specs.Addresses.{Word, Inside, at, sizes_of, part_of, counte
 use Rattle.ft_trace.specs.Acts.{has_lock, is_writing, reads, stage, goal, has_goal, clear, announces, owes, all_entries}
 use Rattle.ft_trace.specs.Owners.{is_owner_in, had_locks, found_owners, AreOwners}
 use Rattle.ft_trace.specs.Ages.{age, all_acts}
-use Rattle.ft_trace.specs.Worlds.{kept, first_writes, kind_in, reply_in}
+use Rattle.ft_trace.specs.Worlds.{container_after, first_writes, kind_in, reply_in}
 use Rattle.ft_trace.specs.Words.{entry_at, item_at, walk_of, table_of, picture}
 use Rattle.ft_trace.specs.Items.{words_at}
 use Rattle.ft_trace.specs.Kinds.{rows, is_key, pair_words, element_words, under, LaterAs, IsKeyed, IsItems}
@@ -160,7 +160,7 @@ StoredTablesAreInOrder =
     → AreTablesInOrder (stored_newest k.kinds (history es))
     × All (λ content. passes_cap content ≡ false) (stored_newest k.kinds (history es)).world
 
--- words can tell each key and value that a container has, or had after the first writes of the history
+-- words can represent each key and value that a container has, or had after the first writes of the history
 abbrev pub ContentsFit : Type 0
 ContentsFit =
     (k : Shape) (es : List Event) → Valid k es
@@ -171,14 +171,14 @@ ContentsFit =
 abbrev pub ZeroRootsHaveNothing : Type 0
 ZeroRootsHaveNothing =
     (k : Shape) (es : List Event) → Valid k es → (o : ℕ) → o < containers_in k → word k es (version_of o) % 2 ≡ 0
-    → word k es (block o 0) ≡ 0 → IsNothing (kept k.kinds (history es) o)
+    → word k es (block o 0) ≡ 0 → IsNothing (container_after k.kinds (history es) o)
 
 -- a pass knows the words and the content of a container whose lock it has, and the words of a table fresh in its hand
 abbrev pub HoldersKnow : Type 0
 HoldersKnow =
     (v : View) (es : List Event) (j : ℕ) → Knows v es j
     → ((o : ℕ) → o < containers_in v.shape → has_lock o v.log ≡ true
-    → (held o v ≡ picture v.shape o (run v.shape es).words) × (known o v ≡ kept v.shape.kinds (history es) o))
+    → (held o v ≡ picture v.shape o (run v.shape es).words) × (known o v ≡ container_after v.shape.kinds (history es) o))
     × ((t : ℕ) → IsTable v.shape t → stage t v.log ≡ 1 → in_hand t v ≡ table_of v.shape t (run v.shape es).words)
 
 -- ---- tables
@@ -277,7 +277,7 @@ GivenUpTablesRest =
 abbrev pub TablesAreSound : Type 0
 TablesAreSound =
     (k : Shape) (es : List Event) → Valid k es → (o : ℕ) → o < containers_in k → (t : ℕ) → word k es (block o 0) ≡ suc t
-    → SoundFor k (run k es).words o t (kept k.kinds (history es) o).content
+    → SoundFor k (run k es).words o t (container_after k.kinds (history es) o).content
 
 -- what stays of it from then on until it is taken out of the root
 abbrev pub TableWordsStay : Type 0
@@ -294,9 +294,9 @@ HitsAreRight =
     → IsKeyed (kind_in k.kinds o) → p < rows (kind_in k.kinds o) (class_of t) → (j : ℕ) (u : View) → HasView k es j u
     → (h : Hit u.log o t p key n)
     → (n ≤ word k es counter)
-    × (under (kept k.kinds (first_writes n (history es)) o).content key ≢ [])
+    × (under (container_after k.kinds (first_writes n (history es)) o).content key ≢ [])
     × ((w f : ℕ) → w < 3 → Among (ReadTable t (entry_at (slots (class_of t)) p (4 + w)) f) h.mid
-    → slice_index (under (kept k.kinds (first_writes n (history es)) o).content key) w ≡ f)
+    → slice_index (under (container_after k.kinds (first_writes n (history es)) o).content key) w ≡ f)
 
 -- a key that fits its words is absent at the stamp that was not found on its probe, up to a slot never used or over all
 -- its slots
@@ -308,13 +308,13 @@ MissesAreRight =
     n
     ⊎ Full u.log o t (rows (kind_in k.kinds o) (class_of t)) (walk_of (kind_in k.kinds o) k.texts (class_of t) key) key
     n
-    → (n ≤ word k es counter) × (under (kept k.kinds (first_writes n (history es)) o).content key ≡ [])
+    → (n ≤ word k es counter) × (under (container_after k.kinds (first_writes n (history es)) o).content key ≡ [])
 
 -- where the root was read 0 there is nothing at the stamp
 abbrev pub BareRootsAreRight : Type 0
 BareRootsAreRight =
     (k : Shape) (es : List Event) → Valid k es → (o n : ℕ) → o < containers_in k → (j : ℕ) (u : View) → HasView k es j u
-    → Bare u.log o n → (n ≤ word k es counter) × IsNothing (kept k.kinds (first_writes n (history es)) o)
+    → Bare u.log o n → (n ≤ word k es counter) × IsNothing (container_after k.kinds (first_writes n (history es)) o)
 
 -- an item that was read is the list's at the stamp
 abbrev pub ItemsAreRight : Type 0
@@ -323,7 +323,7 @@ ItemsAreRight =
     → p < slots (class_of t) → (j : ℕ) (u : View) → HasView k es j u → (h : ItemHit u.log o t p n)
     → (n ≤ word k es counter)
     × ((w f : ℕ) → w < 2 → Among (ReadTable t (item_at p (1 + w)) f) h.mid
-    → slice_index (words_at (list_of (kept k.kinds (first_writes n (history es)) o).content) p) w ≡ f)
+    → slice_index (words_at (list_of (container_after k.kinds (first_writes n (history es)) o).content) p) w ≡ f)
 
 -- at the stamp a list is no longer than the table that its root named
 abbrev pub ListsFitTheirTables : Type 0
@@ -331,7 +331,7 @@ ListsFitTheirTables =
     (k : Shape) (es : List Event) → Valid k es → (o t n : ℕ) → o < containers_in k → IsItems (kind_in k.kinds o)
     → (j : ℕ) (u : View) → HasView k es j u → ItemPast u.log o t n
     → (n ≤ word k es counter)
-    × (length (list_of (kept k.kinds (first_writes n (history es)) o).content) ≤ slots (class_of t))
+    × (length (list_of (container_after k.kinds (first_writes n (history es)) o).content) ≤ slots (class_of t))
 
 -- what was read between two equal even loads of the version is the reply at the stamp
 abbrev pub LooksAreRight : Type 0
@@ -369,7 +369,7 @@ NumbersHaveRoom =
 abbrev pub NextSerialsAreLow : Type 0
 NextSerialsAreLow =
     (k : Shape) (es : List Event) → Valid k es → (o : ℕ)
-    → serial_of (kept k.kinds (history es) o).content ≤ 2 ^ 16 * word k es counter
+    → serial_of (container_after k.kinds (history es) o).content ≤ 2 ^ 16 * word k es counter
 
 -- ---- what contents say
 

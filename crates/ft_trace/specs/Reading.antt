@@ -9,7 +9,7 @@ use Rattle.ft_trace.specs.declared.Shape.{Shape}
 use Rattle.ft_trace.specs.Addresses.{IsTable, class_of, size}
 use Rattle.std.specs.Prelude.{None}
 use Rattle.ft_model.specs.Worlds.{length_of, kind_of}
-use Rattle.ft_trace.specs.Worlds.{Kept, kept_at, reply_in, kind_in}
+use Rattle.ft_trace.specs.Worlds.{ContainerState, state_at, reply_in, kind_in}
 use Rattle.ft_trace.specs.Words.{Picture, root_in, Stands}
 
 -- the log has these actions, newest first, between two loads of the version of o that found the same even number
@@ -34,13 +34,13 @@ pub record Agrees (k : Shape) (o : ℕ) (mid : List Act) (x : Picture) : Type 0 
       → f ≡ slice_index x.table i
 
 -- there is no table and nothing in the container
-abbrev pub IsNothing : Kept → Type 0
+abbrev pub IsNothing : ContainerState → Type 0
 IsNothing kept = (kept.table.class ≡ None) × (length_of kept.content ≡ 0)
 
 -- the call has this reply wherever o is of its kind and has words that answer as the reads of mid did
 abbrev pub AnswersOn : Shape → Call → ℕ → Reply → List Act → Type 0
 AnswersOn k call o r mid =
-    (x : Picture) (t : StoredWorld) → kind_of (kept_at t o).content ≡ kind_in k.kinds o → Stands k.texts x (kept_at t o)
+    (x : Picture) (t : StoredWorld) → kind_of (state_at t o).content ≡ kind_in k.kinds o → Stands k.texts x (state_at t o)
     → Agrees k o mid x → reply_in t call ≡ r
 
 -- the reply to a call about o was read between two equal even loads of its version, and the counter loaded between them
@@ -57,7 +57,7 @@ pub record LookedAtBoth (k : Shape) (call : Call) (o p : ℕ) (r : Reply) (numbe
   pub other : List Act
   pub between : Between log o one × Between log p other
   pub stamp : Among (ReadCounter number) one × Among (ReadCounter number) other
-  pub answers : (x y : Picture) (t : StoredWorld) → kind_of (kept_at t o).content ≡ kind_in k.kinds o
-      → kind_of (kept_at t p).content ≡ kind_in k.kinds p → Stands k.texts x (kept_at t o)
-      → Stands k.texts y (kept_at t p)
+  pub answers : (x y : Picture) (t : StoredWorld) → kind_of (state_at t o).content ≡ kind_in k.kinds o
+      → kind_of (state_at t p).content ≡ kind_in k.kinds p → Stands k.texts x (state_at t o)
+      → Stands k.texts y (state_at t p)
       → Agrees k o one x → Agrees k p other y → reply_in t call ≡ r

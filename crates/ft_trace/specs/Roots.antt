@@ -12,7 +12,7 @@ use Rattle.ft_trace.specs.Addresses.{block, bits, containers_in, IsTable, free_b
 use Rattle.ft_trace.specs.Ages.{age}
 use Rattle.ft_trace.specs.Bits.{bit}
 use Rattle.ft_trace.specs.Reading.{IsNothing}
-use Rattle.ft_trace.specs.Worlds.{kept, changes, may_empty}
+use Rattle.ft_trace.specs.Worlds.{container_after, changes, may_empty}
 use Rattle.ft_trace.specs.Traces.{Event, did, word, history, Valid}
 use Rattle.ft_trace.specs.Laws.{HasView}
 
@@ -34,7 +34,7 @@ pub record BeganBare (k : Shape) (es : List Event) (o j : ℕ) (log : List Act) 
   pub own : List Act
   pub is : log ≡ own ++ StartWrite o found ∷ view.log
   pub one : OfOneWrite o own
-  pub nothing : IsNothing (kept k.kinds (history older) o)
+  pub nothing : IsNothing (container_after k.kinds (history older) o)
 
 -- A root that is 0 while the version is odd: the pass that writes put 0 there in this write, or the container had no
 -- table and nothing in it when the write began. A call that is committed after that put is one that may give up its

@@ -20,7 +20,7 @@ use Rattle.ft_trace.specs.declared.Snap.{Snap}
 use Rattle.ft_trace.specs.declared.View.{View}
 use Rattle.ft_trace.specs.Addresses.{Word, counter, write_number, version_of, containers_in, tables_in, class_of, size, IsTable, at, opening}
 use Rattle.ft_trace.specs.Acts.{place, word_after, Reports, has_lock, is_writing, has_committed, has_emptied, stage, goal, announces, clear, used, debt, flight, owes, noted, starter, maker, made, both, spent, sender, note}
-use Rattle.ft_trace.specs.Worlds.{kept, first_writes, kind_in, changes, may_empty, reply_in}
+use Rattle.ft_trace.specs.Worlds.{container_after, first_writes, kind_in, changes, may_empty, reply_in}
 use Rattle.ft_trace.specs.Words.{table_of, root_of, picture, Stands}
 use Rattle.ft_trace.specs.Kinds.{rows, version_at, SoundAs, CarefulAs, ClearAs}
 use Rattle.ft_trace.specs.Openings.{Shut, Timely, Low}
@@ -82,7 +82,7 @@ history (sent id v given ∷ es) = history es
 
 -- the words of o stand for what the history makes of it
 abbrev pub StandsFor : Shape → Moment → List Call → ℕ → Type 0
-StandsFor k m cs o = Stands k.texts (picture k o m.words) (kept k.kinds cs o)
+StandsFor k m cs o = Stands k.texts (picture k o m.words) (container_after k.kinds cs o)
 
 abbrev pub snap : Moment → List Call → Snap
 snap m cs = record { words = m.words; calls = cs }
@@ -132,7 +132,7 @@ May k m cs v (PutRoot o r old) =
     (o < containers_in k)
     × (is_writing o v.log ≡ true)
     × (old ≡ root_of k o m.words)
-    × ((t : ℕ) → r ≡ suc t → IsTable k t × (stage t v.log ≡ 1) × SoundFor k m.words o t (kept k.kinds cs o).content)
+    × ((t : ℕ) → r ≡ suc t → IsTable k t × (stage t v.log ≡ 1) × SoundFor k m.words o t (container_after k.kinds cs o).content)
     × ((q : ℕ) → old ≡ suc q → ShutFor k m.words o q)
     × (old ≢ 0 → used v.log ≡ false)
     × ((t : ℕ) → r ≡ suc t → LowFor k m.words o t (word_in k m counter) (has_committed o v.log))
@@ -144,7 +144,7 @@ May k m cs v (PutTable o t i x) =
     × (i < size (class_of t))
     × (is_writing o v.log ≡ true)
     × (root_of k o m.words ≡ suc t)
-    × CarefulFor k m.words o t (kept k.kinds cs o).content i x
+    × CarefulFor k m.words o t (container_after k.kinds cs o).content i x
     × TimelyFor k o t i x (has_committed o v.log)
 -- a word of a table that it took and that has stood in no root since
 May k m cs v (PutFresh t i x) = IsTable k t × (i < size (class_of t)) × (stage t v.log ≡ 1)
@@ -163,7 +163,7 @@ May k m cs v (Commit c r f s) =
     × (0 < v.left)
     × IsReplied c r (reply_in (stored_newest k.kinds cs) c)
     × ((t : ℕ) → root_of k (changes c) m.words ≡ suc t
-    → ClearFor k m.words (changes c) t (kept k.kinds cs (changes c)).content (kept k.kinds (c
+    → ClearFor k m.words (changes c) t (container_after k.kinds cs (changes c)).content (container_after k.kinds (c
     ∷ cs) (changes c)).content)
     × (changes c < containers_in k)
     × (s ≡ snap m cs)

@@ -8,7 +8,7 @@ use Rattle.ft_layout.specs.Tables.{hash_of}
 use Rattle.ft_layout.specs.Containers.{class_mask, StandsAs}
 use Rattle.ft_trace.specs.declared.Shape.{Shape}
 use Rattle.ft_trace.specs.Addresses.{block, cell, class_of, size, at}
-use Rattle.ft_trace.specs.Worlds.{Kept}
+use Rattle.ft_trace.specs.Worlds.{ContainerState}
 
 -- n words from this one on
 abbrev pub piece : List ℕ → ℕ → ℕ → List ℕ
@@ -43,7 +43,7 @@ abbrev pub picture : Shape → ℕ → List ℕ → Picture
 picture k o ws = record { block = block_of k o ws; table = inner k (root_of k o ws) ws }
 
 -- they stand for a content with this class and fill; the two words of a table's header say nothing of it
-abbrev pub Stands : List ℕ → Picture → Kept → Type 0
+abbrev pub Stands : List ℕ → Picture → ContainerState → Type 0
 Stands texts x kept = StandsAs texts x.block (0 ∷ 0 ∷ x.table) kept.table kept.content
 
 -- ---- words of a table

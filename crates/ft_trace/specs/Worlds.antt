@@ -19,16 +19,16 @@ use Rattle.ft_model.specs.Changes.{changed_by}
 use Rattle.ft_model.specs.Tables.{TableUse, StoredWorld, table_at, stored_newest}
 
 -- what a container has, and its table
-pub record Kept : Type 0 where
+pub record ContainerState : Type 0 where
   pub content : Content
   pub table : TableUse
 
-abbrev pub kept_at : StoredWorld → ℕ → Kept
-kept_at stored o =
+abbrev pub state_at : StoredWorld → ℕ → ContainerState
+state_at stored o =
     record { content = slice_index_or stored.world o (content.List []); table = table_at stored.tables o }
 
-abbrev pub kept : List Kind → List Call → ℕ → Kept
-kept kinds calls o = kept_at (stored_newest kinds calls) o
+abbrev pub container_after : List Kind → List Call → ℕ → ContainerState
+container_after kinds calls o = state_at (stored_newest kinds calls) o
 
 -- the first n of these writes, newest first
 abbrev pub first_writes : ℕ → List Call → List Call

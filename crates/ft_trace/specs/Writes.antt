@@ -15,7 +15,7 @@ use Rattle.ft_trace.specs.declared.Snap.{Snap}
 use Rattle.ft_trace.specs.declared.View.{View}
 use Rattle.ft_trace.specs.Addresses.{containers_in, class_of, size, IsTable}
 use Rattle.ft_trace.specs.Acts.{has_lock, is_writing, used, owes, stage, mem, noted}
-use Rattle.ft_trace.specs.Worlds.{kept, kind_in, changes, may_empty, reply_in}
+use Rattle.ft_trace.specs.Worlds.{container_after, kind_in, changes, may_empty, reply_in}
 use Rattle.ft_trace.specs.Words.{inner, Picture, root_in, Stands}
 use Rattle.ft_trace.specs.Kinds.{rows, version_at, SoundAs, CarefulAs, ClearAs}
 use Rattle.ft_trace.specs.FitCalls.{FitsCall}
@@ -162,12 +162,12 @@ pub record MayCommit (v : View) (o t : ℕ) (write : Write) (calls : List Call) 
       → takes_in (stored_newest v.shape.kinds calls) write.call ≡ Some class
   pub clear : (q : ℕ) → root_in (at_commit v o write) ≡ suc q
       → ClearAs (kind_in v.shape.kinds o) v.shape.texts (class_of q) (at_commit v o write).table
-      (known o v).content (kept v.shape.kinds (write.call ∷ calls) o).content
-  pub late : MayPuts (kind_in v.shape.kinds o) t (kept v.shape.kinds (write.call ∷ calls) o).content true
+      (known o v).content (container_after v.shape.kinds (write.call ∷ calls) o).content
+  pub late : MayPuts (kind_in v.shape.kinds o) t (container_after v.shape.kinds (write.call ∷ calls) o).content true
       (at_commit v o write) write.late
-  pub stands : Stands v.shape.texts (at_end v o write) (kept v.shape.kinds (write.call ∷ calls) o)
+  pub stands : Stands v.shape.texts (at_end v o write) (container_after v.shape.kinds (write.call ∷ calls) o)
 
--- The write is one of o, the pass has the lock of each container that it names, and words can tell its keys and values:
+-- The write is one of o, the pass has the lock of each container that it names, and words can represent its keys and values:
 -- what it puts before its commit may be put, it may be committed after whatever writes agree with what the pass knows,
 -- and no version of an entry or item is odd at its end.
 pub record MayWriteSo (v : View) (o t : ℕ) (write : Write) : Type 0 where

@@ -25,7 +25,8 @@ use Rattle.ft_closing.specs.Numbering.{AreKeptFrom}
 use Rattle.ft_engine.specs.declared.caller.Caller.{Caller}
 use Rattle.ft_engine.specs.declared.engine.Engine.{Engine}
 use Rattle.ft_engine.specs.Callers.{IsCallerOf, IsIdle, pass_of, taken_of, thread_of}
-use Rattle.ft_engine.specs.Closings.{AreAllMade, AreKept, AreOfScript, IsLegalFor}
+use Rattle.ft_closing.specs.Marks.{AreMade}
+use Rattle.ft_engine.specs.Closings.{AreKept, AreOfScript, IsLegalFor}
 use Rattle.ft_engine.specs.Keeping.{IsKept}
 use Rattle.ft_workers.specs.declared.workers.Worker.{Worker}
 use Rattle.ft_workers.specs.Workers.{HasTaken, HasWorked, IsBankFor}
@@ -46,7 +47,7 @@ push_found (z ∷ l) x y (suc n) at =
       | inr last ↦ inr (ap suc last.0, last.1)
     ]
 
-pub made_push : (script : ScriptParts) (lists : List (List Entry)) (mine : List Entry) → AreAllMade script lists → map (λ e. e.call) mine ≡ calls_of script (length lists) → AreAllMade script (lists ++ mine ∷ [])
+pub made_push : (script : ScriptParts) (lists : List (List Entry)) (mine : List Entry) → AreMade script lists → map (λ e. e.call) mine ≡ calls_of script (length lists) → AreMade script (lists ++ mine ∷ [])
 made_push script lists mine made is thread other at =
     elim (push_found lists mine other thread at) [
       | inl found ↦ made thread other found
@@ -61,7 +62,7 @@ own_kept w kept none =
     let v = view (pass_of w.caller) in
     (kept, subst (λ (taken : List (List PassEntry)). AreKeptFrom (suc (thread_of w.caller)) [] taken (had_locks v.number v.log) (found_owners v.log)) (sym none) tt)
 
-no_lists : (script : ScriptParts) → AreAllMade script []
+no_lists : (script : ScriptParts) → AreMade script []
 no_lists script thread mine at = absurd (let none : None ≡ Some mine = at in cc)
 
 -- the first worker
@@ -135,7 +136,7 @@ max_some (suc n) some = suc-max-suc n 0 ∙ ap suc (max-zero n)
 
 -- ---- all threads
 
-module _ (script : ScriptParts) (k : Shape) (lists : List (List Entry)) (is : IsScript script) (bank : IsBankFor script k) (all : length lists ≡ k.passes) (made : AreAllMade script lists) where
+module _ (script : ScriptParts) (k : Shape) (lists : List (List Entry)) (is : IsScript script) (bank : IsBankFor script k) (all : length lists ≡ k.passes) (made : AreMade script lists) where
   of_script : (length script.threads ≢ 0) → AreOfScript script k lists
   of_script some =
       let few : max (length script.threads) 1 ≡ length script.threads = max_some (length script.threads) some in
@@ -145,7 +146,7 @@ module _ (script : ScriptParts) (k : Shape) (lists : List (List Entry)) (is : Is
         count = all ∙ (bank.passes ∙ few);
       }
 
-  pub ended_legal : (history : List Entry) → IsPermutation (flat_map (λ mine. mine) lists) history → (AreOfScript script k lists → AreAllMade script lists → IsLegalFor script history) → IsLegalFor script history
+  pub ended_legal : (history : List Entry) → IsPermutation (flat_map (λ mine. mine) lists) history → (AreOfScript script k lists → AreMade script lists → IsLegalFor script history) → IsLegalFor script history
   ended_legal history moved closed =
       dite (ℕ_discrete (length script.threads) 0)
       (λ (none : length script.threads ≡ 0).

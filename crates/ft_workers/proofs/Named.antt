@@ -90,7 +90,7 @@ module _ (script : ScriptParts) (k : Shape) (kinds : k.kinds ≡ kinds_of script
   count : containers_in k ≡ length script.containers
   count = ap length kinds ∙ length-map script.containers (λ (d : Declaration). d.kind)
 
-  -- to a thread with so many cursors, of which a `next` names one that was made
+  -- to a thread with that many cursors, of which a `next` names one that was made
   pub named_in : (hands : List (Option Cursor)) (cursors : ℕ) (called : Call) → ((n : ℕ) → n < cursors → n < length hands) → IsCallOf script cursors called
       → ((number : ℕ) → called ≡ call.Next number → is_some (cursor_at hands number) ≡ true) → IsCallIn k hands called
   named_in hands cursors (call.Dict o dc) room is made = (

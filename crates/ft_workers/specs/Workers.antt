@@ -16,7 +16,8 @@ use Rattle.ft_bank.specs.Passes.{shape_of, view}
 use Rattle.ft_engine.specs.declared.caller.Caller.{Caller}
 use Rattle.ft_engine.specs.declared.engine.Engine.{Engine}
 use Rattle.ft_engine.specs.Callers.{IsCallerOf, IsIdle, bank_of, hands_of, pass_of, taken_of, thread_of}
-use Rattle.ft_engine.specs.Closings.{AreAllMade, AreKept, IsDone}
+use Rattle.ft_closing.specs.Marks.{AreMade}
+use Rattle.ft_engine.specs.Closings.{AreKept, IsDone}
 use Rattle.ft_engine.specs.Keeping.{IsKept}
 use Rattle.ft_workers.specs.declared.workers.Worker.{Worker}
 
@@ -95,4 +96,4 @@ pub record HasTaken (e : Engine) (script : ScriptParts) (c : Caller) (lists : Li
   pub thread : thread_of c ≡ 0
   pub parts : (view (pass_of c)).parts ≡ length lists
   pub kept : AreKept c lists
-  pub made : AreAllMade script lists
+  pub made : AreMade script lists

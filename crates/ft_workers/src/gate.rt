@@ -1,6 +1,6 @@
 //! What is called round each call of a worker.
 
-/// Whoever runs workers is told by it of each call before it is made and after it was answered; it may hold a worker
+/// Whoever runs workers learns from it of each call before it is made and after it was answered; it may hold a worker
 /// there. Threads count from 0, and a thread's calls from 1, as in entries.
 pub trait Gate: Sync {
     /// The thread comes to its call of this index.

@@ -154,7 +154,8 @@ pub(crate) fn work_all<R: Threads + Wait + Sync, G: Gate>(
         return;
     }
     let each = |thread: usize, worker: &mut Worker|
-        requires { IsBankFor script.now (shape_of (bank_of engine.now)) × IsNew engine.now script.now thread worker.now }
+        requires { IsBankFor script.now (shape_of (bank_of engine.now))
+            × IsNew engine.now script.now thread worker.now }
         ensures { HasWorked engine.entry.now script.entry.now thread worker.exit.now }
     {
         work(rt, engine, alloc, gate, script, thread, worker);

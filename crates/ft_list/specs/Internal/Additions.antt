@@ -40,7 +40,7 @@ pub record KnowsItems (k : Shape) (o : ℕ) (v : View) : Type 0 where
   pub even : is_writing o v.log ≡ false
   pub stands : Stands k.texts (held o v) (known o v)
 
--- The addition is a value that words can tell, at a place of a list of that many items; or all the items of a list that
+-- The addition is a value that words can represent, at a place of a list of that many items; or all the items of a list that
 -- the pass knows, of which there are as many as it says.
 abbrev pub IsAddition : Shape → ℕ → Addition → View → Type 0
 IsAddition k count (One place value) v = (place ≤ count) × FitsStored (Plain value)

@@ -100,7 +100,7 @@ KeepsBelow t place before after =
     → entry_of (slots (class_of t)) after.table p word ≡ entry_of (slots (class_of t)) before.table p word
 
 -- In the container o, which counts this, the keys of the container t are put whose entries come before this place of
--- its table; when all are, o has this content and so many used entries. (profile)
+-- its table; when all are, o has this content and that many used entries. (profile)
 pub record IsJoining (k : Shape) (o : ℕ) (way : Way) (own : Table) (t : ℕ) (table : Table) (goal : Content) (end : ℕ)
     (place : ℕ) (counts : Counts) (v : View) : Type 0 where
   pub mid : Content

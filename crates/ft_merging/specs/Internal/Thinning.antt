@@ -11,7 +11,7 @@ use Rattle.ft_trace.specs.Carefuls.{IsLive}
 use Rattle.ft_trace.specs.FitCalls.{FitsContent}
 use Rattle.ft_trace.specs.Holds.{held, known}
 use Rattle.ft_trace.specs.Kinds.{rows}
-use Rattle.ft_trace.specs.Worlds.{Kept, kind_in}
+use Rattle.ft_trace.specs.Worlds.{ContainerState, kind_in}
 use Rattle.ft_bank.specs.declared.table.Table.{Table}
 use Rattle.ft_bank.specs.Tables.{name_of}
 use Rattle.ft_merging.specs.Thinning.{stays}
@@ -23,7 +23,7 @@ spared kept others first key = not (has_element first.elements key) || stays kep
 
 -- Of the set, which had this at first, the elements are out that don't stay and whose entries come before this place;
 -- those of entries from the last place on all stay. Once all are looked at it has this. (profile)
-pub record IsThinned (k : Shape) (s : ℕ) (table : Table) (kept : Bool) (others first : SetContent) (to : Kept)
+pub record IsThinned (k : Shape) (s : ℕ) (table : Table) (kept : Bool) (others first : SetContent) (to : ContainerState)
     (last place : ℕ) (v : View) : Type 0 where
   pub mid : SetContent
   pub midway : IsMidway k s table (record { content = content.Set mid; table = to.table }) v

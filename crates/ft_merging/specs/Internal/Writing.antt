@@ -12,7 +12,7 @@ use Rattle.ft_trace.specs.Carefuls.{IsDead, IsLive}
 use Rattle.ft_trace.specs.Holds.{held, known}
 use Rattle.ft_trace.specs.Kinds.{rows, under}
 use Rattle.ft_trace.specs.Words.{entry_of, Picture, Stands}
-use Rattle.ft_trace.specs.Worlds.{Kept, kept_at, kind_in, changes}
+use Rattle.ft_trace.specs.Worlds.{ContainerState, state_at, kind_in, changes}
 use Rattle.ft_bank.specs.declared.table.Table.{Table}
 use Rattle.ft_bank.specs.Tables.{name_of}
 use Rattle.ft_bank.specs.Writes.{MayCommit, MayHave}
@@ -23,14 +23,14 @@ abbrev pub version_of : ℕ → Picture → ℕ → ℕ
 version_of t x p = entry_of (slots (class_of t)) x.table p 0
 
 -- no entry whose version is odd has a key that was deleted and that is there
-abbrev pub NoneDead : ℕ → ℕ → Picture → Kept → Type 0
+abbrev pub NoneDead : ℕ → ℕ → Picture → ContainerState → Type 0
 NoneDead t m x kept =
     (p : ℕ) (key : Key) → p < m → version_of t x p % 2 ≡ 1 → IsDead (slots (class_of t)) x.table p key
     → under kept.content key ≡ []
 
 -- Some of the entries are put, and the counter isn't raised yet. The words stand for this; an entry with an even
 -- version says what the container had before. (profile)
-pub record IsMidway (k : Shape) (o : ℕ) (table : Table) (mid : Kept) (v : View) : Type 0 where
+pub record IsMidway (k : Shape) (o : ℕ) (table : Table) (mid : ContainerState) (v : View) : Type 0 where
   pub writes : WritesEntries k o table v
   pub early : has_committed o v.log ≡ false
   pub stands : Stands k.texts (held o v) mid
@@ -53,13 +53,13 @@ pub record IsClosing (k : Shape) (o : ℕ) (table : Table) (from fill : ℕ) (v 
   pub shut : (p : ℕ) → p < rows (kind_in k.kinds o) (class_of (name_of table)) → p < from
       → version_of (name_of table) (held o v) p % 2 ≡ 0
 
--- The call may be committed, and the words say what it leaves of the container; so many entries of its table are used.
+-- The call may be committed, and the words say what it leaves of the container; that many entries of its table are used.
 -- (profile)
 pub record MayFinishAll (k : Shape) (o : ℕ) (table : Table) (fill : ℕ) (called : Call) (said : Reply) (v : View)
     : Type 0 where
   pub may : MayCommit v called said
   pub changed : changes called ≡ o
-  pub left : Kept
-  pub left_is : (stored : StoredWorld) → MayHave v stored → kept_at (after_stored stored called) o ≡ left
+  pub left : ContainerState
+  pub left_is : (stored : StoredWorld) → MayHave v stored → state_at (after_stored stored called) o ≡ left
   pub used : left.table.fill ≡ fill
   pub midway : IsMidway k o table left v

@@ -6,7 +6,7 @@ use Rattle.ft_trace.specs.Acts.{stage}
 use Rattle.ft_trace.specs.Addresses.{class_of}
 use Rattle.ft_trace.specs.Holds.{held, in_hand, known}
 use Rattle.ft_trace.specs.Kinds.{rows, IsKeyed}
-use Rattle.ft_trace.specs.Worlds.{Kept, kind_in}
+use Rattle.ft_trace.specs.Worlds.{ContainerState, kind_in}
 use Rattle.ft_bank.specs.declared.table.Table.{Table}
 use Rattle.ft_bank.specs.Passes.{shape_of, view}
 use Rattle.ft_bank.specs.Tables.{name_of, root_for}
@@ -35,11 +35,11 @@ pub copy_entries-requires-clause-fresh : goal.copy_entries-requires-clause-fresh
 copy_entries-requires-clause-fresh c = c.blank.ensures.only.work.hands (name_of c.args.table) ∙ c.requires.fresh
 
 pub copy_entries-requires-clause-fill : goal.copy_entries-requires-clause-fill
-copy_entries-requires-clause-fill c = c.requires.fill ∙ ap (λ (z : Kept). z.table.fill) (sym (same (goal.at.copy_entries-requires-clause-fill c).After-blank))
+copy_entries-requires-clause-fill c = c.requires.fill ∙ ap (λ (z : ContainerState). z.table.fill) (sym (same (goal.at.copy_entries-requires-clause-fill c).After-blank))
 
 pub copy_entries-requires-clause-room : goal.copy_entries-requires-clause-room
 copy_entries-requires-clause-room c =
-    subst (λ (z : Kept). length_of z.content ≤ rows (kind_by c.args.way) (class_of (name_of c.args.table))) (sym (same (goal.at.copy_entries-requires-clause-room c).After-blank)) c.requires.room
+    subst (λ (z : ContainerState). length_of z.content ≤ rows (kind_by c.args.way) (class_of (name_of c.args.table))) (sym (same (goal.at.copy_entries-requires-clause-room c).After-blank)) c.requires.room
 
 pub returns-in-Some-clause-only : goal.returns-in-Some-clause-only
 returns-in-Some-clause-only c = filled_then (view c.args.pass.now) (view c.blank.new.pass) (view c.copy_entries.new.pass) c.blank.ensures.only c.copy_entries.ensures.only
@@ -47,7 +47,7 @@ returns-in-Some-clause-only c = filled_then (view c.args.pass.now) (view c.blank
 pub returns-in-Some-clause-filled : goal.returns-in-Some-clause-filled
 returns-in-Some-clause-filled c =
     let a = c.args in
-    subst (λ (z : Kept). IsFilledWith (shape_of a.bank.now).texts (class_of (name_of a.table)) z.content (in_hand (name_of a.table) (view c.copy_entries.new.pass))) (same (goal.at.returns-in-Some-clause-filled c).After-blank) c.copy_entries.ensures.filled
+    subst (λ (z : ContainerState). IsFilledWith (shape_of a.bank.now).texts (class_of (name_of a.table)) z.content (in_hand (name_of a.table) (view c.copy_entries.new.pass))) (same (goal.at.returns-in-Some-clause-filled c).After-blank) c.copy_entries.ensures.filled
 
 pub returns-in-None-clause-filled : goal.returns-in-None-clause-filled
 returns-in-None-clause-filled c =

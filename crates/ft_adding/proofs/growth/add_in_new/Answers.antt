@@ -12,7 +12,7 @@ use Rattle.ft_trace.specs.Addresses.{class_of, slots}
 use Rattle.ft_trace.specs.Holds.{held, known, in_hand}
 use Rattle.ft_trace.specs.Kinds.{rows}
 use Rattle.ft_trace.specs.Words.{Picture, root_in}
-use Rattle.ft_trace.specs.Worlds.{Kept, changes, kind_in}
+use Rattle.ft_trace.specs.Worlds.{ContainerState, changes, kind_in}
 use Rattle.ft_bank.specs.Passes.{shape_of, view}
 use Rattle.ft_bank.specs.Tables.{name_of}
 use Rattle.ft_bank.specs.Whole.{OnlyPut}
@@ -79,10 +79,10 @@ same c =
 filled : (c : After-fill) → IsFilledWith (shape_of c.args.bank.now).texts (class_of (name_of c.args.table)) (known c.args.o (view c.fill.new.pass)).content (in_hand (name_of c.args.table) (view c.fill.new.pass))
 filled c =
     let a = c.args in
-    subst (λ (z : Kept). IsFilledWith (shape_of a.bank.now).texts (class_of (name_of a.table)) z.content (in_hand (name_of a.table) (view c.fill.new.pass))) (sym (same c).1) c.fill.ensures.filled
+    subst (λ (z : ContainerState). IsFilledWith (shape_of a.bank.now).texts (class_of (name_of a.table)) z.content (in_hand (name_of a.table) (view c.fill.new.pass))) (sym (same c).1) c.fill.ensures.filled
 
 absent : (c : After-fill) → IsHeldAt (known c.args.o (view c.fill.new.pass)).content c.args.key None
-absent c = subst (λ (z : Kept). IsHeldAt z.content c.args.key None) (sym (same c).1) c.requires.absent
+absent c = subst (λ (z : ContainerState). IsHeldAt z.content c.args.key None) (sym (same c).1) c.requires.absent
 
 counts : (c : After-fill) → AreCounts (held c.args.o (view c.fill.new.pass)).block c.args.counts
 counts c = subst (λ (z : Picture). AreCounts z.block c.args.counts) (sym (same c).0) c.requires.counts
@@ -172,7 +172,7 @@ finish_entry-requires-clause-may c =
     let many = (counts_known (laws d).head k a.o a.old x a.counts (grow d).keyed (counts d)).0 in
     let first = adds_leaves a.o a.called.now a.said.now a.key a.stored v c.requires.adds c.requires.few _ (grown_use (known a.o v).content (class_of t) (known a.o v).table c.requires.takes) in
     let leaves : Leaves a.o a.called.now a.said.now (record { content = with_key content a.key a.stored; table = use_with (class_of t) (a.counts.count + 1) }) x =
-    subst (λ (z : Content × ℕ). Leaves a.o a.called.now a.said.now (record { content = with_key z.0 a.key a.stored; table = use_with (class_of t) (z.1 + 1) }) x) (λ i. (sym (ap (λ (z : Kept). z.content) (same d).1) i, (ap (λ (z : Kept). length_of z.content) (sym (same d).1) ∙ sym many) i))
+    subst (λ (z : Content × ℕ). Leaves a.o a.called.now a.said.now (record { content = with_key z.0 a.key a.stored; table = use_with (class_of t) (z.1 + 1) }) x) (λ i. (sym (ap (λ (z : ContainerState). z.content) (same d).1) i, (ap (λ (z : ContainerState). length_of z.content) (sym (same d).1) ∙ sym many) i))
     (leaves_filled a.o a.called.now a.said.now _ v x c.fill.ensures.only first) in
     key_finishes a.o x u (since_root a.o t (root_in (held a.o x)) x (view c.begin_in.new.pass) u did.0 did.1.1 (puts p)) k a.table a.counts.count a.called.now a.said.now _ leaves c.fill.ensures.pass.1 c.requires.may.keyed.container (grow d).left
     (λ found class has owed.

@@ -5,7 +5,7 @@ use Rattle.ft_trace.specs.Addresses.{class_of}
 use Rattle.ft_trace.specs.Holds.{held, known}
 use Rattle.ft_trace.specs.Kinds.{rows}
 use Rattle.ft_trace.specs.Words.{Picture, root_in}
-use Rattle.ft_trace.specs.Worlds.{Kept, changes}
+use Rattle.ft_trace.specs.Worlds.{ContainerState, changes}
 use Rattle.ft_bank.specs.declared.takings.Took.TheVariants as took
 use Rattle.ft_bank.specs.Passes.{shape_of, view}
 use Rattle.ft_bank.specs.Tables.{name_of, root_for}
@@ -59,7 +59,7 @@ pub add_in_new-number-requires-clause-other : goal.add_in_new-number-requires-cl
 add_in_new-number-requires-clause-other c = other (goal.at.add_in_new-number-requires-clause-other c).In-Taken
 
 pub add_in_new-number-requires-clause-absent : goal.add_in_new-number-requires-clause-absent
-add_in_new-number-requires-clause-absent c = subst (λ (z : Kept). IsHeldAt z.content c.args.key None) (sym (same (goal.at.add_in_new-number-requires-clause-absent c).In-Taken).1) c.requires.absent
+add_in_new-number-requires-clause-absent c = subst (λ (z : ContainerState). IsHeldAt z.content c.args.key None) (sym (same (goal.at.add_in_new-number-requires-clause-absent c).In-Taken).1) c.requires.absent
 
 pub add_in_new-number-requires-clause-counts : goal.add_in_new-number-requires-clause-counts
 add_in_new-number-requires-clause-counts c = subst (λ (z : Picture). AreCounts z.block c.args.counts) (sym (same (goal.at.add_in_new-number-requires-clause-counts c).In-Taken).0) c.requires.counts
@@ -76,7 +76,7 @@ add_in_new-number-requires-clause-room c =
     (takes_room x.content a.way x.table a.class kinds (few_is (goal.at.add_in_new-number-requires-clause-room c).After-take) c.requires.takes)
 
 pub add_in_new-number-requires-clause-serials : goal.add_in_new-number-requires-clause-serials
-add_in_new-number-requires-clause-serials c = subst (λ (z : Kept). serial_of z.content < 2 ^ 63) (sym (same (goal.at.add_in_new-number-requires-clause-serials c).In-Taken).1) c.requires.serials
+add_in_new-number-requires-clause-serials c = subst (λ (z : ContainerState). serial_of z.content < 2 ^ 63) (sym (same (goal.at.add_in_new-number-requires-clause-serials c).In-Taken).1) c.requires.serials
 
 pub add_in_new-number-requires-clause-adds : goal.add_in_new-number-requires-clause-adds
 add_in_new-number-requires-clause-adds c =
@@ -88,12 +88,12 @@ add_in_new-number-requires-clause-adds c =
 pub add_in_new-number-requires-clause-few : goal.add_in_new-number-requires-clause-few
 add_in_new-number-requires-clause-few c =
     let d = (goal.at.add_in_new-number-requires-clause-few c).In-Taken in
-    subst (λ (z : Kept). nat_lt (most_of z.content) (length_of z.content + 1) ≡ false) (sym (same d).1) (passes_not (known c.args.o (view c.args.pass.now)).content (few_is (goal.at.add_in_new-number-requires-clause-few c).After-take))
+    subst (λ (z : ContainerState). nat_lt (most_of z.content) (length_of z.content + 1) ≡ false) (sym (same d).1) (passes_not (known c.args.o (view c.args.pass.now)).content (few_is (goal.at.add_in_new-number-requires-clause-few c).After-take))
 
 pub add_in_new-number-requires-clause-takes : goal.add_in_new-number-requires-clause-takes
 add_in_new-number-requires-clause-takes c =
     let d = (goal.at.add_in_new-number-requires-clause-takes c).In-Taken in
-    subst (λ (z : Kept × ℕ). key_takes z.0.content z.0.table ≡ Some z.1) (λ i. (sym (same d).1 i, sym (class_named d) i)) c.requires.takes
+    subst (λ (z : ContainerState × ℕ). key_takes z.0.content z.0.table ≡ Some z.1) (λ i. (sym (same d).1 i, sym (class_named d) i)) c.requires.takes
 
 pub retire_old-requires-clause-out : goal.retire_old-requires-clause-out
 retire_old-requires-clause-out c t is =

@@ -5,7 +5,7 @@ use Rattle.ft_model.specs.Tables.{TableUse}
 use Rattle.ft_model.specs.Worlds.{kind_of, length_of, serial_of}
 use Rattle.ft_trace.specs.Holds.{held, known}
 use Rattle.ft_trace.specs.Words.{Picture}
-use Rattle.ft_trace.specs.Worlds.{Kept}
+use Rattle.ft_trace.specs.Worlds.{ContainerState}
 use Rattle.ft_bank.specs.Passes.{shape_of, view}
 use Rattle.ft_bank.proofs.Whole.{loaded_held, work_knows}
 use Rattle.ft_growth.specs.declared.adding.Added.TheVariants as added
@@ -48,10 +48,10 @@ adds c =
     adds_later a.o a.called.now a.said.now a.key a.stored v u (has_loaded (shape_of a.bank.now) a.o a.old v u only (words_same c)) only.work.pass.locks (same c) c.requires.adds
 
 absent : (c : After-read_counts-counts) → IsHeldAt (known c.args.o (view c.read_counts-counts.new.pass)).content c.args.key None
-absent c = subst (λ (z : Kept). IsHeldAt z.content c.args.key None) (sym (same c)) c.requires.absent
+absent c = subst (λ (z : ContainerState). IsHeldAt z.content c.args.key None) (sym (same c)) c.requires.absent
 
 serials : (c : After-read_counts-counts) → serial_of (known c.args.o (view c.read_counts-counts.new.pass)).content < 2 ^ 63
-serials c = subst (λ (z : Kept). serial_of z.content < 2 ^ 63) (sym (same c)) c.requires.serials
+serials c = subst (λ (z : ContainerState). serial_of z.content < 2 ^ 63) (sym (same c)) c.requires.serials
 
 takes : (c : After-read_counts-counts) (result : Option ℕ) → ((content : Content) → kind_of content ≡ kind_by c.args.way → length_of content ≡ c.read_counts-counts.result.count → result ≡ key_takes content (use_of c.args.old c.read_counts-counts.result.fill)) → key_takes (known c.args.o (view c.read_counts-counts.new.pass)).content (known c.args.o (view c.read_counts-counts.new.pass)).table ≡ result
 takes c result wanted =

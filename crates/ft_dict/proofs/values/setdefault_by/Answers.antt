@@ -13,7 +13,7 @@ use Rattle.ft_keys.specs.declared.walk.Way.TheVariants as way
 use Rattle.ft_trace.specs.declared.Shape.{Shape}
 use Rattle.ft_trace.specs.Addresses.{containers_in}
 use Rattle.ft_trace.specs.Holds.{held, known}
-use Rattle.ft_trace.specs.Worlds.{Kept}
+use Rattle.ft_trace.specs.Worlds.{ContainerState}
 use Rattle.ft_bank.specs.declared.table.Table.{Table}
 use Rattle.ft_bank.specs.Passes.{shape_of, view}
 use Rattle.ft_bank.specs.Whole.{Wrote}
@@ -55,7 +55,7 @@ pub write_nothing-number-requires-clause-leaves : goal.write_nothing-number-requ
 write_nothing-number-requires-clause-leaves c = leaves (goal.at.write_nothing-number-requires-clause-leaves c).After-value_at
 
 same : (c : After-seek_key) → (known c.args.d (view c.seek_key.new.pass)).content ≡ (known c.args.d (view c.args.pass.now)).content
-same c = ap (λ (z : Kept). z.content) (work_knows (view c.args.pass.now) (view c.seek_key.new.pass) c.args.d c.seek_key.ensures.keeps.work)
+same c = ap (λ (z : ContainerState). z.content) (work_knows (view c.args.pass.now) (view c.seek_key.new.pass) c.args.d c.seek_key.ensures.keeps.work)
 
 -- the default is what is replied where the key isn't there
 missing : (c : After-seek_key) → IsHeldAt (known c.args.d (view c.seek_key.new.pass)).content c.args.key None → reply.Value c.args.default ≡ default_reply (known c.args.d (view c.args.pass.now)).content c.args.key c.args.default

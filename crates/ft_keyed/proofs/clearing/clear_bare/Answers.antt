@@ -1,7 +1,7 @@
 use Rattle.std.proofs.Common.{subst, sym}
 use Rattle.ft_trace.specs.Kinds.{IsKeyed}
 use Rattle.ft_trace.specs.Holds.{held, known}
-use Rattle.ft_trace.specs.Worlds.{Kept}
+use Rattle.ft_trace.specs.Worlds.{ContainerState}
 use Rattle.ft_model.specs.declared.reply.Reply.TheVariants as reply
 use Rattle.ft_bank.specs.Passes.{shape_of, view}
 use Rattle.ft_search.specs.Writing.{Leaves}
@@ -14,6 +14,6 @@ write_nothing-requires-clause-leaves c =
     let a = c.args in
     let k = shape_of a.bank.now in
     let v = view a.pass.now in
-    subst (λ (z : Kept). Leaves a.o a.called.now reply.Done z v)
+    subst (λ (z : ContainerState). Leaves a.o a.called.now reply.Done z v)
     (bare_stays k.texts (held a.o v) (known a.o v) (subst IsKeyed (sym (kind_is k v a.o c.requires.pass.1 a.pass.now.possible c.requires.may.locked)) c.requires.may.keyed) c.requires.may.stands c.requires.bare)
     c.requires.leaves

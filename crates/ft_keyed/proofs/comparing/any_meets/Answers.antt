@@ -6,7 +6,7 @@ use Rattle.ft_model.specs.declared.content.Element.{Element}
 use Rattle.ft_model.specs.Contents.{SetContent, has_pair}
 use Rattle.ft_model.specs.Worlds.{set_of, kind_of}
 use Rattle.ft_trace.specs.Words.{Picture, Stands}
-use Rattle.ft_trace.specs.Worlds.{Kept}
+use Rattle.ft_trace.specs.Worlds.{ContainerState}
 use Rattle.ft_bank.specs.Passes.{shape_of}
 use Rattle.ft_bank.specs.Tables.{name_of}
 use Rattle.ft_list.proofs.Both.{both_map, both_then, of_first}

@@ -6,7 +6,7 @@ use Rattle.ft_model.specs.declared.reply.Reply.TheVariants as reply
 use Rattle.ft_model.specs.Worlds.{list_of}
 use Rattle.ft_trace.specs.declared.Shape.{Shape}
 use Rattle.ft_trace.specs.Addresses.{containers_in}
-use Rattle.ft_trace.specs.Worlds.{Kept}
+use Rattle.ft_trace.specs.Worlds.{ContainerState}
 use Rattle.ft_bank.specs.Passes.{shape_of, view}
 use Rattle.ft_bank.proofs.Whole.{loaded_then, work_knows}
 use Rattle.ft_growth.proofs.Cursors.{added_cursors}
@@ -25,7 +25,7 @@ add_to-requires-clause-call c =
     let e = c.root_table-old.ensures in
     let values = items_of a.l u in
     let low : a.l < containers_in u.shape = subst (λ (z : Shape). a.l < containers_in z) (sym e.pass.1) e.list.container in
-    let count : length values ≡ c.count_of-count.result = ap (λ (z : Kept). length (list_of z.content)) (work_knows (view c.count_of-count.new.pass) u a.l e.only.work) ∙ (ap length c.count_of-count.ensures.items ∙ sym c.count_of-count.ensures.count) in (
+    let count : length values ≡ c.count_of-count.result = ap (λ (z : ContainerState). length (list_of z.content)) (work_knows (view c.count_of-count.new.pass) u a.l e.only.work) ∙ (ap length c.count_of-count.ensures.items ∙ sym c.count_of-count.ensures.count) in (
       list.Append a.value,
       refl,
       subst (λ (n : ℕ). Adds a.l (list.Append a.value) values (insert values n a.value) u) count

@@ -4,7 +4,7 @@ use Rattle.ft_model.specs.Worlds.{list_of}
 use Rattle.ft_trace.specs.Addresses.{class_of}
 use Rattle.ft_trace.specs.Holds.{held}
 use Rattle.ft_trace.specs.Words.{Picture, root_in}
-use Rattle.ft_trace.specs.Worlds.{Kept}
+use Rattle.ft_trace.specs.Worlds.{ContainerState}
 use Rattle.ft_bank.specs.Passes.{shape_of, view}
 use Rattle.ft_bank.specs.Tables.{name_of}
 use Rattle.ft_bank.proofs.Whole.{put_same, put_then, loaded_held, loaded_put, work_knows}
@@ -40,7 +40,7 @@ given_item-stored-requires-clause-place c =
     let a = c.args in
     let test = c.loop-place-test.true in
     let n = c.requires.more in
-    let long : length (items_of a.m (view c.loop-place.pass)) ≡ length (items_of a.m (view a.pass.now)) = ap (λ (z : Kept). length (list_of z.content)) (work_knows (view a.pass.now) (view c.loop-place.pass) a.m c.loop-place.invariant.only.work) in
+    let long : length (items_of a.m (view c.loop-place.pass)) ≡ length (items_of a.m (view a.pass.now)) = ap (λ (z : ContainerState). length (list_of z.content)) (work_knows (view a.pass.now) (view c.loop-place.pass) a.m c.loop-place.invariant.only.work) in
     omega (arith, test, n, long)
 
 pub overflow_add-count : goal.overflow_add-count
@@ -90,7 +90,7 @@ loop-place-preserved c =
     let loaded = loaded_put x y a.o f.only in
     let both = put_then x y z a.o loaded e.only in
     let same : held a.o y ≡ held a.o x = loaded_held x y a.o f.only in
-    let known : (p : ℕ) → items_of p x ≡ items_of p v = λ p. ap (λ (q : Kept). list_of q.content) (work_knows v x p i.only.work) in
+    let known : (p : ℕ) → items_of p x ≡ items_of p v = λ p. ap (λ (q : ContainerState). list_of q.content) (work_knows v x p i.only.work) in
     let stored : c.given_item-stored.result ≡ stored_at (values ++ others) (a.count + place) =
     f.stored ∙ (ap (λ (l : List Value). stored_at l place) (known a.m) ∙ (append_high values others place (omega (arith, test, m)) ∙ ap (λ (q : ℕ). stored_at (values ++ others) (q + place)) (sym n))) in
     let before : IsMoving class values (values ++ others) a.count (a.count + a.more) (a.count + place) (held a.o y).table =

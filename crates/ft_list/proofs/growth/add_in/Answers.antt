@@ -9,7 +9,7 @@ use Rattle.ft_trace.specs.Acts.{has_lock, is_writing, noted}
 use Rattle.ft_trace.specs.Addresses.{class_of, containers_in, slots}
 use Rattle.ft_trace.specs.Holds.{held, in_hand, known}
 use Rattle.ft_trace.specs.Words.{root_in}
-use Rattle.ft_trace.specs.Worlds.{Kept}
+use Rattle.ft_trace.specs.Worlds.{ContainerState}
 use Rattle.ft_trace.proofs.Cases.{miss}
 use Rattle.ft_bank.specs.Passes.{shape_of, view}
 use Rattle.ft_bank.specs.Tables.{name_of}
@@ -37,13 +37,13 @@ begin_in-requires-clause-filled c =
     let a = c.args in
     let class = class_of (name_of a.table) in
     let w = view c.fill.new.pass in
-    let items : items_of a.o w ≡ items_of a.o (view a.pass.now) = ap (λ (u : Kept). list_of u.content) (work_knows (view a.pass.now) w a.o c.fill.ensures.only.work) in
+    let items : items_of a.o w ≡ items_of a.o (view a.pass.now) = ap (λ (u : ContainerState). list_of u.content) (work_knows (view a.pass.now) w a.o c.fill.ensures.only.work) in
     subst (λ (l : List Value). IsFilled class l (slots class) (in_hand (name_of a.table) w)) (sym items) c.fill.ensures.filled
 
 pub begin_in-requires-clause-room : goal.begin_in-requires-clause-room
 begin_in-requires-clause-room c =
     let a = c.args in
-    let n : length (items_of a.o (view c.fill.new.pass)) ≡ length (items_of a.o (view a.pass.now)) = ap (λ (u : Kept). length (list_of u.content)) (work_knows (view a.pass.now) (view c.fill.new.pass) a.o c.fill.ensures.only.work) in
+    let n : length (items_of a.o (view c.fill.new.pass)) ≡ length (items_of a.o (view a.pass.now)) = ap (λ (u : ContainerState). length (list_of u.content)) (work_knows (view a.pass.now) (view c.fill.new.pass) a.o c.fill.ensures.only.work) in
     let r = c.requires.room in
     let m = c.requires.count in
     omega (arith, n, r, m)
@@ -61,7 +61,7 @@ put_added-requires-clause-addition c =
     let inside : (p : ℕ) → p < containers_in k → p < containers_in x.shape = λ p low. subst (λ (z : Shape). p < containers_in z) (sym (g.work.pass.shape ∙ c.requires.pass.1)) low in
     let filled = addition_on k a.count a.addition v x
     (λ p list. let y = g.keeps p (subst (λ (z : Shape). p < containers_in z) (sym c.requires.pass.1) list.container) list.locked list.even in (y.0, y.1, g.work.pass.locks p, g.work.pass.writes p)) c.requires.addition in
-    let n : length (items_of a.o x) ≡ length (items_of a.o v) = ap (λ (u : Kept). length (list_of u.content)) (work_knows v x a.o g.work) in
+    let n : length (items_of a.o x) ≡ length (items_of a.o v) = ap (λ (u : ContainerState). length (list_of u.content)) (work_knows v x a.o g.work) in
     let r = c.requires.room in
     let m = c.requires.count in
     addition_begun k a.o a.table x s b.list a.count a.count (b.putting a.count a.count) (omega (arith, n, r, m)) (λ p. ap (λ (z : View). known p z) begun) b.pass.1 c.begin_in.new.pass.possible
@@ -74,7 +74,7 @@ pub put_added-requires-clause-count : goal.put_added-requires-clause-count
 put_added-requires-clause-count c =
     let a = c.args in
     c.requires.count
-    ∙ sym (ap (λ (z : View). length (items_of a.o z)) c.begin_in.ensures.did.1.1 ∙ ap (λ (u : Kept). length (list_of u.content)) (work_knows (view a.pass.now) (view c.fill.new.pass) a.o c.fill.ensures.only.work))
+    ∙ sym (ap (λ (z : View). length (items_of a.o z)) c.begin_in.ensures.did.1.1 ∙ ap (λ (u : ContainerState). length (list_of u.content)) (work_knows (view a.pass.now) (view c.fill.new.pass) a.o c.fill.ensures.only.work))
 
 pub put_added-requires-clause-before : goal.put_added-requires-clause-before
 put_added-requires-clause-before c =
@@ -113,7 +113,7 @@ finish-requires-clause-may c =
     let first = c.first_place.result in
     let begun = b.did.1.1 in
     let knows_x : (p : ℕ) → known p x ≡ known p v = λ p. work_knows v x p g.work in
-    let same : values ≡ olds = ap (λ (z : Kept). list_of z.content) (knows_x a.o) in
+    let same : values ≡ olds = ap (λ (z : ContainerState). list_of z.content) (knows_x a.o) in
     let news_is : news ≡ with_added a.addition v olds = ap (λ (l : List Value). with_added a.addition x l) same ∙ added_on a.addition v x knows_x olds in
     let items : items_of a.o s ≡ values = ap (λ (z : View). items_of a.o z) begun in
     let after : with_added a.addition s (items_of a.o s) ≡ news = ap (λ (l : List Value). with_added a.addition s l) items ∙ added_on a.addition x s (λ p. ap (λ (z : View). known p z) begun) values in

@@ -3,7 +3,7 @@ use Rattle.ft_model.specs.declared.data.Value.{Value}
 use Rattle.ft_model.specs.Worlds.{list_of}
 use Rattle.ft_trace.specs.Acts.{mem}
 use Rattle.ft_trace.specs.Addresses.{class_of, slots}
-use Rattle.ft_trace.specs.Worlds.{Kept}
+use Rattle.ft_trace.specs.Worlds.{ContainerState}
 use Rattle.ft_trace.specs.Holds.{in_hand}
 use Rattle.ft_trace.proofs.Pieces.{table_long}
 use Rattle.ft_bank.specs.Passes.{shape_of, view}
@@ -37,7 +37,7 @@ old_item-stored-requires-clause-list c =
 pub old_item-stored-requires-clause-count : goal.old_item-stored-requires-clause-count
 old_item-stored-requires-clause-count c =
     let a = c.args in
-    c.requires.count ∙ sym (ap (λ (z : Kept). length (list_of z.content)) (work_knows (view a.pass.now) (view c.loop-place.pass) a.o c.loop-place.invariant.only.work))
+    c.requires.count ∙ sym (ap (λ (z : ContainerState). length (list_of z.content)) (work_knows (view a.pass.now) (view c.loop-place.pass) a.o c.loop-place.invariant.only.work))
 
 pub fill_item-requires-clause-place : goal.fill_item-requires-clause-place
 fill_item-requires-clause-place c =
@@ -64,7 +64,7 @@ loop-place-preserved c =
     let t = c.loop-place-test.true in
     let n = c.list_items-place-end.ensures in
     let low : place < slots class = omega (arith, s, t, n) in
-    let items : items_of a.o x ≡ items_of a.o v = ap (λ (u : Kept). list_of u.content) (work_knows v x a.o i.only.work) in
+    let items : items_of a.o x ≡ items_of a.o v = ap (λ (u : ContainerState). list_of u.content) (work_knows v x a.o i.only.work) in
     let is : c.old_item-stored.result ≡ stored_at (items_of a.o v) place = f.stored ∙ ap (λ (l : List Value). stored_at l place) items in
     let hand : in_hand (name_of a.table) y ≡ in_hand (name_of a.table) x = hand_loaded (name_of a.table) x y f.only in
     let next = filled_next class (table_class k a.table c.requires.table) (items_of a.o v) place (in_hand (name_of a.table) y) c.old_item-stored.result

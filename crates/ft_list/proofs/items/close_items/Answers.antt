@@ -1,7 +1,7 @@
 use Rattle.std.proofs.Common.{◌≡◌, ℕ, suc, ◌+◌, ◌<◌, length, refl, sym, ap, ◌∙◌, subst, arith}
 use Rattle.ft_model.specs.Worlds.{list_of}
 use Rattle.ft_trace.specs.Addresses.{class_of, slots}
-use Rattle.ft_trace.specs.Worlds.{Kept}
+use Rattle.ft_trace.specs.Worlds.{ContainerState}
 use Rattle.ft_trace.specs.Words.{Picture, item_at}
 use Rattle.ft_trace.specs.Items.{words_at}
 use Rattle.ft_trace.specs.Holds.{held}
@@ -21,7 +21,7 @@ close_item-requires-clause-says c =
     let i = c.loop-place.invariant in
     let class = class_of (name_of a.table) in
     let here : c.loop-place.place < slots class = let t = c.loop-place-test.true in let p = c.requires.places in omega (arith, t, p) in
-    ap (λ (z : Kept). words_at (list_of z.content) c.loop-place.place) (work_knows v w a.o i.only.work)
+    ap (λ (z : ContainerState). words_at (list_of z.content) c.loop-place.place) (work_knows v w a.o i.only.work)
     ∙ says class (items_of a.o v) (items_of a.o v) c.loop-place.place a.past (held a.o w).table i.changing c.loop-place.place here
 
 pub loop-place-preserved : goal.loop-place-preserved

@@ -6,7 +6,7 @@ use Rattle.ft_trace.specs.declared.View.{View}
 use Rattle.ft_trace.specs.Addresses.{class_of}
 use Rattle.ft_trace.specs.declared.Act.TheVariants.{StopWrite}
 use Rattle.ft_trace.specs.Acts.{noted}
-use Rattle.ft_trace.specs.Worlds.{Kept, changes}
+use Rattle.ft_trace.specs.Worlds.{ContainerState, changes}
 use Rattle.ft_trace.specs.Words.{root_in, Stands}
 use Rattle.ft_trace.specs.Holds.{held, known}
 use Rattle.ft_bank.specs.Passes.{shape_of, view}
@@ -26,7 +26,7 @@ close_items-requires-clause-changing c =
     let u = view a.pass.now in
     let w = view c.commit-number.new.pass in
     let d = c.commit-number.ensures.did in
-    let items : m.after ≡ items_of a.o w = sym (ap (λ (z : Kept). list_of z.content) (kept_after a.o a.table a.called.now a.said.now a.first a.past u w m c.commit-number.ensures.committed)) in
+    let items : m.after ≡ items_of a.o w = sym (ap (λ (z : ContainerState). list_of z.content) (kept_after a.o a.table a.called.now a.said.now a.first a.past u w m c.commit-number.ensures.committed)) in
     let words : (held a.o u).table ≡ (held a.o w).table = sym (ap (λ (z : View). (held a.o z).table) d.1.1) in
     subst (λ (l : List Value). IsChanging class l l a.first a.past (held a.o w).table) items
     (subst (λ (ws : List ℕ). IsChanging class m.after m.after a.first a.past ws) words (changing_only class m.before m.after a.first a.past (held a.o u).table m.changing))

@@ -8,7 +8,7 @@ use Rattle.ft_keys.specs.Ways.{IsTableOf}
 use Rattle.ft_trace.specs.Addresses.{class_of}
 use Rattle.ft_trace.specs.Holds.{known}
 use Rattle.ft_trace.specs.Words.{Picture}
-use Rattle.ft_trace.specs.Worlds.{Kept}
+use Rattle.ft_trace.specs.Worlds.{ContainerState}
 use Rattle.ft_bank.specs.Passes.{shape_of, view}
 use Rattle.ft_bank.specs.Tables.{name_of}
 use Rattle.ft_bank.proofs.Whole.{loaded_held, loaded_then, work_knows}
@@ -47,9 +47,9 @@ loop-place-preserved c =
       few = omega (arith, more, few, low);
       counted = λ used says filled.
           let was = i.counted used says filled in
-          let here = e.new used (subst (λ (x : Picture). IsTableOf a.way (shape_of a.bank.now).texts (class_mask (class_of (name_of a.table))) used (0 ∷ 0 ∷ x.table)) (sym other) says) (filled ∙ ap (λ (z : Kept). z.table.fill) (sym fill)) any in
+          let here = e.new used (subst (λ (x : Picture). IsTableOf a.way (shape_of a.bank.now).texts (class_mask (class_of (name_of a.table))) used (0 ∷ 0 ∷ x.table)) (sym other) says) (filled ∙ ap (λ (z : ContainerState). z.table.fill) (sym fill)) any in
           let d = (known a.o v).content in
-          let is : c.is_new_at.result ≡ (is_live (slice_index_or used c.loop-place.place any) && not (holds d (slice_index_or used c.loop-place.place any).key)) = here ∙ ap (λ (z : Kept). is_live (slice_index_or used c.loop-place.place any) && not (holds z.content (slice_index_or used c.loop-place.place any).key)) mine in
+          let is : c.is_new_at.result ≡ (is_live (slice_index_or used c.loop-place.place any) && not (holds d (slice_index_or used c.loop-place.place any).key)) = here ∙ ap (λ (z : ContainerState). is_live (slice_index_or used c.loop-place.place any) && not (holds z.content (slice_index_or used c.loop-place.place any).key)) mine in
           let inside = c.loop-place-test.true in
           let all = c.requires.fill in
           let next = at_drop_more (lacking d) used c.loop-place.place any (omega (arith, inside, filled, all)) in

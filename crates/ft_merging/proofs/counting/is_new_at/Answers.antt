@@ -9,7 +9,7 @@ use Rattle.ft_trace.specs.Addresses.{class_of, slots}
 use Rattle.ft_trace.specs.Holds.{held, known}
 use Rattle.ft_trace.specs.Kinds.{rows}
 use Rattle.ft_trace.specs.Words.{entry_of}
-use Rattle.ft_trace.specs.Worlds.{Kept}
+use Rattle.ft_trace.specs.Worlds.{ContainerState}
 use Rattle.ft_bank.specs.Passes.{shape_of, view}
 use Rattle.ft_bank.specs.Tables.{name_of}
 use Rattle.ft_bank.proofs.Whole.{loaded_then, work_knows}
@@ -81,7 +81,7 @@ told c b has used says filled any is =
     let e = slice_index_or used a.place any in
     let entry = entry_used a.way k.texts k a.table (c.requires.other.table_in a.table refl) used (held a.t (view a.pass.now)).table says a.place any (omega (arith, low, filled)) in
     let p = pair_used k.texts e c.pair_at.result is (entry_of (slots (class_of (name_of a.table))) (held a.t (view a.pass.now)).table a.place) entry c.in-Some.pair c.in-Some.is in
-    new_is (known a.o (view a.pass.now)).content e c.in-Some.pair.key c.in-Some.pair.value b p.0 p.1 (sym (ap (λ (z : Kept). holds z.content c.in-Some.pair.key) (same c)) ∙ has)
+    new_is (known a.o (view a.pass.now)).content e c.in-Some.pair.key c.in-Some.pair.value b p.0 p.1 (sym (ap (λ (z : ContainerState). holds z.content c.in-Some.pair.key) (same c)) ∙ has)
 
 pub returns-in-At-clause-new : goal.returns-in-At-clause-new
 returns-in-At-clause-new c used says filled any =

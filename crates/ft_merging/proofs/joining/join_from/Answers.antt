@@ -3,7 +3,7 @@ use Rattle.ft_model.specs.Worlds.{kind_of, length_of}
 use Rattle.ft_trace.specs.Holds.{held, known}
 use Rattle.ft_trace.specs.Kinds.{IsKeyed}
 use Rattle.ft_trace.specs.Words.{Picture}
-use Rattle.ft_trace.specs.Worlds.{Kept}
+use Rattle.ft_trace.specs.Worlds.{ContainerState}
 use Rattle.ft_bank.specs.Passes.{shape_of, view}
 use Rattle.ft_bank.specs.Whole.{OnlyLoaded}
 use Rattle.ft_bank.proofs.Whole.{loaded_held, loaded_then, work_knows}
@@ -94,7 +94,7 @@ join_more-requires-clause-few c =
     let v = view a.pass.now in
     let u = view c.own_table-old.new.pass in
     let n = (counts_known c.words_are_of_one_content.ensures.head k a.o c.own_table-old.result u c.read_counts-counts.result c.own_table-old.ensures.knows (counts d)).0 in
-    let same = ap (λ (z : Kept). length_of z.content) (work_knows v u a.o (all d).work) in
+    let same = ap (λ (z : ContainerState). length_of z.content) (work_knows v u a.o (all d).work) in
     let cap = cap_few (known a.o v).content (known_cap k a.o v c.requires.pass.1 a.pass.now.possible c.requires.may.keyed c.requires.may.locked c.requires.may.stands (record { pairs = c.used_entries_follow_a_dict.ensures.first; elements = c.used_entries_follow_a_set.ensures.first })) in
     let most = most_few (known a.o v).content in
     let s = source_known (record { pairs = c.used_entries_follow_a_dict.ensures.first; elements = c.used_entries_follow_a_set.ensures.first }) k a.t a.table v c.requires.pass.1 a.pass.now.possible c.requires.other a.way c.requires.other_way in

@@ -4,7 +4,7 @@ use Rattle.ft_trace.specs.declared.View.{View}
 use Rattle.ft_trace.specs.Addresses.{class_of}
 use Rattle.ft_trace.specs.Holds.{known}
 use Rattle.ft_trace.specs.Kinds.{rows}
-use Rattle.ft_trace.specs.Worlds.{Kept, kind_in}
+use Rattle.ft_trace.specs.Worlds.{ContainerState, kind_in}
 use Rattle.ft_bank.specs.Passes.{shape_of, view}
 use Rattle.ft_bank.specs.Tables.{name_of}
 use Rattle.ft_bank.proofs.Tables.{class_is}
@@ -58,8 +58,8 @@ join_table-number-requires-clause-finishes c w counts only joining =
     joined_finishes (record { pairs = c.used_entries_follow_a_dict.ensures.first; elements = c.used_entries_follow_a_set.ensures.first }) k a.o a.way a.own a.t a.table (a.counts.fill + a.more) a.others counts v w (since_start a.o v u w c.start_write.result begun only) c.requires.pass.1 may.keyed.container may.left a.called.now c.requires.joins c.requires.few
     (λ found class has owed. absurd (omega (arith, none, owed)))
     (stays_table (known a.o v) (known a.t v).content a.own a.counts.fill a.more table c.requires.room c.requires.more (class_is a.own (may.keyed.table_in a.own refl).2))
-    (subst (λ (z : Kept × Kept). IsJoining k a.o a.way a.own a.t a.table (joined z.0.content z.1.content) (a.counts.fill + a.more) a.others counts w) (λ i. (ap (known a.o) begun i, ap (known a.t) begun i)) joining)
-    (c.requires.others ∙ sym (ap (λ (z : Kept). z.table.fill) (work_knows u w a.t only.work ∙ ap (known a.t) begun)))
+    (subst (λ (z : ContainerState × ContainerState). IsJoining k a.o a.way a.own a.t a.table (joined z.0.content z.1.content) (a.counts.fill + a.more) a.others counts w) (λ i. (ap (known a.o) begun i, ap (known a.t) begun i)) joining)
+    (c.requires.others ∙ sym (ap (λ (z : ContainerState). z.table.fill) (work_knows u w a.t only.work ∙ ap (known a.t) begun)))
 
 pub returns-clause-added : goal.returns-clause-added
 returns-clause-added c =

@@ -7,7 +7,7 @@ use Rattle.ft_trace.specs.Addresses.{class_of}
 use Rattle.ft_trace.specs.Holds.{held, in_hand, known}
 use Rattle.ft_trace.specs.Kinds.{rows}
 use Rattle.ft_trace.specs.Words.{Picture, root_in}
-use Rattle.ft_trace.specs.Worlds.{Kept, kind_in}
+use Rattle.ft_trace.specs.Worlds.{ContainerState, kind_in}
 use Rattle.ft_bank.specs.Passes.{shape_of, view}
 use Rattle.ft_bank.specs.Tables.{name_of}
 use Rattle.ft_bank.proofs.Whole.{put_then, work_knows}
@@ -99,7 +99,7 @@ knows c =
 filled : (c : After-fill) → IsFilledWith (shape_of c.args.bank.now).texts (class_of (name_of c.args.new)) (known c.args.o (view c.fill.new.pass)).content (in_hand (name_of c.args.new) (view c.fill.new.pass))
 filled c =
     let a = c.args in
-    subst (λ (z : Kept). IsFilledWith (shape_of a.bank.now).texts (class_of (name_of a.new)) z.content (in_hand (name_of a.new) (view c.fill.new.pass))) (sym (same c).1) c.fill.ensures.filled
+    subst (λ (z : ContainerState). IsFilledWith (shape_of a.bank.now).texts (class_of (name_of a.new)) z.content (in_hand (name_of a.new) (view c.fill.new.pass))) (sym (same c).1) c.fill.ensures.filled
 
 counts : (c : After-fill) → AreCounts (held c.args.o (view c.fill.new.pass)).block c.args.counts
 counts c = subst (λ (z : Picture). AreCounts z.block c.args.counts) (sym (same c).0) c.requires.counts
@@ -111,7 +111,7 @@ cap : (c : After-fill) → passes_cap (joined (known c.args.o (view c.fill.new.p
 cap c = (λ i. passes_cap (joined ((same c).1 i).content (other c i).content)) ∙ c.requires.few
 
 serials : (c : After-fill) → serial_of (known c.args.o (view c.fill.new.pass)).content + 65536 < 2 ^ 63
-serials c = subst (λ (z : Kept). serial_of z.content + 65536 < 2 ^ 63) (sym (same c).1) c.requires.serials
+serials c = subst (λ (z : ContainerState). serial_of z.content + 65536 < 2 ^ 63) (sym (same c).1) c.requires.serials
 
 takes : (c : After-fill) → join_takes (known c.args.o (view c.fill.new.pass)) (known c.args.t (view c.fill.new.pass)).content ≡ Some (class_of (name_of c.args.new))
 takes c = (λ i. join_takes ((same c).1 i) (other c i).content) ∙ c.requires.takes
@@ -175,8 +175,8 @@ join_table-requires-clause-finishes c w counts_then only joining =
     let is : class_of (name_of a.new) ≡ class = omega (arith, owed, owes) in
     (joins f).takes found has ∙ (takes f ∙ ap (λ (q : ℕ). Some q) is))
     (taken_table (known a.o x) (known a.t x).content (class_of (name_of a.new)) (a.counts.count + a.more) (takes f) long)
-    (subst (λ (q : Kept × Kept). IsJoining k a.o a.way a.new a.t a.table (joined q.0.content q.1.content) (a.counts.count + a.more) a.others counts_then w) (λ i. (knows_on p a.o i, knows_on p a.t i)) joining)
-    (c.requires.others ∙ sym (ap (λ (q : Kept). q.table.fill) (work_knows z w a.t only.work ∙ (knows_on p a.t ∙ other f))))
+    (subst (λ (q : ContainerState × ContainerState). IsJoining k a.o a.way a.new a.t a.table (joined q.0.content q.1.content) (a.counts.count + a.more) a.others counts_then w) (λ i. (knows_on p a.o i, knows_on p a.t i)) joining)
+    (c.requires.others ∙ sym (ap (λ (q : ContainerState). q.table.fill) (work_knows z w a.t only.work ∙ (knows_on p a.t ∙ other f))))
 
 pub returns-clause-wrote : goal.returns-clause-wrote
 returns-clause-wrote c =

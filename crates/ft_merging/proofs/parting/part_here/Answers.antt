@@ -13,7 +13,7 @@ use Rattle.ft_trace.specs.Addresses.{class_of}
 use Rattle.ft_trace.specs.Holds.{held, known}
 use Rattle.ft_trace.specs.Kinds.{IsKeyed, rows}
 use Rattle.ft_trace.specs.Words.{root_in}
-use Rattle.ft_trace.specs.Worlds.{Kept, kind_in}
+use Rattle.ft_trace.specs.Worlds.{ContainerState, kind_in}
 use Rattle.ft_bank.specs.Passes.{shape_of, view}
 use Rattle.ft_bank.specs.Tables.{name_of}
 use Rattle.ft_bank.specs.Whole.{OnlyPut}
@@ -145,7 +145,7 @@ thin_all-requires-clause-other c ne =
     other_stays k a.s a.t u (view c.join_all.new.pass) (shape d) c.join_all.ensures.only ne (other_begun k a.s a.t (view a.pass.now) u c.start_write.result c.start_write.ensures.1 ne (other_may d))
 
 -- what the first one has at the end
-abbrev to : After-join_all → Kept
+abbrev to : After-join_all → ContainerState
 to c = record { content = content.Set (parted (known c.args.s (view c.args.pass.now)).content (known c.args.t (view c.args.pass.now)).content); table = use_with (class_of (name_of c.args.own)) (c.args.counts.fill + c.args.more) }
 
 abbrev Thinned : (c : After-join_all) → ℕ → View → Type 0
@@ -161,10 +161,10 @@ begins c m h table =
     let w = view c.join_all.new.pass in
     let begun = c.start_write.ensures.1 in
     let e = c.join_all.ensures in
-    let j = subst (λ (z : Kept × Kept). IsJoining k a.s way.Set a.own a.t a.table (joined z.0.content z.1.content) (a.counts.fill + a.more) a.others c.join_all.result w) (λ i. (ap (known a.s) begun i, ap (known a.t) begun i)) e.joining in
-    subst (λ (z : Kept × Kept). IsThinned k a.s a.own false (set_of z.0.content) (set_of z.1.content) (to c) a.counts.fill 0 w) (sym (λ i. (knows c a.t i, knows c a.s i)))
+    let j = subst (λ (z : ContainerState × ContainerState). IsJoining k a.s way.Set a.own a.t a.table (joined z.0.content z.1.content) (a.counts.fill + a.more) a.others c.join_all.result w) (λ i. (ap (known a.s) begun i, ap (known a.t) begun i)) e.joining in
+    subst (λ (z : ContainerState × ContainerState). IsThinned k a.s a.own false (set_of z.0.content) (set_of z.1.content) (to c) a.counts.fill 0 w) (sym (λ i. (knows c a.t i, knows c a.s i)))
     (parting_begins c.used_entries_follow_a_set.ensures.first k a.s a.t a.own a.table v u w c.start_write.result c.requires.pass.1 a.pass.now.possible m c.requires.set h begun e.only a.counts.fill (a.counts.fill + a.more) a.others c.join_all.result (ap (λ (z : TableUse). z.fill) (sym table))
-    j (c.requires.others ∙ sym (ap (λ (z : Kept). z.table.fill) (knows c a.t))) (e.keeps refl))
+    j (c.requires.others ∙ sym (ap (λ (z : ContainerState). z.table.fill) (knows c a.t))) (e.keeps refl))
 
 pub thin_all-requires-clause-thinned : goal.thin_all-requires-clause-thinned
 thin_all-requires-clause-thinned c =
@@ -193,7 +193,7 @@ finish_entries-requires-clause-may c =
     let u = view c.start_write.new.pass in
     let w = view c.thin_all.new.pass in
     let laws : Laws = record { pairs = c.used_entries_follow_a_dict.ensures.first; elements = c.used_entries_follow_a_set.ensures.first } in
-    let th = subst (λ (z : Kept × Kept). IsThinned k a.s a.own false (set_of z.0.content) (set_of z.1.content) (to b) a.counts.fill a.counts.fill w) (λ i. (knows b a.t i, knows b a.s i)) (c.thin_all.ensures.thinned (to b) (begins b (may d) (has d) (table_is d))) in
+    let th = subst (λ (z : ContainerState × ContainerState). IsThinned k a.s a.own false (set_of z.0.content) (set_of z.1.content) (to b) a.counts.fill a.counts.fill w) (λ i. (knows b a.t i, knows b a.s i)) (c.thin_all.ensures.thinned (to b) (begins b (may d) (has d) (table_is d))) in
     thinned_finishes k a.s a.own false (set_of (known a.t v).content) v u c.start_write.result c.requires.pass.1 a.pass.now.possible (may d) c.requires.set (has d) c.start_write.ensures.1
     laws w (only at.After-thin_all) a.counts.fill (parted (known a.s v).content (known a.t v).content) (use_with (class_of (name_of a.own)) (a.counts.fill + a.more)) th a.called.now reply.Done
     (parts_here a.s a.t a.called.now v (class_of (name_of a.own)) a.counts.fill a.more (set_of (known a.s v).content) c.requires.parts (is_first d) (table_is d) c.requires.more c.requires.room c.requires.few)

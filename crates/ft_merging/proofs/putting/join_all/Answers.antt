@@ -1,5 +1,5 @@
 use Rattle.std.proofs.Common.{◌+◌, Some, refl, sym, ap, ◌∙◌, subst, arith}
-use Rattle.ft_trace.specs.Worlds.{Kept}
+use Rattle.ft_trace.specs.Worlds.{ContainerState}
 use Rattle.ft_bank.specs.Passes.{shape_of, view}
 use Rattle.ft_bank.proofs.Whole.{put_same, put_then, work_knows}
 use Rattle.ft_merging.specs.Joining.{joined}
@@ -20,7 +20,7 @@ join_at-counts-requires-clause-place c =
     let a = c.args in
     let low = c.loop-place-test.true in
     let f = c.requires.fill in
-    let same = ap (λ (z : Kept). z.table.fill) (work_knows (view a.pass.now) (view c.loop-place.pass) a.t c.loop-place.invariant.only.work) in
+    let same = ap (λ (z : ContainerState). z.table.fill) (work_knows (view a.pass.now) (view c.loop-place.pass) a.t c.loop-place.invariant.only.work) in
     omega (arith, low, f, same)
 
 pub join_at-counts-requires-clause-joining : goal.join_at-counts-requires-clause-joining
@@ -29,7 +29,7 @@ join_at-counts-requires-clause-joining c =
     let w = c.loop-place.invariant.only.work in
     let v = view a.pass.now in
     let u = view c.loop-place.pass in
-    subst (λ (z : Kept × Kept). IsJoining (shape_of a.bank.now) a.o a.way a.own a.t a.table (joined z.0.content z.1.content) a.end c.loop-place.place c.loop-place.counts u) (sym (λ d. (work_knows v u a.o w d, work_knows v u a.t w d))) c.loop-place.invariant.joining
+    subst (λ (z : ContainerState × ContainerState). IsJoining (shape_of a.bank.now) a.o a.way a.own a.t a.table (joined z.0.content z.1.content) a.end c.loop-place.place c.loop-place.counts u) (sym (λ d. (work_knows v u a.o w d, work_knows v u a.t w d))) c.loop-place.invariant.joining
 
 pub loop-place-preserved : goal.loop-place-preserved
 loop-place-preserved c =
@@ -43,7 +43,7 @@ loop-place-preserved c =
       pass = e.pass;
       stack = e.stack ∙ i.stack;
       only = put_then v u (view c.join_at-counts.new.pass) a.o i.only e.only;
-      joining = subst (λ (z : Kept × Kept). IsJoining (shape_of a.bank.now) a.o a.way a.own a.t a.table (joined z.0.content z.1.content) a.end (c.loop-place.place + 1) c.join_at-counts.result (view c.join_at-counts.new.pass)) (λ d. (work_knows v u a.o w d, work_knows v u a.t w d)) e.joining;
+      joining = subst (λ (z : ContainerState × ContainerState). IsJoining (shape_of a.bank.now) a.o a.way a.own a.t a.table (joined z.0.content z.1.content) a.end (c.loop-place.place + 1) c.join_at-counts.result (view c.join_at-counts.new.pass)) (λ d. (work_knows v u a.o w d, work_knows v u a.t w d)) e.joining;
       more = let m = i.more in let n = e.more in omega (arith, m, n);
       keeps = λ sets p w less few. let m = i.more in e.keeps sets p w (omega (arith, less, m)) few ∙ i.keeps sets p w less few;
     }

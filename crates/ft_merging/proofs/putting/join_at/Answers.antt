@@ -16,7 +16,7 @@ use Rattle.ft_trace.specs.Addresses.{class_of, containers_in, slots}
 use Rattle.ft_trace.specs.Holds.{held, known}
 use Rattle.ft_trace.specs.Kinds.{rows}
 use Rattle.ft_trace.specs.Words.{Picture, entry_of, root_in, Stands}
-use Rattle.ft_trace.specs.Worlds.{Kept, kind_in}
+use Rattle.ft_trace.specs.Worlds.{ContainerState, kind_in}
 use Rattle.ft_trace.specs.Writes.{MayPuts, with_puts}
 use Rattle.ft_bank.specs.Passes.{shape_of, view}
 use Rattle.ft_bank.specs.Tables.{name_of}
@@ -153,14 +153,14 @@ held_on : (c : After-seek_in) → held c.args.o (view c.seek_in.new.pass) ≡ he
 held_on c = loaded_held (view c.args.pass.now) (view c.seek_in.new.pass) c.args.o (loads c)
 
 -- what it came to
-came : (c : After-seek_in) (key : Key) (found : Spot) → ((mid : Kept) → kind_of mid.content ≡ kind_by c.args.way → Stands (shape_of c.args.bank.now).texts (held c.args.o (view c.pair_at.new.pass)) mid → IsSought (shape_of c.args.bank.now) c.args.way c.args.own key (held c.args.o (view c.pair_at.new.pass)) mid.content found)
+came : (c : After-seek_in) (key : Key) (found : Spot) → ((mid : ContainerState) → kind_of mid.content ≡ kind_by c.args.way → Stands (shape_of c.args.bank.now).texts (held c.args.o (view c.pair_at.new.pass)) mid → IsSought (shape_of c.args.bank.now) c.args.way c.args.own key (held c.args.o (view c.pair_at.new.pass)) mid.content found)
     → IsSought (shape_of c.args.bank.now) c.args.way c.args.own key (held c.args.o (view c.args.pass.now)) c.requires.joining.mid found
 came c key found is =
     let a = c.args in
     let k = shape_of a.bank.now in
     let j = c.requires.joining in
     let same = loaded_held (view a.pass.now) (view c.pair_at.new.pass) a.o c.pair_at.ensures.only in
-    let mid : Kept = record { content = j.mid; table = record { class = Some (class_of (name_of a.own)); fill = a.counts.fill } } in
+    let mid : ContainerState = record { content = j.mid; table = record { class = Some (class_of (name_of a.own)); fill = a.counts.fill } } in
     subst (λ (x : Picture). IsSought k a.way a.own key x j.mid found) same (is mid j.same_kind (subst (λ (x : Picture). Stands k.texts x mid) (sym same) j.midway.stands))
 
 pub returns-in-Bare-clause-only : goal.returns-in-Bare-clause-only

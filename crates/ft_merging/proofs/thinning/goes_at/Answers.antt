@@ -13,7 +13,7 @@ use Rattle.ft_bank.specs.Tables.{name_of}
 use Rattle.ft_bank.proofs.Whole.{loaded_held, loaded_then, work_knows}
 use Rattle.ft_merging.proofs.thinning.goes_at.Goals as goal
 use Rattle.ft_trace.specs.Words.{entry_of}
-use Rattle.ft_trace.specs.Worlds.{Kept, kind_in}
+use Rattle.ft_trace.specs.Worlds.{ContainerState, kind_in}
 use Rattle.ft_bank.specs.Whole.{OnlyLoaded}
 use Rattle.ft_search.proofs.Laws.{SetLaws}
 use Rattle.ft_search.proofs.Spotting.{may_loaded}
@@ -106,4 +106,4 @@ is_in-found-requires-clause-own c e =
     let v = view a.pass.now in
     let t = told d in
     let was = was_there (shape_of a.bank.now) a.s a.table a.kept (set_of (known a.t v).content) (set_of (known a.s v).content) c.requires.thinned.0 c.requires.thinned.1 a.place v c.requires.set c.requires.thinned.3 (laws d) c.requires.place c.requires.thinned.2 c.in-Some.key t.0 t.1 in
-    subst (λ (z : Kept). has_element (set_of z.content).elements c.in-Some.key ≡ true) (ap (λ (p : ℕ). known p v) e ∙ sym (work_knows v (view c.word_of-hash.new.pass) a.t (only d).work)) was
+    subst (λ (z : ContainerState). has_element (set_of z.content).elements c.in-Some.key ≡ true) (ap (λ (p : ℕ). known p v) e ∙ sym (work_knows v (view c.word_of-hash.new.pass) a.t (only d).work)) was

@@ -1,7 +1,7 @@
 use Rattle.std.proofs.Common.{sym, ap, ◌∙◌}
 use Rattle.ft_model.specs.Contents.{has_element}
 use Rattle.ft_model.specs.Worlds.{set_of}
-use Rattle.ft_trace.specs.Worlds.{Kept}
+use Rattle.ft_trace.specs.Worlds.{ContainerState}
 use Rattle.ft_bank.specs.Passes.{shape_of, view}
 use Rattle.ft_bank.proofs.Whole.{work_knows}
 use Rattle.ft_search.proofs.Calling.{loaded_same}
@@ -22,19 +22,19 @@ returns-in-At-clause-found c =
     let a = c.args in
     let e = c.seek_by.ensures in
     let s = c.in-At.ensures.spot in
-    sym (ap (λ (z : Kept). has_element (set_of z.content).elements a.key) (sym (work_knows (view a.pass.now) (view c.seek_by.new.pass) a.t e.keeps.work))
+    sym (ap (λ (z : ContainerState). has_element (set_of z.content).elements a.key) (sym (work_knows (view a.pass.now) (view c.seek_by.new.pass) a.t e.keeps.work))
     ∙ found_there (shape_of a.bank.now) (view c.seek_by.new.pass) a.t _ a.key _ _ e.pass.1 c.seek_by.new.pass.possible e.may s.0 c.requires.set c.requires.fits s.2)
 
 pub returns-in-Free-clause-found : goal.returns-in-Free-clause-found
 returns-in-Free-clause-found c =
     let a = c.args in
     let e = c.seek_by.ensures in
-    sym (ap (λ (z : Kept). has_element (set_of z.content).elements a.key) (sym (work_knows (view a.pass.now) (view c.seek_by.new.pass) a.t e.keeps.work))
+    sym (ap (λ (z : ContainerState). has_element (set_of z.content).elements a.key) (sym (work_knows (view a.pass.now) (view c.seek_by.new.pass) a.t e.keeps.work))
     ∙ missing_there (shape_of a.bank.now) (view c.seek_by.new.pass) a.t a.key e.pass.1 c.seek_by.new.pass.possible e.may c.requires.set c.in-Free.ensures.spot.3)
 
 pub returns-in-Bare-clause-found : goal.returns-in-Bare-clause-found
 returns-in-Bare-clause-found c =
     let a = c.args in
     let e = c.seek_by.ensures in
-    sym (ap (λ (z : Kept). has_element (set_of z.content).elements a.key) (sym (work_knows (view a.pass.now) (view c.seek_by.new.pass) a.t e.keeps.work))
+    sym (ap (λ (z : ContainerState). has_element (set_of z.content).elements a.key) (sym (work_knows (view a.pass.now) (view c.seek_by.new.pass) a.t e.keeps.work))
     ∙ missing_there (shape_of a.bank.now) (view c.seek_by.new.pass) a.t a.key e.pass.1 c.seek_by.new.pass.possible e.may c.requires.set c.in-Bare.ensures.spot.1)

@@ -1,6 +1,6 @@
 use Rattle.std.proofs.Common.{◌+◌, refl, sym, ◌∙◌, subst}
 use Rattle.ft_model.specs.Worlds.{set_of}
-use Rattle.ft_trace.specs.Worlds.{Kept}
+use Rattle.ft_trace.specs.Worlds.{ContainerState}
 use Rattle.ft_bank.specs.Passes.{shape_of, view}
 use Rattle.ft_bank.proofs.Whole.{put_same, put_then, work_knows}
 use Rattle.ft_merging.specs.Internal.Thinning.{IsThinned}
@@ -25,7 +25,7 @@ thin_at-requires-clause-thinned c =
       r.0,
       a.fill,
       c.loop-place-test.true,
-      subst (λ (z : Kept × Kept). IsThinned (shape_of a.bank.now) a.s a.table a.kept (set_of z.0.content) (set_of z.1.content) r.0 a.fill c.loop-place.place u) (sym (λ d. (work_knows v u a.t w d, work_knows v u a.s w d))) (c.loop-place.invariant.thinned r.0 r.1),
+      subst (λ (z : ContainerState × ContainerState). IsThinned (shape_of a.bank.now) a.s a.table a.kept (set_of z.0.content) (set_of z.1.content) r.0 a.fill c.loop-place.place u) (sym (λ d. (work_knows v u a.t w d, work_knows v u a.s w d))) (c.loop-place.invariant.thinned r.0 r.1),
     )
 
 pub loop-place-preserved : goal.loop-place-preserved
@@ -41,5 +41,5 @@ loop-place-preserved c =
       pass = e.pass;
       stack = e.stack ∙ i.stack;
       only = put_then v u (view c.thin_at.new.pass) a.s i.only e.only;
-      thinned = λ to th. subst (λ (z : Kept × Kept). IsThinned (shape_of a.bank.now) a.s a.table a.kept (set_of z.0.content) (set_of z.1.content) to a.fill c.loop-place.place u → IsThinned (shape_of a.bank.now) a.s a.table a.kept (set_of z.0.content) (set_of z.1.content) to a.fill (c.loop-place.place + 1) (view c.thin_at.new.pass)) (λ d. (work_knows v u a.t w d, work_knows v u a.s w d)) (e.thinned to a.fill low) (i.thinned to th);
+      thinned = λ to th. subst (λ (z : ContainerState × ContainerState). IsThinned (shape_of a.bank.now) a.s a.table a.kept (set_of z.0.content) (set_of z.1.content) to a.fill c.loop-place.place u → IsThinned (shape_of a.bank.now) a.s a.table a.kept (set_of z.0.content) (set_of z.1.content) to a.fill (c.loop-place.place + 1) (view c.thin_at.new.pass)) (λ d. (work_knows v u a.t w d, work_knows v u a.s w d)) (e.thinned to a.fill low) (i.thinned to th);
     }

@@ -5,7 +5,7 @@ use Rattle.ft_trace.specs.Addresses.{class_of, slots}
 use Rattle.ft_trace.specs.Carefuls.{IsLive}
 use Rattle.ft_trace.specs.Holds.{held, known}
 use Rattle.ft_trace.specs.Words.{Picture}
-use Rattle.ft_trace.specs.Worlds.{Kept}
+use Rattle.ft_trace.specs.Worlds.{ContainerState}
 use Rattle.ft_bank.specs.Passes.{shape_of, view}
 use Rattle.ft_bank.specs.Tables.{name_of}
 use Rattle.ft_bank.proofs.Whole.{loaded_held}
@@ -27,7 +27,7 @@ laws c =
     }
 
 -- the set, after the loads
-thinned : (c : After-goes_at) (to : Kept) (last : ℕ) → IsThinned (shape_of c.args.bank.now) c.args.s c.args.table c.args.kept (set_of (known c.args.t (view c.args.pass.now)).content) (set_of (known c.args.s (view c.args.pass.now)).content) to last c.args.place (view c.args.pass.now)
+thinned : (c : After-goes_at) (to : ContainerState) (last : ℕ) → IsThinned (shape_of c.args.bank.now) c.args.s c.args.table c.args.kept (set_of (known c.args.t (view c.args.pass.now)).content) (set_of (known c.args.s (view c.args.pass.now)).content) to last c.args.place (view c.args.pass.now)
     → IsThinned (shape_of c.args.bank.now) c.args.s c.args.table c.args.kept (set_of (known c.args.t (view c.args.pass.now)).content) (set_of (known c.args.s (view c.args.pass.now)).content) to last c.args.place (view c.goes_at.new.pass)
 thinned c to last th =
     let a = c.args in

@@ -4,14 +4,14 @@ use Rattle.ft_model.specs.declared.reply.Reply.TheVariants as reply
 use Rattle.ft_trace.specs.declared.Act.TheVariants.{ReadBlock}
 use Rattle.ft_trace.specs.Holds.{held, known}
 use Rattle.ft_trace.specs.Words.{Picture, root_in}
-use Rattle.ft_trace.specs.Worlds.{Kept}
+use Rattle.ft_trace.specs.Worlds.{ContainerState}
 use Rattle.ft_bank.specs.Passes.{shape_of, view}
 use Rattle.ft_bank.specs.Whole.{OnlyLoaded}
 use Rattle.ft_bank.proofs.Whole.{loaded_by, loaded_held, loaded_then, work_knows}
 use Rattle.ft_search.specs.Writing.{Leaves, MayWriteEntries}
 use Rattle.ft_search.proofs.Calling.{loaded_wrote}
 use Rattle.ft_search.proofs.Spotting.{may_loaded}
-use Rattle.ft_merging.specs.Thinning.{thinned_kept}
+use Rattle.ft_merging.specs.Thinning.{thinned_state}
 use Rattle.ft_merging.proofs.Finished.{fill_known, leaves_loaded, none_thinned}
 use Rattle.ft_merging.proofs.thinning.thin_by.Goals as goal
 use Rattle.ft_merging.proofs.thinning.thin_by.Goals.{After-read_block-fill}
@@ -33,8 +33,8 @@ knows c p = work_knows (view c.args.pass.now) (view c.read_block-fill.new.pass) 
 same : (c : After-read_block-fill) → held c.args.s (view c.read_block-fill.new.pass) ≡ held c.args.s (view c.args.pass.now)
 same c = loaded_held (view c.args.pass.now) (view c.read_block-fill.new.pass) c.args.s (only c)
 
-leaves : (c : After-read_block-fill) → Leaves c.args.s c.args.called.now reply.Done (thinned_kept c.args.kept (known c.args.t (view c.args.pass.now)) (known c.args.s (view c.args.pass.now))) (view c.read_block-fill.new.pass)
-leaves c = leaves_loaded (view c.args.pass.now) (view c.read_block-fill.new.pass) (only c) c.args.s c.args.called.now reply.Done (thinned_kept c.args.kept (known c.args.t (view c.args.pass.now)) (known c.args.s (view c.args.pass.now))) c.requires.leaves
+leaves : (c : After-read_block-fill) → Leaves c.args.s c.args.called.now reply.Done (thinned_state c.args.kept (known c.args.t (view c.args.pass.now)) (known c.args.s (view c.args.pass.now))) (view c.read_block-fill.new.pass)
+leaves c = leaves_loaded (view c.args.pass.now) (view c.read_block-fill.new.pass) (only c) c.args.s c.args.called.now reply.Done (thinned_state c.args.kept (known c.args.t (view c.args.pass.now)) (known c.args.s (view c.args.pass.now))) c.requires.leaves
 
 filled : (c : After-read_block-fill) → c.read_block-fill.result ≡ (known c.args.s (view c.read_block-fill.new.pass)).table.fill
 filled c =
@@ -43,13 +43,13 @@ filled c =
     let s = c.args.s in
     c.read_block-fill.ensures.held ((first c).work.pass.locks s ∙ c.requires.may.locked)
     ∙ (ap (λ (x : Picture). slice_index x.block 2) (loaded_held v u s (first c))
-    ∙ (fill_known (shape_of c.args.bank.now) s v c.requires.may ∙ ap (λ (z : Kept). z.table.fill) (sym (knows c s))))
+    ∙ (fill_known (shape_of c.args.bank.now) s v c.requires.may ∙ ap (λ (z : ContainerState). z.table.fill) (sym (knows c s))))
 
 root_is : (c : After-read_block-fill) → c.read_block-root.result ≡ root_in (held c.args.s (view c.args.pass.now))
 root_is c = c.read_block-root.ensures.held c.requires.may.locked
 
-leaves_now : (c : After-read_block-fill) → Leaves c.args.s c.args.called.now reply.Done (thinned_kept c.args.kept (known c.args.t (view c.read_block-fill.new.pass)) (known c.args.s (view c.read_block-fill.new.pass))) (view c.read_block-fill.new.pass)
-leaves_now c = subst (λ (z : Kept × Kept). Leaves c.args.s c.args.called.now reply.Done (thinned_kept c.args.kept z.0 z.1) (view c.read_block-fill.new.pass)) (sym (λ i. (knows c c.args.t i, knows c c.args.s i))) (leaves c)
+leaves_now : (c : After-read_block-fill) → Leaves c.args.s c.args.called.now reply.Done (thinned_state c.args.kept (known c.args.t (view c.read_block-fill.new.pass)) (known c.args.s (view c.read_block-fill.new.pass))) (view c.read_block-fill.new.pass)
+leaves_now c = subst (λ (z : ContainerState × ContainerState). Leaves c.args.s c.args.called.now reply.Done (thinned_state c.args.kept z.0 z.1) (view c.read_block-fill.new.pass)) (sym (λ i. (knows c c.args.t i, knows c c.args.s i))) (leaves c)
 
 -- ---- where there is a table
 
@@ -94,7 +94,7 @@ write_nothing-requires-clause-leaves c =
     let d = (goal.at.write_nothing-requires-clause-leaves c).After-read_block-fill in
     let u = view c.read_block-fill.new.pass in
     let bare : root_in (held a.s u) ≡ 0 = ap root_in (same d) ∙ (sym (root_is d) ∙ c.in-None.ensures.none (shape_of a.bank.now) (λ t e. c.read_block-root.ensures.table t refl e)) in
-    subst (λ (z : Kept). Leaves a.s a.called.now reply.Done z u) (none_thinned (shape_of a.bank.now) u a.s a.kept (known a.t u) ((only d).work.pass.shape ∙ c.requires.pass.1) c.read_block-fill.new.pass.possible (may d) c.requires.set bare) (leaves_now d)
+    subst (λ (z : ContainerState). Leaves a.s a.called.now reply.Done z u) (none_thinned (shape_of a.bank.now) u a.s a.kept (known a.t u) ((only d).work.pass.shape ∙ c.requires.pass.1) c.read_block-fill.new.pass.possible (may d) c.requires.set bare) (leaves_now d)
 
 pub returns-in-None-clause-wrote : goal.returns-in-None-clause-wrote
 returns-in-None-clause-wrote c =

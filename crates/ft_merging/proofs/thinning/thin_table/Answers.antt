@@ -7,10 +7,10 @@ use Rattle.ft_bank.specs.Tables.{name_of}
 use Rattle.ft_model.specs.declared.reply.Reply.TheVariants as reply
 use Rattle.ft_model.specs.Worlds.{set_of}
 use Rattle.ft_trace.specs.Holds.{known}
-use Rattle.ft_trace.specs.Worlds.{Kept}
+use Rattle.ft_trace.specs.Worlds.{ContainerState}
 use Rattle.ft_bank.specs.Passes.{shape_of, view}
 use Rattle.ft_search.proofs.Endings.{whole_root, whole_write}
-use Rattle.ft_merging.specs.Thinning.{thinned, thinned_kept}
+use Rattle.ft_merging.specs.Thinning.{thinned, thinned_state}
 use Rattle.ft_merging.specs.Internal.Thinning.{IsThinned}
 use Rattle.ft_merging.specs.Internal.Writing.{MayFinishAll}
 use Rattle.ft_merging.proofs.Ending.{Laws}
@@ -31,19 +31,19 @@ thin_all-requires-clause-other c ne =
     other_begun (shape_of a.bank.now) a.s a.t (view a.pass.now) (view c.start_write.new.pass) c.start_write.result c.start_write.ensures.1 ne c.requires.other
 
 -- before the first deletion, as the words are that the pass knows then
-begins : (c : After-start_write) → IsThinned (shape_of c.args.bank.now) c.args.s c.args.table c.args.kept (set_of (known c.args.t (view c.start_write.new.pass)).content) (set_of (known c.args.s (view c.start_write.new.pass)).content) (thinned_kept c.args.kept (known c.args.t (view c.args.pass.now)) (known c.args.s (view c.args.pass.now))) c.args.fill 0 (view c.start_write.new.pass)
+begins : (c : After-start_write) → IsThinned (shape_of c.args.bank.now) c.args.s c.args.table c.args.kept (set_of (known c.args.t (view c.start_write.new.pass)).content) (set_of (known c.args.s (view c.start_write.new.pass)).content) (thinned_state c.args.kept (known c.args.t (view c.args.pass.now)) (known c.args.s (view c.args.pass.now))) c.args.fill 0 (view c.start_write.new.pass)
 begins c =
     let a = c.args in
     let v = view a.pass.now in
     let u = view c.start_write.new.pass in
-    subst (λ (z : Kept × Kept × ℕ). IsThinned (shape_of a.bank.now) a.s a.table a.kept (set_of z.0.content) (set_of z.1.content) (thinned_kept a.kept (known a.t v) (known a.s v)) z.2 0 u) (sym (λ i. (knows c a.t i, knows c a.s i, c.requires.fill i)))
+    subst (λ (z : ContainerState × ContainerState × ℕ). IsThinned (shape_of a.bank.now) a.s a.table a.kept (set_of z.0.content) (set_of z.1.content) (thinned_state a.kept (known a.t v) (known a.s v)) z.2 0 u) (sym (λ i. (knows c a.t i, knows c a.s i, c.requires.fill i)))
     (thinned_begins (shape_of a.bank.now) a.s a.table a.kept (set_of (known a.t v).content) v u c.start_write.result c.requires.pass.1 a.pass.now.possible c.requires.may c.requires.set c.requires.table c.start_write.ensures.1 (laws c).elements)
 
 pub thin_all-requires-clause-thinned : goal.thin_all-requires-clause-thinned
 thin_all-requires-clause-thinned c =
     let a = c.args in
     let v = view a.pass.now in
-    (thinned_kept a.kept (known a.t v) (known a.s v), begins (goal.at.thin_all-requires-clause-thinned c).After-start_write)
+    (thinned_state a.kept (known a.t v) (known a.s v), begins (goal.at.thin_all-requires-clause-thinned c).After-start_write)
 
 pub finish_entries-requires-clause-may : goal.finish_entries-requires-clause-may
 finish_entries-requires-clause-may c =
@@ -53,8 +53,8 @@ finish_entries-requires-clause-may c =
     let v = view a.pass.now in
     let u = view c.start_write.new.pass in
     let w = view c.thin_all.new.pass in
-    let to = thinned_kept a.kept (known a.t v) (known a.s v) in
-    let ends = subst (λ (z : Kept × Kept). IsThinned k a.s a.table a.kept (set_of z.0.content) (set_of z.1.content) to a.fill a.fill w) (λ i. (knows d a.t i, knows d a.s i)) (c.thin_all.ensures.thinned to (begins d)) in
+    let to = thinned_state a.kept (known a.t v) (known a.s v) in
+    let ends = subst (λ (z : ContainerState × ContainerState). IsThinned k a.s a.table a.kept (set_of z.0.content) (set_of z.1.content) to a.fill a.fill w) (λ i. (knows d a.t i, knows d a.s i)) (c.thin_all.ensures.thinned to (begins d)) in
     subst (λ (n : ℕ). MayFinishAll k a.s a.table n a.called.now reply.Done w) (sym c.requires.fill)
     (thinned_finishes k a.s a.table a.kept (set_of (known a.t v).content) v u c.start_write.result c.requires.pass.1 a.pass.now.possible c.requires.may c.requires.set c.requires.table c.start_write.ensures.1
     (laws d) w c.thin_all.ensures.only a.fill (thinned a.kept (set_of (known a.t v).content) (set_of (known a.s v).content)) (known a.s v).table ends a.called.now reply.Done c.requires.leaves)
@@ -63,13 +63,13 @@ pub returns-clause-wrote : goal.returns-clause-wrote
 returns-clause-wrote c =
     let a = c.args in
     whole_write a.s (view a.pass.now) (view c.start_write.new.pass) (view c.thin_all.new.pass) c.start_write.result c.start_write.ensures.1 c.thin_all.ensures.only a.called.now reply.Done c.finish_entries.result (view c.finish_entries.new.pass) c.requires.leaves.changed c.requires.may.even c.finish_entries.ensures.ends
-    ((c.thin_all.ensures.thinned (thinned_kept a.kept (known a.t (view a.pass.now)) (known a.s (view a.pass.now))) (begins (goal.at.returns-clause-wrote c).After-start_write)).midway.writes.root ∙ sym c.requires.table.root)
+    ((c.thin_all.ensures.thinned (thinned_state a.kept (known a.t (view a.pass.now)) (known a.s (view a.pass.now))) (begins (goal.at.returns-clause-wrote c).After-start_write)).midway.writes.root ∙ sym c.requires.table.root)
 
 pub returns-clause-root : goal.returns-clause-root
 returns-clause-root c =
     let a = c.args in
     whole_root a.s (view a.pass.now) (view c.start_write.new.pass) (view c.thin_all.new.pass) c.start_write.result c.start_write.ensures.1 c.thin_all.ensures.only a.called.now reply.Done c.finish_entries.result (view c.finish_entries.new.pass) c.requires.leaves.changed c.finish_entries.ensures.ends
-    ((c.thin_all.ensures.thinned (thinned_kept a.kept (known a.t (view a.pass.now)) (known a.s (view a.pass.now))) (begins (goal.at.returns-clause-root c).After-start_write)).midway.writes.root ∙ sym c.requires.table.root)
+    ((c.thin_all.ensures.thinned (thinned_state a.kept (known a.t (view a.pass.now)) (known a.s (view a.pass.now))) (begins (goal.at.returns-clause-root c).After-start_write)).midway.writes.root ∙ sym c.requires.table.root)
 
 fits : (c : After-start_write) → c.args.fill ≤ set_entries (class_of (name_of c.args.table))
 fits c =

@@ -66,7 +66,7 @@ returns-in_default-clause-only c = loaded_filled (view c.args.pass.now) (view c.
 there : (c : In-Some) (used : List UsedEntry) → c.apart_at.result ≡ apart_pair (shape_of c.args.bank.now).texts (set_of (known c.args.t (view c.args.pass.now)).content).elements (slice_index_or used c.args.place any) → apart_pair (shape_of c.args.bank.now).texts (set_of (known c.args.t (view c.args.pass.now)).content).elements (slice_index_or used c.args.place any) ≡ Some c.in-Some.pair
 there c used is = sym is ∙ c.in-Some.is
 
--- so many are there, and there is room
+-- that many are there, and there is room
 few : (c : In-Some) → c.apart_at.result ≡ apart_pair (shape_of c.args.bank.now).texts (set_of (known c.args.t (view c.args.pass.now)).content).elements (slice_index_or c.requires.chosen.0 c.args.place any) → (c.args.count < rows kind.Set (class_of (name_of c.args.table))) × (c.args.start ≤ c.args.count) × (c.args.count < 65536)
 few c is =
     let a = c.args in

@@ -12,7 +12,7 @@ use Rattle.ft_trace.specs.Acts.{stage}
 use Rattle.ft_trace.specs.Addresses.{class_of}
 use Rattle.ft_trace.specs.Holds.{held, in_hand, known}
 use Rattle.ft_trace.specs.Kinds.{rows}
-use Rattle.ft_trace.specs.Worlds.{Kept}
+use Rattle.ft_trace.specs.Worlds.{ContainerState}
 use Rattle.ft_bank.specs.declared.table.Table.{Table}
 use Rattle.ft_bank.specs.Passes.{shape_of, view}
 use Rattle.ft_bank.specs.Tables.{name_of}
@@ -49,7 +49,7 @@ keep_apart-stay-requires-clause-fill c =
     let v = view a.pass.now in
     sym c.requires.counts.1
     ∙ ((c.words_are_of_one_content.ensures.head (shape_of a.bank.now).texts (held a.s v).block (0 ∷ 0 ∷ (held a.s v).table) (known a.s v).table (known a.s v).content c.requires.keyed.stands).fill_is
-    ∙ ap (λ (z : Kept). z.table.fill) (sym (one (goal.at.keep_apart-stay-requires-clause-fill c).After-blank).0))
+    ∙ ap (λ (z : ContainerState). z.table.fill) (sym (one (goal.at.keep_apart-stay-requires-clause-fill c).After-blank).0))
 
 pub keep_apart-stay-requires-clause-fresh : goal.keep_apart-stay-requires-clause-fresh
 keep_apart-stay-requires-clause-fresh c = c.blank.ensures.only.work.hands (name_of c.args.table) ∙ c.requires.fresh
@@ -63,7 +63,7 @@ keep_apart-stay-requires-clause-room c =
     let others = set_of (known a.t v).content in
     let n = length-append (those_not_in others.elements mine.elements) (elements_from mine.next (those_not_in mine.elements others.elements)) in
     let r = c.requires.room in
-    subst (λ (z : Kept × Kept). length (those_not_in (set_of z.1.content).elements (set_of z.0.content).elements) ≤ rows kind.Set (class_of (name_of a.table))) (sym (λ i. (s.0 i, s.1 i))) (omega (arith, n, r))
+    subst (λ (z : ContainerState × ContainerState). length (those_not_in (set_of z.1.content).elements (set_of z.0.content).elements) ≤ rows kind.Set (class_of (name_of a.table))) (sym (λ i. (s.0 i, s.1 i))) (omega (arith, n, r))
 
 -- ---- the elements of the other one
 
@@ -83,7 +83,7 @@ pub choose_all-requires-clause-other_keyed : goal.choose_all-requires-clause-oth
 choose_all-requires-clause-other_keyed c = let a = c.args in knows_filled (shape_of a.bank.now) a.s a.old (view a.pass.now) (view c.keep_apart-stay.new.pass) c.requires.pass.1 (both (goal.at.choose_all-requires-clause-other_keyed c).After-keep_apart-stay) c.requires.keyed
 
 pub choose_all-requires-clause-fill : goal.choose_all-requires-clause-fill
-choose_all-requires-clause-fill c = c.requires.others ∙ ap (λ (z : Kept). z.table.fill) (sym (two (goal.at.choose_all-requires-clause-fill c).After-keep_apart-stay).1)
+choose_all-requires-clause-fill c = c.requires.others ∙ ap (λ (z : ContainerState). z.table.fill) (sym (two (goal.at.choose_all-requires-clause-fill c).After-keep_apart-stay).1)
 
 pub choose_all-requires-clause-fresh : goal.choose_all-requires-clause-fresh
 choose_all-requires-clause-fresh c = (both (goal.at.choose_all-requires-clause-fresh c).After-keep_apart-stay).work.hands (name_of c.args.table) ∙ c.requires.fresh
@@ -145,7 +145,7 @@ begins c own other =
     let w = view c.keep_apart-stay.new.pass in
     let says = set_words k a.t w c.keep_apart-stay.ensures.pass.1 c.keep_apart-stay.new.pass.possible c.requires.other_set a.other (keyed_then c) in
     let same = whole c in
-    let has : HasChosen k a.table (mine c) c.keep_apart-stay.result w = subst (λ (z : Kept × Kept). HasChosen k a.table (those_not_in (set_of z.1.content).elements (set_of z.0.content).elements) c.keep_apart-stay.result w) (λ i. (own i, other i)) c.keep_apart-stay.ensures.kept in
+    let has : HasChosen k a.table (mine c) c.keep_apart-stay.result w = subst (λ (z : ContainerState × ContainerState). HasChosen k a.table (those_not_in (set_of z.1.content).elements (set_of z.0.content).elements) c.keep_apart-stay.result w) (λ i. (own i, other i)) c.keep_apart-stay.ensures.kept in
     record {
       source = says.table;
       filled = says.filled;
@@ -181,7 +181,7 @@ returns-clause-filled c =
     let own = (same_filled k a.s a.old w z c.keep_apart-stay.ensures.pass.1 c.choose_all.ensures.only (knows_filled k a.s a.old (view a.pass.now) w c.requires.pass.1 (both d) c.requires.keyed)).1 in
     let f = done.filled in
     let says = set_words k a.t w c.keep_apart-stay.ensures.pass.1 c.keep_apart-stay.new.pass.possible c.requires.other_set a.other (keyed_then d) in
-    let fill : length (used d) ≡ a.others = says.filled ∙ (ap (λ (x : Kept). x.table.fill) (two d).1 ∙ sym c.requires.others) in
+    let fill : length (used d) ≡ a.others = says.filled ∙ (ap (λ (x : ContainerState). x.table.fill) (two d).1 ∙ sym c.requires.others) in
     let all_used = take_all a.others (used d) (omega (arith, fill)) in
     has_fills k a.table z (all d) c.choose_all.result (rule d)
     (subst (λ (l : List Element). HasChosen k a.table l c.choose_all.result z) ((λ i. mine d ++ chosen (set_of (own i).content).elements (Some a.counts.next) (all_used i)) ∙ whole d) done.has)

@@ -5,7 +5,7 @@ use Rattle.ft_model.specs.Contents.{those_not_in}
 use Rattle.ft_model.specs.Worlds.{serial_of, set_of}
 use Rattle.ft_trace.specs.Holds.{held, known}
 use Rattle.ft_trace.specs.Words.{Picture}
-use Rattle.ft_trace.specs.Worlds.{Kept}
+use Rattle.ft_trace.specs.Worlds.{ContainerState}
 use Rattle.ft_bank.specs.Passes.{shape_of, view}
 use Rattle.ft_bank.specs.Whole.{OnlyLoaded}
 use Rattle.ft_bank.proofs.Whole.{loaded_held, loaded_then, work_knows}
@@ -67,7 +67,7 @@ pub count_lacking-more-requires-clause-fill : goal.count_lacking-more-requires-c
 count_lacking-more-requires-clause-fill c =
     let a = c.args in
     let d = (goal.at.count_lacking-more-requires-clause-fill c).After-own_table-old in
-    others_fill d ∙ ap (λ (z : Kept). z.table.fill) (sym (work_knows (view a.pass.now) (view c.own_table-old.new.pass) a.t (one d).work))
+    others_fill d ∙ ap (λ (z : ContainerState). z.table.fill) (sym (work_knows (view a.pass.now) (view c.own_table-old.new.pass) a.t (one d).work))
 
 pub count_staying-stay-requires-clause-keyed : goal.count_staying-stay-requires-clause-keyed
 count_staying-stay-requires-clause-keyed c =
@@ -84,7 +84,7 @@ pub count_staying-stay-requires-clause-fill : goal.count_staying-stay-requires-c
 count_staying-stay-requires-clause-fill c =
     let a = c.args in
     let at = goal.at.count_staying-stay-requires-clause-fill c in
-    own_fill at.After-own_table-old ∙ ap (λ (z : Kept). z.table.fill) (sym (work_knows (view a.pass.now) (view c.count_lacking-more.new.pass) a.s (two at.After-count_lacking-more (one at.After-own_table-old)).work))
+    own_fill at.After-own_table-old ∙ ap (λ (z : ContainerState). z.table.fill) (sym (work_knows (view a.pass.now) (view c.count_lacking-more.new.pass) a.s (two at.After-count_lacking-more (one at.After-own_table-old)).work))
 
 -- ---- what there is then
 
@@ -112,7 +112,7 @@ part_more-requires-clause-others c =
     let a = c.args in
     let at = goal.at.part_more-requires-clause-others c in
     let all = three at.After-count_staying-stay (two at.After-count_lacking-more (one at.After-own_table-old)) in
-    others_fill at.After-own_table-old ∙ ap (λ (z : Kept). z.table.fill) (sym (work_knows (view a.pass.now) (view c.count_staying-stay.new.pass) a.t all.work))
+    others_fill at.After-own_table-old ∙ ap (λ (z : ContainerState). z.table.fill) (sym (work_knows (view a.pass.now) (view c.count_staying-stay.new.pass) a.t all.work))
 
 pub part_more-requires-clause-counts : goal.part_more-requires-clause-counts
 part_more-requires-clause-counts c =
@@ -178,7 +178,7 @@ part_more-requires-clause-serials c =
     let a = c.args in
     let at = goal.at.part_more-requires-clause-serials c in
     let all = three at.After-count_staying-stay (two at.After-count_lacking-more (one at.After-own_table-old)) in
-    subst (λ (z : Kept). serial_of z.content + 65536 < 2 ^ 63) (sym (work_knows (view a.pass.now) (view c.count_staying-stay.new.pass) a.s all.work)) c.requires.serials
+    subst (λ (z : ContainerState). serial_of z.content + 65536 < 2 ^ 63) (sym (work_knows (view a.pass.now) (view c.count_staying-stay.new.pass) a.s all.work)) c.requires.serials
 
 pub part_more-requires-clause-parts : goal.part_more-requires-clause-parts
 part_more-requires-clause-parts c =

@@ -9,7 +9,7 @@ use Rattle.ft_trace.specs.Addresses.{class_of}
 use Rattle.ft_trace.specs.Holds.{held, in_hand, known}
 use Rattle.ft_trace.specs.Kinds.{rows}
 use Rattle.ft_trace.specs.Words.{Picture, root_in}
-use Rattle.ft_trace.specs.Worlds.{Kept}
+use Rattle.ft_trace.specs.Worlds.{ContainerState}
 use Rattle.ft_bank.specs.Passes.{shape_of, view}
 use Rattle.ft_bank.specs.Tables.{name_of, root_for}
 use Rattle.ft_bank.specs.Whole.{Wrote}
@@ -75,7 +75,7 @@ pub fill_parted-requires-clause-counts : goal.fill_parted-requires-clause-counts
 fill_parted-requires-clause-counts c = subst (λ (z : Picture). AreCounts z.block c.args.counts) (sym (words_s (goal.at.fill_parted-requires-clause-counts c).In-Taken).0) c.requires.counts
 
 pub fill_parted-requires-clause-others : goal.fill_parted-requires-clause-others
-fill_parted-requires-clause-others c = c.requires.others ∙ ap (λ (z : Kept). z.table.fill) (sym (words_t (goal.at.fill_parted-requires-clause-others c).In-Taken).1)
+fill_parted-requires-clause-others c = c.requires.others ∙ ap (λ (z : ContainerState). z.table.fill) (sym (words_t (goal.at.fill_parted-requires-clause-others c).In-Taken).1)
 
 pub fill_parted-requires-clause-table : goal.fill_parted-requires-clause-table
 fill_parted-requires-clause-table c = c.in-Taken.ensures.did.6.0
@@ -91,7 +91,7 @@ fill_parted-requires-clause-room c =
     let s = words_s p in
     let t = words_t p in
     let fits = part_room (known a.s v) (known a.t v).content a.class c.requires.few c.requires.takes in
-    subst (λ (z : Kept × Kept × ℕ). length (parted z.0.content z.1.content).elements ≤ rows kind.Set z.2) (sym (λ i. (s.1 i, t.1 i, class_named p i))) fits
+    subst (λ (z : ContainerState × ContainerState × ℕ). length (parted z.0.content z.1.content).elements ≤ rows kind.Set z.2) (sym (λ i. (s.1 i, t.1 i, class_named p i))) fits
 
 -- the next serial
 next_is : (c : After-take) → c.args.counts.next ≡ serial_of (known c.args.s (view c.args.pass.now)).content
@@ -147,7 +147,7 @@ swap_table-number-requires-clause-gets c =
       sym c.requires.set,
       c.requires.count,
       sym next,
-      subst (λ (z : Kept × Kept). IsFilledWith (shape_of a.bank.now).texts class (content.Set (parted z.0.content z.1.content)) (in_hand (name_of c.in-Taken.new) x)) (λ i. (s.1 i, t.1 i)) c.fill_parted.ensures.filled,
+      subst (λ (z : ContainerState × ContainerState). IsFilledWith (shape_of a.bank.now).texts class (content.Set (parted z.0.content z.1.content)) (in_hand (name_of c.in-Taken.new) x)) (λ i. (s.1 i, t.1 i)) c.fill_parted.ensures.filled,
       subst (λ (z : ℕ). Replaces a.s a.called.now (content.Set all) (Some z) x) (sym (class_named at.In-Taken))
           (replaces_later a.s a.called.now (content.Set all) (Some a.class) v x before locks (parts_replaces a.s a.t a.called.now v a.class c.requires.parts c.requires.takes c.requires.few)),
     )

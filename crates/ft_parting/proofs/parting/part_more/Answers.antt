@@ -35,7 +35,7 @@ few c low = let m = many c in le-ltb most_elements (length (parted (known c.args
 over : (c : After-words_are_of_one_content) → most_elements < c.args.stay + c.args.more → passes_cap (content.Set (parted (known c.args.s (view c.args.pass.now)).content (known c.args.t (view c.args.pass.now)).content)) ≡ true
 over c high = let m = many c in lt-ltb most_elements (length (parted (known c.args.s (view c.args.pass.now)).content (known c.args.t (view c.args.pass.now)).content).elements) (omega (arith, high, m))
 
--- a set with so many elements
+-- a set with that many elements
 abbrev staying : After-words_are_of_one_content → SetContent
 staying c = record { next = 0; elements = those_not_in (set_of (known c.args.t (view c.args.pass.now)).content).elements (set_of (known c.args.s (view c.args.pass.now)).content).elements }
 

@@ -14,7 +14,7 @@ use Rattle.ft_trace.specs.Addresses.{class_of}
 use Rattle.ft_trace.specs.Holds.{held, known}
 use Rattle.ft_trace.specs.Kinds.{rows}
 use Rattle.ft_trace.specs.Words.{Picture, root_in}
-use Rattle.ft_trace.specs.Worlds.{Kept}
+use Rattle.ft_trace.specs.Worlds.{ContainerState}
 use Rattle.ft_bank.specs.Passes.{shape_of, view}
 use Rattle.ft_bank.specs.Tables.{name_of, root_for}
 use Rattle.ft_bank.specs.Writes.{MayHave}
@@ -142,7 +142,7 @@ swap_table-number-requires-clause-gets c =
       sym c.requires.other_dict,
       n ∙ sym long,
       (λ i. sym next i + n i),
-      c.fill_copy.ensures.filled pairs.0 given.0 (ap (λ (z : Kept). z.content) (words_d at.In-Taken).1 ∙ pairs.1) next,
+      c.fill_copy.ensures.filled pairs.0 given.0 (ap (λ (z : ContainerState). z.content) (words_d at.In-Taken).1 ∙ pairs.1) next,
       subst (λ (z : Content × ℕ). Replaces a.e a.called.now z.0 (Some z.1) x) (λ i. (left i, sym (class_named at.In-Taken) i))
           (replaces_later a.e a.called.now (copied (known a.e v).content (known a.d v).content) (Some a.class) v x before locks c.requires.replaces),
     )

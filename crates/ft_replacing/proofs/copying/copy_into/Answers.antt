@@ -10,7 +10,7 @@ use Rattle.ft_trace.specs.declared.Shape.{Shape}
 use Rattle.ft_trace.specs.declared.View.{View}
 use Rattle.ft_trace.specs.Holds.{held, known}
 use Rattle.ft_trace.specs.Words.{Picture, root_in}
-use Rattle.ft_trace.specs.Worlds.{Kept}
+use Rattle.ft_trace.specs.Worlds.{ContainerState}
 use Rattle.ft_bank.specs.declared.table.Table.{Table}
 use Rattle.ft_bank.specs.Passes.{shape_of, view}
 use Rattle.ft_bank.specs.Whole.{OnlyLoaded}
@@ -134,13 +134,13 @@ replaces_as c takes is =
     let only = only_last c in
     let e = known_last c a.e in
     let d = known_last c a.d in
-    let class : copy_takes (length_of (known a.d v).content) ≡ takes = ap (λ (z : Kept). copy_takes (length_of z.content)) (sym d) ∙ (ap copy_takes (sym (count_is c)) ∙ is) in
-    subst (λ (z : Kept × Kept × Option ℕ). Replaces a.e a.called.now (copied z.0.content z.1.content) z.2 u) (λ i. (sym e i, sym d i, class i))
+    let class : copy_takes (length_of (known a.d v).content) ≡ takes = ap (λ (z : ContainerState). copy_takes (length_of z.content)) (sym d) ∙ (ap copy_takes (sym (count_is c)) ∙ is) in
+    subst (λ (z : ContainerState × ContainerState × Option ℕ). Replaces a.e a.called.now (copied z.0.content z.1.content) z.2 u) (λ i. (sym e i, sym d i, class i))
     (replaces_later a.e a.called.now (copied (known a.e v).content (known a.d v).content) (copy_takes (length_of (known a.d v).content)) v u
     (λ found has. filled_has v u (loaded_filled v u only) found has) only.work.pass.locks c.requires.replaces)
 
 takes_as : (c : After-read_counts-next) (takes : Option ℕ) → copy_takes c.read_counts-counts.result.count ≡ takes → takes ≡ copy_takes (length_of (known c.args.d (view c.args.pass.now)).content)
-takes_as c takes is = sym is ∙ (ap copy_takes (count_is c) ∙ ap (λ (z : Kept). copy_takes (length_of z.content)) (known_last c c.args.d))
+takes_as c takes is = sym is ∙ (ap copy_takes (count_is c) ∙ ap (λ (z : ContainerState). copy_takes (length_of z.content)) (known_last c c.args.d))
 
 pub read_counts-counts-requires-clause-container : goal.read_counts-counts-requires-clause-container
 read_counts-counts-requires-clause-container c = c.requires.may.container

@@ -1,6 +1,5 @@
 use Rattle.std.proofs.Common.{◌≡◌, true, false, inr}
 use Rattle.ft_bank.specs.Passes.{view}
-use Rattle.ft_engine.proofs.Again.{answered_again}
 use Rattle.ft_engine.proofs.Callers.{both_halves}
 use Rattle.ft_engine.proofs.LookFirst.{answered_looked}
 use Rattle.ft_engine.proofs.engine.Engine.attempt.Goals as goal

@@ -28,5 +28,5 @@ tries_are_turns script e turns standings called t c d mine made_for is kept at n
       machine = whole script turns thread standings old new (owners_in (view c.pass)) (owners_in (view d.pass)) (has_of d.pass) o.now o.answered was.machine at o.comes o.made o.marks o.flight;
       order = subst (λ order. AreInOrder order (slice_set standings thread new) (seen_writes (view d.pass))) (sym answered)
           (order_step standings thread old new (after_turns script turns).answered o.answered (length (thread_at (after_turns script turns) thread).marks) (seen_writes (view c.pass)) (seen_writes (view d.pass)) at
-          o.told is.tried.same.pass.seen (answers_seen d entries (is.tried.kept mine kept)) was.order);
+          o.recorded is.tried.same.pass.seen (answers_seen d entries (is.tried.kept mine kept)) was.order);
     }

@@ -24,7 +24,7 @@ use Rattle.ft_ordering.specs.Ordered.{AreInOrder, answer_at, due, no_stamp, nobo
 use Rattle.ft_ordering.specs.Standing.{Standing, standing_of}
 use Rattle.ft_ordering.proofs.EntriesSeen.{entries_seen}
 use Rattle.ft_ordering.proofs.OrderedRuns.{push_cases}
-use Rattle.ft_ordering.proofs.TriedTurns.{IsTold}
+use Rattle.ft_ordering.proofs.TriedTurns.{IsRecorded}
 
 -- ---- what the caller has seen
 
@@ -116,7 +116,7 @@ module _ (standings : List Standing) (thread : ℕ) (old new : Standing) (at : s
 
 -- an answer that is known by whoever has seen less is known by whoever has seen more
 pub order_step : (standings : List Standing) (thread : ℕ) (old new : Standing) (before after : List (ℕ × ℕ)) (place seen seen_after : ℕ) → slice_get standings thread ≡ Some old
-    → IsTold before (thread, place) after (stamps_of old) (stamps_of new) seen → seen ≤ seen_after
+    → IsRecorded before (thread, place) after (stamps_of old) (stamps_of new) seen → seen ≤ seen_after
     → ((k : ℕ) → k < length (stamps_of new) → reached (slice_index_or (stamps_of new) k no_stamp) ≤ seen_after)
     → AreInOrder before standings seen → AreInOrder after (slice_set standings thread new) seen_after
 order_step standings thread old new before after place seen seen_after at (inl same) rises each are =

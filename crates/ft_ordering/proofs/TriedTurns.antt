@@ -64,8 +64,8 @@ use Rattle.ft_ordering.proofs.TurnForms.{again_first}
 
 -- What comes of the turn beside the try: either no answer is made; or this one, and it knows of all writes that had
 -- been seen.
-abbrev pub IsTold : List (ℕ × ℕ) → ℕ × ℕ → List (ℕ × ℕ) → List Stamp → List Stamp → ℕ → Type 0
-IsTold before one after old new seen =
+abbrev pub IsRecorded : List (ℕ × ℕ) → ℕ × ℕ → List (ℕ × ℕ) → List Stamp → List Stamp → ℕ → Type 0
+IsRecorded before one after old new seen =
     ((after ≡ before) × (new ≡ old))
     ⊎ ((stamp : Stamp) × (after ≡ before ++ one ∷ []) × (new ≡ old ++ stamp ∷ []) × (seen ≤ stamp.number) × (length old ≡ one.1))
 
@@ -76,7 +76,7 @@ pub record TurnOutcome (script : ScriptParts) (machine after : Machine) (thread 
   pub made : map (λ (one : Entry). one.call) new.entries ≡ take (length now.marks) (calls_of script thread)
   pub marks : map (λ (one : Entry). one.waited) new.entries ≡ now.marks
   pub flight : IsAsFlight (slice_get (calls_of script thread) (length now.marks)) now.fixed new.flight
-  pub told : IsTold machine.answered (thread, length (thread_at machine thread).marks) answered (stamps_of old) (stamps_of new) seen
+  pub recorded : IsRecorded machine.answered (thread, length (thread_at machine thread).marks) answered (stamps_of old) (stamps_of new) seen
 
 due_none : (f : Flight) → (IsAnswered f → ⊥) → due f ≡ []
 due_none flight.Idle unanswered = refl
@@ -156,7 +156,7 @@ module _ (script : ScriptParts) (e : Engine) (turns : List ℕ) (standings : Lis
       (marks : (thread_at mid thread).marks ≡ state.marks) (fixed : (thread_at mid thread).fixed ≡ true)
       (others : (other : ℕ) → other ≢ thread → thread_at mid other ≡ thread_at machine other)
       (taken : IsTakenUp said stamp p d.pass t) (waits : WaitsAnswered called said stamp t d.flight)
-      (told : (new : List Stamp) → new ≡ map stamp_of mine ++ stamp ∷ [] → IsTold machine.answered (thread, length state.marks) mid.answered (stamps_of (standing_of c mine)) new seen) where
+      (recorded : (new : List Stamp) → new ≡ map stamp_of mine ++ stamp ∷ [] → IsRecorded machine.answered (thread, length state.marks) mid.answered (stamps_of (standing_of c mine)) new seen) where
     still_next : next_call script thread (thread_at mid thread) ≡ Some called
     still_next = ap (λ (ms : List (Option ℕ)). slice_get calls (length ms)) marks ∙ next
 
@@ -196,7 +196,7 @@ module _ (script : ScriptParts) (e : Engine) (turns : List ℕ) (standings : Lis
           made = made;
           marks = marked;
           flight = subst (IsAsFlight (slice_get calls (length after.marks)) false) (sym idle) refl;
-          told = told (stamps_of (standing_of d (mine ++ entry ∷ [])))
+          recorded = recorded (stamps_of (standing_of d (mine ++ entry ∷ [])))
               (ap (λ f. map stamp_of (mine ++ entry ∷ []) ++ due f) idle
               ∙ (append-nil (map stamp_of (mine ++ entry ∷ []))
               ∙ (map_push stamp_of mine entry ∙ ap (λ x. map stamp_of mine ++ x ∷ []) up.1)));
@@ -217,7 +217,7 @@ module _ (script : ScriptParts) (e : Engine) (turns : List ℕ) (standings : Lis
           made = as_thread.made ∙ ap (λ (ms : List (Option ℕ)). take (length ms) calls) (sym marks);
           marks = as_thread.marks ∙ sym marks;
           flight = subst (IsAsFlight (slice_get calls (length halfway.marks)) halfway.fixed) (sym waiting) (fixed, still_next);
-          told = told (stamps_of (standing_of d mine)) (ap (λ f. map stamp_of mine ++ due f) waiting);
+          recorded = recorded (stamps_of (standing_of d mine)) (ap (λ f. map stamp_of mine ++ due f) waiting);
         })
 
     pub second : Result
@@ -253,7 +253,7 @@ module _ (script : ScriptParts) (e : Engine) (turns : List ℕ) (standings : Lis
     there_low objects named = let low = are_low (shape_of e.bank) hands called objects names is.caller.over named in let n = count_for script (shape_of e.bank) made_for in omega arith
 
     waits_first : (o owner : ℕ) → t ≡ tried.NotYet o owner → HasNoAnswer e.bank hands called c.pass d.pass (tried.NotYet o owner) → WaitsUnanswered called (tried.NotYet o owner) d.flight
-      → IsUndisturbed called (view c.pass) (view d.pass) (tried.NotYet o owner) → Result
+        → IsUndisturbed called (view c.pass) (view d.pass) (tried.NotYet o owner) → Result
     waits_first o owner not_yet none waiting undisturbed =
         let tried_it = none.0 in
         let objects = tried_it.0 in
@@ -277,7 +277,7 @@ module _ (script : ScriptParts) (e : Engine) (turns : List ℕ) (standings : Lis
           made = as_thread.made;
           marks = as_thread.marks;
           flight = subst (IsAsFlight (slice_get calls (length state.marks)) state.fixed) (sym waiting) (unfixed, next);
-          told = inl (refl, ap (λ f. map stamp_of mine ++ due f) waiting ∙ ap (λ ss. map stamp_of mine ++ ss) (sym (due_none c.flight unanswered)));
+          recorded = inl (refl, ap (λ f. map stamp_of mine ++ due f) waiting ∙ ap (λ ss. map stamp_of mine ++ ss) (sym (due_none c.flight unanswered)));
         })
 
     no_answer : HasNoAnswer e.bank hands called c.pass d.pass t → WaitsUnanswered called t d.flight → Result

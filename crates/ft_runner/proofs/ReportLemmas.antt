@@ -13,6 +13,7 @@ use Rattle.ft_model.specs.declared.entry.Entry.{Entry}
 use Rattle.ft_model.specs.declared.entry.Storage.TheVariants as storage
 use Rattle.ft_model.specs.declared.script.ScriptParts.{ScriptParts}
 use Rattle.ft_model.specs.Histories.{writes, world_at, IsLegal}
+use Rattle.ft_model.specs.Numbers.{AreFitting}
 use Rattle.ft_script.specs.declared.fault.ScriptFault.{ScriptFault}
 use Rattle.ft_script.specs.Faults.{no_memory}
 use Rattle.ft_script.specs.Generator.{made_text}
@@ -209,6 +210,7 @@ module _ (command : Subcommand) (bytes : List ℕ) where
     pub read : read_script bytes ≡ Ok script
     pub legal : IsLegal (storage_of command) script history
     pub order : command ≡ subcommand.Turns → IsOrderRun storage.Plain script history
+    pub fitting : AreFitting (storage_of command) script history
     pub short : All HasShortReply history
     pub last : world ≡ world_at script history (length (writes history))
 
@@ -217,7 +219,7 @@ module _ (command : Subcommand) (bytes : List ℕ) where
     text = flat_map (entry_line script) history ++ world_text script world
 
     history_is : IsHistoryOf command bytes history text
-    history_is = record { script = script; read = is.read; legal = is.legal; order = is.order; short = is.short; written = ap (λ (w : List Content). flat_map (entry_line script) history ++ world_text script w) is.last }
+    history_is = record { script = script; read = is.read; legal = is.legal; order = is.order; fitting = is.fitting; short = is.short; written = ap (λ (w : List Content). flat_map (entry_line script) history ++ world_text script w) is.last }
 
     pub run_short : (sink sink' : Stream) → PutsPrefix sink text false sink' → ComesTo (MeansRun command bytes) sink sink' outcome.Memory
     run_short sink sink' part = record { put = part.prefix; writing = part.receives; means = inr (history, record { text = text; whole = history_is; prefix = part.is_prefix }); cause = refl }

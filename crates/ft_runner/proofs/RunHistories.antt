@@ -1,7 +1,9 @@
--- What a run whose threads were beside each other has made is a legal history: judging it finds so.
-use Rattle.std.proofs.Common.{◌≡◌, ℕ, List, Ok, refl, sym, subst}
+-- What a run whose threads were beside each other has made is a legal history: judging it finds so. Its MemoryErrors fit.
+use Rattle.std.proofs.Common.{◌≡◌, ℕ, List, Ok, Option, Some, None, refl, sym, ap, subst, inl, inr, take}
 use Rattle.std.specs.Prelude.{All, length}
+use Rattle.std.proofs.lemmas.Bool.{cases_eq}
 use Rattle.std.proofs.lemmas.Grind.{not_there}
+use Rattle.std.proofs.lemmas.Option.{none-some}
 use Rattle.ft_history.proofs.OneVerdict.{one_verdict}
 use Rattle.ft_history.specs.Verdicts.{IsVerdict}
 use Rattle.ft_history.specs.declared.verdict.Verdict.{Verdict}
@@ -10,16 +12,42 @@ use Rattle.ft_model.specs.declared.call.Call.{Call}
 use Rattle.ft_model.specs.declared.content.Content.{Content}
 use Rattle.ft_model.specs.declared.entry.Entry.{Entry}
 use Rattle.ft_model.specs.declared.entry.Storage.TheVariants as storage
+use Rattle.ft_model.specs.declared.reply.Raise.TheVariants as raise
+use Rattle.ft_model.specs.declared.reply.Reply.{Reply}
+use Rattle.ft_model.specs.declared.reply.Reply.TheVariants as reply
 use Rattle.ft_model.specs.declared.script.ScriptParts.{ScriptParts}
 use Rattle.ft_model.specs.Histories.{writes, world_at, IsLegal}
-use Rattle.ft_model.specs.Numbers.{IsHistoryOf}
+use Rattle.ft_model.specs.Numbers.{AreFitting, IsHistoryOf}
 use Rattle.ft_model.specs.Parts.{IsEntryOf, IsWorldOf}
+use Rattle.ft_model.specs.Tables.{stored_after, takes_in, IsFittingReply, StoredWorld}
 use Rattle.ft_script.specs.Scripts.{read_script}
 use Rattle.ft_script.specs.Transcripts.{IsReadable}
 use Rattle.ft_script.proofs.ReadScripts.{script_read, script_wide}
 use Rattle.ft_turns.specs.Replies.{HasShortReply}
+use Rattle.ft_runner.specs.declared.command.Subcommand.TheVariants as subcommand
 use Rattle.ft_runner.proofs.ReadableEntries.{readable_entries, short_entries}
+use Rattle.ft_runner.proofs.ReportLemmas.{IsRun}
 use Rattle.ft_runner.proofs.WorldLemmas.{world_of_legal}
+
+-- ---- what is said of a history that there is
+
+class_there : (taken : Option ℕ) (class : ℕ) → ¬ (¬ (taken ≡ Some class)) → taken ≡ Some class
+class_there None class twice = absurd (twice (λ same. none-some class same))
+class_there (Some other) class twice =
+    elim (cases_eq other class) [
+      | inl same ↦ ap (λ (c : ℕ). Some c) same
+      | inr differs ↦ absurd (twice (λ same. differs (let is : other ≡ class = cc in is)))
+    ]
+
+fits_there : (stored : StoredWorld) (called : Call) (said : Reply) → ¬ (¬ (IsFittingReply stored called said)) → IsFittingReply stored called said
+fits_there stored called (reply.Raised (raise.Memory class)) twice = class_there (takes_in stored called) class twice
+fits_there stored called other twice = tt
+
+-- its MemoryErrors fit
+pub fitting_made : (script : ScriptParts) (history : List Entry) → ∥ ((calls : List Call) × IsHistoryOf storage.Tables script calls history) ∥₁ → AreFitting storage.Tables script history
+fitting_made script history made place entry at =
+    fits_there (stored_after script (writes (take place history))) entry.call entry.reply
+    (λ no. not_there made (λ is. no (is.1.fitting place entry at)))
 
 -- the verdict on a legal history
 pub found_legal : (script : ScriptParts) (history : List Entry) (found : Verdict) → ∥ ((calls : List Call) × IsHistoryOf storage.Tables script calls history) ∥₁ → IsVerdict storage.Tables script history found → found ≡ verdict.Legal
@@ -41,3 +69,15 @@ module _ (bytes : List ℕ) (script : ScriptParts) (read : read_script bytes ≡
   -- and so are the contents that it leaves
   pub world_made : (world : List Content) → world ≡ world_at script history (length (writes history)) → IsWorldOf script world
   world_made world is = subst (IsWorldOf script) (sym is) (world_of_legal script history entries_made legal)
+
+  -- and all of it is what a command that runs a script comes to
+  pub run_made : (world : List Content) → AreFitting storage.Tables script history → world ≡ world_at script history (length (writes history)) → IsRun subcommand.Run bytes script history world
+  run_made world fitting last =
+      record {
+        read = read;
+        legal = legal;
+        order = λ turns. absurd (let no : subcommand.Run ≡ subcommand.Turns = turns in cc);
+        fitting = fitting;
+        short = short_made;
+        last = last;
+      }

@@ -11,6 +11,7 @@ use Rattle.ft_model.specs.declared.entry.Storage.{Storage}
 use Rattle.ft_model.specs.declared.entry.Storage.TheVariants as storage
 use Rattle.ft_model.specs.declared.script.ScriptParts.{ScriptParts}
 use Rattle.ft_model.specs.Histories.{IsLegal}
+use Rattle.ft_model.specs.Numbers.{AreFitting}
 use Rattle.ft_script.specs.declared.fault.ScriptFault.{ScriptFault}
 use Rattle.ft_script.specs.Faults.{kind_text}
 use Rattle.ft_script.specs.Generator.{made_text}
@@ -181,6 +182,8 @@ pub record IsHistoryOf (command : Subcommand) (bytes : List ℕ) (history : List
   pub read : read_script bytes ≡ Ok script
   pub legal : IsLegal (storage_of command) script history
   pub order : command ≡ subcommand.Turns → IsOrderRun storage.Plain script history
+  -- each MemoryError of a class stands on a call that would take a table of that class there
+  pub fitting : AreFitting (storage_of command) script history
   -- no number of a reply is greater than what it counts can be
   pub short : All HasShortReply history
   pub written : text ≡ transcript script history

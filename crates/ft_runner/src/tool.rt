@@ -7,6 +7,7 @@ ghost use Rattle.std.specs.Prelude.{◌≡◌, ◌≢◌, false, Ok, Option, Som
 ghost use Rattle.ft_bank.specs.Closings.{shape_in};
 ghost use Rattle.ft_model.specs.declared.entry.Storage.TheVariants as storage;
 ghost use Rattle.ft_model.specs.Histories.{writes, world_at, IsLegal};
+ghost use Rattle.ft_model.specs.Numbers.{AreFitting};
 ghost use Rattle.ft_workers.specs.Histories.{HasEntriesOf};
 ghost use Rattle.ft_workers.specs.Workers.{IsBankFor};
 ghost use Rattle.ft_runner.specs.Commands.{command_of};
@@ -216,6 +217,7 @@ fn run_threads<R: Threads + Wait + Sync, G: Gate>(
     gate: &G,
 ) -> Result<Made, AllocError>
     ensures legal { IfOk result (λ made. IsLegal storage.Tables script.now made.history.items) }
+    ensures fitting { IfOk result (λ made. AreFitting storage.Tables script.now made.history.items) }
     ensures world { IfOk result (λ made. made.world ≡ world_at script.now made.history.items (length (writes made.history.items))) }
     ensures bank { IfOk result (λ made. IsBankFor script.now (shape_in made.closed)) }
     ensures entries { IfOk result (λ made. HasEntriesOf made.closed made.history.items) }

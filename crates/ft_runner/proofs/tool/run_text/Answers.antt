@@ -1,9 +1,9 @@
-use Rattle.std.proofs.Common.{◌≡◌, refl}
+use Rattle.std.proofs.Common.{refl}
 use Rattle.std.specs.Prelude.{Some}
 use Rattle.ft_runner.specs.declared.command.Subcommand.TheVariants as subcommand
 use Rattle.ft_runner.specs.Reports.{Leaves}
-use Rattle.ft_runner.proofs.ReportLemmas.{run_failed, run_forgotten, run_refused, run_short, run_written, IsRun}
-use Rattle.ft_runner.proofs.RunHistories.{entries_made, short_made, world_made}
+use Rattle.ft_runner.proofs.ReportLemmas.{run_failed, run_forgotten, run_refused, run_short, run_written}
+use Rattle.ft_runner.proofs.RunHistories.{entries_made, run_made, world_made}
 use Rattle.ft_runner.proofs.tool.run_text.Goals as goal
 
 pub write_all-requires-clause-entries : goal.write_all-requires-clause-entries
@@ -34,7 +34,7 @@ returns-in-Ok-write_all g c =
     let script = c.in-Ok.script in
     let read = c.in-Ok.ensures.read in
     let all = rw (c.deref.ensures.value) at c.in-Ok-write_all.ensures in
-    let run : IsRun subcommand.Run c.args.bytes.now script made.history.items made.world = record { read = read; legal = is.legal; order = λ turns. absurd (let no : subcommand.Run ≡ subcommand.Turns = turns in cc); short = short_made c.args.bytes.now script read made.history.items is.legal; last = is.world } in
+    let run = run_made c.args.bytes.now script read made.history.items is.legal made.world is.fitting is.world in
     let left : Leaves subcommand.Run c.args.bytes.now made.history.items (Some made.closed) = (made.closed, refl, record { script = script; read = read; bank = is.bank; entries = is.entries }) in
     run_written subcommand.Run c.args.bytes.now script made.history.items made.world run (sink.stream c.args.sink.now) (sink.stream c.write_all.new.sink) made.history refl (Some made.closed) left all
 
@@ -46,7 +46,7 @@ returns-in-Err-Failed g c =
     let script = c.in-Ok.script in
     let read = c.in-Ok.ensures.read in
     let part = rw (c.deref.ensures.value) at (rw c.in-Err-Failed.field-0-is at c.in-Err-Failed.ensures) in
-    let run : IsRun subcommand.Run c.args.bytes.now script made.history.items made.world = record { read = read; legal = is.legal; order = λ turns. absurd (let no : subcommand.Run ≡ subcommand.Turns = turns in cc); short = short_made c.args.bytes.now script read made.history.items is.legal; last = is.world } in
+    let run = run_made c.args.bytes.now script read made.history.items is.legal made.world is.fitting is.world in
     let left : Leaves subcommand.Run c.args.bytes.now made.history.items (Some made.closed) = (made.closed, refl, record { script = script; read = read; bank = is.bank; entries = is.entries }) in
     run_failed subcommand.Run c.args.bytes.now script made.history.items made.world run (sink.stream c.args.sink.now) (sink.stream c.write_all.new.sink) made.history refl (Some made.closed) left part
 
@@ -58,5 +58,5 @@ returns g c =
     let script = c.in-Ok.script in
     let read = c.in-Ok.ensures.read in
     let part = rw (c.deref.ensures.value) at (rw c.in-Err-Memory.field-0-is at c.in-Err-Memory.ensures) in
-    let run : IsRun subcommand.Run c.args.bytes.now script made.history.items made.world = record { read = read; legal = is.legal; order = λ turns. absurd (let no : subcommand.Run ≡ subcommand.Turns = turns in cc); short = short_made c.args.bytes.now script read made.history.items is.legal; last = is.world } in
+    let run = run_made c.args.bytes.now script read made.history.items is.legal made.world is.fitting is.world in
     run_short subcommand.Run c.args.bytes.now script made.history.items made.world run (sink.stream c.args.sink.now) (sink.stream c.write_all.new.sink) part

@@ -1,7 +1,7 @@
 use Rattle.std.proofs.Common.{subst}
 use Rattle.ft_model.specs.declared.entry.Storage.TheVariants as storage
 use Rattle.ft_history.specs.Verdicts.{IsVerdict}
-use Rattle.ft_runner.proofs.RunHistories.{found_legal}
+use Rattle.ft_runner.proofs.RunHistories.{fitting_made, found_legal}
 use Rattle.ft_runner.proofs.tool.run_threads.Goals as goal
 
 pub returns-clause-legal : goal.returns-clause-legal
@@ -11,6 +11,9 @@ returns-clause-legal g c =
     let on = rw (c.deref.ensures.value) at c.in_ok-judged.ensures.verdict in
     let is = found_legal script history c.in_ok-judged.judged.verdict c.in_ok-ran.ensures.legal on in
     subst (IsVerdict storage.Tables script history) is on
+
+pub returns-clause-fitting : goal.returns-clause-fitting
+returns-clause-fitting g c = fitting_made c.args.script.now c.in_ok-ran.ran.history.items c.in_ok-ran.ensures.legal
 
 pub returns-clause-world : goal.returns-clause-world
 returns-clause-world g c =

@@ -20,7 +20,7 @@ returns-in-Ok-write_all g c =
     let run = c.in-Ok-run_turns.run' in
     let made = c.in-Ok-run_turns.ensures in
     let all = rw (c.deref.ensures.value) at c.in-Ok-write_all.ensures in
-    let is : IsRun subcommand.Turns c.args.bytes.now c.in-Ok.script run.entries.items run.world = record { read = c.in-Ok.ensures.read; legal = made.legal; order = λ turns. made.order; short = made.short; last = made.world } in
+    let is : IsRun subcommand.Turns c.args.bytes.now c.in-Ok.script run.entries.items run.world = record { read = c.in-Ok.ensures.read; legal = made.legal; order = λ turns. made.order; fitting = λ place entry at. tt; short = made.short; last = made.world } in
     run_written subcommand.Turns c.args.bytes.now c.in-Ok.script run.entries.items run.world is (sink.stream c.args.sink.now) (sink.stream c.write_all.new.sink) run.entries refl None refl all
 
 pub returns-in-Err-Failed : goal.returns-in-Err-Failed
@@ -29,7 +29,7 @@ returns-in-Err-Failed g c =
     let run = c.in-Ok-run_turns.run' in
     let made = c.in-Ok-run_turns.ensures in
     let part = rw (c.deref.ensures.value) at (rw c.in-Err-Failed.field-0-is at c.in-Err-Failed.ensures) in
-    let is : IsRun subcommand.Turns c.args.bytes.now c.in-Ok.script run.entries.items run.world = record { read = c.in-Ok.ensures.read; legal = made.legal; order = λ turns. made.order; short = made.short; last = made.world } in
+    let is : IsRun subcommand.Turns c.args.bytes.now c.in-Ok.script run.entries.items run.world = record { read = c.in-Ok.ensures.read; legal = made.legal; order = λ turns. made.order; fitting = λ place entry at. tt; short = made.short; last = made.world } in
     run_failed subcommand.Turns c.args.bytes.now c.in-Ok.script run.entries.items run.world is (sink.stream c.args.sink.now) (sink.stream c.write_all.new.sink) run.entries refl None refl part
 
 pub returns : goal.returns
@@ -38,5 +38,5 @@ returns g c =
     let run = c.in-Ok-run_turns.run' in
     let made = c.in-Ok-run_turns.ensures in
     let part = rw (c.deref.ensures.value) at (rw c.in-Err-Memory.field-0-is at c.in-Err-Memory.ensures) in
-    let is : IsRun subcommand.Turns c.args.bytes.now c.in-Ok.script run.entries.items run.world = record { read = c.in-Ok.ensures.read; legal = made.legal; order = λ turns. made.order; short = made.short; last = made.world } in
+    let is : IsRun subcommand.Turns c.args.bytes.now c.in-Ok.script run.entries.items run.world = record { read = c.in-Ok.ensures.read; legal = made.legal; order = λ turns. made.order; fitting = λ place entry at. tt; short = made.short; last = made.world } in
     run_short subcommand.Turns c.args.bytes.now c.in-Ok.script run.entries.items run.world is (sink.stream c.args.sink.now) (sink.stream c.write_all.new.sink) part

@@ -21,6 +21,7 @@ impl Bank {
     }
 
     /// Where the words of a table lie after its header.
+    #[inline(always)]
     pub(crate) fn cell_of(&self, t: Table) -> u64
         requires table { IsTableIn (shape_of self.now) t }
         ensures is { result ≡ at (shape_of self.now) (cell (name_of t) 0) }

@@ -35,6 +35,7 @@ use ft_section::{Got, Object, Objects, Step, let_go, take_for};
 /// # Errors
 ///
 /// Those of [`add_key`], where the key isn't there.
+#[inline(always)]
 pub fn set_by(bank: &Bank, pass: &mut Pass, d: Object, key: Key, value: Value) -> Added
     requires pass { IsPassOf bank.now pass.old }
     requires may { MayWriteEntries (shape_of bank.now) d (view pass.old) }
@@ -162,6 +163,7 @@ pub fn setdefault_by(
 ///
 /// `NotYet` where a step of the call found another pass with the lock of the dict; `Moved` where two steps of it
 /// found a word of the free tables of one class changed. The same call comes next. It never answers `NoMemory`.
+#[inline(always)]
 pub fn try_set(bank: &Bank, pass: &mut Pass, d: Object, key: Key, value: Value) -> Step
     requires may { MayTry bank.now pass.old (One d) }
     requires container { d < containers_in (shape_of bank.now) }

@@ -72,6 +72,7 @@ fn load_word(bank: &Bank, pass: &mut Pass, table: Table, index: u64, word: u64) 
 }
 
 /// Loads an item and the counter between two loads of the item's version.
+#[inline(always)]
 fn see_item(bank: &Bank, pass: &mut Pass, table: Table, index: u64) -> Seen
     requires pass { IsPassOf bank.now pass.old }
     requires table { IsTableIn (shape_of bank.now) table }
@@ -94,6 +95,7 @@ fn see_item(bank: &Bank, pass: &mut Pass, table: Table, index: u64) -> Seen
 }
 
 /// A round over the table that the root named: the item, and then the root again.
+#[inline(always)]
 fn look_at(bank: &Bank, pass: &mut Pass, o: u32, index: u64, root: u64, table: Table) -> Round
     requires pass { IsPassOf bank.now pass.old }
     requires container { o < containers_in (shape_of bank.now) }
@@ -161,6 +163,7 @@ fn look_bare(bank: &Bank, pass: &mut Pass, o: u32) -> Round
 }
 
 /// A round at whatever the root was.
+#[inline(always)]
 fn look_round(bank: &Bank, pass: &mut Pass, o: u32, index: u64, root: u64) -> Round
     requires pass { IsPassOf bank.now pass.old }
     requires container { o < containers_in (shape_of bank.now) }
@@ -184,6 +187,7 @@ fn look_round(bank: &Bank, pass: &mut Pass, o: u32, index: u64, root: u64) -> Ro
 
 /// Looks up an item without the lock; the pass is online. A root changes at most twice for each table, so
 /// the rounds end.
+#[inline(always)]
 pub(crate) fn find_item(bank: &Bank, pass: &mut Pass, o: u32, index: u64) -> Found
     requires pass { IsPassOf bank.now pass.old }
     requires container { o < containers_in (shape_of bank.now) }

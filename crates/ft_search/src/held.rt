@@ -41,6 +41,7 @@ pub(crate) const ROOT: u64 = block_word::ROOT - 2;
 
 impl<'a> TableWords<'a> {
     /// Searches for a key in words that nobody else writes.
+    #[inline(always)]
     fn seek_held<L: Ledger>(&mut self, walk: &mut Walk, key: Key, blank: Blank) -> Found
         requires can { CanLoad self.old }
         requires knows { KnowsWords self.old }
@@ -84,6 +85,7 @@ impl<'a> TableWords<'a> {
     }
 
     /// Looks for a key by its hash, and reads the value that is there. Answers where the search ended too.
+    #[inline(always)]
     fn read_held(&mut self, way: Way, key: Key, hash: u64) -> (Found, Option<(u64, u64)>)
         requires can { CanLoad self.old }
         requires knows { KnowsWords self.old }
@@ -106,6 +108,7 @@ impl<'a> TableWords<'a> {
 
 /// Looks for a key by its hash in the table of a container whose lock the pass has: where the search ended,
 /// and the words of the value that is there.
+#[inline(always)]
 pub fn read_by(
     bank: &Bank,
     pass: &mut Pass,

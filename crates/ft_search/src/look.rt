@@ -28,6 +28,7 @@ use ft_keys::Way;
 use ft_model::Key;
 
 /// A round over the table that the root named.
+#[inline(always)]
 fn look_in(
     bank: &Bank,
     pass: &mut Pass,
@@ -62,6 +63,7 @@ fn look_in(
 }
 
 /// A round at whatever the root was.
+#[inline(always)]
 fn look_round(
     bank: &Bank,
     pass: &mut Pass,
@@ -109,6 +111,7 @@ pub(crate) fn key_fits(key: Key)
 ///
 /// It goes in rounds, one more for each change of the root that it finds. In each round it loads at most as many
 /// index words as one search may under the lock, whoever else writes.
+#[inline(always)]
 pub fn look_up(bank: &Bank, pass: &mut Pass, o: u32, way: Way, key: Key) -> Looked
     requires pass { IsPassOf bank.now pass.old }
     requires container { o < containers_in (shape_of bank.now) }

@@ -50,6 +50,7 @@ pub fn spot_of(table: Table, found: Found, read: Option<(u64, u64)>) -> Spot
 
 /// Looks for a key by its hash in a dict or a set that the pass may write. It loads at most as many index words as
 /// one search may.
+#[inline(always)]
 pub fn seek_by(bank: &Bank, pass: &mut Pass, o: u32, way: Way, key: Key, hash: u64) -> Spot
     requires pass { IsPassOf bank.now pass.old }
     requires way { kind_in (shape_of bank.now).kinds o ≡ kind_by way }
@@ -78,6 +79,7 @@ pub fn seek_by(bank: &Bank, pass: &mut Pass, o: u32, way: Way, key: Key, hash: u
 }
 
 /// Looks for a key of a dict or a set that the pass may write. It loads at most as many index words as one search may.
+#[inline(always)]
 pub fn seek_key(bank: &Bank, pass: &mut Pass, o: u32, way: Way, key: Key) -> Spot
     requires pass { IsPassOf bank.now pass.old }
     requires way { kind_in (shape_of bank.now).kinds o ≡ kind_by way }

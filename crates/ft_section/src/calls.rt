@@ -63,6 +63,7 @@ pub(crate) fn wait(bank: &Bank, pass: &mut Pass, owner: Owner)
 /// Takes the locks of a call's containers, the lower one first, but for those that the pass has. Where a step
 /// finds another pass with one of them, the locks of all open sections are let go, and at most the lower
 /// lock of the call's two is kept; the same call comes next.
+#[inline(always)]
 pub fn take_for(bank: &Bank, pass: &mut Pass, objects: Objects) -> Got
     requires may { MayTry bank.now pass.old objects }
     requires containers { AreIn (shape_of bank.now) objects }

@@ -27,6 +27,7 @@ use ft_section::{Look, Object};
 ///
 /// `Contended` where two loads of the version of the element's own entry gave an odd number or two
 /// different ones; of the container's version, where its root was read 0. It never answers `NoMemory`.
+#[inline(always)]
 pub fn look_has(bank: &Bank, pass: &mut Pass, s: Object, key: Key) -> Look
     requires pass { IsPassOf bank.now pass.old }
     requires container { s < containers_in (shape_of bank.now) }

@@ -26,7 +26,7 @@ ghost use Rattle.ft_search.specs.Rounds.{kind_by};
 ghost use Rattle.ft_search.specs.Words.{CanLoad, SamePlace, KnowsWords, known_words};
 
 use crate::look::key_fits;
-use crate::tables::{mask_of, table_named};
+use crate::tables::{mask_of, table_at};
 use crate::words::TableWords;
 use ft_bank::{Bank, Pass, Table};
 use ft_keys::{Found, Steps, Walk, Way, Words, find_live};
@@ -134,12 +134,14 @@ pub fn read_by(
         × ReadsEntry (class_mask table.class) (0 ∷ 0 ∷ (held o (view pass.old)).table) result.0 result.1 }
 {
     let mask = mask_of(table.class);
+    let start = bank.cell_of(table);
     let mut words = TableWords {
         bank,
         pass,
         o,
         table,
         mask,
+        start,
     };
     words.read_held(way, key, hash)
 }
@@ -192,7 +194,7 @@ pub fn read_key(bank: &Bank, pass: &mut Pass, o: u32, way: Way, key: Key) -> Opt
     used_entries_follow_a_dict();
     used_entries_follow_a_set();
     let root = bank.read_block(pass, o, ROOT);
-    match table_named(root) {
+    match table_at(bank, root) {
         Some(table) => read_in(bank, pass, o, way, key, table).1,
         None => None,
     }

@@ -21,7 +21,7 @@ ghost use Rattle.ft_search.specs.Rounds.{kind_by, EndsTable, EndsRound};
 use crate::bare::look_bare;
 use crate::looks::Looked;
 use crate::rounds::{Round, search_table};
-use crate::tables::{mask_of, table_named};
+use crate::tables::{mask_of, table_at};
 use crate::words::TableWords;
 use ft_bank::{Bank, Pass, Table};
 use ft_keys::Way;
@@ -52,12 +52,14 @@ fn look_in(
     ensures spends { SpendsRound way o root pass.old pass.new result }
 {
     let mask = mask_of(table.class);
+    let start = bank.cell_of(table);
     let mut words = TableWords {
         bank,
         pass,
         o,
         table,
         mask,
+        start,
     };
     search_table(&mut words, way, key, hash, root)
 }
@@ -84,7 +86,7 @@ fn look_round(
     ensures ended { EndsRound (shape_of bank.now) o key root pass.old pass.new result }
     ensures spends { SpendsRound way o root pass.old pass.new result }
 {
-    match table_named(root) {
+    match table_at(bank, root) {
         Some(table) => look_in(bank, pass, o, way, key, hash, root, table),
         None => look_bare(bank, pass, o),
     }

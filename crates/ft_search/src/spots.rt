@@ -15,7 +15,7 @@ ghost use Rattle.ft_search.specs.Writing.{MayWriteEntries};
 
 use crate::held::{ROOT, read_by};
 use crate::look::key_fits;
-use crate::tables::table_named;
+use crate::tables::table_at;
 use ft_bank::{Bank, Pass, Table};
 use ft_keys::{Found, Way, searches_end_at_the_first_free_slot};
 use ft_layout::{used_entries_follow_a_dict, used_entries_follow_a_set};
@@ -69,7 +69,7 @@ pub fn seek_by(bank: &Bank, pass: &mut Pass, o: u32, way: Way, key: Key, hash: u
     used_entries_follow_a_set();
     searches_end_at_the_first_free_slot();
     let root = bank.read_block(pass, o, ROOT);
-    match table_named(root) {
+    match table_at(bank, root) {
         Some(table) => {
             let (found, read) = read_by(bank, pass, o, way, key, hash, table);
             spot_of(table, found, read)

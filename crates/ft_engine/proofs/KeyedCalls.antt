@@ -122,12 +122,12 @@ keyed_copy_outcome objects called v w step.NoMemory copying left x =
 
 -- ---- looks
 
-pub keyed_copy_looked : (k : Shape) (o : ℕ) (some : Picture → Type 0) (called : Call) (v w : View) (answer : Look) → copies called ≡ true → StopsAt o called → IsCopyGlanceOf k o some called v w answer → IsLooked called v w answer
+pub keyed_copy_looked : (k : Shape) (o : ℕ) (some : Picture → Type 0) (called : Call) (v w : View) (answer : Look) → copies called ≡ true → StopsAt v.shape o called → IsCopyGlanceOf k o some called v w answer → IsLooked called v w answer
 keyed_copy_looked k o some called v w (look.Done said stamp) copying stops x = x
 keyed_copy_looked k o some called v w (look.Contended a b) copying stops x = (x.part, x.own, x.loaded, stops a b x.part x.stops, x.looks)
 keyed_copy_looked k o some called v w look.NoMemory copying stops x = (x.0, copying)
 
-pub key_looked : (o : ℕ) (key : Key) (called : Call) (v w : View) (answer : Look) → ((a b : ℕ) (part : List Act) → Stops o key a b part → StopsCall called a b part) → IsLookOf o key called v w answer → IsLooked called v w answer
+pub key_looked : (o : ℕ) (key : Key) (called : Call) (v w : View) (answer : Look) → ((a b : ℕ) (part : List Act) → Stops v.shape o key a b part → StopsCall v.shape called a b part) → IsLookOf o key called v w answer → IsLooked called v w answer
 key_looked o key called v w (look.Done said stamp) stops x = x
 key_looked o key called v w (look.Contended a b) stops x = (x.part, x.own, x.loaded, stops a b x.part x.stops, x.looks)
 key_looked o key called v w look.NoMemory stops x = absurd x

@@ -124,6 +124,10 @@ read_outcome o called v w step.NoMemory left m = absurd m
 tried_nothing : (k : Shape) (class : ℕ) (result : Took) (v w : View) → Tried k class result v w → AddsNothing v w
 tried_nothing k class result v w t = record { pass = stays_same v w t.same; entries = t.keeps.held.entries; left = t.keeps.held.left; cursors = t.same.cursors }
 
+unfloored : (f : Bool) → (f ≡ true → ⊥) → f ≡ false
+unfloored true never = absurd (never refl)
+unfloored false never = refl
+
 -- a taking that found words changed
 moved_by : (k : Shape) (class a b : ℕ) (v w : View) → Tried k class (took.Moved a b) v w → HasMoved a b v w
 moved_by k class a b v w t = record {
@@ -131,8 +135,9 @@ moved_by k class a b v w t = record {
   earlier = same_nothing v;
   class = class;
   after = w;
-  tried = record { mid = t.mid; freed = t.freed; collected = t.collected; acts = t.acts; did = t.did; taking = t.taking; has = t.has; same = t.same; keeps = t.keeps; hands = t.hands };
+  tried = record { mid = t.mid; freed = t.freed; collected = t.collected; acts = t.acts; did = t.did; taking = t.taking; has = t.has; same = t.same; keeps = t.keeps; floor = t.floor; hands = t.hands };
   later = same_nothing w;
+  floor = unfloored v.has_floor t.floor;
 }
 
 -- the same with what came before and after it
@@ -144,6 +149,7 @@ moved_then a b u v w z first m last = record {
   after = m.after;
   tried = m.tried;
   later = nothing_then m.after w z m.later last;
+  floor = sym first.pass.floor ∙ m.floor;
 }
 
 pub retired_nothing : (root : ℕ) (v w : View) → Retires root v w → AddsNothing v w

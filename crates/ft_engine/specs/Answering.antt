@@ -120,8 +120,9 @@ pub record HasNone (b : Bank) (p q : Pass) : Type 0 where
   pub entry : AddsNothing (view p) (view q)
   pub gone : HasLetGo b p q
 
--- The call tried to take a table of a class, and two steps of that found words changed: the count of the class, or one of
--- its free words; or the count wasn't 0, and each free word was. Before and after it adds nothing. (profile)
+-- The call tried to take a table of a class, and two steps of that found words changed: the count of the class, or
+-- one of its free words; or the count wasn't 0, and each free word was. Before and after it adds nothing. The pass
+-- hasn't the floor. (profile)
 pub record HasMoved (first second : ℕ) (v w : View) : Type 0 where
   pub before : View
   pub earlier : AddsNothing v before
@@ -129,6 +130,7 @@ pub record HasMoved (first second : ℕ) (v w : View) : Type 0 where
   pub after : View
   pub tried : Tried before.shape class (took.Moved first second) before after
   pub later : AddsNothing after w
+  pub floor : v.has_floor ≡ false
 
 -- these are the cursors that the pass has by its own entries, and each goes over a container of its kind
 pub record AreHandsOf (k : Shape) (v : View) (hands : List (Option Cursor)) : Type 0 where
@@ -201,8 +203,15 @@ IsTryOf b hands called p q step.NoMemory =
 abbrev pub IsLooked : Call → View → View → Look → Type 0
 IsLooked called v w (look.Done said stamp) = Answered called said stamp.number v w × (stamp.wrote ≡ false)
 IsLooked called v w (look.Contended first second) =
-    (part : List Act) × (w.log ≡ part ++ v.log) × OnlyLoaded v w × StopsCall called first second part × AreLooks part
+    (part : List Act) × (w.log ≡ part ++ v.log) × OnlyLoaded v w × StopsCall v.shape called first second part
+    × AreLooks part
 IsLooked called v w look.NoMemory = OnlyLoaded v w × (copies called ≡ true)
+
+-- it isn't contended
+abbrev pub IsUncontended : Look → Type 0
+IsUncontended (look.Done said stamp) = Unit {0}
+IsUncontended (look.Contended first second) = ⊥
+IsUncontended look.NoMemory = Unit {0}
 
 -- the same of a call that is looked at, or of one that isn't
 abbrev pub Looked : Call → Pass → Pass → Option Look → Type 0

@@ -5,12 +5,13 @@ ghost use Rattle.ft_model.specs.declared.entry.Entry.{Entry as NamedEntry};
 ghost use Rattle.ft_trace.specs.Acts.{announces};
 ghost use Rattle.ft_bank.specs.Passes.{shape_of, view, IsPassOf};
 ghost use Rattle.ft_bank.specs.Sections.{stack_of};
-ghost use Rattle.ft_engine.specs.Answering.{IsLooked, Looked};
+ghost use Rattle.ft_engine.specs.Answering.{IsLooked, IsUncontended, Looked};
 ghost use Rattle.ft_engine.specs.Attempts.{MayAttempt, StaysCaller, after_look, flight_looked, kept_looked};
 ghost use Rattle.ft_engine.specs.Callers.{IsCallerOf, IsIdle, flight_of, pass_of, thread_of};
 ghost use Rattle.ft_engine.specs.Contentions.{may_look};
 ghost use Rattle.ft_engine.specs.Keeping.{IsKept};
 ghost use Rattle.ft_engine.specs.Names.{IsCallIn};
+ghost use Rattle.ft_engine.specs.Resting.{HasFloor};
 
 use crate::caller::{Caller, Flight};
 use crate::dict_call::look_dict;
@@ -120,6 +121,7 @@ impl Engine {
         ensures kept { (mine : List NamedEntry) → IsKept caller.old mine →
             IsKept caller.new (kept_looked (thread_of caller.old) call.now result mine) }
         ensures looked { IsLooked call.now (view (pass_of caller.old)) (view (pass_of caller.new)) result }
+        ensures floor { HasFloor caller.old → IsUncontended result }
     {
         let Some(look) = look_call(&self.bank, &mut caller.pass, alloc, call) else {
             unreachable!();

@@ -16,7 +16,7 @@ use std::alloc::Global;
 use std::sync::Wait;
 
 /// How many tries of a call are followed by a pause in which the thread keeps its processor.
-const SPINS: u32 = 64;
+const SPINS: u32 = 8;
 
 /// What a call that was tried until it was done answers.
 #[derive(Debug, PartialEq, Eq, Drop)]

@@ -1,3 +1,3 @@
-pub mod Rounds
+pub mod TestRounds
 pub mod Reversing
 pub mod Working

@@ -9,7 +9,7 @@ use Rattle.ft_bank.specs.declared.bank.Bank.{Bank}
 use Rattle.ft_bank.specs.declared.pass.Pass.{Pass}
 use Rattle.ft_bank.specs.Passes.{view, IsPassOf}
 use Rattle.ft_bank.specs.Sections.{stack_of, no_sections}
-use Rattle.ft_bank_tests.specs.Rounds.{IsIdle}
+use Rattle.ft_bank_tests.specs.TestRounds.{IsIdle}
 
 -- the container is a list of the bank
 pub record IsListIn (k : Shape) (l : ℕ) : Type 0 where

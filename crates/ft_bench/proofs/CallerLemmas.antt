@@ -3,7 +3,7 @@ use Rattle.std.proofs.Common.{ℕ, suc, List, [], ◌∷◌}
 use Rattle.ft_engine.specs.declared.caller.Caller.{Caller}
 use Rattle.ft_engine.specs.declared.engine.Engine.{Engine}
 use Rattle.ft_engine.specs.Callers.{AreFresh}
-use Rattle.ft_bench.specs.Workers.{AreFree}
+use Rattle.ft_bench.specs.Threads.{AreFree}
 
 pub free_from : (e : Engine) (room i : ℕ) (cs : List Caller) → AreFresh e room i cs → AreFree e cs
 free_from e room i [] are = tt

@@ -1,5 +1,5 @@
 //! Calls of a thread: a call that reads is looked first, and any other, or one that was contended, is called.
-ghost use Rattle.ft_bench.specs.Workers.{IsReady};
+ghost use Rattle.ft_bench.specs.Threads.{IsReady};
 
 use ft_engine::{Called, Caller, Engine};
 use ft_model::{Call, Reply};

@@ -1,5 +1,5 @@
 //! A round in which one thread fills a dict, and the others get the pairs that stood there before.
-ghost use Rattle.ft_bench.specs.Workers.{IsReady};
+ghost use Rattle.ft_bench.specs.Threads.{IsReady};
 
 use crate::course::Course;
 use crate::operation::Operation;

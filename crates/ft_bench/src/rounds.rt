@@ -1,5 +1,5 @@
 //! The rounds of a thread: it goes online, makes its operations, and goes offline.
-ghost use Rattle.ft_bench.specs.Workers.{IsFree, IsReady};
+ghost use Rattle.ft_bench.specs.Threads.{IsFree, IsReady};
 
 use crate::answers::answer;
 use crate::course::Course;

@@ -1,6 +1,6 @@
 //! The engine of a run, with a worker for each thread.
 ghost use Rattle.std.specs.Prelude.{IfOk, IfSome};
-ghost use Rattle.ft_bench.specs.Workers.{AreFree, AreWorkers, IsFree};
+ghost use Rattle.ft_bench.specs.Threads.{AreFree, AreWorkers, IsFree};
 
 use crate::shape::shape_of;
 use crate::stream::operations;

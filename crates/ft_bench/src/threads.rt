@@ -1,5 +1,5 @@
 //! The threads of a run, from meeting to meeting.
-ghost use Rattle.ft_bench.specs.Workers.{AreWorkers, IsFree};
+ghost use Rattle.ft_bench.specs.Threads.{AreWorkers, IsFree};
 
 use crate::answers::are_done;
 use crate::course::Course;

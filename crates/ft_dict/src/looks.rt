@@ -8,7 +8,7 @@ ghost use Rattle.ft_trace.specs.Acts.{announces};
 ghost use Rattle.ft_trace.specs.Addresses.{containers_in};
 ghost use Rattle.ft_trace.specs.LookReplies.{key_reply};
 ghost use Rattle.ft_trace.specs.Worlds.{kind_in};
-ghost use Rattle.ft_bank.specs.Keys.{IsKeyIn};
+ghost use Rattle.ft_bank.specs.KeyHashes.{IsKeyIn};
 ghost use Rattle.ft_bank.specs.Passes.{shape_of, view, IsPassOf};
 ghost use Rattle.ft_bank.specs.Sections.{stack_of};
 ghost use Rattle.ft_keys.specs.declared.walk.Way.TheVariants as way;

@@ -19,7 +19,7 @@ use Rattle.ft_engine.specs.declared.engine.Engine.{Engine}
 use Rattle.ft_engine.specs.Answering.{AddsNothing, HasNone, HasToWait}
 use Rattle.ft_engine.specs.Attempts.{ComesAgain, MayAttempt, flight_after}
 use Rattle.ft_engine.specs.Flights.{IsAnswered, IsNext}
-use Rattle.ft_engine.specs.Names.{FitsSections, IsCallIn}
+use Rattle.ft_engine.specs.Asked.{FitsSections, IsCallIn}
 
 -- as many open sections allow the same calls
 fits_same : (s t : Stack) (called : Call) → length t.sections ≡ length s.sections → FitsSections s called → FitsSections t called

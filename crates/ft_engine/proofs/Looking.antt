@@ -29,7 +29,7 @@ use Rattle.ft_section.specs.declared.answers.Step.TheVariants as step
 use Rattle.ft_section.specs.Floors.{KnewOwners}
 use Rattle.ft_section.specs.Locking.{FoundOwner, OnlyLocked, at_one, waiting, with_own}
 use Rattle.ft_section.specs.Ready.{AreSuspended, InCall, IsMaking, IsReady, IsWaiting, MayTry, NotesTop}
-use Rattle.ft_section.specs.Takings.{IsOwnFor, lower_of, upper_of}
+use Rattle.ft_section.specs.LockTakings.{IsOwnFor, lower_of, upper_of}
 use Rattle.ft_section.specs.Trying.{HasLetGo, SectionsAfter}
 use Rattle.ft_section.proofs.Goings.{notes_top}
 use Rattle.ft_section.proofs.Making.{in_call_stays}

@@ -25,7 +25,7 @@ use Rattle.ft_section.specs.declared.answers.Stamp.{Stamp}
 use Rattle.ft_section.specs.declared.answers.Step.{Step}
 use Rattle.ft_section.specs.declared.answers.Step.TheVariants as step
 use Rattle.ft_section.specs.Locking.{FoundOwner, LocksWithin, OnlyLocked}
-use Rattle.ft_section.specs.Takings.{IsOf}
+use Rattle.ft_section.specs.LockTakings.{IsOf}
 use Rattle.ft_search.specs.Calls.{IsMadeOf, MadeAs, MadeUnderLocks}
 use Rattle.ft_search.specs.Tries.{IsReadOf}
 use Rattle.ft_growth.specs.declared.adding.Added.{Added}

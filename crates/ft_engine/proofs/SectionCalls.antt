@@ -31,7 +31,7 @@ use Rattle.ft_section.specs.Answers.{stamp_of}
 use Rattle.ft_section.specs.Locking.{KeepsLocks, OnlyLocked, with_own}
 use Rattle.ft_section.specs.Ready.{InCall, IsReady, IsStill, MayResume}
 use Rattle.ft_section.specs.Sectioning.{answered_view, begin_of, ended_by, reply_of}
-use Rattle.ft_section.specs.Takings.{HasBoth, HasLocks}
+use Rattle.ft_section.specs.LockTakings.{HasBoth, HasLocks}
 use Rattle.ft_section.proofs.Goings.{only_sees}
 use Rattle.ft_section.proofs.Making.{in_call_stays}
 use Rattle.ft_model.specs.Worlds.{container_of}

@@ -36,7 +36,7 @@ use Rattle.ft_engine.specs.declared.engine.Engine.{Engine}
 use Rattle.ft_engine.specs.declared.caller.Caller.{Caller}
 use Rattle.ft_engine.specs.Answering.{IsLooked, IsUncontended, Looked}
 use Rattle.ft_engine.specs.Contentions.{StopsAtOne, StopsCall, StopsIndex, StopsKeyed, StopsList}
-use Rattle.ft_engine.specs.Names.{AreOfKindIn, IsCallIn, key_of_dict, key_of_set}
+use Rattle.ft_engine.specs.Asked.{AreOfKindIn, IsCallIn, key_of_dict, key_of_set}
 
 -- a look that is contended was without the floor
 abbrev pub StandsWithFloor : View → Option Look → Type 0

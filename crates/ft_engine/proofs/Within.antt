@@ -27,7 +27,7 @@ use Rattle.ft_section.specs.declared.answers.Stamp.{Stamp}
 use Rattle.ft_section.specs.declared.answers.Step.{Step}
 use Rattle.ft_section.specs.declared.answers.Step.TheVariants as step
 use Rattle.ft_section.specs.Locking.{LocksWithin, OnlyLocked}
-use Rattle.ft_section.specs.Takings.{IsOf}
+use Rattle.ft_section.specs.LockTakings.{IsOf}
 use Rattle.ft_search.specs.Calls.{MadeAs}
 use Rattle.ft_growth.specs.Adding.{Retires, Tried}
 use Rattle.ft_closing.proofs.Walked.{walked_plain}

@@ -35,7 +35,7 @@ use Rattle.ft_section.specs.declared.answers.Step.TheVariants as step
 use Rattle.ft_section.specs.Floors.{KnewOwners}
 use Rattle.ft_section.specs.Locking.{FoundOwner, KeepsLower, with_own, waiting}
 use Rattle.ft_section.specs.Ready.{HasTop, IsReady, IsWaiting, MayTry, MayResume}
-use Rattle.ft_section.specs.Takings.{IsOf, lower_of}
+use Rattle.ft_section.specs.LockTakings.{IsOf, lower_of}
 use Rattle.ft_section.specs.Trying.{HasLetGo}
 use Rattle.ft_growth.specs.Adding.{Tried}
 use Rattle.ft_search.specs.Looks.{AreLooks}
@@ -43,7 +43,7 @@ use Rattle.ft_closing.specs.Marks.{walked_after}
 use Rattle.ft_engine.specs.Callers.{AreOver}
 use Rattle.ft_engine.specs.Contentions.{StopsCall, WasContended, may_look}
 use Rattle.ft_engine.specs.Flights.{is_begin, objects_of}
-use Rattle.ft_engine.specs.Names.{FitsSections, IsCallIn}
+use Rattle.ft_engine.specs.Asked.{FitsSections, IsCallIn}
 use Rattle.ft_engine.specs.Keeping.{made_entry, marks_in, marks_after}
 use Rattle.ft_engine.specs.Stacks.{StackAfter}
 

@@ -20,7 +20,7 @@ use Rattle.ft_engine.specs.Callers.{flight_of, left_of}
 use Rattle.ft_engine.specs.Contentions.{WasContended, may_look}
 use Rattle.ft_engine.specs.Flights.{IsAnswered, IsNext}
 use Rattle.ft_engine.specs.Keeping.{kept_entry}
-use Rattle.ft_engine.specs.Names.{FitsSections, IsCallIn}
+use Rattle.ft_engine.specs.Asked.{FitsSections, IsCallIn}
 
 -- ---- what it asks
 

@@ -1,6 +1,6 @@
 pub mod Flights
 pub mod Callers
-pub mod Names
+pub mod Asked
 pub mod Contentions
 pub mod Owning
 pub mod Keeping

@@ -5,7 +5,7 @@ ghost use Rattle.ft_bank.specs.Passes.{view};
 ghost use Rattle.ft_bank.specs.Sections.{stack_of};
 ghost use Rattle.ft_engine.specs.Callers.{hands_of, left_of, pass_of, thread_of};
 ghost use Rattle.ft_engine.specs.Flights.{IsAnswered, IsNext};
-ghost use Rattle.ft_engine.specs.Names.{FitsSections, HasRoomFor};
+ghost use Rattle.ft_engine.specs.Asked.{FitsSections, HasRoomFor};
 
 use ft_bank::Pass;
 use ft_model::{Call, Cursor, Reply};

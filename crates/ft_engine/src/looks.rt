@@ -10,7 +10,7 @@ ghost use Rattle.ft_engine.specs.Attempts.{MayAttempt, StaysCaller, after_look, 
 ghost use Rattle.ft_engine.specs.Callers.{IsCallerOf, IsIdle, flight_of, pass_of, thread_of};
 ghost use Rattle.ft_engine.specs.Contentions.{may_look};
 ghost use Rattle.ft_engine.specs.Keeping.{IsKept};
-ghost use Rattle.ft_engine.specs.Names.{IsCallIn};
+ghost use Rattle.ft_engine.specs.Asked.{IsCallIn};
 ghost use Rattle.ft_engine.specs.Resting.{HasFloor};
 
 use crate::caller::{Caller, Flight};

@@ -5,7 +5,7 @@ ghost use Rattle.ft_trace.specs.Addresses.{containers_in};
 ghost use Rattle.ft_bank.specs.Passes.{shape_of, view};
 ghost use Rattle.ft_engine.specs.Attempts.{MayAttempt};
 ghost use Rattle.ft_engine.specs.Callers.{IsOfKindIn, bank_of, hands_of, pass_of};
-ghost use Rattle.ft_engine.specs.Names.{AreOfKindIn, HasKey, IsCallIn, key_of_dict, key_of_set};
+ghost use Rattle.ft_engine.specs.Asked.{AreOfKindIn, HasKey, IsCallIn, key_of_dict, key_of_set};
 
 use crate::caller::Caller;
 use crate::engine::Engine;

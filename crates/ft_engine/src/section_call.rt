@@ -7,7 +7,7 @@ ghost use Rattle.ft_trace.specs.Addresses.{containers_in};
 ghost use Rattle.ft_bank.specs.Passes.{shape_of, view};
 ghost use Rattle.ft_bank.specs.Sections.{stack_of};
 ghost use Rattle.ft_section.specs.Ready.{IsReady, MayTry};
-ghost use Rattle.ft_section.specs.Takings.{AreIn};
+ghost use Rattle.ft_section.specs.LockTakings.{AreIn};
 ghost use Rattle.ft_engine.specs.Answering.{IsTryOf};
 ghost use Rattle.ft_engine.specs.Flights.{objects_by};
 

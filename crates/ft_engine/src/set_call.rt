@@ -11,7 +11,7 @@ ghost use Rattle.ft_section.specs.Ready.{MayTry};
 ghost use Rattle.ft_engine.specs.Answering.{HasLooked, IsTryOf, Looked};
 ghost use Rattle.ft_engine.specs.Contentions.{may_look};
 ghost use Rattle.ft_engine.specs.Flights.{objects_by};
-ghost use Rattle.ft_engine.specs.Names.{AreOfKindIn, HasKey, key_of_set};
+ghost use Rattle.ft_engine.specs.Asked.{AreOfKindIn, HasKey, key_of_set};
 
 use crate::settling::settle;
 use ft_bank::{Bank, Pass};

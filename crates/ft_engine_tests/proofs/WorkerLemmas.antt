@@ -3,7 +3,7 @@ use Rattle.std.proofs.Common.{ℕ, suc, List, [], ◌∷◌}
 use Rattle.ft_engine.specs.declared.caller.Caller.{Caller}
 use Rattle.ft_engine.specs.declared.engine.Engine.{Engine}
 use Rattle.ft_engine.specs.Callers.{AreFresh}
-use Rattle.ft_engine_tests.specs.Workers.{AreFreeCallers}
+use Rattle.ft_engine_tests.specs.TestCallers.{AreFreeCallers}
 
 pub free_from : (e : Engine) (room i : ℕ) (cs : List Caller) → AreFresh e room i cs → AreFreeCallers e cs
 free_from e room i [] are = tt

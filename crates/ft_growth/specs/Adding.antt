@@ -28,7 +28,7 @@ use Rattle.ft_section.specs.declared.answers.Objects.{Objects}
 use Rattle.ft_section.specs.declared.answers.Step.{Step}
 use Rattle.ft_section.specs.declared.answers.Step.TheVariants as step
 use Rattle.ft_section.specs.Locking.{OnlyLocked, FoundOwner, LocksWithin}
-use Rattle.ft_section.specs.Takings.{HasLocks, IsOf}
+use Rattle.ft_section.specs.LockTakings.{HasLocks, IsOf}
 use Rattle.ft_growth.specs.declared.adding.Added.{Added}
 use Rattle.ft_growth.specs.declared.adding.Added.TheVariants as added
 

@@ -18,7 +18,7 @@ use Rattle.ft_section.specs.declared.answers.Got.TheVariants as got
 use Rattle.ft_section.specs.declared.answers.Objects.{Objects}
 use Rattle.ft_section.specs.Floors.{got_by}
 use Rattle.ft_section.specs.Locking.{with_own as keeping}
-use Rattle.ft_section.specs.Takings.{IsOwnFor, lower_of, upper_of}
+use Rattle.ft_section.specs.LockTakings.{IsOwnFor, lower_of, upper_of}
 use Rattle.ft_engine.specs.declared.caller.Flight.{Flight}
 use Rattle.ft_engine.specs.declared.caller.Flight.TheVariants as flight
 use Rattle.ft_engine.specs.Contentions.{may_look}

@@ -13,7 +13,7 @@ use Rattle.ft_bank.specs.Sections.{stack_of}
 use Rattle.ft_section.specs.Locking.{TakenUp, waiting}
 use Rattle.ft_section.specs.Locking.{with_own as keeping}
 use Rattle.ft_section.specs.Ready.{HasTop, MayResume}
-use Rattle.ft_section.specs.Takings.{IsTaking}
+use Rattle.ft_section.specs.LockTakings.{IsTaking}
 use Rattle.ft_engine.specs.Halves.{KeepsTopLower, KnewTop}
 use Rattle.ft_turns.specs.Orders.{Locking, Machine, ThreadState, finish_try, finished_thread, next_call, take_locks, thread_at, waiting_thread, with_own}
 use Rattle.ft_turns.proofs.MachineSteps.{wanted_again}

@@ -13,7 +13,7 @@ use Rattle.ft_bank.specs.declared.sections.Taking.{Taking}
 use Rattle.ft_bank.specs.Sections.{Stack, noted_in, nothing_taken, taken_in}
 use Rattle.ft_section.specs.Locking.{TakenUp, at_one, waiting}
 use Rattle.ft_section.specs.Locking.{with_own as keeping}
-use Rattle.ft_section.specs.Takings.{IsOwnFor}
+use Rattle.ft_section.specs.LockTakings.{IsOwnFor}
 use Rattle.ft_turns.specs.Orders.{Locking, Machine, OpenSection as TurnSection, ThreadState, answered_machine, answered_thread, finished_machine, finished_thread, fresh_thread, holder_of, innermost_containers, lower_first, next_call, take_locks, thread_at, waiting_machine, waiting_thread, with_own, with_taken}
 use Rattle.ft_turns.proofs.LockLemmas.{bit_of, bit_same, by_lock, held, occ, occ-cons, occ-nil, occ_here, take_all}
 use Rattle.ft_turns.proofs.MachineSteps.{IsTry, there}

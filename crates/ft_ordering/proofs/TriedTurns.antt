@@ -27,7 +27,7 @@ use Rattle.ft_section.specs.declared.answers.Stamp.{Stamp}
 use Rattle.ft_section.specs.declared.answers.Step.TheVariants as step
 use Rattle.ft_section.specs.Floors.{first_owned}
 use Rattle.ft_section.specs.Ready.{HasTop, IsReady, MayResume}
-use Rattle.ft_section.specs.Takings.{lower_of, upper_of}
+use Rattle.ft_section.specs.LockTakings.{lower_of, upper_of}
 use Rattle.ft_engine.specs.declared.attempts.Tried.{Tried}
 use Rattle.ft_engine.specs.declared.attempts.Tried.TheVariants as tried
 use Rattle.ft_engine.specs.declared.caller.Caller.{Caller}
@@ -41,7 +41,7 @@ use Rattle.ft_engine.specs.Contentions.{WasContended, may_look}
 use Rattle.ft_engine.specs.Flights.{IsAnswered, IsIn, objects_of}
 use Rattle.ft_engine.specs.Halves.{HasBothHalves, HasNoAnswer, IsInHalves, IsOfTop, IsTakenUp, WaitsAnswered, WaitsUnanswered}
 use Rattle.ft_engine.specs.Keeping.{IsKept, kept_entry}
-use Rattle.ft_engine.specs.Names.{IsCallIn}
+use Rattle.ft_engine.specs.Asked.{IsCallIn}
 use Rattle.ft_turns.specs.Ends.{after_turns}
 use Rattle.ft_turns.specs.Orders.{Locking, Machine, ThreadState, answered_machine, cursor_containers, finish_try, finished_thread, next_call, take_locks, thread_at, turn, waiting_thread, with_own}
 use Rattle.ft_turns.proofs.MachineSteps.{there, wanted, wanted_again}

@@ -14,7 +14,7 @@ use Rattle.ft_runner.specs.declared.report.Fault.{Fault}
 use Rattle.ft_runner.specs.declared.outcome.Outcome.{Outcome}
 use Rattle.ft_runner.specs.declared.outcome.Outcome.TheVariants as outcome
 use Rattle.ft_runner.specs.declared.report.Report.{Report}
-use Rattle.ft_runner.specs.Causes.{IsCause, IsCheckCause, IsMakeCause, IsReportOn, IsRunCause}
+use Rattle.ft_runner.specs.FaultCauses.{IsCause, IsCheckCause, IsMakeCause, IsReportOn, IsRunCause}
 use Rattle.ft_runner.specs.Checking.{IsPast, IsTooLong, IsWithinLimits}
 use Rattle.ft_runner.specs.Commands.{runs_script}
 use Rattle.ft_runner.specs.Findings.{IsBadAt, IsFound}

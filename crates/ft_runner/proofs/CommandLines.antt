@@ -13,7 +13,7 @@ use Rattle.clap.specs.Faults.{bundle_fault, bundle_step_fault, check_fault, defa
 use Rattle.clap.specs.declared.error.kind.ErrorKind.TheVariants as kind
 use Rattle.clap.proofs.FaultLemmas.{stopped_fault}
 use Rattle.clap.proofs.WalkLemmas.{walk_stopped}
-use Rattle.ft_script.specs.Words.{is_positive}
+use Rattle.ft_script.specs.LineWords.{is_positive}
 use Rattle.ft_runner.specs.Commands.{calls_of, command_of, commanded, made, named, tool, without_mark}
 use Rattle.ft_runner.specs.Internal.Matched.{matched, matched_by}
 use Rattle.ft_runner.specs.declared.command.Subcommand.{Subcommand}

@@ -13,7 +13,7 @@ use Rattle.ft_runner.specs.declared.outcome.Outcome.{Outcome}
 use Rattle.ft_runner.specs.declared.outcome.Outcome.TheVariants as outcome
 use Rattle.ft_runner.specs.declared.report.Fault.TheVariants as fault
 use Rattle.ft_runner.specs.declared.report.Report.{Report}
-use Rattle.ft_runner.specs.Causes.{IsReportOn, IsRunCause}
+use Rattle.ft_runner.specs.FaultCauses.{IsReportOn, IsRunCause}
 use Rattle.ft_runner.specs.Commands.{runs_script}
 use Rattle.ft_runner.specs.Findings.{legal_line}
 use Rattle.ft_runner.specs.Reports.{fault_of, history_of, is_read, storage_of, DoesCheck, DoesRun, IsDone, IsHistoryOf, PutsFor}

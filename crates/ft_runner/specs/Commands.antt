@@ -6,7 +6,7 @@ use Rattle.clap.specs.Simple.{Shape, new_rule, new_shape, on_top}
 use Rattle.clap.specs.Words.{App, Rule, new_app, with_subcommand}
 use Rattle.ft_runner.specs.declared.command.Subcommand.{Subcommand}
 use Rattle.ft_runner.specs.declared.command.Subcommand.TheVariants as subcommand
-use Rattle.ft_script.specs.Words.{is_positive}
+use Rattle.ft_script.specs.LineWords.{is_positive}
 
 -- the subcommand of a word that takes no arguments
 abbrev pub named : List ℕ → Option Subcommand

@@ -1,5 +1,5 @@
 -- What reading keeps between two pieces, what the parser of command lines has met, and what is counted of a history.
 -- Only private functions and proofs cite it: none of it is needed to say what the tool does.
-pub mod Counts
+pub mod Summaries
 pub mod Filling
 pub mod Matched

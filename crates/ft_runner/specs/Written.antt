@@ -7,7 +7,7 @@ use Rattle.ft_model.specs.Tables.{would_pass}
 use Rattle.ft_runner.specs.declared.command.Subcommand.{Subcommand}
 use Rattle.ft_runner.specs.declared.report.Fault.TheVariants as fault
 use Rattle.ft_runner.specs.declared.report.Report.{Report}
-use Rattle.ft_runner.specs.Causes.{IsReportOn}
+use Rattle.ft_runner.specs.FaultCauses.{IsReportOn}
 use Rattle.ft_runner.specs.Checking.{begins_line}
 
 -- a line can begin after the text: it is empty, or ends with a line feed

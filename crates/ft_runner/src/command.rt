@@ -5,7 +5,7 @@ ghost use Rattle.clap.specs.declared.builder.command.Command.TheViews.{out-Comma
 ghost use Rattle.std.specs.Prelude.{◌≡◌, [], false, codes, IfOk, map, option_map, string_bytes};
 ghost use Rattle.ft_runner.specs.Commands.{calls_of, command_of, made, make_shape, named, tool, without_help};
 ghost use Rattle.ft_runner.specs.Internal.Matched.{matched};
-ghost use Rattle.ft_script.specs.Words.{is_positive};
+ghost use Rattle.ft_script.specs.LineWords.{is_positive};
 
 use crate::limits::MOST_MADE;
 use clap::error::ErrorKind;

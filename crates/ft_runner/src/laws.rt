@@ -10,7 +10,7 @@ ghost use Rattle.ft_runner.specs.declared.command.Subcommand.{Subcommand};
 ghost use Rattle.ft_runner.specs.declared.command.Subcommand.TheVariants as subcommand;
 ghost use Rattle.ft_runner.specs.declared.report.Fault.TheVariants as fault;
 ghost use Rattle.ft_runner.specs.declared.report.Report.{Report};
-ghost use Rattle.ft_runner.specs.Causes.{IsCause, IsReportOn};
+ghost use Rattle.ft_runner.specs.FaultCauses.{IsCause, IsReportOn};
 ghost use Rattle.ft_runner.specs.Checking.{IsPast, IsScriptPart, IsWithinLimits};
 ghost use Rattle.ft_runner.specs.Commands.{runs_script};
 ghost use Rattle.ft_runner.specs.Findings.{legal_line, stored, IsBadAt, IsInput, IsVerdictOn};

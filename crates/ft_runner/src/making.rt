@@ -5,7 +5,7 @@ ghost use Rattle.std.specs.List.{flat_map};
 ghost use Rattle.ft_io.specs.Streams.{Stream};
 ghost use Rattle.ft_script.specs.Generator.{made_text};
 ghost use Rattle.ft_runner.specs.declared.command.Subcommand.TheVariants as subcommand;
-ghost use Rattle.ft_runner.specs.Internal.Counts.{is_counted};
+ghost use Rattle.ft_runner.specs.Internal.Summaries.{is_counted};
 ghost use Rattle.ft_runner.specs.Making.{length_in, row_text, summary_text, IsSummary};
 ghost use Rattle.ft_runner.specs.Reports.{ComesTo, IsDone, MeansMade};
 

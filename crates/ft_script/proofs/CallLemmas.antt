@@ -5,7 +5,7 @@ use Rattle.ft_script.specs.Drafts.{Draft}
 use Rattle.ft_script.specs.declared.fault.Fault.{Fault}
 use Rattle.ft_script.specs.declared.fault.LineError.{LineError}
 use Rattle.ft_script.specs.declared.fault.LineError.TheVariants as error
-use Rattle.ft_script.specs.Reading.{past_limit}
+use Rattle.ft_script.specs.ScriptLines.{past_limit}
 use Rattle.ft_script.specs.Internal.Answers.{Fails, Reads, limit_error}
 
 pub limit_reported : (read : Result Call LineError) (new : Draft) (given : Result (Call × Draft) Fault) → Reads read new given → Fails (limit_error read) (past_limit given)

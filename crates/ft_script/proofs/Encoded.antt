@@ -11,7 +11,7 @@ use Rattle.ft_model.specs.Names.{is_text_byte}
 use Rattle.ft_script.specs.declared.lines.Place.{Place}
 use Rattle.ft_script.specs.declared.lines.Place.TheVariants as place
 use Rattle.ft_script.specs.Lines.{ends_thread, first_word, is_escape, is_plain, is_word, joined, lines_of, with_first, words_from, words_of}
-use Rattle.ft_script.specs.Words.{is_string, text_from, text_of, unescaped}
+use Rattle.ft_script.specs.LineWords.{is_string, text_from, text_of, unescaped}
 use Rattle.ft_script.proofs.Kept.{AreGoodWords}
 
 -- ---- cuts at a byte of ASCII

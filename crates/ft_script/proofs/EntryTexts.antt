@@ -22,7 +22,7 @@ use Rattle.ft_model.specs.Scripts.{IsScript, IsThread}
 use Rattle.ft_script.specs.declared.fault.Fault.TheVariants as fault
 use Rattle.ft_script.specs.Internal.Candidates.{thread_call, thread_of, numbered_of, stamp_of, waited_of, reply_of, entry_of, content_of}
 use Rattle.ft_script.specs.Drafts.{or_fault, draft_at, text_place, thread_place}
-use Rattle.ft_script.specs.Reading.{call_in}
+use Rattle.ft_script.specs.ScriptLines.{call_in}
 use Rattle.ft_script.specs.Internal.Readers.{AddsNothing}
 use Rattle.ft_script.specs.Texts.{container_name, thread_name, call_words, reply_text, place_word, stamp_word, mark_words, entry_words, entry_line}
 use Rattle.ft_script.specs.Internal.Tokens.{tokens_of, before_word, after_word}

@@ -14,7 +14,7 @@ use Rattle.ft_script.specs.declared.fault.Fault.{Fault}
 use Rattle.ft_script.specs.declared.fault.ScriptFault.{ScriptFault}
 use Rattle.ft_script.specs.Lines.{ends_thread, is_comment, lines_of, words_of}
 use Rattle.ft_script.specs.Drafts.{empty_draft, end_thread, or_fault, script_of}
-use Rattle.ft_script.specs.Reading.{open_line, read_line, words_line}
+use Rattle.ft_script.specs.ScriptLines.{open_line, read_line, words_line}
 use Rattle.ft_script.specs.Scripts.{line_after, read_lines, reported_at}
 use Rattle.ft_script.specs.Transcripts.{IsWideCall}
 use Rattle.ft_script.proofs.Encoded.{AreEncoded, BeginsNoThread, begins_no_thread, line_good, lines_encoded}

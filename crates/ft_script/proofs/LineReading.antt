@@ -9,7 +9,7 @@ use Rattle.ft_script.specs.declared.fault.ScriptFault.{ScriptFault}
 use Rattle.ft_script.specs.Faults.{no_memory, fault_at}
 use Rattle.ft_script.specs.Internal.Answers.{Fails, Leaves, reported}
 use Rattle.ft_script.specs.Drafts.{◌>>=◌, end_thread}
-use Rattle.ft_script.specs.Reading.{turn, turns, read_line}
+use Rattle.ft_script.specs.ScriptLines.{turn, turns, read_line}
 use Rattle.ft_script.specs.Scripts.{line_after, reported_at, read_lines}
 
 -- ---- names of an `order` line

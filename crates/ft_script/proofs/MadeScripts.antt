@@ -33,10 +33,10 @@ use Rattle.ft_script.specs.CallWords.{call_word_of}
 use Rattle.ft_script.specs.Drafts.{empty_draft, end_thread, script_of}
 use Rattle.ft_script.specs.Generator.{call_by, calls_above, head_words, made_call, made_calls, made_head, made_script, made_text, made_thread, number_at, share, thread_words}
 use Rattle.ft_script.specs.Lines.{ends_thread, is_comment, joined, lines_of, place_after, with_first, words_from, words_of}
-use Rattle.ft_script.specs.Reading.{call_at, call_line, call_of, class_of, container_call, container_line, counted_call, declaration, depth_after, dict_call, heap_line, list_call, open_line, other_statement, plain_statement, read_line, set_call, statement, tables_at, tables_line, tables_by_words, thread_line, thread_statement, unordered_statement, words_line}
+use Rattle.ft_script.specs.ScriptLines.{call_at, call_line, call_of, class_of, container_call, container_line, counted_call, declaration, depth_after, dict_call, heap_line, list_call, open_line, other_statement, plain_statement, read_line, set_call, statement, tables_at, tables_line, tables_by_words, thread_line, thread_statement, unordered_statement, words_line}
 use Rattle.ft_script.specs.Scripts.{line_after, read_lines, read_script, reported_at}
 use Rattle.ft_script.specs.Texts.{call_words, line}
-use Rattle.ft_script.specs.Words.{integer_of, is_wide}
+use Rattle.ft_script.specs.LineWords.{integer_of, is_wide}
 use Rattle.ft_script.proofs.CallTexts.{word_back}
 use Rattle.ft_script.proofs.LineLemmas.{no_lines}
 use Rattle.ft_script.proofs.LineLemmas.{lines_cons as lines_byte}

@@ -24,7 +24,7 @@ use Rattle.ft_script.specs.declared.forms.Argument.{Argument}
 use Rattle.ft_script.specs.declared.forms.Argument.TheVariants as argument
 use Rattle.ft_script.specs.Forms.{call_form}
 use Rattle.ft_script.specs.Texts.{container_name, reply_text, entry_line, line}
-use Rattle.ft_script.specs.Words.{is_wide}
+use Rattle.ft_script.specs.LineWords.{is_wide}
 
 -- ---- entries
 

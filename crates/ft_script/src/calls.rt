@@ -1,6 +1,6 @@
 //! Reads the lines of calls.
 ghost use Rattle.ft_model.specs.Limits.{most_calls};
-ghost use Rattle.ft_script.specs.Reading.{call_at, call_line, call_of, container_call, counted_call, depth_after, dict_call, limit_fault, list_call, set_call};
+ghost use Rattle.ft_script.specs.ScriptLines.{call_at, call_line, call_of, container_call, counted_call, depth_after, dict_call, limit_fault, list_call, set_call};
 ghost use Rattle.ft_script.specs.Internal.Answers.{Leaves, Reads, limit_error, draft_of};
 ghost use Rattle.std.specs.Prelude.{◌≡◌, ◌<◌, map};
 

@@ -5,7 +5,7 @@ ghost use Rattle.ft_script.specs.Internal.Candidates.{content_of, entry_of, numb
 ghost use Rattle.ft_model.specs.Scripts.{IsScript};
 ghost use Rattle.ft_script.specs.Drafts.{container_place, draft_at, or_fault};
 ghost use Rattle.ft_script.specs.Internal.Answers.{Gives, draft_of};
-ghost use Rattle.ft_script.specs.Reading.{call_of};
+ghost use Rattle.ft_script.specs.ScriptLines.{call_of};
 ghost use Rattle.ft_script.specs.Internal.Readers.{AddsNothing, IsReaderOf, IsUnchanged};
 ghost use Rattle.ft_script.specs.Internal.Tokens.{before_word};
 ghost use Rattle.ft_script.specs.Transcripts.{counts, counts_dict, counts_list, counts_set};

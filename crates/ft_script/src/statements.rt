@@ -2,7 +2,7 @@
 ghost use Rattle.ft_model.specs.Classes.{class_count};
 ghost use Rattle.ft_model.specs.Limits.{most_threads};
 ghost use Rattle.ft_script.specs.Internal.Answers.{HasFewThreads, Leaves, LeavesAlways, draft_of};
-ghost use Rattle.ft_script.specs.Reading.{class_of, class_place, container_line, declaration, heap_line, open_line, order_line, other_statement, read_line, statement, tables_at, tables_line, tables_by_words, thread_line, thread_statement, turn, turns, words_line};
+ghost use Rattle.ft_script.specs.ScriptLines.{class_of, class_place, container_line, declaration, heap_line, open_line, order_line, other_statement, read_line, statement, tables_at, tables_line, tables_by_words, thread_line, thread_statement, turn, turns, words_line};
 ghost use Rattle.std.specs.Prelude.{◌≡◌, ◌<◌, ◌≤◌, IfOk, IfSome, OnOk, length, map};
 
 use crate::arguments::index_of;

@@ -1,6 +1,6 @@
 //! What the words of a line say.
 ghost use Rattle.ft_model.specs.Names.{is_container_byte, is_container_name, is_thread_byte, is_thread_name};
-ghost use Rattle.ft_script.specs.Words.{integer_of, is_integer, is_positive, is_string, text_of, unescaped};
+ghost use Rattle.ft_script.specs.LineWords.{integer_of, is_integer, is_positive, is_string, text_of, unescaped};
 ghost use Rattle.std.specs.Prelude.{◌≡◌, ◌<◌, IfOk, length};
 
 use std::alloc::{AllocError, Global};

@@ -14,7 +14,7 @@ ghost use Rattle.ft_trace.specs.Addresses.{containers_in};
 ghost use Rattle.ft_trace.specs.Holds.{held, known};
 ghost use Rattle.ft_trace.specs.Words.{Stands};
 ghost use Rattle.ft_trace.specs.Worlds.{kind_in};
-ghost use Rattle.ft_bank.specs.Keys.{IsKeyIn};
+ghost use Rattle.ft_bank.specs.KeyHashes.{IsKeyIn};
 ghost use Rattle.ft_bank.specs.Passes.{shape_of, view, IsPassOf};
 ghost use Rattle.ft_bank.specs.Series.{DidAll};
 ghost use Rattle.ft_bank.specs.Tables.{name_of, IsTableIn};

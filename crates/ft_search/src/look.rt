@@ -11,7 +11,7 @@ ghost use Rattle.ft_trace.specs.Addresses.{containers_in, IsTable};
 ghost use Rattle.ft_trace.specs.Worlds.{kind_in};
 ghost use Rattle.ft_bank.specs.Passes.{shape_of, view, IsPassOf};
 ghost use Rattle.ft_bank.specs.Series.{DidAll};
-ghost use Rattle.ft_bank.specs.Keys.{IsKeyIn};
+ghost use Rattle.ft_bank.specs.KeyHashes.{IsKeyIn};
 ghost use Rattle.ft_bank.specs.Tables.{name_of, IsTableIn};
 ghost use Rattle.ft_bank.specs.Whole.{OnlyLoaded};
 ghost use Rattle.ft_search.specs.Costs.{LoadsRounds, SpendsRound};

@@ -7,7 +7,7 @@ ghost use Rattle.ft_bank.specs.Sections.{Stack, stack_of, taken_in, noted_in};
 ghost use Rattle.ft_section.specs.Ready.{IsInCall, lock_count};
 ghost use Rattle.ft_section.specs.Locking.{Took, OnlyLocked, KeepsLocks, FoundOwner, KeepsLower, KeepsStack, at_one, with_own};
 ghost use Rattle.ft_section.specs.Floors.{FindsSame, first_found, first_owned, owner_found, owner_of, owner_or};
-ghost use Rattle.ft_section.specs.Takings.{IsOwnFor};
+ghost use Rattle.ft_section.specs.LockTakings.{IsOwnFor};
 ghost use Rattle.ft_trace.specs.Addresses.{containers_in};
 ghost use Rattle.ft_trace.specs.Acts.{has_lock};
 ghost use Rattle.ft_trace.specs.Owners.{LocksOnly};

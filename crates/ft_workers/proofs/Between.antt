@@ -31,7 +31,7 @@ use Rattle.ft_engine.specs.Attempts.{MayAttempt, StaysCaller}
 use Rattle.ft_engine.specs.Callers.{IsCallerOf, IsIdle, bank_of, hands_of, left_of, pass_of, thread_of}
 use Rattle.ft_engine.specs.Flights.{IsNext}
 use Rattle.ft_engine.specs.Keeping.{AreKeptBy, IsKept, kept_entry, pending}
-use Rattle.ft_engine.specs.Names.{FitsSections, IsCallIn}
+use Rattle.ft_engine.specs.Asked.{FitsSections, IsCallIn}
 use Rattle.ft_engine.specs.Visits.{SameWork}
 use Rattle.ft_workers.specs.declared.workers.Worker.{Worker}
 use Rattle.ft_workers.specs.Workers.{AreCallsOn, HasWorked, IsBetween, IsMember, IsOnline}

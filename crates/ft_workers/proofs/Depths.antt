@@ -13,7 +13,7 @@ use Rattle.ft_engine.specs.declared.caller.Caller.{Caller}
 use Rattle.ft_engine.specs.declared.caller.Flight.{Flight}
 use Rattle.ft_engine.specs.Callers.{IsIdle, pass_of, thread_of}
 use Rattle.ft_engine.specs.Keeping.{AreKeptBy, IsKept, mark_count}
-use Rattle.ft_engine.specs.Names.{FitsSections}
+use Rattle.ft_engine.specs.Asked.{FitsSections}
 
 -- ---- depths by calls
 

@@ -12,7 +12,7 @@ use Rattle.ft_script.specs.declared.fault.LineError.TheVariants as error
 use Rattle.ft_script.specs.declared.fault.ScriptFault.{ScriptFault}
 use Rattle.ft_script.specs.declared.fault.Which.TheVariants as which
 use Rattle.ft_script.specs.Faults.{fault_at, no_memory}
-use Rattle.ft_script.specs.Reading.{limit_fault}
+use Rattle.ft_script.specs.ScriptLines.{limit_fault}
 
 -- what a draft of the code says
 abbrev pub draft_of : DraftParts → Draft

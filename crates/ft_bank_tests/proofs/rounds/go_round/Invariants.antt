@@ -1,7 +1,7 @@
 use Rattle.std.proofs.Common.{◌≡◌, ◌≤◌}
 use Rattle.ft_bank.specs.Passes.{view, IsPassOf}
 use Rattle.ft_bank.specs.Sections.{stack_of, no_sections}
-use Rattle.ft_bank_tests.specs.Rounds.{IsIdle, IsOnwards}
+use Rattle.ft_bank_tests.specs.TestRounds.{IsIdle, IsOnwards}
 use Rattle.ft_bank_tests.proofs.rounds.go_round.Given as goal
 
 abbrev pub invariant-loop : goal.invariant-loop

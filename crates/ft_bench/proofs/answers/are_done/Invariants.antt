@@ -1,4 +1,4 @@
-use Rattle.ft_bench.specs.Workers.{IsReady}
+use Rattle.ft_bench.specs.Threads.{IsReady}
 use Rattle.ft_bench.proofs.answers.are_done.Given as goal
 
 abbrev pub invariant-loop-call : goal.invariant-loop-call

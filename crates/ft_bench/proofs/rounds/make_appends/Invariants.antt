@@ -1,4 +1,4 @@
-use Rattle.ft_bench.specs.Workers.{IsReady}
+use Rattle.ft_bench.specs.Threads.{IsReady}
 use Rattle.ft_bench.proofs.rounds.make_appends.Given as goal
 
 abbrev pub invariant-loop : goal.invariant-loop

@@ -1,4 +1,4 @@
-use Rattle.ft_bench.specs.Workers.{AreReady}
+use Rattle.ft_bench.specs.Threads.{AreReady}
 use Rattle.ft_bench.proofs.script.all_turns.Given as goal
 
 abbrev pub invariant-loop-place : goal.invariant-loop-place

@@ -1,7 +1,7 @@
 use Rattle.std.proofs.Common.{◌≡◌, [], ◌∷◌, ◌++◌, subst, sym, ◌∙◌, All}
 use Rattle.std.specs.Vec.Iter.{into_iter_items}
 use Rattle.std.proofs.lemmas.List.Elements.{All-push}
-use Rattle.ft_bench.specs.Workers.{AreFree, IsReady}
+use Rattle.ft_bench.specs.Threads.{AreFree, IsReady}
 use Rattle.ft_bench.proofs.script.enter_all.Goals as goal
 
 pub enter-requires-clause-caller : goal.enter-requires-clause-caller

@@ -1,5 +1,5 @@
 use Rattle.std.specs.Vec.Iter.{into_iter_items}
-use Rattle.ft_bench.specs.Workers.{AreFree, AreReady}
+use Rattle.ft_bench.specs.Threads.{AreFree, AreReady}
 use Rattle.ft_bench.proofs.script.enter_all.Given as goal
 
 abbrev pub invariant-loop-caller : goal.invariant-loop-caller

@@ -1,4 +1,4 @@
-use Rattle.ft_bench.specs.Workers.{AreReady}
+use Rattle.ft_bench.specs.Threads.{AreReady}
 use Rattle.ft_bench.proofs.script.turns_at.Given as goal
 
 abbrev pub invariant-loop-thread : goal.invariant-loop-thread

@@ -1,7 +1,7 @@
 use Rattle.std.proofs.Common.{◌≡◌, List, ◌∷◌, subst, sym, All}
 use Rattle.std.specs.Vec.Iter.{into_iter_items}
 use Rattle.std.proofs.lemmas.List.Elements.{All-push}
-use Rattle.ft_bench.specs.Workers.{AreFree, IsFree}
+use Rattle.ft_bench.specs.Threads.{AreFree, IsFree}
 use Rattle.ft_bench.specs.declared.worker.Worker.{Worker}
 use Rattle.ft_bench.proofs.start.hire.Goals as goal
 

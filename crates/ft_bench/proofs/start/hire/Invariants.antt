@@ -1,5 +1,5 @@
 use Rattle.std.specs.Vec.Iter.{into_iter_items}
-use Rattle.ft_bench.specs.Workers.{AreFree, AreWorkers}
+use Rattle.ft_bench.specs.Threads.{AreFree, AreWorkers}
 use Rattle.ft_bench.proofs.start.hire.Given as goal
 
 abbrev pub invariant-loop-caller : goal.invariant-loop-caller

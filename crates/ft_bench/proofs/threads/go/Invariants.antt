@@ -1,4 +1,4 @@
-use Rattle.ft_bench.specs.Workers.{IsFree}
+use Rattle.ft_bench.specs.Threads.{IsFree}
 use Rattle.ft_bench.proofs.threads.go.Given as goal
 
 abbrev pub invariant-loop : goal.invariant-loop

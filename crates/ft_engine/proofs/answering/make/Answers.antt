@@ -5,7 +5,7 @@ use Rattle.ft_bank.specs.Passes.{shape_of, view}
 use Rattle.ft_engine.specs.Answering.{HasLooked, IsTryOf, MayMake}
 use Rattle.ft_engine.specs.Contentions.{may_look}
 use Rattle.ft_engine.specs.Flights.{objects_of}
-use Rattle.ft_engine.specs.Names.{IsCallIn}
+use Rattle.ft_engine.specs.Asked.{IsCallIn}
 use Rattle.ft_engine.proofs.Callers.{hands_stay, leaves_same}
 use Rattle.ft_engine.proofs.LookFirst.{locked_looked}
 use Rattle.ft_engine.proofs.answering.make.Goals as goal

@@ -7,7 +7,7 @@ use Rattle.ft_section.specs.declared.answers.Objects.TheVariants.{One}
 use Rattle.ft_engine.specs.Answering.{IsTryOf}
 use Rattle.ft_engine.specs.Contentions.{may_look}
 use Rattle.ft_engine.specs.Flights.{objects_by, objects_of}
-use Rattle.ft_engine.specs.Names.{HasRoomFor}
+use Rattle.ft_engine.specs.Asked.{HasRoomFor}
 use Rattle.ft_engine.proofs.Callers.{hands_stay, leaves_same}
 use Rattle.ft_engine.proofs.IterCalls.{iter_set}
 use Rattle.ft_engine.proofs.LookFirst.{locked_looked}

@@ -4,7 +4,7 @@ use Rattle.ft_model.specs.declared.call.Call.{Call}
 use Rattle.ft_bank.specs.Passes.{shape_of}
 use Rattle.ft_engine.specs.Answering.{Looked}
 use Rattle.ft_engine.specs.Contentions.{may_look}
-use Rattle.ft_engine.specs.Names.{IsCallIn}
+use Rattle.ft_engine.specs.Asked.{IsCallIn}
 use Rattle.ft_engine.proofs.looks.look_call.Goals as goal
 
 pub look_dict-requires-clause-names : goal.look_dict-requires-clause-names

@@ -1,5 +1,5 @@
 use Rattle.std.proofs.Common.{◌≡◌, ◌∙◌, true, sym}
-use Rattle.ft_script.specs.Words.{is_positive}
+use Rattle.ft_script.specs.LineWords.{is_positive}
 use Rattle.ft_runner.proofs.CallCounts.{great_calls}
 use Rattle.ft_runner.proofs.command.calls_of.Goals as goal
 

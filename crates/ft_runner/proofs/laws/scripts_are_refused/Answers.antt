@@ -7,7 +7,7 @@ use Rattle.ft_script.specs.Scripts.{read_script}
 use Rattle.ft_runner.specs.declared.report.Fault.{Fault}
 use Rattle.ft_runner.specs.declared.report.Fault.TheVariants as fault
 use Rattle.ft_runner.specs.declared.outcome.Outcome.TheVariants as outcome
-use Rattle.ft_runner.specs.Causes.{IsRunCause}
+use Rattle.ft_runner.specs.FaultCauses.{IsRunCause}
 use Rattle.ft_runner.specs.Reports.{fault_of, refusal_of, IsFirstFault}
 use Rattle.ft_runner.specs.Streams.{script_limit}
 use Rattle.ft_runner.proofs.CauseLemmas.{cause_of, run_cause_of}

@@ -11,7 +11,7 @@ use Rattle.ft_script.specs.Texts.{transcript}
 use Rattle.ft_runner.specs.declared.command.Subcommand.TheVariants as subcommand
 use Rattle.ft_runner.specs.declared.report.Fault.TheVariants as fault
 use Rattle.ft_runner.specs.declared.report.Report.{Report}
-use Rattle.ft_runner.specs.Causes.{IsReportOn}
+use Rattle.ft_runner.specs.FaultCauses.{IsReportOn}
 use Rattle.ft_runner.specs.Checking.{IsSeparator, IsWithinLimits}
 use Rattle.ft_runner.specs.Findings.{legal_line, stored, IsInput}
 use Rattle.ft_runner.specs.Streams.{input_limit, script_limit}

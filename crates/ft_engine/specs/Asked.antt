@@ -14,7 +14,7 @@ use Rattle.ft_model.specs.Calls.{cursor_of_dict, cursor_of_list, cursor_of_set, 
 use Rattle.ft_model.specs.Worlds.{cursor_at}
 use Rattle.ft_trace.specs.declared.Shape.{Shape}
 use Rattle.ft_trace.specs.Addresses.{containers_in}
-use Rattle.ft_bank.specs.Keys.{IsKeyIn}
+use Rattle.ft_bank.specs.KeyHashes.{IsKeyIn}
 use Rattle.ft_bank.specs.Sections.{Stack}
 use Rattle.ft_engine.specs.Callers.{IsOfKindIn}
 

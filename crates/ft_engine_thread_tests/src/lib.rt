@@ -4,8 +4,6 @@
 
 #[cfg(test)]
 mod legal;
-#[cfg(test)]
-mod meeting;
 mod scripts;
 
 pub use crate::scripts::{alike, numbered, repeated};

@@ -50,9 +50,9 @@ module _ (source source' sink sink' : Stream) (text : List ℕ) (has : source.co
   few_of came whole few = omega (arith, ap length whole, ltb-false 4194304 (length came) (sym few))
 
   run_cause : (command : Subcommand) (ended : Outcome) (came put : List ℕ) → Gives source came (is_read ended) source' → PutsFor ended sink put sink' → DoesRun command ended came source' put → IsRunCause text (fault_of ended)
-  run_cause command (outcome.Clean history) came put gives written does =
+  run_cause command (outcome.Clean history closed) came put gives written does =
       let whole = gives_all source source' came text false gives has (does.to_end refl) in
-      (few_of came whole does.too_long, does.means.script, ap read_script (sym whole) ∙ does.means.read)
+      (few_of came whole does.too_long, does.means.0.script, ap read_script (sym whole) ∙ does.means.0.read)
   run_cause command (outcome.Script refused) came put gives written does =
       let whole = gives_all source source' came text false gives has (does.to_end refl) in
       (few_of came whole does.too_long, refused.which, subst (λ bytes. IsFirstFault bytes refused) whole does.means.0)
@@ -61,13 +61,13 @@ module _ (source source' sink sink' : Stream) (text : List ℕ) (has : source.co
       omega (arith, ltb-true 4194304 (length came) (sym does.too_long), ap length there.2, length-append came there.0)
   run_cause command outcome.Memory came put gives written does = tt
   run_cause command outcome.Read came put gives written does = absurd (source_stood gives.faults)
-  run_cause command (outcome.Write history) came put gives written does = absurd (sink_stood written.faults)
+  run_cause command (outcome.Write history closed) came put gives written does = absurd (sink_stood written.faults)
   run_cause command outcome.Usage came put gives written does = absurd does.means
   run_cause command (outcome.NotLegal place rule) came put gives written does = absurd does.means
   run_cause command (outcome.Transcript line) came put gives written does = absurd does.means
 
   check_cause : (ended : Outcome) (came put : List ℕ) → Gives source came (is_read ended) source' → PutsFor ended sink put sink' → DoesCheck ended source came source' put → IsCheckCause text (fault_of ended)
-  check_cause (outcome.Clean history) came put gives written does =
+  check_cause (outcome.Clean history closed) came put gives written does =
       let whole = gives_all source source' came text false gives has (does.to_end refl) in
       (subst IsWithinLimits whole (does.within refl), subst (λ bytes. IsFound bytes verdict.Legal) whole does.means.0)
   check_cause (outcome.NotLegal place rule) came put gives written does =
@@ -82,13 +82,13 @@ module _ (source source' sink sink' : Stream) (text : List ℕ) (has : source.co
   check_cause outcome.TooLong came put gives written does = too_long_text source source' came text false gives has (does.too_long refl)
   check_cause outcome.Memory came put gives written does = tt
   check_cause outcome.Read came put gives written does = absurd (source_stood gives.faults)
-  check_cause (outcome.Write history) came put gives written does = absurd (sink_stood written.faults)
+  check_cause (outcome.Write history closed) came put gives written does = absurd (sink_stood written.faults)
   check_cause outcome.Usage came put gives written does = absurd does.means
 
   make_cause : (IsWhole : List ℕ → Type 0) (ended : Outcome) (came put : List ℕ) → PutsFor ended sink put sink' → DoesMake IsWhole ended source came source' put → IsMakeCause (fault_of ended)
-  make_cause IsWhole (outcome.Clean history) came put written does = tt
+  make_cause IsWhole (outcome.Clean history closed) came put written does = tt
   make_cause IsWhole outcome.Memory came put written does = tt
-  make_cause IsWhole (outcome.Write history) came put written does = absurd (sink_stood written.faults)
+  make_cause IsWhole (outcome.Write history closed) came put written does = absurd (sink_stood written.faults)
   make_cause IsWhole (outcome.Script refused) came put written does = absurd does.means
   make_cause IsWhole outcome.Usage came put written does = absurd does.means
   make_cause IsWhole outcome.Read came put written does = absurd does.means

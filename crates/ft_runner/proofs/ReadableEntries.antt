@@ -1,5 +1,5 @@
 -- Each entry of a legal history of a script that was read is one that a line of a transcript can have.
-use Rattle.std.proofs.Common.{◌≡◌, ◌≢◌, ◌⊎◌, ◌∙◌, ℕ, ℤ, pos, ◌+◌, ◌<◌, ◌≤◌, ◌^◌, Bool, true, false, List, [], ◌∷◌, map, length, get_or, take, Option, Some, None, refl, sym, ap, subst, inl, inr, arith}
+use Rattle.std.proofs.Common.{◌≡◌, ◌≢◌, ◌⊎◌, ◌∙◌, ℕ, ℤ, ◌+◌, ◌<◌, ◌≤◌, ◌^◌, Bool, true, false, List, map, length, get_or, take, Option, Some, None, refl, sym, ap, subst, inl, inr, arith}
 use Rattle.std.specs.Prelude.{All, IfSome, slice_get}
 use Rattle.std.specs.List.{list_any}
 use Rattle.std.specs.Option.{option_map_or}
@@ -26,15 +26,17 @@ use Rattle.ft_model.specs.declared.reply.Raise.{Raise}
 use Rattle.ft_model.specs.declared.reply.Raise.TheVariants as raise
 use Rattle.ft_model.specs.declared.reply.Reply.{Reply}
 use Rattle.ft_model.specs.declared.reply.Reply.TheVariants as reply
+use Rattle.ft_model.specs.declared.script.Kind.{Kind}
 use Rattle.ft_model.specs.declared.script.ScriptParts.{ScriptParts}
 use Rattle.ft_model.specs.declared.script.Thread.{Thread}
 use Rattle.ft_model.specs.Answers.{answer, is_memory, shows}
-use Rattle.ft_model.specs.Worlds.{list_at}
+use Rattle.ft_model.specs.Tables.{IsEarnedReply}
+use Rattle.ft_model.specs.Worlds.{kinds_of, list_at}
 use Rattle.ft_model.specs.Histories.{calls_of, cursors_of, entries_of, has_call_on, hands_at, names, needs_at, writes, world_at, IsAnswered, IsLegal, IsReplied}
 use Rattle.ft_model.specs.Judging.{IsNext}
 use Rattle.ft_model.specs.Keys.{as_value}
 use Rattle.ft_model.specs.Lists.{index_of}
-use Rattle.ft_model.specs.Parts.{IsEntryOf, IsReplyOf}
+use Rattle.ft_model.specs.Parts.{IsReplyOf}
 use Rattle.ft_model.specs.Scripts.{AreStringsOf, IsCallOf, IsKeyOf, IsScript, IsValueOf}
 use Rattle.ft_history.proofs.FewEntries.{few_of_script}
 use Rattle.ft_history.proofs.GoesAfterLemmas.{few_writes}
@@ -49,7 +51,8 @@ use Rattle.ft_turns.proofs.CallFacts.{is_counting, is_counting_dict, is_counting
 use Rattle.ft_turns.proofs.ContentFacts.{GoTogether, IsReplyBy}
 use Rattle.ft_turns.proofs.Going.{asked_of}
 use Rattle.ft_runner.specs.Findings.{stored}
-use Rattle.ft_runner.proofs.WorldLemmas.{changes_where_marked, served_at, HasFairCall, IsFair, IsServed}
+use Rattle.ft_runner.proofs.TableHistories.{counted_low, short_end}
+use Rattle.ft_runner.proofs.WorldLemmas.{changes_where_marked, served_at, IsServed}
 
 -- ---- keys and values
 
@@ -162,6 +165,13 @@ unraised : (n : ℕ) (counted : Bool) (raised : Raise) → is_memory (reply.Rais
 unraised n counted (raise.Memory class) h = absurd (true≢false h)
 unraised n counted other h = record { of_script = tt; wide = tt; readable = tt }
 
+-- a MemoryError that has its cause is of a class
+lacking : (n : ℕ) (counted : Bool) (kinds : List Kind) (tables : List ℕ) (threads : ℕ) (calls : List Call) (mine : List Entry) (called : Call) (said : Reply) → IsEarnedReply kinds tables threads calls mine called said → is_memory said ≡ true → ReplyFits n counted said
+lacking n counted kinds tables threads calls mine called (reply.Raised (raise.Memory class)) earned h = record { of_script = tt; wide = tt; readable = (earned.2.is_class.least, earned.2.is_class.greatest) }
+lacking n counted kinds tables threads calls mine called (reply.Raised raise.Over) earned h = record { of_script = tt; wide = tt; readable = tt }
+lacking n counted kinds tables threads calls mine called (reply.Raised raise.Heap) earned h = absurd earned
+lacking n counted kinds tables threads calls mine called said earned h = absurd (false≢true h)
+
 uncounted : (counted : Bool) (i : ℤ) → (counted ≡ true → IsNoInteger (reply.Value (value.Int i))) → counted ≡ false
 uncounted true i none = absurd (none refl)
 uncounted false i none = refl
@@ -171,20 +181,24 @@ value_reply n counted value.Nothing h none = record { of_script = tt; wide = tt;
 value_reply n counted (value.Int i) h none = record { of_script = h.0; wide = h.1; readable = λ count is. uncounted counted i none }
 value_reply n counted (value.Text symbol) h none = record { of_script = h.0; wide = h.1; readable = tt }
 
-reply_fits : (n : ℕ) (counted : Bool) (said : Reply) → IsReplyBy (KeyFits n) (ValueFits n) (λ _. counted ≡ true) said → (counted ≡ true → IsNoInteger said) → is_memory said ≡ false → IsShortReply said → ReplyFits n counted said
-reply_fits n counted reply.Done h none memory short = record { of_script = tt; wide = tt; readable = tt }
-reply_fits n counted (reply.Value v) h none memory short = value_reply n counted v h none
-reply_fits n counted (reply.Pair k v) h none memory short = record { of_script = (h.0.0, h.1.0); wide = (h.0.1, h.1.1); readable = tt }
-reply_fits n counted (reply.Truth b) h none memory short = record { of_script = tt; wide = tt; readable = tt }
-reply_fits n counted (reply.Count count) h none memory short = record { of_script = tt; wide = tt; readable = (h, short) }
-reply_fits n counted (reply.Dict pairs) h none memory short = record { of_script = λ i d low. ((h i d low).0.0, (h i d low).1.0); wide = λ i d low. ((h i d low).0.1, (h i d low).1.1); readable = tt }
-reply_fits n counted (reply.List items) h none memory short = record { of_script = λ i d low. (h i d low).0; wide = λ i d low. (h i d low).1; readable = tt }
-reply_fits n counted (reply.Set elements) h none memory short = record { of_script = λ i d low. (h i d low).0; wide = λ i d low. (h i d low).1; readable = tt }
-reply_fits n counted reply.Stop h none memory short = record { of_script = tt; wide = tt; readable = tt }
-reply_fits n counted reply.Entered h none memory short = record { of_script = tt; wide = tt; readable = tt }
-reply_fits n counted reply.Kept h none memory short = record { of_script = tt; wide = tt; readable = tt }
-reply_fits n counted (reply.Suspended count) h none memory short = absurd h
-reply_fits n counted (reply.Raised raised) h none memory short = unraised n counted raised memory
+-- a count that a call gives that counts
+abbrev Counts : Bool → ℕ → Type 0
+Counts counted count = (counted ≡ true) × (count < 2 ^ 63)
+
+reply_fits : (n : ℕ) (counted : Bool) (said : Reply) → IsReplyBy (KeyFits n) (ValueFits n) (Counts counted) said → (counted ≡ true → IsNoInteger said) → is_memory said ≡ false → ReplyFits n counted said
+reply_fits n counted reply.Done h none memory = record { of_script = tt; wide = tt; readable = tt }
+reply_fits n counted (reply.Value v) h none memory = value_reply n counted v h none
+reply_fits n counted (reply.Pair k v) h none memory = record { of_script = (h.0.0, h.1.0); wide = (h.0.1, h.1.1); readable = tt }
+reply_fits n counted (reply.Truth b) h none memory = record { of_script = tt; wide = tt; readable = tt }
+reply_fits n counted (reply.Count count) h none memory = record { of_script = tt; wide = tt; readable = h }
+reply_fits n counted (reply.Dict pairs) h none memory = record { of_script = λ i d low. ((h i d low).0.0, (h i d low).1.0); wide = λ i d low. ((h i d low).0.1, (h i d low).1.1); readable = tt }
+reply_fits n counted (reply.List items) h none memory = record { of_script = λ i d low. (h i d low).0; wide = λ i d low. (h i d low).1; readable = tt }
+reply_fits n counted (reply.Set elements) h none memory = record { of_script = λ i d low. (h i d low).0; wide = λ i d low. (h i d low).1; readable = tt }
+reply_fits n counted reply.Stop h none memory = record { of_script = tt; wide = tt; readable = tt }
+reply_fits n counted reply.Entered h none memory = record { of_script = tt; wide = tt; readable = tt }
+reply_fits n counted reply.Kept h none memory = record { of_script = tt; wide = tt; readable = tt }
+reply_fits n counted (reply.Suspended count) h none memory = absurd h
+reply_fits n counted (reply.Raised raised) h none memory = unraised n counted raised memory
 
 ended_fits : (n : ℕ) (said : Reply) → (said ≡ reply.Kept) ⊎ ((count : ℕ) × (said ≡ reply.Suspended count)) → IsShortReply said → ReplyFits n false said
 ended_fits n said (inl kept) short = subst (ReplyFits n false) (sym kept) (record { of_script = tt; wide = tt; readable = tt })
@@ -192,19 +206,20 @@ ended_fits n said (inr suspended) short =
     let low : suspended.0 < 2 ^ 32 = subst IsShortReply suspended.1 short in
     subst (ReplyFits n false) (sym suspended.1) (record { of_script = tt; wide = low; readable = tt })
 
--- what is said is what the plain container says, where no call is out of memory
-plain_is : (n : ℕ) (counted : Bool) (said plain : Reply) → (is_memory said ≡ true) ⊎ (said ≡ plain) → is_memory said ≡ false → (said ≡ plain → ReplyFits n counted said) → ReplyFits n counted said
-plain_is n counted said plain (inl memory) none fits = absurd (true≢false (sym memory ∙ none))
-plain_is n counted said plain (inr is) none fits = fits is
+-- what is said is what the plain container says, or that there is no memory
+plain_is : (n : ℕ) (counted : Bool) (said plain : Reply) → (is_memory said ≡ true) ⊎ (said ≡ plain) → (is_memory said ≡ true → ReplyFits n counted said) → (said ≡ plain → is_memory said ≡ false → ReplyFits n counted said) → ReplyFits n counted said
+plain_is n counted said plain (inl memory) lacks fits = lacks memory
+plain_is n counted said plain (inr is) lacks fits =
+    elim (is_memory said) as (λ b. is_memory said ≡ b → ReplyFits n counted said) [ true ↦ λ memory. lacks memory | false ↦ λ memory. fits is memory ] refl
 
-replied_fits : (n : ℕ) (called : Call) (said plain : Reply) → IsReplied called said plain → is_memory said ≡ false → IsShortReply said → (said ≡ plain → ReplyFits n (counts called) said) → ReplyFits n (counts called) said
-replied_fits n (call.Begin first second) said plain replied memory short fits = subst (ReplyFits n false) (sym replied) (record { of_script = tt; wide = tt; readable = tt })
-replied_fits n call.End said plain replied memory short fits = ended_fits n said replied short
-replied_fits n call.Quiesce said plain replied memory short fits = subst (ReplyFits n false) (sym replied) (record { of_script = tt; wide = tt; readable = tt })
-replied_fits n (call.Dict place dict_call) said plain replied memory short fits = plain_is n _ said plain replied memory fits
-replied_fits n (call.List place list_call) said plain replied memory short fits = plain_is n _ said plain replied memory fits
-replied_fits n (call.Set place set_call) said plain replied memory short fits = plain_is n _ said plain replied memory fits
-replied_fits n (call.Next cursor) said plain replied memory short fits = plain_is n _ said plain replied memory fits
+replied_fits : (n : ℕ) (called : Call) (said plain : Reply) → IsReplied called said plain → (called ≡ call.End → IsShortReply said) → (is_memory said ≡ true → ReplyFits n (counts called) said) → (said ≡ plain → is_memory said ≡ false → ReplyFits n (counts called) said) → ReplyFits n (counts called) said
+replied_fits n (call.Begin first second) said plain replied short lacks fits = subst (ReplyFits n false) (sym replied) (record { of_script = tt; wide = tt; readable = tt })
+replied_fits n call.End said plain replied short lacks fits = ended_fits n said replied (short refl)
+replied_fits n call.Quiesce said plain replied short lacks fits = subst (ReplyFits n false) (sym replied) (record { of_script = tt; wide = tt; readable = tt })
+replied_fits n (call.Dict place dict_call) said plain replied short lacks fits = plain_is n _ said plain replied lacks fits
+replied_fits n (call.List place list_call) said plain replied short lacks fits = plain_is n _ said plain replied lacks fits
+replied_fits n (call.Set place set_call) said plain replied short lacks fits = plain_is n _ said plain replied lacks fits
+replied_fits n (call.Next cursor) said plain replied short lacks fits = plain_is n _ said plain replied lacks fits
 
 -- ---- entries
 
@@ -277,32 +292,34 @@ module _ (script : ScriptParts) (rule : IsScript script) where
             changes = changes_where_marked script entries legal place d low wrote;
           })
 
-      reply_at : (place : ℕ) (entry : Entry) → slice_get entries place ≡ Some entry → IsShortReply entry.reply → ReplyFits (length script.strings) (counts entry.call) entry.reply
-      reply_at place entry at short =
+      few : length entries ≤ 500000
+      few = few_of_script script entries rule (λ thread. let same : length (map (λ (e : Entry). e.call) (entries_of thread entries)) ≡ length (calls_of script thread) = ap length (legal.chronicle.whole.calls thread) in omega (arith, length-map (entries_of thread entries) (λ (e : Entry). e.call)))
+
+      reply_at : (place : ℕ) (entry : Entry) → slice_get entries place ≡ Some entry → ReplyFits (length script.strings) (counts entry.call) entry.reply
+      reply_at place entry at =
           let strings = length script.strings in
           let answered : IsAnswered script entries place entry = legal.chronicle.answered place entry at in
-          let memory : is_memory entry.reply ≡ false = legal.chronicle.earned place entry at in
           let own = own_call place entry at in
           let world = world_at script entries entry.stamp in
           let hands = hands_at script entries entry.thread place in
           let there = served entry.stamp in
-          let counting : is_counting entry.call ≡ true → (count : ℕ) → count ≤ counted_in world entry.call → counts entry.call ≡ true = λ is count le. sym (counts_is entry.call) ∙ is in
-          let plain = plain_answer (KeyFits strings) (ValueFits strings) (λ _. counts entry.call ≡ true) (fit_together strings) world there.contents hands entry.call own.fits (asked_of script.containers world there.kinds (cursors_of script entry.thread) entry.call own.call.names) counting in
+          let counting : is_counting entry.call ≡ true → (count : ℕ) → count ≤ counted_in world entry.call → Counts (counts entry.call) count =
+          λ is count le. (sym (counts_is entry.call) ∙ is, let most = counted_low script entries rule legal place entry at in omega (arith, le, most)) in
+          let plain = plain_answer (KeyFits strings) (ValueFits strings) (Counts (counts entry.call)) (fit_together strings) world there.contents hands entry.call own.fits (asked_of script.containers world there.kinds (cursors_of script entry.thread) entry.call own.call.names) counting in
           let plain_reply = (answer world hands entry.call).reply in
-          replied_fits strings entry.call entry.reply plain_reply answered.reply memory short (λ is.
+          replied_fits strings entry.call entry.reply plain_reply answered.reply (λ ends. short_end script entries rule legal few place entry at ends)
+          (lacking strings (counts entry.call) (kinds_of script.containers) script.tables (length script.threads) (writes (take place entries)) (entries_of entry.thread (take place entries)) entry.call entry.reply (legal.chronicle.earned place entry at))
+          (λ is memory.
           reply_fits strings (counts entry.call) entry.reply
-          (subst (IsReplyBy (KeyFits strings) (ValueFits strings) (λ _. counts entry.call ≡ true)) (sym is) plain.reply)
+          (subst (IsReplyBy (KeyFits strings) (ValueFits strings) (Counts (counts entry.call))) (sym is) plain.reply)
           (λ counted. subst IsNoInteger (sym is) (counted_reply world hands entry.call counted))
-          memory short)
+          memory)
 
-      few : length entries ≤ 500000
-      few = few_of_script script entries rule (λ thread. let same : length (map (λ (e : Entry). e.call) (entries_of thread entries)) ≡ length (calls_of script thread) = ap length (legal.chronicle.whole.calls thread) in omega (arith, length-map (entries_of thread entries) (λ (e : Entry). e.call)))
-
-      pub readable_at : (place : ℕ) (entry : Entry) → slice_get entries place ≡ Some entry → IsShortReply entry.reply → IsReadable script entry
-      readable_at place entry at short =
+      pub readable_at : (place : ℕ) (entry : Entry) → slice_get entries place ≡ Some entry → IsReadable script entry
+      readable_at place entry at =
           let next : IsNext script entries place entry = next_of_legal stored script entries legal place entry at in
           let own = own_call place entry at in
-          let fits = reply_at place entry at short in
+          let fits = reply_at place entry at in
           let within : place < length entries = slice_get_within entries place entry at in
           let made : length (entries_of entry.thread (take place entries)) ≤ place = few_made entries place entry.thread (omega arith) in
           let wrote : length (writes (take place entries)) ≤ place = few_writes entries place (omega arith) in
@@ -324,7 +341,18 @@ module _ (script : ScriptParts) (rule : IsScript script) where
             said = fits.wide;
           }
 
--- all entries are, where no number of a reply is greater than what it counts can be
-pub readable_entries : (script : ScriptParts) → IsScript script → All (λ (thread : Thread). All IsWideCall thread.calls) script.threads → (entries : List Entry) → IsLegal stored script entries → All HasShortReply entries → All (IsReadable script) entries
-readable_entries script rule wide entries legal short place d low =
-    readable_at script rule wide entries legal place (get_or entries place d) (slice_get-get_or entries place d low) (short place d low)
+-- all entries are
+pub readable_entries : (script : ScriptParts) → IsScript script → All (λ (thread : Thread). All IsWideCall thread.calls) script.threads → (entries : List Entry) → IsLegal stored script entries → All (IsReadable script) entries
+readable_entries script rule wide entries legal place d low =
+    readable_at script rule wide entries legal place (get_or entries place d) (slice_get-get_or entries place d low)
+
+-- no number of a reply that a line can have is greater than what it counts can be
+short_reply : (counted : Bool) (said : Reply) → IsReadableReply counted said → IsWideReply said → IsShortReply said
+short_reply counted (reply.Count count) readable wide = readable.1
+short_reply counted (reply.Suspended count) readable wide = wide
+short_reply counted other readable wide = tt
+
+pub short_entries : (script : ScriptParts) (entries : List Entry) → All (IsReadable script) entries → All HasShortReply entries
+short_entries script entries readable place d low =
+    let here = readable place d low in
+    short_reply (counts (get_or entries place d).call) (get_or entries place d).reply here.reply here.said

@@ -1,9 +1,8 @@
 -- The contents that a legal history leaves have lines that a transcript can have.
-use Rattle.std.proofs.Common.{◌≡◌, ◌∙◌, ℕ, ◌+◌, ◌<◌, List, [], ◌∷◌, ◌++◌, map, length, get_or, Some, refl, sym, ap, ap₂, subst, arith}
-use Rattle.std.specs.Prelude.{All, codes, min, slice_get}
-use Rattle.std.specs.List.{flat_map, join_with_byte, zip}
+use Rattle.std.proofs.Common.{◌≡◌, ℕ, ◌<◌, List, [], ◌∷◌, ◌++◌, map, length, get_or, Some, refl, sym, ap, ap₂, subst, arith}
+use Rattle.std.specs.Prelude.{All, codes, slice_get}
+use Rattle.std.specs.List.{join_with_byte, zip}
 use Rattle.std.specs.Option.{option_map_or}
-use Rattle.std.proofs.lemmas.List.{length-map}
 use Rattle.std.proofs.lemmas.List.Elements.{All-map}
 use Rattle.std.proofs.lemmas.List.Folds.{flat_map-map}
 use Rattle.std.proofs.lemmas.Option.{slice_get-get_or}
@@ -21,8 +20,8 @@ use Rattle.ft_model.specs.declared.script.Declaration.{Declaration}
 use Rattle.ft_model.specs.declared.script.ScriptParts.{ScriptParts}
 use Rattle.ft_model.specs.Parts.{IsReplyOf}
 use Rattle.ft_model.specs.Scripts.{IsKeyOf, IsValueOf}
-use Rattle.ft_script.specs.Texts.{braced_text, container_name, content_text, dict_pair_text, element_text, elements_text, key_text, line, pair_text, reply_text, world_line, world_text}
-use Rattle.ft_script.specs.Transcripts.{content_line, fed, IsContentLine, IsWhole, IsWideKey, IsWideReply, IsWideValue}
+use Rattle.ft_script.specs.Texts.{braced_text, container_name, content_text, elements_text, key_text, line, pair_text, reply_text, world_text}
+use Rattle.ft_script.specs.Transcripts.{fed, IsContentLine, IsWhole, IsWideKey, IsWideReply, IsWideValue}
 use Rattle.ft_turns.proofs.ContentFacts.{IsContentBy}
 use Rattle.ft_runner.specs.Findings.{given_lines, world_lines}
 use Rattle.ft_runner.proofs.ReadableEntries.{KeyFits, ValueFits}

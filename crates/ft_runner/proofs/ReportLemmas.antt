@@ -5,10 +5,12 @@ use Rattle.std.specs.declared.alloc.Global.{Global}
 use Rattle.std.specs.List.{flat_map}
 use Rattle.std.proofs.lemmas.Bool.{eqb-false, le-ltb, false≢true, true≢false}
 use Rattle.std.proofs.lemmas.List.{append-nil}
+use Rattle.ft_bank.specs.declared.closed.Closed.{Closed}
 use Rattle.ft_io.specs.Streams.{Stream}
 use Rattle.ft_io.specs.declared.source.Failed.{Failed}
 use Rattle.ft_model.specs.declared.content.Content.{Content}
 use Rattle.ft_model.specs.declared.entry.Entry.{Entry}
+use Rattle.ft_model.specs.declared.entry.Storage.TheVariants as storage
 use Rattle.ft_model.specs.declared.script.ScriptParts.{ScriptParts}
 use Rattle.ft_model.specs.Histories.{writes, world_at, IsLegal}
 use Rattle.ft_script.specs.declared.fault.ScriptFault.{ScriptFault}
@@ -29,9 +31,9 @@ use Rattle.ft_runner.specs.declared.reading.ReadFault.{ReadFault}
 use Rattle.ft_runner.specs.declared.reading.ReadFault.TheVariants as read
 use Rattle.ft_runner.specs.Checking.{IsReadToItsEnd, IsScriptPart, IsWithinLimits, StopsInput}
 use Rattle.ft_runner.specs.Commands.{runs_script}
-use Rattle.ft_runner.specs.Findings.{broken_line, legal_line, stored, IsBadAt, IsFound}
+use Rattle.ft_runner.specs.Findings.{broken_line, legal_line, IsBadAt, IsFound}
 use Rattle.ft_runner.specs.Streams.{Gives, Receives, PutsPrefix, Puts, Reported, StopsReading, IsWholeInput, has_failed, is_too_much}
-use Rattle.ft_runner.specs.Reports.{is_read, is_too_long, is_usage, has_ended, comes_of_text, refusal_of, stopped, ComesTo, Does, DoesMake, DoesRun, IsHistoryOf, IsDone, MeansChecked, MeansMade, MeansRun, PutsFor}
+use Rattle.ft_runner.specs.Reports.{is_read, is_too_long, is_usage, has_ended, comes_of_text, refusal_of, stopped, storage_of, ComesTo, Does, DoesMake, DoesRun, IsHistoryOf, IsDone, Leaves, MeansChecked, MeansMade, MeansRun, PutsFor}
 use Rattle.ft_runner.proofs.OpenLines.{few_fits, fit_in_time}
 use Rattle.ft_runner.proofs.StreamLemmas.{Gives-none, Receives-none}
 
@@ -108,9 +110,9 @@ module _ (source source' sink : Stream) where
 
 -- what comes of bytes that were read whole
 text_outcome : (ended : Outcome) → comes_of_text ended ≡ true → (is_usage ended ≡ false) × (is_read ended ≡ false) × (is_too_long ended ≡ false)
-text_outcome (outcome.Clean history) h = (refl, refl, refl)
+text_outcome (outcome.Clean history closed) h = (refl, refl, refl)
 text_outcome (outcome.Script refused) h = (refl, refl, refl)
-text_outcome (outcome.Write history) h = (refl, refl, refl)
+text_outcome (outcome.Write history closed) h = (refl, refl, refl)
 text_outcome outcome.Memory h = (refl, refl, refl)
 text_outcome outcome.Usage h = absurd (false≢true h)
 text_outcome outcome.Read h = absurd (false≢true h)
@@ -202,21 +204,33 @@ module _ (command : Subcommand) (bytes : List ℕ) where
   pub run_forgotten : (sink : Stream) → ComesTo (MeansRun command bytes) sink sink outcome.Memory
   run_forgotten sink = record { put = []; writing = Receives-none sink; means = inl refl; cause = refl }
 
-  module _ (script : ScriptParts) (history : List Entry) (world : List Content) (read : read_script bytes ≡ Ok script) (legal : IsLegal stored script history) (order : IsOrderRun stored script history) (short : All HasShortReply history) (last : world ≡ world_at script history (length (writes history))) where
+  -- a history of the script, and the contents after its writes
+  pub record IsRun (script : ScriptParts) (history : List Entry) (world : List Content) : Type 0 where
+    pub read : read_script bytes ≡ Ok script
+    pub legal : IsLegal (storage_of command) script history
+    pub order : command ≡ subcommand.Turns → IsOrderRun storage.Plain script history
+    pub short : All HasShortReply history
+    pub last : world ≡ world_at script history (length (writes history))
+
+  module _ (script : ScriptParts) (history : List Entry) (world : List Content) (is : IsRun script history world) where
     abbrev text : List ℕ
     text = flat_map (entry_line script) history ++ world_text script world
 
     history_is : IsHistoryOf command bytes history text
-    history_is = record { script = script; read = read; legal = legal; order = λ turns. order; short = short; written = ap (λ (w : List Content). flat_map (entry_line script) history ++ world_text script w) last }
-
-    pub run_written : (sink sink' : Stream) (made : Vec Entry Global) → made.items ≡ history → Receives sink text false sink' → ComesTo (MeansRun command bytes) sink sink' (outcome.Clean made)
-    run_written sink sink' made is all = record { put = text; writing = all; means = subst (λ (es : List Entry). IsHistoryOf command bytes es text) (sym is) history_is; cause = refl }
-
-    pub run_failed : (sink sink' : Stream) (made : Vec Entry Global) → made.items ≡ history → PutsPrefix sink text true sink' → ComesTo (MeansRun command bytes) sink sink' (outcome.Write made)
-    run_failed sink sink' made is part = record { put = part.prefix; writing = part.receives; means = record { text = text; whole = subst (λ (es : List Entry). IsHistoryOf command bytes es text) (sym is) history_is; prefix = part.is_prefix }; cause = refl }
+    history_is = record { script = script; read = is.read; legal = is.legal; order = is.order; short = is.short; written = ap (λ (w : List Content). flat_map (entry_line script) history ++ world_text script w) is.last }
 
     pub run_short : (sink sink' : Stream) → PutsPrefix sink text false sink' → ComesTo (MeansRun command bytes) sink sink' outcome.Memory
     run_short sink sink' part = record { put = part.prefix; writing = part.receives; means = inr (history, record { text = text; whole = history_is; prefix = part.is_prefix }); cause = refl }
+
+    module _ (sink sink' : Stream) (made : Vec Entry Global) (made_is : made.items ≡ history) (closed : Option Closed) (left : Leaves command bytes history closed) where
+      leaves : Leaves command bytes made.items closed
+      leaves = subst (λ (es : List Entry). Leaves command bytes es closed) (sym made_is) left
+
+      pub run_written : Receives sink text false sink' → ComesTo (MeansRun command bytes) sink sink' (outcome.Clean made closed)
+      run_written all = record { put = text; writing = all; means = (subst (λ (es : List Entry). IsHistoryOf command bytes es text) (sym made_is) history_is, leaves); cause = refl }
+
+      pub run_failed : PutsPrefix sink text true sink' → ComesTo (MeansRun command bytes) sink sink' (outcome.Write made closed)
+      run_failed part = record { put = part.prefix; writing = part.receives; means = (record { text = text; whole = subst (λ (es : List Entry). IsHistoryOf command bytes es text) (sym made_is) history_is; prefix = part.is_prefix }, leaves); cause = refl }
 
 -- ---- what a transcript comes to
 
@@ -237,11 +251,11 @@ pub check_forgotten : (bytes : List ℕ) (sink : Stream) → ComesTo (MeansCheck
 check_forgotten bytes sink = record { put = []; writing = Receives-none sink; means = refl; cause = refl }
 
 module _ (bytes : List ℕ) (sink sink' : Stream) where
-  pub legal_found : (history : Vec Entry Global) → history.items ≡ [] → IsFound bytes verdict.Legal → Receives sink legal_line false sink' → ComesTo (MeansChecked bytes) sink sink' (outcome.Clean history)
-  legal_found history none found all = record { put = legal_line; writing = all; means = (found, none, refl); cause = refl }
+  pub legal_found : (history : Vec Entry Global) → history.items ≡ [] → IsFound bytes verdict.Legal → Receives sink legal_line false sink' → ComesTo (MeansChecked bytes) sink sink' (outcome.Clean history None)
+  legal_found history none found all = record { put = legal_line; writing = all; means = (found, none, refl, refl); cause = refl }
 
-  pub legal_begun : (history : Vec Entry Global) → history.items ≡ [] → IsFound bytes verdict.Legal → PutsPrefix sink legal_line true sink' → ComesTo (MeansChecked bytes) sink sink' (outcome.Write history)
-  legal_begun history none found part = record { put = part.prefix; writing = part.receives; means = (found, none, part.is_prefix); cause = refl }
+  pub legal_begun : (history : Vec Entry Global) → history.items ≡ [] → IsFound bytes verdict.Legal → PutsPrefix sink legal_line true sink' → ComesTo (MeansChecked bytes) sink sink' (outcome.Write history None)
+  legal_begun history none found part = record { put = part.prefix; writing = part.receives; means = (found, none, refl, part.is_prefix); cause = refl }
 
   pub broken_found : (place : ℕ) (rule : Rule) → IsFound bytes (verdict.Not place rule) → Reported sink (broken_line place rule) sink' → ComesTo (MeansChecked bytes) sink sink' (outcome.NotLegal place rule)
   broken_found place rule found (inl all) = record { put = broken_line place rule; writing = inl (refl, all); means = found; cause = refl }
@@ -250,16 +264,16 @@ module _ (bytes : List ℕ) (sink sink' : Stream) where
 -- ---- what a script that is made comes to
 
 module _ (sink sink' : Stream) (text : List ℕ) (history : Vec Entry Global) (none : history.items ≡ []) where
-  pub made_whole : Receives sink text false sink' → ComesTo (MeansMade (λ made. made ≡ text)) sink sink' (outcome.Clean history)
-  made_whole all = record { put = text; writing = all; means = (refl, none); cause = refl }
+  pub made_whole : Receives sink text false sink' → ComesTo (MeansMade (λ made. made ≡ text)) sink sink' (outcome.Clean history None)
+  made_whole all = record { put = text; writing = all; means = (refl, none, refl); cause = refl }
 
-  pub made_part : PutsPrefix sink text true sink' → ComesTo (MeansMade (λ made. made ≡ text)) sink sink' (outcome.Write history)
-  made_part part = record { put = part.prefix; writing = part.receives; means = (text, refl, part.is_prefix, none); cause = refl }
+  pub made_part : PutsPrefix sink text true sink' → ComesTo (MeansMade (λ made. made ≡ text)) sink sink' (outcome.Write history None)
+  made_part part = record { put = part.prefix; writing = part.receives; means = (text, refl, part.is_prefix, none, refl); cause = refl }
 
 -- a text that is whole in another way
 means_made : (IsWhole : List ℕ → Type 0) (made : List ℕ) → IsWhole made → (ended : Outcome) (put : List ℕ) → MeansMade (λ other. other ≡ made) ended put → MeansMade IsWhole ended put
-means_made IsWhole made whole (outcome.Clean history) put means = (subst IsWhole (sym means.0) whole, means.1)
-means_made IsWhole made whole (outcome.Write history) put means = (means.0, subst IsWhole (sym means.1) whole, means.2, means.3)
+means_made IsWhole made whole (outcome.Clean history closed) put means = (subst IsWhole (sym means.0) whole, means.1, means.2)
+means_made IsWhole made whole (outcome.Write history closed) put means = (means.0, subst IsWhole (sym means.1) whole, means.2, means.3, means.4)
 means_made IsWhole made whole outcome.Memory put means = means
 means_made IsWhole made whole (outcome.Script refused) put means = means
 means_made IsWhole made whole outcome.Usage put means = means

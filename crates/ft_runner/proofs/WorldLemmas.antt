@@ -1,5 +1,5 @@
 -- What is said of the keys and values of a legal history's calls is so of those of the contents that it leaves.
-use Rattle.std.proofs.Common.{◌≡◌, ◌∙◌, ℕ, ◌<◌, true, false, cond, List, [], ◌∷◌, map, length, get_or, take, refl, sym}
+use Rattle.std.proofs.Common.{◌≡◌, ◌∙◌, ℕ, true, false, cond, List, [], ◌∷◌, map, length, get_or, take, refl, sym}
 use Rattle.std.specs.Prelude.{All}
 use Rattle.std.specs.List.{fold, filter}
 use Rattle.std.proofs.lemmas.Bool.{and_parts}

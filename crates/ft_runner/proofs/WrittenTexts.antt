@@ -1,9 +1,8 @@
 -- A script's text, the line `---` and the text of a legal history are read as they were written, and found legal.
-use Rattle.std.proofs.Common.{◌≡◌, ◌∙◌, ◌⊎◌, ℕ, zero, suc, ◌+◌, ◌-◌, ◌<◌, ◌≤◌, ◌==◌, ◌&&◌, ◌||◌, Bool, true, false, eqb, List, [], ◌∷◌, ◌++◌, length, get_or, take, drop, Result, Ok, refl, sym, ap, ap₂, subst, inl, inr, arith, append_assoc}
-use Rattle.std.specs.Prelude.{All, codes, min}
+use Rattle.std.proofs.Common.{◌≡◌, ◌∙◌, ℕ, zero, suc, ◌+◌, ◌-◌, ◌<◌, ◌==◌, ◌&&◌, ◌||◌, Bool, true, false, List, [], ◌∷◌, ◌++◌, length, get_or, take, drop, Ok, refl, sym, ap, ap₂, subst, inl, inr, arith, append_assoc}
+use Rattle.std.specs.Prelude.{codes}
 use Rattle.std.specs.List.{flat_map}
-use Rattle.std.specs.Str.{bytes_eq}
-use Rattle.std.proofs.lemmas.Bool.{and_parts, cases_lt, eqb-true, or_cases, true≢false}
+use Rattle.std.proofs.lemmas.Bool.{and_parts, cases_lt, eqb-true, or_cases}
 use Rattle.std.proofs.lemmas.List.{drop_at, drop-append-le, drop-drop, get_or_append_left, get_or-drop, get_or-take, length-append, length-drop, length-take, take_at, take-append-drop, take-append-le, take_more}
 use Rattle.std.proofs.lemmas.Slice.Eq.{bytes_eq-Decides}
 use Rattle.ft_history.specs.declared.verdict.Verdict.TheVariants as verdict
@@ -11,13 +10,11 @@ use Rattle.ft_model.specs.declared.content.Content.{Content}
 use Rattle.ft_model.specs.declared.entry.Entry.{Entry}
 use Rattle.ft_model.specs.declared.script.ScriptParts.{ScriptParts}
 use Rattle.ft_model.specs.Histories.{writes, world_at, IsLegal}
-use Rattle.ft_model.specs.Scripts.{IsScript}
 use Rattle.ft_script.specs.Scripts.{read_script}
 use Rattle.ft_script.specs.Texts.{entry_line, transcript}
 use Rattle.ft_script.specs.Transcripts.{IsTranscript}
 use Rattle.ft_script.proofs.NoSeparator.{no_separator_after, no_separator_first}
 use Rattle.ft_script.proofs.ReadScripts.{script_read, script_wide}
-use Rattle.ft_turns.specs.Replies.{HasShortReply}
 use Rattle.ft_runner.specs.Checking.{begins_line, is_separator, is_separator_at, IsSeparator}
 use Rattle.ft_runner.specs.Findings.{stored, IsInput, IsVerdictOn}
 use Rattle.ft_runner.specs.Written.{checked_text, EndsLine}
@@ -129,7 +126,7 @@ module _ (text : List ℕ) (script : ScriptParts) (read : read_script text ≡ O
 
 -- ---- the history
 
-module _ (text : List ℕ) (script : ScriptParts) (read : read_script text ≡ Ok script) (ended : EndsLine text) (entries : List Entry) (legal : IsLegal stored script entries) (short : All HasShortReply entries) where
+module _ (text : List ℕ) (script : ScriptParts) (read : read_script text ≡ Ok script) (ended : EndsLine text) (entries : List Entry) (legal : IsLegal stored script entries) where
   abbrev left : List Content
   left = world_at script entries (length (writes entries))
 
@@ -139,7 +136,7 @@ module _ (text : List ℕ) (script : ScriptParts) (read : read_script text ≡ O
       let wide = script_wide text script read in
       let there = served script rule wide entries legal (length (writes entries)) in
       record {
-        entries_read = readable_entries script rule wide entries legal short;
+        entries_read = readable_entries script rule wide entries legal;
         world_read = readable_lines script left there.containers there.contents;
         written = ap (λ (contents : List ℕ). flat_map (entry_line script) entries ++ contents) (sym (fed_is_world script left));
       }

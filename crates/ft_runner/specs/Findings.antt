@@ -18,9 +18,9 @@ use Rattle.ft_script.specs.Texts.{world_line}
 use Rattle.ft_script.specs.Transcripts.{IsFirstBad, IsTranscript}
 use Rattle.ft_runner.specs.Checking.{HasNoSeparator, IsSeparator}
 
--- how the containers of histories are stored: plainly, until a command has them on tables
+-- how `check` takes the containers of histories to be stored: on tables, so that MemoryErrors have a place
 abbrev pub stored : Storage
-stored = storage.Plain
+stored = storage.Tables
 
 -- ---- the input
 

@@ -3,8 +3,12 @@ use Rattle.std.specs.Prelude.{◌≡◌, ◌≢◌, ℕ, ◌==◌, Bool, true, f
 use Rattle.std.specs.Fmt.{decimal}
 use Rattle.ft_history.specs.declared.verdict.Verdict.{Verdict}
 use Rattle.ft_history.specs.declared.verdict.Verdict.TheVariants as verdict
+use Rattle.ft_bank.specs.declared.closed.Closed.{Closed}
+use Rattle.ft_bank.specs.Closings.{shape_in}
 use Rattle.ft_io.specs.Streams.{Stream}
 use Rattle.ft_model.specs.declared.entry.Entry.{Entry}
+use Rattle.ft_model.specs.declared.entry.Storage.{Storage}
+use Rattle.ft_model.specs.declared.entry.Storage.TheVariants as storage
 use Rattle.ft_model.specs.declared.script.ScriptParts.{ScriptParts}
 use Rattle.ft_model.specs.Histories.{IsLegal}
 use Rattle.ft_script.specs.declared.fault.ScriptFault.{ScriptFault}
@@ -14,6 +18,8 @@ use Rattle.ft_script.specs.Scripts.{read_script}
 use Rattle.ft_script.specs.Texts.{transcript}
 use Rattle.ft_turns.specs.Orders.{IsOrderRun}
 use Rattle.ft_turns.specs.Replies.{HasShortReply}
+use Rattle.ft_workers.specs.Histories.{HasEntriesOf}
+use Rattle.ft_workers.specs.Workers.{IsBankFor}
 use Rattle.ft_runner.specs.declared.command.Subcommand.{Subcommand}
 use Rattle.ft_runner.specs.declared.command.Subcommand.TheVariants as subcommand
 use Rattle.ft_runner.specs.declared.outcome.Outcome.{Outcome}
@@ -25,7 +31,7 @@ use Rattle.ft_runner.specs.declared.report.Fault.TheVariants as fault
 use Rattle.ft_runner.specs.declared.report.Report.{Report}
 use Rattle.ft_runner.specs.Checking.{most_checked, CanFit, IsReadInTime, IsScriptPart, IsTooLong, IsWithinLimits}
 use Rattle.ft_runner.specs.Commands.{command_of}
-use Rattle.ft_runner.specs.Findings.{broken_line, legal_line, stored, IsBadAt, IsFound}
+use Rattle.ft_runner.specs.Findings.{broken_line, legal_line, IsBadAt, IsFound}
 use Rattle.ft_runner.specs.Making.{IsSummary}
 use Rattle.ft_runner.specs.Streams.{most_read, script_limit, Gives, HasEnded, IsPrefix, Receives, Reported}
 
@@ -33,11 +39,11 @@ use Rattle.ft_runner.specs.Streams.{most_read, script_limit, Gives, HasEnded, Is
 
 -- the fault that is reported
 abbrev pub fault_of : Outcome → Fault
-fault_of (outcome.Clean history) = fault.Clean
+fault_of (outcome.Clean history closed) = fault.Clean
 fault_of (outcome.Script refused) = fault.Script refused.line refused.kind
 fault_of outcome.Usage = fault.Usage
 fault_of outcome.Read = fault.Read
-fault_of (outcome.Write history) = fault.Write
+fault_of (outcome.Write history closed) = fault.Write
 fault_of outcome.Memory = fault.Memory
 fault_of outcome.TooLong = fault.TooLong
 fault_of (outcome.NotLegal place rule) = fault.NotLegal place rule
@@ -45,15 +51,27 @@ fault_of (outcome.Transcript line) = fault.Transcript line
 
 -- the history that is reported, which is empty where none was written
 abbrev pub history_of : Outcome → List Entry
-history_of (outcome.Clean history) = history.items
+history_of (outcome.Clean history closed) = history.items
 history_of (outcome.Script refused) = []
 history_of outcome.Usage = []
 history_of outcome.Read = []
-history_of (outcome.Write history) = history.items
+history_of (outcome.Write history closed) = history.items
 history_of outcome.Memory = []
 history_of outcome.TooLong = []
 history_of (outcome.NotLegal place rule) = []
 history_of (outcome.Transcript line) = []
+
+-- what is reported to be left of the bank, which is nothing where no history was written
+abbrev pub closed_of : Outcome → Option Closed
+closed_of (outcome.Clean history closed) = closed
+closed_of (outcome.Script refused) = None
+closed_of outcome.Usage = None
+closed_of outcome.Read = None
+closed_of (outcome.Write history closed) = closed
+closed_of outcome.Memory = None
+closed_of outcome.TooLong = None
+closed_of (outcome.NotLegal place rule) = None
+closed_of (outcome.Transcript line) = None
 
 -- the status that the program ends with
 abbrev pub status_of : Fault → ℕ
@@ -69,13 +87,13 @@ status_of (fault.Transcript line) = 8
 
 -- the line that the errors get
 abbrev pub error_line : Outcome → List ℕ
-error_line (outcome.Clean history) = []
+error_line (outcome.Clean history closed) = []
 error_line (outcome.Script refused) =
     codes "ftpy: line " ++ decimal refused.line ++ codes ": " ++ decimal refused.kind ++ codes " "
     ++ kind_text refused.kind refused.which ++ codes "\n"
 error_line outcome.Usage = codes "ftpy: usage: run | turns | check | make N [turns]\n"
 error_line outcome.Read = codes "ftpy: read fault\n"
-error_line (outcome.Write history) = codes "ftpy: write fault\n"
+error_line (outcome.Write history closed) = codes "ftpy: write fault\n"
 error_line outcome.Memory = codes "ftpy: want of memory\n"
 error_line outcome.TooLong = codes "ftpy: too long\n"
 error_line (outcome.NotLegal place rule) = []
@@ -96,7 +114,7 @@ is_read outcome.Read = true
 is_read _ = false
 
 abbrev pub is_write : Outcome → Bool
-is_write (outcome.Write history) = true
+is_write (outcome.Write history closed) = true
 is_write _ = false
 
 abbrev pub is_memory : Outcome → Bool
@@ -109,11 +127,11 @@ is_too_long _ = false
 
 -- all input was read, for a command that reads
 abbrev pub has_ended : Outcome → Bool
-has_ended (outcome.Clean history) = true
+has_ended (outcome.Clean history closed) = true
 has_ended (outcome.Script refused) = true
 has_ended outcome.Usage = false
 has_ended outcome.Read = false
-has_ended (outcome.Write history) = true
+has_ended (outcome.Write history closed) = true
 has_ended outcome.Memory = false
 has_ended outcome.TooLong = false
 has_ended (outcome.NotLegal place rule) = true
@@ -121,11 +139,11 @@ has_ended (outcome.Transcript line) = true
 
 -- work on bytes that are there can come to this: no word is wrong, and reading is over
 abbrev pub comes_of_text : Outcome → Bool
-comes_of_text (outcome.Clean history) = true
+comes_of_text (outcome.Clean history closed) = true
 comes_of_text (outcome.Script refused) = true
 comes_of_text outcome.Usage = false
 comes_of_text outcome.Read = false
-comes_of_text (outcome.Write history) = true
+comes_of_text (outcome.Write history closed) = true
 comes_of_text outcome.Memory = true
 comes_of_text outcome.TooLong = false
 comes_of_text (outcome.NotLegal place rule) = true
@@ -148,12 +166,21 @@ reported_of (verdict.Not place rule) = fault.NotLegal place rule
 
 -- ---- a script that is run
 
+-- how the containers of a command's history are stored: under `run` on tables, so that MemoryErrors have a place, and
+-- else plainly
+abbrev pub storage_of : Subcommand → Storage
+storage_of subcommand.Run = storage.Tables
+storage_of subcommand.Turns = storage.Plain
+storage_of subcommand.Check = storage.Plain
+storage_of (subcommand.Make calls) = storage.Plain
+storage_of (subcommand.MakeTurns calls) = storage.Plain
+
 -- the history is one of the script that the bytes are, under `turns` the one of its turns, and this is its text
 pub record IsHistoryOf (command : Subcommand) (bytes : List ℕ) (history : List Entry) (text : List ℕ) : Type 0 where
   pub script : ScriptParts
   pub read : read_script bytes ≡ Ok script
-  pub legal : IsLegal stored script history
-  pub order : command ≡ subcommand.Turns → IsOrderRun stored script history
+  pub legal : IsLegal (storage_of command) script history
+  pub order : command ≡ subcommand.Turns → IsOrderRun storage.Plain script history
   -- no number of a reply is greater than what it counts can be
   pub short : All HasShortReply history
   pub written : text ≡ transcript script history
@@ -164,6 +191,22 @@ pub record IsHistoryBegun (command : Subcommand) (bytes : List ℕ) (history : L
   pub whole : IsHistoryOf command bytes history text
   pub prefix : IsPrefix put text
 
+-- what is left of a bank that was made for the script that the bytes are, and has just the history's entries, marks
+-- aside
+pub record IsLeft (bytes : List ℕ) (history : List Entry) (closed : Closed) : Type 0 where
+  pub script : ScriptParts
+  pub read : read_script bytes ≡ Ok script
+  pub bank : IsBankFor script (shape_in closed)
+  pub entries : HasEntriesOf closed history
+
+-- `run` leaves such a bank, and no other command leaves one
+abbrev pub Leaves : Subcommand → List ℕ → List Entry → Option Closed → Type 0
+Leaves subcommand.Run bytes history closed = (bank : Closed) × (closed ≡ Some bank) × IsLeft bytes history bank
+Leaves subcommand.Turns bytes history closed = closed ≡ None
+Leaves subcommand.Check bytes history closed = closed ≡ None
+Leaves (subcommand.Make calls) bytes history closed = closed ≡ None
+Leaves (subcommand.MakeTurns calls) bytes history closed = closed ≡ None
+
 -- a script's first fault; out of memory is none
 pub record IsFirstFault (bytes : List ℕ) (refused : ScriptFault) : Type 0 where
   pub first : read_script bytes ≡ Err refused
@@ -171,8 +214,10 @@ pub record IsFirstFault (bytes : List ℕ) (refused : ScriptFault) : Type 0 wher
 
 -- what it says of the bytes that came that running them came to this, and of the bytes that were put
 abbrev pub MeansRun : Subcommand → List ℕ → Outcome → List ℕ → Type 0
-MeansRun command came (outcome.Clean history) put = IsHistoryOf command came history.items put
-MeansRun command came (outcome.Write history) put = IsHistoryBegun command came history.items put
+MeansRun command came (outcome.Clean history closed) put =
+    IsHistoryOf command came history.items put × Leaves command came history.items closed
+MeansRun command came (outcome.Write history closed) put =
+    IsHistoryBegun command came history.items put × Leaves command came history.items closed
 MeansRun command came (outcome.Script refused) put = IsFirstFault came refused × (put ≡ [])
 MeansRun command came outcome.Read put = put ≡ []
 MeansRun command came outcome.TooLong put = put ≡ []
@@ -199,10 +244,10 @@ IsScriptFault bytes refused = (text : List ℕ) × IsScriptPart bytes text × Is
 -- what it says of the bytes that came that checking them came to this, and of the bytes that were put; the line of a
 -- broken rule is said apart
 abbrev pub MeansChecked : List ℕ → Outcome → List ℕ → Type 0
-MeansChecked came (outcome.Clean history) put =
-    IsFound came verdict.Legal × (history.items ≡ []) × (put ≡ legal_line)
-MeansChecked came (outcome.Write history) put =
-    IsFound came verdict.Legal × (history.items ≡ []) × IsPrefix put legal_line
+MeansChecked came (outcome.Clean history closed) put =
+    IsFound came verdict.Legal × (history.items ≡ []) × (closed ≡ None) × (put ≡ legal_line)
+MeansChecked came (outcome.Write history closed) put =
+    IsFound came verdict.Legal × (history.items ≡ []) × (closed ≡ None) × IsPrefix put legal_line
 MeansChecked came (outcome.NotLegal place rule) put = IsFound came (verdict.Not place rule)
 MeansChecked came (outcome.Transcript line) put = IsBadAt came line × (put ≡ [])
 MeansChecked came (outcome.Script refused) put = IsScriptFault came refused × (put ≡ [])
@@ -227,9 +272,9 @@ pub record DoesCheck (ended : Outcome) (source : Stream) (came : List ℕ) (sour
 
 -- what it says of the bytes that were put that making came to this; a text that is made is whole as the relation says
 abbrev pub MeansMade : (List ℕ → Type 0) → Outcome → List ℕ → Type 0
-MeansMade IsWhole (outcome.Clean history) put = IsWhole put × (history.items ≡ [])
-MeansMade IsWhole (outcome.Write history) put =
-    (text : List ℕ) × IsWhole text × IsPrefix put text × (history.items ≡ [])
+MeansMade IsWhole (outcome.Clean history closed) put = IsWhole put × (history.items ≡ []) × (closed ≡ None)
+MeansMade IsWhole (outcome.Write history closed) put =
+    (text : List ℕ) × IsWhole text × IsPrefix put text × (history.items ≡ []) × (closed ≡ None)
 MeansMade IsWhole outcome.Memory put = put ≡ []
 MeansMade IsWhole (outcome.Script refused) put = ⊥
 MeansMade IsWhole outcome.Usage put = ⊥
@@ -293,6 +338,7 @@ pub record IsReport (words : List (List ℕ)) (source source' sink sink' errors 
   pub done : IsDone (command_of words) source source' sink sink' ended
   pub fault : report.fault ≡ fault_of ended
   pub history : report.history.items ≡ history_of ended
+  pub closed : report.closed ≡ closed_of ended
   pub status : report.status ≡ status_of report.fault
   -- the errors get the line of the fault; where it has none, they are left alone
   pub reported : Reported errors (error_line ended) errors'

@@ -17,8 +17,8 @@ use ft_model::{Entry, Rule, Script, ScriptParts, Storage, World};
 use ft_script::{TranscriptFault, parse, push_world_line, read_transcript};
 use std::alloc::{AllocError, Global};
 
-/// How the containers of histories are stored: plainly, until a command has them on tables.
-const STORED: Storage = Storage::Plain;
+/// How the containers of histories are taken to be stored: on tables, as `run` has them.
+pub(crate) const STORED: Storage = Storage::Tables;
 
 /// Checks the script and the transcript that the bytes are, the line that parts them beginning at
 /// the separator, and writes what is found.
@@ -139,8 +139,8 @@ fn put_verdict<K: Sink>(alloc: Global, sink: &mut K, verdict: Verdict) -> Outcom
 {
     match verdict {
         Verdict::Legal => match put_all(sink, b"legal\n") {
-            Ok(()) => Outcome::Clean(Vec::new(alloc)),
-            Err(Failed) => Outcome::Write(Vec::new(alloc)),
+            Ok(()) => Outcome::Clean(Vec::new(alloc), None),
+            Err(Failed) => Outcome::Write(Vec::new(alloc), None),
         },
         Verdict::Not(place, rule) => {
             let _ = put_broken(sink, place, rule);

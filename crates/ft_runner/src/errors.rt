@@ -26,7 +26,7 @@ fn put_line<E: Sink>(errors: &mut E, outcome: &Outcome) -> Result<(), Failed>
     ensures untouched { has_line (fault_of outcome.now) ≡ false → errors.new ≡ errors.old }
 {
     match outcome {
-        Outcome::Clean(_) => Ok(()),
+        Outcome::Clean(..) => Ok(()),
         Outcome::NotLegal(..) => Ok(()),
         Outcome::Script(refused) => put_refused(errors, refused),
         Outcome::Usage => put_all(
@@ -34,7 +34,7 @@ fn put_line<E: Sink>(errors: &mut E, outcome: &Outcome) -> Result<(), Failed>
             b"ftpy: usage: run | turns | check | make N [turns]\n",
         ),
         Outcome::Read => put_all(errors, b"ftpy: read fault\n"),
-        Outcome::Write(_) => put_all(errors, b"ftpy: write fault\n"),
+        Outcome::Write(..) => put_all(errors, b"ftpy: write fault\n"),
         Outcome::Memory => put_all(errors, b"ftpy: want of memory\n"),
         Outcome::TooLong => put_all(errors, b"ftpy: too long\n"),
         Outcome::Transcript(line) => {

@@ -15,13 +15,12 @@ ghost use Rattle.ft_runner.specs.Checking.{IsPast, IsScriptPart, IsWithinLimits}
 ghost use Rattle.ft_runner.specs.Commands.{runs_script};
 ghost use Rattle.ft_runner.specs.Findings.{legal_line, stored, IsBadAt, IsInput, IsVerdictOn};
 ghost use Rattle.ft_runner.specs.Streams.{input_limit, script_limit};
-ghost use Rattle.ft_runner.specs.Written.{checked_text, EndsLine, IsWritten};
+ghost use Rattle.ft_runner.specs.Written.{checked_text, EndsLine, IsWritten, StaysOnTables};
 ghost use Rattle.ft_runner.specs.Reports.{fault_of, refusal_of, reported_of};
 ghost use Rattle.ft_script.specs.declared.fault.ScriptFault.{ScriptFault};
 ghost use Rattle.ft_script.specs.Scripts.{read_script};
 ghost use Rattle.ft_script.specs.Texts.{transcript};
-ghost use Rattle.ft_turns.specs.Replies.{HasShortReply};
-ghost use Rattle.std.specs.Prelude.{◌≡◌, ◌<◌, ◌≤◌, ◌⊎◌, ℕ, All, List, Ok, Err, true, length};
+ghost use Rattle.std.specs.Prelude.{◌≡◌, ◌<◌, ◌≤◌, ◌⊎◌, ℕ, List, Ok, Err, true, length};
 
 /// Each report has its cause in the text: a script's first fault, the first line that is none of a
 /// transcript's, the first broken rule, or that it is too long. Memory may run out with any text.
@@ -78,21 +77,29 @@ pub fn bad_lines_are_reported()
 {}
 
 /// A legal history's text has its reading: after a script's text and the line `---` it is the
-/// transcript of its entries and of the contents that they leave, and the verdict on it is legal. No
-/// number of a reply may be greater than what it counts can be.
+/// transcript of its entries and of the contents that they leave, and the verdict on it is legal.
 pub fn legal_histories_are_read_back()
     ensures { (text : List ℕ) (script : ScriptParts) (history : List Entry)
         → read_script text ≡ Ok script → EndsLine text
-        → IsLegal stored script history → All HasShortReply history
+        → IsLegal stored script history
         → (lines : List (List ℕ)) × IsInput (checked_text text (transcript script history)) script history lines
         × IsVerdictOn script history lines verdict.Legal }
 {}
 
-/// What `turns` writes of a script's text, `check` finds legal after that text and the line `---`, and
-/// writes so, unless the whole is too long or memory runs out.
+/// What `run` writes of a script's text, `check` finds legal after that text and the line `---`, and
+/// writes so, unless the whole is too long or memory runs out. So it does with what `turns` writes,
+/// where no call would leave a container with more than the largest table holds: `turns` makes no
+/// MemoryErrors, and `check` has containers on tables.
 pub fn what_is_written_is_found_legal()
-    ensures { (command : Subcommand) (text written : List ℕ) (report : Report)
-        → runs_script command ≡ true → IsWritten command text written → EndsLine text
+    ensures run { (text written : List ℕ) (report : Report)
+        → IsWritten subcommand.Run text written → EndsLine text
+        → length (checked_text text written) ≤ input_limit
+        → (on : IsReportOn subcommand.Check (checked_text text written) report)
+        → ((report.fault ≡ fault.Clean) × (on.sink'.content ≡ added on.sink.content legal_line))
+        ⊎ (report.fault ≡ fault.Memory) }
+    ensures turns { (text written : List ℕ) (script : ScriptParts) (report : Report)
+        → (ran : IsWritten subcommand.Turns text written) → EndsLine text
+        → read_script text ≡ Ok script → StaysOnTables script ran.report.history.items
         → length (checked_text text written) ≤ input_limit
         → (on : IsReportOn subcommand.Check (checked_text text written) report)
         → ((report.fault ≡ fault.Clean) × (on.sink'.content ≡ added on.sink.content legal_line))

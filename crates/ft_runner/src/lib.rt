@@ -16,6 +16,7 @@ mod tool;
 mod writing;
 
 pub use command::Subcommand;
+pub use ft_workers::{Gate, NoGate};
 pub use laws::{
     bad_lines_are_reported, legal_histories_are_read_back, reports_have_their_causes,
     scripts_are_refused, scripts_are_run, transcripts_are_checked, verdicts_are_reported,
@@ -23,4 +24,4 @@ pub use laws::{
 };
 pub use program::run_program;
 pub use report::{Fault, Report};
-pub use tool::{Gate, NoGate, run_still, run_tool};
+pub use tool::{run_still, run_tool};

@@ -53,8 +53,8 @@ fn put_made<K: Sink>(alloc: Global, text: &[u8], sink: &mut K) -> Outcome
     ensures { ComesTo (MeansMade (λ made. made ≡ text.now)) (K.stream sink.old) (K.stream sink.new) result }
 {
     match put_all(sink, text) {
-        Ok(()) => Outcome::Clean(Vec::new(alloc)),
-        Err(Failed) => Outcome::Write(Vec::new(alloc)),
+        Ok(()) => Outcome::Clean(Vec::new(alloc), None),
+        Err(Failed) => Outcome::Write(Vec::new(alloc), None),
     }
 }
 

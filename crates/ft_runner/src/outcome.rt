@@ -1,10 +1,11 @@
 //! What a command has come to, before it is reported. A history stands only where one was written,
 //! and a limit only in the script's fault that passes it.
 ghost use Rattle.std.specs.Prelude.{◌≡◌};
-ghost use Rattle.ft_runner.specs.Reports.{fault_of, history_of, refusal_of, stopped};
+ghost use Rattle.ft_runner.specs.Reports.{closed_of, fault_of, history_of, refusal_of, stopped};
 
 use crate::reading::ReadFault;
 use crate::report::Fault;
+use ft_bank::Closed;
 use ft_model::{Entry, Rule};
 use ft_script::ScriptFault;
 use std::alloc::Global;
@@ -12,16 +13,18 @@ use std::alloc::Global;
 /// What a command has come to.
 #[derive(Drop)]
 pub(crate) enum Outcome {
-    /// All input was read and all output written: the history, which is empty where none is made.
-    Clean(Vec<Entry>),
+    /// All input was read and all output written: the history, which is empty where none is made,
+    /// and what is left of the bank, where the containers were in one.
+    Clean(Vec<Entry>, Option<Closed>),
     /// The text is no script: its first fault.
     Script(ScriptFault),
     /// The words of the command line aren't a command.
     Usage,
     /// The source failed.
     Read,
-    /// The sink failed: the history of which a part was written, empty where none is made.
-    Write(Vec<Entry>),
+    /// The sink failed: the history of which a part was written, empty where none is made, and what
+    /// is left of the bank.
+    Write(Vec<Entry>, Option<Closed>),
     /// Memory ran out.
     Memory,
     /// More came than a script may have, or than a script and a transcript.
@@ -38,11 +41,11 @@ impl Outcome {
         ensures { result ≡ fault_of self.now }
     {
         match self {
-            Outcome::Clean(_) => Fault::Clean,
+            Outcome::Clean(..) => Fault::Clean,
             Outcome::Script(refused) => Fault::Script(refused.line, refused.kind),
             Outcome::Usage => Fault::Usage,
             Outcome::Read => Fault::Read,
-            Outcome::Write(_) => Fault::Write,
+            Outcome::Write(..) => Fault::Write,
             Outcome::Memory => Fault::Memory,
             Outcome::TooLong => Fault::TooLong,
             Outcome::NotLegal(place, rule) => Fault::NotLegal(*place, *rule),
@@ -50,20 +53,21 @@ impl Outcome {
         }
     }
 
-    /// The history, which is empty where there is none.
-    pub(crate) fn into_history(self, alloc: Global) -> Vec<Entry>
-        ensures { result.items ≡ history_of self }
+    /// The history, which is empty where there is none, and what is left of the bank.
+    pub(crate) fn into_parts(self, alloc: Global) -> (Vec<Entry>, Option<Closed>)
+        ensures history { result.0.items ≡ history_of self }
+        ensures closed { result.1 ≡ closed_of self }
     {
         match self {
-            Outcome::Clean(history) => history,
-            Outcome::Write(history) => history,
+            Outcome::Clean(history, closed) => (history, closed),
+            Outcome::Write(history, closed) => (history, closed),
             Outcome::Script(_)
             | Outcome::Usage
             | Outcome::Read
             | Outcome::Memory
             | Outcome::TooLong
             | Outcome::NotLegal(..)
-            | Outcome::Transcript(_) => Vec::new(alloc),
+            | Outcome::Transcript(_) => (Vec::new(alloc), None),
         }
     }
 

@@ -4,8 +4,9 @@ ghost use Rattle.ft_runner.specs.declared.report.Report.{Report};
 ghost use Rattle.std.specs.Prelude.{◌≡◌, map, string_bytes};
 ghost use Rattle.std.specs.Process.{exit_status};
 
-use crate::tool::{NoGate, run_tool};
+use crate::tool::run_tool;
 use ft_io::{Sink, Source};
+use ft_workers::NoGate;
 use std::alloc::Global;
 use std::process::ExitCode;
 use std::sync::Wait;

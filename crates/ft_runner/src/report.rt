@@ -1,4 +1,5 @@
 //! What the tool answers its caller.
+use ft_bank::Closed;
 use ft_model::{Entry, Rule};
 
 /// Why a call of the tool ended as it did.
@@ -55,11 +56,14 @@ impl Fault {
 }
 
 /// What a call of the tool has come to.
-#[derive(Debug, Drop)]
+#[derive(Drop)]
 pub struct Report {
     /// The status that the program ends with, which is the fault's.
     pub status: u8,
     pub fault: Fault,
     /// The history that was written, whole or in part; empty where there is none.
     pub history: Vec<Entry>,
+    /// What is left of the bank in which `run` had the containers: there is one where there is a
+    /// history of `run`.
+    pub closed: Option<Closed>,
 }

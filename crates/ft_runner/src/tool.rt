@@ -3,12 +3,17 @@
 ghost use Rattle.ft_runner.specs.declared.command.Subcommand.TheVariants as subcommand;
 ghost use Rattle.ft_runner.specs.declared.report.Fault.TheVariants as fault;
 ghost use Rattle.ft_runner.specs.declared.command.Subcommand.{Subcommand};
-ghost use Rattle.std.specs.Prelude.{◌≡◌, false, true, Option, Some, map, string_bytes, IfErr, IfNone, IfOk, IfSome};
-ghost use Rattle.ft_runner.specs.Commands.{command_of, runs_script};
+ghost use Rattle.std.specs.Prelude.{◌≡◌, ◌≢◌, false, Ok, Option, Some, length, map, string_bytes, IfErr, IfNone, IfOk, IfSome};
+ghost use Rattle.ft_bank.specs.Closings.{shape_in};
+ghost use Rattle.ft_model.specs.declared.entry.Storage.TheVariants as storage;
+ghost use Rattle.ft_model.specs.Histories.{writes, world_at, IsLegal};
+ghost use Rattle.ft_workers.specs.Histories.{HasEntriesOf};
+ghost use Rattle.ft_workers.specs.Workers.{IsBankFor};
+ghost use Rattle.ft_runner.specs.Commands.{command_of};
 ghost use Rattle.ft_runner.specs.Streams.{Reported};
-ghost use Rattle.ft_runner.specs.Reports.{error_line, fault_of, has_line, history_of, status_of, ComesTo, IsDone, IsReport, MeansRun};
+ghost use Rattle.ft_runner.specs.Reports.{closed_of, error_line, fault_of, has_line, history_of, status_of, ComesTo, IsDone, IsReport, MeansRun};
 
-use crate::checking::check_text;
+use crate::checking::{STORED, check_text};
 use crate::command::{Subcommand, read_command};
 use crate::errors::tell;
 use crate::making::{make, make_turns};
@@ -16,45 +21,47 @@ use crate::outcome::Outcome;
 use crate::reading::{read_all, read_input};
 use crate::report::Report;
 use crate::writing::{WriteFault, write_all};
+use ft_bank::Closed;
+use ft_history::judge_with_world;
 use ft_io::{Sink, Source};
+use ft_model::{Entry, Script, World};
 use ft_script::parse;
 use ft_turns::run_turns;
+use ft_workers::{Gate, run_workers};
 use std::alloc::{AllocError, Global};
 use std::sync::Wait;
 use std::thread::Threads;
 
-/// What is reported of each call that a thread makes, before it and after it. No command calls it yet.
-pub trait Gate: Sync {
-    fn before(&self, thread: u32, index: u32);
-
-    fn after(&self, thread: u32, index: u32);
+/// What threads have made beside each other: their history, what the containers have after it, and
+/// what is left of the bank.
+#[derive(Drop)]
+struct Made {
+    history: Vec<Entry>,
+    world: World,
+    closed: Closed,
 }
 
-/// A gate that does nothing.
-#[derive(Clone, Copy, Debug, Default)]
-pub struct NoGate;
-
-impl Gate for NoGate {
-    fn before(&self, _thread: u32, _index: u32) {}
-
-    fn after(&self, _thread: u32, _index: u32) {}
-}
-
-/// Does what the words of the command line ask, the program's name being the first of them.
+/// Does what the words of the command line ask, the program's name being the first of them. `run`
+/// calls the gate round each call that a thread makes; no other command calls it.
 pub fn run_tool<R: Threads + Wait + Sync, S: Source, K: Sink, E: Sink, G: Gate>(
-    _rt: &R,
+    rt: &R,
     alloc: Global,
     words: &[String],
     source: &mut S,
     sink: &mut K,
     errors: &mut E,
-    _gate: &G,
+    gate: &G,
 ) -> Report
     ensures { IsReport (map string_bytes words.now) (S.stream source.old) (S.stream source.new)
         (K.stream sink.old) (K.stream sink.new) (E.stream errors.old) (E.stream errors.new) result }
 {
-    let outcome = perform(alloc, read_command(alloc, words), source, sink);
-    report(alloc, errors, outcome)
+    match run_still(alloc, words, source, sink, errors) {
+        Some(done) => done,
+        None => {
+            let outcome = run(rt, alloc, source, sink, gate);
+            report(alloc, errors, outcome)
+        }
+    }
 }
 
 /// The whole work of the tool for a command that starts no thread. None where the command is
@@ -73,11 +80,7 @@ pub fn run_still<S: Source, K: Sink, E: Sink>(
     // `run` has a report only where memory ran out before the command was known.
     ensures other { IfSome result (λ report. command_of (map string_bytes words.now) ≡ Some subcommand.Run → report.fault ≡ fault.Memory) }
 {
-    let asked = read_command(alloc, words);
-    if asked == Ok(Some(Subcommand::Run)) {
-        return None;
-    }
-    let outcome = perform(alloc, asked, source, sink);
+    let outcome = perform(alloc, read_command(alloc, words), source, sink)?;
     Some(report(alloc, errors, outcome))
 }
 
@@ -85,38 +88,44 @@ pub fn run_still<S: Source, K: Sink, E: Sink>(
 fn report<E: Sink>(alloc: Global, errors: &mut E, outcome: Outcome) -> Report
     ensures fault { result.fault ≡ fault_of outcome }
     ensures history { result.history.items ≡ history_of outcome }
+    ensures closed { result.closed ≡ closed_of outcome }
     ensures status { result.status ≡ status_of result.fault }
     ensures reported { Reported (E.stream errors.old) (error_line outcome) (E.stream errors.new) }
     ensures untouched { has_line result.fault ≡ false → errors.new ≡ errors.old }
 {
     tell(errors, &outcome);
     let fault = outcome.fault();
+    let (history, closed) = outcome.into_parts(alloc);
     Report {
         status: fault.status(),
         fault,
-        history: outcome.into_history(alloc),
+        history,
+        closed,
     }
 }
 
-/// Does what the words ask, but for the errors' line.
+/// Does what the words ask, but for the errors' line. None where they ask for `run`.
 fn perform<S: Source, K: Sink>(
     alloc: Global,
     asked: Result<Option<Subcommand>, AllocError>,
     source: &mut S,
     sink: &mut K,
-) -> Outcome
-    ensures done { (command : Option Subcommand) → IfOk asked (λ found. found ≡ command)
-        → IsDone command (S.stream source.old) (S.stream source.new) (K.stream sink.old) (K.stream sink.new) result }
-    ensures unknown { IfErr asked (λ e. fault_of result ≡ fault.Memory) }
+) -> Option<Outcome>
+    ensures done { IfSome result (λ outcome. (command : Option Subcommand) → IfOk asked (λ found. found ≡ command)
+        → IsDone command (S.stream source.old) (S.stream source.new) (K.stream sink.old) (K.stream sink.new) outcome) }
+    ensures unknown { IfSome result (λ outcome. IfErr asked (λ e. fault_of outcome ≡ fault.Memory)) }
+    ensures run { IfNone result (asked ≡ Ok (Some subcommand.Run)) }
+    ensures other { IfSome result (λ outcome. asked ≢ Ok (Some subcommand.Run)) }
+    ensures untouched { IfNone result ((source.new ≡ source.old) × (sink.new ≡ sink.old)) }
 {
     match asked {
-        Ok(Some(Subcommand::Run)) => run(alloc, source, sink),
-        Ok(Some(Subcommand::Turns)) => run(alloc, source, sink),
-        Ok(Some(Subcommand::Check)) => check(alloc, source, sink),
-        Ok(Some(Subcommand::Make(calls))) => make(alloc, calls, sink),
-        Ok(Some(Subcommand::MakeTurns(calls))) => make_turns(alloc, calls, sink),
-        Ok(None) => Outcome::Usage,
-        Err(AllocError) => Outcome::Memory,
+        Ok(Some(Subcommand::Run)) => None,
+        Ok(Some(Subcommand::Turns)) => Some(turns(alloc, source, sink)),
+        Ok(Some(Subcommand::Check)) => Some(check(alloc, source, sink)),
+        Ok(Some(Subcommand::Make(calls))) => Some(make(alloc, calls, sink)),
+        Ok(Some(Subcommand::MakeTurns(calls))) => Some(make_turns(alloc, calls, sink)),
+        Ok(None) => Some(Outcome::Usage),
+        Err(AllocError) => Some(Outcome::Memory),
     }
 }
 
@@ -130,20 +139,19 @@ fn check<S: Source, K: Sink>(alloc: Global, source: &mut S, sink: &mut K) -> Out
     }
 }
 
-/// Reads a script, and runs it. The calls of all threads are made on this one yet.
-fn run<S: Source, K: Sink>(alloc: Global, source: &mut S, sink: &mut K) -> Outcome
-    ensures { (command : Subcommand) → runs_script command ≡ true
-        → IsDone (Some command) (S.stream source.old) (S.stream source.new) (K.stream sink.old) (K.stream sink.new) result }
+/// Reads a script, and runs it in the order of its turns.
+fn turns<S: Source, K: Sink>(alloc: Global, source: &mut S, sink: &mut K) -> Outcome
+    ensures { IsDone (Some subcommand.Turns) (S.stream source.old) (S.stream source.new) (K.stream sink.old) (K.stream sink.new) result }
 {
     match read_all(alloc, source) {
-        Ok(bytes) => run_text(alloc, &bytes, sink),
+        Ok(bytes) => turns_text(alloc, &bytes, sink),
         Err(fault) => Outcome::stopped(fault),
     }
 }
 
-/// Runs the script that the bytes are, and writes its history.
-fn run_text<K: Sink>(alloc: Global, bytes: &[u8], sink: &mut K) -> Outcome
-    ensures { (command : Subcommand) → ComesTo (MeansRun command bytes.now) (K.stream sink.old) (K.stream sink.new) result }
+/// Runs the script that the bytes are in the order of its turns, and writes its history.
+fn turns_text<K: Sink>(alloc: Global, bytes: &[u8], sink: &mut K) -> Outcome
+    ensures { ComesTo (MeansRun subcommand.Turns bytes.now) (K.stream sink.old) (K.stream sink.new) result }
 {
     let script = match parse(alloc, bytes) {
         Ok(script) => script,
@@ -153,8 +161,70 @@ fn run_text<K: Sink>(alloc: Global, bytes: &[u8], sink: &mut K) -> Outcome
         return Outcome::Memory;
     };
     match write_all(alloc, sink, &script, &run.entries, &run.world) {
-        Ok(()) => Outcome::Clean(run.entries),
-        Err(WriteFault::Failed) => Outcome::Write(run.entries),
+        Ok(()) => Outcome::Clean(run.entries, None),
+        Err(WriteFault::Failed) => Outcome::Write(run.entries, None),
         Err(WriteFault::Memory) => Outcome::Memory,
     }
+}
+
+/// Reads a script, and runs its threads beside each other.
+fn run<R: Threads + Wait + Sync, S: Source, K: Sink, G: Gate>(
+    rt: &R,
+    alloc: Global,
+    source: &mut S,
+    sink: &mut K,
+    gate: &G,
+) -> Outcome
+    ensures { IsDone (Some subcommand.Run) (S.stream source.old) (S.stream source.new) (K.stream sink.old) (K.stream sink.new) result }
+{
+    match read_all(alloc, source) {
+        Ok(bytes) => run_text(rt, alloc, &bytes, sink, gate),
+        Err(fault) => Outcome::stopped(fault),
+    }
+}
+
+/// Runs the threads of the script that the bytes are beside each other, and writes their history.
+fn run_text<R: Threads + Wait + Sync, K: Sink, G: Gate>(
+    rt: &R,
+    alloc: Global,
+    bytes: &[u8],
+    sink: &mut K,
+    gate: &G,
+) -> Outcome
+    ensures { ComesTo (MeansRun subcommand.Run bytes.now) (K.stream sink.old) (K.stream sink.new) result }
+{
+    let script = match parse(alloc, bytes) {
+        Ok(script) => script,
+        Err(refused) => return Outcome::refused(refused),
+    };
+    let Ok(made) = run_threads(rt, alloc, &script, gate) else {
+        return Outcome::Memory;
+    };
+    match write_all(alloc, sink, &script, &made.history, &made.world) {
+        Ok(()) => Outcome::Clean(made.history, Some(made.closed)),
+        Err(WriteFault::Failed) => Outcome::Write(made.history, Some(made.closed)),
+        Err(WriteFault::Memory) => Outcome::Memory,
+    }
+}
+
+/// Runs the threads of a script beside each other. The contents in the end are those of plain
+/// containers after the history's writes.
+fn run_threads<R: Threads + Wait + Sync, G: Gate>(
+    rt: &R,
+    alloc: Global,
+    script: &Script,
+    gate: &G,
+) -> Result<Made, AllocError>
+    ensures legal { IfOk result (λ made. IsLegal storage.Tables script.now made.history.items) }
+    ensures world { IfOk result (λ made. made.world ≡ world_at script.now made.history.items (length (writes made.history.items))) }
+    ensures bank { IfOk result (λ made. IsBankFor script.now (shape_in made.closed)) }
+    ensures entries { IfOk result (λ made. HasEntriesOf made.closed made.history.items) }
+{
+    let ran = run_workers(rt, alloc, script, gate)?;
+    let judged = judge_with_world(alloc, STORED, script, &ran.history)?;
+    Ok(Made {
+        history: ran.history,
+        world: judged.world,
+        closed: ran.closed,
+    })
 }

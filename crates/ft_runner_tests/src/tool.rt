@@ -1,7 +1,10 @@
 //! The tool over streams in memory. The expected texts are worked out by hand, but for those of the
 //! last ten runs: they are what a second model of the turns gives, written apart from this one.
 
+mod faults;
 mod making;
+mod meeting;
+mod running;
 
 use ft_io::{MemSink, MemSource};
 use ft_model::Rule;
@@ -227,6 +230,8 @@ fn check<R: Threads + Wait + Sync + Abort + AllocGlobal>(rt: &R, case: &Case) ->
     assert_eq!(rt; report.status, case.status, "at {:?}", case.input);
     assert_eq!(rt; report.fault, case.fault, "at {:?}", case.input);
     assert_eq!(rt; report.history.len(), case.entries, "at {:?}", case.input);
+    let is_left = case.command == "run" && (case.status == 0 || case.status == 4);
+    assert_eq!(rt; report.closed.is_some(), is_left, "at {:?}", case.input);
     assert_eq!(rt; sink.bytes(), case.put.as_bytes(), "at {:?}", case.input);
     assert_eq!(rt;
         errors.bytes(),
@@ -637,6 +642,14 @@ fn call_still(alloc: Global, command: &str, input: Vec<u8>) -> Result<Called, Fa
     })
 }
 
+/// Has a transcript checked against its script.
+fn call_check(alloc: Global, script: &str, transcript: &[u8]) -> Result<Called, Fail> {
+    let mut input = script.as_bytes().to_vec(alloc)?;
+    input.extend_from_slice(b"---\n")?;
+    input.extend_from_slice(transcript)?;
+    call_still(alloc, "check", input)
+}
+
 #[test]
 fn more_than_is_taken_is_too_long(rt: HostRuntime) -> Result<(), Fail> {
     let alloc = rt.alloc();
@@ -759,10 +772,7 @@ fn a_long_script_is_run_and_checked(rt: HostRuntime) -> Result<(), Fail> {
     assert_eq!(rt; count_of(&run.put, b':'), 4000);
     assert_eq!(rt; count_of(&run.put, b'\n'), 2002);
 
-    let mut input = text.as_bytes().to_vec(alloc)?;
-    input.extend_from_slice(b"---\n")?;
-    input.extend_from_slice(&run.put)?;
-    let checked = call_still(alloc, "check", input)?;
+    let checked = call_check(alloc, text.as_str(), &run.put)?;
     assert_eq!(rt; checked.put.as_slice(), b"legal\n".as_slice());
     Ok(())
 }

@@ -1,11 +1,8 @@
 //! A gate at which two threads meet, so that their calls come in one order.
 
+use super::running::call_run;
 use crossbeam_utils::Backoff;
-use ft_history::{Verdict, judge_with_world};
-use ft_model::{Content, Entry, Storage, Value};
-use ft_script::parse;
-use ft_workers::{Gate, run_workers};
-use std::process::Abort;
+use ft_runner::Gate;
 use std::sync::atomic::{AtomicU64, Ordering};
 use std::test::Fail;
 
@@ -71,13 +68,13 @@ impl Gate for Meeting {
     }
 }
 
-/// Whether the entries are those of these threads and indexes, in this order.
-fn come_so(entries: &[Entry], order: &[(u32, u32)]) -> bool {
-    entries.len() == order.len()
-        && entries.iter().zip(order).all(|(entry, place)| entry.thread == place.0
-            && entry.index == place.1)
-}
+/// Thread 0 waits for the first call of thread 1, whose second call waits for that of thread 0.
+const SCRIPT: &str = "list l\nthread A\nappend l 1\nthread B\nappend l 2\nappend l 3\n";
 
+const TEXT: &str =
+    "B.1 w0 append l 2 = ok\nA.1 w1 append l 1 = ok\nB.2 w2 append l 3 = ok\nl = [2, 1, 3]\n";
+
+// A tool that makes all calls in one thread, in whatever order, holds that thread in vain.
 #[test]
 fn a_gate_holds_two_threads(rt: HostRuntime) -> Result<(), Fail> {
     let gate = Meeting {
@@ -87,22 +84,13 @@ fn a_gate_holds_two_threads(rt: HostRuntime) -> Result<(), Fail> {
         second_answered: AtomicU64::new(0),
         wrong: AtomicU64::new(0),
     };
-    let text = "list l\nthread A\nappend l 1\nthread B\nappend l 2\nappend l 3\n";
-    let script = parse(rt.alloc(), text.as_bytes())?;
-    let ran = run_workers(&rt, rt.alloc(), &script, &gate)?;
-    let entries = ran.history.as_slice();
-    assert!(rt; come_so(entries, &[(1, 1), (0, 1), (1, 2)]));
+    let run = call_run(&rt, SCRIPT, &gate)?;
+    assert_eq!(rt; run.status, 0);
+    assert_eq!(rt; run.put.as_slice(), TEXT.as_bytes());
     assert_eq!(rt; gate.wrong.load(Ordering::SeqCst), 0);
     assert_eq!(rt; gate.first_came.load(Ordering::SeqCst), 1);
     assert_eq!(rt; gate.first_answered.load(Ordering::SeqCst), 1);
     assert_eq!(rt; gate.second_came.load(Ordering::SeqCst), 2);
     assert_eq!(rt; gate.second_answered.load(Ordering::SeqCst), 2);
-    let judged = judge_with_world(rt.alloc(), Storage::Tables, &script, entries)?;
-    assert_eq!(rt; judged.verdict, Verdict::Legal);
-    let [Content::List(list)] = judged.world.contents() else {
-        return Err(Fail::from("there is one list"));
-    };
-    let wanted = [Value::Int(2), Value::Int(1), Value::Int(3)];
-    assert!(rt; list.items() == wanted.as_slice());
     Ok(())
 }

@@ -1,14 +1,15 @@
 //! The rounds of a thread: it goes online, makes its operations, and goes offline.
 ghost use Rattle.ft_bench.specs.Workers.{IsFree, IsReady};
 
-use crate::answers::{answer, read};
+use crate::answers::answer;
 use crate::course::Course;
 use crate::operation::Operation;
 use crate::pairs::{fill, watch};
 use crate::worker::Worker;
 use crate::workload::Workload;
 use ft_engine::{Caller, Engine};
-use ft_model::{Call, Reply};
+use ft_model::Call;
+use ft_section::Look;
 use std::alloc::Global;
 use std::sync::Wait;
 use std::time::Clock;
@@ -35,26 +36,36 @@ pub(crate) fn since<R: Clock>(rt: &R, start: u64) -> u64 {
     end.saturating_sub(start)
 }
 
-/// What the call of an operation answers: by a look where it reads.
-fn reply_of<R: Wait>(
-    rt: &R,
+/// Looks where the operation reads, and counts it. Says whether it was made so.
+#[inline(always)]
+fn look(
     engine: &Engine,
     alloc: Global,
-    caller: &mut Caller,
+    worker: &mut Worker,
     operation: Operation,
     call: &Call,
-) -> Option<Reply>
-    requires { IsReady engine.now caller.old }
-    ensures { IsReady engine.now caller.new }
+) -> bool
+    requires { IsReady engine.now worker.old.caller }
+    ensures { IsReady engine.now worker.new.caller }
 {
-    if operation.is_read() {
-        read(rt, engine, alloc, caller, call)
-    } else {
-        answer(rt, engine, alloc, caller, call)
+    if !operation.is_read() || !engine.may_look(&worker.caller, call) {
+        return false;
+    }
+    match engine.look(alloc, &mut worker.caller, call) {
+        Look::Done(reply, _) => {
+            worker.tally.count_reply(operation, &reply);
+            true
+        }
+        Look::Contended(_, _) => false,
+        Look::NoMemory => {
+            engine.abandon(&mut worker.caller);
+            false
+        }
     }
 }
 
-/// Makes one operation, and counts it.
+/// Makes one operation, and counts it: by a look where it reads and isn't contended.
+#[inline(always)]
 pub(crate) fn make<R: Wait>(
     rt: &R,
     engine: &Engine,
@@ -66,11 +77,15 @@ pub(crate) fn make<R: Wait>(
     ensures { IsReady engine.now worker.new.caller }
 {
     let call = worker.tally.call_of(operation);
-    let reply = reply_of(rt, engine, alloc, &mut worker.caller, operation, &call);
+    if look(engine, alloc, worker, operation, &call) {
+        return;
+    }
+    let reply = answer(rt, engine, alloc, &mut worker.caller, &call);
     worker.tally.count(operation, &reply);
 }
 
 /// Makes the next operation. Says whether it appended an item.
+#[inline(always)]
 fn make_next<R: Wait>(rt: &R, engine: &Engine, alloc: Global, worker: &mut Worker) -> bool
     requires { IsReady engine.now worker.old.caller }
     ensures { IsReady engine.now worker.new.caller }

@@ -18,8 +18,10 @@ pub struct Tally {
     pub(crate) thread: u32,
     /// Its operations, which it walks round.
     pub(crate) operations: Vec<Operation>,
-    /// How many operations of these it has come past.
-    pub(crate) place: u32,
+    /// Where its walk stands: how many of these it has come past in this round of them.
+    pub(crate) place: usize,
+    /// How many operations it has come past, modulo 2^32.
+    pub(crate) serial: u32,
     /// How many operations were made.
     pub(crate) made: u64,
     /// How many of them were answered wrongly, or couldn't be made.
@@ -43,6 +45,7 @@ impl Tally {
             thread,
             operations,
             place: 0,
+            serial: 0,
             made: 0,
             wrong: 0,
             nanos: 0,
@@ -54,31 +57,38 @@ impl Tally {
     }
 
     /// The operation that comes next.
+    #[inline(always)]
     pub(crate) fn next_operation(&mut self) -> Option<Operation> {
-        let length = self.operations.len();
-        if length == 0 {
-            return None;
+        if self.place >= self.operations.len() {
+            self.place = 0;
         }
-        let found = self.operations.get(self.place as usize % length).copied();
+        let found = self.operations.get(self.place).copied();
         self.place = self.place.wrapping_add(1);
+        self.serial = self.serial.wrapping_add(1);
         found
     }
 
     /// The call of an operation: a value that it stores is a new one.
+    #[inline(always)]
     pub(crate) fn call_of(&self, operation: Operation) -> Call {
-        call_of(operation, self.place)
+        call_of(operation, self.serial)
+    }
+
+    /// Counts an operation by its reply.
+    #[inline(always)]
+    pub(crate) fn count_reply(&mut self, operation: Operation, reply: &Reply) {
+        if is_right(operation, reply) {
+            self.made = self.made.saturating_add(1);
+        } else {
+            self.wrong = self.wrong.saturating_add(1);
+        }
     }
 
     /// Counts an operation by its reply, or one that couldn't be made.
     pub(crate) fn count(&mut self, operation: Operation, reply: &Option<Reply>) {
-        let right = match reply {
-            Some(reply) => is_right(operation, reply),
-            None => false,
-        };
-        if right {
-            self.made = self.made.saturating_add(1);
-        } else {
-            self.wrong = self.wrong.saturating_add(1);
+        match reply {
+            Some(reply) => self.count_reply(operation, reply),
+            None => self.wrong = self.wrong.saturating_add(1),
         }
     }
 }

@@ -29,6 +29,7 @@ use ft_section::{Object, Step};
 use std::alloc::Global;
 
 /// One try of a call that has no answer yet, by kinds of calls.
+#[inline(always)]
 fn make(
     bank: &Bank,
     pass: &mut Pass,
@@ -43,18 +44,19 @@ fn make(
     ensures hands { AreHandsOf (shape_of bank.now) (view pass.new) cursors.new.items }
     ensures stays { LeavesHands result cursors.old.items cursors.new.items }
 {
-    match *call {
-        Call::Dict { container, call } => make_dict(bank, pass, alloc, cursors, container, &call),
-        Call::List { container, call } => make_list(bank, pass, alloc, cursors, container, &call),
-        Call::Set { container, call } => make_set(bank, pass, alloc, cursors, container, &call),
-        Call::Next { cursor } => next(bank, pass, cursors, cursor),
-        Call::Begin { first, second } => begin(bank, pass, first, second),
+    match call {
+        Call::Dict { container, call } => make_dict(bank, pass, alloc, cursors, *container, call),
+        Call::List { container, call } => make_list(bank, pass, alloc, cursors, *container, call),
+        Call::Set { container, call } => make_set(bank, pass, alloc, cursors, *container, call),
+        Call::Next { cursor } => next(bank, pass, cursors, *cursor),
+        Call::Begin { first, second } => begin(bank, pass, *first, *second),
         Call::End => end(bank, pass),
         Call::Quiesce => quiesce(bank, pass),
     }
 }
 
 /// One try of a call on a dict.
+#[inline(always)]
 fn make_dict(
     bank: &Bank,
     pass: &mut Pass,
@@ -77,6 +79,7 @@ fn make_dict(
 }
 
 /// One try of a call on a list.
+#[inline(always)]
 fn make_list(
     bank: &Bank,
     pass: &mut Pass,
@@ -99,6 +102,7 @@ fn make_list(
 }
 
 /// One try of a call on a set.
+#[inline(always)]
 fn make_set(
     bank: &Bank,
     pass: &mut Pass,
@@ -123,6 +127,7 @@ fn make_set(
 impl Engine {
     /// Makes the answer of a call. Where it is made, it answers none, and the innermost section has still to be
     /// taken up again; else what the try answers.
+    #[inline(always)]
     pub(crate) fn answer(&self, alloc: Global, caller: &mut Caller, call: &Call) -> Option<Tried>
         requires caller { IsCallerOf self.now caller.old }
         requires may { MayAttempt self.now caller.old call.now }

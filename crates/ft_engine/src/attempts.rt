@@ -32,6 +32,7 @@ pub enum Tried {
 
 impl Engine {
     /// Takes up the innermost section again, of a call that has its answer.
+    #[inline(always)]
     pub(crate) fn take_up(&self, caller: &mut Caller) -> Tried
         requires caller { IsCallerOf self.now caller.old }
         requires answered { IsAnswered caller.old.flight }
@@ -68,6 +69,7 @@ impl Engine {
     /// where its look was contended: all open sections have let their locks go, and at most the lower one of two is
     /// kept. `Moved` where two steps of it found a word of the free tables of a class changed. The same call comes
     /// next. `NoMemory` where memory for a copy ran out: the caller is to give up.
+    #[inline(always)]
     pub fn attempt(&self, alloc: Global, caller: &mut Caller, call: &Call) -> Tried
         requires caller { IsCallerOf self.now caller.old }
         requires may { MayAttempt self.now caller.old call.now }

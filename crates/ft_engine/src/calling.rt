@@ -40,6 +40,7 @@ fn pause(backoff: &Backoff, tries: u32) {
 
 impl Engine {
     /// One try of a call. It answers none where the same call comes next.
+    #[inline(always)]
     fn try_once(&self, alloc: Global, caller: &mut Caller, call: &Call) -> Option<Called>
         requires caller { IsCallerOf self.now caller.old }
         requires may { MayAttempt self.now caller.old call.now }

@@ -24,8 +24,10 @@ use ft_model::DictCall;
 use ft_section::{Look, Object, Step};
 use std::alloc::Global;
 
-/// A look at a dict without its lock, where the call may be made so (PEP 703, Optimistically avoiding locking).
-pub(crate) fn look_dict(
+/// A look at a dict without its lock, for each call. It stands apart, since every one of its arms has room of its own for an answer, and what
+/// is called most shouldn't clear it all.
+#[inline(never)]
+fn look_any_dict(
     bank: &Bank,
     pass: &mut Pass,
     alloc: Global,
@@ -62,8 +64,35 @@ pub(crate) fn look_dict(
     }
 }
 
-/// A call on a dict under its lock; none that makes a cursor.
-fn try_dict(bank: &Bank, pass: &mut Pass, alloc: Global, d: Object, call: &DictCall) -> Step
+/// A look at a dict without its lock, where the call may be made so (PEP 703, Optimistically avoiding locking).
+#[inline(always)]
+pub(crate) fn look_dict(
+    bank: &Bank,
+    pass: &mut Pass,
+    alloc: Global,
+    d: Object,
+    call: &DictCall,
+) -> Option<Look>
+    requires pass { IsPassOf bank.now pass.old }
+    requires names { AreOfKindIn (shape_of bank.now) kind.Dict d (other_dict call.now) }
+    requires key { HasKey (shape_of bank.now) (key_of_dict call.now) }
+    requires online { 0 < announces (view pass.old).log }
+    requires left { 0 < (view pass.old).left }
+    ensures pass { IsPassOf bank.now pass.new }
+    ensures sections { stack_of pass.new ≡ stack_of pass.old }
+    ensures looked { Looked (calls.Dict d call.now) pass.old pass.new result }
+    ensures made { may_look (calls.Dict d call.now) ≡ is_some result }
+{
+    match *call {
+        DictCall::Get { key } => Some(look_get(bank, pass, d, key)),
+        DictCall::Set { .. } => None,
+        _ => look_any_dict(bank, pass, alloc, d, call),
+    }
+}
+
+/// A call on a dict under its lock, for each call; apart for the same reason.
+#[inline(never)]
+fn try_any_dict(bank: &Bank, pass: &mut Pass, alloc: Global, d: Object, call: &DictCall) -> Step
     requires may { MayTry bank.now pass.old (objects_by d (other_dict call.now)) }
     requires names { AreOfKindIn (shape_of bank.now) kind.Dict d (other_dict call.now) }
     requires key { HasKey (shape_of bank.now) (key_of_dict call.now) }
@@ -91,7 +120,24 @@ fn try_dict(bank: &Bank, pass: &mut Pass, alloc: Global, d: Object, call: &DictC
     }
 }
 
+/// A call on a dict under its lock; none that makes a cursor.
+#[inline(always)]
+fn try_dict(bank: &Bank, pass: &mut Pass, alloc: Global, d: Object, call: &DictCall) -> Step
+    requires may { MayTry bank.now pass.old (objects_by d (other_dict call.now)) }
+    requires names { AreOfKindIn (shape_of bank.now) kind.Dict d (other_dict call.now) }
+    requires key { HasKey (shape_of bank.now) (key_of_dict call.now) }
+    requires no_cursor { cursor_of_dict call.now ≡ None }
+    requires left { 0 < (view pass.old).left }
+    ensures { (hands : List (Option Cursor)) → IsTryOf bank.now hands (calls.Dict d call.now) pass.old pass.new result }
+{
+    match *call {
+        DictCall::Set { key, value } => try_set(bank, pass, d, key, value),
+        _ => try_any_dict(bank, pass, alloc, d, call),
+    }
+}
+
 /// One try of a call on a dict that makes no cursor.
+#[inline(always)]
 pub(crate) fn call_dict(
     bank: &Bank,
     pass: &mut Pass,

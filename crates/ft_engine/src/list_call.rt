@@ -25,8 +25,10 @@ use ft_model::ListCall;
 use ft_section::{Look, Object, Step};
 use std::alloc::Global;
 
-/// A look at a list without its lock, where the call may be made so (PEP 703, Optimistically avoiding locking).
-pub(crate) fn look_list(
+/// A look at a list without its lock, for each call. It stands apart, since every one of its arms has room of its own for an answer, and what
+/// is called most shouldn't clear it all.
+#[inline(never)]
+fn look_any_list(
     bank: &Bank,
     pass: &mut Pass,
     alloc: Global,
@@ -64,8 +66,34 @@ pub(crate) fn look_list(
     }
 }
 
-/// A call on a list under its locks; none that makes a cursor.
-fn try_list(bank: &Bank, pass: &mut Pass, alloc: Global, l: Object, call: &ListCall) -> Step
+/// A look at a list without its lock, where the call may be made so (PEP 703, Optimistically avoiding locking).
+#[inline(always)]
+pub(crate) fn look_list(
+    bank: &Bank,
+    pass: &mut Pass,
+    alloc: Global,
+    l: Object,
+    call: &ListCall,
+) -> Option<Look>
+    requires pass { IsPassOf bank.now pass.old }
+    requires names { AreOfKindIn (shape_of bank.now) kind.List l (other_list call.now) }
+    requires online { 0 < announces (view pass.old).log }
+    requires left { 0 < (view pass.old).left }
+    ensures pass { IsPassOf bank.now pass.new }
+    ensures sections { stack_of pass.new ≡ stack_of pass.old }
+    ensures looked { Looked (calls.List l call.now) pass.old pass.new result }
+    ensures made { may_look (calls.List l call.now) ≡ is_some result }
+{
+    match *call {
+        ListCall::Get { index } => Some(look_get(bank, pass, l, index)),
+        ListCall::Append { .. } => None,
+        _ => look_any_list(bank, pass, alloc, l, call),
+    }
+}
+
+/// A call on a list under its locks, for each call; apart for the same reason.
+#[inline(never)]
+fn try_any_list(bank: &Bank, pass: &mut Pass, alloc: Global, l: Object, call: &ListCall) -> Step
     requires may { MayTry bank.now pass.old (objects_by l (other_list call.now)) }
     requires names { AreOfKindIn (shape_of bank.now) kind.List l (other_list call.now) }
     requires no_cursor { cursor_of_list call.now ≡ None }
@@ -94,7 +122,23 @@ fn try_list(bank: &Bank, pass: &mut Pass, alloc: Global, l: Object, call: &ListC
     }
 }
 
+/// A call on a list under its locks; none that makes a cursor.
+#[inline(always)]
+fn try_list(bank: &Bank, pass: &mut Pass, alloc: Global, l: Object, call: &ListCall) -> Step
+    requires may { MayTry bank.now pass.old (objects_by l (other_list call.now)) }
+    requires names { AreOfKindIn (shape_of bank.now) kind.List l (other_list call.now) }
+    requires no_cursor { cursor_of_list call.now ≡ None }
+    requires left { 0 < (view pass.old).left }
+    ensures { (hands : List (Option Cursor)) → IsTryOf bank.now hands (calls.List l call.now) pass.old pass.new result }
+{
+    match *call {
+        ListCall::Append { value } => try_append(bank, pass, l, value),
+        _ => try_any_list(bank, pass, alloc, l, call),
+    }
+}
+
 /// One try of a call on a list that makes no cursor.
+#[inline(always)]
 pub(crate) fn call_list(
     bank: &Bank,
     pass: &mut Pass,

@@ -23,10 +23,11 @@ use ft_section::Look;
 use std::alloc::Global;
 
 /// Whether the call may be made by a look.
+#[inline(always)]
 fn is_looking(call: &Call) -> bool
     ensures { result ≡ may_look call.now }
 {
-    match *call {
+    match call {
         Call::Dict { call, .. } => !call.is_locked(),
         Call::List { call, .. } => !call.is_locked(),
         Call::Set { call, .. } => !call.is_locked(),
@@ -38,6 +39,7 @@ fn is_looking(call: &Call) -> bool
 }
 
 /// A look by the call's kind, where the call may be made so.
+#[inline(always)]
 fn look_call(bank: &Bank, pass: &mut Pass, alloc: Global, call: &Call) -> Option<Look>
     requires pass { IsPassOf bank.now pass.old }
     requires names { (hands : List (Option Cursor)) × IsCallIn (shape_of bank.now) hands call.now }
@@ -48,10 +50,10 @@ fn look_call(bank: &Bank, pass: &mut Pass, alloc: Global, call: &Call) -> Option
     ensures looked { Looked call.now pass.old pass.new result }
     ensures made { may_look call.now ≡ is_some result }
 {
-    match *call {
-        Call::Dict { container, call } => look_dict(bank, pass, alloc, container, &call),
-        Call::List { container, call } => look_list(bank, pass, alloc, container, &call),
-        Call::Set { container, call } => look_set(bank, pass, alloc, container, &call),
+    match call {
+        Call::Dict { container, call } => look_dict(bank, pass, alloc, *container, call),
+        Call::List { container, call } => look_list(bank, pass, alloc, *container, call),
+        Call::Set { container, call } => look_set(bank, pass, alloc, *container, call),
         Call::Next { .. } => None,
         Call::Begin { .. } => None,
         Call::End => None,
@@ -73,6 +75,7 @@ impl Caller {
     }
 
     /// Counts the call that a look answered, or keeps the one that it had no memory for.
+    #[inline(always)]
     fn take_look(&mut self, call: &Call, look: &Look)
         requires { self.old.made < self.old.calls }
         ensures { self.new ≡ after_look call.now look.now self.old }
@@ -88,11 +91,12 @@ impl Caller {
 impl Engine {
     /// Whether a caller that is online may make the call by a look: no call is in flight, the call may be tried, and
     /// is one of those that are made without a lock.
+    #[inline(always)]
     pub fn may_look(&self, caller: &Caller, call: &Call) -> bool
         requires online { 0 < announces (view (pass_of caller.now)).log }
         ensures { IsTrue result ↔ (MayAttempt self.now caller.now call.now × IsIdle caller.now × (may_look call.now ≡ true)) }
     {
-        self.may_attempt(caller, call) && caller.is_idle() && is_looking(call)
+        caller.is_idle() && is_looking(call) && self.may_attempt(caller, call)
     }
 
     /// A look: the call, made without a lock (PEP 703, Optimistically avoiding locking). It takes no lock and changes
@@ -103,6 +107,7 @@ impl Engine {
     /// `Contended` where two loads of one version gave an odd number or two different ones, since another thread
     /// writes; the caller may look again, or attempt the call. `NoMemory` where memory for a copy ran out: the caller
     /// is to give up.
+    #[inline(always)]
     pub fn look(&self, alloc: Global, caller: &mut Caller, call: &Call) -> Look
         requires caller { IsCallerOf self.now caller.old }
         requires may { MayAttempt self.now caller.old call.now }

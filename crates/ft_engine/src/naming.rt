@@ -87,6 +87,7 @@ impl Engine {
     }
 
     /// Whether the containers, cursors and strings that a call names are there.
+    #[inline(always)]
     pub fn has_named(&self, caller: &Caller, call: &Call) -> bool
         ensures { IsTrue result ↔ IsCallIn (shape_of (bank_of self.now)) (hands_of caller.now) call.now }
     {
@@ -113,6 +114,7 @@ impl Engine {
 
     /// Whether a call of a caller that is online may be tried: no other call is in flight, and where it has no answer
     /// yet, the caller has a call left, its sections allow it, and what it names is there.
+    #[inline(always)]
     pub fn may_attempt(&self, caller: &Caller, call: &Call) -> bool
         requires online { 0 < announces (view (pass_of caller.now)).log }
         ensures { IsTrue result ↔ MayAttempt self.now caller.now call.now }

@@ -24,8 +24,10 @@ use ft_set::{
 };
 use std::alloc::Global;
 
-/// A look at a set without its lock, where the call may be made so (PEP 703, Optimistically avoiding locking).
-pub(crate) fn look_set(
+/// A look at a set without its lock, for each call. It stands apart, since every one of its arms has room of its own for an answer, and what
+/// is called most shouldn't clear it all.
+#[inline(never)]
+fn look_any_set(
     bank: &Bank,
     pass: &mut Pass,
     alloc: Global,
@@ -62,8 +64,35 @@ pub(crate) fn look_set(
     }
 }
 
-/// A call on a set under its lock; none that makes a cursor.
-fn try_set_call(bank: &Bank, pass: &mut Pass, alloc: Global, s: Object, call: &SetCall) -> Step
+/// A look at a set without its lock, where the call may be made so (PEP 703, Optimistically avoiding locking).
+#[inline(always)]
+pub(crate) fn look_set(
+    bank: &Bank,
+    pass: &mut Pass,
+    alloc: Global,
+    s: Object,
+    call: &SetCall,
+) -> Option<Look>
+    requires pass { IsPassOf bank.now pass.old }
+    requires names { AreOfKindIn (shape_of bank.now) kind.Set s (other_set call.now) }
+    requires key { HasKey (shape_of bank.now) (key_of_set call.now) }
+    requires online { 0 < announces (view pass.old).log }
+    requires left { 0 < (view pass.old).left }
+    ensures pass { IsPassOf bank.now pass.new }
+    ensures sections { stack_of pass.new ≡ stack_of pass.old }
+    ensures looked { Looked (calls.Set s call.now) pass.old pass.new result }
+    ensures made { may_look (calls.Set s call.now) ≡ is_some result }
+{
+    match *call {
+        SetCall::Has { key } => Some(look_has(bank, pass, s, key)),
+        SetCall::Add { .. } | SetCall::Discard { .. } => None,
+        _ => look_any_set(bank, pass, alloc, s, call),
+    }
+}
+
+/// A call on a set under its lock, for each call; apart for the same reason.
+#[inline(never)]
+fn try_any_set(bank: &Bank, pass: &mut Pass, alloc: Global, s: Object, call: &SetCall) -> Step
     requires may { MayTry bank.now pass.old (objects_by s (other_set call.now)) }
     requires names { AreOfKindIn (shape_of bank.now) kind.Set s (other_set call.now) }
     requires key { HasKey (shape_of bank.now) (key_of_set call.now) }
@@ -91,7 +120,25 @@ fn try_set_call(bank: &Bank, pass: &mut Pass, alloc: Global, s: Object, call: &S
     }
 }
 
+/// A call on a set under its lock; none that makes a cursor.
+#[inline(always)]
+fn try_set_call(bank: &Bank, pass: &mut Pass, alloc: Global, s: Object, call: &SetCall) -> Step
+    requires may { MayTry bank.now pass.old (objects_by s (other_set call.now)) }
+    requires names { AreOfKindIn (shape_of bank.now) kind.Set s (other_set call.now) }
+    requires key { HasKey (shape_of bank.now) (key_of_set call.now) }
+    requires no_cursor { cursor_of_set call.now ≡ None }
+    requires left { 0 < (view pass.old).left }
+    ensures { (hands : List (Option Cursor)) → IsTryOf bank.now hands (calls.Set s call.now) pass.old pass.new result }
+{
+    match *call {
+        SetCall::Add { key } => try_add(bank, pass, s, key),
+        SetCall::Discard { key } => try_discard(bank, pass, s, key),
+        _ => try_any_set(bank, pass, alloc, s, call),
+    }
+}
+
 /// One try of a call on a set that makes no cursor.
+#[inline(always)]
 pub(crate) fn call_set(
     bank: &Bank,
     pass: &mut Pass,

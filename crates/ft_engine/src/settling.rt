@@ -12,6 +12,7 @@ use ft_section::{Look, Step, let_go};
 
 /// The answer that a look gave, if it gave one: the call lets go of the lock that it may have kept from an earlier
 /// try. It answers none where there was no look, or a contended one: the call is then made under its locks.
+#[inline(always)]
 pub(crate) fn settle(bank: &Bank, pass: &mut Pass, look: Option<Look>) -> Option<Step>
     requires { IsMaking bank.now pass.old }
     ensures answer { result ≡ settled look }

@@ -24,8 +24,8 @@ use ft_set::{
 };
 use std::alloc::Global;
 
-/// A look at a set without its lock, for each call. It stands apart, since every one of its arms has room of its own for an answer, and what
-/// is called most shouldn't clear it all.
+/// A look at a set without its lock, for each call. It stands apart from `look_set`, which has arms of its own for
+/// the calls that are made most: room for the answers of all arms is cleared at the beginning of a function.
 #[inline(never)]
 fn look_any_set(
     bank: &Bank,

@@ -1,10 +1,11 @@
-// Counts a program's allocations, and refuses the one whose number REFUSED_ALLOCATION gives; 0 or nothing refuses none.
-// At the end the count is written into the file that ALLOCATIONS names. For LD_PRELOAD.
+// Refuses the allocation of a program whose number REFUSED_ALLOCATION gives, from 1; 0 or nothing refuses none. Where it
+// comes to that one, it makes the file that REFUSED names. For LD_PRELOAD.
 #include <errno.h>
+#include <fcntl.h>
 #include <stdatomic.h>
 #include <stddef.h>
-#include <stdio.h>
 #include <stdlib.h>
+#include <unistd.h>
 
 void *__libc_malloc(size_t size);
 void *__libc_calloc(size_t count, size_t size);
@@ -13,27 +14,23 @@ void *__libc_memalign(size_t alignment, size_t size);
 
 static atomic_ulong made;
 static unsigned long refused;
-static atomic_int counts;
+static const char *name;
 
+// The program's own allocations are counted, not those that come before it.
 __attribute__((constructor)) static void begin(void) {
     const char *number = getenv("REFUSED_ALLOCATION");
+    name = getenv("REFUSED");
     refused = number ? strtoul(number, NULL, 10) : 0;
-    atomic_store(&counts, 1);
-}
-
-__attribute__((destructor)) static void end(void) {
-    atomic_store(&counts, 0);
-    const char *name = getenv("ALLOCATIONS");
-    FILE *file = name ? fopen(name, "w") : NULL;
-    if (file) {
-        fprintf(file, "%lu\n", atomic_load(&made));
-        fclose(file);
-    }
+    atomic_store(&made, 0);
 }
 
 static int is_refused(void) {
-    if (!atomic_load(&counts) || atomic_fetch_add(&made, 1) + 1 != refused) {
+    if (atomic_fetch_add(&made, 1) + 1 != refused) {
         return 0;
+    }
+    int file = name ? open(name, O_CREAT | O_WRONLY, 0600) : -1;
+    if (file >= 0) {
+        close(file);
     }
     errno = ENOMEM;
     return 1;

@@ -22,6 +22,6 @@ pub use laws::{
     scripts_are_refused, scripts_are_run, transcripts_are_checked, verdicts_are_reported,
     what_is_written_is_found_legal,
 };
-pub use program::run_program;
+pub use program::{end_without_memory, run_program};
 pub use report::{Fault, Report};
 pub use tool::{run_still, run_tool};

@@ -1,9 +1,14 @@
 //! The program over its streams. It ends with the status of what is reported.
-ghost use Rattle.ft_runner.specs.Reports.{IsReport};
+ghost use Rattle.ft_runner.specs.Reports.{error_line, status_of, IsReport};
+ghost use Rattle.ft_runner.specs.Streams.{Reported};
+ghost use Rattle.ft_runner.specs.declared.outcome.Outcome.TheVariants as outcome;
+ghost use Rattle.ft_runner.specs.declared.report.Fault.TheVariants as fault;
 ghost use Rattle.ft_runner.specs.declared.report.Report.{Report};
 ghost use Rattle.std.specs.Prelude.{◌≡◌, map, string_bytes};
 ghost use Rattle.std.specs.Process.{exit_status};
 
+use crate::errors::tell;
+use crate::outcome::Outcome;
 use crate::tool::run_tool;
 use ft_io::{Sink, Source};
 use ft_workers::NoGate;
@@ -29,4 +34,15 @@ pub fn run_program<R: Threads + Wait + Sync, S: Source, K: Sink, E: Sink>(
 {
     let report = run_tool(rt, alloc, words, source, sink, errors, &NoGate);
     ExitCode::from(report.status)
+}
+
+/// Ends a program for whose command line there was no memory: the errors get the line for that, and
+/// the answer is the number of such a report.
+pub fn end_without_memory<E: Sink>(errors: &mut E) -> ExitCode
+    ensures status { exit_status result ≡ status_of fault.Memory }
+    ensures reported { Reported (E.stream errors.old) (error_line outcome.Memory) (E.stream errors.new) }
+{
+    let outcome = Outcome::Memory;
+    tell(errors, &outcome);
+    ExitCode::from(outcome.fault().status())
 }

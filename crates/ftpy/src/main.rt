@@ -2,14 +2,21 @@
 #![tactic(auto)]
 
 use ft_io::{StdSink, StdSource};
-use ft_runner::run_program;
+use ft_runner::{end_without_memory, run_program};
+use std::io::ErrorKind;
 use std::process::ExitCode;
 use std::rt::Env;
 use std::{env, io};
 
 fn main(rt: HostRuntime) -> ExitCode {
-    // Words that can't be had are no command.
-    let words = command_line(&rt).unwrap_or(Vec::new(rt.alloc()));
+    let words = match command_line(&rt) {
+        Ok(words) => words,
+        Err(error) if error.kind() == ErrorKind::OutOfMemory => {
+            return end_without_memory(&mut StdSink::new(rt.stderr()));
+        }
+        // Words that aren't UTF-8 are no command.
+        Err(_) => Vec::new(rt.alloc()),
+    };
     run_program(
         &rt,
         rt.alloc(),

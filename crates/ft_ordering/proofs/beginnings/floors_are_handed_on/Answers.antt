@@ -1,0 +1,5 @@
+use Rattle.ft_ordering.proofs.Starting as proved
+use Rattle.ft_ordering.proofs.beginnings.floors_are_handed_on.Goals as goal
+
+pub returns : goal.returns
+returns c = proved.handed_on

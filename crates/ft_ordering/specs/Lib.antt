@@ -1,0 +1,11 @@
+pub mod Answered
+pub mod Beginnings
+pub mod Counts
+pub mod Endings
+pub mod FloorTries
+pub mod Ordered
+pub mod Owners
+pub mod Runs
+pub mod Stacks
+pub mod Standing
+pub mod Turns

@@ -1,22 +1,27 @@
 -- Callers before the first turn, and the floor on its way.
-use Rattle.std.proofs.Common.{◌≡◌, ℕ, le_trans, List, refl, sym, ap, subst, ◌∙◌, arith}
+use Rattle.std.proofs.Common.{◌≡◌, ℕ, ◌-◌, ◌<◌, ◌≤◌, le_trans, true, List, [], length, refl, sym, ap, subst, ◌∙◌, arith}
 use Rattle.std.specs.Prelude.{slice_index}
+use Rattle.std.proofs.Math.Logic.{∥∥₁_elim}
 use Rattle.std.proofs.lemmas.Option.{none-some}
 use Rattle.ft_model.specs.declared.call.Call.{Call}
 use Rattle.ft_model.specs.Histories.{calls_of}
-use Rattle.ft_trace.specs.declared.Act.TheVariants.{TakeFloor}
 use Rattle.ft_trace.specs.declared.View.{View}
 use Rattle.ft_trace.specs.declared.Shape.{Shape}
-use Rattle.ft_trace.specs.Acts.{both, floor_words, note, seen_writes}
-use Rattle.ft_trace.specs.Addresses.{at, lock_of}
-use Rattle.ft_trace.proofs.Seeing.{seen_is_handed_on, seen_others, seen_up}
+use Rattle.ft_trace.specs.Acts.{floor_words, seen_writes}
+use Rattle.ft_trace.specs.Addresses.{at, counter, extent, lock_of}
+use Rattle.ft_trace.specs.Traces.{Possible}
+use Rattle.ft_trace.proofs.Addresses.{at_low}
+use Rattle.ft_trace.proofs.Floored.{floor_stands}
+use Rattle.ft_trace.proofs.Words.{wide}
+use Rattle.ft_bank.specs.Floors.{carried}
+use Rattle.ft_bank.specs.Passes.{shape_of, view}
 use Rattle.ft_section.specs.Floors.{owner_named}
 use Rattle.ft_section.specs.Ready.{IsReady}
 use Rattle.ft_engine.specs.declared.caller.Flight.TheVariants as flight
 use Rattle.ft_engine.proofs.Callers.{ready_of}
 use Rattle.ft_turns.specs.Orders.{ThreadState, fresh_thread}
 use Rattle.ft_turns.proofs.Owned.{start_holder, start_thread}
-use Rattle.ft_ordering.specs.Beginnings.{FloorsAreHandedOn, FreshCallersAreNobody, HasFloorFrom, NewCallersAreInStep, WokenPassesHaveFloor}
+use Rattle.ft_ordering.specs.Beginnings.{FloorsAreHandedOn, FreshCallersAreNobody, HasFloorFrom, NewCallersAreInStep, RestingCallersStand, WokenCallersHaveFloor}
 use Rattle.ft_ordering.specs.Ordered.{nobody}
 use Rattle.ft_ordering.specs.Owners.{owners_in}
 use Rattle.ft_ordering.specs.Standing.{IsAsThread}
@@ -64,10 +69,27 @@ handed_on script turns v w standings from was =
       order = record { made = was.order.made; rising = was.order.rising; known = λ place one at. le_trans (was.order.known place one at) from.seen };
     }
 
-pub woken_have_floor : WokenPassesHaveFloor
-woken_have_floor v r n s shape words = record {
-  shape = shape;
-  words = words;
-  seen = le_trans (let same : seen_writes (note v.tokens v) ≡ seen_writes v = seen_is_handed_on.notes v.tokens v in omega arith)
-      (le_trans (seen_others r (note v.tokens v)) (seen_up (TakeFloor n s) (both r (note v.tokens v))));
-}
+-- there are words
+some_words : (k : Shape) (v : View) → Possible v → v.shape ≡ k → v.has_floor ≡ true → floor_words v.shape v.number v.log ≡ [] → ⊥
+some_words k v p is floor none =
+    let words = (floor_stands v.shape p.0 p.2.0 p.1 v p.2.1).0 floor in
+    let long : length (floor_words v.shape v.number v.log) ≡ extent v.shape = ap length words.1 ∙ wide v.shape p.0 in
+    let some : 0 < extent v.shape = at_low v.shape counter tt in
+    let empty : length (floor_words v.shape v.number v.log) ≡ 0 = ap length none in
+    absurd (omega arith)
+
+pub woken_have_floor : WokenCallersHaveFloor
+woken_have_floor e c d t is_c is_d floor hands woken =
+    let some : (carried t).floor ≡ [] → ⊥ =
+    λ none. ∥∥₁_elim {P = ⊥} c.pass.possible (hlevel) (λ p. some_words (shape_of e.bank) (view c.pass) p is_c.pass.1 floor (sym (hands.words floor) ∙ none)) in
+    record {
+      shape = is_d.pass.1 ∙ sym is_c.pass.1;
+      words = woken.words some ∙ hands.words floor;
+      seen = subst (λ n. n ≤ seen_writes (view d.pass)) hands.seen woken.seen;
+    }
+
+pub resting_stand : RestingCallersStand
+resting_stand c d mine is =
+    let flight_is = is.same.flight in
+    let stack_is = is.same.sections in
+    (ap (λ n. n - 1) is.same.number, cc)

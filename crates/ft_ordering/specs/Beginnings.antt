@@ -1,16 +1,17 @@
 -- Callers before the first turn, and the floor on its way from one caller to the next.
 use Rattle.std.specs.Prelude.{◌≡◌, ◌≢◌, ℕ, ◌+◌, ◌<◌, ◌≤◌, true, List, [], length, None, Some, slice_get}
+use Rattle.ft_model.specs.declared.entry.Entry.{Entry}
 use Rattle.ft_model.specs.declared.script.ScriptParts.{ScriptParts}
-use Rattle.ft_trace.specs.declared.Act.TheVariants.{TakeFloor}
-use Rattle.ft_trace.specs.declared.Snap.{Snap}
 use Rattle.ft_trace.specs.declared.View.{View}
-use Rattle.ft_trace.specs.Acts.{both, floor_words, note, noted, seen_writes}
+use Rattle.ft_trace.specs.Acts.{floor_words, seen_writes}
 use Rattle.ft_trace.specs.Addresses.{containers_in}
+use Rattle.ft_bank.specs.declared.tokens.Tokens.{Tokens}
 use Rattle.ft_bank.specs.Passes.{shape_of, view}
 use Rattle.ft_bank.specs.Sections.{no_sections, stack_of}
 use Rattle.ft_engine.specs.declared.caller.Caller.{Caller}
 use Rattle.ft_engine.specs.declared.engine.Engine.{Engine}
 use Rattle.ft_engine.specs.Callers.{IsCallerOf, IsFresh, bank_of, pass_of, thread_of}
+use Rattle.ft_engine.specs.Resting.{HandsOn, HasFloor, IsAsBefore, IsWoken}
 use Rattle.ft_ordering.specs.Ordered.{nobody}
 use Rattle.ft_ordering.specs.Owners.{owners_in}
 use Rattle.ft_ordering.specs.Standing.{Standing, standing_of}
@@ -44,11 +45,17 @@ FloorsAreHandedOn =
     (script : ScriptParts) (turns : List ℕ) (v w : View) (standings : List Standing) → HasFloorFrom v w
     → AreInStep script turns v standings → AreInStep script turns w standings
 
--- a pass that rested and was given all tokens with a note of the one that had the floor
-abbrev pub WokenPassesHaveFloor : Type 0
-WokenPassesHaveFloor =
-    (v r : View) (n : ℕ) (s : Snap) → r.shape ≡ v.shape → s.words ≡ floor_words v.shape v.number v.log
-    → HasFloorFrom v (noted (TakeFloor n s) (both r (note v.tokens v)))
+-- A caller that is woken by the tokens of one that had the floor has it so.
+abbrev pub WokenCallersHaveFloor : Type 0
+WokenCallersHaveFloor =
+    (e : Engine) (c d : Caller) (t : Tokens) → IsCallerOf e c → IsCallerOf e d → HasFloor c → HandsOn c t
+    → IsWoken t d → HasFloorFrom (view (pass_of c)) (view (pass_of d))
+
+-- a caller that has only handed tokens on, or taken some, stands as before
+abbrev pub RestingCallersStand : Type 0
+RestingCallersStand =
+    (c d : Caller) (mine : List Entry) → IsAsBefore c d
+    → (thread_of d ≡ thread_of c) × (standing_of d mine ≡ standing_of c mine)
 
 -- ---- no lock is taken
 

@@ -1,6 +1,6 @@
 //! Callers before the first turn, and the floor on its way from one caller to the next. The functions do nothing: their
 //! contracts are laws.
-ghost use Rattle.ft_ordering.specs.Beginnings.{FloorsAreHandedOn, FreshCallersAreNobody, LocksOfNobodyAreFree, NewCallersAreInStep, OneMoreOwnsNone, WokenPassesHaveFloor};
+ghost use Rattle.ft_ordering.specs.Beginnings.{FloorsAreHandedOn, FreshCallersAreNobody, LocksOfNobodyAreFree, NewCallersAreInStep, OneMoreOwnsNone, RestingCallersStand, WokenCallersHaveFloor};
 
 /// A caller of a new engine is in no call and in no section, and was answered nothing.
 pub fn fresh_callers_are_nobody()
@@ -13,9 +13,14 @@ pub fn new_callers_are_in_step()
     ensures { NewCallersAreInStep }
 {}
 
-/// A pass that is woken with all tokens knows the words as the pass knew them that gave the tokens.
-pub fn woken_passes_have_floor()
-    ensures { WokenPassesHaveFloor }
+/// A caller that is woken by the tokens of one that had the floor knows the words as that one knew them.
+pub fn woken_callers_have_floor()
+    ensures { WokenCallersHaveFloor }
+{}
+
+/// A caller that has handed its tokens on, or taken some, stands as before.
+pub fn resting_callers_stand()
+    ensures { RestingCallersStand }
 {}
 
 /// Where the floor is handed on, the callers stand as before.

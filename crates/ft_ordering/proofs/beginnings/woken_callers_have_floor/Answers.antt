@@ -1,5 +1,5 @@
 use Rattle.ft_ordering.proofs.Starting as proved
-use Rattle.ft_ordering.proofs.beginnings.woken_passes_have_floor.Goals as goal
+use Rattle.ft_ordering.proofs.beginnings.woken_callers_have_floor.Goals as goal
 
 pub returns : goal.returns
 returns c = proved.woken_have_floor

@@ -1,0 +1,5 @@
+use Rattle.ft_ordering.proofs.Starting as proved
+use Rattle.ft_ordering.proofs.beginnings.resting_callers_stand.Goals as goal
+
+pub returns : goal.returns
+returns c = proved.resting_stand

@@ -14,6 +14,7 @@ use Rattle.ft_model.specs.declared.script.ScriptParts.{ScriptParts}
 use Rattle.ft_model.specs.Histories.{calls_of}
 use Rattle.ft_model.specs.Worlds.{container_of, cursor_at}
 use Rattle.ft_history.proofs.Places.{take_next}
+use Rattle.ft_trace.specs.declared.View.{View}
 use Rattle.ft_trace.specs.Acts.{seen_writes}
 use Rattle.ft_trace.specs.Addresses.{containers_in}
 use Rattle.ft_bank.specs.declared.pass.Pass.{Pass}
@@ -23,6 +24,7 @@ use Rattle.ft_closing.specs.Numbering.{IsFor}
 use Rattle.ft_section.specs.declared.answers.Objects.{Objects}
 use Rattle.ft_section.specs.declared.answers.Objects.TheVariants.{One}
 use Rattle.ft_section.specs.declared.answers.Stamp.{Stamp}
+use Rattle.ft_section.specs.declared.answers.Step.TheVariants as step
 use Rattle.ft_section.specs.Floors.{first_owned}
 use Rattle.ft_section.specs.Ready.{HasTop, IsReady, MayResume}
 use Rattle.ft_section.specs.Takings.{lower_of, upper_of}
@@ -32,11 +34,12 @@ use Rattle.ft_engine.specs.declared.caller.Caller.{Caller}
 use Rattle.ft_engine.specs.declared.caller.Flight.{Flight}
 use Rattle.ft_engine.specs.declared.caller.Flight.TheVariants as flight
 use Rattle.ft_engine.specs.declared.engine.Engine.{Engine}
+use Rattle.ft_engine.specs.Answering.{HasLooked}
 use Rattle.ft_engine.specs.Attempts.{flight_after, kept_after}
 use Rattle.ft_engine.specs.Callers.{bank_of, pass_of, thread_of}
-use Rattle.ft_engine.specs.Contentions.{may_look}
-use Rattle.ft_engine.specs.Flights.{IsAnswered, IsIn, IsNext, objects_of}
-use Rattle.ft_engine.specs.Halves.{HasBothHalves, HasNoAnswer, IsOfTop, IsTakenUp}
+use Rattle.ft_engine.specs.Contentions.{WasContended, may_look}
+use Rattle.ft_engine.specs.Flights.{IsAnswered, IsIn, objects_of}
+use Rattle.ft_engine.specs.Halves.{HasBothHalves, HasNoAnswer, IsInHalves, IsOfTop, IsTakenUp, WaitsAnswered, WaitsUnanswered}
 use Rattle.ft_engine.specs.Keeping.{IsKept, kept_entry}
 use Rattle.ft_engine.specs.Names.{IsCallIn}
 use Rattle.ft_turns.specs.Ends.{after_turns}
@@ -44,7 +47,7 @@ use Rattle.ft_turns.specs.Orders.{Locking, Machine, ThreadState, answered_machin
 use Rattle.ft_turns.proofs.MachineSteps.{there, wanted, wanted_again}
 use Rattle.ft_turns.proofs.Owned.{IsOwned}
 use Rattle.ft_ordering.specs.Counts.{pair_of}
-use Rattle.ft_ordering.specs.FloorTries.{IsInTurn, IsTriedWhole, WaitsForAnswer, WaitsForSection}
+use Rattle.ft_ordering.specs.FloorTries.{IsUndisturbed}
 use Rattle.ft_ordering.specs.Ordered.{due, stamp_of, stamps_of}
 use Rattle.ft_ordering.specs.Owners.{owners_in}
 use Rattle.ft_ordering.specs.Standing.{AreAsMachine, IsAsFlight, IsAsThread, Standing, standing_of}
@@ -91,6 +94,14 @@ comes_from script machine mid after same thread owners has s now answered is bef
 -- a pass that waits for a lock of its innermost section has one open
 some_open : (p : Pass) (o : ℕ) → IsOfTop o p → (stack_of p).sections ≡ [] → ⊥
 some_open p o top none = none_pushed top.0 top.1 (sym top.2 ∙ none)
+
+-- a call that waits, with no look at it contended, needs locks
+only_locks : (called : Call) (v w : View) (o owner : ℕ) → HasLooked called v w (step.NotYet o owner) → (WasContended called v w → ⊥) → may_look called ≡ false
+only_locks called v w o owner looked undisturbed =
+    elim (may_look called) as (λ b. may_look called ≡ b → may_look called ≡ false) [
+      | true ↦ λ looks. absurd (undisturbed (looked looks))
+      | false ↦ λ locks. locks
+    ] refl
 
 -- a caller in no call is ready
 ready_top : (e : Engine) (d : Caller) → IsIn e.bank d.pass d.cursors.items d.flight → d.flight ≡ flight.Idle → HasTop d.pass
@@ -144,7 +155,7 @@ module _ (script : ScriptParts) (e : Engine) (turns : List ℕ) (standings : Lis
       (floor : (view p).has_floor ≡ true) (low : containers_in (view p).shape ≡ length script.containers) (number : (view p).number - 1 ≡ thread) (onwards : SameFloor (view p) (view d.pass))
       (marks : (thread_at mid thread).marks ≡ state.marks) (fixed : (thread_at mid thread).fixed ≡ true)
       (others : (other : ℕ) → other ≢ thread → thread_at mid other ≡ thread_at machine other)
-      (taken : IsTakenUp said stamp p d.pass t) (waits : WaitsForSection called said stamp d.flight t)
+      (taken : IsTakenUp said stamp p d.pass t) (waits : WaitsAnswered called said stamp t d.flight)
       (told : (new : List Stamp) → new ≡ map stamp_of mine ++ stamp ∷ [] → IsTold machine.answered (thread, length state.marks) mid.answered (stamps_of (standing_of c mine)) new seen) where
     still_next : next_call script thread (thread_at mid thread) ≡ Some called
     still_next = ap (λ (ms : List (Option ℕ)). slice_get calls (length ms)) marks ∙ next
@@ -192,7 +203,7 @@ module _ (script : ScriptParts) (e : Engine) (turns : List ℕ) (standings : Lis
         })
 
     -- the innermost section has to be waited for
-    goes_on : (o owner : ℕ) → t ≡ tried.NotYet o owner → IsTakenUp said stamp p d.pass (tried.NotYet o owner) → WaitsForSection called said stamp d.flight (tried.NotYet o owner) → Result
+    goes_on : (o owner : ℕ) → t ≡ tried.NotYet o owner → IsTakenUp said stamp p d.pass (tried.NotYet o owner) → WaitsAnswered called said stamp (tried.NotYet o owner) d.flight → Result
     goes_on o owner not_yet up waiting =
         let comes = waits_on script mid thread called e.bank p d.pass low floor inv now may counted are still_next fixed o owner (some_open p o up.3) up.0 up.1 up.2 in
         let after : ThreadState = waiting_thread (with_own halfway again) owner in
@@ -211,7 +222,7 @@ module _ (script : ScriptParts) (e : Engine) (turns : List ℕ) (standings : Lis
 
     pub second : Result
     second =
-        elim t as (λ u. t ≡ u → IsTakenUp said stamp p d.pass u → WaitsForSection called said stamp d.flight u → Result) [
+        elim t as (λ u. t ≡ u → IsTakenUp said stamp p d.pass u → WaitsAnswered called said stamp u d.flight → Result) [
           | tried.Done reply stamped mark ↦ λ done up _. ends reply stamped mark done up
           | tried.NotYet o owner ↦ λ not_yet up waiting. goes_on o owner not_yet up waiting
           | tried.Moved first other ↦ λ moved up _. absurd up
@@ -241,16 +252,18 @@ module _ (script : ScriptParts) (e : Engine) (turns : List ℕ) (standings : Lis
     there_low : (objects : Objects) → objects_of hands called ≡ Some objects → upper_of objects < length script.containers
     there_low objects named = let low = are_low (shape_of e.bank) hands called objects names is.caller.over named in let n = count_for script (shape_of e.bank) made_for in omega arith
 
-    waits_first : (o owner : ℕ) → t ≡ tried.NotYet o owner → HasNoAnswer e.bank hands called c.pass d.pass (tried.NotYet o owner) → WaitsForAnswer called d.flight (tried.NotYet o owner) → Result
-    waits_first o owner not_yet none waiting =
+    waits_first : (o owner : ℕ) → t ≡ tried.NotYet o owner → HasNoAnswer e.bank hands called c.pass d.pass (tried.NotYet o owner) → WaitsUnanswered called (tried.NotYet o owner) d.flight
+      → IsUndisturbed called (view c.pass) (view d.pass) (tried.NotYet o owner) → Result
+    waits_first o owner not_yet none waiting undisturbed =
         let tried_it = none.0 in
         let objects = tried_it.0 in
+        let locks : may_look called ≡ false = only_locks called (view c.pass) (view d.pass) o owner none.1 undisturbed in
         let counted_after = counted_of d.pass (in_call e.bank d.pass d.cursors.items d.flight is.tried.caller.inside) in
-        let asked : wanted script machine thread called ≡ pair_of (lower_of objects) (upper_of objects) = asks (take (length state.marks) calls) hands called objects walks tried_it.1 waiting.1 in
+        let asked : wanted script machine thread called ≡ pair_of (lower_of objects) (upper_of objects) = asks (take (length state.marks) calls) hands called objects walks tried_it.1 locks in
         let wait : IsWait script (owners_in (view c.pass)) (has_of c.pass) (stack_of c.pass) (stack_of d.pass) (lower_of objects) (upper_of objects) o owner =
         record {
           two = record { order = in_order objects; low = there_low objects tried_it.1 };
-          first = not_yet_some (first_owned (lower_of objects) (upper_of objects) (view c.pass)) o owner (tried_it.3 waiting.1 is.floor);
+          first = not_yet_some (first_owned (lower_of objects) (upper_of objects) (view c.pass)) o owner (tried_it.3 locks is.floor);
           stack = tried_it.2.stack;
           kept = tried_it.2.kept;
         } in
@@ -263,21 +276,21 @@ module _ (script : ScriptParts) (e : Engine) (turns : List ℕ) (standings : Lis
           comes = comes;
           made = as_thread.made;
           marks = as_thread.marks;
-          flight = subst (IsAsFlight (slice_get calls (length state.marks)) state.fixed) (sym waiting.0) (unfixed, next);
-          told = inl (refl, ap (λ f. map stamp_of mine ++ due f) waiting.0 ∙ ap (λ ss. map stamp_of mine ++ ss) (sym (due_none c.flight unanswered)));
+          flight = subst (IsAsFlight (slice_get calls (length state.marks)) state.fixed) (sym waiting) (unfixed, next);
+          told = inl (refl, ap (λ f. map stamp_of mine ++ due f) waiting ∙ ap (λ ss. map stamp_of mine ++ ss) (sym (due_none c.flight unanswered)));
         })
 
-    no_answer : HasNoAnswer e.bank hands called c.pass d.pass t → WaitsForAnswer called d.flight t → Result
+    no_answer : HasNoAnswer e.bank hands called c.pass d.pass t → WaitsUnanswered called t d.flight → Result
     no_answer none waiting =
-        elim t as (λ u. t ≡ u → HasNoAnswer e.bank hands called c.pass d.pass u → WaitsForAnswer called d.flight u → Result) [
-          | tried.Done reply stamped mark ↦ λ done gone _. absurd gone
-          | tried.NotYet o owner ↦ λ not_yet gone waits. waits_first o owner not_yet gone waits
-          | tried.Moved first other ↦ λ moved gone waits. absurd waits
-          | tried.NoMemory ↦ λ no_memory gone _. absurd (is.memory no_memory)
-        ] refl none waiting
+        elim t as (λ u. t ≡ u → HasNoAnswer e.bank hands called c.pass d.pass u → WaitsUnanswered called u d.flight → IsUndisturbed called (view c.pass) (view d.pass) u → Result) [
+          | tried.Done reply stamped mark ↦ λ done gone _ _. absurd gone
+          | tried.NotYet o owner ↦ λ not_yet gone waits undisturbed. waits_first o owner not_yet gone waits undisturbed
+          | tried.Moved first other ↦ λ moved gone _ undisturbed. absurd undisturbed
+          | tried.NoMemory ↦ λ no_memory gone _ _. absurd (is.memory no_memory)
+        ] refl none waiting is.undisturbed
 
-    both_halves : (both : HasBothHalves e.bank hands called c.pass d.pass t) → WaitsForSection called both.said both.stamp d.flight t → Result
-    both_halves both waits =
+    both_halves : HasBothHalves e.bank hands called c.pass d.pass t d.flight → Result
+    both_halves both =
         let mid : Pass = both.mid in
         let answer = both.answer in
         let mid_floor : SameFloor (view c.pass) (view mid) = floor_stays (view c.pass) (view mid) answer.0.entry.pass in
@@ -296,30 +309,29 @@ module _ (script : ScriptParts) (e : Engine) (turns : List ℕ) (standings : Lis
         let after = answered script machine thread called (owners_in (view c.pass)) (owners_in (view mid)) (has_of c.pass) (has_of mid) (stack_of c.pass) (stack_of mid) inv stands counted_mid are_mid next found unfixed now in
         second mid (answered_machine machine thread state called (take_locks thread machine.holders (wanted script machine thread called))) both.said both.stamp
         after.0 after.1 after.2.stands resume (mid_floor.floor ∙ is.floor) (ap containers_in mid_floor.shape ∙ count) (ap (λ n. n - 1) mid_floor.number) (floor_between (view c.pass) (view mid) (view d.pass) mid_floor same_floor)
-        (ap (λ (s : ThreadState). s.marks) after.2.state) (ap (λ (s : ThreadState). s.fixed) after.2.state) after.2.others both.taken waits
+        (ap (λ (s : ThreadState). s.marks) after.2.state) (ap (λ (s : ThreadState). s.fixed) after.2.state) after.2.others both.taken both.waits
         (λ new are. inr (both.stamp, refl, are ∙ ap (λ ss. ss ++ both.stamp ∷ []) (sym before), answer.0.entry.seen, ap length before ∙ (length-map mine stamp_of ∙ (sym (length-map mine (λ (one : Entry). one.waited)) ∙ ap length as_thread.marks))))
       where
         before : stamps_of (standing_of c mine) ≡ map stamp_of mine
         before = ap (λ ss. map stamp_of mine ++ ss) (due_none c.flight unanswered) ∙ append-nil (map stamp_of mine)
 
-    first_half : IsTriedWhole e.bank hands called c.pass d.pass d.flight t → Result
+    first_half : (HasNoAnswer e.bank hands called c.pass d.pass t × WaitsUnanswered called t d.flight) ⊎ HasBothHalves e.bank hands called c.pass d.pass t d.flight → Result
     first_half (inl none) = no_answer none.0 none.1
-    first_half (inr both) = both_halves both.0 both.1
+    first_half (inr both) = both_halves both
 
   -- a call that has its answer
-  only_second : (first : Call) (said : Reply) (stamp : Stamp) → c.flight ≡ flight.Answered first said stamp → state.fixed ≡ true → IsTakenUp said stamp c.pass d.pass t × WaitsForSection first said stamp d.flight t → Result
+  only_second : (first : Call) (said : Reply) (stamp : Stamp) → c.flight ≡ flight.Answered first said stamp → state.fixed ≡ true → IsTakenUp said stamp c.pass d.pass t × WaitsAnswered called said stamp t d.flight → Result
   only_second first said stamp flies fixed halves =
-      let named : first ≡ called = subst (λ f. IsNext f called) flies is.may.next in
       let resumes : MayResume e.bank c.pass = (subst (IsIn e.bank c.pass hands) flies is.caller.inside).0 in
       second c.pass machine said stamp (again_first script machine thread called next (let low = there script thread state called next in let count_threads = inv.threads in omega arith) fixed)
-      inv stands resumes is.floor count refl same_floor refl fixed (λ other differs. refl) halves.0 (subst (λ x. WaitsForSection x said stamp d.flight t) named halves.1)
+      inv stands resumes is.floor count refl same_floor refl fixed (λ other differs. refl) halves.0 halves.1
       (λ new are. inl (refl, are ∙ ap (λ f. map stamp_of mine ++ due f) (sym flies)))
 
   pub turned : Result
   turned =
-      elim c.flight as (λ f. c.flight ≡ f → IsInTurn f d.flight e.bank hands called c.pass d.pass t → IsAsFlight (slice_get calls (length state.marks)) state.fixed f → Result) [
+      elim c.flight as (λ f. c.flight ≡ f → IsInHalves f e.bank hands called c.pass d.pass t d.flight → IsAsFlight (slice_get calls (length state.marks)) state.fixed f → Result) [
         | flight.Idle ↦ λ flies halves same. first_half (λ a. subst IsAnswered flies a) same halves
         | flight.Tried first ↦ λ flies halves same. first_half (λ a. subst IsAnswered flies a) same.0 halves
         | flight.Answered first said stamp ↦ λ flies halves same. only_second first said stamp flies same.0 halves
         | flight.Refused first ↦ λ flies halves same. absurd halves
-      ] refl is.turn as_thread.flight
+      ] refl is.tried.halves as_thread.flight

@@ -17,7 +17,7 @@ use Rattle.ft_engine.specs.Callers.{IsCallerOf, bank_of, pass_of, thread_of}
 use Rattle.ft_engine.specs.Keeping.{IsKept}
 use Rattle.ft_turns.specs.Ends.{after_turns}
 use Rattle.ft_turns.specs.Orders.{next_call, thread_at}
-use Rattle.ft_ordering.specs.FloorTries.{HasTurn}
+use Rattle.ft_ordering.specs.FloorTries.{IsUndisturbed}
 use Rattle.ft_ordering.specs.Ordered.{AreInOrder}
 use Rattle.ft_ordering.specs.Owners.{owners_in}
 use Rattle.ft_ordering.specs.Standing.{AreAsMachine, Standing, standing_of}
@@ -29,7 +29,7 @@ pub record IsTurnOf (e : Engine) (called : Call) (t : Tried) (c d : Caller) : Ty
   pub floor : (view (pass_of c)).has_floor ≡ true
   pub memory : t ≡ tried.NoMemory → ⊥
   pub tried : IsTried e called t c d
-  pub turn : HasTurn e called c d t
+  pub undisturbed : IsUndisturbed called (view (pass_of c)) (view (pass_of d)) t
 
 -- Callers stand as the threads of the machine do after these turns, and their answers came in the order that the
 -- machine says, where this is what the pass knows that has the floor.

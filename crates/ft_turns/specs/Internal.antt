@@ -3,6 +3,5 @@
 pub mod Counting
 pub mod Cursors
 pub mod Runs
-pub mod Schedules
 pub mod ThreadStates
 pub mod Turning

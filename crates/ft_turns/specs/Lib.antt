@@ -4,4 +4,5 @@ pub mod Chronicling
 pub mod Ends
 pub mod Orders
 pub mod Replies
+pub mod Schedules
 pub mod Wants

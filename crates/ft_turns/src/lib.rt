@@ -17,4 +17,6 @@ mod schedule;
 
 pub use chronicles::{next_calls_are_answerable, turns_make_a_chronicle};
 pub use laws::{all_calls_finish, turns_go_on};
+pub use order::count_calls;
 pub use run::{Run, run_turns};
+pub use schedule::Schedule;

@@ -33,7 +33,7 @@ pub(crate) struct Turns {
 }
 
 /// How many calls the threads have.
-fn count_calls(script: &ScriptParts) -> usize
+pub fn count_calls(script: &ScriptParts) -> usize
     requires { IsScript script.now }
     ensures { result ≡ count_of_calls script.now }
 {
@@ -57,11 +57,7 @@ impl Turns {
         let calls = count_calls(script);
         Ok(Turns {
             machine: Machine::start(alloc, script)?,
-            schedule: Schedule {
-                ordered: 0,
-                next: script.threads.len(),
-                rounds: 4 * calls,
-            },
+            schedule: Schedule::start(script, calls),
             calls,
         })
     }

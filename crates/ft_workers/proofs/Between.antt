@@ -53,7 +53,7 @@ stays_member e i c d is same caller =
 
 -- ---- a worker between two calls
 
-made_moves : (called : Call) (n : ℕ) → cursor_of called ≡ Some n → moved_cursor called ≡ Some n
+pub made_moves : (called : Call) (n : ℕ) → cursor_of called ≡ Some n → moved_cursor called ≡ Some n
 made_moves (call.Dict o dc) n is = is
 made_moves (call.List o lc) n is = is
 made_moves (call.Set o sc) n is = is
@@ -63,7 +63,7 @@ made_moves call.End n is = is
 made_moves call.Quiesce n is = is
 
 -- an entry that was kept is one of the pass
-in_pass : (mine : List NamedEntry) (entries : List Entry) (j : ℕ) (m : NamedEntry) → entries ≡ reverse (map entry_of mine) → slice_get mine j ≡ Some m → slice_get entries (length mine - 1 - j) ≡ Some (entry_of m)
+pub in_pass : (mine : List NamedEntry) (entries : List Entry) (j : ℕ) (m : NamedEntry) → entries ≡ reverse (map entry_of mine) → slice_get mine j ≡ Some m → slice_get entries (length mine - 1 - j) ≡ Some (entry_of m)
 in_pass mine entries j m same at =
     let own = map entry_of mine in
     let low : j < length mine = slice_get_within mine j m at in
@@ -224,7 +224,7 @@ answered e i calls place w x called said stamp mark on at caller same idle kept 
 
 -- ---- a worker that has made its last call
 
-no_sections : (l : List OpenSection) → length l ≡ 0 → l ≡ []
+pub no_sections : (l : List OpenSection) → length l ≡ 0 → l ≡ []
 no_sections [] none = refl
 no_sections (x ∷ l) none = absurd (omega (arith, none))
 

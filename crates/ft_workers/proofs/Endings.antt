@@ -37,7 +37,7 @@ use Rattle.ft_workers.proofs.Asked.{calls_past, own_asked}
 same_some : {A : Type 0} (x y : A) → Some x ≡ Some y → x ≡ y
 same_some x y e = cc
 
-push_found : {A : Type 0} (l : List A) (x y : A) (n : ℕ) → slice_get (l ++ x ∷ []) n ≡ Some y → (slice_get l n ≡ Some y) ⊎ ((n ≡ length l) × (x ≡ y))
+pub push_found : {A : Type 0} (l : List A) (x y : A) (n : ℕ) → slice_get (l ++ x ∷ []) n ≡ Some y → (slice_get l n ≡ Some y) ⊎ ((n ≡ length l) × (x ≡ y))
 push_found [] x y zero at = inr (refl, same_some x y at)
 push_found [] x y (suc n) at = absurd (let none : None ≡ Some y = at in cc)
 push_found (z ∷ l) x y zero at = inl at
@@ -57,12 +57,12 @@ made_push script lists mine made is thread other at =
 -- ---- workers that are taken in
 
 -- a worker that is done has kept its own list, and no other
-own_kept : (w : Worker) → IsKept w.caller w.entries.items → taken_of w.caller ≡ [] → AreKept w.caller (w.entries.items ∷ [])
+pub own_kept : (w : Worker) → IsKept w.caller w.entries.items → taken_of w.caller ≡ [] → AreKept w.caller (w.entries.items ∷ [])
 own_kept w kept none =
     let v = view (pass_of w.caller) in
     (kept, subst (λ (taken : List (List PassEntry)). AreKeptFrom (suc (thread_of w.caller)) [] taken (had_locks v.number v.log) (found_owners v.log)) (sym none) tt)
 
-no_lists : (script : ScriptParts) → AreMade script []
+pub no_lists : (script : ScriptParts) → AreMade script []
 no_lists script thread mine at = absurd (let none : None ≡ Some mine = at in cc)
 
 -- the first worker
@@ -97,22 +97,22 @@ next_taken e script c d w lists old is done caller thread idle announced section
 
 -- ---- no thread
 
-no_calls : (mine : List Entry) → map (λ e. e.call) mine ≡ [] → mine ≡ []
+pub no_calls : (mine : List Entry) → map (λ e. e.call) mine ≡ [] → mine ≡ []
 no_calls [] is = refl
 no_calls (e ∷ mine) is = absurd (let n : suc (length (map (λ (x : Entry). x.call) mine)) ≡ 0 = ap length is in omega (arith, n))
 
-none_flat : (lists : List (List Entry)) → ((t : ℕ) (mine : List Entry) → slice_get lists t ≡ Some mine → mine ≡ []) → flat_map (λ (mine : List Entry). mine) lists ≡ []
+pub none_flat : (lists : List (List Entry)) → ((t : ℕ) (mine : List Entry) → slice_get lists t ≡ Some mine → mine ≡ []) → flat_map (λ (mine : List Entry). mine) lists ≡ []
 none_flat [] each = refl
 none_flat (mine ∷ lists) each = ap (λ (l : List Entry). l ++ flat_map (λ (own : List Entry). own) lists) (each 0 mine refl) ∙ none_flat lists (λ t own at. each (suc t) own at)
 
-no_entries : (history : List Entry) → length history ≡ 0 → history ≡ []
+pub no_entries : (history : List Entry) → length history ≡ 0 → history ≡ []
 no_entries [] none = refl
 no_entries (e ∷ history) none = absurd (omega (arith, none))
 
 no_place : (P : ℕ → Entry → Type 0) (place : ℕ) (e : Entry) → slice_get [] place ≡ Some e → P place e
 no_place P place e at = absurd (let none : None ≡ Some e = at in cc)
 
-empty_history : (script : ScriptParts) → length script.threads ≡ 0 → IsHistoryOf storage.Tables script [] []
+pub empty_history : (script : ScriptParts) → length script.threads ≡ 0 → IsHistoryOf storage.Tables script [] []
 empty_history script none =
     record {
       legal = record {
@@ -130,14 +130,14 @@ empty_history script none =
       written = refl;
     }
 
-max_some : (n : ℕ) → (n ≢ 0) → max n 1 ≡ n
+pub max_some : (n : ℕ) → (n ≢ 0) → max n 1 ≡ n
 max_some zero some = absurd (some refl)
 max_some (suc n) some = suc-max-suc n 0 ∙ ap suc (max-zero n)
 
 -- ---- all threads
 
 module _ (script : ScriptParts) (k : Shape) (lists : List (List Entry)) (is : IsScript script) (bank : IsBankFor script k) (all : length lists ≡ k.passes) (made : AreMade script lists) where
-  of_script : (length script.threads ≢ 0) → AreOfScript script k lists
+  pub of_script : (length script.threads ≢ 0) → AreOfScript script k lists
   of_script some =
       let few : max (length script.threads) 1 ≡ length script.threads = max_some (length script.threads) some in
       record {

@@ -1,8 +1,8 @@
-mod Depths
-mod Named
-mod Made
-mod Asked
-mod WorkerLemmas
-mod Between
-mod Entries
-mod Endings
+pub mod Depths
+pub mod Named
+pub mod Made
+pub mod Asked
+pub mod WorkerLemmas
+pub mod Between
+pub mod Entries
+pub mod Endings

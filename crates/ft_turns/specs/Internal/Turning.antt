@@ -5,7 +5,7 @@ use Rattle.ft_turns.specs.declared.order.Turn.{Turn}
 use Rattle.ft_turns.specs.declared.order.Turns.{Turns}
 use Rattle.ft_turns.specs.Orders.{turn, count_of_calls}
 use Rattle.ft_turns.specs.Ends.{AreFinished}
-use Rattle.ft_turns.specs.Internal.Schedules.{scheduled}
+use Rattle.ft_turns.specs.Schedules.{scheduled}
 use Rattle.ft_turns.specs.Internal.ThreadStates.{machine_of, turned_of, fixed_by, IsReady, marks_made}
 
 -- the turns that are left

@@ -1,0 +1,57 @@
+-- Threads that have made all their calls, and callers that are taken in.
+use Rattle.std.proofs.Common.{◌≡◌, ℕ, zero, suc, ◌+◌, ◌<◌, ◌≤◌, true, List, [], ◌∷◌, ◌++◌, length, map, Option, None, Some, refl, sym, ap, subst, ◌∙◌, arith, inl, inr}
+use Rattle.std.specs.Prelude.{fold, slice_get}
+use Rattle.std.proofs.lemmas.List.{take_all}
+use Rattle.ft_model.specs.declared.entry.Entry.{Entry}
+use Rattle.ft_model.specs.declared.script.ScriptParts.{ScriptParts}
+use Rattle.ft_model.specs.Histories.{calls_of}
+use Rattle.ft_model.specs.Scripts.{IsScript}
+use Rattle.ft_bank.specs.Passes.{view}
+use Rattle.ft_bank.specs.Sections.{stack_of}
+use Rattle.ft_engine.specs.declared.caller.Caller.{Caller}
+use Rattle.ft_engine.specs.declared.caller.Flight.{Flight}
+use Rattle.ft_engine.specs.declared.engine.Engine.{Engine}
+use Rattle.ft_engine.specs.Callers.{pass_of}
+use Rattle.ft_engine.specs.Flights.{IsAnswered}
+use Rattle.ft_workers.specs.declared.workers.Worker.{Worker}
+use Rattle.ft_workers.specs.Workers.{HasWorked}
+use Rattle.ft_workers.proofs.Asked.{ends_level}
+use Rattle.ft_workers.proofs.Between.{no_sections}
+use Rattle.ft_workers.proofs.Depths.{step_depth}
+use Rattle.ft_turn_runs.specs.declared.seats.Seat.{Seat}
+use Rattle.ft_turn_runs.specs.Seats.{AreEndsFrom, AreSeats, HaveMadeAll, IsBetweenTurns, IsEndOf}
+use Rattle.ft_turn_runs.proofs.NextCalls.{depth_unanswered}
+
+-- a thread with no call left is a worker that is done
+pub worker_of : Caller → Seat → Worker
+worker_of c s = record { caller = c; entries = s.entries; done = true }
+
+pub end_worked : (e : Engine) (script : ScriptParts) (i : ℕ) (c : Caller) (s : Seat) → IsScript script → IsBetweenTurns e script i c s.entries.items → length (calls_of script i) ≤ length s.entries.items → HasWorked e script i (worker_of c s)
+end_worked e script i c s rule is all =
+    let mine = s.entries.items in
+    let made : map (λ (entry : Entry). entry.call) mine ≡ calls_of script i = is.made ∙ take_all (length mine) (calls_of script i) all in
+    let idle = (is.done all).0 in
+    let unanswered : IsAnswered c.flight → ⊥ = λ answered. subst IsAnswered idle answered in
+    let depth : length (stack_of (pass_of c)).sections ≡ 0 = depth_unanswered c mine unanswered is.kept ∙ (ap (fold step_depth 0) made ∙ ends_level script i rule) in
+    record {
+      member = is.member;
+      done = λ _. record { idle = idle; sections = no_sections (stack_of (pass_of c)).sections depth; offline = (is.done all).1 };
+      kept = λ _. is.kept;
+      made = λ _. made;
+    }
+
+ends_from : (e : Engine) (script : ScriptParts) (from : ℕ) (seats : List (Option Seat)) → ((thread : ℕ) → thread < length seats → (s : Seat) × (slice_get seats thread ≡ Some (Some s)) × IsEndOf e script (from + thread) (Some s))
+    → AreEndsFrom e script from seats
+ends_from e script from [] each = tt
+ends_from e script from (seat ∷ seats) each = (
+  (let first = each 0 (omega arith) in
+  let same : seat ≡ Some first.0 = let at : Some seat ≡ Some (Some first.0) = first.1 in cc in
+  subst (IsEndOf e script from) (sym same) (subst (λ n. IsEndOf e script n (Some first.0)) (let n : from + 0 ≡ from = omega arith in n) first.2)),
+  ends_from e script (suc from) seats
+  (λ thread low.
+  let one = each (suc thread) (omega (arith, low)) in
+  (one.0, one.1, subst (λ n. IsEndOf e script n (Some one.0)) (let n : from + suc thread ≡ suc from + thread = omega arith in n) one.2)),
+)
+
+pub ends : (e : Engine) (script : ScriptParts) (seats : List (Option Seat)) → AreSeats e script seats → HaveMadeAll script seats → AreEndsFrom e script 0 seats
+ends e script seats are all = ends_from e script 0 seats (λ thread low. let one = are thread low in (one.0, one.1, (one.2, all thread one.0 one.1)))

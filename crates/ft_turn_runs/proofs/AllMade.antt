@@ -1,9 +1,9 @@
 -- When no call is left, or no turn.
-use Rattle.std.proofs.Common.{◌≡◌, ℕ, zero, suc, ◌+◌, ◌<◌, ◌≤◌, List, [], ◌∷◌, ◌++◌, length, map, get_or, sum, Option, None, Some, refl, sym, ap, subst, ◌∙◌, arith, inl, inr}
+use Rattle.std.proofs.Common.{◌≡◌, ℕ, zero, suc, ◌+◌, ◌<◌, ◌≤◌, List, [], ◌∷◌, ◌++◌, length, map, get_or, sum, Option, None, Some, refl, sym, ap, subst, ◌∙◌, append_assoc, arith, inl, inr, ◌⊎◌}
 use Rattle.std.specs.Prelude.{fold, if◌then◌else◌, slice_get}
 use Rattle.std.specs.Option.{option_map, option_map_or}
 use Rattle.std.proofs.lemmas.Bool.{cases_lt}
-use Rattle.std.proofs.lemmas.List.{get_or-map, get_or_past, length-map}
+use Rattle.std.proofs.lemmas.List.{append-nil, get_or-map, length-map}
 use Rattle.std.proofs.lemmas.List.Sums.{fold-append, sum-map}
 use Rattle.std.proofs.lemmas.Option.{get_or_from_slice_get, none-some, slice_get-get_or, slice_get-map, slice_get_past, slice_get_within}
 use Rattle.ft_model.specs.declared.entry.Entry.{Entry}
@@ -19,6 +19,8 @@ use Rattle.ft_engine.specs.declared.engine.Engine.{Engine}
 use Rattle.ft_engine.specs.Callers.{bank_of, pass_of}
 use Rattle.ft_turns.specs.Ends.{after_turns}
 use Rattle.ft_turns.specs.Orders.{Machine, answer_try, count_of_calls, finish_try, fresh_thread, next_call, start_machine, thread_at, turn, turns_of}
+use Rattle.ft_turns.specs.declared.schedule.Schedule.{Schedule}
+use Rattle.ft_turns.specs.Schedules.{IsInRound, scheduled}
 use Rattle.ft_turns.proofs.Endings.{calls_at, same_parts}
 use Rattle.ft_ordering.specs.Endings.{lists_of}
 use Rattle.ft_ordering.specs.Ordered.{AreInOrder}
@@ -31,7 +33,7 @@ use Rattle.ft_workers.specs.Workers.{IsBankFor}
 use Rattle.ft_workers.proofs.Asked.{calls_past}
 use Rattle.ft_workers.proofs.Endings.{max_some}
 use Rattle.ft_turn_runs.specs.declared.seats.Seat.{Seat}
-use Rattle.ft_turn_runs.specs.Seats.{AreSeats, HaveMadeAll, HaveTurned, entries_in, entries_made, standing_at, standing_in, standings_of}
+use Rattle.ft_turn_runs.specs.Seats.{AreSeats, HaveMadeAll, HaveTurned, IsHeld, entries_in, entries_made, standing_at, standing_in, standings_of}
 use Rattle.ft_turn_runs.proofs.Seated.{few_made, next_is}
 
 -- ---- turns in which no thread has a call left
@@ -125,3 +127,64 @@ module _ (e : Engine) (script : ScriptParts) (seats : List (Option Seat)) (bank 
             let long = sym (ap length (done.made thread s.entries.items there)) ∙ length-map s.entries.items (λ (x : Entry). x.call) in
             omega (arith, long)
       ]
+
+-- ---- between two turns
+
+-- the turns so far and those that are left are the script's, and that many calls are left
+pub record AreTaking (e : Engine) (script : ScriptParts) (schedule : Schedule) (left : ℕ) (seats : List (Option Seat)) (t : Tokens) : Type 0 where
+  pub seated : AreSeats e script seats
+  pub count : length seats ≡ (shape_of (bank_of e)).passes
+  pub held : IsHeld e t
+  pub round : IsInRound (length script.threads) schedule
+  pub calls : left + entries_made seats ≡ count_of_calls script
+  pub turns : List ℕ
+  pub whole : turns ++ scheduled schedule script.order (length script.threads) ≡ turns_of script
+  pub turned : HaveTurned e script turns seats t
+
+-- one more
+pub taking_on : (e : Engine) (script : ScriptParts) (before after : Schedule) (left less thread : ℕ) (seats put : List (Option Seat)) (t u : Tokens) (is : AreTaking e script before left seats t) → AreSeats e script put → length put ≡ length seats
+    → IsHeld e u → IsInRound (length script.threads) after → less + entries_made put ≡ count_of_calls script
+    → scheduled before script.order (length script.threads) ≡ thread ∷ scheduled after script.order (length script.threads)
+    → HaveTurned e script (is.turns ++ thread ∷ []) put u → AreTaking e script after less put u
+taking_on e script before after left less thread seats put t u is seated count held round calls next turned =
+    record {
+      seated = seated;
+      count = count ∙ is.count;
+      held = held;
+      round = round;
+      calls = calls;
+      turns = is.turns ++ thread ∷ [];
+      whole =
+          let rest = scheduled after script.order (length script.threads) in
+          append_assoc is.turns (thread ∷ []) rest ∙ (ap (λ l. is.turns ++ l) (sym next) ∙ is.whole);
+      turned = turned;
+    }
+
+-- the last one
+module _ (e : Engine) (script : ScriptParts) (schedule : Schedule) (left : ℕ) (seats : List (Option Seat)) (t : Tokens) (rule : IsScript script) (bank : IsBankFor script (shape_of (bank_of e))) (is : AreTaking e script schedule left seats t)
+    (over : (left ≡ 0) ⊎ (scheduled schedule script.order (length script.threads) ≡ [])) where
+  there : (thread : ℕ) → thread < length seats → (s : Seat) × (slice_get seats thread ≡ Some (Some s))
+  there thread low = let one = is.seated thread low in (one.0, one.1)
+
+  pub end_turned : HaveTurned e script (turns_of script) seats t
+  end_turned some =
+      let now = is.turned some in
+      elim over [
+        | inl none ↦
+            let all : HaveMadeAll script seats = all_by_count e script seats bank is.seated is.count (let c = is.calls in omega (arith, none, c)) in
+            (now.0, now.1, rest_in_step script seats all is.turns (scheduled schedule script.order (length script.threads)) (view (pass_of now.0)) is.whole there now.2)
+        | inr ended ↦
+            let whole : is.turns ≡ turns_of script = sym (append-nil is.turns) ∙ (ap (λ l. is.turns ++ l) (sym ended) ∙ is.whole) in
+            (now.0, now.1, subst (λ turns. AreInStep script turns (view (pass_of now.0)) (standings_of seats)) whole now.2)
+      ]
+
+  pub end_made : HaveMadeAll script seats
+  end_made = all_by_turns e script seats bank is.seated is.count rule t end_turned
+
+-- where a call is left there is a thread
+pub some_threads : (script : ScriptParts) (left made : ℕ) → left + made ≡ count_of_calls script → 0 < left → 0 < length script.threads
+some_threads script left made calls some = either script.threads refl
+  where
+    either : (threads : List Thread) → script.threads ≡ threads → 0 < length script.threads
+    either [] is = absurd (let none : count_of_calls script ≡ 0 = ap (λ ts. sum (map (λ (t : Thread). length t.calls) ts)) is in omega (arith, none, calls, some))
+    either (t ∷ threads) is = let long = ap length is in omega (arith, long)

@@ -1,6 +1,7 @@
 pub mod StandIn
 pub mod Visited
 pub mod NextCalls
+pub mod Tries
 pub mod Seated
 pub mod Rows
 pub mod AllMade

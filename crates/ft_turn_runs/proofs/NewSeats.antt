@@ -55,14 +55,14 @@ fresh_new e i c is =
     }
 
 pub new_as : (e : Engine) (i : ℕ) (c d : Caller) → IsNewCaller e i c → IsAsBefore c d → IsCallerOf e d → IsNewCaller e i d
-new_as e i c d is as caller =
+new_as e i c d is before caller =
     record {
-      member = visited_member e i c d is.member as.same caller;
-      idle = as.same.flight ∙ is.idle;
-      cursors = ap length as.same.cursors ∙ is.cursors;
-      kept = as.kept [] is.kept;
-      sections = as.same.sections ∙ is.sections;
-      offline = as.announced ∙ is.offline;
+      member = visited_member e i c d is.member before.same caller;
+      idle = before.same.flight ∙ is.idle;
+      cursors = ap length before.same.cursors ∙ is.cursors;
+      kept = before.kept [] is.kept;
+      sections = before.same.sections ∙ is.sections;
+      offline = before.announced ∙ is.offline;
     }
 
 -- it goes online

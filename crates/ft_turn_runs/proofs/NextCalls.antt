@@ -66,6 +66,13 @@ depth_unanswered c mine not kept =
     ∙ (length-map (begins_of mine) (λ begun. marks_since (thread_of c) mine begun)
     ∙ depth_by mine []))))
 
+pub thread_there : (script : ScriptParts) (i : ℕ) → i < length script.threads → (own : Thread) × (slice_get script.threads i ≡ Some own)
+thread_there script i low =
+    elim (slice_get_cases script.threads i).1 [
+      | inl found ↦ (found.0, found.2)
+      | inr past ↦ absurd (let far = past.0 in omega (arith, low, far))
+    ]
+
 -- ---- the next call
 
 module _ (e : Engine) (script : ScriptParts) (i : ℕ) (c : Caller) (mine : List NamedEntry) (rule : IsScript script) (bank : IsBankFor script (shape_of (bank_of e))) (is : IsBetweenTurns e script i c mine)

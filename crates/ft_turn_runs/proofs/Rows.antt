@@ -22,7 +22,7 @@ module _ {X : Type 0} (xs : List X) (i : ℕ) (x : X) (low : i < length xs) wher
   set_elsewhere j within apart =
       let long : length (slice_set xs i x) ≡ length xs = length-set xs i x in
       slice_get-get_or (slice_set xs i x) j x (omega (arith, within, long))
-      ∙ (ap (λ (y : X). Some y) (get_or-set_other xs i x x j (λ same. apart (sym same))) ∙ sym (slice_get-get_or xs j x within))
+      ∙ (ap (λ (y : X). Some y) (get_or-set_other xs i j x x apart) ∙ sym (slice_get-get_or xs j x within))
 
 module _ (e : Engine) (script : ScriptParts) (seats : List (Option Seat)) (thread : ℕ) (s r : Seat) (at : slice_get seats thread ≡ Some (Some s)) (low : thread < length seats) where
   abbrev put : List (Option Seat)

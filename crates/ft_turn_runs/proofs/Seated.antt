@@ -3,6 +3,7 @@ use Rattle.std.proofs.Common.{◌≡◌, ◌≢◌, ℕ, zero, suc, ◌+◌, ◌
 use Rattle.std.specs.Prelude.{if◌then◌else◌, slice_get, slice_set}
 use Rattle.std.specs.Option.{option_map_or}
 use Rattle.std.proofs.lemmas.List.{length-map, length-take, length_push, map-append}
+use Rattle.std.proofs.lemmas.Bool.{cases_lt, false≢true}
 use Rattle.std.proofs.lemmas.Option.{none-some, same_Some, slice_get_past, slice_get_within}
 use Rattle.ft_model.specs.declared.call.Call.{Call}
 use Rattle.ft_model.specs.declared.entry.Entry.{Entry}
@@ -44,21 +45,21 @@ use Rattle.ft_workers.specs.Workers.{IsBankFor, IsMember}
 use Rattle.ft_workers.proofs.Between.{stays_member, visited_member}
 use Rattle.ft_workers.proofs.Endings.{max_some}
 use Rattle.ft_turn_runs.specs.declared.seats.Seat.{Seat}
-use Rattle.ft_turn_runs.specs.Seats.{GoesOn, HasTried, IsBetweenTurns, IsGiver, TurnsGoOn, standing_in}
+use Rattle.ft_turn_runs.specs.Seats.{GoesOn, HasTried, IsBetweenTurns, IsGiver, TurnsGoOn, has_ended, standing_in}
 use Rattle.ft_turn_runs.proofs.Visited.{visited_step}
 
 -- ---- who is woken is between two turns still
 
 pub woken_between : (e : Engine) (script : ScriptParts) (i : ℕ) (c d : Caller) (mine : List Entry) → IsBetweenTurns e script i c mine → IsAsBefore c d → IsCallerOf e d → IsBetweenTurns e script i d mine
-woken_between e script i c d mine is as caller =
+woken_between e script i c d mine is before caller =
     record {
-      member = visited_member e i c d is.member as.same caller;
-      cursors = ap length as.same.cursors ∙ is.cursors;
-      kept = as.kept mine is.kept;
+      member = visited_member e i c d is.member before.same caller;
+      cursors = ap length before.same.cursors ∙ is.cursors;
+      kept = before.kept mine is.kept;
       made = is.made;
-      next = λ called at. subst (λ (f : Flight). IsNext f called) (sym as.same.flight) (is.next called at);
-      online = λ low. subst (λ n. 0 < n) (sym as.announced) (is.online low);
-      done = λ all. (as.same.flight ∙ (is.done all).0, as.announced ∙ (is.done all).1);
+      next = λ called at. subst (λ (f : Flight). IsNext f called) (sym before.same.flight) (is.next called at);
+      online = λ low. subst (λ n. 0 < n) (sym before.announced) (is.online low);
+      done = λ all. (before.same.flight ∙ (is.done all).0, before.announced ∙ (is.done all).1);
     }
 
 -- no more calls were made than there are
@@ -145,6 +146,53 @@ left_between e script i c d after is all same caller kept offline =
 
 -- ---- a turn
 
+kept_still : (thread : ℕ) (called : Call) (t : Tried) (mine : List Entry) → false ≡ has_ended t → kept_after thread called t mine ≡ mine
+kept_still thread called (tried.Done said stamp mark) mine went = absurd (false≢true went)
+kept_still thread called (tried.NotYet o owner) mine went = refl
+kept_still thread called (tried.Moved first second) mine went = refl
+kept_still thread called tried.NoMemory mine went = refl
+
+kept_more : (thread : ℕ) (called : Call) (t : Tried) (mine : List Entry) → true ≡ has_ended t → length (kept_after thread called t mine) ≡ length mine + 1
+kept_more thread called (tried.Done said stamp mark) mine went = length_push mine (kept_entry thread mine called said stamp mark)
+kept_more thread called (tried.NotYet o owner) mine went = absurd (false≢true (sym went))
+kept_more thread called (tried.Moved first second) mine went = absurd (false≢true (sym went))
+kept_more thread called tried.NoMemory mine went = absurd (false≢true (sym went))
+
+module _ (e : Engine) (script : ScriptParts) (i : ℕ) (c d : Caller) (mine after : List Entry) (called : Call) (is : IsBetweenTurns e script i c mine) (at : slice_get (calls_of script i) (length mine) ≡ Some called) where
+  after_it : (went : Bool) → HasTried e called c mine d after went → IsAfterTry e script i d after
+  after_it went has = subst (IsAfterTry e script i d) (sym has.entries) (after_try e script i c mine is called at has.answer d has.turn)
+
+  pub count_waits : HasTried e called c mine d after false → length after ≡ length mine
+  count_waits has = ap length (has.entries ∙ kept_still (thread_of c) called has.answer mine has.ended)
+
+  pub count_ends : HasTried e called c mine d after true → length after ≡ length mine + 1
+  count_ends has = ap length has.entries ∙ kept_more (thread_of c) called has.answer mine has.ended
+
+  pub waits_between : HasTried e called c mine d after false → IsBetweenTurns e script i d after
+  waits_between has =
+      let low = slice_get_within (calls_of script i) (length mine) called at in
+      let same = count_waits has in
+      more_between e script i d after (after_it false has) (omega (arith, low, same))
+
+  pub goes_between : HasTried e called c mine d after true → (length mine + 1 ≡ length (calls_of script i) → ⊥) → IsBetweenTurns e script i d after
+  goes_between has more =
+      let low = slice_get_within (calls_of script i) (length mine) called at in
+      let longer = count_ends has in
+      more_between e script i d after (after_it true has) (not_last (length mine) (length (calls_of script i)) (length after) low longer more)
+    where
+      not_last : (n m k : ℕ) → n < m → k ≡ n + 1 → (n + 1 ≡ m → ⊥) → k < m
+      not_last n m k low longer more =
+          elim (cases_lt k m) [
+            | inl less ↦ less
+            | inr past ↦ absurd (more (omega (arith, low, longer, past)))
+          ]
+
+  pub leaves_between : HasTried e called c mine d after true → length mine + 1 ≡ length (calls_of script i) → (x : Caller) → SameWork d x → IsCallerOf e x → ((own : List Entry) → IsKept d own → IsKept x own)
+      → announces (view (pass_of x)).log ≡ 0 → IsBetweenTurns e script i x after
+  leaves_between has last x same caller kept offline =
+      let longer = count_ends has in
+      left_between e script i d x after (after_it true has) (omega (arith, last, longer)) same caller kept offline
+
 pub for_bank : (e : Engine) (script : ScriptParts) → IsBankFor script (shape_of (bank_of e)) → 0 < length script.threads → IsFor script (shape_of (bank_of e))
 for_bank e script bank some = record { kinds = bank.kinds; tables = bank.tables; passes = bank.passes ∙ max_some (length script.threads) (λ none. omega (arith, some, none)) }
 
@@ -159,7 +207,7 @@ module _ (script : ScriptParts) (thread : ℕ) (turns : List ℕ) (v : View) (st
 
   -- as many calls have ended as the machine says
   pub marks_count : length (thread_at machine thread).marks ≡ length s.entries
-  marks_count = let as = was.machine.threads thread s at in ap length (sym as.marks) ∙ length-map s.entries (λ (entry : Entry). entry.waited)
+  marks_count = let same = was.machine.threads thread s at in ap length (sym same.marks) ∙ length-map s.entries (λ (entry : Entry). entry.waited)
 
   -- so its next call is the machine's
   pub next_is : (next : Option Call) → slice_get (calls_of script thread) (length s.entries) ≡ next → next_call script thread (thread_at machine thread) ≡ next
@@ -212,9 +260,15 @@ rest_standing c s at_rest =
 
 pub tokens_go_on : (e : Engine) (script : ScriptParts) (thread : ℕ) (s r : Seat) (t u : Tokens) (w c d : Caller) → RestsAs w s.caller → IsAsBefore w c → IsCallerOf e c → IsWoken t c
     → GoesOn script thread c s.entries.items d r.entries.items → IsGiver e d u → RestsAs d r.caller → TurnsGoOn e script thread s t r u
-tokens_go_on e script thread s r t u w c d at_rest as caller woken goes gives rests turns standings giver gave at was =
+tokens_go_on e script thread s r t u w c d at_rest before caller woken goes gives rests turns standings giver gave at was =
     let from = woken_have_floor e giver c t gave.caller caller gave.floor gave.hands woken in
     let now = handed_on script turns (view (pass_of giver)) (view (pass_of c)) standings from was in
-    let same : standing_of c s.entries.items ≡ standing_in s = (resting_stand w c s.entries.items as).1 ∙ rest_standing w s at_rest in
+    let same : standing_of c s.entries.items ≡ standing_in s = (resting_stand w c s.entries.items before).1 ∙ rest_standing w s at_rest in
     let next = goes turns standings (at ∙ ap (λ (x : Standing). Some x) (sym same)) now in
     (d, gives, subst (λ (x : Standing). AreInStep script (turns ++ thread ∷ []) (view (pass_of d)) (slice_set standings thread x)) (rest_standing d r rests) next)
+
+-- the turn of a thread with a call left, by what `try_once` says
+pub tries_go_on : (e : Engine) (script : ScriptParts) (thread : ℕ) (c d : Caller) (mine after : List Entry) (called : Call) (went : Bool) → IsFor script (shape_of (bank_of e)) → IsBetweenTurns e script thread c mine
+    → slice_get (calls_of script thread) (length mine) ≡ Some called → HasTried e called c mine d after went → GoesOn script thread c mine d after
+tries_go_on e script thread c d mine after called went made_for is at has =
+    subst (GoesOn script thread c mine d) (sym has.entries) (try_goes_on e script thread c d mine called has.answer made_for is at has.turn)

@@ -111,11 +111,11 @@ has_ended tried.NoMemory = false
 
 -- a caller with the floor has tried the call once, and its entry is added where it has ended
 pub record HasTried (e : Engine) (called : Call) (c : Caller) (mine : List Entry) (d : Caller) (after : List Entry)
-    (ended : Bool) : Type 0 where
+    (went : Bool) : Type 0 where
   pub answer : Tried
   pub turn : IsTurnOf e called answer c d
   pub entries : after ≡ kept_after (thread_of c) called answer mine
-  pub ended : ended ≡ has_ended answer
+  pub ended : went ≡ has_ended answer
 
 -- where the threads were in step, they are after one more turn of this one, of whose caller these are the entries
 abbrev pub GoesOn : ScriptParts → ℕ → Caller → List Entry → Caller → List Entry → Type 0
@@ -166,6 +166,14 @@ AreNewSeats e script i (seat ∷ seats) = IsNewSeat e script i seat × AreNewSea
 -- none of the first that many threads has a lock, as the last of them knows it that had the floor
 abbrev pub NobodyOwns : Engine → ℕ → Tokens → Type 0
 NobodyOwns e count t = (c : Caller) × IsGiver e c t × NoneOwns (view (pass_of c)) count
+
+-- the caller stands between two turns and owns no lock, where it has had the floor
+pub record HasCome (e : Engine) (script : ScriptParts) (i : ℕ) (c d : Caller) : Type 0 where
+  pub between : IsBetweenTurns e script i d []
+  pub idle : IsIdle d
+  pub sections : stack_of (pass_of d) ≡ no_sections
+  pub floor : HasFloor d
+  pub none : NoneOwns (view (pass_of c)) i → NoneOwns (view (pass_of d)) i
 
 abbrev pub HasSat : Engine → ℕ → Caller → Tokens → Type 0
 HasSat e i c t = NoneOwns (view (pass_of c)) i → NobodyOwns e (i + 1) t

@@ -1,11 +1,11 @@
 //! The callers of a new engine before the first turn: all rest, and each has had the floor once.
-ghost use Rattle.std.specs.Prelude.{◌≡◌, ◌+◌, ◌<◌, ◌↔◌, [], IfOk, IsTrue, Some, length};
+ghost use Rattle.std.specs.Prelude.{◌≡◌, ◌+◌, ◌<◌, [], IfOk, Some, length};
 ghost use Rattle.ft_bank.specs.Passes.{shape_of};
 ghost use Rattle.ft_engine.specs.Callers.{AreFresh, bank_of};
 ghost use Rattle.ft_engine.specs.Resting.{HasFloor};
 ghost use Rattle.ft_model.specs.Histories.{calls_of};
 ghost use Rattle.ft_model.specs.Limits.{most_cursors};
-ghost use Rattle.ft_turn_runs.specs.Seats.{AreNewFrom, AreNewSeats, AreSeats, HasSat, HaveTurned, IsHeld, IsNewCaller, IsNewSeat, NobodyOwns, entries_made};
+ghost use Rattle.ft_turn_runs.specs.Seats.{AreNewFrom, AreNewSeats, AreSeats, HasCome, HasSat, HaveTurned, IsHeld, IsNewCaller, IsNewSeat, NobodyOwns, entries_made};
 ghost use Rattle.ft_workers.specs.Workers.{IsBankFor};
 
 use crate::seats::Seat;
@@ -42,13 +42,24 @@ fn gather_all(
     Ok((first, others))
 }
 
-/// Whether the script's thread has calls; one that the script doesn't have has none.
-fn has_calls(script: &ScriptParts, thread: usize) -> bool
-    ensures { IsTrue result ↔ (0 < length (calls_of script.now thread)) }
+/// How many calls the script's thread has; none where there is no such thread.
+fn call_count(script: &ScriptParts, thread: usize) -> usize
+    ensures { result ≡ length (calls_of script.now thread) }
 {
     match script.threads.as_slice().get(thread) {
-        Some(own) => !own.calls.is_empty(),
-        None => false,
+        Some(own) => own.calls.len(),
+        None => 0,
+    }
+}
+
+/// Has the caller of a thread go online, where the thread has calls.
+fn come(engine: &Engine, script: &ScriptParts, thread: usize, caller: &mut Caller)
+    requires caller { IsNewCaller engine.now thread caller.old }
+    requires floor { HasFloor caller.old }
+    ensures { HasCome engine.now script.now thread caller.old caller.new }
+{
+    if call_count(script, thread) > 0 {
+        engine.enter(caller);
     }
 }
 
@@ -67,9 +78,7 @@ fn sit(
     ensures sat { HasSat engine.now thread caller result.1 }
 {
     let mut caller = caller;
-    if has_calls(script, thread) {
-        engine.enter(&mut caller);
-    }
+    come(engine, script, thread, &mut caller);
     let (caller, tokens) = engine.rest(caller);
     let entries = Vec::new(alloc);
     (Seat { caller, entries }, tokens)

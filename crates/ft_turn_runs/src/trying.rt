@@ -1,10 +1,11 @@
 //! One turn of a thread: its caller is woken, tries its next call, and rests.
-ghost use Rattle.std.specs.Prelude.{◌≡◌, ◌+◌, ◌<◌, IfOk, OnOk, length, if◌then◌else◌};
+ghost use Rattle.std.specs.Prelude.{◌≡◌, ◌↔◌, ◌+◌, ◌<◌, IfOk, IsTrue, OnOk, Some, length, slice_get, if◌then◌else◌};
 ghost use Rattle.ft_bank.specs.Passes.{shape_of};
 ghost use Rattle.ft_engine.specs.Attempts.{MayAttempt};
 ghost use Rattle.ft_engine.specs.Callers.{IsCallerOf, bank_of};
 ghost use Rattle.ft_engine.specs.Keeping.{IsKept};
 ghost use Rattle.ft_engine.specs.Resting.{HasFloor};
+ghost use Rattle.ft_model.specs.Histories.{calls_of};
 ghost use Rattle.ft_model.specs.Scripts.{IsScript};
 ghost use Rattle.ft_turn_runs.specs.Seats.{GoesOn, HasTried, IsBetweenTurns, IsHeld, IsSeatOf, TurnsGoOn};
 ghost use Rattle.ft_workers.specs.Workers.{IsBankFor};
@@ -43,8 +44,45 @@ fn try_once(
             })?;
             Ok(true)
         }
-        Tried::NotYet(_, _) | Tried::Moved(_, _) => Ok(false),
+        Tried::NotYet(_, _) => Ok(false),
+        Tried::Moved(_, _) => Ok(false),
         Tried::NoMemory => Err(AllocError),
+    }
+}
+
+/// Tries the next call of a thread once. Where it has ended, and was the thread's last one, the caller goes offline. It
+/// answers whether it has.
+fn try_call(
+    alloc: Global,
+    engine: &Engine,
+    script: &ScriptParts,
+    thread: usize,
+    caller: &mut Caller,
+    entries: &mut Vec<Entry>,
+    call: &Call,
+    last: bool,
+) -> Result<bool, AllocError>
+    requires script { IsScript script.now }
+    requires bank { IsBankFor script.now (shape_of (bank_of engine.now)) }
+    requires thread { thread < length script.now.threads }
+    requires between { IsBetweenTurns engine.now script.now thread caller.old entries.old.items }
+    requires floor { HasFloor caller.old }
+    requires call { slice_get (calls_of script.now thread) (length entries.old.items) ≡ Some call.now }
+    requires last { IsTrue last ↔ (length entries.old.items + 1 ≡ length (calls_of script.now thread)) }
+    ensures between { OnOk result (IsBetweenTurns engine.now script.now thread caller.new entries.new.items) }
+    ensures floor { OnOk result (HasFloor caller.new) }
+    ensures count { IfOk result (λ ended. length entries.new.items ≡ length entries.old.items + (if ended then 1 else 0)) }
+    ensures turn { OnOk result (GoesOn script.now thread caller.old entries.old.items caller.new entries.new.items) }
+{
+    let _ = (script, thread);
+    let ended = try_once(alloc, engine, caller, entries, call)?;
+    if ended {
+        if last {
+            engine.leave(caller);
+        }
+        Ok(true)
+    } else {
+        Ok(false)
     }
 }
 
@@ -69,17 +107,13 @@ fn try_next(
     ensures turn { OnOk result (GoesOn script.now thread caller.old entries.old.items caller.new entries.new.items) }
 {
     let calls = script.threads.as_slice()[thread].calls.as_slice();
-    let Some(call) = calls.get(entries.len()) else {
-        return Ok(false);
-    };
-    if !try_once(alloc, engine, caller, entries, call)? {
-        return Ok(false);
-    }
-    if entries.len() == calls.len() {
-        engine.leave(caller);
-        Ok(true)
-    } else {
-        Ok(true)
+    let place = entries.len();
+    match calls.get(place) {
+        Some(call) => {
+            let last = place + 1 == calls.len();
+            try_call(alloc, engine, script, thread, caller, entries, call, last)
+        }
+        None => Ok(false),
     }
 }
 

@@ -19,7 +19,7 @@ use std::alloc::{AllocError, Global};
 /// Whose turn is next; nobody's where no call is left, or no turn.
 fn next_turn(schedule: &mut Schedule, script: &ScriptParts, left: usize) -> Option<u32>
     requires script { IsScript script.now }
-    requires some { left ≡ 0 → ⊥ → 0 < length script.now.threads }
+    requires some { 0 < left → 0 < length script.now.threads }
     requires round { IsInRound (length script.now.threads) schedule.old }
     ensures round { IsInRound (length script.now.threads) schedule.new }
     ensures some { IfSome result (λ thread. thread < length script.now.threads) }
@@ -28,7 +28,7 @@ fn next_turn(schedule: &mut Schedule, script: &ScriptParts, left: usize) -> Opti
     ensures left { IfSome result (λ thread. 0 < left) }
     ensures end { IfNone result ((left ≡ 0) ⊎ (scheduled schedule.old script.now.order (length script.now.threads) ≡ [])) }
 {
-    if left == 0 || script.threads.is_empty() {
+    if left == 0 {
         return None;
     }
     schedule.next(script.order.as_slice(), script.threads.len())

@@ -124,7 +124,9 @@ new_at e script from (Some s ∷ seats) are (suc thread) low =
     (rest.0, rest.1, subst (λ n. IsNewSeat e script n (Some rest.0)) (let same : suc from + thread ≡ from + suc thread = omega arith in same) rest.2)
 
 pub new_seats : (e : Engine) (script : ScriptParts) (seats : List (Option Seat)) → AreNewSeats e script 0 seats → AreSeats e script seats
-new_seats e script seats are thread low = let one = new_at e script 0 seats are thread low in (one.0, one.1, one.2.0)
+new_seats e script seats are thread low =
+    let one = new_at e script 0 seats are thread low in
+    (one.0, one.1, subst (λ n. IsSeatOf e script n one.0) (let same : 0 + thread ≡ thread = omega arith in same) one.2.0)
 
 pub none_made : (e : Engine) (script : ScriptParts) (from : ℕ) (seats : List (Option Seat)) → AreNewSeats e script from seats → entries_made seats ≡ 0
 none_made e script from [] are = refl

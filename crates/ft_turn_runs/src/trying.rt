@@ -74,7 +74,8 @@ fn try_call(
     ensures count { IfOk result (λ ended. length entries.new.items ≡ length entries.old.items + (if ended then 1 else 0)) }
     ensures turn { OnOk result (GoesOn script.now thread caller.old entries.old.items caller.new entries.new.items) }
 {
-    let _ = (script, thread);
+    let _ = script;
+    let _ = thread;
     let ended = try_once(alloc, engine, caller, entries, call)?;
     if ended {
         if last {

@@ -34,6 +34,14 @@ fn next_turn(schedule: &mut Schedule, script: &ScriptParts, left: usize) -> Opti
     schedule.next(script.order.as_slice(), script.threads.len())
 }
 
+/// How many calls are left after a turn, in which one has ended or not.
+fn left_after(left: usize, ended: bool) -> usize
+    requires { 0 < left }
+    ensures { result + (if ended then 1 else 0) ≡ left }
+{
+    if ended { left - 1 } else { left }
+}
+
 /// The turn of a thread: its seat is taken up, and put back.
 fn take_turn(
     alloc: Global,
@@ -89,9 +97,7 @@ pub(crate) fn take_turns(
     while let Some(thread) = next_turn(&mut schedule, script, left) {
         let (given, ended) = take_turn(alloc, engine, script, seats, thread as usize, tokens)?;
         tokens = given;
-        if ended {
-            left -= 1;
-        }
+        left = left_after(left, ended);
     }
     Ok(tokens)
 }

@@ -7,7 +7,6 @@ use Rattle.ft_turn_runs.specs.Seats.{has_ended}
 use Rattle.ft_turn_runs.proofs.Tries.{tried_turn}
 use Rattle.ft_turn_runs.proofs.trying.try_once.Goals as goal
 
-not_memory : (t r : Tried) → t ≡ r → (r ≡ tried.NoMemory → ⊥) → t ≡ tried.NoMemory → ⊥
 
 pub returns-in-NotYet : goal.returns-in-NotYet
 returns-in-NotYet c =

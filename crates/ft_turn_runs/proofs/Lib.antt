@@ -7,3 +7,4 @@ pub mod Rows
 pub mod AllMade
 pub mod NewSeats
 pub mod Ended
+pub mod Ordered

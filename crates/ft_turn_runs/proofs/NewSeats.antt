@@ -1,6 +1,6 @@
 -- Threads before their first turn.
 use Rattle.std.proofs.Common.{◌≡◌, ℕ, zero, suc, ◌+◌, ◌<◌, ◌≤◌, true, List, [], ◌∷◌, ◌++◌, length, map, Option, None, Some, refl, sym, ap, subst, ◌∙◌, arith, inl, inr}
-use Rattle.std.specs.Prelude.{slice_get}
+use Rattle.std.specs.Prelude.{Err, IfOk, Ok, Result, slice_get}
 use Rattle.std.specs.Option.{option_map}
 use Rattle.std.specs.List.{sum_by}
 use Rattle.std.proofs.lemmas.List.{length-map, length-replicate}
@@ -22,10 +22,11 @@ use Rattle.ft_bank.specs.Sections.{no_sections, stack_of}
 use Rattle.ft_engine.specs.declared.caller.Caller.{Caller}
 use Rattle.ft_engine.specs.declared.caller.Flight.{Flight}
 use Rattle.ft_engine.specs.declared.engine.Engine.{Engine}
+use Rattle.ft_engine.specs.declared.resting.RestingCaller.{RestingCaller}
 use Rattle.ft_engine.specs.Callers.{IsCallerOf, IsFresh, bank_of, pass_of, thread_of}
 use Rattle.ft_engine.specs.Flights.{IsNext}
 use Rattle.ft_engine.specs.Keeping.{IsKept}
-use Rattle.ft_engine.specs.Resting.{HasFloor, IsAsBefore, IsWoken, KeepsFloor}
+use Rattle.ft_engine.specs.Resting.{HasFloor, IsAsBefore, IsRestingCallerOf, IsWoken, KeepsFloor, RestsAs}
 use Rattle.ft_engine.specs.Visits.{SameWork}
 use Rattle.ft_engine.proofs.NewCallers.{new_kept}
 use Rattle.ft_ordering.specs.Beginnings.{HasFloorFrom, NoneOwns}
@@ -38,7 +39,7 @@ use Rattle.ft_workers.specs.Workers.{IsBankFor}
 use Rattle.ft_workers.proofs.Between.{visited_member}
 use Rattle.ft_workers.proofs.Endings.{max_some}
 use Rattle.ft_turn_runs.specs.declared.seats.Seat.{Seat}
-use Rattle.ft_turn_runs.specs.Seats.{AreNewSeats, AreSeats, HaveTurned, IsBetweenTurns, IsGiver, IsNewCaller, IsNewSeat, IsSeatOf, NobodyOwns, entries_in, entries_made, standing_at, standing_in, standings_of}
+use Rattle.ft_turn_runs.specs.Seats.{AreNewFrom, AreNewSeats, AreSeats, HaveTurned, IsBetweenTurns, IsGiver, IsNewCaller, IsNewRest, IsNewSeat, IsSeatOf, NobodyOwns, entries_in, entries_made, standing_at, standing_in, standings_of}
 use Rattle.ft_turn_runs.proofs.Visited.{visited_none}
 
 -- ---- callers
@@ -156,3 +157,25 @@ new_turned e script seats t bank are count nobody_owns some =
     let containers : containers_in (shape_of (bank_of e)) ≡ length script.containers = ap length bank.kinds ∙ length-map script.containers (λ (one : Declaration). one.kind) in
     (c, gives, new_in_step script (view (pass_of c)) (standings_of seats) threads (all_nobody e script seats are)
     (λ o low. nobodys_are_free e c gives.caller gives.floor passes o (subst (λ n. o < n) (sym containers) low)))
+
+-- ---- callers that rest before the first turn
+
+pub new_rest : (e : Engine) (i : ℕ) (c : Caller) (r : RestingCaller) → IsNewCaller e i c → IsRestingCallerOf e r → RestsAs c r → IsNewRest e i r
+new_rest e i c r is resting rests = record { resting = resting.0; caller = c; rests = rests; new = is }
+
+pub rest_push : (e : Engine) (i : ℕ) (others : List RestingCaller) (r : RestingCaller) → AreNewFrom e i others → IsNewRest e (i + length others) r → AreNewFrom e i (others ++ r ∷ [])
+rest_push e i [] r are is = (subst (λ n. IsNewRest e n r) (let same : i + 0 ≡ i = omega arith in same) is, tt)
+rest_push e i (other ∷ others) r are is = (are.0, rest_push e (suc i) others r are.1 (subst (λ n. IsNewRest e n r) (let same : i + length (other ∷ others) ≡ suc i + length others = omega arith in same) is))
+
+pub rest_of : (e : Engine) (i : ℕ) (r : RestingCaller) → IsNewRest e i r → IsRestingCallerOf e r
+rest_of e i r is = (is.resting, (is.caller, is.new.member.caller, is.rests))
+
+-- ---- results
+
+pub if_ok : {X E : Type 0} {P Q : X → Type 0} (r : Result X E) → ((x : X) → P x → Q x) → IfOk r P → IfOk r Q
+if_ok (Ok x) then_is is = then_is x is
+if_ok (Err e) then_is is = is
+
+pub if_ok3 : {X E : Type 0} {P Q R S : X → Type 0} (r : Result X E) → ((x : X) → P x → Q x → R x → S x) → IfOk r P → IfOk r Q → IfOk r R → IfOk r S
+if_ok3 (Ok x) then_is one two three = then_is x one two three
+if_ok3 (Err e) then_is one two three = one

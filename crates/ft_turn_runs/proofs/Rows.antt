@@ -1,5 +1,5 @@
 -- The seats of all threads, when one of them is put back.
-use Rattle.std.proofs.Common.{◌≡◌, ◌≢◌, ℕ, zero, suc, ◌+◌, ◌<◌, ◌≤◌, List, [], ◌∷◌, length, map, get_or, Option, None, Some, refl, sym, ap, subst, ◌∙◌, arith, inl, inr}
+use Rattle.std.proofs.Common.{◌≡◌, ◌≢◌, ℕ, zero, suc, ◌+◌, ◌<◌, ◌≤◌, List, [], ◌∷◌, ◌++◌, length, map, get_or, Option, None, Some, refl, sym, ap, subst, ◌∙◌, arith, inl, inr}
 use Rattle.std.specs.Prelude.{slice_get, slice_set}
 use Rattle.std.specs.Option.{option_map}
 use Rattle.std.proofs.lemmas.Bool.{cases_eq}
@@ -7,10 +7,17 @@ use Rattle.std.proofs.lemmas.List.{get_or-set_other, get_or-set_same, length-map
 use Rattle.std.proofs.lemmas.List.Sums.{sum_by-set}
 use Rattle.std.proofs.lemmas.Option.{get_or_from_slice_get, same_Some, slice_get-get_or, slice_get-map}
 use Rattle.ft_model.specs.declared.script.ScriptParts.{ScriptParts}
+use Rattle.ft_trace.specs.declared.Shape.{Shape}
+use Rattle.ft_bank.specs.declared.tokens.Tokens.{Tokens}
+use Rattle.ft_bank.specs.Passes.{view}
 use Rattle.ft_engine.specs.declared.engine.Engine.{Engine}
+use Rattle.ft_engine.specs.Callers.{pass_of}
 use Rattle.ft_ordering.specs.Standing.{Standing}
+use Rattle.ft_ordering.specs.Turns.{AreInStep}
+use Rattle.ft_workers.specs.Workers.{IsBankFor}
+use Rattle.ft_workers.proofs.Endings.{max_some}
 use Rattle.ft_turn_runs.specs.declared.seats.Seat.{Seat}
-use Rattle.ft_turn_runs.specs.Seats.{AreSeats, IsSeatOf, entries_in, entries_made, standing_at, standing_in, standings_of}
+use Rattle.ft_turn_runs.specs.Seats.{AreSeats, HaveTurned, IsSeatOf, TurnsGoOn, entries_in, entries_made, standing_at, standing_in, standings_of}
 
 module _ {X : Type 0} (xs : List X) (i : ℕ) (x : X) (low : i < length xs) where
   pub set_there : slice_get (slice_set xs i x) i ≡ Some x
@@ -51,3 +58,28 @@ module _ (e : Engine) (script : ScriptParts) (seats : List (Option Seat)) (threa
 
   pub standing_there : slice_get (standings_of seats) thread ≡ Some (standing_in s)
   standing_there = slice_get-map standing_at seats thread ∙ ap (option_map standing_at) at
+
+-- each thread has its seat
+pub seat_low : (script : ScriptParts) (k : Shape) (seats : List (Option Seat)) (thread : ℕ) → IsBankFor script k → length seats ≡ k.passes → thread < length script.threads → thread < length seats
+seat_low script k seats thread bank count low =
+    let same : length seats ≡ length script.threads = count ∙ (bank.passes ∙ max_some (length script.threads) (λ none. omega (arith, low, none))) in
+    omega (arith, low, same)
+
+-- a seat that is taken up is the thread's
+pub taken_seat : (e : Engine) (script : ScriptParts) (seats : List (Option Seat)) (thread : ℕ) (seat : Option Seat) (s : Seat) → AreSeats e script seats → thread < length seats → seat ≡ get_or seats thread seat → seat ≡ Some s
+    → (slice_get seats thread ≡ Some (Some s)) × IsSeatOf e script thread s
+taken_seat e script seats thread seat s are low read is =
+    let one = are thread low in
+    let same : one.0 ≡ s = same_Some one.0 s (sym (get_or_from_slice_get seats thread (Some one.0) seat one.1) ∙ (sym read ∙ is)) in
+    (one.1 ∙ ap (λ (x : Seat). Some (Some x)) same, subst (IsSeatOf e script thread) same one.2)
+
+pub some_seat : (e : Engine) (script : ScriptParts) (seats : List (Option Seat)) (thread : ℕ) (seat : Option Seat) → AreSeats e script seats → thread < length seats → seat ≡ get_or seats thread seat → ((s : Seat) → seat ≡ Some s → ⊥) → ⊥
+some_seat e script seats thread seat are low read none = let one = are thread low in none one.0 (read ∙ get_or_from_slice_get seats thread (Some one.0) seat one.1)
+
+-- the turn of a thread is one of all
+pub turn_of_all : (e : Engine) (script : ScriptParts) (turns : List ℕ) (seats : List (Option Seat)) (thread : ℕ) (s r : Seat) (t u : Tokens) → slice_get seats thread ≡ Some (Some s) → thread < length seats → TurnsGoOn e script thread s t r u
+    → HaveTurned e script turns seats t → HaveTurned e script (turns ++ thread ∷ []) (slice_set seats thread (Some r)) u
+turn_of_all e script turns seats thread s r t u at low goes turned some =
+    let now = turned some in
+    let next = goes turns (standings_of seats) now.0 now.1 (standing_there e script seats thread s r at low) now.2 in
+    (next.0, next.1, subst (AreInStep script (turns ++ thread ∷ []) (view (pass_of next.0))) (sym (standings_put e script seats thread s r at low)) next.2)

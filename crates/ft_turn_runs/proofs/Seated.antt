@@ -10,6 +10,7 @@ use Rattle.ft_model.specs.declared.entry.Entry.{Entry}
 use Rattle.ft_model.specs.declared.reply.Reply.{Reply}
 use Rattle.ft_model.specs.declared.script.ScriptParts.{ScriptParts}
 use Rattle.ft_model.specs.Histories.{calls_of}
+use Rattle.ft_model.specs.Limits.{most_cursors}
 use Rattle.ft_history.proofs.Places.{take_next}
 use Rattle.ft_trace.specs.declared.View.{View}
 use Rattle.ft_trace.specs.Acts.{announces, seen_writes}
@@ -73,7 +74,7 @@ few_made e script i c mine is =
 -- the caller is online still, whatever the try came to
 pub record IsAfterTry (e : Engine) (script : ScriptParts) (i : ℕ) (d : Caller) (after : List Entry) : Type 0 where
   pub member : IsMember e i d
-  pub cursors : length (hands_of d) ≡ 64
+  pub cursors : length (hands_of d) ≡ most_cursors
   pub kept : IsKept d after
   pub made : map (λ entry. entry.call) after ≡ take (length after) (calls_of script i)
   pub next : (called : Call) → slice_get (calls_of script i) (length after) ≡ Some called → IsNext (flight_of d) called

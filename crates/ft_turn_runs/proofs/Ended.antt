@@ -6,20 +6,26 @@ use Rattle.ft_model.specs.declared.entry.Entry.{Entry}
 use Rattle.ft_model.specs.declared.script.ScriptParts.{ScriptParts}
 use Rattle.ft_model.specs.Histories.{calls_of}
 use Rattle.ft_model.specs.Scripts.{IsScript}
+use Rattle.ft_trace.specs.declared.View.{View}
+use Rattle.ft_trace.specs.Acts.{announces}
 use Rattle.ft_bank.specs.Passes.{view}
-use Rattle.ft_bank.specs.Sections.{stack_of}
+use Rattle.ft_bank.specs.Sections.{Stack, stack_of}
 use Rattle.ft_engine.specs.declared.caller.Caller.{Caller}
 use Rattle.ft_engine.specs.declared.caller.Flight.{Flight}
 use Rattle.ft_engine.specs.declared.engine.Engine.{Engine}
-use Rattle.ft_engine.specs.Callers.{pass_of}
+use Rattle.ft_engine.specs.Callers.{IsCallerOf, IsIdle, pass_of, thread_of}
+use Rattle.ft_engine.specs.Closings.{AreKept}
 use Rattle.ft_engine.specs.Flights.{IsAnswered}
+use Rattle.ft_engine.specs.Resting.{IsRestDone, RestsAs, rests_in}
 use Rattle.ft_workers.specs.declared.workers.Worker.{Worker}
-use Rattle.ft_workers.specs.Workers.{HasWorked}
+use Rattle.ft_workers.specs.Workers.{HasTaken, HasWorked}
 use Rattle.ft_workers.proofs.Asked.{ends_level}
 use Rattle.ft_workers.proofs.Between.{no_sections}
 use Rattle.ft_workers.proofs.Depths.{step_depth}
+use Rattle.ft_workers.proofs.Endings.{next_taken}
+use Rattle.ft_workers.proofs.WorkerLemmas.{last_next}
 use Rattle.ft_turn_runs.specs.declared.seats.Seat.{Seat}
-use Rattle.ft_turn_runs.specs.Seats.{AreEndsFrom, AreSeats, HaveMadeAll, IsBetweenTurns, IsEndOf}
+use Rattle.ft_turn_runs.specs.Seats.{AreEndsFrom, AreSeats, HaveMadeAll, IsBetweenTurns, IsEndOf, IsSeatOf}
 use Rattle.ft_turn_runs.proofs.NextCalls.{depth_unanswered}
 
 -- a thread with no call left is a worker that is done
@@ -55,3 +61,27 @@ ends_from e script from (seat ∷ seats) each = (
 
 pub ends : (e : Engine) (script : ScriptParts) (seats : List (Option Seat)) → AreSeats e script seats → HaveMadeAll script seats → AreEndsFrom e script 0 seats
 ends e script seats are all = ends_from e script 0 seats (λ thread low. let one = are thread low in (one.0, one.1, (one.2, all thread one.0 one.1)))
+
+-- ---- a thread is taken in
+
+pub end_rest : (e : Engine) (script : ScriptParts) (i : ℕ) (s : Seat) → IsScript script → IsSeatOf e script i s → length (calls_of script i) ≤ length s.entries.items → IsRestDone s.caller
+end_rest e script i s rule is all =
+    let done = (end_worked e script i is.caller s rule is.between all).done refl in
+    record {
+      idle = is.rests.flight ∙ done.idle;
+      sections = ap (λ (z : Stack). z.sections) is.rests.sections ∙ done.sections;
+      offline = ap (λ (z : View). announces z.log) is.rests.pass ∙ done.offline;
+    }
+
+pub end_next : (e : Engine) (script : ScriptParts) (c : Caller) (lists : List (List Entry)) (s : Seat) → HasTaken e script c lists → IsSeatOf e script (length lists) s → (rests_in s.caller).next ≡ 0
+end_next e script c lists s taken is = ap (λ (z : View). z.next) is.rests.pass ∙ last_next e script c is.caller lists taken is.between.member
+
+pub end_taken : (e : Engine) (script : ScriptParts) (c d : Caller) (s : Seat) (lists : List (List Entry)) → IsScript script → HasTaken e script c lists → IsSeatOf e script (length lists) s → length (calls_of script (length lists)) ≤ length s.entries.items
+    → IsCallerOf e d → thread_of d ≡ thread_of c → IsIdle d → announces (view (pass_of d)).log ≡ announces (view (pass_of c)).log → stack_of (pass_of d) ≡ stack_of (pass_of c)
+    → (view (pass_of d)).parts ≡ (view (pass_of c)).parts + (rests_in s.caller).parts
+    → ((mine theirs : List (List Entry)) (w : Caller) → RestsAs w s.caller → AreKept c mine → AreKept w theirs → thread_of w ≡ thread_of c + length mine → AreKept d (mine ++ theirs)) → HasTaken e script d (lists ++ s.entries.items ∷ [])
+end_taken e script c d s lists rule taken is all caller thread idle announced sections parts kept =
+    let w = is.caller in
+    next_taken e script c d (worker_of w s) lists taken (end_worked e script (length lists) w s rule is.between all) refl caller thread idle announced sections
+    (parts ∙ ap (λ (z : View). (view (pass_of c)).parts + z.parts) is.rests.pass)
+    (λ mine theirs. kept mine theirs w is.rests)

@@ -1,9 +1,3 @@
-use Rattle.std.specs.declared.alloc.Global.{Global}
-use Rattle.std.proofs.Common.{◌≡◌, ℕ, ◌++◌, [], ◌∷◌, List, map, sym, ap, subst, ◌∙◌}
-use Rattle.std.specs.Prelude.{Vec}
-use Rattle.std.proofs.lemmas.List.{length-map, map-append}
-use Rattle.ft_model.specs.declared.entry.Entry.{Entry}
-use Rattle.ft_workers.specs.Workers.{HasTaken}
 use Rattle.ft_turn_runs.proofs.ending.take_in.Goals as goal
 
 pub join_resting-requires-clause-last : goal.join_resting-requires-clause-last

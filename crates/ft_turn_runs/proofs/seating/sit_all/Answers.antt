@@ -1,11 +1,11 @@
-use Rattle.std.proofs.Common.{◌≡◌, ◌+◌, ◌++◌, ◌∷◌, [], ◌<◌, ℕ, suc, Option, Some, length, ap, sym, ◌∙◌, subst, arith}
-use Rattle.std.specs.Vec.Iter.{into_iter_items}
+use Rattle.std.proofs.Common.{◌≡◌, ◌+◌, ◌++◌, ◌∷◌, [], ◌<◌, ℕ, suc, Option, Some, length, ap, sym, ◌∙◌, subst, arith, rules}
+use Rattle.std.specs.Vec.Iter.{into_iter_items, into_iter_len}
 use Rattle.std.proofs.lemmas.List.{length_push}
 use Rattle.ft_bank.specs.Passes.{view}
 use Rattle.ft_engine.specs.Callers.{pass_of}
 use Rattle.ft_ordering.specs.Beginnings.{NoneOwns}
 use Rattle.ft_turn_runs.specs.Seats.{AreNewFrom, AreNewSeats, IsNewSeat, NobodyOwns}
-use Rattle.ft_turn_runs.proofs.NewSeats.{new_push, none_handed, rest_of}
+use Rattle.ft_turn_runs.proofs.NewSeats.{new_push, no_thread, none_handed, rest_of}
 use Rattle.ft_turn_runs.proofs.seating.sit_all.Goals as goal
 
 pub wake-caller-requires-clause-resting : goal.wake-caller-requires-clause-resting
@@ -17,7 +17,24 @@ wake-caller-requires-clause-resting c =
     rest_of e n c.in-Some.other (subst (AreNewFrom e n) steps at.invariant.3).0
 
 pub loop-other-init : goal.loop-other-init
-loop-other-init c = ?
+loop-other-init c =
+    let e = c.args.engine.now in
+    let script = c.args.script.now in
+    let s = c.sit-seat.result.0 in
+    let t = c.sit-seat.result.1 in
+    let items : c.push.new.self.items ≡ Some s ∷ [] = c.in_ok-push.ensures.items ∙ ap (λ l. l ++ Some s ∷ []) c.in_ok-seats.ensures.items in
+    let one : length c.push.new.self.items ≡ 1 = ap length items in
+    let rest : into_iter_items c.into_iter-other-iterator.result ≡ c.args.others.items = search rules in
+    let left : into_iter_len c.into_iter-other-iterator.result ≡ length (into_iter_items c.into_iter-other-iterator.result) = search rules in
+    let long = ap length rest in
+    let count = c.requires.count in (
+      subst (AreNewSeats e script 0) (sym items) (c.sit-seat.ensures.seat, tt),
+      c.sit-seat.ensures.tokens,
+      subst (λ k. NobodyOwns e k t) (sym one) (c.sit-seat.ensures.sat (no_thread (view (pass_of c.args.first)))),
+      subst (λ k. AreNewFrom e k (into_iter_items c.into_iter-other-iterator.result)) (sym one) (subst (AreNewFrom e 1) (sym rest) c.requires.others),
+      omega (arith, one, long, count),
+      left,
+    )
 
 pub loop-other-preserved : goal.loop-other-preserved
 loop-other-preserved c =

@@ -1,4 +1,4 @@
-use Rattle.std.proofs.Common.{◌≡◌, ◌+◌, ◌<◌, [], Option, None, Some, IfNone, length, refl, arith, ◌∙◌}
+use Rattle.std.proofs.Common.{◌≡◌, ◌+◌, ◌<◌, [], Option, None, Some, IfNone, length, refl, ap, arith, ◌∙◌}
 use Rattle.ft_turns.specs.Orders.{count_of_calls}
 use Rattle.ft_turn_runs.specs.Seats.{entries_made}
 use Rattle.ft_turn_runs.proofs.AllMade.{end_made, end_turned, some_threads, taking_on}
@@ -36,7 +36,7 @@ loop-thread-preserved c =
     c.in-Some.ensures.turn (turn.ensures.turn inv.turns inv.turned)
 
 pub loop-thread-smaller : goal.loop-thread-smaller
-loop-thread-smaller c = ?
+loop-thread-smaller c = let longer = ap length c.in-Some.ensures.turn in omega (arith, longer)
 
 pub returns-clause-turned : goal.returns-clause-turned
 returns-clause-turned c =

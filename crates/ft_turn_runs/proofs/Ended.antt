@@ -29,7 +29,7 @@ use Rattle.ft_turn_runs.specs.Seats.{AreEndsFrom, AreSeats, HaveMadeAll, IsBetwe
 use Rattle.ft_turn_runs.proofs.NextCalls.{depth_unanswered}
 
 -- a thread with no call left is a worker that is done
-pub worker_of : Caller → Seat → Worker
+abbrev pub worker_of : Caller → Seat → Worker
 worker_of c s = record { caller = c; entries = s.entries; done = true }
 
 pub end_worked : (e : Engine) (script : ScriptParts) (i : ℕ) (c : Caller) (s : Seat) → IsScript script → IsBetweenTurns e script i c s.entries.items → length (calls_of script i) ≤ length s.entries.items → HasWorked e script i (worker_of c s)
@@ -60,7 +60,11 @@ ends_from e script from (seat ∷ seats) each = (
 )
 
 pub ends : (e : Engine) (script : ScriptParts) (seats : List (Option Seat)) → AreSeats e script seats → HaveMadeAll script seats → AreEndsFrom e script 0 seats
-ends e script seats are all = ends_from e script 0 seats (λ thread low. let one = are thread low in (one.0, one.1, (one.2, all thread one.0 one.1)))
+ends e script seats are all =
+    ends_from e script 0 seats
+    (λ thread low.
+    let one = are thread low in
+    (one.0, one.1, subst (λ n. IsEndOf e script n (Some one.0)) (let same : thread ≡ 0 + thread = omega arith in same) (one.2, all thread one.0 one.1)))
 
 -- ---- a thread is taken in
 

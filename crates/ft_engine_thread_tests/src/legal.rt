@@ -1,29 +1,41 @@
 //! Histories of threads that run at the same time are legal.
 
-use crate::scripts::{alike, numbered, repeated};
+use crate::scripts::{alike, apart, numbered, repeated};
+use crossbeam_utils::Backoff;
 use ft_history::{Verdict, judge};
 use ft_model::Storage;
 use ft_script::parse;
-use ft_workers::{NoGate, run_workers};
+use ft_workers::{Gate, NoGate, run_workers};
 use std::alloc::Global;
 use std::process::Abort;
 use std::sync::Wait;
+use std::sync::atomic::{AtomicU64, Ordering};
 use std::test::Fail;
 use std::thread::Threads;
 
-/// How many entries the history of the script has. It is legal.
-fn legal_entries<R: Threads + Wait + Sync>(
+/// How many entries the history of the script has, which is run with this gate. It is legal.
+fn gated_entries<R: Threads + Wait + Sync, G: Gate>(
     rt: &R,
     alloc: Global,
     text: &str,
+    gate: &G,
 ) -> Result<usize, Fail> {
     let script = parse(alloc, text.as_bytes())?;
-    let ran = run_workers(rt, alloc, &script, &NoGate)?;
+    let ran = run_workers(rt, alloc, &script, gate)?;
     let verdict = judge(alloc, Storage::Tables, &script, ran.history.as_slice())?;
     if verdict != Verdict::Legal {
         return Err(Fail::from("the history is legal"));
     }
     Ok(ran.history.len())
+}
+
+/// The same without a gate.
+fn legal_entries<R: Threads + Wait + Sync>(
+    rt: &R,
+    alloc: Global,
+    text: &str,
+) -> Result<usize, Fail> {
+    gated_entries(rt, alloc, text, &NoGate)
 }
 
 /// The same of a script in which each thread makes its lines that many times.
@@ -71,6 +83,46 @@ fn most_threads_on_one_dict(rt: HostRuntime) -> Result<(), Fail> {
 fn most_threads_in_sections_on_two_dicts(rt: HostRuntime) -> Result<(), Fail> {
     let text = numbered(rt.alloc(), 64)?;
     assert_eq!(rt; legal_entries(&rt, rt.alloc(), &text)?, 256);
+    Ok(())
+}
+
+#[test]
+fn most_threads_on_as_many_dicts(rt: HostRuntime) -> Result<(), Fail> {
+    let text = apart(rt.alloc(), 64)?;
+    assert_eq!(rt; legal_entries(&rt, rt.alloc(), &text)?, 256);
+    Ok(())
+}
+
+/// Delays the first thread before each of its calls, and counts these.
+#[derive(Drop)]
+struct Delay {
+    delayed: AtomicU64,
+}
+
+impl Gate for Delay {
+    fn before(&self, thread: u32, _index: u32) {
+        if thread == 0 {
+            self.delayed.fetch_add(1, Ordering::SeqCst);
+            let backoff = Backoff::new();
+            for _ in 0..50 {
+                backoff.snooze();
+            }
+        }
+    }
+
+    fn after(&self, _thread: u32, _index: u32) {}
+}
+
+#[test]
+fn a_thread_is_delayed_at_each_call(rt: HostRuntime) -> Result<(), Fail> {
+    let lines = "begin d l\nset d 1 1\nappend l 1\nend\nget d 1\npop l\n";
+    let threads = [("A", lines), ("B", lines), ("C", lines)];
+    let text = repeated(rt.alloc(), "dict d\nlist l\n", &threads, 20)?;
+    let gate = Delay {
+        delayed: AtomicU64::new(0),
+    };
+    assert_eq!(rt; gated_entries(&rt, rt.alloc(), &text, &gate)?, 360);
+    assert_eq!(rt; gate.delayed.load(Ordering::SeqCst), 120);
     Ok(())
 }
 

@@ -6,4 +6,4 @@
 mod legal;
 mod scripts;
 
-pub use crate::scripts::{alike, numbered, repeated};
+pub use crate::scripts::{alike, apart, numbered, repeated};

@@ -49,3 +49,18 @@ pub fn numbered(alloc: Global, threads: u32) -> Result<String, AllocError> {
     }
     Ok(text)
 }
+
+/// The text of a script with that many dicts and threads, each of which has a dict of its own.
+pub fn apart(alloc: Global, threads: u32) -> Result<String, AllocError> {
+    let mut text = String::new(alloc);
+    for dict in 0..threads {
+        text.push_str(&format!(in alloc; "dict d{dict}\n")?)?;
+    }
+    for thread in 0..threads {
+        let lines = format!(in alloc;
+            "thread T{thread}\nset d{thread} 1 1\nset d{thread} 2 2\nget d{thread} 1\nlen d{thread}\n"
+        )?;
+        text.push_str(&lines)?;
+    }
+    Ok(text)
+}

@@ -36,7 +36,7 @@ use Rattle.ft_engine.specs.declared.caller.Flight.{Flight}
 use Rattle.ft_engine.specs.declared.caller.Flight.TheVariants as flight
 use Rattle.ft_engine.specs.declared.engine.Engine.{Engine}
 use Rattle.ft_engine.specs.Answering.{AreHandsOf, HasAnswer, HasLockedFor, HasNone, HasToWait, IsTryOf, LeavesHands}
-use Rattle.ft_engine.specs.Callers.{AreFresh, IsCallerOf, IsFresh, thread_of}
+use Rattle.ft_engine.specs.Callers.{AreFresh, AreOver, IsCallerOf, IsFresh, thread_of}
 use Rattle.ft_engine.specs.Flights.{IsAnswered, IsIn, IsNext, is_begin, objects_of}
 use Rattle.ft_engine.specs.Halves.{HasBothHalves, IsInHalves}
 use Rattle.ft_engine.specs.Keeping.{AreKeptBy, IsKept, kept_entry, pending}
@@ -44,7 +44,7 @@ use Rattle.ft_engine.specs.Visits.{SameWork}
 use Rattle.ft_engine.specs.Owning.{AreOwnedBy}
 use Rattle.ft_engine.proofs.Marks.{last_of}
 use Rattle.ft_engine.proofs.Owned.{again_owned, answered_owned, calm_owned, done_owned, refused_owned, up_owned, waits_on_owned, waits_owned}
-use Rattle.ft_engine.proofs.Passing.{IsCalm, ready_calm}
+use Rattle.ft_engine.proofs.Passing.{IsCalm, IsSteady, calm_steady, steady_in}
 use Rattle.ft_engine.proofs.Keeping.{kept_again, kept_answered, kept_done, kept_refused, kept_waits, kept_waits_on}
 
 -- ---- a new caller
@@ -75,6 +75,7 @@ fresh e room i c opening hands calls word made idle =
       sections = ap (λ (s : Stack). s.sections) opening.2;
       next = ap (λ (v : View). v.next) is;
       parts = ap (λ (v : View). v.parts) is;
+      tokens = ap (λ (v : View). v.tokens) is;
     }
   where
     none_at : (n k : ℕ) → cursor_at (replicate n None) k ≡ None
@@ -83,11 +84,14 @@ fresh e room i c opening hands calls word made idle =
     none_at (suc n) (suc k) = none_at n k
 
 -- lists that were kept, when the pass has done nothing that they speak of
-pub calm_kept : (c d : Caller) (mine : List NamedEntry) → IsCalm (view c.pass) (view d.pass) → stack_of d.pass ≡ stack_of c.pass → d.flight ≡ c.flight → IsKept c mine → IsKept d mine
-calm_kept c d mine calm stack flies kept = (
+pub steady_kept : (c d : Caller) (mine : List NamedEntry) → IsSteady (view c.pass) (view d.pass) → stack_of d.pass ≡ stack_of c.pass → d.flight ≡ c.flight → IsKept c mine → IsKept d mine
+steady_kept c d mine calm stack flies kept = (
   subst (λ (y : ℕ × List Entry × Stack × Flight). AreKeptBy y.0 y.1 y.2 y.3 mine) (λ i. (ap (λ (n : ℕ). n - 1) (sym calm.number) i, sym calm.entries i, sym stack i, sym flies i)) kept.0,
   subst (λ (y : Stack × Flight). AreOwnedBy (view d.pass) y.0 y.1 mine) (λ i. (sym stack i, sym flies i)) (calm_owned (view c.pass) (view d.pass) (stack_of c.pass) c.flight mine calm.number calm.lists calm.owners calm.cursors kept.1),
 )
+
+pub calm_kept : (c d : Caller) (mine : List NamedEntry) → IsCalm (view c.pass) (view d.pass) → stack_of d.pass ≡ stack_of c.pass → d.flight ≡ c.flight → IsKept c mine → IsKept d mine
+calm_kept c d mine calm stack flies kept = steady_kept c d mine (calm_steady (view c.pass) (view d.pass) calm) stack flies kept
 
 -- the number of a pass
 pub some_number : (p : Pass) → 0 < (view p).number
@@ -281,35 +285,51 @@ hands_stay k b hands called p q (step.NotYet o owner) none x are = record { curs
 hands_stay k b hands called p q (step.Moved first second) none x are = record { cursors = λ number low. are.cursors number low ∙ sym (x.2.entry.cursors number); over = are.over }
 hands_stay k b hands called p q step.NoMemory none x are = record { cursors = λ number low. are.cursors number low ∙ sym (x.0.entry.cursors number); over = are.over }
 
--- ---- nothing but the pass's announcements
+-- ---- nothing but the pass's announcements, or tokens that it took
+
+-- another caller that has the same but for its pass
+pub record HasSame (c d : Caller) : Type 0 where
+  pub cursors : d.cursors.items ≡ c.cursors.items
+  pub calls : d.calls ≡ c.calls
+  pub made : d.made ≡ c.made
+  pub flight : d.flight ≡ c.flight
+
+pub steady_caller : (e : Engine) (c d : Caller) → IsCallerOf e c → HasSame c d → IsPassOf e.bank d.pass → stack_of d.pass ≡ stack_of c.pass → IsSteady (view c.pass) (view d.pass) → IsCallerOf e d
+steady_caller e c d is same pass stack steady = record {
+  pass = pass;
+  inside = subst (λ (y : List (Option Cursor) × Flight). IsIn e.bank d.pass y.0 y.1) (λ i. (sym same.cursors i, sym same.flight i)) (steady_in e.bank c.pass d.pass pass stack steady c.cursors.items c.flight is.inside);
+  made = same.made ∙ (is.made ∙ sym (ap length steady.entries));
+  calls = same.calls ∙ is.calls;
+  few = let m = same.made in let n = same.calls in let k = is.few in omega (arith, m, n, k);
+  word = let n = same.calls in let k = is.word in omega (arith, n, k);
+  left = let m = same.made in let n = same.calls in let l = steady.left in let k = is.left in omega (arith, m, n, l, k);
+  cursors = λ number low. ap (λ (hands : List (Option Cursor)). cursor_at hands number) same.cursors ∙ (is.cursors number (subst (λ (hands : List (Option Cursor)). number < length hands) same.cursors low) ∙ sym (steady.cursors number));
+  over = subst (AreOver (shape_of e.bank)) (sym same.cursors) is.over;
+}
+
+pub steady_work : (c d : Caller) → HasSame c d → stack_of d.pass ≡ stack_of c.pass → IsSteady (view c.pass) (view d.pass) → SameWork c d
+steady_work c d same stack steady = record {
+  number = steady.number;
+  next = steady.next;
+  parts = steady.parts;
+  entries = steady.entries;
+  taken = steady.lists;
+  sections = stack;
+  cursors = same.cursors;
+  calls = same.calls;
+  made = same.made;
+  flight = same.flight;
+  seen = steady.seen;
+}
+
+pub same_but_pass : (c : Caller) (q : Pass) → HasSame c (record c { pass = q })
+same_but_pass c q = record { cursors = refl; calls = refl; made = refl; flight = refl }
 
 pub calm_caller : (e : Engine) (c : Caller) (q : Pass) → IsCallerOf e c → c.flight ≡ flight.Idle → IsPassOf e.bank q → stack_of q ≡ stack_of c.pass → IsCalm (view c.pass) (view q) → IsCallerOf e (record c { pass = q })
-calm_caller e c q is idle pass stack calm = record {
-  pass = pass;
-  inside = subst (IsIn e.bank q c.cursors.items) (sym idle) (ready_calm e.bank c.pass q (subst (IsIn e.bank c.pass c.cursors.items) idle is.inside) pass stack calm);
-  made = is.made ∙ sym (ap length calm.entries);
-  calls = is.calls;
-  few = is.few;
-  word = is.word;
-  left = let l = calm.left in let k = is.left in omega (arith, l, k);
-  cursors = λ number low. is.cursors number low ∙ sym (calm.cursors number);
-  over = is.over;
-}
+calm_caller e c q is idle pass stack calm = steady_caller e c (record c { pass = q }) is (same_but_pass c q) pass stack (calm_steady (view c.pass) (view q) calm)
 
 pub calm_work : (c : Caller) (q : Pass) → stack_of q ≡ stack_of c.pass → IsCalm (view c.pass) (view q) → SameWork c (record c { pass = q })
-calm_work c q stack calm = record {
-  number = calm.number;
-  next = calm.next;
-  parts = calm.parts;
-  entries = calm.entries;
-  taken = calm.lists;
-  sections = stack;
-  cursors = refl;
-  calls = refl;
-  made = refl;
-  flight = refl;
-  seen = calm.seen;
-}
+calm_work c q stack calm = steady_work c (record c { pass = q }) (same_but_pass c q) stack (calm_steady (view c.pass) (view q) calm)
 
 pub ready_of : (e : Engine) (c : Caller) → IsCallerOf e c → c.flight ≡ flight.Idle → IsReady e.bank c.pass
 ready_of e c is idle = subst (IsIn e.bank c.pass c.cursors.items) idle is.inside

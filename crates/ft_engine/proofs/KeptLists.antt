@@ -114,22 +114,27 @@ kept_then thread (x ∷ xs) ys (l ∷ ls) ms had found are more =
 given : (w : View) → w.number ≢ 0 → lists_of w ≡ all_lists w
 given w live = miss w.number 0 w.lists (all_lists w) live
 
--- what the taken pass had and found comes first
-joined_had : (c d other : Caller) (n : ℕ) → view d.pass ≡ noted (ReadCounter n) (both (view c.pass) (view other.pass)) → had_of d ≡ had_of other ++ had_of c
-joined_had c d other n is = ap (λ (v : View). had_locks v.number v.log) is
+-- what a pass has that took another in: what the taken pass had and found comes first
+pub record TakesIn (v u w : View) : Type 0 where
+  pub number : w.number ≡ v.number
+  pub entries : w.entries ≡ v.entries
+  pub lists : w.lists ≡ v.lists ++ lists_of u
+  pub had : had_locks w.number w.log ≡ had_locks u.number u.log ++ had_locks v.number v.log
+  pub found : found_owners w.log ≡ found_owners u.log ++ found_owners v.log
+  pub cursors : (k : ℕ) → cursor_in k w.log ≡ cursor_in k v.log
 
-joined_found : (c d other : Caller) (n : ℕ) → view d.pass ≡ noted (ReadCounter n) (both (view c.pass) (view other.pass)) → found_of d ≡ found_of other ++ found_of c
-joined_found c d other n is = ap (λ (v : View). found_owners v.log) is
+pub joined_in : (v u w : View) (n : ℕ) → w ≡ noted (ReadCounter n) (both v u) → TakesIn v u w
+joined_in v u w n is = subst (TakesIn v u) (sym is) (record { number = refl; entries = refl; lists = refl; had = refl; found = refl; cursors = λ k. refl })
 
-module _ (c d other : Caller) (n : ℕ) (m : List NamedEntry) (mine theirs : List (List NamedEntry)) (is : view d.pass ≡ noted (ReadCounter n) (both (view c.pass) (view other.pass))) (stack : stack_of d.pass ≡ stack_of c.pass) (flies : d.flight ≡ c.flight) (live : (view other.pass).number ≢ 0) (are : AreKept c (m ∷ mine)) (more : AreKept other theirs) (next : thread_of other ≡ thread_of c + length (m ∷ mine)) where
+module _ (c d other : Caller) (m : List NamedEntry) (mine theirs : List (List NamedEntry)) (is : TakesIn (view c.pass) (view other.pass) (view d.pass)) (stack : stack_of d.pass ≡ stack_of c.pass) (flies : d.flight ≡ c.flight) (live : (view other.pass).number ≢ 0) (are : AreKept c (m ∷ mine)) (more : AreKept other theirs) (next : thread_of other ≡ thread_of c + length (m ∷ mine)) where
   finds_old : AreOwners (found_of c) (found_of d)
-  finds_old o q has = ap (is_owner_in o q) (joined_found c d other n is) ∙ in_right o q (found_of other) (found_of c) has
+  finds_old o q has = ap (is_owner_in o q) is.found ∙ in_right o q (found_of other) (found_of c) has
 
   finds_new : AreOwners (found_of other) (found_of d)
-  finds_new o q has = ap (is_owner_in o q) (joined_found c d other n is) ∙ in_left o q (found_of other) (found_of c) has
+  finds_new o q has = ap (is_owner_in o q) is.found ∙ in_left o q (found_of other) (found_of c) has
 
   had_either : (o q : ℕ) → is_owner_in o q (had_of d) ≡ true → (is_owner_in o q (had_of other) ≡ true) ⊎ (is_owner_in o q (had_of c) ≡ true)
-  had_either o q has = in_either o q (had_of other) (had_of c) (sym (ap (is_owner_in o q) (joined_had c d other n is)) ∙ has)
+  had_either o q has = in_either o q (had_of other) (had_of c) (sym (ap (is_owner_in o q) is.had) ∙ has)
 
   -- owners of the threads so far
   only_old : (o q : ℕ) → q ≤ thread_of c + length (m ∷ mine) → is_owner_in o q (had_of d) ≡ true → is_owner_in o q (had_of c) ≡ true
@@ -145,11 +150,11 @@ module _ (c d other : Caller) (n : ℕ) (m : List NamedEntry) (mine theirs : Lis
       (λ (old : is_owner_in o q (had_of c) ≡ true). let high = (all_within c (m ∷ mine) are o q old).1 in let e = next in absurd (omega (arith, low, high, e))) (had_either o q has)
 
   number : (view d.pass).number ≡ (view c.pass).number
-  number = ap (λ (v : View). v.number) is
+  number = is.number
 
   lists : (view c.pass).lists ++ all_lists (view other.pass) ≡ (view d.pass).lists
   lists =
-      ap (λ (ls : List (List Entry)). (view c.pass).lists ++ ls) (sym (given (view other.pass) live)) ∙ sym (ap (λ (v : View). v.lists) is)
+      ap (λ (ls : List (List Entry)). (view c.pass).lists ++ ls) (sym (given (view other.pass) live)) ∙ sym is.lists
 
   joined_within : (o q : ℕ) → is_owner_in o q (had_of d) ≡ true → ((view d.pass).number ≤ q) × (q ≤ (view d.pass).number + length (view d.pass).lists)
   joined_within o q has =
@@ -182,15 +187,15 @@ module _ (c d other : Caller) (n : ℕ) (m : List NamedEntry) (mine theirs : Lis
             let same = number in
             old.named o (subst (λ (k : ℕ). is_owner_in o k (had_of c) ≡ true) number (only_old o (view d.pass).number (omega (arith, some, same)) has));
         within = joined_within;
-        walked = λ k. ap (λ (v : View). option_map container_of (cursor_in k v.log)) is ∙ old.walked k;
+        walked = λ k. ap (option_map container_of) (is.cursors k) ∙ old.walked k;
         begun = old.begun;
       } in
       subst (λ (x : Stack × Flight). AreOwnedBy (view d.pass) x.0 x.1 m) (λ i. (sym stack i, sym flies i)) now
 
   joined_all : IsIdle other → AreKept d ((m ∷ mine) ++ theirs)
   joined_all idle =
-      let threads : thread_of c ≡ thread_of d = sym (ap (λ (v : View). v.number - 1) is) in
-      let same = kept_same (thread_of c) (view c.pass).entries (stack_of c.pass) c.flight m are.0.0 (view d.pass).entries (stack_of d.pass) (ap (λ (v : View). v.entries) is) stack in
+      let threads : thread_of c ≡ thread_of d = sym (ap (λ (k : ℕ). k - 1) is.number) in
+      let same = kept_same (thread_of c) (view c.pass).entries (stack_of c.pass) c.flight m are.0.0 (view d.pass).entries (stack_of d.pass) is.entries stack in
       let front = more_kept (suc (thread_of c)) mine (view c.pass).lists (had_of c) (found_of c) (had_of d) (found_of d) finds_old (λ o q low high has. only_old o q (omega (arith, high)) has) are.1 in
       let back = more_kept (thread_of other) theirs (all_lists (view other.pass)) (had_of other) (found_of other) (had_of d) (found_of d) finds_new (λ o q low high has. only_new o q low has) (all_kept other theirs idle more) in
       let all = kept_then (suc (thread_of c)) mine theirs (view c.pass).lists (all_lists (view other.pass)) (had_of d) (found_of d) front
@@ -199,6 +204,6 @@ module _ (c d other : Caller) (n : ℕ) (m : List NamedEntry) (mine theirs : Lis
         subst (λ (x : ℕ × List (List Entry)). AreKeptFrom (suc x.0) (mine ++ theirs) x.1 (had_of d) (found_of d)) (λ i. (threads i, lists i)) all,
       )
 
-pub joined_state : (c d other : Caller) (n : ℕ) (mine theirs : List (List NamedEntry)) → view d.pass ≡ noted (ReadCounter n) (both (view c.pass) (view other.pass)) → stack_of d.pass ≡ stack_of c.pass → d.flight ≡ c.flight → (view other.pass).number ≢ 0 → IsIdle other → AreKept c mine → AreKept other theirs → thread_of other ≡ thread_of c + length mine → AreKept d (mine ++ theirs)
-joined_state c d other n [] theirs is stack flies live idle are more next = absurd are
-joined_state c d other n (m ∷ mine) theirs is stack flies live idle are more next = joined_all c d other n m mine theirs is stack flies live are more next idle
+pub joined_state : (c d other : Caller) (mine theirs : List (List NamedEntry)) → TakesIn (view c.pass) (view other.pass) (view d.pass) → stack_of d.pass ≡ stack_of c.pass → d.flight ≡ c.flight → (view other.pass).number ≢ 0 → IsIdle other → AreKept c mine → AreKept other theirs → thread_of other ≡ thread_of c + length mine → AreKept d (mine ++ theirs)
+joined_state c d other [] theirs is stack flies live idle are more next = absurd are
+joined_state c d other (m ∷ mine) theirs is stack flies live idle are more next = joined_all c d other m mine theirs is stack flies live are more next idle

@@ -1,5 +1,5 @@
 -- What calls on dicts and sets come to, and looks at them, in the words that all calls share.
-use Rattle.std.proofs.Common.{◌≡◌, ◌<◌, ℕ, false, List, refl, sym, ap, subst}
+use Rattle.std.proofs.Common.{◌≡◌, ◌<◌, ℕ, false, true, List, refl, sym, ap, subst}
 use Rattle.std.specs.Prelude.{Option, None, Some}
 use Rattle.ft_model.specs.declared.call.Call.{Call}
 use Rattle.ft_model.specs.declared.call.Call.TheVariants as call
@@ -38,7 +38,7 @@ use Rattle.ft_dict.specs.Values.{SetsDefault}
 use Rattle.ft_merging.specs.Joining.{JoinsBy}
 use Rattle.ft_merging.specs.Parting.{PartsBy}
 use Rattle.ft_replacing.specs.Replacing.{IsReplaced}
-use Rattle.ft_engine.specs.Answering.{IsLooked, IsTryOf}
+use Rattle.ft_engine.specs.Answering.{IsLooked, IsTryOf, copies}
 use Rattle.ft_engine.specs.Contentions.{StopsCall}
 use Rattle.ft_engine.specs.Flights.{objects_by}
 use Rattle.ft_engine.proofs.ListLooks.{StopsAt}
@@ -112,24 +112,24 @@ keyed_clear_outcome o called v w step.NoMemory x = absurd x
 
 -- ---- copies
 
-pub keyed_copy_outcome : (objects : Objects) (called : Call) (v w : View) (result : Step) → 0 < v.left → IsCopyOf objects called v w result → Outcome called objects v w result
-keyed_copy_outcome objects called v w (step.Done said stamp) left x = under_locks objects called said stamp v w left x
-keyed_copy_outcome objects called v w (step.NotYet o owner) left x = x
-keyed_copy_outcome objects called v w (step.Moved a b) left x = absurd x
-keyed_copy_outcome objects called v w step.NoMemory left x =
+pub keyed_copy_outcome : (objects : Objects) (called : Call) (v w : View) (result : Step) → copies called ≡ true → 0 < v.left → IsCopyOf objects called v w result → Outcome called objects v w result
+keyed_copy_outcome objects called v w (step.Done said stamp) copying left x = under_locks objects called said stamp v w left x
+keyed_copy_outcome objects called v w (step.NotYet o owner) copying left x = x
+keyed_copy_outcome objects called v w (step.Moved a b) copying left x = absurd x
+keyed_copy_outcome objects called v w step.NoMemory copying left x =
     let n = loaded_nothing x.before x.after x.did.0 in
-    (nothing_then v x.before w (only_nothing v x.before x.took) (nothing_then x.before x.after w n (only_nothing x.after w x.gone)), within_then objects v x.before x.after w x.took x.within n.pass.number (loaded_owners x.before x.after x.did.0) x.gone x.owners)
+    (nothing_then v x.before w (only_nothing v x.before x.took) (nothing_then x.before x.after w n (only_nothing x.after w x.gone)), within_then objects v x.before x.after w x.took x.within n.pass.number (loaded_owners x.before x.after x.did.0) x.gone x.owners, copying)
 
 -- ---- looks
 
-pub keyed_copy_looked : (k : Shape) (o : ℕ) (some : Picture → Type 0) (called : Call) (v w : View) (answer : Look) → StopsAt o called → IsCopyGlanceOf k o some called v w answer → IsLooked called v w answer
-keyed_copy_looked k o some called v w (look.Done said stamp) stops x = x
-keyed_copy_looked k o some called v w (look.Contended a b) stops x = (x.part, x.own, x.loaded, stops a b x.part x.stops)
-keyed_copy_looked k o some called v w look.NoMemory stops x = x.0
+pub keyed_copy_looked : (k : Shape) (o : ℕ) (some : Picture → Type 0) (called : Call) (v w : View) (answer : Look) → copies called ≡ true → StopsAt o called → IsCopyGlanceOf k o some called v w answer → IsLooked called v w answer
+keyed_copy_looked k o some called v w (look.Done said stamp) copying stops x = x
+keyed_copy_looked k o some called v w (look.Contended a b) copying stops x = (x.part, x.own, x.loaded, stops a b x.part x.stops, x.looks)
+keyed_copy_looked k o some called v w look.NoMemory copying stops x = (x.0, copying)
 
 pub key_looked : (o : ℕ) (key : Key) (called : Call) (v w : View) (answer : Look) → ((a b : ℕ) (part : List Act) → Stops o key a b part → StopsCall called a b part) → IsLookOf o key called v w answer → IsLooked called v w answer
 key_looked o key called v w (look.Done said stamp) stops x = x
-key_looked o key called v w (look.Contended a b) stops x = (x.part, x.own, x.loaded, stops a b x.part x.stops)
+key_looked o key called v w (look.Contended a b) stops x = (x.part, x.own, x.loaded, stops a b x.part x.stops, x.looks)
 key_looked o key called v w look.NoMemory stops x = absurd x
 
 -- by the call that was given

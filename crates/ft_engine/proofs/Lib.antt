@@ -18,4 +18,5 @@ pub mod CursorCalls
 pub mod IterCalls
 pub mod KeyedCalls
 pub mod GivingUp
+pub mod AtRest
 pub mod LookCalls

@@ -1,5 +1,5 @@
 -- What the tries of calls on lists come to, in the words that all calls share.
-use Rattle.std.proofs.Common.{◌≡◌, ◌<◌, ℕ, List, ◌∷◌, refl, sym, ap, ◌∙◌, subst}
+use Rattle.std.proofs.Common.{◌≡◌, ◌<◌, ℕ, true, List, refl, sym, ap, subst}
 use Rattle.std.specs.Prelude.{Option, Some, None}
 use Rattle.ft_model.specs.declared.call.Call.TheVariants as call
 use Rattle.ft_model.specs.declared.call.ListCall.{ListCall}
@@ -22,7 +22,7 @@ use Rattle.ft_section.specs.Trying.{SectionsAfter}
 use Rattle.ft_growth.specs.Adding.{IsTryOf as IsAddTryOf}
 use Rattle.ft_list.specs.Copies.{IsCopyOf}
 use Rattle.ft_list.specs.Growing.{AddsItems, ExtendsBy, IsClearOf}
-use Rattle.ft_engine.specs.Answering.{IsTryOf}
+use Rattle.ft_engine.specs.Answering.{IsTryOf, copies}
 use Rattle.ft_engine.specs.Flights.{objects_by}
 use Rattle.ft_engine.proofs.Looking.{IsPlain, outcome_walked, tried_of}
 use Rattle.ft_engine.proofs.Outcomes.{Outcome, add_outcome, gave_up_adds, gave_up_owners, loaded_comes, loaded_nothing, locked_entry, under_locks}
@@ -53,13 +53,13 @@ clear_outcome l v w (step.NotYet o owner) x = x
 clear_outcome l v w (step.Moved a b) x = absurd x
 clear_outcome l v w step.NoMemory x = absurd x
 
-pub copy_outcome : (objects : Objects) (called : Call) (v w : View) (result : Step) → 0 < v.left → IsCopyOf objects called v w result → Outcome called objects v w result
-copy_outcome objects called v w (step.Done said stamp) left x = under_locks objects called said stamp v w left x
-copy_outcome objects called v w (step.NotYet o owner) left x = x
-copy_outcome objects called v w (step.Moved a b) left x = absurd x
-copy_outcome objects called v w step.NoMemory left x =
+pub copy_outcome : (objects : Objects) (called : Call) (v w : View) (result : Step) → copies called ≡ true → 0 < v.left → IsCopyOf objects called v w result → Outcome called objects v w result
+copy_outcome objects called v w (step.Done said stamp) copying left x = under_locks objects called said stamp v w left x
+copy_outcome objects called v w (step.NotYet o owner) copying left x = x
+copy_outcome objects called v w (step.Moved a b) copying left x = absurd x
+copy_outcome objects called v w step.NoMemory copying left x =
     let n = loaded_nothing x.before x.after x.loaded in
-    (nothing_then v x.before w (only_nothing v x.before x.took) (nothing_then x.before x.after w n (only_nothing x.after w x.gone)), within_then objects v x.before x.after w x.took x.within n.pass.number (loaded_owners x.before x.after x.loaded) x.gone x.owners)
+    (nothing_then v x.before w (only_nothing v x.before x.took) (nothing_then x.before x.after w n (only_nothing x.after w x.gone)), within_then objects v x.before x.after w x.took x.within n.pass.number (loaded_owners x.before x.after x.loaded) x.gone x.owners, copying)
 
 -- a call that makes a cursor is an `iter`
 pub iter_list : (lc : ListCall) (n : ℕ) → cursor_of_list lc ≡ Some n → lc ≡ list.Iter n

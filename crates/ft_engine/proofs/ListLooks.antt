@@ -1,5 +1,5 @@
 -- What looks at lists answer, in the words that all looks share.
-use Rattle.std.proofs.Common.{◌≡◌, ℕ, ℤ, pos, negsuc, List, inl, inr, ⊎_elim, subst, sym}
+use Rattle.std.proofs.Common.{◌≡◌, ℕ, ℤ, true, pos, negsuc, List, inl, inr, ⊎_elim, subst, sym}
 use Rattle.std.specs.Prelude.{◌⊎◌}
 use Rattle.ft_model.specs.declared.call.Call.{Call}
 use Rattle.ft_model.specs.declared.call.Call.TheVariants as call
@@ -15,7 +15,7 @@ use Rattle.ft_list.specs.Glances.{IsCopyGlanceOf}
 use Rattle.ft_list.specs.Indexes.{IsLookGetOf}
 use Rattle.ft_list.specs.Looks.{IsGetOf}
 use Rattle.ft_list.specs.Pairs.{IsGlanceOfBoth}
-use Rattle.ft_engine.specs.Answering.{IsLooked}
+use Rattle.ft_engine.specs.Answering.{IsLooked, copies}
 use Rattle.ft_engine.specs.Contentions.{StopsCall}
 
 -- what stops a look at one container stops the call
@@ -24,12 +24,12 @@ StopsAt o called = (a b : ℕ) (part : List Act) → StopsAtVersion o a b part �
 
 pub glance_looked : (o : ℕ) (called : Call) (v w : View) (answer : Look) → StopsAt o called → IsGlanceOf o called v w answer → IsLooked called v w answer
 glance_looked o called v w (look.Done said stamp) stops x = x
-glance_looked o called v w (look.Contended a b) stops x = (x.part, x.own, x.loaded, stops a b x.part x.stops)
+glance_looked o called v w (look.Contended a b) stops x = (x.part, x.own, x.loaded, stops a b x.part x.stops, x.looks)
 glance_looked o called v w look.NoMemory stops x = absurd x
 
 item_looked : (o index : ℕ) (v w : View) (answer : Look) → IsGetOf o index v w answer → IsLooked (call.List o (list.Get (pos index))) v w answer
 item_looked o index v w (look.Done said stamp) x = x
-item_looked o index v w (look.Contended a b) x = (x.part, x.own, x.loaded, x.stops)
+item_looked o index v w (look.Contended a b) x = (x.part, x.own, x.loaded, x.stops, x.looks)
 item_looked o index v w look.NoMemory x = absurd x
 
 pub get_looked : (o : ℕ) (index : ℤ) (v w : View) (answer : Look) → IsLookGetOf o index v w answer → IsLooked (call.List o (list.Get index)) v w answer
@@ -39,13 +39,13 @@ get_looked o (negsuc below) v w answer x = glance_looked o (call.List o (list.Ge
 pub both_looked : (o m : ℕ) (called : Call) (v w : View) (answer : Look) → ((a b : ℕ) (part : List Act) → StopsAtVersion o a b part ⊎ StopsAtVersion m a b part → StopsCall called a b part) → IsGlanceOfBoth o m called v w answer → IsLooked called v w answer
 both_looked o m called v w (look.Done said stamp) stops x = x
 both_looked o m called v w (look.Contended a b) stops x =
-    ⊎_elim (λ (y : IsStopped o a b v w). (y.part, y.own, y.loaded, stops a b y.part (inl y.stops))) (λ (y : IsStopped m a b v w). (y.part, y.own, y.loaded, stops a b y.part (inr y.stops))) x
+    ⊎_elim (λ (y : IsStopped o a b v w). (y.part, y.own, y.loaded, stops a b y.part (inl y.stops), y.looks)) (λ (y : IsStopped m a b v w). (y.part, y.own, y.loaded, stops a b y.part (inr y.stops), y.looks)) x
 both_looked o m called v w look.NoMemory stops x = absurd x
 
-pub copy_looked : (k : Shape) (o : ℕ) (called : Call) (v w : View) (answer : Look) → StopsAt o called → IsCopyGlanceOf k o called v w answer → IsLooked called v w answer
-copy_looked k o called v w (look.Done said stamp) stops x = x
-copy_looked k o called v w (look.Contended a b) stops x = (x.part, x.own, x.loaded, stops a b x.part x.stops)
-copy_looked k o called v w look.NoMemory stops x = x.0
+pub copy_looked : (k : Shape) (o : ℕ) (called : Call) (v w : View) (answer : Look) → copies called ≡ true → StopsAt o called → IsCopyGlanceOf k o called v w answer → IsLooked called v w answer
+copy_looked k o called v w (look.Done said stamp) copying stops x = x
+copy_looked k o called v w (look.Contended a b) copying stops x = (x.part, x.own, x.loaded, stops a b x.part x.stops, x.looks)
+copy_looked k o called v w look.NoMemory copying stops x = (x.0, copying)
 
 pub list_looked : (o : ℕ) (given lc : ListCall) (v w : View) (answer : Look) → given ≡ lc → IsLooked (call.List o lc) v w answer → IsLooked (call.List o given) v w answer
 list_looked o given lc v w answer is x = subst (λ (z : ListCall). IsLooked (call.List o z) v w answer) (sym is) x

@@ -1,5 +1,5 @@
 -- What a caller has after a look.
-use Rattle.std.proofs.Common.{◌≡◌, ◌<◌, ◌≤◌, ◌+◌, ◌-◌, ℕ, true, false, List, [], ◌∷◌, ◌++◌, length, refl, sym, ap, ◌∙◌, subst, arith}
+use Rattle.std.proofs.Common.{◌≡◌, ◌<◌, ◌+◌, ◌-◌, ℕ, true, false, List, [], ◌∷◌, ◌++◌, length, refl, sym, ap, ◌∙◌, subst, arith}
 use Rattle.std.specs.Prelude.{Some, None, Option, not}
 use Rattle.ft_model.specs.declared.call.Call.{Call}
 use Rattle.ft_model.specs.declared.call.Call.TheVariants as call
@@ -202,12 +202,12 @@ module _ (e : Engine) (c : Caller) (q : Pass) (called : Call) (is : IsCallerOf e
   after_caller (look.Done said stamp) x = looked_caller e c q called said stamp is idle left (looks_plain called looks) pass stack (done_entry said stamp x) (looks_none called looks) x.0
   after_caller (look.Contended a b) x =
       subst (λ (f : Flight). IsCallerOf e (record c { pass = q; flight = f })) (sym idle) (loaded_caller e c q flight.Idle is idle pass stack x.2 (still_inside x.2))
-  after_caller look.NoMemory x = loaded_caller e c q (flight.Refused called) is idle pass stack x (still_inside x).inside
+  after_caller look.NoMemory x = loaded_caller e c q (flight.Refused called) is idle pass stack x.0 (still_inside x.0).inside
 
   pub after_same : (answer : Look) → IsLooked called (view c.pass) (view q) answer → StaysCaller c (after_look called answer (record c { pass = q }))
   after_same (look.Done said stamp) x = record { pass = (done_entry said stamp x).pass; room = refl }
   after_same (look.Contended a b) x = record { pass = (loaded_nothing (view c.pass) (view q) x.2).pass; room = refl }
-  after_same look.NoMemory x = record { pass = (loaded_nothing (view c.pass) (view q) x).pass; room = refl }
+  after_same look.NoMemory x = record { pass = (loaded_nothing (view c.pass) (view q) x.0).pass; room = refl }
 
   pub after_flight : (answer : Look) → (after_look called answer (record c { pass = q })).flight ≡ flight_looked called answer
   after_flight (look.Done said stamp) = idle
@@ -217,7 +217,7 @@ module _ (e : Engine) (c : Caller) (q : Pass) (called : Call) (is : IsCallerOf e
   pub after_kept : (answer : Look) (mine : List NamedEntry) → IsLooked called (view c.pass) (view q) answer → IsKept c mine → IsKept (after_look called answer (record c { pass = q })) (kept_looked (thread_of c) called answer mine)
   after_kept (look.Done said stamp) mine x kept = looked_kept e c q called said stamp mine is idle (looks_plain called looks) looks stack (done_entry said stamp x) (answered_owners called said stamp.number (view c.pass) (view q) x.0) kept
   after_kept (look.Contended a b) mine x kept = contended_kept c q mine stack x.2 kept
-  after_kept look.NoMemory mine x kept = loaded_kept c q (flight.Refused called) mine stack x (refused_kept e c called mine is idle kept) (looked_refused e c called is idle q mine stack x kept.1)
+  after_kept look.NoMemory mine x kept = loaded_kept c q (flight.Refused called) mine stack x.0 (refused_kept e c called mine is idle kept) (looked_refused e c called is idle q mine stack x.0 kept.1)
 
 -- the pass is that of the look
 pub after_pass : (called : Call) (answer : Look) (c : Caller) → (after_look called answer c).pass ≡ c.pass

@@ -1,5 +1,5 @@
 -- A look comes before the try of its call: the pass may try the call after it, and what the try comes to is what both do.
-use Rattle.std.proofs.Common.{◌≡◌, ◌<◌, ◌+◌, ℕ, true, false, true≢false, List, [], ◌∷◌, ◌++◌, refl, sym, ap, ◌∙◌, subst, inl, inr, ⊎_elim, append_assoc}
+use Rattle.std.proofs.Common.{◌≡◌, ◌<◌, ◌+◌, ℕ, false, true≢false, List, [], ◌∷◌, ◌++◌, refl, sym, ap, ◌∙◌, subst, inl, inr, ⊎_elim, append_assoc}
 use Rattle.std.specs.Prelude.{◌==◌, ◌||◌, Option, Some, None, is_some, option_map, if◌then◌else◌}
 use Rattle.ft_model.specs.declared.call.Call.{Call}
 use Rattle.ft_model.specs.declared.cursor.Cursor.{Cursor}
@@ -41,7 +41,7 @@ use Rattle.ft_engine.specs.Contentions.{may_look}
 use Rattle.ft_engine.specs.Flights.{is_begin, objects_of}
 use Rattle.ft_engine.specs.Keeping.{marks_after, marks_in}
 use Rattle.ft_engine.specs.Stacks.{StackAfter}
-use Rattle.ft_engine.proofs.Outcomes.{Outcome, answered_adds, before_adds, loaded_nothing}
+use Rattle.ft_engine.proofs.Outcomes.{Outcome, answered_adds, before_adds, loaded_nothing, moved_then}
 use Rattle.ft_engine.proofs.Within.{WalkedBy, answered_owners, for_then, loaded_owners, looks_still, same_for, walked_none, within_for}
 use Rattle.ft_engine.proofs.SectionCalls.{nothing_entry, nothing_then, only_nothing, same_nothing}
 
@@ -83,8 +83,8 @@ tried_of b p q hands called objects plain names (step.NotYet o owner) after came
   λ locked. after.known,
   within_for hands called objects (view p) (view q) names after.within (grown_finds_more (view p) (view q) came.0.newer came.0.grew),
 )
-tried_of b p q hands called objects plain names (step.Moved first second) after came walked = (objects, names, record { entry = came.0; gone = after.0 }, λ locked. after.1, within_for hands called objects (view p) (view q) names came.1.only came.1.found)
-tried_of b p q hands called objects plain names step.NoMemory after came walked = (record { entry = came.0; gone = after.0 }, within_for hands called objects (view p) (view q) names came.1.only came.1.found)
+tried_of b p q hands called objects plain names (step.Moved first second) after came walked = (objects, names, record { entry = came.0; gone = after.0 }, λ locked. after.1, within_for hands called objects (view p) (view q) names came.1.only came.1.found, came.2)
+tried_of b p q hands called objects plain names step.NoMemory after came walked = (record { entry = came.0; gone = after.0 }, within_for hands called objects (view p) (view q) names came.1.only came.1.found, came.2)
 
 -- a call that moves no cursor
 pub outcome_walked : (called : Call) (objects : Objects) (v w : View) (result : Step) → moved_cursor called ≡ None → Outcome called objects v w result → WalkedBy called v w result
@@ -144,6 +144,7 @@ try_after b hands called p q r part (step.Moved first second) before owners log 
   },
   knew_before called x.0 p q got.Have same x.3,
   for_then hands called (view p) (view q) (view r) x.2.entry.pass.number (same_for hands called (view p) (view q) owners) x.4,
+  moved_then first second (view p) (view q) (view r) (view r) before x.5 (same_nothing (view r)),
 )
 try_after b hands called p q r part step.NoMemory before owners log stack locks same x = (
   record {
@@ -151,6 +152,7 @@ try_after b hands called p q r part step.NoMemory before owners log stack locks 
     gone = record { stack = x.0.gone.stack ∙ ap (λ (s : Stack). with_own s nothing_taken) stack; may = x.0.gone.may; resume = x.0.gone.resume };
   },
   for_then hands called (view p) (view q) (view r) x.0.entry.pass.number (same_for hands called (view p) (view q) owners) x.1,
+  x.2,
 )
 
 -- ---- what the pass is in after a look
@@ -204,7 +206,7 @@ pub looked_making : (b : Bank) (p q : Pass) (called : Call) (objects : Objects) 
 looked_making b p q called objects None plain may pass stack x = loaded_making b p q pass stack (loaded_none p q x) (may_making b p objects may)
 looked_making b p q called objects (Some (look.Done said stamp)) plain may pass stack x = making_read b p q called said stamp.number plain.sections (may_making b p objects may) pass stack x.0
 looked_making b p q called objects (Some (look.Contended first second)) plain may pass stack x = loaded_making b p q pass stack x.2 (may_making b p objects may)
-looked_making b p q called objects (Some look.NoMemory) plain may pass stack x = loaded_making b p q pass stack x (may_making b p objects may)
+looked_making b p q called objects (Some look.NoMemory) plain may pass stack x = loaded_making b p q pass stack x.0 (may_making b p objects may)
 
 -- it is to be made under its locks
 pub looked_loaded : (p q : Pass) (called : Call) (found : Option Look) → settled found ≡ None → Looked called p q found → (part : List Act) × ((view q).log ≡ part ++ (view p).log) × OnlyLoaded (view p) (view q)
@@ -241,10 +243,11 @@ looked_tried b p q r hands called (Some look.NoMemory) result plain left made is
     let same : step.NoMemory ≡ result = some_same step.NoMemory result is in
     subst (IsTryOf b hands called p r) same (
       record {
-        entry = nothing_then (view p) (view q) (view r) (loaded_nothing (view p) (view q) x) (only_nothing (view q) (view r) gone);
+        entry = nothing_then (view p) (view q) (view r) (loaded_nothing (view p) (view q) x.0) (only_nothing (view q) (view r) gone);
         gone = record { stack = let_go.stack ∙ ap (λ (s : Stack). with_own s nothing_taken) stack; may = let_go.may; resume = let_go.resume };
       },
-      same_for hands called (view p) (view r) (owners_then (view p) (view q) (view r) (loaded_owners (view p) (view q) x) owners),
+      same_for hands called (view p) (view r) (owners_then (view p) (view q) (view r) (loaded_owners (view p) (view q) x.0) owners),
+      x.1,
     )
 
 -- ---- the call under its locks comes after

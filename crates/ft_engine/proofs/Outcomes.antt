@@ -1,6 +1,6 @@
 -- What the tries of calls on containers come to, in the words that all calls share.
-use Rattle.std.proofs.Common.{◌≡◌, ◌≢◌, ◌≤◌, ◌<◌, ◌+◌, ◌-◌, ℕ, zero, suc, Bool, true, false, List, [], ◌∷◌, ◌++◌, refl, sym, ap, ◌∙◌, subst, arith, ⊎_elim, le_trans}
-use Rattle.std.specs.Prelude.{Option, Some, None, ◌⊎◌}
+use Rattle.std.proofs.Common.{◌≡◌, ◌≤◌, ◌<◌, ◌+◌, ◌-◌, ℕ, zero, suc, Bool, true, false, List, ◌∷◌, refl, sym, ap, ◌∙◌, subst, arith, ⊎_elim, le_trans}
+use Rattle.std.specs.Prelude.{Option, Some, None}
 use Rattle.ft_model.specs.declared.call.Call.{Call}
 use Rattle.ft_model.specs.declared.reply.Raise.TheVariants as raise
 use Rattle.ft_model.specs.declared.reply.Reply.{Reply}
@@ -31,7 +31,7 @@ use Rattle.ft_search.specs.Tries.{IsReadOf}
 use Rattle.ft_growth.specs.declared.adding.Added.{Added}
 use Rattle.ft_growth.specs.declared.adding.Added.TheVariants as added
 use Rattle.ft_growth.specs.Adding.{GaveUp, IsAdded, Retires, Tried, IsTryOf, WroteWith, step_after}
-use Rattle.ft_engine.specs.Answering.{AddsEntry, AddsNothing, StaysPass}
+use Rattle.ft_engine.specs.Answering.{AddsEntry, AddsNothing, HasMoved, StaysPass, copies}
 use Rattle.ft_engine.specs.Keeping.{made_entry}
 use Rattle.ft_engine.proofs.Within.{HasWithin, answered_owners, loaded_owners, made_owners, retired_owners, tried_owners, within_then, wrote_owners}
 use Rattle.ft_engine.proofs.SectionCalls.{nothing_entry, nothing_then, only_nothing, same_nothing}
@@ -40,8 +40,8 @@ use Rattle.ft_engine.proofs.SectionCalls.{nothing_entry, nothing_then, only_noth
 abbrev pub Outcome : Call → Objects → View → View → Step → Type 0
 Outcome called objects v w (step.Done said stamp) = AddsEntry called said stamp v w × HasWithin objects v w
 Outcome called objects v w (step.NotYet o owner) = OnlyLocked v w × IsOf o objects × FoundOwner o owner v w
-Outcome called objects v w (step.Moved a b) = AddsNothing v w × HasWithin objects v w
-Outcome called objects v w step.NoMemory = AddsNothing v w × HasWithin objects v w
+Outcome called objects v w (step.Moved a b) = AddsNothing v w × HasWithin objects v w × HasMoved a b v w
+Outcome called objects v w step.NoMemory = AddsNothing v w × HasWithin objects v w × (copies called ≡ true)
 
 -- ---- parts of calls
 
@@ -124,6 +124,28 @@ read_outcome o called v w step.NoMemory left m = absurd m
 tried_nothing : (k : Shape) (class : ℕ) (result : Took) (v w : View) → Tried k class result v w → AddsNothing v w
 tried_nothing k class result v w t = record { pass = stays_same v w t.same; entries = t.keeps.held.entries; left = t.keeps.held.left; cursors = t.same.cursors }
 
+-- a taking that found words changed
+moved_by : (k : Shape) (class a b : ℕ) (v w : View) → Tried k class (took.Moved a b) v w → HasMoved a b v w
+moved_by k class a b v w t = record {
+  before = v;
+  earlier = same_nothing v;
+  class = class;
+  after = w;
+  tried = record { mid = t.mid; freed = t.freed; collected = t.collected; acts = t.acts; did = t.did; taking = t.taking; has = t.has; same = t.same; keeps = t.keeps; hands = t.hands };
+  later = same_nothing w;
+}
+
+-- the same with what came before and after it
+pub moved_then : (a b : ℕ) (u v w z : View) → AddsNothing u v → HasMoved a b v w → AddsNothing w z → HasMoved a b u z
+moved_then a b u v w z first m last = record {
+  before = m.before;
+  earlier = nothing_then u v m.before first m.earlier;
+  class = m.class;
+  after = m.after;
+  tried = m.tried;
+  later = nothing_then m.after w z m.later last;
+}
+
 pub retired_nothing : (root : ℕ) (v w : View) → Retires root v w → AddsNothing v w
 retired_nothing zero v w is = subst (AddsNothing v) (sym is) (record { pass = record { number = refl; next = refl; parts = refl; shape = refl; lists = refl; online = λ on. on; floor = refl; since = refl; seen = omega arith }; entries = refl; left = refl; cursors = λ n. refl })
 retired_nothing (suc t) v w (n, is) =
@@ -157,7 +179,7 @@ with_owners k (Some class) called said n v w x =
 abbrev pub Comes : Call → View → View → Step → Type 0
 Comes called v w (step.Done said stamp) = AddsEntry called said stamp v w × SameOwners v w
 Comes called v w (step.NotYet o owner) = ⊥
-Comes called v w (step.Moved a b) = AddsNothing v w × SameOwners v w
+Comes called v w (step.Moved a b) = AddsNothing v w × SameOwners v w × HasMoved a b v w
 Comes called v w step.NoMemory = ⊥
 
 added_comes : (k : Shape) (takes : Option ℕ) (over : Bool) (called : Call) (said : Reply) (v w : View) (what : Added) → 0 < v.left → IsAdded k takes over called said v w what → Comes called v w (step_after what said)
@@ -167,14 +189,14 @@ added_comes k takes over called said v w (added.NoTable class stamp) left x =
     let made = answered_adds called (reply.Raised (raise.Memory class)) stamp x.3.0 w x.1 (subst (λ (z : ℕ). 0 < z) (sym n.left) left) x.3.2 in
     (before_adds called (reply.Raised (raise.Memory class)) stamp v x.3.0 w n made, owners_then v x.3.0 w (tried_owners k class took.AllTaken v x.3.0 x.3.1) (answered_owners called (reply.Raised (raise.Memory class)) stamp.number x.3.0 w x.3.2))
 added_comes k takes over called said v w (added.Over stamp) left x = (answered_adds called (reply.Raised raise.Over) stamp v w x.1 left x.2, answered_owners called (reply.Raised raise.Over) stamp.number v w x.2)
-added_comes k takes over called said v w (added.Moved a b) left x = (tried_nothing k x.1.0 (took.Moved a b) v w x.1.2, tried_owners k x.1.0 (took.Moved a b) v w x.1.2)
+added_comes k takes over called said v w (added.Moved a b) left x = (tried_nothing k x.1.0 (took.Moved a b) v w x.1.2, tried_owners k x.1.0 (took.Moved a b) v w x.1.2, moved_by k x.1.0 a b v w x.1.2)
 
 -- the same under locks
 locked_comes : (called : Call) (objects : Objects) (u v w z : View) (result : Step) → OnlyLocked u v → LocksWithin objects u v → Comes called v w result → OnlyLocked w z → SameOwners w z → Outcome called objects u z result
 locked_comes called objects u v w z (step.Done said stamp) took within comes gone owners = locked_entry objects called said stamp u v w z took within comes.0 comes.1 gone owners
 locked_comes called objects u v w z (step.NotYet o owner) took within comes gone owners = absurd comes
 locked_comes called objects u v w z (step.Moved a b) took within comes gone owners =
-    (nothing_then u v z (only_nothing u v took) (nothing_then v w z comes.0 (only_nothing w z gone)), within_then objects u v w z took within comes.0.pass.number comes.1 gone owners)
+    (nothing_then u v z (only_nothing u v took) (nothing_then v w z comes.0 (only_nothing w z gone)), within_then objects u v w z took within comes.0.pass.number comes.1 gone owners, moved_then a b u v w z (only_nothing u v took) comes.2 (only_nothing w z gone))
 locked_comes called objects u v w z step.NoMemory took within comes gone owners = absurd comes
 
 -- a call that adds
@@ -197,7 +219,7 @@ loaded_comes k takes over called said v u w what left l x =
     after : (result : Step) → AddsNothing v u → Comes called u w result → Comes called v w result
     after (step.Done r s) n comes = (before_adds called r s v u w n comes.0, owners_then v u w (loaded_owners v u l) comes.1)
     after (step.NotYet o owner) n comes = comes
-    after (step.Moved a b) n comes = (nothing_then v u w n comes.0, owners_then v u w (loaded_owners v u l) comes.1)
+    after (step.Moved a b) n comes = (nothing_then v u w n comes.0, owners_then v u w (loaded_owners v u l) comes.1, moved_then a b v u w w n comes.2 (same_nothing w))
     after step.NoMemory n comes = comes
 
 -- a clear

@@ -1,6 +1,6 @@
 -- What a pass has still that made no call on containers: it announced, collected, loaded the counter or took another in.
 use Rattle.std.proofs.Common.{◌≡◌, ◌≤◌, ◌<◌, ◌⊎◌, ℕ, Bool, true, false, cond, ◌++◌, refl, sym, ap, ◌∙◌, subst, inl, inr, ⊎_elim, le_refl, le_trans}
-use Rattle.std.specs.Prelude.{max}
+use Rattle.std.specs.Prelude.{List, Option, max}
 use Rattle.std.proofs.Math.Nat.{le-max_left, le-max_right, max-le}
 use Rattle.ft_trace.specs.declared.Act.TheVariants.{Announce, ReadCounter, WriteNumber}
 use Rattle.ft_trace.specs.declared.Shape.{Shape}
@@ -23,10 +23,32 @@ use Rattle.ft_bank.specs.Passes.{view, IsPassOf}
 use Rattle.ft_bank.specs.Sections.{Stack, stack_of}
 use Rattle.ft_qsbr.specs.Collecting.{Collected, StaysOrGoes, loads_of}
 use Rattle.ft_qsbr.proofs.Passing.{begun_stays, collection_leaves, cursors_stay, floor_stays, given_or_kept, owners_stay, seen_stays, since_stays}
-use Rattle.ft_section.specs.Ready.{InCall, IsReady, IsStill}
+use Rattle.ft_model.specs.declared.cursor.Cursor.{Cursor}
+use Rattle.ft_section.specs.declared.answers.Objects.{Objects}
+use Rattle.ft_section.specs.Ready.{AreSuspended, HasTop, InCall, IsInCall, IsReady, IsStill, IsWaiting, MayResume, MayTry}
+use Rattle.ft_section.specs.Takings.{IsOwnFor, lower_of, upper_of}
 use Rattle.ft_section.proofs.Making.{in_call_stays}
+use Rattle.ft_engine.specs.declared.caller.Flight.{Flight}
+use Rattle.ft_engine.specs.declared.caller.Flight.TheVariants as flight
+use Rattle.ft_engine.specs.Flights.{IsIn}
 
--- it has the same sections and locks, and is in the midst of nothing
+-- it has the same sections and locks, and is in the midst of nothing, whether it has the floor or not
+pub record IsSteady (v w : View) : Type 0 where
+  pub number : w.number ≡ v.number
+  pub next : w.next ≡ v.next
+  pub parts : w.parts ≡ v.parts
+  pub shape : w.shape ≡ v.shape
+  pub lists : w.lists ≡ v.lists
+  pub entries : w.entries ≡ v.entries
+  pub left : w.left ≡ v.left
+  pub locks : (o : ℕ) → has_lock o w.log ≡ has_lock o v.log
+  pub begun : begun w.log ≡ begun v.log
+  pub cursors : (n : ℕ) → cursor_in n w.log ≡ cursor_in n v.log
+  pub owners : SameOwners v w
+  pub seen : seen_writes v ≤ seen_writes w
+  pub still : IsStill w
+
+-- it has the floor as before, too
 pub record IsCalm (v w : View) : Type 0 where
   pub number : w.number ≡ v.number
   pub next : w.next ≡ v.next
@@ -44,16 +66,50 @@ pub record IsCalm (v w : View) : Type 0 where
   pub seen : seen_writes v ≤ seen_writes w
   pub still : IsStill w
 
+pub calm_steady : (v w : View) → IsCalm v w → IsSteady v w
+calm_steady v w c = record { number = c.number; next = c.next; parts = c.parts; shape = c.shape; lists = c.lists; entries = c.entries; left = c.left; locks = c.locks; begun = c.begun; cursors = c.cursors; owners = c.owners; seen = c.seen; still = c.still }
+
+-- what a pass is in still
+module _ (b : Bank) (p q : Pass) (pass : IsPassOf b q) (stack : stack_of q ≡ stack_of p) (steady : IsSteady (view p) (view q)) where
+  pub steady_in_call : IsInCall b p → IsInCall b q
+  steady_in_call i = (pass, subst (InCall (view q)) (sym stack) (in_call_stays (view p) (view q) (stack_of p) i.1 steady.shape steady.locks steady.begun steady.still))
+
+  pub steady_top : HasTop p → HasTop q
+  steady_top has outer top split =
+      let t = has outer top (sym (ap (λ (s : Stack). s.sections) stack) ∙ split) in
+      (steady.locks top.locks.lower ∙ t.0, steady.locks top.locks.upper ∙ t.1)
+
+  pub steady_ready : IsReady b p → IsReady b q
+  steady_ready r = record { inside = steady_in_call r.inside; own = ap (λ (s : Stack). s.own) stack ∙ r.own; mark = ap (λ (s : Stack). s.mark) stack ∙ r.mark; top = steady_top r.top }
+
+  steady_waiting : (objects : Objects) → IsWaiting b p objects → IsWaiting b q objects
+  steady_waiting objects w = record {
+    inside = steady_in_call w.inside;
+    owner = w.owner;
+    mark = ap (λ (s : Stack). s.mark) stack ∙ w.mark;
+    suspended = subst (λ (s : Stack). AreSuspended s.sections) (sym stack) w.suspended;
+    own = subst (λ (s : Stack). IsOwnFor (lower_of objects) (upper_of objects) s.own) (sym stack) w.own;
+  }
+
+  steady_may : (objects : Objects) → MayTry b p objects → MayTry b q objects
+  steady_may objects may = ⊎_elim (λ (r : IsReady b p). inl (steady_ready r)) (λ (w : IsWaiting b p objects). inr (steady_waiting objects w)) may
+
+  steady_resume : MayResume b p → MayResume b q
+  steady_resume r = record {
+    inside = steady_in_call r.inside;
+    own = λ outer top split. subst (λ (s : Stack). IsOwnFor top.locks.lower top.locks.upper s.own) (sym stack) (r.own outer top (sym (ap (λ (s : Stack). s.sections) stack) ∙ split));
+    none = λ nil. ap (λ (s : Stack). s.own) stack ∙ r.none (sym (ap (λ (s : Stack). s.sections) stack) ∙ nil);
+  }
+
+  -- whatever call it is in
+  pub steady_in : (hands : List (Option Cursor)) (f : Flight) → IsIn b p hands f → IsIn b q hands f
+  steady_in hands flight.Idle i = steady_ready i
+  steady_in hands (flight.Tried called) i = (i.0, i.1, steady_may i.0 i.2)
+  steady_in hands (flight.Answered called said stamp) i = (steady_resume i.0, λ begins. steady_top (i.1 begins))
+  steady_in hands (flight.Refused called) i = steady_in_call i
+
 pub ready_calm : (b : Bank) (p q : Pass) → IsReady b p → IsPassOf b q → stack_of q ≡ stack_of p → IsCalm (view p) (view q) → IsReady b q
-ready_calm b p q r pass stack calm =
-    record {
-      inside = (pass, subst (InCall (view q)) (sym stack) (in_call_stays (view p) (view q) (stack_of p) r.inside.1 calm.shape calm.locks calm.begun calm.still));
-      own = ap (λ (s : Stack). s.own) stack ∙ r.own;
-      mark = ap (λ (s : Stack). s.mark) stack ∙ r.mark;
-      top = λ outer top split.
-          let t = r.top outer top (sym (ap (λ (s : Stack). s.sections) stack) ∙ split) in
-          (calm.locks top.locks.lower ∙ t.0, calm.locks top.locks.upper ∙ t.1);
-    }
+ready_calm b p q r pass stack calm = steady_ready b p q pass stack (calm_steady (view p) (view q) calm) r
 
 pub calm_then : (u v w : View) → IsCalm u v → IsCalm v w → IsCalm u w
 calm_then u v w a b = record {

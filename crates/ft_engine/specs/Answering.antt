@@ -1,7 +1,10 @@
 -- What a call comes to once it is tried, as the pass has it then.
-use Rattle.std.specs.Prelude.{◌≡◌, ◌≢◌, ℕ, suc, ◌<◌, ◌≤◌, true, false, List, ◌∷◌, ◌++◌, length, Option, Some, None, option_map, slice_index_or}
+use Rattle.std.specs.Prelude.{◌≡◌, ◌≢◌, ℕ, Bool, suc, ◌<◌, ◌≤◌, true, false, List, ◌∷◌, ◌++◌, length, Option, Some, None, option_map, slice_index_or}
 use Rattle.ft_model.specs.declared.call.Call.{Call}
 use Rattle.ft_model.specs.declared.call.Call.TheVariants as call
+use Rattle.ft_model.specs.declared.call.DictCall.TheVariants as dict
+use Rattle.ft_model.specs.declared.call.ListCall.TheVariants as list
+use Rattle.ft_model.specs.declared.call.SetCall.TheVariants as set
 use Rattle.ft_model.specs.declared.cursor.Cursor.{Cursor}
 use Rattle.ft_model.specs.declared.reply.Reply.{Reply}
 use Rattle.ft_model.specs.Calls.{moved_cursor}
@@ -16,6 +19,7 @@ use Rattle.ft_trace.specs.Owners.{FindsMore, LocksOnly}
 use Rattle.ft_trace.specs.Hands.{cursor_in}
 use Rattle.ft_bank.specs.declared.bank.Bank.{Bank}
 use Rattle.ft_bank.specs.declared.pass.Pass.{Pass}
+use Rattle.ft_bank.specs.declared.takings.Took.TheVariants as took
 use Rattle.ft_bank.specs.Answered.{Answered}
 use Rattle.ft_bank.specs.Passes.{shape_of, view, DidNothing}
 use Rattle.ft_bank.specs.Sections.{stack_of}
@@ -33,6 +37,8 @@ use Rattle.ft_section.specs.Locking.{FoundOwner, KeepsLower, with_own, waiting}
 use Rattle.ft_section.specs.Ready.{HasTop, IsReady, IsWaiting, MayTry, MayResume}
 use Rattle.ft_section.specs.Takings.{IsOf, lower_of}
 use Rattle.ft_section.specs.Trying.{HasLetGo}
+use Rattle.ft_growth.specs.Adding.{Tried}
+use Rattle.ft_search.specs.Looks.{AreLooks}
 use Rattle.ft_closing.specs.Marks.{walked_after}
 use Rattle.ft_engine.specs.Callers.{AreOver}
 use Rattle.ft_engine.specs.Contentions.{StopsCall, WasContended, may_look}
@@ -114,6 +120,16 @@ pub record HasNone (b : Bank) (p q : Pass) : Type 0 where
   pub entry : AddsNothing (view p) (view q)
   pub gone : HasLetGo b p q
 
+-- The call tried to take a table of a class, and two steps of that found words changed: the count of the class, or one of
+-- its free words; or the count wasn't 0, and each free word was. Before and after it adds nothing. (profile)
+pub record HasMoved (first second : ℕ) (v w : View) : Type 0 where
+  pub before : View
+  pub earlier : AddsNothing v before
+  pub class : ℕ
+  pub after : View
+  pub tried : Tried before.shape class (took.Moved first second) before after
+  pub later : AddsNothing after w
+
 -- these are the cursors that the pass has by its own entries, and each goes over a container of its kind
 pub record AreHandsOf (k : Shape) (v : View) (hands : List (Option Cursor)) : Type 0 where
   pub cursors : (number : ℕ) → number < length hands → cursor_at hands number ≡ cursor_in number v.log
@@ -155,7 +171,15 @@ pub record HasLockedFor (hands : List (Option Cursor)) (called : Call) (v w : Vi
   pub only : LocksOnly (IsLockedFor hands called) v w
   pub found : FindsMore v w
 
--- what one try of a call of a thread with these cursors comes to
+-- whether a call answers with a copy of what the container has: no other call takes memory (profile)
+abbrev pub copies : Call → Bool
+copies (call.Dict o dict.Items) = true
+copies (call.List o list.Items) = true
+copies (call.List o (list.Slice first last)) = true
+copies (call.Set o set.Items) = true
+copies called = false
+
+-- What one try of a call of a thread with these cursors comes to. Only a call that copies runs out of memory.
 abbrev pub IsTryOf : Bank → List (Option Cursor) → Call → Pass → Pass → Step → Type 0
 IsTryOf b hands called p q (step.Done said stamp) =
     HasAnswer b called said stamp p q × KnewNone hands called p × HasLockedFor hands called (view p) (view q)
@@ -165,17 +189,20 @@ IsTryOf b hands called p q (step.NotYet o owner) =
 IsTryOf b hands called p q (step.Moved first second) =
     (objects : Objects) × (objects_of hands called ≡ Some objects) × HasNone b p q
     × KnewLocks called objects p got.Have × HasLockedFor hands called (view p) (view q)
-IsTryOf b hands called p q step.NoMemory = HasNone b p q × HasLockedFor hands called (view p) (view q)
+    × HasMoved first second (view p) (view q)
+IsTryOf b hands called p q step.NoMemory =
+    HasNone b p q × HasLockedFor hands called (view p) (view q) × (copies called ≡ true)
 
 -- ---- looks
 
 -- What a look at containers answers, in the words that all looks share. It gave a reply, with a stamp that it loaded;
--- or it has only loaded words, and where it is contended, among them those that stopped it.
+-- or it has only loaded words, and where it is contended, among them those that stopped it; or there was no memory for
+-- the copy that it answers with.
 abbrev pub IsLooked : Call → View → View → Look → Type 0
 IsLooked called v w (look.Done said stamp) = Answered called said stamp.number v w × (stamp.wrote ≡ false)
 IsLooked called v w (look.Contended first second) =
-    (part : List Act) × (w.log ≡ part ++ v.log) × OnlyLoaded v w × StopsCall called first second part
-IsLooked called v w look.NoMemory = OnlyLoaded v w
+    (part : List Act) × (w.log ≡ part ++ v.log) × OnlyLoaded v w × StopsCall called first second part × AreLooks part
+IsLooked called v w look.NoMemory = OnlyLoaded v w × (copies called ≡ true)
 
 -- the same of a call that is looked at, or of one that isn't
 abbrev pub Looked : Call → Pass → Pass → Option Look → Type 0

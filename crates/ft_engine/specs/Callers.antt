@@ -87,6 +87,7 @@ pub record IsFresh (e : Engine) (room i : ℕ) (c : Caller) : Type 0 where
   pub sections : (stack_of c.pass).sections ≡ []
   pub next : (view c.pass).next ≡ next_of (shape_of e.bank) i
   pub parts : (view c.pass).parts ≡ 1
+  pub tokens : (view c.pass).tokens ≡ 1
 
 -- they are the callers of the engine in their order, from caller i on
 abbrev pub AreFresh : Engine → ℕ → ℕ → List Caller → Type 0

@@ -3,12 +3,11 @@ use Rattle.std.specs.Prelude.{◌≡◌, ◌⊎◌, ℕ, true, List, [], ◌∷�
 use Rattle.ft_model.specs.declared.call.Call.{Call}
 use Rattle.ft_model.specs.declared.cursor.Cursor.{Cursor}
 use Rattle.ft_model.specs.declared.reply.Reply.{Reply}
-use Rattle.ft_trace.specs.declared.View.{View}
 use Rattle.ft_bank.specs.declared.bank.Bank.{Bank}
 use Rattle.ft_bank.specs.declared.pass.Pass.{Pass}
 use Rattle.ft_bank.specs.declared.sections.OpenSection.{OpenSection}
 use Rattle.ft_bank.specs.Passes.{view}
-use Rattle.ft_bank.specs.Sections.{Stack, stack_of}
+use Rattle.ft_bank.specs.Sections.{stack_of}
 use Rattle.ft_section.specs.declared.answers.Stamp.{Stamp}
 use Rattle.ft_section.specs.declared.answers.Step.TheVariants as step
 use Rattle.ft_section.specs.Floors.{first_owned}
@@ -19,7 +18,7 @@ use Rattle.ft_engine.specs.declared.caller.Caller.{Caller}
 use Rattle.ft_engine.specs.declared.caller.Flight.{Flight}
 use Rattle.ft_engine.specs.declared.caller.Flight.TheVariants as flight
 use Rattle.ft_engine.specs.declared.engine.Engine.{Engine}
-use Rattle.ft_engine.specs.Answering.{IsTryOf}
+use Rattle.ft_engine.specs.Answering.{HasLooked, IsTryOf}
 
 -- ---- the innermost section
 
@@ -35,6 +34,12 @@ KeepsTopLower o p q =
     (outer : List OpenSection) (top : OpenSection) → (stack_of p).sections ≡ outer ++ top ∷ []
     → KeepsLower top.locks.lower o p q
 
+-- the container is one of the innermost section's
+abbrev pub IsOfTop : ℕ → Pass → Type 0
+IsOfTop o p =
+    (outer : List OpenSection) × (top : OpenSection) × ((stack_of p).sections ≡ outer ++ top ∷ [])
+    × ((o ≡ top.locks.lower) ⊎ (o ≡ top.locks.upper))
+
 -- The innermost section is taken up again, and the call ends with this answer and the mark that the pass has; or
 -- another pass has a lock of that section. (C API, critical sections)
 abbrev pub IsTakenUp : Reply → Stamp → Pass → Pass → Tried → Type 0
@@ -43,16 +48,18 @@ IsTakenUp said stamp p q (tried.Done reply at mark) =
     × KnewTop p None
 IsTakenUp said stamp p q (tried.NotYet o owner) =
     (stack_of q ≡ waiting (with_own (stack_of p) (stack_of q).own) owner) × KeepsTopLower o p q
-    × KnewTop p (Some (o, owner))
+    × KnewTop p (Some (o, owner)) × IsOfTop o p
 IsTakenUp said stamp p q (tried.Moved first second) = ⊥
 IsTakenUp said stamp p q tried.NoMemory = ⊥
 
 -- ---- the answer
 
--- the answer isn't made: the try of the call ends without the second half
+-- The answer isn't made: the try of the call ends without the second half. A call that is looked first waits only where
+-- its look was contended.
 abbrev pub HasNoAnswer : Bank → List (Option Cursor) → Call → Pass → Pass → Tried → Type 0
 HasNoAnswer b hands called p q (tried.Done said stamp mark) = ⊥
-HasNoAnswer b hands called p q (tried.NotYet o owner) = IsTryOf b hands called p q (step.NotYet o owner)
+HasNoAnswer b hands called p q (tried.NotYet o owner) =
+    IsTryOf b hands called p q (step.NotYet o owner) × HasLooked called (view p) (view q) (step.NotYet o owner)
 HasNoAnswer b hands called p q (tried.Moved first second) = IsTryOf b hands called p q (step.Moved first second)
 HasNoAnswer b hands called p q tried.NoMemory = IsTryOf b hands called p q step.NoMemory
 

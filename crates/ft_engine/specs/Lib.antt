@@ -11,3 +11,4 @@ pub mod Halves
 pub mod Calling
 pub mod Visits
 pub mod Closings
+pub mod Resting

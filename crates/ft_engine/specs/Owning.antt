@@ -1,5 +1,5 @@
 -- Who was found with locks, and which locks a pass has had, beside the entries that its caller was answered.
-use Rattle.std.specs.Prelude.{◌≡◌, ◌≢◌, ◌⊎◌, ◌+◌, ◌-◌, ◌≤◌, ℕ, true, List, [], ◌∷◌, drop, length, map, reverse, Option, Some, None, IfSome, option_map}
+use Rattle.std.specs.Prelude.{◌≡◌, ◌≢◌, ◌⊎◌, ◌+◌, ◌-◌, ◌≤◌, ℕ, true, List, [], ◌∷◌, drop, length, map, reverse, Option, IfSome, option_map}
 use Rattle.ft_model.specs.declared.call.Call.{Call}
 use Rattle.ft_model.specs.declared.call.Call.TheVariants as call
 use Rattle.ft_model.specs.declared.entry.Entry.{Entry as NamedEntry}

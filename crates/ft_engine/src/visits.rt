@@ -5,6 +5,7 @@ ghost use Rattle.ft_trace.specs.Acts.{announces};
 ghost use Rattle.ft_bank.specs.Passes.{view};
 ghost use Rattle.ft_engine.specs.Callers.{IsCallerOf, IsIdle, pass_of, taken_of, thread_of};
 ghost use Rattle.ft_engine.specs.Keeping.{IsKept};
+ghost use Rattle.ft_engine.specs.Resting.{KeepsFloor};
 ghost use Rattle.ft_engine.specs.Visits.{SameWork};
 
 use crate::caller::Caller;
@@ -18,6 +19,7 @@ impl Engine {
         ensures caller { IsCallerOf self.now caller.new }
         ensures same { SameWork caller.old caller.new }
         ensures online { 0 < announces (view (pass_of caller.new)).log }
+        ensures floor { KeepsFloor caller.old caller.new }
         ensures kept { (mine : List NamedEntry) → IsKept caller.old mine → IsKept caller.new mine }
     {
         ft_qsbr::enter(&self.bank, &mut caller.pass);
@@ -30,6 +32,7 @@ impl Engine {
         ensures caller { IsCallerOf self.now caller.new }
         ensures same { SameWork caller.old caller.new }
         ensures offline { announces (view (pass_of caller.new)).log ≡ 0 }
+        ensures floor { KeepsFloor caller.old caller.new }
         ensures kept { (mine : List NamedEntry) → IsKept caller.old mine → IsKept caller.new mine }
     {
         ft_qsbr::leave(&self.bank, &mut caller.pass);

@@ -1,4 +1,4 @@
-use Rattle.std.proofs.Common.{◌≡◌, refl, ◌∙◌}
+use Rattle.std.proofs.Common.{refl}
 use Rattle.ft_model.specs.declared.call.Call.TheVariants as call
 use Rattle.ft_model.specs.declared.call.DictCall.TheVariants as dict
 use Rattle.ft_model.specs.declared.reply.Reply.TheVariants as reply
@@ -71,7 +71,7 @@ returns-in-Eq c hands =
 pub returns-in-Items : goal.returns-in-Items
 returns-in-Items c hands =
     dict_tried c.args.bank.now c.args.pass.now c.try_items.new.pass hands c.args.d c.args.call.now dict.Items (One c.args.d) c.try_items.result c.in-Items.is refl refl c.try_items.ensures.sections
-    (keyed_copy_outcome (One c.args.d) (call.Dict c.args.d dict.Items) (view c.args.pass.now) (view c.try_items.new.pass) c.try_items.result c.requires.left c.try_items.ensures.made)
+    (keyed_copy_outcome (One c.args.d) (call.Dict c.args.d dict.Items) (view c.args.pass.now) (view c.try_items.new.pass) c.try_items.result refl c.requires.left c.try_items.ensures.made)
 
 pub returns-in-CopyTo : goal.returns-in-CopyTo
 returns-in-CopyTo c hands =

@@ -1,4 +1,4 @@
-use Rattle.std.proofs.Common.{ℤ, subst, rules}
+use Rattle.std.proofs.Common.{ℤ, refl, subst, rules}
 use mir.Syntax.{w64}
 use mir.Val.{SFits}
 use Rattle.std.proofs.Math.Facts.{to_z-of_z}
@@ -25,7 +25,7 @@ returns-in-Len-clause-looked c =
 
 pub returns-in-Items-clause-looked : goal.returns-in-Items-clause-looked
 returns-in-Items-clause-looked c =
-    list_looked c.args.l c.args.call.now list.Items (view c.args.pass.now) (view c.look_items.new.pass) c.look_items.result c.in-Items.is (copy_looked (shape_of c.args.bank.now) c.args.l (call.List c.args.l list.Items) (view c.args.pass.now) (view c.look_items.new.pass) c.look_items.result (λ a b part s. s) c.look_items.ensures.looked)
+    list_looked c.args.l c.args.call.now list.Items (view c.args.pass.now) (view c.look_items.new.pass) c.look_items.result c.in-Items.is (copy_looked (shape_of c.args.bank.now) c.args.l (call.List c.args.l list.Items) (view c.args.pass.now) (view c.look_items.new.pass) c.look_items.result refl (λ a b part s. s) c.look_items.ensures.looked)
 
 pub returns-in-Eq-clause-looked : goal.returns-in-Eq-clause-looked
 returns-in-Eq-clause-looked c =

@@ -93,7 +93,7 @@ returns-in-Slice c hands =
     let fits_end : SFits w64 c.in-Slice.end = search rules in
     let same_end = to_z-of_z {w = w64} {z = c.in-Slice.end} fits_end in
     list_tried c.args.bank.now c.args.pass.now c.try_slice.new.pass hands c.args.l c.args.call.now (list.Slice c.in-Slice.start c.in-Slice.end) (One c.args.l) c.try_slice.result c.in-Slice.is refl refl c.try_slice.ensures.sections
-    (copy_outcome (One c.args.l) (call.List c.args.l (list.Slice c.in-Slice.start c.in-Slice.end)) (view c.args.pass.now) (view c.try_slice.new.pass) c.try_slice.result c.requires.left (subst (λ (i : ℤ × ℤ). IsCopyOf (One c.args.l) (call.List c.args.l (list.Slice i.0 i.1)) (view c.args.pass.now) (view c.try_slice.new.pass) c.try_slice.result) (λ d. (same_start d, same_end d)) c.try_slice.ensures.made))
+    (copy_outcome (One c.args.l) (call.List c.args.l (list.Slice c.in-Slice.start c.in-Slice.end)) (view c.args.pass.now) (view c.try_slice.new.pass) c.try_slice.result refl c.requires.left (subst (λ (i : ℤ × ℤ). IsCopyOf (One c.args.l) (call.List c.args.l (list.Slice i.0 i.1)) (view c.args.pass.now) (view c.try_slice.new.pass) c.try_slice.result) (λ d. (same_start d, same_end d)) c.try_slice.ensures.made))
 
 pub returns-in-Clear : goal.returns-in-Clear
 returns-in-Clear c hands =
@@ -108,7 +108,7 @@ returns-in-Len c hands =
 pub returns-in-Items : goal.returns-in-Items
 returns-in-Items c hands =
     list_tried c.args.bank.now c.args.pass.now c.try_items.new.pass hands c.args.l c.args.call.now list.Items (One c.args.l) c.try_items.result c.in-Items.is refl refl c.try_items.ensures.sections
-    (copy_outcome (One c.args.l) (call.List c.args.l list.Items) (view c.args.pass.now) (view c.try_items.new.pass) c.try_items.result c.requires.left c.try_items.ensures.made)
+    (copy_outcome (One c.args.l) (call.List c.args.l list.Items) (view c.args.pass.now) (view c.try_items.new.pass) c.try_items.result refl c.requires.left c.try_items.ensures.made)
 
 pub returns-in-Eq : goal.returns-in-Eq
 returns-in-Eq c hands =

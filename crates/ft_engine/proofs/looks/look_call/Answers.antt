@@ -1,7 +1,6 @@
-use Rattle.std.proofs.Common.{◌≡◌, sym, subst, ap, ◌∙◌}
+use Rattle.std.proofs.Common.{◌≡◌, sym, subst, ap}
 use Rattle.std.specs.Prelude.{is_some}
 use Rattle.ft_model.specs.declared.call.Call.{Call}
-use Rattle.ft_model.specs.declared.call.Call.TheVariants as call
 use Rattle.ft_bank.specs.Passes.{shape_of}
 use Rattle.ft_engine.specs.Answering.{Looked}
 use Rattle.ft_engine.specs.Contentions.{may_look}

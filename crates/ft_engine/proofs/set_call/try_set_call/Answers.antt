@@ -1,4 +1,4 @@
-use Rattle.std.proofs.Common.{◌≡◌, refl, ◌∙◌}
+use Rattle.std.proofs.Common.{refl}
 use Rattle.ft_model.specs.declared.call.Call.TheVariants as call
 use Rattle.ft_model.specs.declared.call.SetCall.TheVariants as set
 use Rattle.ft_model.specs.declared.reply.Reply.TheVariants as reply
@@ -71,7 +71,7 @@ returns-in-Disjoint c hands =
 pub returns-in-Items : goal.returns-in-Items
 returns-in-Items c hands =
     set_tried c.args.bank.now c.args.pass.now c.try_items.new.pass hands c.args.s c.args.call.now set.Items (One c.args.s) c.try_items.result c.in-Items.is refl refl c.try_items.ensures.sections
-    (keyed_copy_outcome (One c.args.s) (call.Set c.args.s set.Items) (view c.args.pass.now) (view c.try_items.new.pass) c.try_items.result c.requires.left c.try_items.ensures.made)
+    (keyed_copy_outcome (One c.args.s) (call.Set c.args.s set.Items) (view c.args.pass.now) (view c.try_items.new.pass) c.try_items.result refl c.requires.left c.try_items.ensures.made)
 
 pub returns-in-Or : goal.returns-in-Or
 returns-in-Or c hands =

@@ -1,6 +1,7 @@
 use Rattle.std.proofs.Common.{◌-◌, ap, refl, arith}
 use Rattle.ft_trace.specs.declared.View.{View}
-use Rattle.ft_engine.proofs.KeptLists.{joined_state}
+use Rattle.ft_bank.specs.Passes.{view}
+use Rattle.ft_engine.proofs.KeptLists.{joined_in, joined_state}
 use Rattle.ft_engine.proofs.engine.Engine.join.Goals as goal
 
 pub returns-clause-thread : goal.returns-clause-thread
@@ -8,5 +9,5 @@ returns-clause-thread c = ap (λ (v : View). v.number - 1) c.join.ensures.view.1
 
 pub returns-clause-kept : goal.returns-clause-kept
 returns-clause-kept c mine theirs are more next =
-    joined_state c.args.caller.now (record c.args.caller.now { pass = c.join.new.pass }) c.args.other c.join.ensures.view.0 mine theirs c.join.ensures.view.1 c.join.ensures.sections refl
+    joined_state c.args.caller.now (record c.args.caller.now { pass = c.join.new.pass }) c.args.other mine theirs (joined_in (view c.args.caller.now.pass) (view c.args.other.pass) (view c.join.new.pass) c.join.ensures.view.0 c.join.ensures.view.1) c.join.ensures.sections refl
     (λ none. absurd (let e = c.args.other.pass.numbered in omega (arith, e, none))) c.requires.done.idle are more next

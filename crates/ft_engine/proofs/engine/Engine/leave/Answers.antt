@@ -20,3 +20,6 @@ returns-clause-same c = calm_work c.args.caller.now c.leave.new.pass c.leave.ens
 
 pub returns-clause-kept : goal.returns-clause-kept
 returns-clause-kept c mine kept = calm_kept c.args.caller.now (record c.args.caller.now { pass = c.leave.new.pass }) mine (calm c) c.leave.ensures.sections refl kept
+
+pub returns-clause-floor : goal.returns-clause-floor
+returns-clause-floor c = record { floor = (calm c).floor; since = (calm c).since }

@@ -51,4 +51,5 @@ returns-in-NotYet-clause-taken c called said stamp is =
       c.in-NotYet.ensures.waiting,
       c.in-NotYet.ensures.kept,
       λ has outer top cut. not_yet_back s.mark c.in-NotYet.object c.in-NotYet.owner (first_owned top.locks.lower top.locks.upper (view c.args.caller.now.pass)) (c.in-NotYet.ensures.known has outer top cut),
+      c.in-NotYet.ensures.needed,
     )

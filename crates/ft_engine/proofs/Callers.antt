@@ -270,11 +270,11 @@ left_kept e c d called mine is unanswered next x locks flies kept =
     )
 
 -- the call has its answer now, which it hadn't before
-pub both_halves : (f : Flight) (b : Bank) (hands : List (Option Cursor)) (called : Call) (p q : Pass) (t : Tried) → (IsAnswered f → ⊥) → IsNext f called → HasBothHalves b hands called p q t → IsInHalves f b hands called p q t
-both_halves flight.Idle b hands called p q t unanswered next both = inr both
-both_halves (flight.Tried first) b hands called p q t unanswered next both = inr both
-both_halves (flight.Answered first said stamp) b hands called p q t unanswered next both = absurd (unanswered tt)
-both_halves (flight.Refused first) b hands called p q t unanswered next both = absurd next
+pub both_halves : (f : Flight) (b : Bank) (hands : List (Option Cursor)) (called : Call) (p q : Pass) (t : Tried) (after : Flight) → (IsAnswered f → ⊥) → IsNext f called → HasBothHalves b hands called p q t after → IsInHalves f b hands called p q t after
+both_halves flight.Idle b hands called p q t after unanswered next both = inr both
+both_halves (flight.Tried first) b hands called p q t after unanswered next both = inr both
+both_halves (flight.Answered first said stamp) b hands called p q t after unanswered next both = absurd (unanswered tt)
+both_halves (flight.Refused first) b hands called p q t after unanswered next both = absurd next
 
 -- ---- cursors
 

@@ -63,24 +63,45 @@ HasNoAnswer b hands called p q (tried.NotYet o owner) =
 HasNoAnswer b hands called p q (tried.Moved first second) = IsTryOf b hands called p q (step.Moved first second)
 HasNoAnswer b hands called p q tried.NoMemory = IsTryOf b hands called p q step.NoMemory
 
+-- ---- the call in flight
+
+-- a call that has to wait still has no answer
+abbrev pub WaitsUnanswered : Call → Tried → Flight → Type 0
+WaitsUnanswered called (tried.Done said stamp mark) f = Unit {0}
+WaitsUnanswered called (tried.NotYet o owner) f = f ≡ flight.Tried called
+WaitsUnanswered called (tried.Moved first second) f = Unit {0}
+WaitsUnanswered called tried.NoMemory f = Unit {0}
+
+-- a call that has to wait has this answer
+abbrev pub WaitsAnswered : Call → Reply → Stamp → Tried → Flight → Type 0
+WaitsAnswered called said stamp (tried.Done reply at mark) f = Unit {0}
+WaitsAnswered called said stamp (tried.NotYet o owner) f = f ≡ flight.Answered called said stamp
+WaitsAnswered called said stamp (tried.Moved first second) f = Unit {0}
+WaitsAnswered called said stamp tried.NoMemory f = Unit {0}
+
+-- ---- both halves
+
 -- the call has its answer in between
 pub record HasBothHalves (b : Bank) (hands : List (Option Cursor)) (called : Call) (p q : Pass) (t : Tried)
-    : Type 0 where
+    (after : Flight) : Type 0 where
   pub mid : Pass
   pub said : Reply
   pub stamp : Stamp
   pub answer : IsTryOf b hands called p mid (step.Done said stamp)
   pub taken : IsTakenUp said stamp mid q t
+  pub waits : WaitsAnswered called said stamp t after
 
 -- A call that has no answer yet is tried; where it gets its answer, or has had it, the innermost section is taken up
 -- again. (C API, critical sections)
-abbrev pub IsInHalves : Flight → Bank → List (Option Cursor) → Call → Pass → Pass → Tried → Type 0
-IsInHalves (flight.Answered first said stamp) b hands called p q t = IsTakenUp said stamp p q t
-IsInHalves flight.Idle b hands called p q t = HasNoAnswer b hands called p q t ⊎ HasBothHalves b hands called p q t
-IsInHalves (flight.Tried first) b hands called p q t =
-    HasNoAnswer b hands called p q t ⊎ HasBothHalves b hands called p q t
-IsInHalves (flight.Refused first) b hands called p q t = ⊥
+abbrev pub IsInHalves : Flight → Bank → List (Option Cursor) → Call → Pass → Pass → Tried → Flight → Type 0
+IsInHalves (flight.Answered first said stamp) b hands called p q t after =
+    IsTakenUp said stamp p q t × WaitsAnswered called said stamp t after
+IsInHalves flight.Idle b hands called p q t after =
+    (HasNoAnswer b hands called p q t × WaitsUnanswered called t after) ⊎ HasBothHalves b hands called p q t after
+IsInHalves (flight.Tried first) b hands called p q t after =
+    (HasNoAnswer b hands called p q t × WaitsUnanswered called t after) ⊎ HasBothHalves b hands called p q t after
+IsInHalves (flight.Refused first) b hands called p q t after = ⊥
 
 -- one try of a call of a caller
 abbrev pub HasHalves : Engine → Call → Caller → Caller → Tried → Type 0
-HasHalves e called c d t = IsInHalves c.flight e.bank c.cursors.items called c.pass d.pass t
+HasHalves e called c d t = IsInHalves c.flight e.bank c.cursors.items called c.pass d.pass t d.flight

@@ -8,7 +8,7 @@ ghost use Rattle.ft_engine.specs.Answering.{AreHandsOf, HasLooked, IsTryOf, Leav
 ghost use Rattle.ft_engine.specs.Attempts.{MayAttempt, flight_after, kept_after, IsMarkOf, FoundIn, HasLookedFirst, ComesAgain, StaysCaller};
 ghost use Rattle.ft_engine.specs.Callers.{IsCallerOf, thread_of};
 ghost use Rattle.ft_engine.specs.Flights.{IsAnswered, IsNext};
-ghost use Rattle.ft_engine.specs.Halves.{HasNoAnswer};
+ghost use Rattle.ft_engine.specs.Halves.{HasNoAnswer, WaitsUnanswered};
 ghost use Rattle.ft_engine.specs.declared.caller.Flight.TheVariants as flight;
 ghost use Rattle.ft_model.specs.declared.reply.Reply.{Reply};
 ghost use Rattle.ft_section.specs.declared.answers.Stamp.{Stamp};
@@ -140,6 +140,7 @@ impl Engine {
         ensures mark { IfSome result (λ tried. IsMarkOf tried (stack_of caller.old.pass).mark (stack_of caller.new.pass).mark) }
         ensures found { IfSome result (λ tried. FoundIn tried (view caller.old.pass) (view caller.new.pass)) }
         ensures tries { IfSome result (λ tried. HasNoAnswer self.now.bank caller.old.cursors.items call.now caller.old.pass caller.new.pass tried) }
+        ensures waits { IfSome result (λ tried. WaitsUnanswered call.now tried caller.new.flight) }
         ensures made { IfNone result ((said : Reply) × (stamp : Stamp) × (caller.new.flight ≡ flight.Answered call.now said stamp)
             × IsTryOf self.now.bank caller.old.cursors.items call.now caller.old.pass caller.new.pass (step.Done said stamp)) }
         ensures looked { IfSome result (λ tried. HasLookedFirst call.now tried caller.old caller.new) }

@@ -6,7 +6,7 @@ ghost use Rattle.ft_bank.specs.Sections.{stack_of};
 ghost use Rattle.ft_engine.specs.Attempts.{MayAttempt, flight_after, kept_after, IsMarkOf, FoundIn, HasFoundOwner, HasLookedFirst, ComesAgain, StaysCaller};
 ghost use Rattle.ft_engine.specs.Callers.{IsCallerOf, pass_of, flight_of, thread_of};
 ghost use Rattle.ft_engine.specs.Flights.{IsAnswered, IsNext};
-ghost use Rattle.ft_engine.specs.Halves.{HasHalves, IsTakenUp};
+ghost use Rattle.ft_engine.specs.Halves.{HasHalves, IsTakenUp, WaitsAnswered};
 ghost use Rattle.ft_engine.specs.Keeping.{IsKept};
 ghost use Rattle.ft_engine.specs.declared.caller.Flight.TheVariants as flight;
 
@@ -44,7 +44,7 @@ impl Engine {
         ensures found { FoundIn result (view caller.old.pass) (view caller.new.pass) }
         ensures answered { ComesAgain result → IsAnswered caller.new.flight }
         ensures taken { (called : Call) (said : Reply) (stamp : Stamp) → caller.old.flight ≡ flight.Answered called said stamp →
-            IsTakenUp said stamp caller.old.pass caller.new.pass result }
+            IsTakenUp said stamp caller.old.pass caller.new.pass result × WaitsAnswered called said stamp result caller.new.flight }
     {
         match resume(&self.bank, &mut caller.pass) {
             Resumed::Back(mark) => {

@@ -38,18 +38,24 @@ returns-in-Answered-clause-taken c called said stamp is =
     let same : flight.Answered called said stamp ≡ flight.Answered c.in-Answered.field-0 c.in-Answered.reply c.in-Answered.stamp =
     sym is ∙ (sym c.replace-flight.ensures.value ∙ c.in-Answered.is) in
     let s = stack_of c.args.caller.now.pass in (
-      cc,
-      cc,
-      c.in-Back.ensures.mark,
-      c.in-Back.ensures.stack,
-      λ has outer top cut. back_had s.mark c.in-Back.mark (first_owned top.locks.lower top.locks.upper (view c.args.caller.now.pass)) (c.in-Back.ensures.known has outer top cut),
+      (
+        cc,
+        cc,
+        c.in-Back.ensures.mark,
+        c.in-Back.ensures.stack,
+        λ has outer top cut. back_had s.mark c.in-Back.mark (first_owned top.locks.lower top.locks.upper (view c.args.caller.now.pass)) (c.in-Back.ensures.known has outer top cut),
+      ),
+      tt,
     )
 
 pub returns-in-NotYet-clause-taken : goal.returns-in-NotYet-clause-taken
 returns-in-NotYet-clause-taken c called said stamp is =
     let s = stack_of c.args.caller.now.pass in (
-      c.in-NotYet.ensures.waiting,
-      c.in-NotYet.ensures.kept,
-      λ has outer top cut. not_yet_back s.mark c.in-NotYet.object c.in-NotYet.owner (first_owned top.locks.lower top.locks.upper (view c.args.caller.now.pass)) (c.in-NotYet.ensures.known has outer top cut),
-      c.in-NotYet.ensures.needed,
+      (
+        c.in-NotYet.ensures.waiting,
+        c.in-NotYet.ensures.kept,
+        λ has outer top cut. not_yet_back s.mark c.in-NotYet.object c.in-NotYet.owner (first_owned top.locks.lower top.locks.upper (view c.args.caller.now.pass)) (c.in-NotYet.ensures.known has outer top cut),
+        c.in-NotYet.ensures.needed,
+      ),
+      is,
     )

@@ -4,6 +4,8 @@
 
 mod cases;
 #[cfg(test)]
+mod floors;
+#[cfg(test)]
 mod giving_up;
 #[cfg(test)]
 mod looking;

@@ -95,12 +95,14 @@ fn put_pair(bank: &Bank, pass: &mut Pass, o: u32, table: Table, slot: u64, place
 {
     raise_version(bank, pass, o, table, place);
     let mask = mask_of(table.class);
+    let start = bank.cell_of(table);
     let mut words = TableWords {
         bank,
         pass,
         o,
         table,
         mask,
+        start,
     };
     place_in(&mut words, slot, place, pair);
 }

@@ -12,3 +12,4 @@ pub mod Seen
 pub mod Retiring
 pub mod Reusing
 pub mod Floors
+pub mod Undisturbed

@@ -4,7 +4,7 @@ pub mod Sections
 pub mod Passes
 pub mod Openings
 pub mod Series
-pub mod Keys
+pub mod KeyHashes
 pub mod Locks
 pub mod Writes
 pub mod Reads

@@ -1,11 +1,11 @@
 -- Tables by the names that traces have for them, and where they lie.
-use Rattle.std.specs.Prelude.{ℕ, zero, suc, ◌+◌, ◌*◌, ◌<◌, Option, Some, None, List, [], ◌∷◌}
+use Rattle.std.specs.Prelude.{◌≡◌, ◌≤◌, ℕ, zero, suc, ◌+◌, ◌*◌, ◌<◌, Option, Some, None, List, [], ◌∷◌}
 use Rattle.ft_layout.specs.Sizes.{table_size}
 use Rattle.ft_layout.specs.Starts.{words_below}
 use Rattle.ft_model.specs.Classes.{IsClass}
 use Rattle.ft_trace.specs.declared.Shape.{Shape}
 use Rattle.ft_trace.specs.declared.View.{View}
-use Rattle.ft_trace.specs.Addresses.{tables_in, far}
+use Rattle.ft_trace.specs.Addresses.{at, cell, class_of, extent, size, tables_in, far}
 use Rattle.ft_trace.specs.Holds.{in_hand}
 use Rattle.ft_bank.specs.declared.table.Table.{Table}
 
@@ -16,6 +16,10 @@ name_of t = 65536 * t.class + t.number
 -- the bank has this table
 abbrev pub IsTableIn : Shape → Table → Type 0
 IsTableIn k t = IsClass t.class × (t.number < tables_in k t.class) × (t.number < 1024)
+
+-- where the words of the table begin after its header, all inside the bank
+abbrev pub IsPlaceOf : Shape → Table → ℕ → Type 0
+IsPlaceOf k t start = (start ≡ at k (cell (name_of t) 0)) × (start + size (class_of (name_of t)) ≤ extent k)
 
 -- the root that names the table, or no table
 abbrev pub root_for : Option Table → ℕ

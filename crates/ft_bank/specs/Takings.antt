@@ -155,6 +155,12 @@ HasTook k class (took.Taken t) v w =
 HasTook k class took.AllTaken v w = owes w.log ≡ 0
 HasTook k class (took.Moved a b) v w = owes w.log ≡ 0
 
+-- it found no word changed
+abbrev pub HasNotMoved : Took → Type 0
+HasNotMoved (took.Taken t) = Unit {0}
+HasNotMoved took.AllTaken = Unit {0}
+HasNotMoved (took.Moved a b) = ⊥
+
 -- every table but the one that was taken
 abbrev pub StaysIn : Took → ℕ → Type 0
 StaysIn (took.Taken q) t = NotTable q t

@@ -2,7 +2,7 @@
 //! the shape has it.
 ghost use Rattle.std.specs.Prelude.{◌≡◌};
 ghost use Rattle.ft_layout.specs.Tables.{hash_of};
-ghost use Rattle.ft_bank.specs.Keys.{IsKeyIn};
+ghost use Rattle.ft_bank.specs.KeyHashes.{IsKeyIn};
 
 use crate::bank::Bank;
 use ft_hash::hash_int;

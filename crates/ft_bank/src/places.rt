@@ -1,7 +1,7 @@
 //! Where the words of a bank lie, for its steps: plain arithmetic, with no branch by class.
 ghost use Rattle.std.specs.Prelude.{◌≡◌, ◌≤◌, ◌<◌, ◌+◌, ◌*◌};
 ghost use Rattle.ft_trace.specs.Addresses.{containers_in, extent, at, cell, size, class_of};
-ghost use Rattle.ft_bank.specs.Tables.{name_of, IsTableIn};
+ghost use Rattle.ft_bank.specs.Tables.{name_of, IsPlaceOf, IsTableIn};
 
 use crate::bank::Bank;
 use crate::table::Table;
@@ -21,10 +21,12 @@ impl Bank {
     }
 
     /// Where the words of a table lie after its header.
-    pub(crate) fn cell_of(&self, t: Table) -> u64
+    #[inline(always)]
+    pub fn cell_of(&self, t: Table) -> u64
         requires table { IsTableIn (shape_of self.now) t }
         ensures is { result ≡ at (shape_of self.now) (cell (name_of t) 0) }
         ensures low { result + size (class_of (name_of t)) ≤ extent (shape_of self.now) }
+        ensures place { IsPlaceOf (shape_of self.now) t result }
     {
         let class = (t.class - LEAST_CLASS) as usize;
         self.starts[class] + u64::from(t.number) * self.sizes[class] + 2

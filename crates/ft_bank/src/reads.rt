@@ -7,7 +7,7 @@ ghost use Rattle.ft_trace.specs.Finding.{IsNew};
 ghost use Rattle.ft_trace.specs.Holds.{held, in_hand};
 ghost use Rattle.ft_trace.specs.Words.{root_in};
 ghost use Rattle.ft_bank.specs.Reads.{IsShown, IsCursorShown};
-ghost use Rattle.ft_bank.specs.Tables.{name_of, IsTableIn};
+ghost use Rattle.ft_bank.specs.Tables.{name_of, IsPlaceOf, IsTableIn};
 
 use crate::bank::Bank;
 use crate::pass::Pass;
@@ -73,6 +73,22 @@ impl Bank {
             result ≡ slice_index (in_hand (name_of t) (view pass.old)) word }
     {
         let start = self.cell_of(t);
+        self.read_word(pass, t, start, word)
+    }
+
+    /// Loads a word of a table as [`Bank::read_table`] does, for whoever keeps where the table's words lie.
+    pub fn read_word(&self, pass: &mut Pass, t: Table, start: u64, word: u64) -> u64
+        requires pass { IsPassOf self.now pass.old }
+        requires table { IsTableIn (shape_of self.now) t }
+        requires place { IsPlaceOf (shape_of self.now) t start }
+        requires word { word < size (class_of (name_of t)) }
+        ensures did { Did (ReadTable (name_of t) word result) pass.old pass.new }
+        ensures held { (o : ℕ) → o < containers_in (shape_of self.now) → has_lock o (view pass.old).log ≡ true →
+            root_in (held o (view pass.old)) ≡ suc (name_of t) →
+            result ≡ slice_index (held o (view pass.old)).table word }
+        ensures fresh { stage (name_of t) (view pass.old).log ≡ 1 →
+            result ≡ slice_index (in_hand (name_of t) (view pass.old)) word }
+    {
         self.load_as::<Brand>(pass, start + word, 0, t.name(), word)
     }
 

@@ -2,7 +2,7 @@
 //! are free stands in a count word. A taking lowers it before it looks for a table's bit, and a giving raises
 //! it once it has set the bit, so at no moment does it say more than there are bits; a taking that comes away
 //! with no bit raises it again.
-ghost use Rattle.std.specs.Prelude.{◌≡◌, ◌⊎◌, ℕ, suc, ◌+◌, ◌*◌, ◌<◌, ◌==◌, [], ◌∷◌, List, cond};
+ghost use Rattle.std.specs.Prelude.{◌≡◌, ◌⊎◌, ℕ, suc, ◌+◌, ◌*◌, ◌<◌, ◌==◌, [], ◌∷◌, List, cond, true};
 ghost use Rattle.ft_model.specs.Classes.{IsClass};
 ghost use Rattle.ft_trace.specs.declared.Act.{Act};
 ghost use Rattle.ft_trace.specs.declared.Act.TheVariants.{LowerCount, RaiseCount, ReadCount, ReadFree, TakeTable, GiveTable};
@@ -10,7 +10,7 @@ ghost use Rattle.ft_trace.specs.declared.Snap.{Snap};
 ghost use Rattle.ft_trace.specs.Acts.{flight, owes, stage};
 ghost use Rattle.ft_trace.specs.Addresses.{free_bit_of};
 ghost use Rattle.ft_trace.specs.Bits.{bit};
-ghost use Rattle.ft_bank.specs.Takings.{Each, HasTook, IsSearch, IsTaking, KeepsBut, NotTable, StaysIn, HasFound, StaysInSearch, IsCleared, IsShutIn, IsUnclaimed, MayGive, word_of_class};
+ghost use Rattle.ft_bank.specs.Takings.{Each, HasNotMoved, HasTook, IsSearch, IsTaking, KeepsBut, NotTable, StaysIn, HasFound, StaysInSearch, IsCleared, IsShutIn, IsUnclaimed, MayGive, word_of_class};
 ghost use Rattle.ft_bank.specs.Tables.{name_of, IsTableIn};
 
 use crate::bank::Bank;
@@ -64,6 +64,7 @@ impl Bank {
         ensures pass { IsPassOf self.now pass.new }
         ensures did { (acts : List Act) × DidAll acts pass.old pass.new × IsTaking class result acts }
         ensures has { HasTook (shape_of self.now) class result (view pass.old) (view pass.new) }
+        ensures floor { (view pass.old).has_floor ≡ true → HasNotMoved result }
         ensures idle { flight (view pass.new).log ≡ 0 }
         ensures keeps { KeepsBut (StaysIn result) (view pass.old) (view pass.new) }
     {

@@ -36,7 +36,7 @@ use Rattle.ft_bank.specs.Tables.{IsTableIn, name_of}
 use Rattle.ft_search.specs.Calls.{IsShownBy}
 use Rattle.ft_search.specs.Writing.{HasTable, IsEntryOf, Leaves, MayWriteEntries, without_key}
 use Rattle.ft_search.proofs.Changing.{kind_is}
-use Rattle.ft_keyed.specs.Entries.{IsPlainAt, OfUsed, plain_pair, plain_with}
+use Rattle.ft_keyed.specs.TableEntries.{IsPlainAt, OfUsed, plain_pair, plain_with}
 use Rattle.ft_keyed.specs.Places.{IsLast, NoneThere}
 use Rattle.ft_keyed.proofs.Gathered.{no_dict, of_dict}
 use Rattle.ft_keyed.proofs.Scanning.{none_live}

@@ -12,7 +12,7 @@ use Rattle.ft_trace.specs.Words.{Picture, root_in}
 use Rattle.ft_bank.specs.declared.table.Table.{Table}
 use Rattle.ft_bank.specs.Tables.{name_of, IsTableIn}
 use Rattle.ft_keyed.specs.Contents.{IsOfDict}
-use Rattle.ft_keyed.specs.Entries.{OfUsed, plain_pair}
+use Rattle.ft_keyed.specs.TableEntries.{OfUsed, plain_pair}
 use Rattle.ft_keyed.specs.Places.{NoneThere}
 use Rattle.ft_dict.specs.declared.lasts.Last.{Last}
 

@@ -8,7 +8,7 @@ ghost use Rattle.ft_trace.specs.Acts.{announces};
 ghost use Rattle.ft_trace.specs.Addresses.{containers_in};
 ghost use Rattle.ft_trace.specs.LookReplies.{key_reply};
 ghost use Rattle.ft_trace.specs.Worlds.{kind_in};
-ghost use Rattle.ft_bank.specs.Keys.{IsKeyIn};
+ghost use Rattle.ft_bank.specs.KeyHashes.{IsKeyIn};
 ghost use Rattle.ft_bank.specs.Passes.{shape_of, view, IsPassOf};
 ghost use Rattle.ft_bank.specs.Sections.{stack_of};
 ghost use Rattle.ft_keys.specs.declared.walk.Way.TheVariants as way;
@@ -43,6 +43,7 @@ pub(crate) fn reply_of(found: Option<Value>) -> Reply
 }
 
 /// Looks for the value at a key.
+#[inline(always)]
 fn find_value(bank: &Bank, pass: &mut Pass, d: Object, key: Key) -> AtKey
     requires pass { IsPassOf bank.now pass.old }
     requires container { d < containers_in (shape_of bank.now) }
@@ -73,6 +74,7 @@ fn find_value(bank: &Bank, pass: &mut Pass, d: Object, key: Key) -> AtKey
 ///
 /// `Contended` where two loads of the version of the key's own entry gave an odd number or two different
 /// ones; of the container's version, where its root was read 0. It never answers `NoMemory`.
+#[inline(always)]
 pub fn look_get(bank: &Bank, pass: &mut Pass, d: Object, key: Key) -> Look
     requires pass { IsPassOf bank.now pass.old }
     requires container { d < containers_in (shape_of bank.now) }

@@ -9,7 +9,7 @@ ghost use Rattle.ft_model.specs.declared.script.Kind.TheVariants as kind;
 ghost use Rattle.ft_trace.specs.Acts.{flight, used};
 ghost use Rattle.ft_trace.specs.Addresses.{containers_in};
 ghost use Rattle.ft_trace.specs.Worlds.{kind_in};
-ghost use Rattle.ft_bank.specs.Keys.{IsKeyIn};
+ghost use Rattle.ft_bank.specs.KeyHashes.{IsKeyIn};
 ghost use Rattle.ft_bank.specs.Passes.{shape_of, view, IsPassOf};
 ghost use Rattle.ft_bank.specs.Sections.{stack_of};
 ghost use Rattle.ft_section.specs.declared.answers.Objects.TheVariants.{One};
@@ -35,6 +35,7 @@ use ft_section::{Got, Object, Objects, Step, let_go, take_for};
 /// # Errors
 ///
 /// Those of [`add_key`], where the key isn't there.
+#[inline(always)]
 pub fn set_by(bank: &Bank, pass: &mut Pass, d: Object, key: Key, value: Value) -> Added
     requires pass { IsPassOf bank.now pass.old }
     requires may { MayWriteEntries (shape_of bank.now) d (view pass.old) }
@@ -162,6 +163,7 @@ pub fn setdefault_by(
 ///
 /// `NotYet` where a step of the call found another pass with the lock of the dict; `Moved` where two steps of it
 /// found a word of the free tables of one class changed. The same call comes next. It never answers `NoMemory`.
+#[inline(always)]
 pub fn try_set(bank: &Bank, pass: &mut Pass, d: Object, key: Key, value: Value) -> Step
     requires may { MayTry bank.now pass.old (One d) }
     requires container { d < containers_in (shape_of bank.now) }

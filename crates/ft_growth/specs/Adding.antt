@@ -20,7 +20,7 @@ use Rattle.ft_bank.specs.declared.takings.Took.TheVariants as took
 use Rattle.ft_bank.specs.Answered.{Answered}
 use Rattle.ft_bank.specs.Series.{noted_all}
 use Rattle.ft_bank.specs.Tables.{name_of}
-use Rattle.ft_bank.specs.Takings.{HasTook, IsTaking, KeepsBut, StaysIn}
+use Rattle.ft_bank.specs.Takings.{HasNotMoved, HasTook, IsTaking, KeepsBut, StaysIn}
 use Rattle.ft_bank.specs.Whole.{SamePass, SameWork, Wrote}
 use Rattle.ft_bank.specs.Writes.{KeepsUnwritten}
 use Rattle.ft_qsbr.specs.Collecting.{Collected, StaysOrGoes}
@@ -28,14 +28,14 @@ use Rattle.ft_section.specs.declared.answers.Objects.{Objects}
 use Rattle.ft_section.specs.declared.answers.Step.{Step}
 use Rattle.ft_section.specs.declared.answers.Step.TheVariants as step
 use Rattle.ft_section.specs.Locking.{OnlyLocked, FoundOwner, LocksWithin}
-use Rattle.ft_section.specs.Takings.{HasLocks, IsOf}
+use Rattle.ft_section.specs.LockTakings.{HasLocks, IsOf}
 use Rattle.ft_growth.specs.declared.adding.Added.{Added}
 use Rattle.ft_growth.specs.declared.adding.Added.TheVariants as added
 
 -- ---- steps of such a call
 
--- After a collection of retired tables a taking of a table of this class came to this. Besides, the pass has what it
--- had. (profile)
+-- After a collection of retired tables a taking of a table of this class came to this. With the floor it found no word
+-- changed. Besides, the pass has what it had. (profile)
 pub record Tried (k : Shape) (class : ℕ) (result : Took) (v w : View) : Type 0 where
   pub mid : View
   pub freed : ℕ
@@ -44,6 +44,7 @@ pub record Tried (k : Shape) (class : ℕ) (result : Took) (v w : View) : Type 0
   pub did : w ≡ noted_all acts mid
   pub taking : IsTaking class result acts
   pub has : HasTook k class result mid w
+  pub floor : v.has_floor ≡ true → HasNotMoved result
   pub same : SamePass v w
   pub keeps : KeepsBut (λ t. (has_goal t v.log ≡ false) × StaysIn result t) v w
   pub hands : (t : ℕ) → StaysIn result t → StaysOrGoes v w t

@@ -32,6 +32,7 @@ pub enum Added {
 }
 
 /// What the try of a call answers that came to this under its locks, and replies so where it is made.
+#[inline(always)]
 pub fn step_of(added: Added, said: Reply) -> Step
     ensures { result ≡ step_after added said }
 {

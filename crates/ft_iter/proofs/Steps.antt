@@ -9,7 +9,7 @@ use Rattle.ft_model.specs.Cursors.{CursorStep, dict_next, dict_walk, next_pair, 
 use Rattle.ft_layout.specs.Containers.{used_pair, used_element}
 use Rattle.ft_layout.specs.declared.slot.Pair.{Pair}
 use Rattle.ft_iter.specs.Seeking.{used_of}
-use Rattle.ft_iter.specs.Walks.{IsStep}
+use Rattle.ft_iter.specs.Moves.{IsStep}
 
 some-one : {A : Type 0} (x y : A) → Some x ≡ Some y → x ≡ y
 some-one x y e = cc

@@ -21,7 +21,7 @@ use Rattle.ft_section.specs.declared.answers.Objects.TheVariants.{One}
 use Rattle.ft_section.specs.declared.answers.Step.{Step}
 use Rattle.ft_section.specs.declared.answers.Step.TheVariants as step
 use Rattle.ft_section.specs.Locking.{OnlyLocked, FoundOwner, LocksWithin}
-use Rattle.ft_section.specs.Takings.{IsOf}
+use Rattle.ft_section.specs.LockTakings.{IsOf}
 use Rattle.ft_trace.specs.Owners.{SameOwners}
 
 -- one `next` of a cursor over a container with this content (Python manual, Iterator Types)

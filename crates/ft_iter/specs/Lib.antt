@@ -1,4 +1,4 @@
 pub mod Seeking
 pub mod Following
-pub mod Walks
+pub mod Moves
 pub mod Cursors

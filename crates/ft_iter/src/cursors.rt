@@ -21,7 +21,7 @@ ghost use Rattle.ft_section.specs.declared.answers.Objects.TheVariants.{One};
 ghost use Rattle.ft_section.specs.Ready.{MayTry};
 ghost use Rattle.ft_section.specs.Trying.{SectionsAfter};
 ghost use Rattle.ft_iter.specs.Cursors.{step_in, iter_call, iter_cursor, IsOver, IsMoveOf, KeepsOthers};
-ghost use Rattle.ft_iter.specs.Walks.{IsStep};
+ghost use Rattle.ft_iter.specs.Moves.{IsStep};
 
 use crate::walks::{USED, next_dict, next_list, next_set};
 use ft_bank::{Bank, Pass};

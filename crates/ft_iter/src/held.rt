@@ -73,12 +73,14 @@ fn seek_in(
     ensures gives { GivesPair (class_mask table.class) (0 ∷ 0 ∷ (held o (view pass.old)).table) fill after result }
 {
     let mask = mask_of(table.class);
+    let start = bank.cell_of(table);
     let mut words = TableWords {
         bank,
         pass,
         o,
         table,
         mask,
+        start,
     };
     seek_held::<Brand>(&mut words, fill, after, Blank::new(1))
 }

@@ -20,7 +20,7 @@ ghost use Rattle.ft_bank.specs.Passes.{shape_of, view, IsPassOf};
 ghost use Rattle.ft_bank.specs.Series.{DidAll};
 ghost use Rattle.ft_search.specs.Looks.{AreLooks};
 ghost use Rattle.ft_iter.specs.Seeking.{used_of};
-ghost use Rattle.ft_iter.specs.Walks.{IsStep};
+ghost use Rattle.ft_iter.specs.Moves.{IsStep};
 
 use crate::held::next_of;
 use ft_bank::{Bank, Pass};

@@ -28,7 +28,7 @@ use Rattle.ft_trace.proofs.Known.{class_known}
 use Rattle.ft_trace.proofs.Nothing.{no_table_stands}
 use Rattle.ft_search.proofs.Places.{slots_of_class}
 use Rattle.ft_keyed.specs.Contents.{IsOfDict, IsOfSet}
-use Rattle.ft_keyed.specs.Entries.{OfUsed, live_key, plain_pair, plain_with}
+use Rattle.ft_keyed.specs.TableEntries.{OfUsed, live_key, plain_pair, plain_with}
 
 -- ---- one entry more
 

@@ -16,7 +16,7 @@ use Rattle.ft_list.specs.Indexes.{Reads}
 use Rattle.ft_list.specs.Pairs.{ReadsBoth}
 use Rattle.ft_list.proofs.Both.{both_map, both_then, of_first, of_second}
 use Rattle.ft_keyed.specs.Comparing.{DiffersAt, IsValueIn, MeetsAt, WithDict, WithSet, is_met, lacks}
-use Rattle.ft_keyed.specs.Entries.{HashIs, IsKeyAt, IsPlainAt, OfUsed}
+use Rattle.ft_keyed.specs.TableEntries.{HashIs, IsKeyAt, IsPlainAt, OfUsed}
 use Rattle.ft_keyed.specs.Finding.{IsFoundIn}
 use Rattle.ft_keyed.proofs.Paired.{at_set, key_same, pair_same}
 

@@ -29,7 +29,7 @@ use Rattle.ft_bank.specs.declared.pass.Pass.{Pass}
 use Rattle.ft_list.specs.Pairs.{ReadsBoth}
 use Rattle.ft_list.proofs.Indexes.{reads_none}
 use Rattle.ft_keyed.specs.Comparing.{lacks}
-use Rattle.ft_keyed.specs.Entries.{live_key, plain_pair, plain_with}
+use Rattle.ft_keyed.specs.TableEntries.{live_key, plain_pair, plain_with}
 use Rattle.ft_keyed.specs.Finding.{IsAtKey}
 use Rattle.ft_keyed.proofs.Gathered.{gathered_more}
 use Rattle.ft_keyed.proofs.Rows.{pair_in}

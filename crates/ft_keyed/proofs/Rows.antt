@@ -29,7 +29,7 @@ use Rattle.ft_bank.specs.Tables.{IsTableIn, name_of}
 use Rattle.ft_bank.proofs.Tables.{class_is}
 use Rattle.ft_search.proofs.Knowing.{entry_after_header}
 use Rattle.ft_search.proofs.Places.{places_is, slots_of_class}
-use Rattle.ft_keyed.specs.Entries.{AreEntriesOf, IsKeyAt, IsPlainAt, live_key, plain_with}
+use Rattle.ft_keyed.specs.TableEntries.{AreEntriesOf, IsKeyAt, IsPlainAt, live_key, plain_with}
 
 -- where a word of an entry lies
 pub word_is : (c : ℕ) (ws : List ℕ) (place word : ℕ) → entry_word (class_mask c) (0 ∷ 0 ∷ ws) place word ≡ entry_of (slots c) ws place word

@@ -12,7 +12,7 @@ use Rattle.ft_trace.specs.Words.{Picture}
 use Rattle.ft_bank.specs.declared.pass.Pass.{Pass}
 use Rattle.ft_list.specs.Indexes.{Reads}
 use Rattle.ft_list.proofs.Indexes.{reads_map, reads_none, reads_then}
-use Rattle.ft_keyed.specs.Entries.{IsKeyAt, IsPlainAt, KeyIs, OfUsed, PlainIs, live_key}
+use Rattle.ft_keyed.specs.TableEntries.{IsKeyAt, IsPlainAt, KeyIs, OfUsed, PlainIs, live_key}
 use Rattle.ft_keyed.specs.Places.{NoneThere}
 
 -- an entry has a key that is there just where it is live

@@ -10,7 +10,7 @@ use Rattle.ft_model.specs.Keys.{is_value}
 use Rattle.ft_trace.specs.declared.Shape.{Shape}
 use Rattle.ft_trace.specs.Words.{Picture}
 use Rattle.ft_keyed.specs.Contents.{IsOfDict, IsOfSet}
-use Rattle.ft_keyed.specs.Entries.{OfUsed, live_key, plain_pair}
+use Rattle.ft_keyed.specs.TableEntries.{OfUsed, live_key, plain_pair}
 
 -- where these words stand for two dicts, or for two sets, this is so of them
 abbrev pub AreOfDicts : Shape → (DictContent → DictContent → Type 0) → Picture → Picture → Type 0

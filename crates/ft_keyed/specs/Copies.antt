@@ -23,7 +23,7 @@ use Rattle.ft_section.specs.declared.answers.Stamp.{Stamp}
 use Rattle.ft_section.specs.declared.answers.Step.{Step}
 use Rattle.ft_section.specs.declared.answers.Step.TheVariants as step
 use Rattle.ft_section.specs.Locking.{OnlyLocked, FoundOwner}
-use Rattle.ft_section.specs.Takings.{IsOf}
+use Rattle.ft_section.specs.LockTakings.{IsOf}
 use Rattle.ft_growth.specs.Adding.{UnderLocks}
 use Rattle.ft_search.specs.Calls.{MadeAs, MadeUnderLocks}
 use Rattle.ft_search.specs.Lengths.{IsStopped}

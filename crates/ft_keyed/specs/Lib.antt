@@ -2,7 +2,7 @@ pub mod Clearing
 pub mod Comparing
 pub mod Contents
 pub mod Copies
-pub mod Entries
+pub mod TableEntries
 pub mod Finding
 pub mod Places
 pub mod Windows

@@ -15,7 +15,7 @@ ghost use Rattle.ft_list.specs.Indexes.{Reads};
 ghost use Rattle.ft_list.specs.Pairs.{ReadsBoth};
 ghost use Rattle.ft_keyed.specs.Comparing.{AreOfDicts, AreOfSets, DiffersAt, IsValueIn, MeetsAt};
 ghost use Rattle.ft_keyed.specs.Comparing.{WithDict, WithSet, is_met, lacks};
-ghost use Rattle.ft_keyed.specs.Entries.{live_key, plain_pair};
+ghost use Rattle.ft_keyed.specs.TableEntries.{live_key, plain_pair};
 
 use crate::clearing::FILL;
 use crate::entries::{hash_at, key_at, value_at};

@@ -10,7 +10,7 @@ ghost use Rattle.ft_bank.specs.Tables.{name_of, IsTableIn};
 ghost use Rattle.ft_list.specs.Indexes.{Reads};
 ghost use Rattle.ft_keyed.specs.Contents.{IsOfDict, IsOfSet};
 ghost use Rattle.ft_keyed.specs.Copies.{AreCopied};
-ghost use Rattle.ft_keyed.specs.Entries.{OfUsed, live_key, plain_pair};
+ghost use Rattle.ft_keyed.specs.TableEntries.{OfUsed, live_key, plain_pair};
 
 use crate::clearing::FILL;
 use crate::entries::{key_at, value_at};

@@ -12,7 +12,7 @@ ghost use Rattle.ft_bank.specs.Passes.{shape_of, view, IsPassOf};
 ghost use Rattle.ft_bank.specs.Sections.{stack_of};
 ghost use Rattle.ft_bank.specs.Tables.{name_of, IsTableIn};
 ghost use Rattle.ft_list.specs.Indexes.{Reads};
-ghost use Rattle.ft_keyed.specs.Entries.{HashIs, IsKeyAt, IsPlainAt, OfUsed};
+ghost use Rattle.ft_keyed.specs.TableEntries.{HashIs, IsKeyAt, IsPlainAt, OfUsed};
 
 use crate::values::value_of;
 use ft_bank::{Bank, Pass, Table};

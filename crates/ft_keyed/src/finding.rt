@@ -92,12 +92,14 @@ fn search_table(
     ensures reads { Reads (shape_of bank.now) o (SearchesTable table way hash key result) pass.old pass.new }
 {
     let mask = mask_of(table.class);
+    let start = bank.cell_of(table);
     let mut words = TableWords {
         bank,
         pass,
         o,
         table,
         mask,
+        start,
     };
     search(&mut words, way, key, hash)
 }

@@ -4,7 +4,7 @@ ghost use Rattle.ft_bank.specs.Passes.{shape_of, view, IsPassOf};
 ghost use Rattle.ft_bank.specs.Sections.{stack_of};
 ghost use Rattle.ft_bank.specs.Tables.{name_of, IsTableIn};
 ghost use Rattle.ft_list.specs.Indexes.{Reads};
-ghost use Rattle.ft_keyed.specs.Entries.{OfUsed};
+ghost use Rattle.ft_keyed.specs.TableEntries.{OfUsed};
 ghost use Rattle.ft_keyed.specs.Places.{IsFirst, IsLast};
 
 use crate::entries::key_at;

@@ -18,6 +18,7 @@ fn plain_of(stored: Stored) -> Option<Value>
 }
 
 /// The value that a kind and a payload stand for, if they stand for one.
+#[inline(always)]
 pub fn value_of(kind: u64, payload: u64) -> Option<Value>
     ensures { (value : Value) → IsStored kind payload (Plain value) ↔ (result ≡ Some value) }
 {

@@ -6,4 +6,4 @@ pub mod Searches
 pub mod Costs
 pub mod Puts
 pub mod Changes
-pub mod Lists
+pub mod WordLists

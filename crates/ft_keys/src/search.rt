@@ -49,6 +49,7 @@ enum Compared {
 
 /// Loads a slot's index word and compares the entry that it names with the key, in a table with that
 /// many entries.
+#[inline(always)]
 fn compare<W: Words>(words: &mut W, slot: u64, room: u64, key: Key) -> Compared
     requires can { W.can words.old }
     requires slot { slot ≤ W.mask words.old }
@@ -82,6 +83,7 @@ fn compare<W: Words>(words: &mut W, slot: u64, room: u64, key: Key) -> Compared
 }
 
 /// Tries the next slot of the walk. `None` says that the search goes on after it.
+#[inline(always)]
 fn try_slot<W: Words, L: Ledger>(
     words: &mut W,
     walk: &mut Walk,
@@ -138,6 +140,7 @@ pub(crate) fn key_fits(key: Key)
 /// on the same walk goes on after the entry, or loads the slot never used again.
 ///
 /// Every load of an index word is a step.
+#[inline(always)]
 pub fn find<W: Words, L: Ledger>(
     words: &mut W,
     walk: &mut Walk,
@@ -164,6 +167,7 @@ pub fn find<W: Words, L: Ledger>(
 }
 
 /// [`find`] that passes the deleted entries of the key, for callers whose words nobody else writes.
+#[inline(always)]
 pub fn find_live<W: Words, L: Ledger>(
     words: &mut W,
     walk: &mut Walk,

@@ -18,6 +18,7 @@ pub fn item_words(value: Stored) -> [u64; 4]
 
 /// What the words of an item store. `None` exactly where the kind or the payload is one that no item
 /// has. The first word and the last are not looked at.
+#[inline(always)]
 pub fn item_of(words: &[u64; 4]) -> Option<Stored>
     ensures says { (stored : Stored) → IsItem (slice_index words.now) stored ↔ (result ≡ Some stored) }
     ensures reads_back { (stored : Stored) → FitsStored stored → words.now ≡ item_words stored → result ≡ Some stored }

@@ -51,6 +51,7 @@ pub fn stored_payload_of(stored: Stored) -> u64
 }
 
 /// What a kind and a payload store, `None` exactly where they are those of nothing that can be stored.
+#[inline(always)]
 pub(crate) fn stored_of(kind: u64, payload: u64) -> Option<Stored>
     ensures { (stored : Stored) → IsStored kind payload stored ↔ (result ≡ Some stored) }
 {

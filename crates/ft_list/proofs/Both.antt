@@ -20,7 +20,7 @@ use Rattle.ft_bank.specs.Passes.{view}
 use Rattle.ft_bank.specs.Whole.{OnlyLoaded}
 use Rattle.ft_bank.proofs.Whole.{loaded_held}
 use Rattle.ft_section.specs.declared.answers.Objects.TheVariants.{Two}
-use Rattle.ft_section.specs.Takings.{AreIn, HasLocks}
+use Rattle.ft_section.specs.LockTakings.{AreIn, HasLocks}
 use Rattle.ft_search.proofs.Lengths.{IsPlain}
 use Rattle.ft_search.proofs.Rounding.{looks_append, looks_load}
 use Rattle.ft_search.proofs.Running.{did_trans}

@@ -26,3 +26,4 @@ pub mod GrowWrites
 pub mod Additions
 pub mod Emptying
 pub mod Extending
+pub mod Undisturbed

@@ -64,8 +64,9 @@ item_closes o t index seen low same even =
       record { newer = ReadTable t (item_at index 0) seen.closed ∷ []; rest = ReadTable t (item_at index 2) seen.payload ∷ (ReadTable t (item_at index 1) seen.kind ∷ (ReadTable t (item_at index 0) seen.opened ∷ [])); is = refl },
     )
 
-pub item_stops : (o t index : ℕ) (seen : Seen) → (seen.opened % 2 ≢ 0) ⊎ (seen.closed ≢ seen.opened) → ClosesAt o t index (seen_acts t index seen) (Contended seen.opened seen.closed)
-item_stops o t index seen why = record {
+pub item_stops : (o t index : ℕ) (seen : Seen) → index < slots (class_of t) → (seen.opened % 2 ≢ 0) ⊎ (seen.closed ≢ seen.opened) → ClosesAt o t index (seen_acts t index seen) (Contended seen.opened seen.closed)
+item_stops o t index seen low why = record {
+  low = low;
   newer = [];
   mid = ReadCounter seen.number ∷ (ReadTable t (item_at index 2) seen.payload ∷ (ReadTable t (item_at index 1) seen.kind ∷ []));
   rest = [];
@@ -92,6 +93,7 @@ item_in t index a b new part old h =
     let x = ReadTable t (item_at index 0) a in
     let y = ReadTable t (item_at index 0) b in
     record {
+      low = h.low;
       newer = new ++ h.newer;
       mid = h.mid;
       rest = h.rest ++ old;

@@ -11,7 +11,7 @@ use Rattle.ft_trace.specs.Addresses.{slots}
 use Rattle.ft_trace.specs.Words.{Picture, item_of}
 use Rattle.ft_trace.proofs.Cases.{miss, here}
 use Rattle.ft_list.specs.Items.{PutsItem, IsChanging, IsPutting, stored_at, but_at}
-use Rattle.ft_list.specs.Turning.{IsTurning}
+use Rattle.ft_list.specs.Reversing.{IsTurning}
 use Rattle.ft_list.proofs.Putting.{putting_put, putting_ends, stored_by, stored_none}
 use Rattle.ft_list.proofs.Values.{reversed_at}
 

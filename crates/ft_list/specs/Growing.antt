@@ -16,7 +16,7 @@ use Rattle.ft_section.specs.declared.answers.Stamp.{Stamp}
 use Rattle.ft_section.specs.declared.answers.Step.{Step}
 use Rattle.ft_section.specs.declared.answers.Step.TheVariants as step
 use Rattle.ft_section.specs.Locking.{OnlyLocked, FoundOwner}
-use Rattle.ft_section.specs.Takings.{IsOf}
+use Rattle.ft_section.specs.LockTakings.{IsOf}
 use Rattle.ft_growth.specs.Adding.{GaveUp, IsAdded, UnderLocks}
 use Rattle.ft_list.specs.Items.{items_of}
 

@@ -50,7 +50,8 @@ IsValueIn t place found x =
 -- where these words stand for a list that has an item at the place, it is this
 abbrev pub IsItemAt : Shape → ℕ → Option Value → Picture → Type 0
 IsItemAt k place found x =
-    (kept : ContainerState) → kind_of kept.content ≡ kind.List → Stands k.texts x kept → place < length (list_of kept.content)
+    (kept : ContainerState) → kind_of kept.content ≡ kind.List → Stands k.texts x kept
+    → place < length (list_of kept.content)
     → found ≡ Some (slice_index_or (list_of kept.content) place value.Nothing)
 
 -- where these words stand for a list, the index names this item of it, or none

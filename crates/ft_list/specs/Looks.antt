@@ -51,8 +51,9 @@ pub record ShowsItem (o index kind payload n : ℕ) (log : List Act) : Type 0 wh
 abbrev pub ShowsPast : ℕ → ℕ → ℕ → List Act → Type 0
 ShowsPast o index n log = ((t : ℕ) × (slots (class_of t) ≤ index) × ItemPast log o t n) ⊎ Bare log o n
 
--- two loads of the version of this very item gave a and then b, and a is odd or they differ
+-- two loads of the version of this very item of the table gave a and then b, and a is odd or they differ
 pub record StopsAtItem (t index a b : ℕ) (part : List Act) : Type 0 where
+  pub low : index < slots (class_of t)
   pub newer : List Act
   pub mid : List Act
   pub rest : List Act

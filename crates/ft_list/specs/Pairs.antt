@@ -33,8 +33,8 @@ ReadsBoth k o m shows p q =
 -- where these words stand for two lists, this is so of the items of both
 abbrev pub AreOfItems : Shape → (List Value → List Value → Type 0) → Picture → Picture → Type 0
 AreOfItems k holds x y =
-    (one other : ContainerState) → kind_of one.content ≡ kind.List → kind_of other.content ≡ kind.List → Stands k.texts x one
-    → Stands k.texts y other → holds (list_of one.content) (list_of other.content)
+    (one other : ContainerState) → kind_of one.content ≡ kind.List → kind_of other.content ≡ kind.List
+    → Stands k.texts x one → Stands k.texts y other → holds (list_of one.content) (list_of other.content)
 
 -- What a call answers that reads two containers, each between two loads of its version. It gave a reply, which is the
 -- one that its entry has, with a stamp that it loaded; or the version of one of the two stopped it. It takes no memory.

@@ -74,6 +74,7 @@ pub(crate) fn found_of(kind: u64, payload: u64) -> Option<Option<Value>>
 }
 
 /// Looks for the value at an index.
+#[inline(always)]
 fn find_value(bank: &Bank, pass: &mut Pass, l: Object, index: u64) -> AtIndex
     requires pass { IsPassOf bank.now pass.old }
     requires container { l < containers_in (shape_of bank.now) }
@@ -100,6 +101,7 @@ fn find_value(bank: &Bank, pass: &mut Pass, l: Object, index: u64) -> AtIndex
 
 /// `l[i]` without the lock, for an index that isn't negative; the pass is online. It is contended by the
 /// version of that very item alone, or by that of the list where its root was read 0.
+#[inline(always)]
 pub fn look_item(bank: &Bank, pass: &mut Pass, l: Object, index: u64) -> Look
     requires pass { IsPassOf bank.now pass.old }
     requires container { l < containers_in (shape_of bank.now) }

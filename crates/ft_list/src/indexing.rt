@@ -76,6 +76,7 @@ fn look_between(bank: &Bank, pass: &mut Pass, l: Object, index: i64) -> Look
 /// `Contended` where two loads of one version gave an odd number or two different ones: for an index that
 /// isn't negative the version of that very item, or of the list where its root was read 0; for a negative
 /// index the version of the list. It never answers `NoMemory`.
+#[inline(always)]
 pub fn look_get(bank: &Bank, pass: &mut Pass, l: Object, index: i64) -> Look
     requires pass { IsPassOf bank.now pass.old }
     requires container { l < containers_in (shape_of bank.now) }

@@ -12,6 +12,7 @@ mod addition;
 mod bare;
 mod clearing;
 mod copies;
+mod floors;
 mod gets;
 mod glances;
 mod growth;
@@ -31,6 +32,7 @@ mod writes;
 
 pub use crate::adding::{append_by, extend_by, insert_by, try_append, try_extend, try_insert};
 pub use crate::clearing::{clear_by, try_clear};
+pub use crate::floors::floor_items_stand;
 pub use crate::gets::look_item;
 pub use crate::glances::{Window, look_eq, look_has, look_items};
 pub use crate::indexing::{look_get, try_get};

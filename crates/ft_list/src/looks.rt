@@ -14,7 +14,7 @@ ghost use Rattle.ft_trace.specs.Words.{item_at};
 ghost use Rattle.ft_bank.specs.Passes.{shape_of, view, IsPassOf};
 ghost use Rattle.ft_bank.specs.Sections.{stack_of};
 ghost use Rattle.ft_bank.specs.Series.{DidAll};
-ghost use Rattle.ft_bank.specs.Tables.{name_of, IsTableIn};
+ghost use Rattle.ft_bank.specs.Tables.{name_of, IsPlaceOf, IsTableIn};
 ghost use Rattle.ft_bank.specs.Whole.{OnlyLoaded};
 ghost use Rattle.ft_search.specs.Looks.{AreLooks};
 ghost use Rattle.ft_list.specs.Looks.{seen_acts, EndsTable, EndsRound, ShowsFound};
@@ -22,7 +22,7 @@ ghost use Rattle.ft_list.specs.Looks.{seen_acts, EndsTable, EndsRound, ShowsFoun
 use crate::items::word_at;
 use ft_bank::{Bank, Pass, Table};
 use ft_layout::{item_word, list_items};
-use ft_search::table_named;
+use ft_search::table_at;
 
 /// What a look-up of one item without the lock came to.
 #[derive(Clone, Copy)]
@@ -59,19 +59,21 @@ pub(crate) struct Seen {
     pub(crate) closed: u64,
 }
 
-/// Loads a word of an item.
-fn load_word(bank: &Bank, pass: &mut Pass, table: Table, index: u64, word: u64) -> u64
+/// Loads a word of an item of the table whose words begin there.
+fn load_word(bank: &Bank, pass: &mut Pass, table: Table, start: u64, index: u64, word: u64) -> u64
     requires pass { IsPassOf bank.now pass.old }
     requires table { IsTableIn (shape_of bank.now) table }
+    requires place { IsPlaceOf (shape_of bank.now) table start }
     requires index { index < slots (class_of (name_of table)) }
     requires word { word < 4 }
     ensures pass { IsPassOf bank.now pass.new }
     ensures did { DidAll (ReadTable (name_of table) (item_at index word) result ∷ []) pass.old pass.new }
 {
-    bank.read_table(pass, table, word_at(index, word))
+    bank.read_word(pass, table, start, word_at(index, word))
 }
 
 /// Loads an item and the counter between two loads of the item's version.
+#[inline(always)]
 fn see_item(bank: &Bank, pass: &mut Pass, table: Table, index: u64) -> Seen
     requires pass { IsPassOf bank.now pass.old }
     requires table { IsTableIn (shape_of bank.now) table }
@@ -79,11 +81,12 @@ fn see_item(bank: &Bank, pass: &mut Pass, table: Table, index: u64) -> Seen
     ensures pass { IsPassOf bank.now pass.new }
     ensures did { DidAll (seen_acts (name_of table) index result) pass.old pass.new }
 {
-    let opened = load_word(bank, pass, table, index, item_word::VERSION);
-    let kind = load_word(bank, pass, table, index, item_word::VALUE_KIND);
-    let payload = load_word(bank, pass, table, index, item_word::VALUE);
+    let start = bank.cell_of(table);
+    let opened = load_word(bank, pass, table, start, index, item_word::VERSION);
+    let kind = load_word(bank, pass, table, start, index, item_word::VALUE_KIND);
+    let payload = load_word(bank, pass, table, start, index, item_word::VALUE);
     let number = bank.stamp(pass);
-    let closed = load_word(bank, pass, table, index, item_word::VERSION);
+    let closed = load_word(bank, pass, table, start, index, item_word::VERSION);
     Seen {
         opened,
         kind,
@@ -94,6 +97,7 @@ fn see_item(bank: &Bank, pass: &mut Pass, table: Table, index: u64) -> Seen
 }
 
 /// A round over the table that the root named: the item, and then the root again.
+#[inline(always)]
 fn look_at(bank: &Bank, pass: &mut Pass, o: u32, index: u64, root: u64, table: Table) -> Round
     requires pass { IsPassOf bank.now pass.old }
     requires container { o < containers_in (shape_of bank.now) }
@@ -161,6 +165,7 @@ fn look_bare(bank: &Bank, pass: &mut Pass, o: u32) -> Round
 }
 
 /// A round at whatever the root was.
+#[inline(always)]
 fn look_round(bank: &Bank, pass: &mut Pass, o: u32, index: u64, root: u64) -> Round
     requires pass { IsPassOf bank.now pass.old }
     requires container { o < containers_in (shape_of bank.now) }
@@ -170,7 +175,7 @@ fn look_round(bank: &Bank, pass: &mut Pass, o: u32, index: u64, root: u64) -> Ro
     ensures pass { IsPassOf bank.now pass.new }
     ensures ended { EndsRound (shape_of bank.now) o index root pass.old pass.new result }
 {
-    match table_named(root) {
+    match table_at(bank, root) {
         Some(table) => {
             if index < list_items(table.class) {
                 look_at(bank, pass, o, index, root, table)
@@ -184,6 +189,7 @@ fn look_round(bank: &Bank, pass: &mut Pass, o: u32, index: u64, root: u64) -> Ro
 
 /// Looks up an item without the lock; the pass is online. A root changes at most twice for each table, so
 /// the rounds end.
+#[inline(always)]
 pub(crate) fn find_item(bank: &Bank, pass: &mut Pass, o: u32, index: u64) -> Found
     requires pass { IsPassOf bank.now pass.old }
     requires container { o < containers_in (shape_of bank.now) }

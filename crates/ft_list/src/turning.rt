@@ -16,7 +16,7 @@ ghost use Rattle.ft_bank.specs.Whole.{OnlyPut, Wrote};
 ghost use Rattle.ft_list.specs.Calls.{MayWriteList, HasTable, Changes};
 ghost use Rattle.ft_list.specs.Items.{WritesList, IsPutting, items_of, stored_at};
 ghost use Rattle.ft_search.specs.Calls.{MadeAs};
-ghost use Rattle.ft_list.specs.Turning.{IsTurning};
+ghost use Rattle.ft_list.specs.Reversing.{IsTurning};
 
 use crate::bare::write_nothing;
 use crate::items::{finish, item, put_item};

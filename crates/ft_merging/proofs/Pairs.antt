@@ -9,7 +9,7 @@ use Rattle.ft_trace.specs.declared.View.{View}
 use Rattle.ft_trace.specs.Acts.{has_lock}
 use Rattle.ft_trace.specs.Addresses.{containers_in}
 use Rattle.ft_section.specs.declared.answers.Objects.TheVariants.{Two}
-use Rattle.ft_section.specs.Takings.{AreIn, HasLocks}
+use Rattle.ft_section.specs.LockTakings.{AreIn, HasLocks}
 
 pub has_each : (v : View) (a b : ℕ) → HasLocks v (Two a b) → (has_lock a v.log ≡ true) × (has_lock b v.log ≡ true)
 has_each v a b h = by (nat_lt b a) h

@@ -1,5 +1,5 @@
 //! The taking of a table after a collection.
-ghost use Rattle.std.specs.Prelude.{◌≡◌, ℕ, List, ◌∷◌, false};
+ghost use Rattle.std.specs.Prelude.{◌≡◌, ℕ, List, ◌∷◌, false, true};
 ghost use Rattle.ft_model.specs.Classes.{IsClass};
 ghost use Rattle.ft_trace.specs.declared.Act.{Act};
 ghost use Rattle.ft_trace.specs.declared.Act.TheVariants.{ReadCount};
@@ -8,7 +8,7 @@ ghost use Rattle.ft_trace.specs.Acts.{flight, has_goal, owes};
 ghost use Rattle.ft_bank.specs.Passes.{shape_of, view, IsPassOf};
 ghost use Rattle.ft_bank.specs.Sections.{stack_of};
 ghost use Rattle.ft_bank.specs.Series.{noted_all};
-ghost use Rattle.ft_bank.specs.Takings.{HasTook, IsTaking, KeepsBut, StaysIn};
+ghost use Rattle.ft_bank.specs.Takings.{HasNotMoved, HasTook, IsTaking, KeepsBut, StaysIn};
 ghost use Rattle.ft_bank.specs.declared.takings.Took.TheVariants.{AllTaken};
 ghost use Rattle.ft_bank.specs.Whole.{SamePass};
 ghost use Rattle.ft_qsbr.specs.Collecting.{Collected, StaysOrGoes};
@@ -29,6 +29,7 @@ pub fn take(bank: &Bank, pass: &mut Pass, class: u32) -> Took
         × HasTook (shape_of bank.now) class result mid (view pass.new) }
     ensures empty { result ≡ AllTaken →
         (rest : List Act) × ((view pass.new).log ≡ ReadCount class 0 ∷ rest) × (owes rest ≡ 0) }
+    ensures floor { (view pass.old).has_floor ≡ true → HasNotMoved result }
     ensures idle { flight (view pass.new).log ≡ 0 }
     ensures sections { stack_of pass.new ≡ stack_of pass.old }
     ensures same { SamePass (view pass.old) (view pass.new) }

@@ -52,7 +52,8 @@ pub record Replaces (o : ℕ) (called : Call) (left : Content) (takes : Option �
   pub fits : (found : StoredWorld) → MayHave v found → would_pass found.world called ≡ false
   pub takes_is : (found : StoredWorld) → MayHave v found → takes_in found called ≡ takes
   pub left_is : (found : StoredWorld) → MayHave v found
-      → state_at (after_stored found called) o ≡ record { content = left; table = replaced_table takes (length_of left) }
+      → state_at (after_stored found called) o
+      ≡ record { content = left; table = replaced_table takes (length_of left) }
 
 -- What such a call comes to under its locks. Where it takes no table it is made as one whole write that leaves the
 -- container none, and the table that was there is retired. Else, after loads, it is made in a table of its class, which

@@ -102,8 +102,9 @@ module _ (v w : View) (k : Shape) (o : ℕ) (key : Key) (n : ℕ) (part : List A
 pub answered_after : (v w z : View) (called : Call) (said : Reply) (n : ℕ) (part : List Act) → OnlyLoaded v w → w.log ≡ part ++ v.log → Among (ReadCounter n) part → z ≡ noted (Answer called said n) w → v.learnt ≤ shown v.log → ∥ Possible z ∥₁ → Answered called said n v z
 answered_after v w z called said n part loaded own counted is settled possible = record { before = w; loaded = loaded; part = part; own = own; counted = counted; answered = is; seen = answered_seen v w z called said part n own counted is settled possible }
 
-pub contended_after : (v w : View) (o : ℕ) (key : Key) (a b : ℕ) (part : List Act) → OnlyLoaded v w → AreLooks part → w.log ≡ part ++ v.log → Stops o key a b part → IsContended o key a b v w
-contended_after v w o key a b part loaded looks own stops = record { loaded = loaded; part = part; looks = looks; own = own; stops = stops }
+pub contended_after : (v w : View) (k : Shape) (o : ℕ) (key : Key) (a b : ℕ) (part : List Act) → v.shape ≡ k → OnlyLoaded v w → AreLooks part → w.log ≡ part ++ v.log → Stops k o key a b part → IsContended o key a b v w
+contended_after v w k o key a b part same loaded looks own stops =
+    record { loaded = loaded; part = part; looks = looks; own = own; stops = subst (λ (z : Shape). Stops z o key a b part) (sym same) stops }
 
 -- ---- under the lock, with the stamp that is loaded then
 

@@ -93,9 +93,10 @@ module _ (k : Shape) (o t : ℕ) (key : Key) (slot place : ℕ) (earlier : List 
   kind_among found = record { newer = entry 3 (key_payload key) ∷ []; rest = ReadTable t slot (suc place) ∷ earlier; is = refl }
 
   -- the version of the entry was odd, or changed
-  pub stops_seen : (seen : Seen) → (seen.opened % 2 ≢ 0) ⊎ (seen.closed ≢ seen.opened) → StopsAtEntry t key seen.opened seen.closed (seen_acts t place seen ++ met (key_kind key))
-  stops_seen seen why = record {
+  pub stops_seen : place < m → (seen : Seen) → (seen.opened % 2 ≢ 0) ⊎ (seen.closed ≢ seen.opened) → StopsAtEntry k o t key seen.opened seen.closed (seen_acts t place seen ++ met (key_kind key))
+  stops_seen low seen why = record {
     place = place;
+    low = low;
     newer = [];
     mid = ReadCounter seen.number ∷ (entry 5 seen.value ∷ (entry 4 seen.value_kind ∷ (entry 2 seen.key_kind ∷ [])));
     rest = met (key_kind key);
@@ -105,9 +106,10 @@ module _ (k : Shape) (o t : ℕ) (key : Key) (slot place : ℕ) (earlier : List 
     kind_read = inl (kind_among (key_kind key));
   }
 
-  pub stops_deleted : (opened closed : ℕ) → opened % 2 ≢ 0 → StopsAtEntry t key opened closed (entry 0 closed ∷ (entry 0 opened ∷ met (gone_kind key)))
-  stops_deleted opened closed odd = record {
+  pub stops_deleted : place < m → (opened closed : ℕ) → opened % 2 ≢ 0 → StopsAtEntry k o t key opened closed (entry 0 closed ∷ (entry 0 opened ∷ met (gone_kind key)))
+  stops_deleted low opened closed odd = record {
     place = place;
+    low = low;
     newer = [];
     mid = [];
     rest = met (gone_kind key);

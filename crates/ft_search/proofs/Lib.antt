@@ -21,3 +21,4 @@ mod Costing
 pub mod Staying
 mod Bounding
 pub mod Spending
+pub mod Undisturbed

@@ -79,11 +79,12 @@ two_in a b new newer mid rest part old is =
     ∙ (ap (λ (z : List Act). new ++ z) (append_assoc newer (b ∷ (mid ++ a ∷ rest)) old ∙ ap (λ (z : List Act). newer ++ b ∷ z) (append_assoc mid (a ∷ rest) old))
     ∙ sym (append_assoc new newer (b ∷ (mid ++ a ∷ (rest ++ old)))))
 
-pub entry_in : (t : ℕ) (key : Key) (a b : ℕ) (new part old : List Act) → StopsAtEntry t key a b part → StopsAtEntry t key a b (new ++ (part ++ old))
-entry_in t key a b new part old h =
+pub entry_in : (k : Shape) (o t : ℕ) (key : Key) (a b : ℕ) (new part old : List Act) → StopsAtEntry k o t key a b part → StopsAtEntry k o t key a b (new ++ (part ++ old))
+entry_in k o t key a b new part old h =
     let at = entry_at (slots (class_of t)) h.place in
     record {
       place = h.place;
+      low = h.low;
       newer = new ++ h.newer;
       mid = h.mid;
       rest = h.rest ++ old;
@@ -108,7 +109,7 @@ pub looked_in : (k : Shape) (o : ℕ) (key : Key) (part old log : List Act) (loo
 looked_in k o key part old log (Here value_kind value n) h = (h.0, among_more (ReadCounter n) part old h.1)
 looked_in k o key part old log (Absent n) h = (h.0, among_more (ReadCounter n) part old h.1)
 looked_in k o key part old log (Contended a b) h =
-    ⊎_elim (λ x. inl (x.0, among_more (ReadRoot o (suc x.0)) part old x.1, entry_in x.0 key a b [] part old x.2)) (λ x. inr (container_in o a b [] part old x)) h
+    ⊎_elim (λ x. inl (x.0, among_more (ReadRoot o (suc x.0)) part old x.1, entry_in k o x.0 key a b [] part old x.2)) (λ x. inr (container_in o a b [] part old x)) h
 
 -- ---- a round where the root read 0
 
@@ -178,7 +179,7 @@ at_table k o key t p q (Ended (Absent n)) rest last e =
     (ReadRoot o (suc t) ∷ part, looks_inner part e.1, e.2, (e.3.0 (view q).log win, among_in (ReadCounter n) (ReadRoot o (suc t) ∷ []) part (ReadRoot o (suc t) ∷ []) e.3.1))
 at_table k o key t p q (Ended (Contended a b)) rest last e =
     let part = e.0 in
-    (ReadRoot o (suc t) ∷ part, looks_inner part e.1, e.2, inl (t, record { newer = []; rest = part ++ ReadRoot o (suc t) ∷ []; is = refl }, entry_in t key a b (ReadRoot o (suc t) ∷ []) part (ReadRoot o (suc t) ∷ []) e.3))
+    (ReadRoot o (suc t) ∷ part, looks_inner part e.1, e.2, inl (t, record { newer = []; rest = part ++ ReadRoot o (suc t) ∷ []; is = refl }, entry_in k o t key a b (ReadRoot o (suc t) ∷ []) part (ReadRoot o (suc t) ∷ []) e.3))
 
 -- ---- the measure
 

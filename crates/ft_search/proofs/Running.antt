@@ -40,10 +40,10 @@ did_log l p q m = ap (λ z. z.log) m.1 ∙ noted_log l (view p)
 -- ---- the same place
 
 pub same_self : (s : TableWords) → SamePlace s s
-same_self s = record { bank = refl; pass = refl; o = refl; table = refl; mask = refl }
+same_self s = record { bank = refl; pass = refl; o = refl; table = refl; mask = refl; start = refl }
 
 pub same_trans : (r s t : TableWords) → SamePlace r s → SamePlace s t → SamePlace r t
-same_trans r s t a b = record { bank = b.bank ∙ a.bank; pass = b.pass ∙ a.pass; o = b.o ∙ a.o; table = b.table ∙ a.table; mask = b.mask ∙ a.mask }
+same_trans r s t a b = record { bank = b.bank ∙ a.bank; pass = b.pass ∙ a.pass; o = b.o ∙ a.o; table = b.table ∙ a.table; mask = b.mask ∙ a.mask; start = b.start ∙ a.start }
 
 -- what is said of the shape, the container and the table of one is said of the other
 pub at_same : (F : Shape → ℕ → ℕ → Type 0) (s t : TableWords) → SamePlace s t → F (shape_of t.bank.now) t.o (name_of t.table) → F (shape_of s.bank.now) s.o (name_of s.table)

@@ -9,3 +9,4 @@ pub mod Spots
 pub mod Calls
 pub mod Costs
 pub mod Stays
+pub mod Floors

@@ -45,10 +45,11 @@ pub record ShowsHere (k : Shape) (o : ℕ) (key : Key) (value_kind value n : ℕ
 abbrev pub ShowsAbsent : Shape → ℕ → Key → ℕ → List Act → Type 0
 ShowsAbsent k o key n log = ((t : ℕ) × IsAbsent k log o t key n) ⊎ Bare log o n
 
--- Two loads of the version of one entry gave a and then b, and a is odd or they differ. Before that the entry was read
--- to be the key's, or to be a deleted one of it.
-pub record StopsAtEntry (t : ℕ) (key : Key) (a b : ℕ) (part : List Act) : Type 0 where
+-- Two loads of the version of one entry of the table of o gave a and then b, and a is odd or they differ. Before that
+-- the entry was read to be the key's, or to be a deleted one of it.
+pub record StopsAtEntry (k : Shape) (o t : ℕ) (key : Key) (a b : ℕ) (part : List Act) : Type 0 where
   pub place : ℕ
+  pub low : place < rows (kind_in k.kinds o) (class_of t)
   pub newer : List Act
   pub mid : List Act
   pub rest : List Act
@@ -71,16 +72,16 @@ pub record StopsAtContainer (o a b : ℕ) (part : List Act) : Type 0 where
 
 -- Two loads of one version gave a and then b, and a is odd or they differ: the version of an entry of the key in a
 -- table that the root named, or the container's where the root was read 0.
-abbrev pub Stops : ℕ → Key → ℕ → ℕ → List Act → Type 0
-Stops o key a b part =
-    ((t : ℕ) × Among (ReadRoot o (suc t)) part × StopsAtEntry t key a b part) ⊎ StopsAtContainer o a b part
+abbrev pub Stops : Shape → ℕ → Key → ℕ → ℕ → List Act → Type 0
+Stops k o key a b part =
+    ((t : ℕ) × Among (ReadRoot o (suc t)) part × StopsAtEntry k o t key a b part) ⊎ StopsAtContainer o a b part
 
 -- a look-up came to this, by its own loads (`part`) and those before (`log` has both)
 abbrev pub ShowsLooked : Shape → ℕ → Key → List Act → List Act → Looked → Type 0
 ShowsLooked k o key part log (looked.Here value_kind value n) =
     ShowsHere k o key value_kind value n log × Among (ReadCounter n) part
 ShowsLooked k o key part log (looked.Absent n) = ShowsAbsent k o key n log × Among (ReadCounter n) part
-ShowsLooked k o key part log (looked.Contended a b) = Stops o key a b part
+ShowsLooked k o key part log (looked.Contended a b) = Stops k o key a b part
 
 -- The pass loaded words of the bank and did nothing else, and the version of the key's own entry stopped the look-up;
 -- or the container's, where its root was read 0.
@@ -89,7 +90,7 @@ pub record IsContended (o : ℕ) (key : Key) (a b : ℕ) (v w : View) : Type 0 w
   pub part : List Act
   pub looks : AreLooks part
   pub own : w.log ≡ part ++ v.log
-  pub stops : Stops o key a b part
+  pub stops : Stops v.shape o key a b part
 
 -- What a call answers that looks up a key without the lock. It gave a reply, which is the one that its entry has, with
 -- a stamp that it loaded; or it was contended. It takes no memory.

@@ -53,7 +53,7 @@ ClosesAt k o t key part (Here value_kind value n) =
     ((log : List Act) → Window log o t part → ShowsHere k o key value_kind value n log) × Among (ReadCounter n) part
 ClosesAt k o t key part (Absent n) =
     ((log : List Act) → Window log o t part → ShowsAbsent k o key n log) × Among (ReadCounter n) part
-ClosesAt k o t key part (Contended a b) = StopsAtEntry t key a b part
+ClosesAt k o t key part (Contended a b) = StopsAtEntry k o t key a b part
 
 -- the loads by which a search met an entry of the key, of this kind, newest first, after earlier loads
 abbrev pub met_acts : ℕ → ℕ → ℕ → Key → ℕ → List Act → List Act

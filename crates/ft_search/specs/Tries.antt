@@ -6,7 +6,7 @@ use Rattle.ft_section.specs.declared.answers.Objects.TheVariants.{One}
 use Rattle.ft_section.specs.declared.answers.Step.{Step}
 use Rattle.ft_section.specs.declared.answers.Step.TheVariants as step
 use Rattle.ft_section.specs.Locking.{OnlyLocked, FoundOwner, LocksWithin}
-use Rattle.ft_section.specs.Takings.{IsOf}
+use Rattle.ft_section.specs.LockTakings.{IsOf}
 use Rattle.ft_trace.specs.declared.View.{View}
 use Rattle.ft_trace.specs.Owners.{SameOwners}
 use Rattle.ft_bank.specs.Answered.{Answered}

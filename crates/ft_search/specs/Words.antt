@@ -11,7 +11,7 @@ use Rattle.ft_keys.specs.declared.words.Access.{Access}
 use Rattle.ft_keys.specs.declared.words.Access.TheVariants.{Index, Entry, PutIndex, PutEntry, OldEntry}
 use Rattle.ft_keys.specs.Accesses.{Tells, put_by}
 use Rattle.ft_bank.specs.Passes.{shape_of, view, IsPassOf, Did}
-use Rattle.ft_bank.specs.Tables.{name_of, IsTableIn}
+use Rattle.ft_bank.specs.Tables.{name_of, IsPlaceOf, IsTableIn}
 use Rattle.ft_bank.specs.Whole.{OnlyPut}
 use Rattle.ft_bank.specs.Writes.{IsCareful}
 use Rattle.ft_search.specs.declared.words.TableWords.{TableWords}
@@ -24,12 +24,13 @@ act_of o t (PutIndex slot value) = PutTable o t slot value
 act_of o t (PutEntry place word value) = PutTable o t (entry_at (slots (class_of t)) place word) value
 act_of o t (OldEntry place word value) = ReadTable t (entry_at (slots (class_of t)) place word) value
 
--- a table of the bank, its last slot, a container and a pass of the bank
+-- a table of the bank, its last slot and where its words lie, a container and a pass of the bank
 pub record CanLoad (s : TableWords) : Type 0 where
   pub pass : IsPassOf s.bank.now s.pass.now
   pub container : s.o < containers_in (shape_of s.bank.now)
   pub table : IsTableIn (shape_of s.bank.now) s.table
   pub mask : s.mask ≡ class_mask s.table.class
+  pub start : IsPlaceOf (shape_of s.bank.now) s.table s.start
 
 -- the word of a load is one of the table t; there is no old table
 abbrev pub IsInside : ℕ → Access → Type 0
@@ -46,6 +47,7 @@ pub record SamePlace (s t : TableWords) : Type 0 where
   pub o : t.o ≡ s.o
   pub table : t.table ≡ s.table
   pub mask : t.mask ≡ s.mask
+  pub start : t.start ≡ s.start
 
 -- the pass has the lock of the container, whose root names the table
 abbrev pub KnowsWords : TableWords → Type 0

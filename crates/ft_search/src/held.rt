@@ -14,7 +14,7 @@ ghost use Rattle.ft_trace.specs.Addresses.{containers_in};
 ghost use Rattle.ft_trace.specs.Holds.{held, known};
 ghost use Rattle.ft_trace.specs.Words.{Stands};
 ghost use Rattle.ft_trace.specs.Worlds.{kind_in};
-ghost use Rattle.ft_bank.specs.Keys.{IsKeyIn};
+ghost use Rattle.ft_bank.specs.KeyHashes.{IsKeyIn};
 ghost use Rattle.ft_bank.specs.Passes.{shape_of, view, IsPassOf};
 ghost use Rattle.ft_bank.specs.Series.{DidAll};
 ghost use Rattle.ft_bank.specs.Tables.{name_of, IsTableIn};
@@ -26,7 +26,7 @@ ghost use Rattle.ft_search.specs.Rounds.{kind_by};
 ghost use Rattle.ft_search.specs.Words.{CanLoad, SamePlace, KnowsWords, known_words};
 
 use crate::look::key_fits;
-use crate::tables::{mask_of, table_named};
+use crate::tables::{mask_of, table_at};
 use crate::words::TableWords;
 use ft_bank::{Bank, Pass, Table};
 use ft_keys::{Found, Steps, Walk, Way, Words, find_live};
@@ -41,6 +41,7 @@ pub(crate) const ROOT: u64 = block_word::ROOT - 2;
 
 impl<'a> TableWords<'a> {
     /// Searches for a key in words that nobody else writes.
+    #[inline(always)]
     fn seek_held<L: Ledger>(&mut self, walk: &mut Walk, key: Key, blank: Blank) -> Found
         requires can { CanLoad self.old }
         requires knows { KnowsWords self.old }
@@ -84,6 +85,7 @@ impl<'a> TableWords<'a> {
     }
 
     /// Looks for a key by its hash, and reads the value that is there. Answers where the search ended too.
+    #[inline(always)]
     fn read_held(&mut self, way: Way, key: Key, hash: u64) -> (Found, Option<(u64, u64)>)
         requires can { CanLoad self.old }
         requires knows { KnowsWords self.old }
@@ -106,6 +108,7 @@ impl<'a> TableWords<'a> {
 
 /// Looks for a key by its hash in the table of a container whose lock the pass has: where the search ended,
 /// and the words of the value that is there.
+#[inline(always)]
 pub fn read_by(
     bank: &Bank,
     pass: &mut Pass,
@@ -131,12 +134,14 @@ pub fn read_by(
         × ReadsEntry (class_mask table.class) (0 ∷ 0 ∷ (held o (view pass.old)).table) result.0 result.1 }
 {
     let mask = mask_of(table.class);
+    let start = bank.cell_of(table);
     let mut words = TableWords {
         bank,
         pass,
         o,
         table,
         mask,
+        start,
     };
     words.read_held(way, key, hash)
 }
@@ -189,7 +194,7 @@ pub fn read_key(bank: &Bank, pass: &mut Pass, o: u32, way: Way, key: Key) -> Opt
     used_entries_follow_a_dict();
     used_entries_follow_a_set();
     let root = bank.read_block(pass, o, ROOT);
-    match table_named(root) {
+    match table_at(bank, root) {
         Some(table) => read_in(bank, pass, o, way, key, table).1,
         None => None,
     }

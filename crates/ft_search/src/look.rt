@@ -11,7 +11,7 @@ ghost use Rattle.ft_trace.specs.Addresses.{containers_in, IsTable};
 ghost use Rattle.ft_trace.specs.Worlds.{kind_in};
 ghost use Rattle.ft_bank.specs.Passes.{shape_of, view, IsPassOf};
 ghost use Rattle.ft_bank.specs.Series.{DidAll};
-ghost use Rattle.ft_bank.specs.Keys.{IsKeyIn};
+ghost use Rattle.ft_bank.specs.KeyHashes.{IsKeyIn};
 ghost use Rattle.ft_bank.specs.Tables.{name_of, IsTableIn};
 ghost use Rattle.ft_bank.specs.Whole.{OnlyLoaded};
 ghost use Rattle.ft_search.specs.Costs.{LoadsRounds, SpendsRound};
@@ -21,13 +21,14 @@ ghost use Rattle.ft_search.specs.Rounds.{kind_by, EndsTable, EndsRound};
 use crate::bare::look_bare;
 use crate::looks::Looked;
 use crate::rounds::{Round, search_table};
-use crate::tables::{mask_of, table_named};
+use crate::tables::{mask_of, table_at};
 use crate::words::TableWords;
 use ft_bank::{Bank, Pass, Table};
 use ft_keys::Way;
 use ft_model::Key;
 
 /// A round over the table that the root named.
+#[inline(always)]
 fn look_in(
     bank: &Bank,
     pass: &mut Pass,
@@ -51,17 +52,20 @@ fn look_in(
     ensures spends { SpendsRound way o root pass.old pass.new result }
 {
     let mask = mask_of(table.class);
+    let start = bank.cell_of(table);
     let mut words = TableWords {
         bank,
         pass,
         o,
         table,
         mask,
+        start,
     };
     search_table(&mut words, way, key, hash, root)
 }
 
 /// A round at whatever the root was.
+#[inline(always)]
 fn look_round(
     bank: &Bank,
     pass: &mut Pass,
@@ -82,7 +86,7 @@ fn look_round(
     ensures ended { EndsRound (shape_of bank.now) o key root pass.old pass.new result }
     ensures spends { SpendsRound way o root pass.old pass.new result }
 {
-    match table_named(root) {
+    match table_at(bank, root) {
         Some(table) => look_in(bank, pass, o, way, key, hash, root, table),
         None => look_bare(bank, pass, o),
     }
@@ -109,6 +113,7 @@ pub(crate) fn key_fits(key: Key)
 ///
 /// It goes in rounds, one more for each change of the root that it finds. In each round it loads at most as many
 /// index words as one search may under the lock, whoever else writes.
+#[inline(always)]
 pub fn look_up(bank: &Bank, pass: &mut Pass, o: u32, way: Way, key: Key) -> Looked
     requires pass { IsPassOf bank.now pass.old }
     requires container { o < containers_in (shape_of bank.now) }

@@ -54,6 +54,7 @@ impl Seen {
 
 impl<'a> TableWords<'a> {
     /// Searches on for a key, from where the walk has come.
+    #[inline(always)]
     pub(crate) fn seek<L: Ledger>(&mut self, walk: &mut Walk, key: Key, blank: Blank) -> Found
         requires can { CanLoad self.old }
         requires mask { self.old.mask ≡ walk.old.mask }
@@ -95,6 +96,7 @@ impl<'a> TableWords<'a> {
     }
 
     /// Loads an entry's words between two loads of its version.
+    #[inline(always)]
     pub(crate) fn read_between(&mut self, place: u64) -> Seen
         requires can { CanLoad self.old }
         requires place { place < dict_room self.old.mask }

@@ -51,6 +51,7 @@ fn entries_of(way: Way, class: u32) -> u64
 
 /// What follows where a search met an entry that is there with the key: `None` where the walk goes on, as
 /// the entry is no longer the key's.
+#[inline(always)]
 fn look_at(words: &mut TableWords, place: u64, entries: u64, key: Key) -> Option<Looked>
     requires can { CanLoad words.old }
     requires place { place < dict_room words.old.mask }
@@ -105,6 +106,7 @@ fn look_at_deleted(words: &mut TableWords, place: u64, entries: u64) -> Option<L
 }
 
 /// One search on the walk, and what follows it: `None` where the walk goes on.
+#[inline(always)]
 fn search_on(words: &mut TableWords, walk: &mut Walk, key: Key, entries: u64) -> Option<Looked>
     requires can { CanLoad words.old }
     requires mask { words.old.mask ≡ walk.old.mask }
@@ -141,6 +143,7 @@ fn search_on(words: &mut TableWords, walk: &mut Walk, key: Key, entries: u64) ->
 
 /// Searches on until the look-up ends: a slot never used ends it only where it was loaded after the
 /// counter, so such a slot is loaded again.
+#[inline(always)]
 fn search_walk(words: &mut TableWords, walk: &mut Walk, key: Key, entries: u64) -> Looked
     requires can { CanLoad words.old }
     requires mask { words.old.mask ≡ walk.old.mask }
@@ -165,6 +168,7 @@ fn search_walk(words: &mut TableWords, walk: &mut Walk, key: Key, entries: u64) 
 }
 
 /// Searches the table that the root named when it was read last, and reads the root again.
+#[inline(always)]
 pub(crate) fn search_table(
     words: &mut TableWords,
     way: Way,

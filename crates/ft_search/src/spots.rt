@@ -3,7 +3,7 @@ ghost use Rattle.std.specs.Prelude.{◌≡◌, List, ◌++◌};
 ghost use Rattle.ft_layout.specs.Tables.{hash_of};
 ghost use Rattle.ft_layout.specs.Words.{FitsKey};
 ghost use Rattle.ft_trace.specs.Worlds.{kind_in};
-ghost use Rattle.ft_bank.specs.Keys.{IsKeyIn};
+ghost use Rattle.ft_bank.specs.KeyHashes.{IsKeyIn};
 ghost use Rattle.ft_bank.specs.Passes.{shape_of, view, IsPassOf};
 ghost use Rattle.ft_bank.specs.Sections.{stack_of};
 ghost use Rattle.ft_bank.specs.Whole.{OnlyLoaded};
@@ -15,7 +15,7 @@ ghost use Rattle.ft_search.specs.Writing.{MayWriteEntries};
 
 use crate::held::{ROOT, read_by};
 use crate::look::key_fits;
-use crate::tables::table_named;
+use crate::tables::table_at;
 use ft_bank::{Bank, Pass, Table};
 use ft_keys::{Found, Way, searches_end_at_the_first_free_slot};
 use ft_layout::{used_entries_follow_a_dict, used_entries_follow_a_set};
@@ -50,6 +50,7 @@ pub fn spot_of(table: Table, found: Found, read: Option<(u64, u64)>) -> Spot
 
 /// Looks for a key by its hash in a dict or a set that the pass may write. It loads at most as many index words as
 /// one search may.
+#[inline(always)]
 pub fn seek_by(bank: &Bank, pass: &mut Pass, o: u32, way: Way, key: Key, hash: u64) -> Spot
     requires pass { IsPassOf bank.now pass.old }
     requires way { kind_in (shape_of bank.now).kinds o ≡ kind_by way }
@@ -68,7 +69,7 @@ pub fn seek_by(bank: &Bank, pass: &mut Pass, o: u32, way: Way, key: Key, hash: u
     used_entries_follow_a_set();
     searches_end_at_the_first_free_slot();
     let root = bank.read_block(pass, o, ROOT);
-    match table_named(root) {
+    match table_at(bank, root) {
         Some(table) => {
             let (found, read) = read_by(bank, pass, o, way, key, hash, table);
             spot_of(table, found, read)
@@ -78,6 +79,7 @@ pub fn seek_by(bank: &Bank, pass: &mut Pass, o: u32, way: Way, key: Key, hash: u
 }
 
 /// Looks for a key of a dict or a set that the pass may write. It loads at most as many index words as one search may.
+#[inline(always)]
 pub fn seek_key(bank: &Bank, pass: &mut Pass, o: u32, way: Way, key: Key) -> Spot
     requires pass { IsPassOf bank.now pass.old }
     requires way { kind_in (shape_of bank.now).kinds o ≡ kind_by way }

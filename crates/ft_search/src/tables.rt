@@ -4,9 +4,10 @@ ghost use Rattle.ft_model.specs.Classes.{IsClass};
 ghost use Rattle.ft_layout.specs.Containers.{class_mask};
 ghost use Rattle.ft_trace.specs.declared.Shape.{Shape};
 ghost use Rattle.ft_trace.specs.Addresses.{IsTable};
+ghost use Rattle.ft_bank.specs.Passes.{shape_of};
 ghost use Rattle.ft_bank.specs.Tables.{name_of, IsTableIn};
 
-use ft_bank::Table;
+use ft_bank::{Bank, Table};
 use ft_layout::root_of;
 
 /// The table that a root names, or `None` where it names none.
@@ -19,6 +20,23 @@ pub fn table_named(root: u64) -> Option<Table>
         Some((class, number)) => Some(Table { class, number }),
         None => None,
     }
+}
+
+/// The table that a root names which was read in the bank, or `None` where it names none: it isn't tested again.
+pub fn table_at(bank: &Bank, root: u64) -> Option<Table>
+    requires { (t : ℕ) → root ≡ suc t → IsTable (shape_of bank.now) t }
+    ensures named { IfSome result (λ table. root ≡ suc (name_of table)) }
+    ensures in_bank { IfSome result (λ table. IsTableIn (shape_of bank.now) table) }
+    ensures none { IfNone result (root ≡ 0) }
+{
+    let _ = bank;
+    if root == 0 {
+        return None;
+    }
+    let Some(table) = table_named(root) else {
+        unreachable!();
+    };
+    Some(table)
 }
 
 /// The last index slot of a table of a class.

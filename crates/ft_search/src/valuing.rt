@@ -59,6 +59,7 @@ fn put_other(
 }
 
 /// Puts a value into the entry at a place, whose words were read, before the commit. Other entries may be written too.
+#[inline(always)]
 pub fn put_value(
     bank: &Bank,
     pass: &mut Pass,
@@ -112,6 +113,7 @@ pub fn put_value(
 
 /// Puts a value at a key that is there, as the write of this call: in the entry at a place, whose words were
 /// read. Answers the number of the write.
+#[inline(always)]
 pub fn set_entry(
     bank: &Bank,
     pass: &mut Pass,

@@ -17,6 +17,8 @@ pub struct TableWords<'a> {
     pub table: Table,
     /// The last slot of its index.
     pub mask: u64,
+    /// Where the table's words lie in the bank.
+    pub start: u64,
 }
 
 impl<'a> Words for TableWords<'a> {
@@ -33,12 +35,12 @@ impl<'a> Words for TableWords<'a> {
     ghost gave = { Made };
 
     fn index(&mut self, slot: u64) -> u64 {
-        self.bank.read_table(self.pass, self.table, slot)
+        self.bank.read_word(self.pass, self.table, self.start, slot)
     }
 
     fn entry(&mut self, place: u64, word: u64) -> u64 {
         let at = 8 * place + word + self.mask + 1;
-        self.bank.read_table(self.pass, self.table, at)
+        self.bank.read_word(self.pass, self.table, self.start, at)
     }
 
     fn put_index(&mut self, slot: u64, value: u64) {

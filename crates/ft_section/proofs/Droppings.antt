@@ -10,7 +10,7 @@ use Rattle.ft_bank.specs.Passes.{view}
 use Rattle.ft_bank.specs.Sections.{Stack, stack_of, taken_in, noted_in, no_sections}
 use Rattle.ft_section.specs.Ready.{InCall, IsInCall, IsReady, AreBegun, lock_count}
 use Rattle.ft_section.specs.Locking.{LetGo, MayLetGo}
-use Rattle.ft_section.specs.Takings.{IsTaking}
+use Rattle.ft_section.specs.LockTakings.{IsTaking}
 use Rattle.ft_section.proofs.Goings.{went}
 use Rattle.ft_section.proofs.InCalls.{one_if, has_counted}
 use Rattle.ft_section.proofs.Resumes.{push_some, none_some}

@@ -13,7 +13,7 @@ use Rattle.ft_model.specs.declared.reply.Reply.{Reply}
 use Rattle.ft_section.specs.Ready.{InCall, IsReady, AreBegun, IsBegun, lock_count}
 use Rattle.ft_section.specs.Locking.{LetGo, MayLetGo}
 use Rattle.ft_section.specs.Sectioning.{answered_view}
-use Rattle.ft_section.specs.Takings.{IsTaking}
+use Rattle.ft_section.specs.LockTakings.{IsTaking}
 use Rattle.ft_section.proofs.InCalls.{has_counted}
 use Rattle.ft_section.proofs.Goings.{went_from, count_least}
 use Rattle.ft_section.proofs.Resumes.{push_some, noted_push, none_some}

@@ -15,7 +15,7 @@ use Rattle.ft_section.specs.declared.answers.Objects.{Objects}
 use Rattle.ft_section.specs.declared.answers.Objects.TheVariants.{One, Two}
 use Rattle.ft_section.specs.Ready.{InCall, IsMarked, AreBegun, IsBegun, IsMaking}
 use Rattle.ft_section.specs.Sectioning.{AreNoted, begin_of, answered_view}
-use Rattle.ft_section.specs.Takings.{IsTaking, AreIn, HasLocks, HasBoth, lower_of, upper_of}
+use Rattle.ft_section.specs.LockTakings.{IsTaking, AreIn, HasLocks, HasBoth, lower_of, upper_of}
 use Rattle.ft_section.proofs.InCalls.{counted_has}
 use Rattle.ft_section.proofs.Resumes.{noted_push}
 use Rattle.ft_trace.specs.declared.Act.{Act}

@@ -8,7 +8,7 @@ use Rattle.ft_bank.specs.Openings.{IsOpening, opening_view}
 use Rattle.ft_bank.specs.Passes.{shape_of, view}
 use Rattle.ft_bank.specs.Sections.{Stack, no_sections}
 use Rattle.ft_section.specs.Ready.{InCall, IsReady}
-use Rattle.ft_section.specs.Takings.{IsTaking}
+use Rattle.ft_section.specs.LockTakings.{IsTaking}
 use Rattle.ft_section.proofs.Resumes.{push_some, none_some}
 use Rattle.ft_trace.specs.declared.Shape.{Shape}
 use Rattle.ft_trace.specs.declared.View.{View}

@@ -8,7 +8,7 @@ use Rattle.ft_bank.specs.Sections.{Stack, stack_of, taken_in, noted_in, nothing_
 use Rattle.ft_section.specs.declared.answers.Objects.{Objects}
 use Rattle.ft_section.specs.Ready.{IsStill, IsWaiting, InCall, IsInCall, IsMarked, AreMarked, AreSuspended, AreBegun, IsReady, MayTry, NotesTop, lock_count}
 use Rattle.ft_section.specs.Locking.{OnlyLocked, LetGo, MayLetGo, FoundOwner, with_own}
-use Rattle.ft_section.specs.Takings.{IsTaking}
+use Rattle.ft_section.specs.LockTakings.{IsTaking}
 use Rattle.ft_section.proofs.InCalls.{one_if, has_counted, counted_has, still_stands}
 use Rattle.ft_section.proofs.Waits.{marked_split}
 use Rattle.ft_trace.specs.declared.Act.{Act}

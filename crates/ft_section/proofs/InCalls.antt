@@ -10,7 +10,7 @@ use Rattle.ft_bank.specs.Passes.{view, KeepsAll}
 use Rattle.ft_bank.specs.Sections.{Stack, stack_of, taken_in, nothing_taken}
 use Rattle.ft_section.specs.Ready.{InCall, IsInCall, IsMarked, lock_count, AreBegun}
 use Rattle.ft_section.specs.Locking.{OnlyLocked, Took, KeepsStack, with_own}
-use Rattle.ft_section.specs.Takings.{IsTaking, IsOwnFor, HasBoth}
+use Rattle.ft_section.specs.LockTakings.{IsTaking, IsOwnFor, HasBoth}
 use Rattle.ft_trace.specs.declared.Shape.{Shape}
 use Rattle.ft_trace.specs.declared.View.{View}
 use Rattle.ft_trace.specs.Addresses.{containers_in}

@@ -6,7 +6,7 @@ use Rattle.ft_bank.specs.declared.pass.Pass.{Pass}
 use Rattle.ft_bank.specs.Passes.{view, IsPassOf}
 use Rattle.ft_bank.specs.Sections.{Stack, stack_of}
 use Rattle.ft_section.specs.Ready.{IsStill, InCall, IsMarked, AreBegun, AreSuspended, NotesTop, IsMaking}
-use Rattle.ft_section.specs.Takings.{IsTaking, HasBoth}
+use Rattle.ft_section.specs.LockTakings.{IsTaking, HasBoth}
 use Rattle.ft_section.proofs.InCalls.{one_if}
 use Rattle.ft_trace.specs.declared.Shape.{Shape}
 use Rattle.ft_trace.specs.declared.View.{View}

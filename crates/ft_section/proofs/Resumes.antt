@@ -12,7 +12,7 @@ use Rattle.ft_bank.specs.Passes.{view}
 use Rattle.ft_bank.specs.Sections.{Stack, stack_of, taken_in, noted_in, nothing_taken, suspended}
 use Rattle.ft_section.specs.Ready.{InCall, IsInCall, AreBegun, IsBegun, IsReady, lock_count}
 use Rattle.ft_section.specs.Locking.{TakenUp, noting}
-use Rattle.ft_section.specs.Takings.{IsTaking, HasBoth}
+use Rattle.ft_section.specs.LockTakings.{IsTaking, HasBoth}
 use Rattle.ft_section.proofs.InCalls.{one_if}
 use Rattle.ft_section.proofs.Notes.{noted-append}
 use Rattle.ft_section.proofs.Goings.{count_least}

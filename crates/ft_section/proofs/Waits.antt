@@ -10,7 +10,7 @@ use Rattle.ft_bank.specs.Passes.{view}
 use Rattle.ft_bank.specs.Sections.{Stack, stack_of, noted_in, suspended}
 use Rattle.ft_section.specs.Ready.{InCall, IsInCall, IsMarked, AreSuspended, AreBegun, IsBegun, lock_count}
 use Rattle.ft_section.specs.Locking.{LetGo, MayLetGo, waiting, marks_more}
-use Rattle.ft_section.specs.Takings.{IsTaking}
+use Rattle.ft_section.specs.LockTakings.{IsTaking}
 use Rattle.ft_section.proofs.InCalls.{has_counted, counted_has, still_stands}
 use Rattle.ft_trace.specs.declared.Shape.{Shape}
 use Rattle.ft_trace.specs.declared.View.{View}

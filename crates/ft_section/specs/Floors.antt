@@ -8,7 +8,7 @@ use Rattle.ft_section.specs.declared.answers.Got.TheVariants as got
 use Rattle.ft_section.specs.declared.answers.Objects.{Objects}
 use Rattle.ft_section.specs.declared.answers.Resumed.{Resumed}
 use Rattle.ft_section.specs.declared.answers.Resumed.TheVariants as resumed
-use Rattle.ft_section.specs.Takings.{lower_of, upper_of}
+use Rattle.ft_section.specs.LockTakings.{lower_of, upper_of}
 use Rattle.ft_trace.specs.declared.View.{View}
 use Rattle.ft_trace.specs.Acts.{has_lock, floor_words}
 use Rattle.ft_trace.specs.Addresses.{Word, counter, lock_of, at, containers_in}

@@ -1,4 +1,4 @@
-pub mod Takings
+pub mod LockTakings
 pub mod Ready
 pub mod Locking
 pub mod Answers

@@ -8,7 +8,7 @@ use Rattle.ft_bank.specs.declared.sections.Taking.{Taking}
 use Rattle.ft_bank.specs.Sections.{Stack, stack_of, noted_in, taken_in, suspended, nothing_taken}
 use Rattle.ft_section.specs.declared.answers.Objects.{Objects}
 use Rattle.ft_section.specs.Ready.{lock_count, AreBegun}
-use Rattle.ft_section.specs.Takings.{IsOf}
+use Rattle.ft_section.specs.LockTakings.{IsOf}
 use Rattle.ft_trace.specs.declared.Act.{Act}
 use Rattle.ft_trace.specs.declared.Act.TheVariants.{Lock}
 use Rattle.ft_trace.specs.declared.Snap.{Snap}

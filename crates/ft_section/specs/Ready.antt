@@ -6,7 +6,7 @@ use Rattle.ft_bank.specs.declared.sections.OpenSection.{OpenSection}
 use Rattle.ft_bank.specs.Passes.{view, IsPassOf}
 use Rattle.ft_bank.specs.Sections.{Stack, stack_of, taken_in, noted_in, nothing_taken}
 use Rattle.ft_section.specs.declared.answers.Objects.{Objects}
-use Rattle.ft_section.specs.Takings.{IsTaking, IsOwnFor, HasBoth, lower_of, upper_of}
+use Rattle.ft_section.specs.LockTakings.{IsTaking, IsOwnFor, HasBoth, lower_of, upper_of}
 use Rattle.ft_trace.specs.declared.View.{View}
 use Rattle.ft_trace.specs.Addresses.{containers_in}
 use Rattle.ft_trace.specs.Acts.{has_lock, is_writing, stage, used, owes, flight}

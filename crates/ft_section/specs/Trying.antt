@@ -11,7 +11,7 @@ use Rattle.ft_section.specs.declared.answers.Step.TheVariants as step
 use Rattle.ft_section.specs.Floors.{KnewOwners}
 use Rattle.ft_section.specs.Locking.{KeepsLower, LocksWithin, with_own, waiting}
 use Rattle.ft_section.specs.Ready.{IsWaiting, MayTry, MayResume}
-use Rattle.ft_section.specs.Takings.{lower_of}
+use Rattle.ft_section.specs.LockTakings.{lower_of}
 
 -- The call in flight has let go of the locks that it took itself; the same sections are open, and its mark stays. Any
 -- call on containers may be tried then, or the innermost section be taken up again. (C API, critical sections)

@@ -20,7 +20,7 @@ pub enum Objects {
 }
 
 impl Objects {
-    ghost use Rattle.ft_section.specs.Takings.{lower_of, upper_of};
+    ghost use Rattle.ft_section.specs.LockTakings.{lower_of, upper_of};
 
     /// The container with the lower number, and the other one; where there is one alone, it twice.
     pub(crate) fn in_order(self) -> (Object, Object)

@@ -10,7 +10,7 @@ ghost use Rattle.ft_section.specs.Floors.{began_by, first_owned, floor_word};
 ghost use Rattle.ft_section.specs.Locking.{OnlyLocked, KeepsLocks, FoundOwner, LocksWithin};
 ghost use Rattle.ft_section.specs.Ready.{IsReady, IsMaking, MayTry, MayResume};
 ghost use Rattle.ft_section.specs.Sectioning.{IsSaid, AreNoted, begin_of, answered_view};
-ghost use Rattle.ft_section.specs.Takings.{IsOf, AreIn, HasLocks, lower_of, upper_of};
+ghost use Rattle.ft_section.specs.LockTakings.{IsOf, AreIn, HasLocks, lower_of, upper_of};
 ghost use Rattle.ft_section.specs.Trying.{WaitsFor};
 ghost use Rattle.ft_trace.specs.declared.Act.{Act};
 ghost use Rattle.ft_trace.specs.declared.View.{View};

@@ -9,7 +9,7 @@ ghost use Rattle.ft_section.specs.Locking.{OnlyLocked, KeepsLocks, FoundOwner, L
 ghost use Rattle.ft_section.specs.Ready.{IsInCall, IsMarked, AreSuspended, IsMaking, MayTry, MayResume, lock_count};
 ghost use Rattle.ft_section.specs.Floors.{FindsSame, KnewOwners};
 ghost use Rattle.ft_section.specs.Sectioning.{AreNoted};
-ghost use Rattle.ft_section.specs.Takings.{IsOf, AreIn, HasLocks};
+ghost use Rattle.ft_section.specs.LockTakings.{IsOf, AreIn, HasLocks};
 ghost use Rattle.ft_section.specs.Trying.{HasTaken, WaitsFor};
 ghost use Rattle.ft_trace.specs.Addresses.{containers_in};
 ghost use Rattle.ft_trace.specs.Acts.{has_lock};
@@ -63,6 +63,7 @@ pub(crate) fn wait(bank: &Bank, pass: &mut Pass, owner: Owner)
 /// Takes the locks of a call's containers, the lower one first, but for those that the pass has. Where a step
 /// finds another pass with one of them, the locks of all open sections are let go, and at most the lower
 /// lock of the call's two is kept; the same call comes next.
+#[inline(always)]
 pub fn take_for(bank: &Bank, pass: &mut Pass, objects: Objects) -> Got
     requires may { MayTry bank.now pass.old objects }
     requires containers { AreIn (shape_of bank.now) objects }

@@ -7,7 +7,7 @@ ghost use Rattle.ft_bank.specs.Sections.{Stack, stack_of, taken_in, noted_in};
 ghost use Rattle.ft_section.specs.Ready.{IsInCall, lock_count};
 ghost use Rattle.ft_section.specs.Locking.{Took, OnlyLocked, KeepsLocks, FoundOwner, KeepsLower, KeepsStack, at_one, with_own};
 ghost use Rattle.ft_section.specs.Floors.{FindsSame, first_found, first_owned, owner_found, owner_of, owner_or};
-ghost use Rattle.ft_section.specs.Takings.{IsOwnFor};
+ghost use Rattle.ft_section.specs.LockTakings.{IsOwnFor};
 ghost use Rattle.ft_trace.specs.Addresses.{containers_in};
 ghost use Rattle.ft_trace.specs.Acts.{has_lock};
 ghost use Rattle.ft_trace.specs.Owners.{LocksOnly};
@@ -44,6 +44,7 @@ pub(crate) fn has(pass: &Pass, o: Object) -> bool
 
 /// Takes the lock of a container, unless the pass has it, and answers whether it took it now; or the pass
 /// that has it.
+#[inline(always)]
 fn take_one(bank: &Bank, pass: &mut Pass, o: Object) -> Result<bool, Owner>
     requires inside { IsInCall bank.now pass.old }
     requires container { o < containers_in (shape_of bank.now) }
@@ -160,6 +161,7 @@ fn take_upper(bank: &Bank, pass: &mut Pass) -> Result<(), (Object, Owner)>
 /// Takes the locks of two containers, which may be the same, the lower one first, but for those that the
 /// pass has; or answers a container and the other pass that has it. The call in flight has itself at most
 /// the lower one before, and where another pass has one of them, also after.
+#[inline(always)]
 pub(crate) fn take_both(
     bank: &Bank,
     pass: &mut Pass,

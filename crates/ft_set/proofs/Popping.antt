@@ -36,7 +36,7 @@ use Rattle.ft_bank.specs.Tables.{IsTableIn, name_of}
 use Rattle.ft_search.specs.Calls.{IsShownBy}
 use Rattle.ft_search.specs.Writing.{HasTable, IsEntryOf, Leaves, MayWriteEntries, without_key}
 use Rattle.ft_search.proofs.Changing.{kind_is}
-use Rattle.ft_keyed.specs.Entries.{IsKeyAt, OfUsed, live_key}
+use Rattle.ft_keyed.specs.TableEntries.{IsKeyAt, OfUsed, live_key}
 use Rattle.ft_keyed.specs.Places.{IsFirst, NoneThere}
 use Rattle.ft_keyed.proofs.Gathered.{no_set, of_set_low}
 use Rattle.ft_keyed.proofs.Scanning.{none_live}

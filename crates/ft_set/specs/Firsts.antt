@@ -13,7 +13,7 @@ use Rattle.ft_trace.specs.Words.{Picture, root_in}
 use Rattle.ft_bank.specs.declared.table.Table.{Table}
 use Rattle.ft_bank.specs.Tables.{name_of, IsTableIn}
 use Rattle.ft_keyed.specs.Contents.{IsOfSet}
-use Rattle.ft_keyed.specs.Entries.{OfUsed, live_key}
+use Rattle.ft_keyed.specs.TableEntries.{OfUsed, live_key}
 use Rattle.ft_keyed.specs.Places.{NoneThere}
 use Rattle.ft_set.specs.declared.firsts.First.{First}
 

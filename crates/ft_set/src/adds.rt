@@ -8,7 +8,7 @@ ghost use Rattle.ft_model.specs.declared.script.Kind.TheVariants as kind;
 ghost use Rattle.ft_trace.specs.Acts.{flight, used};
 ghost use Rattle.ft_trace.specs.Addresses.{containers_in};
 ghost use Rattle.ft_trace.specs.Worlds.{kind_in};
-ghost use Rattle.ft_bank.specs.Keys.{IsKeyIn};
+ghost use Rattle.ft_bank.specs.KeyHashes.{IsKeyIn};
 ghost use Rattle.ft_bank.specs.Passes.{shape_of, view, IsPassOf};
 ghost use Rattle.ft_bank.specs.Sections.{stack_of};
 ghost use Rattle.ft_section.specs.declared.answers.Objects.TheVariants.{One};

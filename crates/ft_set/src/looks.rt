@@ -7,7 +7,7 @@ ghost use Rattle.ft_model.specs.declared.script.Kind.TheVariants as kind;
 ghost use Rattle.ft_trace.specs.Acts.{announces};
 ghost use Rattle.ft_trace.specs.Addresses.{containers_in};
 ghost use Rattle.ft_trace.specs.Worlds.{kind_in};
-ghost use Rattle.ft_bank.specs.Keys.{IsKeyIn};
+ghost use Rattle.ft_bank.specs.KeyHashes.{IsKeyIn};
 ghost use Rattle.ft_bank.specs.Passes.{shape_of, view, IsPassOf};
 ghost use Rattle.ft_bank.specs.Sections.{stack_of};
 ghost use Rattle.ft_keys.specs.declared.walk.Way.TheVariants as way;
@@ -27,6 +27,7 @@ use ft_section::{Look, Object};
 ///
 /// `Contended` where two loads of the version of the element's own entry gave an odd number or two
 /// different ones; of the container's version, where its root was read 0. It never answers `NoMemory`.
+#[inline(always)]
 pub fn look_has(bank: &Bank, pass: &mut Pass, s: Object, key: Key) -> Look
     requires pass { IsPassOf bank.now pass.old }
     requires container { s < containers_in (shape_of bank.now) }

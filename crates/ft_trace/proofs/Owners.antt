@@ -12,7 +12,7 @@ use Rattle.ft_trace.specs.declared.View.{View}
 use Rattle.ft_trace.specs.declared.Act.{Act}
 use Rattle.ft_trace.specs.declared.Act.TheVariants.{Lock, Unlock, TakeFloor}
 use Rattle.ft_trace.specs.Addresses.{at, lock_of, containers_in}
-use Rattle.ft_trace.specs.Acts.{place, Reports, has_lock, starter, noted, maker, made, both, spent, sender, note, has_floor_next}
+use Rattle.ft_trace.specs.Acts.{place, Reports, floor_words, has_lock, starter, noted, maker, made, both, spent, sender, note, has_floor_next}
 use Rattle.ft_trace.specs.Floors.{at_floor, lock_of_another, OwnersStay, KnownOwnersStay}
 use Rattle.ft_trace.specs.Traces.{Event, did, forked, joined, sent, run, word, history, May, Valid}
 use Rattle.ft_trace.proofs.Sizes.{set_views, one_more, one_view}
@@ -106,9 +106,14 @@ others_lock k es valid o low j u seat free =
     off (sym free ∙ (ap (λ (z : View). has_lock o z.log) (sym is) ∙ h.3))))
 
 pub owners_stay : OwnersStay
-owners_stay k es valid j u seat has o low free =
-    ap (λ (ws : List ℕ). slice_index ws (at k (lock_of o))) ((floored k es valid j u seat).has has).1
-    ∙ (sym (others_lock k es valid o low j u seat free) ∙ since k es valid o low j u seat has)
+owners_stay k es valid j u seat has o low =
+    let now : slice_index (floor_words k u.number u.log) (at k (lock_of o)) ≡ word k es (lock_of o) = ap (λ (ws : List ℕ). slice_index ws (at k (lock_of o))) ((floored k es valid j u seat).has has).1 in
+    let then = since k es valid o low j u seat has in (
+      λ free. now ∙ (sym (others_lock k es valid o low j u seat free) ∙ then),
+      λ mine.
+          let own : word k es (lock_of o) ≡ u.number = names k es valid o low j u seat mine in
+          (now ∙ own, sym then ∙ (ap (lock_of_another u.number) own ∙ hit u.number 0 u.number)),
+    )
 
 pub known_owners_stay : KnownOwnersStay
 known_owners_stay v p = owners_stay v.shape p.0 p.2.0 p.1 v p.2.1

@@ -57,13 +57,15 @@ at_floor (a ∷ l) = at_floor_next a (at_floor l)
 abbrev pub lock_of_another : ℕ → ℕ → ℕ
 lock_of_another number n = cond (n == number) 0 n
 
--- while the pass has the floor, whoever else has a lock has had it since the floor was taken, and no one else has let
--- go of one
+-- While the pass has the floor, whoever else has a lock has had it since the floor was taken, and no one else has let
+-- go of one. So of each lock that it hasn't it knows whether another pass has it. What it has no one else had then.
 abbrev pub KeepsOwners : Shape → View → Type 0
 KeepsOwners k u =
-    u.has_floor ≡ true → (o : ℕ) → o < containers_in k → has_lock o u.log ≡ false
-    → slice_index (floor_words k u.number u.log) (at k (lock_of o))
-    ≡ lock_of_another u.number (slice_index (at_floor u.log) (at k (lock_of o)))
+    u.has_floor ≡ true → (o : ℕ) → o < containers_in k
+    → (has_lock o u.log ≡ false → slice_index (floor_words k u.number u.log) (at k (lock_of o))
+    ≡ lock_of_another u.number (slice_index (at_floor u.log) (at k (lock_of o))))
+    × (has_lock o u.log ≡ true → (slice_index (floor_words k u.number u.log) (at k (lock_of o)) ≡ u.number)
+    × (lock_of_another u.number (slice_index (at_floor u.log) (at k (lock_of o))) ≡ 0))
 
 abbrev pub OwnersStay : Type 0
 OwnersStay = (k : Shape) (es : List Event) → Valid k es → (j : ℕ) (u : View) → HasView k es j u → KeepsOwners k u

@@ -178,7 +178,8 @@ abbrev pub HoldersKnow : Type 0
 HoldersKnow =
     (v : View) (es : List Event) (j : ℕ) → Knows v es j
     → ((o : ℕ) → o < containers_in v.shape → has_lock o v.log ≡ true
-    → (held o v ≡ picture v.shape o (run v.shape es).words) × (known o v ≡ container_after v.shape.kinds (history es) o))
+    → (held o v ≡ picture v.shape o (run v.shape es).words)
+    × (known o v ≡ container_after v.shape.kinds (history es) o))
     × ((t : ℕ) → IsTable v.shape t → stage t v.log ≡ 1 → in_hand t v ≡ table_of v.shape t (run v.shape es).words)
 
 -- ---- tables

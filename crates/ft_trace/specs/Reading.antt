@@ -40,8 +40,8 @@ IsNothing kept = (kept.table.class ≡ None) × (length_of kept.content ≡ 0)
 -- the call has this reply wherever o is of its kind and has words that answer as the reads of mid did
 abbrev pub AnswersOn : Shape → Call → ℕ → Reply → List Act → Type 0
 AnswersOn k call o r mid =
-    (x : Picture) (t : StoredWorld) → kind_of (state_at t o).content ≡ kind_in k.kinds o → Stands k.texts x (state_at t o)
-    → Agrees k o mid x → reply_in t call ≡ r
+    (x : Picture) (t : StoredWorld) → kind_of (state_at t o).content ≡ kind_in k.kinds o
+    → Stands k.texts x (state_at t o) → Agrees k o mid x → reply_in t call ≡ r
 
 -- the reply to a call about o was read between two equal even loads of its version, and the counter loaded between them
 pub record Looked (k : Shape) (call : Call) (o : ℕ) (r : Reply) (number : ℕ) (log : List Act) : Type 0 where

@@ -3,7 +3,7 @@ use Rattle.ft_bank.specs.Passes.{shape_of}
 use Rattle.ft_bank.specs.Tables.{name_of}
 use Rattle.ft_list.specs.Indexes.{Reads}
 use Rattle.ft_list.proofs.Indexes.{reads_map, reads_then}
-use Rattle.ft_keyed.specs.Entries.{IsPlainAt, OfUsed}
+use Rattle.ft_keyed.specs.TableEntries.{IsPlainAt, OfUsed}
 use Rattle.ft_keyed.specs.Places.{IsLast}
 use Rattle.ft_dict.specs.declared.lasts.Last.{Last}
 use Rattle.ft_dict.specs.Lasts.{IsLastIn}

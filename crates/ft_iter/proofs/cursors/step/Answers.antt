@@ -10,7 +10,7 @@ use Rattle.ft_trace.specs.Worlds.{kind_in}
 use Rattle.ft_bank.specs.Passes.{shape_of, view}
 use Rattle.ft_search.proofs.Holding.{dict_known, set_known}
 use Rattle.ft_iter.specs.Cursors.{step_in}
-use Rattle.ft_iter.specs.Walks.{IsStep}
+use Rattle.ft_iter.specs.Moves.{IsStep}
 use Rattle.ft_iter.proofs.Answering.{list-known}
 use Rattle.ft_iter.proofs.cursors.step.Goals as goal
 

@@ -8,7 +8,7 @@ use Rattle.ft_bank.specs.Passes.{shape_of, view}
 use Rattle.ft_section.specs.declared.answers.Objects.TheVariants.{One}
 use Rattle.ft_section.specs.Locking.{LocksWithin}
 use Rattle.ft_section.specs.Ready.{IsWaiting}
-use Rattle.ft_section.specs.Takings.{IsOf}
+use Rattle.ft_section.specs.LockTakings.{IsOf}
 use Rattle.ft_section.specs.Trying.{HasTaken, WaitsFor}
 use Rattle.ft_section.proofs.Tries.{let_gone}
 use Rattle.ft_search.proofs.Trying.{making_stands}

@@ -18,7 +18,7 @@ use Rattle.ft_trace.specs.Worlds.{kind_in}
 use Rattle.ft_bank.specs.Passes.{shape_of, view}
 use Rattle.ft_list.specs.Indexes.{Reads, IsItemNamed, item_named}
 use Rattle.ft_list.proofs.Indexes.{reads_held}
-use Rattle.ft_iter.specs.Walks.{IsStep}
+use Rattle.ft_iter.specs.Moves.{IsStep}
 use Rattle.ft_iter.proofs.ListSteps.{named-at, list-short, far-none}
 use Rattle.ft_iter.proofs.walks.next_list.Goals as goal
 

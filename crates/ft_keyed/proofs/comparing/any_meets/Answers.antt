@@ -13,7 +13,7 @@ use Rattle.ft_list.proofs.Both.{both_map, both_then, of_first}
 use Rattle.ft_list.proofs.Indexes.{reads_block, reads_then}
 use Rattle.ft_keyed.specs.Comparing.{AreOfSets, WithSet, is_met}
 use Rattle.ft_keyed.specs.Contents.{IsOfSet}
-use Rattle.ft_keyed.specs.Entries.{live_key}
+use Rattle.ft_keyed.specs.TableEntries.{live_key}
 use Rattle.ft_keyed.proofs.Gathered.{elements_gathered, no_set, of_set}
 use Rattle.ft_keyed.proofs.Paired.{any_map}
 use Rattle.ft_keyed.proofs.comparing.any_meets.Goals as goal

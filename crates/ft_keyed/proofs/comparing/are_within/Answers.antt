@@ -13,7 +13,7 @@ use Rattle.ft_list.proofs.Both.{both_map, both_then, of_first}
 use Rattle.ft_list.proofs.Indexes.{reads_block, reads_then}
 use Rattle.ft_keyed.specs.Comparing.{AreOfDicts, WithDict, lacks}
 use Rattle.ft_keyed.specs.Contents.{IsOfDict}
-use Rattle.ft_keyed.specs.Entries.{plain_pair}
+use Rattle.ft_keyed.specs.TableEntries.{plain_pair}
 use Rattle.ft_keyed.proofs.Gathered.{pairs_gathered, no_dict, of_dict}
 use Rattle.ft_keyed.proofs.Paired.{dict_is, none_lacks}
 use Rattle.ft_keyed.proofs.comparing.are_within.Goals as goal

@@ -10,7 +10,7 @@ use Rattle.ft_bank.specs.Passes.{shape_of}
 use Rattle.ft_bank.specs.Tables.{name_of}
 use Rattle.ft_list.specs.Indexes.{Reads}
 use Rattle.ft_list.proofs.Equal.{value_equal}
-use Rattle.ft_keyed.specs.Entries.{IsPlainAt}
+use Rattle.ft_keyed.specs.TableEntries.{IsPlainAt}
 use Rattle.ft_keyed.proofs.Meeting.{differs_none, differs_some}
 use Rattle.ft_keyed.proofs.comparing.differs_at.Goals as goal
 

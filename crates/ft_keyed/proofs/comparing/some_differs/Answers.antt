@@ -5,7 +5,7 @@ use Rattle.ft_layout.specs.Tables.{UsedEntry}
 use Rattle.ft_bank.specs.Passes.{shape_of}
 use Rattle.ft_bank.specs.Tables.{name_of}
 use Rattle.ft_keyed.specs.Comparing.{DiffersAt, WithDict, lacks}
-use Rattle.ft_keyed.specs.Entries.{plain_pair}
+use Rattle.ft_keyed.specs.TableEntries.{plain_pair}
 use Rattle.ft_keyed.proofs.Meeting.{dict_map, dict_then}
 use Rattle.ft_keyed.proofs.Paired.{any_at, any_more, both_none, no_entry}
 use Rattle.ft_keyed.proofs.comparing.some_differs.Goals as goal

@@ -5,7 +5,7 @@ use Rattle.ft_bank.specs.Sections.{stack_of}
 use Rattle.ft_bank.specs.Tables.{name_of}
 use Rattle.ft_list.specs.Pairs.{ReadsBoth}
 use Rattle.ft_keyed.specs.Comparing.{WithDict, lacks}
-use Rattle.ft_keyed.specs.Entries.{plain_pair}
+use Rattle.ft_keyed.specs.TableEntries.{plain_pair}
 use Rattle.ft_keyed.proofs.comparing.some_differs.Given as goal
 
 abbrev pub invariant-loop-place : goal.invariant-loop-place

@@ -5,7 +5,7 @@ use Rattle.ft_layout.specs.Tables.{UsedEntry}
 use Rattle.ft_bank.specs.Passes.{shape_of}
 use Rattle.ft_bank.specs.Tables.{name_of}
 use Rattle.ft_keyed.specs.Comparing.{MeetsAt, WithSet, is_met}
-use Rattle.ft_keyed.specs.Entries.{live_key}
+use Rattle.ft_keyed.specs.TableEntries.{live_key}
 use Rattle.ft_keyed.proofs.Meeting.{set_map, set_then}
 use Rattle.ft_keyed.proofs.Paired.{any_at, any_more, both_none, no_entry}
 use Rattle.ft_keyed.proofs.comparing.some_meets.Goals as goal

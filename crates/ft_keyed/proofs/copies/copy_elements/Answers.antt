@@ -8,7 +8,7 @@ use Rattle.ft_bank.specs.Tables.{name_of}
 use Rattle.ft_list.proofs.Indexes.{reads_block, reads_map, reads_then}
 use Rattle.ft_keyed.specs.Contents.{IsOfSet}
 use Rattle.ft_keyed.specs.Copies.{AreCopied}
-use Rattle.ft_keyed.specs.Entries.{OfUsed, live_key}
+use Rattle.ft_keyed.specs.TableEntries.{OfUsed, live_key}
 use Rattle.ft_keyed.proofs.Gathered.{elements_gathered, no_set, of_set}
 use Rattle.ft_keyed.proofs.copies.copy_elements.Goals as goal
 

@@ -6,7 +6,7 @@ use Rattle.std.proofs.lemmas.Result.{err_from_is_err_and}
 use Rattle.ft_bank.specs.Passes.{shape_of}
 use Rattle.ft_bank.specs.Tables.{name_of}
 use Rattle.ft_keyed.specs.Copies.{AreCopied}
-use Rattle.ft_keyed.specs.Entries.{live_key}
+use Rattle.ft_keyed.specs.TableEntries.{live_key}
 use Rattle.ft_keyed.proofs.Gathered.{gathered_more, gathered_some}
 use Rattle.ft_keyed.proofs.Paired.{no_entry}
 use Rattle.ft_keyed.proofs.Scanning.{scan_key, scan_map, scan_none}

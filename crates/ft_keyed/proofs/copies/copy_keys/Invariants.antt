@@ -4,7 +4,7 @@ use Rattle.ft_bank.specs.Passes.{shape_of, IsPassOf}
 use Rattle.ft_bank.specs.Sections.{stack_of}
 use Rattle.ft_bank.specs.Tables.{name_of}
 use Rattle.ft_list.specs.Indexes.{Reads}
-use Rattle.ft_keyed.specs.Entries.{OfUsed, live_key}
+use Rattle.ft_keyed.specs.TableEntries.{OfUsed, live_key}
 use Rattle.ft_keyed.proofs.copies.copy_keys.Given as goal
 
 abbrev pub invariant-loop-place : goal.invariant-loop-place

@@ -8,7 +8,7 @@ use Rattle.ft_bank.specs.Tables.{name_of}
 use Rattle.ft_list.proofs.Indexes.{reads_block, reads_map, reads_then}
 use Rattle.ft_keyed.specs.Contents.{IsOfDict}
 use Rattle.ft_keyed.specs.Copies.{AreCopied}
-use Rattle.ft_keyed.specs.Entries.{OfUsed, plain_pair}
+use Rattle.ft_keyed.specs.TableEntries.{OfUsed, plain_pair}
 use Rattle.ft_keyed.proofs.Gathered.{pairs_gathered, no_dict, of_dict}
 use Rattle.ft_keyed.proofs.copies.copy_pairs.Goals as goal
 

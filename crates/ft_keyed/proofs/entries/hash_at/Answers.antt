@@ -4,7 +4,7 @@ use Rattle.ft_trace.specs.Words.{entry_of, root_in}
 use Rattle.ft_bank.specs.Passes.{shape_of}
 use Rattle.ft_bank.specs.Tables.{name_of}
 use Rattle.ft_list.proofs.Indexes.{reads_map}
-use Rattle.ft_keyed.specs.Entries.{HashIs, OfUsed}
+use Rattle.ft_keyed.specs.TableEntries.{HashIs, OfUsed}
 use Rattle.ft_keyed.proofs.Rows.{word_is}
 use Rattle.ft_keyed.proofs.entries.hash_at.Goals as goal
 

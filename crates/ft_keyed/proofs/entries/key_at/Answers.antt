@@ -6,7 +6,7 @@ use Rattle.ft_bank.specs.Passes.{shape_of}
 use Rattle.ft_bank.specs.Tables.{name_of}
 use Rattle.ft_bank.proofs.Tables.{class_is}
 use Rattle.ft_list.proofs.Indexes.{reads_map, reads_none, reads_then}
-use Rattle.ft_keyed.specs.Entries.{IsKeyAt}
+use Rattle.ft_keyed.specs.TableEntries.{IsKeyAt}
 use Rattle.ft_keyed.proofs.Rows.{key_read, past_key, places_of, within_key}
 use Rattle.ft_keyed.proofs.entries.key_at.Goals as goal
 

@@ -9,7 +9,7 @@ use Rattle.ft_bank.specs.Passes.{shape_of}
 use Rattle.ft_bank.specs.Tables.{name_of}
 use Rattle.ft_list.specs.Indexes.{Reads}
 use Rattle.ft_list.proofs.Indexes.{reads_map, reads_then}
-use Rattle.ft_keyed.specs.Entries.{IsKeyAt, IsPlainAt}
+use Rattle.ft_keyed.specs.TableEntries.{IsKeyAt, IsPlainAt}
 use Rattle.ft_keyed.proofs.Rows.{missing_read, value_read, within_pair}
 use Rattle.ft_keyed.proofs.entries.value_at.Goals as goal
 use Rattle.ft_keyed.proofs.entries.value_at.Goals.{In-Some}

@@ -3,7 +3,7 @@ use Rattle.ft_bank.specs.Passes.{shape_of, IsPassOf}
 use Rattle.ft_bank.specs.Sections.{stack_of}
 use Rattle.ft_bank.specs.Tables.{name_of}
 use Rattle.ft_list.specs.Indexes.{Reads}
-use Rattle.ft_keyed.specs.Entries.{OfUsed}
+use Rattle.ft_keyed.specs.TableEntries.{OfUsed}
 use Rattle.ft_keyed.specs.Places.{NoneThere}
 use Rattle.ft_keyed.proofs.places.last_place.Given as goal
 

@@ -124,7 +124,7 @@ returns-in-Taken-clause-added c =
       record {
         table = c.in-Taken.table;
         taken = u;
-        tried = record { mid = e.did.0; freed = e.did.1; acts = e.did.2; collected = e.did.3; did = e.did.4; taking = e.did.5; has = e.did.6; same = e.same; keeps = e.keeps; hands = e.hands };
+        tried = record { mid = e.did.0; freed = e.did.1; acts = e.did.2; collected = e.did.3; did = e.did.4; taking = e.did.5; has = e.did.6; floor = e.floor; same = e.same; keeps = e.keeps; hands = e.hands };
         other = subst (λ (n : ℕ). root_in (held n u) ≢ suc (name_of c.in-Taken.table)) (sym at) other;
         done = done;
         wrote = w.wrote;

@@ -13,10 +13,10 @@ word_at-requires-clause-place c =
     let low = c.requires.index in
     omega (arith, f, low)
 
-pub read_table-requires-clause-word : goal.read_table-requires-clause-word
-read_table-requires-clause-word c =
+pub read_word-requires-clause-word : goal.read_word-requires-clause-word
+read_word-requires-clause-word c =
     subst (λ (z : ℕ). z < size (class_of (name_of c.args.table))) (sym c.word_at.ensures) (inside (shape_of c.args.bank.now) c.args.table c.requires.table c.args.index c.args.word c.requires.index c.requires.word)
 
 pub returns-clause-did : goal.returns-clause-did
 returns-clause-did c =
-    subst (λ (z : ℕ). DidAll (ReadTable (name_of c.args.table) z c.read_table.result ∷ []) c.args.pass.now c.read_table.new.pass) c.word_at.ensures c.read_table.ensures.did
+    subst (λ (z : ℕ). DidAll (ReadTable (name_of c.args.table) z c.read_word.result ∷ []) c.args.pass.now c.read_word.new.pass) c.word_at.ensures c.read_word.ensures.did

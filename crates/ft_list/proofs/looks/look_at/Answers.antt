@@ -43,7 +43,7 @@ returns-then-seen-clause-ended c =
       part,
       tt,
       subst (λ (z : ℕ). DidAll (ReadRoot a.o z ∷ part) a.pass.now r.new.pass) same (did_trans (ReadRoot a.o r.result ∷ []) part a.pass.now c.see_item-seen.new.pass r.new.pass c.see_item-seen.ensures.did r.ensures.did),
-      item_stops a.o t a.index seen why,
+      item_stops a.o t a.index seen c.requires.index why,
     )
 
 pub returns-clause-ended : goal.returns-clause-ended

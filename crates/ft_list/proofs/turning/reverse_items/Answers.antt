@@ -7,7 +7,7 @@ use Rattle.ft_trace.specs.Holds.{held}
 use Rattle.ft_bank.specs.Passes.{shape_of, view}
 use Rattle.ft_bank.specs.Tables.{name_of}
 use Rattle.ft_list.specs.Items.{items_of, IsChanging}
-use Rattle.ft_list.specs.Turning.{IsTurning}
+use Rattle.ft_list.specs.Reversing.{IsTurning}
 use Rattle.ft_list.proofs.Cares.{table_class}
 use Rattle.ft_list.proofs.Turned.{turning_ends}
 use Rattle.ft_list.proofs.Whole.{finishing, list_wrote, root_wrote}

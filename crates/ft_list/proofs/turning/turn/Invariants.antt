@@ -8,7 +8,7 @@ use Rattle.ft_bank.specs.Sections.{stack_of}
 use Rattle.ft_bank.specs.Tables.{name_of}
 use Rattle.ft_bank.specs.Whole.{OnlyPut}
 use Rattle.ft_list.specs.Items.{WritesList, IsPutting, stored_at}
-use Rattle.ft_list.specs.Turning.{IsTurning}
+use Rattle.ft_list.specs.Reversing.{IsTurning}
 use Rattle.ft_list.proofs.turning.turn.Given as goal
 
 abbrev pub invariant-loop-at : goal.invariant-loop-at

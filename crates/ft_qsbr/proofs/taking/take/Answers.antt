@@ -73,6 +73,12 @@ returns-clause-same c =
     let then : seen_writes m ≤ seen_writes w = subst (λ (u : View). seen_writes m ≤ seen_writes u) (sym d.1.1) (seen_stays d.0 m) in
     same_by F v w (returns-clause-keeps c) (c.take_table.ensures.idle ∙ sym c.requires.idle) sections cursors floor since owners learnt (le_trans first then)
 
+pub returns-clause-floor : goal.returns-clause-floor
+returns-clause-floor c has =
+    let v = view c.args.pass.now in
+    let x = c.collect.ensures.collected in
+    c.take_table.ensures.floor (ap (λ (u : View). u.has_floor) x.did ∙ (floor_stays (x.acts ++ loads_of x.numbers) v (collection_leaves x.acts x.numbers x.givings) ∙ has))
+
 pub returns-clause-hands : goal.returns-clause-hands
 returns-clause-hands c t stays =
     let v = view c.args.pass.now in

@@ -186,7 +186,7 @@ returns-in-Taken-clause-added c =
       record {
         table = c.in-Taken.table;
         taken = u;
-        tried = record { mid = e.did.0; freed = e.did.1; acts = e.did.2; collected = e.did.3; did = e.did.4; taking = e.did.5; has = e.did.6; same = e.same; keeps = e.keeps; hands = e.hands };
+        tried = record { mid = e.did.0; freed = e.did.1; acts = e.did.2; collected = e.did.3; did = e.did.4; taking = e.did.5; has = e.did.6; floor = e.floor; same = e.same; keeps = e.keeps; hands = e.hands };
         other = subst (λ (n : ℕ). root_in (held n u) ≢ suc (name_of c.in-Taken.table)) (sym at) (other p);
         done = done;
         wrote = filled_wrote a.called.now reply.Done c.swap_table-number.result u x done c.fill_copy.ensures.only (subst (λ (n : ℕ). root_in (held n x) ≡ root_in (held n u)) (sym at) (ap root_in same.0)) w.wrote;

@@ -21,7 +21,7 @@ use Rattle.ft_trace.specs.declared.Shape.{Shape}
 use Rattle.ft_search.proofs.held.read_key.Goals as goal
 
 pub read_in-requires-clause-table : goal.read_in-requires-clause-table
-read_in-requires-clause-table c = c.in-Some.ensures.in_bank (shape_of c.args.bank.now) (λ t e. c.read_block-root.ensures.table t refl e)
+read_in-requires-clause-table c = c.in-Some.ensures.in_bank
 
 pub returns-in-Some-clause-keeps : goal.returns-in-Some-clause-keeps
 returns-in-Some-clause-keeps c =
@@ -49,7 +49,7 @@ pub returns-in-None-clause-held : goal.returns-in-None-clause-held
 returns-in-None-clause-held c =
     let v = view c.args.pass.now in
     let o = c.args.o in
-    let none = c.in-None.ensures.none (shape_of c.args.bank.now) (λ t e. c.read_block-root.ensures.table t refl e) in
+    let none = c.in-None.ensures.none in
     let kind_is = ap (λ (k : Shape). kind_in k.kinds o) c.requires.pass.1 ∙ c.requires.way in
     bare_held c.used_entries_follow_a_dict.ensures.missing c.used_entries_follow_a_set.ensures.missing (shape_of c.args.bank.now).texts (held o v) (known o v) c.requires.stands c.args.key
     c.args.way (of_way c.args.way v o c.args.pass.now.possible c.requires.locked kind_is) (sym (c.read_block-root.ensures.held c.requires.locked) ∙ none)
@@ -62,7 +62,7 @@ returns-in-Some-clause-held c =
     let k = shape_of c.args.bank.now in
     let key = c.args.key in
     let table = c.in-Some.table in
-    let in_bank = c.in-Some.ensures.in_bank k (λ t e. c.read_block-root.ensures.table t refl e) in
+    let in_bank = c.in-Some.ensures.in_bank in
     let kind_is = ap (λ (z : Shape). kind_in z.kinds o) c.requires.pass.1 ∙ c.requires.way in
     let names : root_in (held o v) ≡ suc (name_of table) = sym (c.read_block-root.ensures.held c.requires.locked) ∙ c.in-Some.ensures.named in
     let same : held o w ≡ held o v = ap (held o) c.read_block-root.ensures.did.1 in
@@ -72,3 +72,6 @@ returns-in-Some-clause-held c =
     key_held c.used_entries_follow_a_dict.ensures.missing c.used_entries_follow_a_set.ensures.missing k.texts (held o v) (known o v) c.requires.stands key
     c.used_entries_follow_a_dict.ensures.first c.used_entries_follow_a_set.ensures.first k table in_bank names c.read_in.ensures.low s.0 found c.read_in.result.1 s.2 s.3
     c.args.way (of_way c.args.way v o c.args.pass.now.possible c.requires.locked kind_is) s.1
+
+pub table_at-requires : goal.table_at-requires
+table_at-requires c t e = c.read_block-root.ensures.table t refl e

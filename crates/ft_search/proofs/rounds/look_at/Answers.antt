@@ -24,7 +24,7 @@ returns-then-not-stood-clause-turns c slot earlier left w =
     let s = c.args.words.now in
     let t = name_of s.table in
     let seen = c.read_between-seen.result in
-    (seen_acts t c.args.place seen, tt, c.read_between-seen.ensures.did, stops_seen (shape_of s.bank.now) s.o t c.args.key slot c.args.place earlier seen (c.if-not-stood.ensures.no refl))
+    (seen_acts t c.args.place seen, tt, c.read_between-seen.ensures.did, stops_seen (shape_of s.bank.now) s.o t c.args.key slot c.args.place earlier (let low = c.if-place-entries.false in omega (arith, low, c.requires.entries)) seen (c.if-not-stood.ensures.no refl))
 
 pub returns-then-seen-kind_of-clause-turns : goal.returns-then-seen-kind_of-clause-turns
 returns-then-seen-kind_of-clause-turns c slot earlier left w =

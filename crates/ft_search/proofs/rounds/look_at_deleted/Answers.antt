@@ -54,7 +54,7 @@ returns-clause-turns c key slot earlier left w =
       second ∷ (first ∷ []),
       tt,
       did_trans (second ∷ []) (first ∷ []) s.pass.now s1.pass.now s2.pass.now c.word-opened.ensures.did again,
-      stops_deleted k s.o t key slot c.args.place earlier opened closed (λ even. c.if-opened-eq0.false even),
+      stops_deleted k s.o t key slot c.args.place earlier (let low = c.if-place-entries.false in omega (arith, low, c.requires.entries)) opened closed (λ even. c.if-opened-eq0.false even),
     )
 
 pub returns-then-place-entries-clause-index : goal.returns-then-place-entries-clause-index

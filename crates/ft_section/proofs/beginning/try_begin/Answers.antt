@@ -2,7 +2,7 @@ use Rattle.std.proofs.Common.{le_trans, subst, sym}
 use Rattle.ft_bank.specs.Passes.{view}
 use Rattle.ft_section.proofs.Goings.{only_sees}
 use Rattle.ft_section.specs.Floors.{first_owned, floor_word}
-use Rattle.ft_section.specs.Takings.{lower_of, upper_of}
+use Rattle.ft_section.specs.LockTakings.{lower_of, upper_of}
 use Rattle.ft_trace.specs.Addresses.{counter}
 use Rattle.ft_section.proofs.Floors.{not_yet_began}
 use Rattle.ft_section.specs.Locking.{LocksWithin}

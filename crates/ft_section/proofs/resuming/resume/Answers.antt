@@ -9,7 +9,7 @@ use Rattle.ft_bank.specs.Passes.{view}
 use Rattle.ft_bank.specs.Sections.{Stack, stack_of, taken_in, nothing_taken}
 use Rattle.ft_section.specs.Locking.{OnlyLocked, KeepsLower, marks_more}
 use Rattle.ft_section.specs.Ready.{IsMarked}
-use Rattle.ft_section.specs.Takings.{HasBoth}
+use Rattle.ft_section.specs.LockTakings.{HasBoth}
 use Rattle.ft_section.proofs.Goings.{found_then}
 use Rattle.ft_section.proofs.Releases.{only_then, only_same}
 use Rattle.ft_section.specs.declared.answers.Resumed.TheVariants as resumed

@@ -3,7 +3,7 @@ use Rattle.ft_bank.specs.Passes.{shape_of}
 use Rattle.ft_bank.specs.Tables.{name_of}
 use Rattle.ft_list.specs.Indexes.{Reads}
 use Rattle.ft_list.proofs.Indexes.{reads_map, reads_then}
-use Rattle.ft_keyed.specs.Entries.{IsKeyAt, OfUsed}
+use Rattle.ft_keyed.specs.TableEntries.{IsKeyAt, OfUsed}
 use Rattle.ft_keyed.specs.Places.{IsFirst}
 use Rattle.ft_set.specs.declared.firsts.First.{First}
 use Rattle.ft_set.specs.Firsts.{IsFirstIn}

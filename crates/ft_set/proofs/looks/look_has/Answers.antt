@@ -57,7 +57,7 @@ pub returns-in-Contended-clause-looked : goal.returns-in-Contended-clause-looked
 returns-in-Contended-clause-looked c =
     let e = c.look_up.ensures in
     let m = c.in-Contended.ensures.looked in
-    contended_after (view c.args.pass.now) (view c.look_up.new.pass) c.args.s c.args.key c.in-Contended.first c.in-Contended.second m.0 e.keeps
+    contended_after (view c.args.pass.now) (view c.look_up.new.pass) (shape_of c.args.bank.now) c.args.s c.args.key c.in-Contended.first c.in-Contended.second m.0 c.requires.pass.1 e.keeps
     m.1 (did_log m.0 c.args.pass.now c.look_up.new.pass m.2) m.3
 
 pub returns-in-Here-clause-loads : goal.returns-in-Here-clause-loads

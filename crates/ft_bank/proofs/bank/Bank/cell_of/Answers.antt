@@ -48,3 +48,12 @@ returns-clause-low c =
     let size = size_found b.sizes.items t.class c.index-2.result.now b.sizing c.requires.table.0 c.index-2.ensures in
     let s = cell_sum k t c.index.result.now c.index-2.result.now c.from.result c.requires.table start size c.from.ensures in
     s.1
+
+pub returns-clause-place : goal.returns-clause-place
+returns-clause-place c =
+    let b = c.args.self.now in
+    let k = shape_of b in
+    let t = c.args.t in
+    let start = start_found k b.starts.items t.class c.index.result.now b.starting c.requires.table.0 c.index.ensures in
+    let size = size_found b.sizes.items t.class c.index-2.result.now b.sizing c.requires.table.0 c.index-2.ensures in
+    cell_sum k t c.index.result.now c.index-2.result.now c.from.result c.requires.table start size c.from.ensures

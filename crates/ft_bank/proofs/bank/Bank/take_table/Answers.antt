@@ -7,6 +7,7 @@ use Rattle.ft_bank.specs.Passes.{view}
 use Rattle.ft_bank.specs.Series.{noted_all}
 use Rattle.ft_bank.specs.Takings.{lowered, loads_of_none}
 use Rattle.ft_bank.proofs.Freeing.{all_then}
+use Rattle.ft_bank.proofs.Undisturbed.{taking_alone}
 use Rattle.ft_bank.proofs.bank.Bank.take_table.Goals as goal
 
 -- the two first steps, where the count was lowered
@@ -74,3 +75,19 @@ returns-in-Nothing-clause-did c =
       ),
       inr (inr (refl, end.0, refl)),
     )
+
+-- with the floor no other pass comes between
+pub returns-then-found-count-clause-floor : goal.returns-then-found-count-clause-floor
+returns-then-found-count-clause-floor c has =
+    let d = returns-then-found-count-clause-did c in
+    taking_alone (view c.args.pass.now) (view c.lower_count-found.new.pass) c.args.class c.read_count-count.result c.lower_count-found.result d.0 c.requires.class d.1.1 d.2 c.lower_count-found.new.pass.possible has
+
+pub returns-in-Lost-clause-floor : goal.returns-in-Lost-clause-floor
+returns-in-Lost-clause-floor c has =
+    let d = returns-in-Lost-clause-did c in
+    taking_alone (view c.args.pass.now) (view c.raise_count.new.pass) c.args.class c.in-Lost.loaded c.in-Lost.found d.0 c.requires.class d.1.1 d.2 c.raise_count.new.pass.possible has
+
+pub returns-in-Nothing-clause-floor : goal.returns-in-Nothing-clause-floor
+returns-in-Nothing-clause-floor c has =
+    let d = returns-in-Nothing-clause-did c in
+    taking_alone (view c.args.pass.now) (view c.raise_count-in-Nothing.new.pass) c.args.class c.read_count-count.result 0 d.0 c.requires.class d.1.1 d.2 c.raise_count-in-Nothing.new.pass.possible has

@@ -9,8 +9,8 @@ use Rattle.ft_search.proofs.Places.{entry_in, entry_is}
 use Rattle.ft_search.proofs.Knowing.{entry_after_header, loaded_leaves}
 use Rattle.ft_search.proofs.words.TableWordsWords.entry.Goals as goal
 
-pub read_table-requires-clause-word : goal.read_table-requires-clause-word
-read_table-requires-clause-word c =
+pub read_word-requires-clause-word : goal.read_word-requires-clause-word
+read_word-requires-clause-word c =
     let s = c.args.self.now in
     entry_in (shape_of s.bank.now) s.table s.mask c.args.place c.args.word c.requires.can.table c.requires.can.mask
     c.requires.place.0 c.requires.place.1
@@ -19,22 +19,22 @@ pub returns-clause-gave : goal.returns-clause-gave
 returns-clause-gave c =
     let s = c.args.self.now in
     let t = name_of s.table in
-    let f = c.read_table.result in
+    let f = c.read_word.result in
     let e = entry_is (shape_of s.bank.now) s.table s.mask c.args.place c.args.word c.requires.can.table c.requires.can.mask in
     record {
-      same = record { bank = refl; pass = refl; o = refl; table = refl; mask = refl };
+      same = record { bank = refl; pass = refl; o = refl; table = refl; mask = refl; start = refl };
       inside = subst (λ (i : ℕ). i < size (class_of t)) e
           (entry_in (shape_of s.bank.now) s.table s.mask c.args.place c.args.word c.requires.can.table c.requires.can.mask
           c.requires.place.0 c.requires.place.1);
-      did = subst (λ (i : ℕ). Did (ReadTable t i f) s.pass.now c.read_table.new.pass) e c.read_table.ensures.did;
+      did = subst (λ (i : ℕ). Did (ReadTable t i f) s.pass.now c.read_word.new.pass) e c.read_word.ensures.did;
       others = λ o low mine names.
-          c.read_table.ensures.held o low mine names
+          c.read_word.ensures.held o low mine names
           ∙ sym (entry_after_header (held o (view s.pass.now)).table s.mask c.args.place c.args.word);
       tells = λ k.
-          c.read_table.ensures.held s.o c.requires.can.container k.0 k.1
+          c.read_word.ensures.held s.o c.requires.can.container k.0 k.1
           ∙ sym (entry_after_header (held s.o (view s.pass.now)).table s.mask c.args.place c.args.word);
       left = λ k.
-          loaded_leaves (view s.pass.now) (view c.read_table.new.pass) s.o t
-          (8 * c.args.place + c.args.word + s.mask + 1) f c.read_table.ensures.did.1 k;
-      only = loaded_put (view s.pass.now) (view c.read_table.new.pass) s.o (loaded_by (ReadTable t (8 * c.args.place + c.args.word + s.mask + 1) f) (view s.pass.now) (view c.read_table.new.pass) tt c.read_table.ensures.did.1);
+          loaded_leaves (view s.pass.now) (view c.read_word.new.pass) s.o t
+          (8 * c.args.place + c.args.word + s.mask + 1) f c.read_word.ensures.did.1 k;
+      only = loaded_put (view s.pass.now) (view c.read_word.new.pass) s.o (loaded_by (ReadTable t (8 * c.args.place + c.args.word + s.mask + 1) f) (view s.pass.now) (view c.read_word.new.pass) tt c.read_word.ensures.did.1);
     }

@@ -8,8 +8,8 @@ use Rattle.ft_search.proofs.Places.{slot_in}
 use Rattle.ft_search.proofs.Knowing.{after_header, loaded_leaves}
 use Rattle.ft_search.proofs.words.TableWordsWords.index.Goals as goal
 
-pub read_table-requires-clause-word : goal.read_table-requires-clause-word
-read_table-requires-clause-word c =
+pub read_word-requires-clause-word : goal.read_word-requires-clause-word
+read_word-requires-clause-word c =
     let s = c.args.self.now in
     slot_in (shape_of s.bank.now) s.table s.mask c.args.slot c.requires.can.table c.requires.can.mask c.requires.slot
 
@@ -17,16 +17,16 @@ pub returns-clause-gave : goal.returns-clause-gave
 returns-clause-gave c =
     let s = c.args.self.now in
     record {
-      same = record { bank = refl; pass = refl; o = refl; table = refl; mask = refl };
+      same = record { bank = refl; pass = refl; o = refl; table = refl; mask = refl; start = refl };
       inside = slot_in (shape_of s.bank.now) s.table s.mask c.args.slot c.requires.can.table c.requires.can.mask c.requires.slot;
-      did = c.read_table.ensures.did;
+      did = c.read_word.ensures.did;
       others = λ o low mine names.
-          c.read_table.ensures.held o low mine names ∙ sym (after_header (held o (view s.pass.now)).table c.args.slot);
+          c.read_word.ensures.held o low mine names ∙ sym (after_header (held o (view s.pass.now)).table c.args.slot);
       tells = λ k.
-          c.read_table.ensures.held s.o c.requires.can.container k.0 k.1
+          c.read_word.ensures.held s.o c.requires.can.container k.0 k.1
           ∙ sym (after_header (held s.o (view s.pass.now)).table c.args.slot);
       left = λ k.
-          loaded_leaves (view s.pass.now) (view c.read_table.new.pass) s.o (name_of s.table) c.args.slot c.read_table.result
-          c.read_table.ensures.did.1 k;
-      only = loaded_put (view s.pass.now) (view c.read_table.new.pass) s.o (loaded_by (ReadTable (name_of s.table) c.args.slot c.read_table.result) (view s.pass.now) (view c.read_table.new.pass) tt c.read_table.ensures.did.1);
+          loaded_leaves (view s.pass.now) (view c.read_word.new.pass) s.o (name_of s.table) c.args.slot c.read_word.result
+          c.read_word.ensures.did.1 k;
+      only = loaded_put (view s.pass.now) (view c.read_word.new.pass) s.o (loaded_by (ReadTable (name_of s.table) c.args.slot c.read_word.result) (view s.pass.now) (view c.read_word.new.pass) tt c.read_word.ensures.did.1);
     }

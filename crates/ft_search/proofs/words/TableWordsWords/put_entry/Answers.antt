@@ -33,7 +33,7 @@ returns-clause-gave c =
     let can = c.requires.can.0 in
     let e = entry_is (shape_of s.bank.now) s.table s.mask c.args.place c.args.word can.table can.mask in
     record {
-      same = record { bank = refl; pass = refl; o = refl; table = refl; mask = refl };
+      same = record { bank = refl; pass = refl; o = refl; table = refl; mask = refl; start = refl };
       inside = tt;
       others = λ o low mine names. tt;
       did = subst (λ (i : ℕ). Did (PutTable s.o t i c.args.value) s.pass.now c.put_table.new.pass) e c.put_table.ensures.did;

@@ -22,7 +22,7 @@ returns-clause-gave c =
     let s = c.args.self.now in
     let t = name_of s.table in
     record {
-      same = record { bank = refl; pass = refl; o = refl; table = refl; mask = refl };
+      same = record { bank = refl; pass = refl; o = refl; table = refl; mask = refl; start = refl };
       inside = tt;
       did = c.put_table.ensures.did;
       others = λ o low mine names. tt;

@@ -9,13 +9,13 @@ use Rattle.ft_bank.specs.Tables.{name_of}
 use Rattle.ft_bank.proofs.Knowing.{table_found, fresh_found}
 use Rattle.ft_bank.proofs.Readying.{read_ready}
 use Rattle.ft_bank.proofs.Tables.{named}
-use Rattle.ft_bank.proofs.bank.Bank.read_table.Goals as goal
+use Rattle.ft_bank.proofs.bank.Bank.read_word.Goals as goal
 
 pub load_as-requires-clause-ready : goal.load_as-requires-clause-ready
 load_as-requires-clause-ready c =
     let v = view c.args.pass.now in
     let table : IsTable v.shape (name_of c.args.t) = subst (λ (z : Shape). IsTable z (name_of c.args.t)) (sym c.requires.pass.1) (named (shape_of c.args.self.now) c.args.t c.requires.table) in
-    subst (λ (z : ℕ). Ready v (c.cell_of-start.result + c.args.word) (λ n. ReadTable z c.args.word n)) (sym c.name.ensures) (read_ready v (c.cell_of-start.result + c.args.word) (name_of c.args.t) c.args.word table c.requires.word)
+    subst (λ (z : ℕ). Ready v (c.args.start + c.args.word) (λ n. ReadTable z c.args.word n)) (sym c.name.ensures) (read_ready v (c.args.start + c.args.word) (name_of c.args.t) c.args.word table c.requires.word)
 
 pub returns-clause-held : goal.returns-clause-held
 returns-clause-held c o small mine names =

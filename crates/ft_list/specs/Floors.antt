@@ -1,0 +1,17 @@
+-- Loads of a list's items without the lock by a pass that has the floor: no other pass writes meanwhile, so nothing
+-- stops them.
+use Rattle.std.specs.Prelude.{ℕ, ◌<◌, List}
+use Rattle.ft_trace.specs.declared.Act.{Act}
+use Rattle.ft_trace.specs.declared.View.{View}
+use Rattle.ft_trace.specs.Addresses.{containers_in}
+use Rattle.ft_trace.specs.Kinds.{IsItems}
+use Rattle.ft_trace.specs.Traces.{Possible}
+use Rattle.ft_trace.specs.Worlds.{kind_in}
+use Rattle.ft_search.specs.Floors.{LooksWithFloor}
+use Rattle.ft_list.specs.Looks.{Stops}
+
+-- no version of an item stops them, and none of the list
+abbrev pub FloorItemsStand : Type 0
+FloorItemsStand =
+    (w : View) (part : List Act) → Possible w → LooksWithFloor w part → (o index a b : ℕ) → o < containers_in w.shape
+    → IsItems (kind_in w.shape.kinds o) → Stops o index a b part → ⊥

@@ -1,0 +1,32 @@
+-- Loads without the lock by a pass that has the floor: no other pass writes meanwhile, so nothing stops them.
+use Rattle.std.specs.Prelude.{◌≡◌, ℕ, ◌<◌, true, false, List, ◌++◌}
+use Rattle.ft_model.specs.declared.data.Key.{Key}
+use Rattle.ft_trace.specs.declared.Act.{Act}
+use Rattle.ft_trace.specs.declared.View.{View}
+use Rattle.ft_trace.specs.Acts.{is_writing}
+use Rattle.ft_trace.specs.Addresses.{containers_in}
+use Rattle.ft_trace.specs.Kinds.{IsKeyed}
+use Rattle.ft_trace.specs.Traces.{Possible}
+use Rattle.ft_trace.specs.Worlds.{kind_in}
+use Rattle.ft_search.specs.Lengths.{StopsAtVersion}
+use Rattle.ft_search.specs.Looks.{AreLooks, Stops}
+
+-- the last actions of a pass that has the floor and writes no container were these loads
+pub record LooksWithFloor (w : View) (part : List Act) : Type 0 where
+  pub older : List Act
+  pub is : w.log ≡ part ++ older
+  pub looks : AreLooks part
+  pub floor : w.has_floor ≡ true
+  pub still : (o : ℕ) → is_writing o w.log ≡ false
+
+-- no version of a container stops them
+abbrev pub FloorVersionsStand : Type 0
+FloorVersionsStand =
+    (w : View) (part : List Act) → Possible w → LooksWithFloor w part → (o a b : ℕ) → o < containers_in w.shape
+    → StopsAtVersion o a b part → ⊥
+
+-- nor does an entry of a key
+abbrev pub FloorEntriesStand : Type 0
+FloorEntriesStand =
+    (w : View) (part : List Act) → Possible w → LooksWithFloor w part → (o : ℕ) (key : Key) (a b : ℕ)
+    → o < containers_in w.shape → IsKeyed (kind_in w.shape.kinds o) → Stops w.shape o key a b part → ⊥

@@ -30,7 +30,7 @@ use Rattle.ft_trace.specs.Sections.{is_among}
 use Rattle.ft_trace.proofs.Cases.{hit}
 use Rattle.ft_trace.proofs.Totals.{total-append}
 use Rattle.ft_trace.specs.OwnCursors.{entry_of, AsksWithin}
-use Rattle.ft_closing.specs.Numbering.{IsFor, AreReplied, IsKeptOf, AreKeptFrom, EntriesAreNumbered}
+use Rattle.ft_closing.specs.Numbering.{IsFor, AreReplied, HasNamedEntries, HaveNamedEntries, EntriesAreNumbered}
 use Rattle.ft_closing.proofs.Parts.{at_split, all_parts, all_at, turned, all_back, any_back}
 
 -- ---- sections
@@ -123,7 +123,7 @@ module _ (k : Shape) (script : ScriptParts) (calls : List Call) (for_it : IsFor 
 
   -- ---- one pass
 
-  module _ (thread : ℕ) (mine : List NamedEntry) (own : List Entry) (had found : List Owner) (kept : IsKeptOf thread mine own had found) (asks : All (AsksWithin (cursors_of script thread)) mine) (replied : (room : ℕ) → AreReplied k.kinds calls room own) (stand : All (StandsInOrder k calls) own) (ordered : AreInOwnOrder (IsWriteIn calls) own) where
+  module _ (thread : ℕ) (mine : List NamedEntry) (own : List Entry) (had found : List Owner) (kept : HasNamedEntries thread mine own had found) (asks : All (AsksWithin (cursors_of script thread)) mine) (replied : (room : ℕ) → AreReplied k.kinds calls room own) (stand : All (StandsInOrder k calls) own) (ordered : AreInOwnOrder (IsWriteIn calls) own) where
     own_is : own ≡ reverse (map entry_of mine)
     own_is = sym (reverse-reverse own) ∙ ap reverse (sym kept.same)
 
@@ -162,7 +162,7 @@ module _ (k : Shape) (script : ScriptParts) (calls : List Call) (for_it : IsFor 
 
   -- ---- all passes
 
-  numbered_from : (first : ℕ) (kept : List (List NamedEntry)) (lists : List (List Entry)) (had found : List Owner) → AreKeptFrom first kept lists had found → ((i : ℕ) (mine : List NamedEntry) → slice_get kept i ≡ Some mine → All (AsksWithin (cursors_of script (first + i))) mine) → All (λ own. (room : ℕ) → AreReplied k.kinds calls room own) lists → All (StandsInOrder k calls) (flat_map (λ own. own) lists) → All (AreInOwnOrder (IsWriteIn calls)) lists → (i : ℕ) (mine : List NamedEntry) → slice_get kept i ≡ Some mine → IsNumberedThread storage.Tables script calls (first + i) mine
+  numbered_from : (first : ℕ) (kept : List (List NamedEntry)) (lists : List (List Entry)) (had found : List Owner) → HaveNamedEntries first kept lists had found → ((i : ℕ) (mine : List NamedEntry) → slice_get kept i ≡ Some mine → All (AsksWithin (cursors_of script (first + i))) mine) → All (λ own. (room : ℕ) → AreReplied k.kinds calls room own) lists → All (StandsInOrder k calls) (flat_map (λ own. own) lists) → All (AreInOwnOrder (IsWriteIn calls)) lists → (i : ℕ) (mine : List NamedEntry) → slice_get kept i ≡ Some mine → IsNumberedThread storage.Tables script calls (first + i) mine
   numbered_from first [] lists had found are asks replied stand ordered i mine at = absurd (cc)
   numbered_from first (m ∷ kept) [] had found are asks replied stand ordered i mine at = absurd are
   numbered_from first (m ∷ kept) (own ∷ lists) had found are asks replied stand ordered zero mine at =
@@ -190,7 +190,7 @@ count_own n (m ∷ mine) =
     let d : number_of n (entry_of m) ≡ count_of n m = refl in
     omega (arith, a, b, c, d)
 
-count_all : (n first : ℕ) (kept : List (List NamedEntry)) (lists : List (List Entry)) (had found : List Owner) → AreKeptFrom first kept lists had found → total (number_of n) (flat_map (λ own. own) lists) ≡ sum_by (count_of n) (flat_map (λ mine. mine) kept)
+count_all : (n first : ℕ) (kept : List (List NamedEntry)) (lists : List (List Entry)) (had found : List Owner) → HaveNamedEntries first kept lists had found → total (number_of n) (flat_map (λ own. own) lists) ≡ sum_by (count_of n) (flat_map (λ mine. mine) kept)
 count_all n first [] [] had found are = refl
 count_all n first [] (own ∷ lists) had found are = absurd are
 count_all n first (m ∷ kept) [] had found are = absurd are

@@ -19,8 +19,8 @@ use Rattle.ft_trace.specs.declared.Entry.{Entry}
 use Rattle.ft_trace.specs.declared.Owner.{Owner}
 use Rattle.ft_trace.specs.OwnCursors.{AsksWithin}
 use Rattle.ft_trace.specs.Owners.{is_owner_in, AreOwners}
-use Rattle.ft_closing.specs.Marks.{AreMade, AreOfFirst, IsFoundFor, IsNamedIn, inner_after, needed_after, used_after, walked_by}
-use Rattle.ft_closing.specs.Numbering.{AreKeptFrom, AskOwnCursors, IsKeptOf, MarksAreRight}
+use Rattle.ft_closing.specs.Marks.{HaveScriptCalls, AreOfFirst, IsFoundFor, IsNamedIn, inner_after, needed_after, used_after, walked_by}
+use Rattle.ft_closing.specs.Numbering.{HaveNamedEntries, AskOwnCursors, HasNamedEntries, MarksAreRight}
 use Rattle.ft_closing.proofs.Parts.{all_at, all_parts, at_split}
 use Rattle.ft_closing.proofs.Walked.{IsAddingIfRefused, earned_adds, walked_is}
 
@@ -86,21 +86,21 @@ used_is hands mine call.End goes = refl
 used_is hands mine call.Quiesce goes = refl
 
 module _ (script : ScriptParts) (calls : List Call) (lists : List (List Entry)) (kept : List (List NamedEntry)) (had found : List Owner) where
-  kept_at : (first i : ℕ) (ms : List (List NamedEntry)) (ls : List (List Entry)) (mine : List NamedEntry) → AreKeptFrom first ms ls had found → slice_get ms i ≡ Some mine → (own : List Entry) × IsKeptOf (first + i) mine own had found
+  kept_at : (first i : ℕ) (ms : List (List NamedEntry)) (ls : List (List Entry)) (mine : List NamedEntry) → HaveNamedEntries first ms ls had found → slice_get ms i ≡ Some mine → (own : List Entry) × HasNamedEntries (first + i) mine own had found
   kept_at first i [] ls mine are at = absurd (cc)
   kept_at first i (m ∷ ms) [] mine are at = absurd are
   kept_at first zero (m ∷ ms) (l ∷ ls) mine are at =
       let same : m ≡ mine = cc in
-      (l, subst (λ (z : ℕ × List NamedEntry). IsKeptOf z.0 z.1 l had found) (λ d. ((let e : first ≡ first + 0 = omega arith in e) d, same d)) are.0)
+      (l, subst (λ (z : ℕ × List NamedEntry). HasNamedEntries z.0 z.1 l had found) (λ d. ((let e : first ≡ first + 0 = omega arith in e) d, same d)) are.0)
   kept_at first (suc i) (m ∷ ms) (l ∷ ls) mine are at =
       let r = kept_at (suc first) i ms ls mine are.1 at in
-      (r.0, subst (λ (z : ℕ). IsKeptOf z mine r.0 had found) (let e : suc first + i ≡ first + suc i = omega arith in e) r.1)
+      (r.0, subst (λ (z : ℕ). HasNamedEntries z mine r.0 had found) (let e : suc first + i ≡ first + suc i = omega arith in e) r.1)
 
-  module _ (are : AreKeptFrom 0 kept lists had found) (first : AreOfFirst (length kept) had) (had_them : AreOwners found had) (asks : AskOwnCursors script kept) (numbered : AreNumberedLists storage.Tables script calls kept) (made : AreMade script kept) where
-    kept_of : (thread : ℕ) (mine : List NamedEntry) → slice_get kept thread ≡ Some mine → (own : List Entry) × IsKeptOf thread mine own had found
+  module _ (are : HaveNamedEntries 0 kept lists had found) (first : AreOfFirst (length kept) had) (had_them : AreOwners found had) (asks : AskOwnCursors script kept) (numbered : AreNumberedLists storage.Tables script calls kept) (made : HaveScriptCalls script kept) where
+    kept_of : (thread : ℕ) (mine : List NamedEntry) → slice_get kept thread ≡ Some mine → (own : List Entry) × HasNamedEntries thread mine own had found
     kept_of thread mine at =
         let r = kept_at 0 thread kept lists mine are at in
-        (r.0, subst (λ (z : ℕ). IsKeptOf z mine r.0 had found) (let e : 0 + thread ≡ thread = omega arith in e) r.1)
+        (r.0, subst (λ (z : ℕ). HasNamedEntries z mine r.0 had found) (let e : 0 + thread ≡ thread = omega arith in e) r.1)
 
     abbrev IsFoundWith : ℕ → ℕ → Type 0
     IsFoundWith thread o = is_owner_in o (thread + 1) found ≡ true

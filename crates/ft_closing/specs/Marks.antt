@@ -88,7 +88,7 @@ AreOfFirst count owners = (o q : ℕ) → is_owner_in o q owners ≡ true → (1
 -- ---- all calls are made
 
 -- each thread's entries are of just the calls that the script has for it
-abbrev pub AreMade : ScriptParts → List (List NamedEntry) → Type 0
-AreMade script lists =
+abbrev pub HaveScriptCalls : ScriptParts → List (List NamedEntry) → Type 0
+HaveScriptCalls script lists =
     (thread : ℕ) (mine : List NamedEntry) → slice_get lists thread ≡ Some mine
     → map (λ entry. entry.call) mine ≡ calls_of script thread

@@ -17,7 +17,7 @@ use Rattle.ft_trace.specs.InOrder.{AreInOrder}
 use Rattle.ft_trace.specs.OwnCursors.{entry_of, AsksWithin}
 use Rattle.ft_trace.specs.OwnOrder.{AreInOwnOrder, IsWriteIn}
 use Rattle.ft_trace.specs.Owners.{AreOwners}
-use Rattle.ft_closing.specs.Marks.{AreMade, AreMarksFound, AreOfFirst, HasNamed}
+use Rattle.ft_closing.specs.Marks.{HaveScriptCalls, AreMarksFound, AreOfFirst, HasNamed}
 
 -- the bank is made for the script: its containers, its tables, and a pass for each thread (profile)
 pub record IsFor (script : ScriptParts) (k : Shape) : Type 0 where
@@ -35,9 +35,9 @@ AreReplied kinds calls room own =
     (answer (world_by kinds (take e.stamp calls)) (hands_by kinds calls room (take place mine)) e.call).reply)
 
 -- A caller kept the entries of its pass, the oldest first, with its thread and an index, which counts from 1. An `end`
--- says how many of its entries in the section waited. A mark is a thread that was found with a lock that the call needs,
--- and the thread had no locks but of containers that its calls name. (profile)
-pub record IsKeptOf (thread : ℕ) (mine : List NamedEntry) (entries : List Entry) (had found : List Owner)
+-- says how many of its entries in the section waited. A mark is a thread that was found with a lock that the call
+-- needs, and the thread had no locks but of containers that its calls name. (profile)
+pub record HasNamedEntries (thread : ℕ) (mine : List NamedEntry) (entries : List Entry) (had found : List Owner)
     : Type 0 where
   pub same : map entry_of mine ≡ reverse entries
   pub own : All (λ entry. entry.thread ≡ thread) mine
@@ -48,12 +48,12 @@ pub record IsKeptOf (thread : ℕ) (mine : List NamedEntry) (entries : List Entr
   pub named : HasNamed thread had mine
 
 -- each caller did, from this thread on, beside the entries of the passes in the same order (profile)
-abbrev pub AreKeptFrom : ℕ → List (List NamedEntry) → List (List Entry) → List Owner → List Owner → Type 0
-AreKeptFrom thread [] [] had found = Unit {0}
-AreKeptFrom thread [] (own ∷ lists) had found = ⊥
-AreKeptFrom thread (mine ∷ kept) [] had found = ⊥
-AreKeptFrom thread (mine ∷ kept) (own ∷ lists) had found =
-    IsKeptOf thread mine own had found × AreKeptFrom (suc thread) kept lists had found
+abbrev pub HaveNamedEntries : ℕ → List (List NamedEntry) → List (List Entry) → List Owner → List Owner → Type 0
+HaveNamedEntries thread [] [] had found = Unit {0}
+HaveNamedEntries thread [] (own ∷ lists) had found = ⊥
+HaveNamedEntries thread (mine ∷ kept) [] had found = ⊥
+HaveNamedEntries thread (mine ∷ kept) (own ∷ lists) had found =
+    HasNamedEntries thread mine own had found × HaveNamedEntries (suc thread) kept lists had found
 
 -- each cursor that a thread's entries ask is one of the thread's in the script
 abbrev pub AskOwnCursors : ScriptParts → List (List NamedEntry) → Type 0
@@ -69,7 +69,7 @@ EntriesAreNumbered =
     (had found : List Owner)
     → IsFor script k → AreInOrder k calls (flat_map (λ own. own) lists) → All (AreInOwnOrder (IsWriteIn calls)) lists
     → All (λ own. (room : ℕ) → AreReplied k.kinds calls room own) lists
-    → AreKeptFrom 0 kept lists had found → AskOwnCursors script kept → length kept ≡ length script.threads
+    → HaveNamedEntries 0 kept lists had found → AskOwnCursors script kept → length kept ≡ length script.threads
     → AreNumberedLists storage.Tables script calls kept
 
 -- Where all calls are made, each mark is right: the thread that it names was found with the lock, so it had it, and so
@@ -78,6 +78,6 @@ abbrev pub MarksAreRight : Type 0
 MarksAreRight =
     (script : ScriptParts) (calls : List Call) (lists : List (List Entry)) (kept : List (List NamedEntry))
     (had found : List Owner)
-    → AreKeptFrom 0 kept lists had found → AreOfFirst (length kept) had → AreOwners found had
-    → AskOwnCursors script kept → AreNumberedLists storage.Tables script calls kept → AreMade script kept
+    → HaveNamedEntries 0 kept lists had found → AreOfFirst (length kept) had → AreOwners found had
+    → AskOwnCursors script kept → AreNumberedLists storage.Tables script calls kept → HaveScriptCalls script kept
     → AreDone script calls kept

@@ -10,8 +10,8 @@ ghost use Rattle.ft_model.specs.declared.script.ScriptParts.{ScriptParts};
 ghost use Rattle.ft_model.specs.Histories.{history_cmp};
 ghost use Rattle.ft_model.specs.Numbers.{AreNumberedLists, IsHistoryOf};
 ghost use Rattle.ft_bank.specs.Closings.{shape_in, lists_in, had_in, found_in};
-ghost use Rattle.ft_closing.specs.Marks.{AreMade, AreOfFirst};
-ghost use Rattle.ft_closing.specs.Numbering.{AskOwnCursors, EntriesAreNumbered, IsFor, AreKeptFrom, MarksAreRight};
+ghost use Rattle.ft_closing.specs.Marks.{HaveScriptCalls, AreOfFirst};
+ghost use Rattle.ft_closing.specs.Numbering.{AskOwnCursors, EntriesAreNumbered, IsFor, HaveNamedEntries, MarksAreRight};
 
 use ft_bank::Closed;
 
@@ -31,7 +31,7 @@ pub fn marks_are_right()
 /// passes were taken in in the order of the threads.
 pub fn closed_entries_are_numbered(closed: &Closed)
     ensures { (script : ScriptParts) (kept : List (List Entry)) → IsFor script (shape_in closed.now) →
-        AreKeptFrom 0 kept (lists_in closed.now) (had_in closed.now) (found_in closed.now) →
+        HaveNamedEntries 0 kept (lists_in closed.now) (had_in closed.now) (found_in closed.now) →
         AskOwnCursors script kept → length kept ≡ length script.threads →
         ∥ ((calls : List Call) × AreNumberedLists storage.Tables script calls kept) ∥₁ }
 {
@@ -43,10 +43,10 @@ pub fn closed_entries_are_numbered(closed: &Closed)
 pub fn closed_entries_are_legal(closed: &Closed)
     ensures { (script : ScriptParts) (kept : List (List Entry)) (history : List Entry) →
         IsFor script (shape_in closed.now) →
-        AreKeptFrom 0 kept (lists_in closed.now) (had_in closed.now) (found_in closed.now) →
+        HaveNamedEntries 0 kept (lists_in closed.now) (had_in closed.now) (found_in closed.now) →
         AreOfFirst (length kept) (had_in closed.now) →
         AskOwnCursors script kept →
-        length kept ≡ length script.threads → AreMade script kept →
+        length kept ≡ length script.threads → HaveScriptCalls script kept →
         IsPermutation (flat_map (λ mine. mine) kept) history → IsSorted history_cmp history →
         ∥ ((calls : List Call) × IsHistoryOf storage.Tables script calls history) ∥₁ }
 {

@@ -32,12 +32,12 @@ use Rattle.ft_history.proofs.GoesAfterLemmas.{few_writes}
 
 -- ---- sums over the threads of a script
 
-sum_le : (f g : ℕ → ℕ) (xs : List ℕ) → ((x : ℕ) → f x ≤ g x) → sum_by f xs ≤ sum_by g xs
+pub sum_le : (f g : ℕ → ℕ) (xs : List ℕ) → ((x : ℕ) → f x ≤ g x) → sum_by f xs ≤ sum_by g xs
 sum_le f g [] each = omega arith
 sum_le f g (x ∷ xs) each = omega (arith, sum_by-cons f x xs, sum_by-cons g x xs, each x, sum_le f g xs each)
 
 -- a number of a row is one of them
-abbrev one_at : ℕ → ℕ → ℕ
+abbrev pub one_at : ℕ → ℕ → ℕ
 one_at thread other = cond (thread == other) 1 0
 
 one_of_row : (thread from count : ℕ) → from ≤ thread → thread < from + count → 1 ≤ sum_by (one_at thread) (range_with_len from count)
@@ -52,7 +52,7 @@ one_of_row thread from (suc count) low high =
     later : (thread from : ℕ) → from ≤ thread → (thread ≡ from → ⊥) → from + 1 ≤ thread
     later thread from le apart = omega (arith, apart)
 
-length-entries_of : (thread : ℕ) (entry : Entry) (entries : List Entry) → length (entries_of thread (entry ∷ entries)) ≡ one_at entry.thread thread + length (entries_of thread entries)
+pub length-entries_of : (thread : ℕ) (entry : Entry) (entries : List Entry) → length (entries_of thread (entry ∷ entries)) ≡ one_at entry.thread thread + length (entries_of thread entries)
 length-entries_of thread entry entries =
     elim (entry.thread == thread) as (λ b. length (cond b (entry ∷ filter (λ e. e.thread == thread) entries) (filter (λ e. e.thread == thread) entries)) ≡ cond b 1 0 + length (filter (λ (e : Entry). e.thread == thread) entries)) [
       | true ↦ omega arith
@@ -60,7 +60,7 @@ length-entries_of thread entry entries =
     ]
 
 -- each entry is one of its thread's
-all_counted : (entries : List Entry) (count : ℕ) → All (λ entry. entry.thread < count) entries → length entries ≤ sum_by (λ thread. length (entries_of thread entries)) (range_with_len 0 count)
+pub all_counted : (entries : List Entry) (count : ℕ) → All (λ entry. entry.thread < count) entries → length entries ≤ sum_by (λ thread. length (entries_of thread entries)) (range_with_len 0 count)
 all_counted [] count each = omega arith
 all_counted (entry ∷ entries) count each =
     let one = one_of_row entry.thread 0 count (omega arith) (let low = each zero entry (omega arith) in omega arith) in
@@ -69,7 +69,7 @@ all_counted (entry ∷ entries) count each =
     omega (arith, one, rest, both)
 
 -- a row of numbers over a list's places
-sum_places : {X : Type 0} (f : X → ℕ) (g : ℕ → ℕ) (xs : List X) (from : ℕ) → ((k : ℕ) (x : X) → slice_get xs k ≡ Some x → g (from + k) ≡ f x) → sum_by g (range_with_len from (length xs)) ≡ sum_by f xs
+pub sum_places : {X : Type 0} (f : X → ℕ) (g : ℕ → ℕ) (xs : List X) (from : ℕ) → ((k : ℕ) (x : X) → slice_get xs k ≡ Some x → g (from + k) ≡ f x) → sum_by g (range_with_len from (length xs)) ≡ sum_by f xs
 sum_places f g [] from at = refl
 sum_places f g (x ∷ xs) from at =
     let first : g from ≡ f x = ap g (let same : from ≡ from + 0 = omega arith in same) ∙ at zero x refl in
@@ -85,7 +85,7 @@ calls_in_all script =
 -- ---- the entries before a place
 
 -- where no thread has more entries than calls, each entry is of a thread of the script
-threads_low : (script : ScriptParts) (entries : List Entry) → ((thread : ℕ) → length (entries_of thread entries) ≤ length (calls_of script thread)) → All (λ entry. entry.thread < length script.threads) entries
+pub threads_low : (script : ScriptParts) (entries : List Entry) → ((thread : ℕ) → length (entries_of thread entries) ≤ length (calls_of script thread)) → All (λ entry. entry.thread < length script.threads) entries
 threads_low script [] few = All-nil _
 threads_low script (entry ∷ entries) few =
     All-cons (λ (e : Entry). e.thread < length script.threads) entry entries

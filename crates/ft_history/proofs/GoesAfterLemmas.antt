@@ -28,8 +28,8 @@ use Rattle.ft_history.specs.declared.progress.ThreadProgress.{ThreadProgress}
 use Rattle.ft_history.specs.declared.writers.LastWrites.{LastWrites}
 use Rattle.ft_history.specs.declared.state.State.{State}
 use Rattle.ft_history.specs.Internal.Accounts.{IsAccount, AreOfKind}
-use Rattle.ft_history.specs.Internal.States.{IsAskable, world_before, after_one, IsProgress, AreHandsOf, IsLast}
-use Rattle.ft_history.specs.Internal.Steps.{IsState, GoesAfter, HoldsFirst, BreaksFirst, FindsLate, HoldsLate, Finds}
+use Rattle.ft_history.specs.Internal.States.{IsAskable, world_before, after_one, IsProgress, AreHandsOf, AreLastWrites}
+use Rattle.ft_history.specs.Internal.Steps.{IsState, GoesAfter, HoldsFirst, BreaksFirst, FindsLate, HoldsLate, FindsBroken}
 use Rattle.ft_history.proofs.Places.{writes_next, count_next, world_at-before}
 use Rattle.ft_history.proofs.Judged.{holds_more}
 use Rattle.ft_history.proofs.ScriptLemmas.{call_of_thread, calls_of_thread, is_thread, named_within, no_calls}
@@ -178,15 +178,15 @@ module _ (script : ScriptParts) (is_script : IsScript script) (entries : List En
         ] refl in
         subst (λ n. AreHandsOf script entry.thread n after.hands) (sym goes.made) next
 
-    last_after : (container : ℕ) (last : LastWrites) → slice_get new.containers.items container ≡ Some last → IsLast entries (place + 1) container last
+    last_after : (container : ℕ) (last : LastWrites) → slice_get new.containers.items container ≡ Some last → AreLastWrites entries (place + 1) container last
     last_after container last here =
         let within : container < length old.containers.items = omega (arith, slice_get_within new.containers.items container last here, goes.containers) in
         let was : LastWrites = get_or old.containers.items container last in
-        let old_last : IsLast entries place container was = is_state.lasts container was (slice_get-get_or old.containers.items container last within) in
+        let old_last : AreLastWrites entries place container was = is_state.lasts container was (slice_get-get_or old.containers.items container last within) in
         let is : last ≡ cond (entry.wrote && names container entry.call) (after_one was entry.thread place) was = sym (get_or_from_slice_get new.containers.items container last last here) ∙ goes.lasts container last in
-        elim (entry.wrote && names container entry.call) as (λ b. (entry.wrote && names container entry.call) ≡ b → last ≡ cond b (after_one was entry.thread place) was → IsLast entries (place + 1) container last) [
-          | true ↦ λ both same. let parts = and_parts entry.wrote (names container entry.call) both in subst (IsLast entries (place + 1) container) (sym same) (last_after_write entries place container entry at was old_last parts.0 parts.1)
-          | false ↦ λ calm same. subst (IsLast entries (place + 1) container) (sym same) (last_after_other entries place container entry at was old_last calm)
+        elim (entry.wrote && names container entry.call) as (λ b. (entry.wrote && names container entry.call) ≡ b → last ≡ cond b (after_one was entry.thread place) was → AreLastWrites entries (place + 1) container last) [
+          | true ↦ λ both same. let parts = and_parts entry.wrote (names container entry.call) both in subst (AreLastWrites entries (place + 1) container) (sym same) (last_after_write entries place container entry at was old_last parts.0 parts.1)
+          | false ↦ λ calm same. subst (AreLastWrites entries (place + 1) container) (sym same) (last_after_other entries place container entry at was old_last calm)
         ] refl is
 
     pub state_after : IsState script entries (place + 1) new
@@ -258,7 +258,7 @@ module _ (s : Storage) (script : ScriptParts) (entries : List Entry) (place : �
   pub holds_four : HoldsFirst s script entries place entry 3 → said ≡ true → HoldsFirst s script entries place entry 4
   holds_four first on = holds_more s script entries place entry 3 rule.Reply refl first (right_there (goes.right.0 on))
 
-pub finds_all : (s : Storage) (script : ScriptParts) (entries : List Entry) (place : ℕ) (entry : Entry) (found : Option Rule) → HoldsFirst s script entries place entry 4 → FindsLate s script entries place entry found → Finds s script entries place entry found
+pub finds_all : (s : Storage) (script : ScriptParts) (entries : List Entry) (place : ℕ) (entry : Entry) (found : Option Rule) → HoldsFirst s script entries place entry 4 → FindsLate s script entries place entry found → FindsBroken s script entries place entry found
 finds_all s script entries place entry (Some r) first late = late first
 finds_all s script entries place entry None first late = all
   where

@@ -10,7 +10,7 @@ use Rattle.ft_model.specs.declared.entry.Entry.{Entry}
 use Rattle.ft_model.specs.Histories.{disturbs, names}
 use Rattle.ft_history.specs.declared.writers.LastWrites.{LastWrites}
 use Rattle.ft_history.specs.declared.writers.Write.{Write}
-use Rattle.ft_history.specs.Internal.States.{other_than, after_one, is_from, is_written_since, IsLast}
+use Rattle.ft_history.specs.Internal.States.{other_than, after_one, is_from, is_written_since, AreLastWrites}
 use Rattle.ft_history.proofs.Places.{take_next}
 
 or_false : (b : Bool) → (b || false) ≡ b
@@ -108,9 +108,9 @@ other_low thread place (Some last) other last_before other_before =
       | false ↦ omega arith
     ]
 
-module _ (entries : List Entry) (place container : ℕ) (entry : Entry) (at : slice_get entries place ≡ Some entry) (writes : LastWrites) (so_far : IsLast entries place container writes) where
+module _ (entries : List Entry) (place container : ℕ) (entry : Entry) (at : slice_get entries place ≡ Some entry) (writes : LastWrites) (so_far : AreLastWrites entries place container writes) where
   -- one place further, where the entry doesn't write on the container
-  pub last_after_other : (entry.wrote && names container entry.call) ≡ false → IsLast entries (place + 1) container writes
+  pub last_after_other : (entry.wrote && names container entry.call) ≡ false → AreLastWrites entries (place + 1) container writes
   last_after_other calm =
       record {
         since = λ thread since.
@@ -130,7 +130,7 @@ module _ (entries : List Entry) (place container : ℕ) (entry : Entry) (at : sl
           ] calm
 
   -- one place further, where it does
-  pub last_after_write : entry.wrote ≡ true → names container entry.call ≡ true → IsLast entries (place + 1) container (after_one writes entry.thread place)
+  pub last_after_write : entry.wrote ≡ true → names container entry.call ≡ true → AreLastWrites entries (place + 1) container (after_one writes entry.thread place)
   last_after_write wrote named =
       record {
         since = λ thread since.
@@ -147,7 +147,7 @@ module _ (entries : List Entry) (place container : ℕ) (entry : Entry) (at : sl
       disturbed_by thread = ap (λ w. (w && not (eqb entry.thread thread)) && (names container entry.call || false)) wrote ∙ ap (λ b. not (eqb entry.thread thread) && (b || false)) named ∙ and_true _
 
 -- at the start nothing is written
-pub last_at_start : (entries : List Entry) (container : ℕ) (writes : LastWrites) → writes.last ≡ None → writes.other ≡ None → IsLast entries 0 container writes
+pub last_at_start : (entries : List Entry) (container : ℕ) (writes : LastWrites) → writes.last ≡ None → writes.other ≡ None → AreLastWrites entries 0 container writes
 last_at_start entries container writes none other =
     record {
       since = λ thread since. ap (list_any (disturbs thread (container ∷ []))) (drop_all since [] (omega arith)) ∙ sym (rw none refl);

@@ -22,7 +22,7 @@ use Rattle.ft_model.specs.declared.call.Containers.{Containers}
 use Rattle.ft_model.specs.Calls.{container_list}
 use Rattle.ft_history.specs.declared.progress.ThreadProgress.{ThreadProgress}
 use Rattle.ft_history.specs.declared.writers.LastWrites.{LastWrites}
-use Rattle.ft_history.specs.Internal.States.{Begun, is_used, AreUsers, all_begun, after_begun, inner_begun, section_of, IfInnerBegun, IfEndsBegun, IsOpen, IsProgress, IsLast, is_written_since, is_written_on, IsKeptSince}
+use Rattle.ft_history.specs.Internal.States.{BegunSection, is_used, AreUsers, all_begun, after_begun, inner_begun, section_of, IfInnerBegun, IfEndsBegun, IsOpen, IsProgress, AreLastWrites, is_written_since, is_written_on, IsKeptSince}
 use Rattle.ft_history.proofs.ProgressLemmas.{sections_alike}
 use Rattle.ft_history.proofs.LastWriteLemmas.{any_of_containers}
 
@@ -36,7 +36,7 @@ any_alike_on p q (x ∷ xs) same = λ i. same.0 i || any_alike_on p q xs same.1 
 
 -- ---- marks
 
-inner_alike : (sections : List Begun) → innermost (map section_of sections) ≡ inner_begun sections
+inner_alike : (sections : List BegunSection) → innermost (map section_of sections) ≡ inner_begun sections
 inner_alike [] = refl
 inner_alike (section ∷ sections) = refl
 
@@ -56,12 +56,12 @@ marked_iff script entries place entry progress users own inner r are_users so_fa
 
 -- ---- ends
 
-inner_iff : (sections : List Begun) (R Q : Begun → Type 0) (P : Section → Type 0) → AllByRecursion R sections → ((section : Begun) → R section → Q section ↔ P (section_of section))
+inner_iff : (sections : List BegunSection) (R Q : BegunSection → Type 0) (P : Section → Type 0) → AllByRecursion R sections → ((section : BegunSection) → R section → Q section ↔ P (section_of section))
     → IfInnerBegun sections Q ↔ IfInnermost (map section_of sections) P
 inner_iff [] R Q P each same = (λ _. tt, λ _. tt)
 inner_iff (section ∷ sections) R Q P each same = same section each.0
 
-ends_iff : (sections : List Begun) (called : Call) (R Q : Begun → Type 0) (P : Section → Type 0) → AllByRecursion R sections → ((section : Begun) → R section → Q section ↔ P (section_of section))
+ends_iff : (sections : List BegunSection) (called : Call) (R Q : BegunSection → Type 0) (P : Section → Type 0) → AllByRecursion R sections → ((section : BegunSection) → R section → Q section ↔ P (section_of section))
     → IfEndsBegun sections called Q ↔ IfEnds (map section_of sections) called P
 ends_iff sections call.End R Q P each same = inner_iff sections R Q P each same
 ends_iff sections (call.Dict container dict_call) R Q P each same = (λ _. tt, λ _. tt)
@@ -73,7 +73,7 @@ ends_iff sections call.Quiesce R Q P each same = (λ _. tt, λ _. tt)
 
 -- ---- kept
 
-module _ (script : ScriptParts) (entries : List Entry) (place : ℕ) (thread : ℕ) (containers : List LastWrites) (long : length containers ≡ length script.containers) (lasts : (container : ℕ) (last : LastWrites) → slice_get containers container ≡ Some last → IsLast entries place container last) where
+module _ (script : ScriptParts) (entries : List Entry) (place : ℕ) (thread : ℕ) (containers : List LastWrites) (long : length containers ≡ length script.containers) (lasts : (container : ℕ) (last : LastWrites) → slice_get containers container ≡ Some last → AreLastWrites entries place container last) where
   written_alike : (since container : ℕ) → container < length script.containers → list_any (disturbs thread (container ∷ [])) (drop since (take place entries)) ≡ is_written_on containers thread since container
   written_alike since container low =
       elim (slice_get_cases containers container).1 [
@@ -81,13 +81,13 @@ module _ (script : ScriptParts) (entries : List Entry) (place : ℕ) (thread : �
         | inr past ↦ absurd (omega (arith, past.0))
       ]
 
-  disturbed_alike : (section : Begun) → All (λ container. container < length script.containers) section.containers → is_disturbed entries thread place (section_of section) ≡ list_any (is_written_on containers thread (section.begun + 1)) section.containers
+  disturbed_alike : (section : BegunSection) → All (λ container. container < length script.containers) section.containers → is_disturbed entries thread place (section_of section) ≡ list_any (is_written_on containers thread (section.begun + 1)) section.containers
   disturbed_alike section within =
       ap (list_any (disturbs thread section.containers)) (between_is entries (section.begun + 1) place) ∙ any_of_containers (drop (section.begun + 1) (take place entries)) thread section.containers
       ∙ any_alike_on (λ container. list_any (disturbs thread (container ∷ [])) (drop (section.begun + 1) (take place entries))) (is_written_on containers thread (section.begun + 1)) section.containers
       (recursion_from_All (λ container. list_any (disturbs thread (container ∷ [])) (drop (section.begun + 1) (take place entries)) ≡ is_written_on containers thread (section.begun + 1) container) section.containers (λ k d low. written_alike (section.begun + 1) _ (within k d low)))
 
-  kept_alike : (said : Reply) (section : Begun) → IsOpen script entries thread place section → IsKeptSince containers thread section said ↔ IsKeptBy entries thread place (section_of section) said
+  kept_alike : (said : Reply) (section : BegunSection) → IsOpen script entries thread place section → IsKeptSince containers thread section said ↔ IsKeptBy entries thread place (section_of section) said
   kept_alike reply.Kept section is_open = (λ calm. disturbed_alike section is_open.containers ∙ calm, λ calm. sym (disturbed_alike section is_open.containers) ∙ calm)
   kept_alike reply.Done section is_open = (λ _. tt, λ _. tt)
   kept_alike (reply.Value value) section is_open = (λ _. tt, λ _. tt)
@@ -103,7 +103,7 @@ module _ (script : ScriptParts) (entries : List Entry) (place : ℕ) (thread : �
   kept_alike (reply.Raised raise) section is_open = (λ _. tt, λ _. tt)
 
 pub kept_iff : (script : ScriptParts) (entries : List Entry) (place : ℕ) (entry : Entry) (progress : ThreadProgress) (containers : List LastWrites) (r : Bool)
-    → length containers ≡ length script.containers → ((container : ℕ) (last : LastWrites) → slice_get containers container ≡ Some last → IsLast entries place container last) → IsProgress script entries entry.thread place progress
+    → length containers ≡ length script.containers → ((container : ℕ) (last : LastWrites) → slice_get containers container ≡ Some last → AreLastWrites entries place container last) → IsProgress script entries entry.thread place progress
     → IsTrue r ↔ IfEndsBegun (all_begun progress.sections.items) entry.call (λ section. IsKeptSince containers entry.thread section entry.reply) → IsTrue r ↔ IsKept entries place entry
 kept_iff script entries place entry progress containers r long lasts so_far is =
     let ends = ends_iff (all_begun progress.sections.items) entry.call (IsOpen script entries entry.thread place) (λ section. IsKeptSince containers entry.thread section entry.reply) (λ section. IsKeptBy entries entry.thread place section entry.reply) so_far.«open» (kept_alike script entries place entry.thread containers long lasts entry.reply) in
@@ -113,14 +113,14 @@ kept_iff script entries place entry progress containers r long lasts so_far is =
 -- ---- counted
 
 module _ (script : ScriptParts) (entries : List Entry) (place thread marks : ℕ) (count : marks ≡ count_by (is_marked thread) (take place entries)) where
-  marks_alike : (section : Begun) → IsOpen script entries thread place section → marks_between entries thread place (section_of section) ≡ marks - section.marks
+  marks_alike : (section : BegunSection) → IsOpen script entries thread place section → marks_between entries thread place (section_of section) ≡ marks - section.marks
   marks_alike section is_open =
       let start = section.begun + 1 in
       let part : count_by (is_marked thread) (between start place entries) ≡ count_by (is_marked thread) (drop start (take place entries)) = ap (count_by (is_marked thread)) (between_is entries start place) in
       let front : count_by (is_marked thread) (take start (take place entries)) ≡ section.marks = ap (count_by (is_marked thread)) (take-take start place entries (omega (arith, is_open.before))) ∙ sym is_open.marks in
       omega (arith, sum_by-take-drop (λ e. cond (is_marked thread e) 1 0) (take place entries) start)
 
-  counted_alike : (said : Reply) (section : Begun) → IsOpen script entries thread place section → IsCountedAs (marks - section.marks) said ↔ IsCountedBy entries thread place (section_of section) said
+  counted_alike : (said : Reply) (section : BegunSection) → IsOpen script entries thread place section → IsCountedAs (marks - section.marks) said ↔ IsCountedBy entries thread place (section_of section) said
   counted_alike reply.Kept section is_open = (λ none. marks_alike section is_open ∙ none, λ none. sym (marks_alike section is_open) ∙ none)
   counted_alike (reply.Suspended n) section is_open = (λ some. (some.0, marks_alike section is_open ∙ some.1), λ some. (some.0, sym (marks_alike section is_open) ∙ some.1))
   counted_alike reply.Done section is_open = (λ _. tt, λ _. tt)

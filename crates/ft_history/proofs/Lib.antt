@@ -37,3 +37,4 @@ pub mod UpdatedDicts
 pub mod VerdictLemmas
 pub mod WriteNumbers
 pub mod FewEntries
+pub mod EnoughTables

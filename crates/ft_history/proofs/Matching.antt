@@ -20,7 +20,7 @@ use Rattle.ft_model.specs.Calls.{containers_of}
 use Rattle.ft_model.specs.Histories.{Section, after_section, after_numbered, sections_at, entries_of, calls_of, IsKept}
 use Rattle.ft_model.specs.Judging.{IsNext}
 use Rattle.ft_model.specs.Scripts.{AreNested, IsScript}
-use Rattle.ft_history.specs.Laws.{LeadsTo, calls_in, Matches, IsBegun, IsUntouched}
+use Rattle.ft_history.specs.Laws.{LeadsTo, calls_in, Matches, IsBegunBefore, IsUntouchedBetween}
 use Rattle.ft_history.proofs.Places.{take_next, drop_here, filter_next, by_places}
 use Rattle.ft_history.proofs.ScriptLemmas.{is_thread, calls_of_thread}
 use Rattle.ft_history.proofs.Sections.{sections_next, begun_longer, untouched}
@@ -117,7 +117,7 @@ one_match entries one other ended begin begin' end first second =
     ap begun_first (sym (section_ended entries one ended begin end first) ∙ section_ended entries other ended begin' end second)
 
 -- between its `begin` and its `end` a section that is kept is untouched
-pub matched_untouched : (entries : List Entry) (begun ended : ℕ) (begin end : Entry) → Matches entries begun ended begin end → end.reply ≡ reply.Kept → IsKept entries ended end → IsUntouched entries end.thread begun ended (containers_of begin.call)
+pub matched_untouched : (entries : List Entry) (begun ended : ℕ) (begin end : Entry) → Matches entries begun ended begin end → end.reply ≡ reply.Kept → IsKept entries ended end → IsUntouchedBetween entries end.thread begun ended (containers_of begin.call)
 matched_untouched entries begun ended begin end is kept right =
     let section : Section = record { containers = containers_of begin.call; begun = begun } in
     untouched entries end.thread ended section (rw (section_ended entries begun ended begin end is, is.ends, kept) at right)
@@ -126,7 +126,7 @@ matched_untouched entries begun ended begin end is kept right =
 
 -- a section is open since its `begin`, and the calls after that, up to a place, lead from none to that many open sections inside it
 record IsSince (entries : List Entry) (thread place depth : ℕ) (section : Section) : Type 0 where
-  begun : IsBegun entries thread place section
+  begun : IsBegunBefore entries thread place section
   leads : LeadsTo 0 depth (calls_in entries thread (section.begun + 1) place)
 
 -- of open sections, innermost first, from that many inside the first of them on

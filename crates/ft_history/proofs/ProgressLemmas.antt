@@ -15,13 +15,13 @@ use Rattle.ft_model.specs.Worlds.{start_hands}
 use Rattle.ft_model.specs.Answers.{answer, is_memory}
 use Rattle.ft_model.specs.Histories.{entries_of, cursors_of, after_entry, hands_at, is_marked, sections_at, after_section, world_at, writes}
 use Rattle.ft_history.specs.declared.progress.ThreadProgress.{ThreadProgress}
-use Rattle.ft_history.specs.Internal.States.{world_before, Begun, all_begun, after_begun, section_of, IsOpen, IsProgress}
+use Rattle.ft_history.specs.Internal.States.{world_before, BegunSection, all_begun, after_begun, section_of, IsOpen, IsProgress}
 use Rattle.ft_history.proofs.Places.{take_next, filter_next, world_at-before}
 use Rattle.ft_history.proofs.Sections.{sections_next}
 
 -- ---- open sections
 
-pub sections_alike : (place marks : ℕ) (called : Call) (sections : List Begun) → map section_of (after_begun place marks called sections) ≡ after_section place called (map section_of sections)
+pub sections_alike : (place marks : ℕ) (called : Call) (sections : List BegunSection) → map section_of (after_begun place marks called sections) ≡ after_section place called (map section_of sections)
 sections_alike place marks (call.Begin first second) sections = refl
 sections_alike place marks call.End sections = sym (drop-map section_of 1 sections)
 sections_alike place marks (call.Dict container dict_call) sections = refl
@@ -31,11 +31,11 @@ sections_alike place marks (call.Next cursor) sections = refl
 sections_alike place marks call.Quiesce sections = refl
 
 module _ (script : ScriptParts) (entries : List Entry) (thread place : ℕ) where
-  still_open : (sections : List Begun) → AllByRecursion (IsOpen script entries thread place) sections → AllByRecursion (IsOpen script entries thread (place + 1)) sections
+  still_open : (sections : List BegunSection) → AllByRecursion (IsOpen script entries thread place) sections → AllByRecursion (IsOpen script entries thread (place + 1)) sections
   still_open [] is_open = tt
   still_open (section ∷ sections) is_open = (record { before = omega (arith, is_open.0.before); marks = is_open.0.marks; containers = is_open.0.containers }, still_open sections is_open.1)
 
-  open_after : (marks : ℕ) (called : Call) (sections : List Begun) → marks ≡ count_by (is_marked thread) (take (place + 1) entries) → All (λ which. which < length script.containers) (containers_of called)
+  open_after : (marks : ℕ) (called : Call) (sections : List BegunSection) → marks ≡ count_by (is_marked thread) (take (place + 1) entries) → All (λ which. which < length script.containers) (containers_of called)
       → AllByRecursion (IsOpen script entries thread place) sections → AllByRecursion (IsOpen script entries thread (place + 1)) (after_begun place marks called sections)
   open_after marks (call.Begin first second) sections count containers is_open = (record { before = omega arith; marks = count; containers = containers }, still_open sections is_open)
   open_after marks call.End [] count containers is_open = tt

@@ -13,7 +13,7 @@ use Rattle.ft_model.specs.declared.call.Call.TheVariants as call
 use Rattle.ft_model.specs.declared.entry.Entry.{Entry}
 use Rattle.ft_model.specs.Calls.{containers_of}
 use Rattle.ft_model.specs.Histories.{Section, after_section, after_numbered, sections_at, disturbs, is_disturbed}
-use Rattle.ft_history.specs.Laws.{IsUntouched, IsBegun}
+use Rattle.ft_history.specs.Laws.{IsUntouchedBetween, IsBegunBefore}
 use Rattle.ft_history.proofs.Places.{take_next, by_places}
 
 -- ---- one entry further
@@ -33,9 +33,9 @@ sections_next entries thread place entry at =
 -- ---- begun
 
 abbrev AreBegun : List Entry → ℕ → ℕ → List Section → Type 0
-AreBegun entries thread place sections = AllByRecursion (IsBegun entries thread place) sections
+AreBegun entries thread place sections = AllByRecursion (IsBegunBefore entries thread place) sections
 
-pub begun_longer : (entries : List Entry) (thread place : ℕ) (section : Section) → IsBegun entries thread place section → IsBegun entries thread (place + 1) section
+pub begun_longer : (entries : List Entry) (thread place : ℕ) (section : Section) → IsBegunBefore entries thread place section → IsBegunBefore entries thread (place + 1) section
 begun_longer entries thread place section is =
     record { before = omega (arith, is.before); entry = is.entry; at = is.at; mine = is.mine; first = is.first; second = is.second; call = is.call; containers = is.containers }
 
@@ -70,7 +70,7 @@ any_contained containers named container held written =
     list_any_at (λ o. list_any (λ n. n == o) named) containers held.0 container held.1
     (ap (λ o. list_any (λ n. n == o) named) held.2 ∙ list_any_at (λ n. n == container) named written.0 container written.1 (ap (λ n. n == container) written.2 ∙ eq-eqb container container refl))
 
-pub untouched : (entries : List Entry) (thread ended : ℕ) (section : Section) → is_disturbed entries thread ended section ≡ false → IsUntouched entries thread section.begun ended section.containers
+pub untouched : (entries : List Entry) (thread ended : ℕ) (section : Section) → is_disturbed entries thread ended section ≡ false → IsUntouchedBetween entries thread section.begun ended section.containers
 untouched entries thread ended section calm place entry container after before at wrote other held written =
     let low : place < length entries = slice_get_within entries place entry at in
     let start = section.begun + 1 in

@@ -16,7 +16,7 @@ use Rattle.ft_model.specs.Scripts.{IsDeclaredAs}
 use Rattle.ft_model.specs.Worlds.{start_world, start_hands, empty_content, kind_of, cursor_at, cursor_kind, container_of}
 use Rattle.ft_model.specs.Histories.{calls_of}
 use Rattle.ft_history.specs.declared.progress.ThreadProgress.{ThreadProgress}
-use Rattle.ft_history.specs.Internal.States.{IsFresh, IsProgress, AreHandsOf, IsOpen, all_begun, section_of}
+use Rattle.ft_history.specs.Internal.States.{IsFreshProgress, IsProgress, AreHandsOf, IsOpen, all_begun, section_of}
 
 pub kinds_at_start : (containers : List Declaration) → map kind_of (start_world containers) ≡ map (λ (c : Declaration). c.kind) containers
 kinds_at_start [] = refl
@@ -34,7 +34,7 @@ no_cursor n number =
       | inr past ↦ get_or_past (start_hands n) number None (omega (arith, length-replicate n (let none : Option Cursor = None in none)))
     ]
 
-module _ (script : ScriptParts) (entries : List Entry) (thread : ℕ) (found : Thread) (progress : ThreadProgress) (at : slice_get script.threads thread ≡ Some found) (fresh : IsFresh found progress) where
+module _ (script : ScriptParts) (entries : List Entry) (thread : ℕ) (found : Thread) (progress : ThreadProgress) (at : slice_get script.threads thread ≡ Some found) (fresh : IsFreshProgress found progress) where
   pub progress_at_start : IsProgress script entries thread 0 progress
   progress_at_start =
       let none : all_begun progress.sections.items ≡ [] = ap all_begun fresh.sections in

@@ -14,12 +14,12 @@ use Rattle.ft_model.specs.declared.script.ScriptParts.{ScriptParts}
 use Rattle.ft_model.specs.Histories.{entries_of, IsLegal}
 use Rattle.ft_model.specs.Judging.{HoldsAt, HoldsAtEnd, IsComplete, IsFirstBroken, rank_of}
 use Rattle.ft_history.specs.declared.state.State.{State}
-use Rattle.ft_history.specs.Internal.Steps.{IsState, IsUnbrokenBefore, Finds, HaveMadeAll}
+use Rattle.ft_history.specs.Internal.Steps.{IsState, IsUnbrokenBefore, FindsBroken, HaveMadeAll}
 use Rattle.ft_history.proofs.Unbroken.{legal_of_unbroken}
 
 module _ (s : Storage) (script : ScriptParts) (entries : List Entry) (place : ℕ) (low : place < length entries) (unbroken : IsUnbrokenBefore s script entries place) where
   -- nothing is found at a place, and nothing is broken before the next
-  pub goes_on : ((entry : Entry) → slice_get entries place ≡ Some entry → Finds s script entries place entry None) → IsUnbrokenBefore s script entries (place + 1)
+  pub goes_on : ((entry : Entry) → slice_get entries place ≡ Some entry → FindsBroken s script entries place entry None) → IsUnbrokenBefore s script entries (place + 1)
   goes_on finds before r below =
       elim (cases_lt before place) [
         | inl earlier ↦ unbroken before r earlier
@@ -29,7 +29,7 @@ module _ (s : Storage) (script : ScriptParts) (entries : List Entry) (place : �
       ]
 
   -- what is found is the first that is broken
-  pub first_broken : (r : Rule) → ((entry : Entry) → slice_get entries place ≡ Some entry → Finds s script entries place entry (Some r)) → IsFirstBroken s script entries place r
+  pub first_broken : (r : Rule) → ((entry : Entry) → slice_get entries place ≡ Some entry → FindsBroken s script entries place entry (Some r)) → IsFirstBroken s script entries place r
   first_broken r finds =
       record {
         before = record { earlier = unbroken; here = λ other rank. record { entry = λ entry at. (finds entry at).before other rank; after = λ end. absurd (omega arith) } };

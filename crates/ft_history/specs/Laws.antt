@@ -8,8 +8,8 @@ use Rattle.ft_model.specs.Calls.{containers_of}
 use Rattle.ft_model.specs.Histories.{Section, entries_of}
 
 -- strictly between the two places no other thread's write names one of the containers (C API, critical sections)
-abbrev pub IsUntouched : List Entry → ℕ → ℕ → ℕ → List ℕ → Type 0
-IsUntouched entries thread begun ended containers =
+abbrev pub IsUntouchedBetween : List Entry → ℕ → ℕ → ℕ → List ℕ → Type 0
+IsUntouchedBetween entries thread begun ended containers =
     (place : ℕ) (entry : Entry) (container : ℕ) → begun < place → place < ended → slice_get entries place ≡ Some entry
     → entry.wrote ≡ true → entry.thread ≢ thread → Contains containers container
     → ¬ (Contains (containers_of entry.call) container)
@@ -44,7 +44,7 @@ pub record Matches (entries : List Entry) (begun ended : ℕ) (begin end : Entry
   pub inner : LeadsTo 0 0 (calls_in entries end.thread (begun + 1) ended)
 
 -- the section was begun by a `begin` of the thread on its containers, before the place (profile)
-pub record IsBegun (entries : List Entry) (thread place : ℕ) (section : Section) : Type 0 where
+pub record IsBegunBefore (entries : List Entry) (thread place : ℕ) (section : Section) : Type 0 where
   pub before : section.begun < place
   pub entry : Entry
   pub at : slice_get entries section.begun ≡ Some entry

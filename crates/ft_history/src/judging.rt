@@ -15,7 +15,7 @@ ghost use Rattle.ft_history.specs.declared.progress.ThreadProgress.{ThreadProgre
 ghost use Rattle.ft_history.specs.Verdicts.{IsVerdict};
 ghost use Rattle.ft_history.specs.declared.verdict.Verdict.TheVariants as verdict;
 ghost use Rattle.ft_history.specs.Internal.States.{AreUsers, IsAskable};
-ghost use Rattle.ft_history.specs.Internal.Steps.{IsState, IsUnbrokenBefore, FindsEarly, FindsLate, Finds, GoesAfter, HaveMadeAll};
+ghost use Rattle.ft_history.specs.Internal.Steps.{IsState, IsUnbrokenBefore, FindsEarly, FindsLate, FindsBroken, GoesAfter, HaveMadeAll};
 
 use crate::account::note_taking;
 use crate::memory::is_earned;
@@ -220,7 +220,7 @@ fn step(
     requires few { length entries.now < 2 ^ 63 }
     requires calls { place ≤ 500000 }
     requires state { IsState parts.now entries.now place state.old }
-    ensures found { IfOk result (λ found. (entry : Entry) → slice_get entries.now place ≡ Some entry → Finds storage parts.now entries.now place entry found) }
+    ensures found { IfOk result (λ found. (entry : Entry) → slice_get entries.now place ≡ Some entry → FindsBroken storage parts.now entries.now place entry found) }
     ensures state { IfOk result (λ found. IfNone found (IsState parts.now entries.now (place + 1) state.new)) }
 {
     let entry = &entries[place];

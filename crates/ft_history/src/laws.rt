@@ -13,7 +13,7 @@ ghost use Rattle.ft_model.specs.Calls.{containers_of};
 ghost use Rattle.ft_model.specs.Scripts.{IsScript};
 ghost use Rattle.ft_history.specs.declared.verdict.Verdict.{Verdict};
 ghost use Rattle.ft_history.specs.Verdicts.{IsVerdict};
-ghost use Rattle.ft_history.specs.Laws.{Matches, IsUntouched};
+ghost use Rattle.ft_history.specs.Laws.{Matches, IsUntouchedBetween};
 
 /// A history is legal exactly where it breaks no rule at any place.
 pub fn legal_is_unbroken()
@@ -48,7 +48,7 @@ pub fn each_end_matches_one_begin()
 /// Between an `end` that is reported kept and its `begin` no other thread's write names one of the
 /// `begin`'s containers.
 pub fn kept_sections_are_untouched()
-    ensures { (storage : Storage) (script : ScriptParts) (entries : List Entry) (begun ended : ℕ) (begin end : Entry) → IsLegal storage script entries → Matches entries begun ended begin end → end.reply ≡ Kept → IsUntouched entries end.thread begun ended (containers_of begin.call) }
+    ensures { (storage : Storage) (script : ScriptParts) (entries : List Entry) (begun ended : ℕ) (begin end : Entry) → IsLegal storage script entries → Matches entries begun ended begin end → end.reply ≡ Kept → IsUntouchedBetween entries end.thread begun ended (containers_of begin.call) }
 {}
 
 /// Of one set of entries, no two of which are alike in the order, there is one list in the order of a

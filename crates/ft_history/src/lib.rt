@@ -4,6 +4,7 @@
 
 mod account;
 mod chronicles;
+mod enough_tables;
 mod equal;
 mod judging;
 mod laws;
@@ -23,6 +24,7 @@ mod verdict;
 mod writers;
 
 pub use chronicles::{put_in_order, sorted_chronicles_are_legal};
+pub use enough_tables::enough_tables_never_run_out;
 pub use judging::{judge, judge_with_world};
 pub use laws::{
     each_end_matches_one_begin, kept_sections_are_untouched, legal_is_unbroken, one_order,

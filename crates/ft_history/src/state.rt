@@ -6,7 +6,7 @@ ghost use Rattle.ft_model.specs.Scripts.{IsScript};
 ghost use Rattle.ft_model.specs.declared.script.Thread.{Thread};
 ghost use Rattle.ft_history.specs.declared.progress.ThreadProgress.{ThreadProgress};
 ghost use Rattle.ft_history.specs.Internal.Steps.{IsState};
-ghost use Rattle.ft_history.specs.Internal.States.{IsFresh};
+ghost use Rattle.ft_history.specs.Internal.States.{IsFreshProgress};
 
 use crate::account::{TableAccount, start_account};
 use crate::progress::ThreadProgress;
@@ -47,7 +47,7 @@ pub fn start(alloc: Global, parts: &ScriptParts) -> Result<State, AllocError>
 /// No thread has made a call.
 fn start_threads(alloc: Global, threads: &[Thread]) -> Result<Vec<ThreadProgress>, AllocError>
     ensures length { IfOk result (λ all. vec_len all ≡ length threads.now) }
-    ensures fresh { IfOk result (λ all. (thread : ℕ) (found : Thread) (progress : ThreadProgress) → slice_get threads.now thread ≡ Some found → slice_get all.items thread ≡ Some progress → IsFresh found progress) }
+    ensures fresh { IfOk result (λ all. (thread : ℕ) (found : Thread) (progress : ThreadProgress) → slice_get threads.now thread ≡ Some found → slice_get all.items thread ≡ Some progress → IsFreshProgress found progress) }
 {
     let mut all = Vec::new(alloc);
     for thread in threads {

@@ -5,10 +5,10 @@ use Rattle.ft_script.specs.Drafts.{Draft}
 use Rattle.ft_script.specs.declared.fault.Fault.{Fault}
 use Rattle.ft_script.specs.declared.fault.LineError.{LineError}
 use Rattle.ft_script.specs.declared.fault.LineError.TheVariants as error
-use Rattle.ft_script.specs.Reading.{past_limit}
-use Rattle.ft_script.specs.Internal.Answers.{Fails, Reads, limit_error}
+use Rattle.ft_script.specs.ScriptLines.{past_limit}
+use Rattle.ft_script.specs.Internal.Outcomes.{Fails, GivesWithDraft, limit_error}
 
-pub limit_reported : (read : Result Call LineError) (new : Draft) (given : Result (Call × Draft) Fault) → Reads read new given → Fails (limit_error read) (past_limit given)
+pub limit_reported : (read : Result Call LineError) (new : Draft) (given : Result (Call × Draft) Fault) → GivesWithDraft read new given → Fails (limit_error read) (past_limit given)
 limit_reported (Ok called) new given same = ap past_limit same
 limit_reported (Err error.Memory) new given same = tt
 limit_reported (Err (error.Fault found)) new given same = ap past_limit same

@@ -39,10 +39,10 @@ use Rattle.ft_script.specs.Arguments.{symbol_of, index_of, key_of, value_of, con
 use Rattle.ft_script.specs.CallWords.{call_word_of, call_word_text, operation_text}
 use Rattle.ft_script.specs.Drafts.{◌>>=◌, container_place, draft_at, text_place}
 use Rattle.ft_script.specs.Forms.{IsArgumentOf, call_form}
-use Rattle.ft_script.specs.Reading.{dict_call, list_call, set_call, call_at, container_call, call_of, call_in}
+use Rattle.ft_script.specs.ScriptLines.{dict_call, list_call, set_call, call_at, container_call, call_of, call_in}
 use Rattle.ft_script.specs.Texts.{quoted, key_text, value_text, container_name, cursor_name, argument_text, call_words}
 use Rattle.ft_script.specs.Transcripts.{IsWideKey, IsWideValue, IsWideArgument, IsWideCall}
-use Rattle.ft_script.specs.Words.{is_wide, is_string, text_of}
+use Rattle.ft_script.specs.LineWords.{is_wide, is_string, text_of}
 use Rattle.ft_script.proofs.PartTexts.{BeginsLow, BeginsShown, container_word, signed_word, index_signed, bytes_same, bytes_differ, position_at, text_place_at, numbers_are_no_strings, numbers_are_not_none, key_is_cut, value_is_cut, key_begins, value_begins}
 use Rattle.ft_script.proofs.TokenTexts.{IsCut, word_is_cut, text_of_quoted}
 

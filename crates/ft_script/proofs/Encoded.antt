@@ -10,8 +10,8 @@ use Rattle.std.proofs.lemmas.Str.{IsCharBoundary-after_ascii, IsCharBoundary-bef
 use Rattle.ft_model.specs.Names.{is_text_byte}
 use Rattle.ft_script.specs.declared.lines.Place.{Place}
 use Rattle.ft_script.specs.declared.lines.Place.TheVariants as place
-use Rattle.ft_script.specs.Lines.{ends_thread, first_word, is_escape, is_plain, is_word, joined, lines_of, with_first, words_from, words_of}
-use Rattle.ft_script.specs.Words.{is_string, text_from, text_of, unescaped}
+use Rattle.ft_script.specs.Lines.{ends_thread, first_word, is_escape, is_plain, is_word, byte_joined, lines_of, with_first, words_from, words_of}
+use Rattle.ft_script.specs.LineWords.{is_string, text_from, text_of, unescaped}
 use Rattle.ft_script.proofs.Kept.{AreGoodWords}
 
 -- ---- cuts at a byte of ASCII
@@ -121,7 +121,7 @@ Good place.Ended front [] = Unit {0}
 Good place.Ended front (word ∷ words) = AreGoodWords words
 
 abbrev after : Place → ℕ → List ℕ → Option Place → Option (List (List ℕ))
-after at b bytes to = elim to [ None ↦ None | Some next ↦ option_map (joined at b next) (words_from next bytes) ]
+after at b bytes to = elim to [ None ↦ None | Some next ↦ option_map (byte_joined at b next) (words_from next bytes) ]
 
 string_begins : (b : ℕ) (words : List (List ℕ)) → Good place.String [] words → AreGoodWords (with_first b words)
 unfolding text_of

@@ -10,11 +10,11 @@ use Rattle.ft_script.specs.declared.fault.Fault.{Fault}
 use Rattle.ft_script.specs.declared.fault.LineError.{LineError}
 use Rattle.ft_script.specs.declared.fault.LineError.TheVariants as error
 use Rattle.ft_script.specs.Internal.Candidates.{entry_of, content_of}
-use Rattle.ft_script.specs.Internal.Answers.{Fails}
+use Rattle.ft_script.specs.Internal.Outcomes.{Fails}
 use Rattle.ft_script.specs.Internal.Readers.{NoEntry, NoContent, IfFault, IsLine, AddsNothing, but_feed, refused}
 use Rattle.ft_script.specs.Texts.{entry_line}
 use Rattle.ft_script.specs.Internal.Tokens.{tokens_of, before_word}
-use Rattle.ft_script.specs.Transcripts.{content_line, IsReadable, IsWhole, IsWideCall, IsContentLine}
+use Rattle.ft_script.specs.Transcripts.{content_line, IsReadable, IsContentReply, IsWideCall, IsContentLine}
 use Rattle.ft_script.proofs.EntryTexts.{entry_adds_nothing}
 use Rattle.ft_script.proofs.LineCases.{readable_by, entry_fits, no_entry_by_fault, no_entry_by_other, content_fits, content_by, no_content_by_fault, no_content_by_other}
 
@@ -42,7 +42,7 @@ no_entry_failed script line tokens error.Memory rule are fails = tt
 no_entry_failed script line tokens (error.Fault found) rule are fails = no_entry_by_fault script line found rule (ap (entry_of script) (sym are) ∙ fails)
 
 abbrev Prints : ScriptParts → ℕ → Reply → List ℕ → Bool → Type 0
-Prints script container content line b = IsTrue b ↔ (IsWhole content × (line ≡ content_line script container content))
+Prints script container content line b = IsTrue b ↔ (IsContentReply content × (line ≡ content_line script container content))
 
 pub content_checked : (script : ScriptParts) (line : List ℕ) (tokens : List (List ℕ)) (container : ℕ) (content : Reply) (b : Bool) → IsScript script → tokens ≡ tokens_of line → IsLine line → content_of script tokens ≡ Ok (container, content) → Prints script container content line b →
     MatchBool b (IsContentLine script (but_feed line)) (NoContent script line)

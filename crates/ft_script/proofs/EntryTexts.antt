@@ -22,11 +22,11 @@ use Rattle.ft_model.specs.Scripts.{IsScript, IsThread}
 use Rattle.ft_script.specs.declared.fault.Fault.TheVariants as fault
 use Rattle.ft_script.specs.Internal.Candidates.{thread_call, thread_of, numbered_of, stamp_of, waited_of, reply_of, entry_of, content_of}
 use Rattle.ft_script.specs.Drafts.{or_fault, draft_at, text_place, thread_place}
-use Rattle.ft_script.specs.Reading.{call_in}
+use Rattle.ft_script.specs.ScriptLines.{call_in}
 use Rattle.ft_script.specs.Internal.Readers.{AddsNothing}
-use Rattle.ft_script.specs.Texts.{container_name, thread_name, call_words, reply_text, place_word, stamp_word, mark_words, entry_words, entry_line}
+use Rattle.ft_script.specs.Texts.{container_name, thread_name, call_words, reply_text, place_word, stamp_word, mark_words, entry_line_words, entry_line}
 use Rattle.ft_script.specs.Internal.Tokens.{tokens_of, before_word, after_word}
-use Rattle.ft_script.specs.Transcripts.{counts, content_line, IsReadable, IsWhole, IsReadableReply, IsWideReply}
+use Rattle.ft_script.specs.Transcripts.{counts, content_line, IsReadable, IsContentReply, IsReadableReply, IsWideReply}
 use Rattle.ft_script.proofs.CallTexts.{Declares, IsCallWord, words_are, call_back, container_name_at, container_place_at}
 use Rattle.ft_script.proofs.PartTexts.{BeginsLow, BeginsHigh, container_word, thread_word, dotless, decimal_parts, u64_decimal, u32_decimal, bytes_same, bytes_differ, position_at, text_place_at}
 use Rattle.ft_script.proofs.Printed.{each_after, join_with_byte-cons}
@@ -177,7 +177,7 @@ module _ (script : ScriptParts) (entry : Entry) (rule : IsScript script) (h : Is
   stamp_is_cut : IsCut (stamp_word entry) (stamp_word entry ∷ [])
   stamp_is_cut = word_is_cut (stamp_word entry) (letter_word entry.wrote entry.stamp h.stamp)
 
-  pub words_cut : IsCut (join_with_byte 32 (entry_words script entry)) (entry_tokens script entry)
+  pub words_cut : IsCut (join_with_byte 32 (entry_line_words script entry)) (entry_tokens script entry)
   words_cut =
       let said : List ℕ = reply_text script.strings entry.reply in
       let tokens : List (List ℕ) = reply_tokens script.strings entry.reply in
@@ -192,7 +192,7 @@ module _ (script : ScriptParts) (entry : Entry) (rule : IsScript script) (h : Is
       let call_tail : IsTail (each_after 32 call ++ after) (call ++ (codes "=" ∷ (tokens ++ marks))) = tail_tail (each_after 32 call) after call (codes "=" ∷ (tokens ++ marks)) (words_tail call (cuts call call_are)) equals_tail in
       let stamp_tail : IsTail ((32 ∷ stamp) ++ (each_after 32 call ++ after)) (stamp ∷ (call ++ (codes "=" ∷ (tokens ++ marks)))) = tail_tail (32 ∷ stamp) (each_after 32 call ++ after) (stamp ∷ []) (call ++ (codes "=" ∷ (tokens ++ marks))) (after_space stamp (stamp ∷ []) stamp_is_cut) call_tail in
       let whole : IsCut (place ++ ((32 ∷ stamp) ++ (each_after 32 call ++ after))) (entry_tokens script entry) = cut_tail place ((32 ∷ stamp) ++ (each_after 32 call ++ after)) (place ∷ []) (stamp ∷ (call ++ (codes "=" ∷ (tokens ++ marks)))) (place_is_cut script entry rule h.of_script.thread h.last_index) stamp_tail in
-      let text : join_with_byte 32 (entry_words script entry) ≡ place ++ ((32 ∷ stamp) ++ (each_after 32 call ++ after)) =
+      let text : join_with_byte 32 (entry_line_words script entry) ≡ place ++ ((32 ∷ stamp) ++ (each_after 32 call ++ after)) =
       join_with_byte-cons 32 place (stamp ∷ (call ++ (codes "=" ∷ said ∷ marks))) ∙ ap (λ (t : List ℕ). place ++ ((32 ∷ stamp) ++ t)) (flat_map-append (λ (word : List ℕ). 32 ∷ word) call (codes "=" ∷ said ∷ marks)) in
       subst (λ (t : List ℕ). IsCut t (entry_tokens script entry)) (sym text) whole
 
@@ -232,17 +232,17 @@ pub line_cut : (text : List ℕ) (tokens : List (List ℕ)) → IsCut text token
 line_cut text tokens h = h.cut (10 ∷ []) refl ∙ ap (λ (l : List (List ℕ)). tokens ++ l) (from_gap 10 [] refl ∙ no_bytes place.Between) ∙ append-nil tokens
 
 pub entry_read : (script : ScriptParts) (entry : Entry) → IsScript script → IsReadable script entry → entry_of script (tokens_of (entry_line script entry)) ≡ Ok entry
-entry_read script entry rule h = ap (entry_of script) (line_cut (join_with_byte 32 (entry_words script entry)) (entry_tokens script entry) (words_cut script entry rule h)) ∙ entry_back script entry rule h
+entry_read script entry rule h = ap (entry_of script) (line_cut (join_with_byte 32 (entry_line_words script entry)) (entry_tokens script entry) (words_cut script entry rule h)) ∙ entry_back script entry rule h
 
 pub entry_adds_nothing : (script : ScriptParts) (entry : Entry) (text : List ℕ) → IsScript script → IsReadable script entry → text ≡ entry_line script entry → AddsNothing script entry.thread (before_word (codes "=") (drop 2 (tokens_of text)))
 entry_adds_nothing script entry text rule h is =
     subst (λ (tokens : List (List ℕ)). AddsNothing script entry.thread (before_word (codes "=") (drop 2 tokens)))
-    (sym (ap tokens_of is ∙ line_cut (join_with_byte 32 (entry_words script entry)) (entry_tokens script entry) (words_cut script entry rule h)))
+    (sym (ap tokens_of is ∙ line_cut (join_with_byte 32 (entry_line_words script entry)) (entry_tokens script entry) (words_cut script entry rule h)))
     (adds_nothing script entry rule h)
 
 -- ---- contents
 
-whole_readable : (content : Reply) → IsWhole content → IsReadableReply false content
+whole_readable : (content : Reply) → IsContentReply content → IsReadableReply false content
 whole_readable reply.Done h = absurd h
 whole_readable (reply.Value found) h = absurd h
 whole_readable (reply.Pair first second) h = absurd h
@@ -263,7 +263,7 @@ container_form script container rule low = ap is_container_name (container_name_
 pub container_begins : (script : ScriptParts) (container : ℕ) → IsScript script → container < length script.containers → BeginsLow (container_name script container)
 container_begins script container rule low = (container_word (container_name script container) (container_form script container rule low)).1
 
-module _ (script : ScriptParts) (container : ℕ) (content : Reply) (rule : IsScript script) (low : container < length script.containers) (whole : IsWhole content) (of_script : IsReplyOf (length script.strings) content) (wide : IsWideReply content) where
+module _ (script : ScriptParts) (container : ℕ) (content : Reply) (rule : IsScript script) (low : container < length script.containers) (whole : IsContentReply content) (of_script : IsReplyOf (length script.strings) content) (wide : IsWideReply content) where
   pub content_cut : IsCut (join_with_byte 32 (container_name script container ∷ codes "=" ∷ reply_text script.strings content ∷ [])) (container_name script container ∷ codes "=" ∷ reply_tokens script.strings content)
   content_cut =
       let name : List ℕ = container_name script container in

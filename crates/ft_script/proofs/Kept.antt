@@ -19,7 +19,7 @@ use Rattle.ft_script.specs.Drafts.{Draft}
 use Rattle.ft_script.specs.declared.fault.Fault.{Fault}
 use Rattle.ft_script.specs.declared.fault.Fault.TheVariants as fault
 use Rattle.ft_script.specs.Transcripts.{IsWideKey, IsWideValue}
-use Rattle.ft_script.specs.Words.{integer_of, is_integer, is_string, is_wide, text_of}
+use Rattle.ft_script.specs.LineWords.{integer_of, is_integer, is_string, is_wide, text_of}
 use Rattle.ft_script.specs.Drafts.{◌>>=◌, or_fault, container_place, text_place}
 use Rattle.ft_script.specs.Arguments.{symbol_of, index_of, two_indices_of, key_of, value_of, container_of, kind_at, is_of_kind, other_of, made_cursor_of, key_in, key_and_value_of, key_and_value_in, value_in, index_in, some_index_in, two_indices_in, index_and_value_of, index_and_value_in, other_in, made_cursor_in, cursor_in, section_in, two_containers_of, nothing_in}
 use Rattle.ft_script.specs.Arguments as arguments

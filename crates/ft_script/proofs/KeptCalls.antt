@@ -19,8 +19,8 @@ use Rattle.ft_script.specs.declared.call_words.Operation.TheVariants as of
 use Rattle.ft_script.specs.Drafts.{Draft}
 use Rattle.ft_script.specs.Arguments.{kind_at, container_of, nothing_in, key_in, key_and_value_in, value_in, index_in, some_index_in, two_indices_in, index_and_value_in, other_in, made_cursor_in, cursor_in, section_in}
 use Rattle.ft_script.specs.Transcripts.{IsWideCall}
-use Rattle.ft_script.specs.Words.{is_wide}
-use Rattle.ft_script.specs.Reading.{dict_call, list_call, set_call, call_at, container_call, call_of}
+use Rattle.ft_script.specs.LineWords.{is_wide}
+use Rattle.ft_script.specs.ScriptLines.{dict_call, list_call, set_call, call_at, container_call, call_of}
 use Rattle.ft_script.proofs.Kept.{bind_holds, anything, IsTable, StringsRead, no_strings, Keyed, Valued, KeyedAndValued, Indexed, InSection, IsCursors, CursorRead, Made, AreGoodWords, container_keeps, key_in_keeps, key_and_value_in_keeps, value_in_keeps, index_and_value_in_keeps, other_in_keeps, made_cursor_in_keeps, cursor_in_keeps, section_in_keeps, index_in_keeps, some_index_in_keeps, two_indices_in_keeps}
 
 -- a call was read, and the draft after it may have further strings and a cursor that the call makes

@@ -15,7 +15,7 @@ use Rattle.ft_model.specs.Classes.{class_count}
 use Rattle.ft_script.specs.Drafts.{Draft}
 use Rattle.ft_script.specs.declared.fault.Fault.{Fault}
 use Rattle.ft_script.specs.Drafts.{script_of, end_thread, thread_place}
-use Rattle.ft_script.specs.Reading.{thread_line}
+use Rattle.ft_script.specs.ScriptLines.{thread_line}
 use Rattle.ft_script.specs.Transcripts.{IsWideCall}
 use Rattle.ft_script.proofs.Growing.{call_grows}
 use Rattle.ft_script.proofs.Tables.{absent, differ_push}

@@ -6,7 +6,7 @@ use Rattle.ft_model.specs.declared.call.Call.TheVariants as call
 use Rattle.ft_model.specs.Scripts.{AreNested}
 use Rattle.ft_script.specs.declared.fault.Fault.{Fault}
 use Rattle.ft_script.specs.Drafts.{◌>>=◌}
-use Rattle.ft_script.specs.Reading.{depth_after}
+use Rattle.ft_script.specs.ScriptLines.{depth_after}
 
 -- ---- sections
 

@@ -14,15 +14,15 @@ use Rattle.ft_script.specs.declared.fault.Fault.{Fault}
 use Rattle.ft_script.specs.declared.fault.ScriptFault.{ScriptFault}
 use Rattle.ft_script.specs.Lines.{ends_thread, is_comment, lines_of, words_of}
 use Rattle.ft_script.specs.Drafts.{empty_draft, end_thread, or_fault, script_of}
-use Rattle.ft_script.specs.Reading.{open_line, read_line, words_line}
-use Rattle.ft_script.specs.Scripts.{line_after, read_lines, reported_at}
+use Rattle.ft_script.specs.ScriptLines.{open_line, read_line, words_line}
+use Rattle.ft_script.specs.ReadScripts.{line_after, read_lines, reported_at}
 use Rattle.ft_script.specs.Transcripts.{IsWideCall}
 use Rattle.ft_script.proofs.Encoded.{AreEncoded, BeginsNoThread, begins_no_thread, line_good, lines_encoded}
 use Rattle.ft_script.proofs.Kept.{AreGoodWords, IsTable, bind_holds, cond_holds, or_holds, some_holds}
 use Rattle.ft_script.proofs.KeptDrafts.{HasWideCalls, IsDraft, calls_in, end_thread_keeps, no_names, none_made, IsNew}
 use Rattle.ft_script.proofs.KeptStatements.{statement_keeps}
 use Rattle.std.proofs.lemmas.Slice.Zip.{length-zip}
-use Rattle.ft_script.specs.Internal.Answers.{HasFewThreads, Leaves, reported}
+use Rattle.ft_script.specs.Internal.Outcomes.{HasFewThreads, LeavesDraft, reported}
 use Rattle.ft_model.specs.declared.script.Thread.{Thread}
 use Rattle.ft_script.specs.declared.fault.LineError.{LineError}
 use Rattle.ft_script.specs.declared.fault.LineError.TheVariants as error
@@ -67,7 +67,7 @@ few_names threads (Some name) few new = let room : length threads < 64 = new.roo
 pub has_few_threads : (d : Draft) → IsDraft d → HasFewThreads d
 has_few_threads d h = few_names d.threads d.name h.few_threads h.named
 
-pub kept_on : (read : Result (Unit {0}) LineError) (number : ℕ) (d next : Draft) (line : List ℕ) (done : Unit {0}) → reported read number ≡ Ok done → Leaves read next (read_line d line) → IsDraft d → IsUtf8 line → IsDraft next
+pub kept_on : (read : Result (Unit {0}) LineError) (number : ℕ) (d next : Draft) (line : List ℕ) (done : Unit {0}) → reported read number ≡ Ok done → LeavesDraft read next (read_line d line) → IsDraft d → IsUtf8 line → IsDraft next
 kept_on (Ok x) number d next line done is leaves h encoded = subst (λ (r : Result Draft Fault). IfOk r IsDraft) leaves (read_line_keeps d line h encoded)
 kept_on (Err error.Memory) number d next line done is leaves h encoded = absurd cc
 kept_on (Err (error.Fault found)) number d next line done is leaves h encoded = absurd cc

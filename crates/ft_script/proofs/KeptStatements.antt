@@ -19,10 +19,10 @@ use Rattle.ft_script.specs.declared.call_words.CallWord.{CallWord}
 use Rattle.ft_script.specs.Drafts.{Draft}
 use Rattle.ft_script.specs.declared.fault.Fault.{Fault}
 use Rattle.ft_script.specs.CallWords.{call_word_of}
-use Rattle.ft_script.specs.Words.{natural_of}
+use Rattle.ft_script.specs.LineWords.{natural_of}
 use Rattle.ft_script.specs.Drafts.{or_fault, container_place, script_of, thread_place}
 use Rattle.ft_script.specs.Arguments.{index_of}
-use Rattle.ft_script.specs.Reading.{call_line, call_of, class_of, container_line, counted_call, declaration, depth_after, heap_line, is_reported, order_line, other_statement, past_limit, plain_statement, statement, tables_at, tables_line, tables_by_words, thread_statement, turn, turns, unordered_statement}
+use Rattle.ft_script.specs.ScriptLines.{call_line, call_of, class_of, container_line, counted_call, declaration, depth_after, heap_line, is_reported, order_line, other_statement, past_limit, plain_statement, statement, tables_at, tables_line, tables_by_words, thread_statement, turn, turns, unordered_statement}
 use Rattle.ft_script.specs.Transcripts.{IsWideCall}
 use Rattle.ft_script.proofs.Encoded.{BeginsNoThread}
 use Rattle.ft_script.proofs.Growing.{call_grows}

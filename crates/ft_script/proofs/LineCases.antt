@@ -14,9 +14,9 @@ use Rattle.ft_model.specs.Scripts.{IsScript, IsCallOf}
 use Rattle.ft_script.specs.declared.fault.Fault.{Fault}
 use Rattle.ft_script.specs.Internal.Candidates.{entry_of, content_of, numbered_of}
 use Rattle.ft_script.specs.Internal.Readers.{NoEntry, NoContent, AddsEntry, AddsContent, IsLine, is_feedless, but_feed}
-use Rattle.ft_script.specs.Texts.{container_name, reply_text, entry_words, entry_line}
+use Rattle.ft_script.specs.Texts.{container_name, reply_text, entry_line_words, entry_line}
 use Rattle.ft_script.specs.Internal.Tokens.{tokens_of}
-use Rattle.ft_script.specs.Transcripts.{fed, content_line, IsReadable, IsWhole, IsWideCall, IsContentLine, IsTranscript, IsFirstBad}
+use Rattle.ft_script.specs.Transcripts.{fed, content_line, IsReadable, IsContentReply, IsWideCall, IsContentLine, IsTranscript, IsFirstBad}
 use Rattle.ft_script.proofs.EntryTexts.{words_cut, entry_read, content_cut, content_back}
 use Rattle.ft_script.proofs.SoundReading.{EntryFits, ContentFits, Numbered, numbered_sound, entry_sound, content_sound}
 
@@ -91,7 +91,7 @@ but_feed_of text =
 pub line_is : (line : List ℕ) → IsLine line → line ≡ but_feed line ++ 10 ∷ []
 line_is line h = h.1 ∙ ap (λ (t : List ℕ). t ++ 10 ∷ []) (sym (but_feed_of h.0) ∙ ap but_feed (sym h.1))
 
-pub content_by : (script : ScriptParts) (line : List ℕ) (container : ℕ) (content : Reply) → IsLine line → ContentFits script (container, content) → IsWhole content → line ≡ content_line script container content → IsContentLine script (but_feed line)
+pub content_by : (script : ScriptParts) (line : List ℕ) (container : ℕ) (content : Reply) → IsLine line → ContentFits script (container, content) → IsContentReply content → line ≡ content_line script container content → IsContentLine script (but_feed line)
 content_by script line container content is fits whole same = record {
   container = container;
   declared = fits.container;
@@ -113,7 +113,7 @@ no_content_by_fault script line found rule is text h same =
     let pair : ℕ × Reply = (h.container, h.content) in
     let bad : Err found ≡ Ok pair = sym is ∙ content_again script line text rule h same in absurd cc
 
-pub no_content_by_other : (script : ScriptParts) (line : List ℕ) (container : ℕ) (content : Reply) → IsScript script → content_of script (tokens_of line) ≡ Ok (container, content) → (IsWhole content → line ≡ content_line script container content → ⊥) → NoContent script line
+pub no_content_by_other : (script : ScriptParts) (line : List ℕ) (container : ℕ) (content : Reply) → IsScript script → content_of script (tokens_of line) ≡ Ok (container, content) → (IsContentReply content → line ≡ content_line script container content → ⊥) → NoContent script line
 no_content_by_other script line container content rule is not_it text h same =
     let back : content_of script (tokens_of line) ≡ Ok (h.container, h.content) = content_again script line text rule h same in
     let read : ℕ × Reply = (container, content) in
@@ -122,7 +122,7 @@ no_content_by_other script line container content rule is not_it text h same =
     let one : again ≡ read = cc in
     let c : h.container ≡ container = ap (λ (p : ℕ × Reply). p.0) one in
     let r : h.content ≡ content = ap (λ (p : ℕ × Reply). p.1) one in
-    not_it (subst IsWhole r h.whole) (same ∙ h.written ∙ ap (λ (n : ℕ). content_line script n h.content) c ∙ ap (content_line script container) r)
+    not_it (subst IsContentReply r h.whole) (same ∙ h.written ∙ ap (λ (n : ℕ). content_line script n h.content) c ∙ ap (content_line script container) r)
 
 -- ---- transcripts
 
@@ -193,7 +193,7 @@ bad_line script bytes front line below entries world number rule parts before co
   parts = parts;
   before = before;
   left = λ none. nothing_left is.0 below (sym (ap (λ (t : List ℕ). t ++ below) is.1 ∙ append_assoc is.0 (10 ∷ []) below) ∙ none);
-  no_entry = λ none entry more h same. no_entry none entry h (same_line line (join_with_byte 32 (entry_words script entry)) below more is (words_cut script entry rule h).feedless same);
+  no_entry = λ none entry more h same. no_entry none entry h (same_line line (join_with_byte 32 (entry_line_words script entry)) below more is (words_cut script entry rule h).feedless same);
   no_content = λ text more h same. no_content text h (same_line line text below more is (content_feedless script text rule h) (same ∙ sym (append_assoc text (10 ∷ []) more)));
   counted = counted;
 }
@@ -209,7 +209,7 @@ bad_end script bytes front rest entries world number rule parts before counted s
   parts = parts;
   before = before;
   left = some;
-  no_entry = λ none entry more h same. no_feed_within (join_with_byte 32 (entry_words script entry)) more (ap is_feedless (sym (same ∙ append_assoc (join_with_byte 32 (entry_words script entry)) (10 ∷ []) more)) ∙ feedless);
+  no_entry = λ none entry more h same. no_feed_within (join_with_byte 32 (entry_line_words script entry)) more (ap is_feedless (sym (same ∙ append_assoc (join_with_byte 32 (entry_line_words script entry)) (10 ∷ []) more)) ∙ feedless);
   no_content = λ text more h same. no_feed_within text more (ap is_feedless (sym same) ∙ feedless);
   counted = counted;
 }

@@ -7,10 +7,10 @@ use Rattle.ft_script.specs.declared.fault.LineError.{LineError}
 use Rattle.ft_script.specs.declared.fault.LineError.TheVariants as error
 use Rattle.ft_script.specs.declared.fault.ScriptFault.{ScriptFault}
 use Rattle.ft_script.specs.Faults.{no_memory, fault_at}
-use Rattle.ft_script.specs.Internal.Answers.{Fails, Leaves, reported}
+use Rattle.ft_script.specs.Internal.Outcomes.{Fails, LeavesDraft, reported}
 use Rattle.ft_script.specs.Drafts.{◌>>=◌, end_thread}
-use Rattle.ft_script.specs.Reading.{turn, turns, read_line}
-use Rattle.ft_script.specs.Scripts.{line_after, reported_at, read_lines}
+use Rattle.ft_script.specs.ScriptLines.{turn, turns, read_line}
+use Rattle.ft_script.specs.ReadScripts.{line_after, reported_at, read_lines}
 
 -- ---- names of an `order` line
 
@@ -77,7 +77,7 @@ refused found = Err found
 
 -- a line was read
 pub lines_on : (read : Result (Unit {0}) LineError) (number : ℕ) (draft next : Draft) (line : List ℕ) (rest lines : List (List ℕ)) (whole : Result Draft ScriptFault) →
-    reported read number ≡ Ok tt → Leaves read next (read_line draft line) → rest ≡ line ∷ lines → read_lines number draft rest ≡ whole → read_lines (line_after number) next lines ≡ whole
+    reported read number ≡ Ok tt → LeavesDraft read next (read_line draft line) → rest ≡ line ∷ lines → read_lines number draft rest ≡ whole → read_lines (line_after number) next lines ≡ whole
 lines_on (Ok x) number draft next line rest lines whole is read cut so_far =
     sym (ap (read_lines number draft) cut ∙ lines_cons number draft line lines (Ok next) read) ∙ so_far
 lines_on (Err error.Memory) number draft next line rest lines whole is read cut so_far = absurd cc
@@ -85,7 +85,7 @@ lines_on (Err (error.Fault found)) number draft next line rest lines whole is re
 
 -- a line wasn't
 pub lines_end : (read : Result (Unit {0}) LineError) (number : ℕ) (draft next : Draft) (line : List ℕ) (rest lines : List (List ℕ)) (whole : Result Draft ScriptFault) (answer : ScriptFault) →
-    reported read number ≡ Err answer → Leaves read next (read_line draft line) → rest ≡ line ∷ lines → read_lines number draft rest ≡ whole → (answer ≡ no_memory) ⊎ (whole ≡ Err answer)
+    reported read number ≡ Err answer → LeavesDraft read next (read_line draft line) → rest ≡ line ∷ lines → read_lines number draft rest ≡ whole → (answer ≡ no_memory) ⊎ (whole ≡ Err answer)
 lines_end (Ok x) number draft next line rest lines whole answer is read cut so_far = absurd cc
 lines_end (Err error.Memory) number draft next line rest lines whole answer is read cut so_far = inl cc
 lines_end (Err (error.Fault found)) number draft next line rest lines whole answer is read cut so_far =
@@ -94,7 +94,7 @@ lines_end (Err (error.Fault found)) number draft next line rest lines whole answ
 
 -- the end of the text
 pub text_end : (read : Result (Unit {0}) LineError) (number : ℕ) (draft next : Draft) (rest : List (List ℕ)) (whole : Result Draft ScriptFault) (answer : ScriptFault) →
-    reported read number ≡ Err answer → Leaves read next (end_thread draft) → rest ≡ [] → read_lines number draft rest ≡ whole → (answer ≡ no_memory) ⊎ (whole ≡ Err answer)
+    reported read number ≡ Err answer → LeavesDraft read next (end_thread draft) → rest ≡ [] → read_lines number draft rest ≡ whole → (answer ≡ no_memory) ⊎ (whole ≡ Err answer)
 text_end (Ok x) number draft next rest whole answer is read cut so_far = absurd cc
 text_end (Err error.Memory) number draft next rest whole answer is read cut so_far = inl cc
 text_end (Err (error.Fault found)) number draft next rest whole answer is read cut so_far =
@@ -102,7 +102,7 @@ text_end (Err (error.Fault found)) number draft next rest whole answer is read c
     inr (sym so_far ∙ ap (read_lines number draft) cut ∙ lines_nil number draft (Err found) read ∙ ap refused same)
 
 pub text_done : (read : Result (Unit {0}) LineError) (number : ℕ) (draft next : Draft) (rest : List (List ℕ)) (whole : Result Draft ScriptFault) →
-    reported read number ≡ Ok tt → Leaves read next (end_thread draft) → rest ≡ [] → read_lines number draft rest ≡ whole → whole ≡ Ok next
+    reported read number ≡ Ok tt → LeavesDraft read next (end_thread draft) → rest ≡ [] → read_lines number draft rest ≡ whole → whole ≡ Ok next
 text_done (Ok x) number draft next rest whole is read cut so_far =
     sym so_far ∙ ap (read_lines number draft) cut ∙ lines_nil number draft (Ok next) read
 text_done (Err error.Memory) number draft next rest whole is read cut so_far = absurd cc

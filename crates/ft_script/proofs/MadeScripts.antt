@@ -32,11 +32,11 @@ use Rattle.ft_script.specs.Arguments.{container_of, index_in, index_of, key_and_
 use Rattle.ft_script.specs.CallWords.{call_word_of}
 use Rattle.ft_script.specs.Drafts.{empty_draft, end_thread, script_of}
 use Rattle.ft_script.specs.Generator.{call_by, calls_above, head_words, made_call, made_calls, made_head, made_script, made_text, made_thread, number_at, share, thread_words}
-use Rattle.ft_script.specs.Lines.{ends_thread, is_comment, joined, lines_of, place_after, with_first, words_from, words_of}
-use Rattle.ft_script.specs.Reading.{call_at, call_line, call_of, class_of, container_call, container_line, counted_call, declaration, depth_after, dict_call, heap_line, list_call, open_line, other_statement, plain_statement, read_line, set_call, statement, tables_at, tables_line, tables_by_words, thread_line, thread_statement, unordered_statement, words_line}
-use Rattle.ft_script.specs.Scripts.{line_after, read_lines, read_script, reported_at}
+use Rattle.ft_script.specs.Lines.{ends_thread, is_comment, byte_joined, lines_of, place_after, with_first, words_from, words_of}
+use Rattle.ft_script.specs.ScriptLines.{call_at, call_line, call_of, class_of, container_call, container_line, counted_call, declaration, depth_after, dict_call, heap_line, list_call, open_line, other_statement, plain_statement, read_line, set_call, statement, tables_at, tables_line, tables_by_words, thread_line, thread_statement, unordered_statement, words_line}
+use Rattle.ft_script.specs.ReadScripts.{line_after, read_lines, read_script, reported_at}
 use Rattle.ft_script.specs.Texts.{call_words, line}
-use Rattle.ft_script.specs.Words.{integer_of, is_wide}
+use Rattle.ft_script.specs.LineWords.{integer_of, is_wide}
 use Rattle.ft_script.proofs.CallTexts.{word_back}
 use Rattle.ft_script.proofs.LineLemmas.{no_lines}
 use Rattle.ft_script.proofs.LineLemmas.{lines_cons as lines_byte}
@@ -65,7 +65,7 @@ abbrev onto : List ℕ → List (List ℕ) → List (List ℕ)
 onto [] words = words
 onto (b ∷ bytes) words = with_first b (onto bytes words)
 
-at_byte : (at next : Place) (b : ℕ) (bytes : List ℕ) → place_after at b ≡ Some next → words_from at (b ∷ bytes) ≡ option_map (joined at b next) (words_from next bytes)
+at_byte : (at next : Place) (b : ℕ) (bytes : List ℕ) → place_after at b ≡ Some next → words_from at (b ∷ bytes) ≡ option_map (byte_joined at b next) (words_from next bytes)
 at_byte at next b bytes is = from_byte at b bytes (Some next) is
 
 plain_byte : (b : ℕ) → is_shown b ≡ true → place_after place.Plain b ≡ Some place.Plain
@@ -79,13 +79,13 @@ rest_of_word : (word rest : List ℕ) (words : List (List ℕ)) → list_all is_
 rest_of_word [] rest words h is = is
 rest_of_word (b ∷ word) rest words h is =
     let both = and_parts (is_shown b) (list_all is_shown word) h in
-    at_byte place.Plain place.Plain b (word ++ rest) (plain_byte b both.0) ∙ ap (option_map (joined place.Plain b place.Plain)) (rest_of_word word rest words both.1 is)
+    at_byte place.Plain place.Plain b (word ++ rest) (plain_byte b both.0) ∙ ap (option_map (byte_joined place.Plain b place.Plain)) (rest_of_word word rest words both.1 is)
 
 word_read : (word rest : List ℕ) (words : List (List ℕ)) → IsPlain word → words_from place.Plain rest ≡ Some words → words_from place.Between (word ++ rest) ≡ Some (onto word words)
 word_read [] rest words h is = absurd h
 word_read (b ∷ word) rest words h is =
     let both = and_parts (is_shown b) (list_all is_shown word) h.1 in
-    at_byte place.Between place.Plain b (word ++ rest) (first_byte b both.0 h.0) ∙ ap (option_map (joined place.Between b place.Plain)) (rest_of_word word rest words both.1 is)
+    at_byte place.Between place.Plain b (word ++ rest) (first_byte b both.0 h.0) ∙ ap (option_map (byte_joined place.Between b place.Plain)) (rest_of_word word rest words both.1 is)
 
 onto_new : (word : List ℕ) (words : List (List ℕ)) → onto word ([] ∷ words) ≡ word ∷ words
 onto_new [] words = refl
@@ -105,7 +105,7 @@ words_back (word ∷ []) h =
     ap (words_from place.Between) (sym (append-nil word)) ∙ word_read word [] ([] ∷ []) h.0 no_bytes ∙ ap (λ (l : List (List ℕ)). Some l) (onto_new word [])
 words_back (word ∷ next ∷ words) h =
     let rest : List ℕ = join_with_byte 32 (next ∷ words) in
-    word_read word (32 ∷ rest) ([] ∷ next ∷ words) h.0 (at_byte place.Plain place.Between 32 rest refl ∙ ap (option_map (joined place.Plain 32 place.Between)) (words_back (next ∷ words) h.1))
+    word_read word (32 ∷ rest) ([] ∷ next ∷ words) h.0 (at_byte place.Plain place.Between 32 rest refl ∙ ap (option_map (byte_joined place.Plain 32 place.Between)) (words_back (next ∷ words) h.1))
     ∙ ap (λ (l : List (List ℕ)). Some l) (onto_new word (next ∷ words))
 
 -- ---- lines

@@ -8,17 +8,17 @@ use Rattle.std.proofs.lemmas.List.FromFn.{map-range_with_len_more}
 use Rattle.std.proofs.lemmas.List.Sums.{sum-map, sum_by_push}
 use Rattle.ft_model.specs.declared.call.Call.{Call}
 use Rattle.ft_model.specs.declared.script.Thread.{Thread}
-use Rattle.ft_script.specs.Generator.{made_call, made_calls, made_head, made_thread, number_after, number_at, share, calls_above, thread_words}
+use Rattle.ft_script.specs.Generator.{made_call, made_calls, made_head, made_thread, drawn_after, number_at, share, calls_above, thread_words}
 use Rattle.ft_script.specs.Texts.{call_words, line}
 
 abbrev call_lines : List Call → List ℕ
 call_lines calls = flat_map line (map (call_words made_head 0) calls)
 
-one_more : (first draws : ℕ) → number_at first (draws + 1) ≡ number_after (number_at first draws)
+one_more : (first draws : ℕ) → number_at first (draws + 1) ≡ drawn_after (number_at first draws)
 one_more first draws = let next : draws + 1 ≡ suc draws = omega arith in ap (number_at first) next
 
-pub number_drawn : (first draws before after : ℕ) → before ≡ number_at first draws → after ≡ number_after before → after ≡ number_at first (draws + 1)
-number_drawn first draws before after is drawn = drawn ∙ ap number_after is ∙ sym (one_more first draws)
+pub number_drawn : (first draws before after : ℕ) → before ≡ number_at first draws → after ≡ drawn_after before → after ≡ number_at first (draws + 1)
+number_drawn first draws before after is drawn = drawn ∙ ap drawn_after is ∙ sym (one_more first draws)
 
 calls_more : (first draws : ℕ) → made_calls first (draws + 1) ≡ made_calls first draws ++ made_call (number_at first (draws + 1)) ∷ []
 calls_more first draws = map-range_with_len_more (λ i. made_call (number_at first (i + 1))) 0 draws draws (omega arith)
@@ -42,7 +42,7 @@ number_on : (first draws more : ℕ) → number_at (number_at first draws) more 
 number_on first draws zero = let none : draws ≡ draws + 0 = omega arith in ap (number_at first) none
 number_on first draws (suc more) =
     let next : suc (draws + more) ≡ draws + suc more = omega arith in
-    ap number_after (number_on first draws more) ∙ ap (number_at first) next
+    ap drawn_after (number_on first draws more) ∙ ap (number_at first) next
 
 sum_is : (counts : List ℕ) → sum counts ≡ sum_by (λ n. n) counts
 sum_is counts = ap sum (sym (map-id counts)) ∙ sum-map (λ (n : ℕ). n) counts

@@ -10,8 +10,8 @@ use Rattle.ft_script.specs.declared.fault.ScriptFault.{ScriptFault}
 use Rattle.ft_script.specs.Drafts.{empty_draft}
 use Rattle.ft_script.specs.Lines.{lines_of, with_first, words_from, first_word}
 use Rattle.ft_script.specs.CallWords.{call_word_of}
-use Rattle.ft_script.specs.Reading.{declaration, open_line, other_statement, plain_statement, read_line, statement, thread_statement, unordered_statement, words_line}
-use Rattle.ft_script.specs.Scripts.{line_after, read_lines, read_script, reported_at}
+use Rattle.ft_script.specs.ScriptLines.{declaration, open_line, other_statement, plain_statement, read_line, statement, thread_statement, unordered_statement, words_line}
+use Rattle.ft_script.specs.ReadScripts.{line_after, read_lines, read_script, reported_at}
 use Rattle.ft_script.proofs.LineLemmas.{lines_cons, no_lines}
 use Rattle.ft_script.proofs.ReadScripts.{is_read}
 

@@ -24,7 +24,7 @@ use Rattle.ft_script.specs.Internal.Candidates.{is_decimal, natural_in, u64_of, 
 use Rattle.ft_script.specs.Drafts.{◌>>=◌, or_fault, text_place}
 use Rattle.ft_script.specs.Texts.{quoted, key_text, value_text}
 use Rattle.ft_script.specs.Transcripts.{IsWideKey, IsWideValue}
-use Rattle.ft_script.specs.Words.{is_positive, is_integer, is_wide, integer_of, is_string, text_of}
+use Rattle.ft_script.specs.LineWords.{is_positive, is_integer, is_wide, integer_of, is_string, text_of}
 use Rattle.ft_script.proofs.NumberLemmas.{natural_by}
 use Rattle.ft_script.proofs.TokenTexts.{is_part, IsWord, IsCut, word_is_cut, string_is_cut, text_of_quoted}
 use Rattle.ft_script.proofs.WordLemmas.{AreDigits, own, integer_by}

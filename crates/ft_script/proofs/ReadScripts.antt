@@ -12,7 +12,7 @@ use Rattle.ft_script.specs.Drafts.{Draft}
 use Rattle.ft_script.specs.declared.fault.ScriptFault.{ScriptFault}
 use Rattle.ft_script.specs.Drafts.{empty_draft, script_of}
 use Rattle.ft_script.specs.Lines.{lines_of}
-use Rattle.ft_script.specs.Scripts.{read_lines, read_script}
+use Rattle.ft_script.specs.ReadScripts.{read_lines, read_script}
 use Rattle.ft_script.proofs.KeptDrafts.{HasWideCalls}
 use Rattle.ft_script.proofs.KeptScripts.{read_is_script, read_is_wide}
 

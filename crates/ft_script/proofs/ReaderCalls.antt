@@ -13,10 +13,10 @@ use Rattle.ft_script.specs.declared.fault.LineError.{LineError}
 use Rattle.ft_script.specs.declared.fault.LineError.TheVariants as error
 use Rattle.ft_script.specs.Internal.Candidates.{only_call}
 use Rattle.ft_script.specs.Drafts.{draft_at, empty_draft}
-use Rattle.ft_script.specs.Internal.Answers.{Gives, Reads}
+use Rattle.ft_script.specs.Internal.Outcomes.{Gives, GivesWithDraft}
 use Rattle.ft_script.specs.Internal.Readers.{IsReaderOf, IsUnchanged}
 
-gives_only : (r : Result Call LineError) (new : Draft) (given : Result (Call × Draft) Fault) → Reads r new given → Gives (λ called. called) r (only_call given)
+gives_only : (r : Result Call LineError) (new : Draft) (given : Result (Call × Draft) Fault) → GivesWithDraft r new given → Gives (λ called. called) r (only_call given)
 gives_only (Ok called) new given h = ap only_call h
 gives_only (Err error.Memory) new given h = tt
 gives_only (Err (error.Fault found)) new given h = ap only_call h
@@ -34,13 +34,13 @@ draft_by script draft cursors thread inside h is =
     ap (λ (d : Draft). let with : Draft = record d { cursors = inside } in with) h.draft_is
     ∙ ap (λ (l : List (List ℕ)). let with : Draft = record empty_draft { containers = script.containers; strings = script.strings; cursors = l } in with) is
 
-ap_reads : (s : Result Call LineError) (n : Draft) (f : Draft → Result (Call × Draft) Fault) (a b : Draft) → a ≡ b → Reads s n (f a) → Reads s n (f b)
+ap_reads : (s : Result Call LineError) (n : Draft) (f : Draft → Result (Call × Draft) Fault) (a b : Draft) → a ≡ b → GivesWithDraft s n (f a) → GivesWithDraft s n (f b)
 ap_reads (Ok called) n f a b e g = ap f (sym e) ∙ g
 ap_reads (Err error.Memory) n f a b e g = tt
 ap_reads (Err (error.Fault found)) n f a b e g = ap f (sym e) ∙ g
 
 pub call_read : (script : ScriptParts) (draft new : Draft) (cursors : List (List (List ℕ))) (thread : ℕ) (inside e : List (List ℕ)) (r : Result Call LineError) (read : Draft → Result (Call × Draft) Fault) → IsReaderOf script draft cursors → thread < length script.threads → inside ≡ get_or cursors thread e →
-    Reads r new (read (record draft { cursors = inside })) → Gives (λ called. called) r (only_call (read (draft_at script thread)))
+    GivesWithDraft r new (read (record draft { cursors = inside })) → Gives (λ called. called) r (only_call (read (draft_at script thread)))
 call_read script draft new cursors thread inside e r read h low is reads =
     let same : record draft { cursors = inside } ≡ draft_at script thread = draft_by script draft cursors thread inside h (cursors_at script draft cursors thread inside e h low is) in
     gives_only r new (read (draft_at script thread)) (ap_reads r new read _ _ same reads)
@@ -49,7 +49,7 @@ abbrev both : Call → Draft → Call × Draft
 both called draft = (called, draft)
 
 pub draft_kept : (script : ScriptParts) (draft new : Draft) (cursors : List (List (List ℕ))) (thread : ℕ) (inside e back last : List (List ℕ)) (r : Result Call LineError) (read : Draft → Result (Call × Draft) Fault) → IsReaderOf script draft cursors → thread < length script.threads → inside ≡ get_or cursors thread e →
-    Reads r new (read (record draft { cursors = inside })) → back ≡ draft.cursors → last ≡ new.cursors → OnOk r (IsUnchanged (draft_at script thread) (read (draft_at script thread)) → IsReaderOf script (record new { cursors = back }) (set cursors thread last))
+    GivesWithDraft r new (read (record draft { cursors = inside })) → back ≡ draft.cursors → last ≡ new.cursors → OnOk r (IsUnchanged (draft_at script thread) (read (draft_at script thread)) → IsReaderOf script (record new { cursors = back }) (set cursors thread last))
 draft_kept script draft new cursors thread inside e back last (Err found) read h low is reads back_is last_is = tt
 draft_kept script draft new cursors thread inside e back last (Ok called) read h low is reads back_is last_is = λ unchanged.
     let own : inside ≡ (draft_at script thread).cursors = cursors_at script draft cursors thread inside e h low is in

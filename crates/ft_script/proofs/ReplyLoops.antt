@@ -10,7 +10,7 @@ use Rattle.ft_script.specs.declared.fault.Fault.TheVariants as fault
 use Rattle.ft_script.specs.declared.fault.LineError.{LineError}
 use Rattle.ft_script.specs.declared.fault.LineError.TheVariants as error
 use Rattle.ft_script.specs.Drafts.{◌>>=◌}
-use Rattle.ft_script.specs.Internal.Answers.{Fails}
+use Rattle.ft_script.specs.Internal.Outcomes.{Fails}
 use Rattle.ft_script.specs.Internal.Candidates.{each_of, known_pair, pairs_of}
 use Rattle.ft_script.proofs.TokenLists.{shown}
 

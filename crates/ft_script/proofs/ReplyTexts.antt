@@ -27,7 +27,7 @@ use Rattle.ft_script.specs.Drafts.{◌>>=◌}
 use Rattle.ft_script.specs.Texts.{key_text, value_text, pair_text, listed, raise_text, reply_text}
 use Rattle.ft_script.specs.Internal.Tokens.{tokens_of}
 use Rattle.ft_script.specs.Transcripts.{IsWideKey, IsWideValue, IsWideReply, IsReadableReply}
-use Rattle.ft_script.specs.Words.{is_wide}
+use Rattle.ft_script.specs.LineWords.{is_wide}
 use Rattle.ft_script.proofs.PartTexts.{BeginsNumber, BeginsShown, number_shown, decimal_word, u32_decimal, key_back, value_back, pair_back, key_is_cut, value_is_cut, key_begins, value_begins}
 use Rattle.ft_script.proofs.Printed.{each_listed, listed-cons}
 use Rattle.ft_script.proofs.ReplyLoops.{fronted, each_first, each_nothing, pairs_first}

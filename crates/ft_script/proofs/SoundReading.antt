@@ -27,7 +27,7 @@ use Rattle.ft_script.specs.Arguments.{index_of}
 use Rattle.ft_script.specs.Internal.Candidates.{is_decimal, natural_in, u64_of, u32_of, known_key, known_value, known_pair, each_of, pairs_of, reply_word_of, suspended_of, runtime_error_of, class_error_of, memory_error_of, has_pairs, braced_of, but_last, worded_reply, counted_reply, shown_reply, first_reply, reply_of, thread_of, numbered_of, stamp_of, waited_of, thread_call, entry_of, content_of}
 use Rattle.ft_script.specs.Drafts.{or_fault, text_place, thread_place, container_place}
 use Rattle.ft_script.specs.Transcripts.{counts, IsWideKey, IsWideValue, IsWideReply, IsReadableReply}
-use Rattle.ft_script.specs.Words.{is_integer, is_wide, integer_of, is_string, text_of}
+use Rattle.ft_script.specs.LineWords.{is_integer, is_wide, integer_of, is_string, text_of}
 use Rattle.ft_script.proofs.Kept.{bind_holds, cond_holds, or_holds, anything, index_keeps}
 use Rattle.ft_script.proofs.Tables.{place_within}
 use Rattle.ft_script.proofs.NumberLemmas.{natural_by}

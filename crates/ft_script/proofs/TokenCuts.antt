@@ -4,7 +4,7 @@ use Rattle.std.proofs.lemmas.List.{append-nil}
 use Rattle.ft_script.specs.declared.lines.Place.{Place}
 use Rattle.ft_script.specs.declared.lines.Place.TheVariants as place
 use Rattle.ft_script.specs.Lines.{with_first}
-use Rattle.ft_script.specs.Internal.Tokens.{place_after, token_ends, token_start, fronted, parted, tokens_from}
+use Rattle.ft_script.specs.Internal.Tokens.{place_after, token_ends, token_start, fronted, token_parted, tokens_from}
 use Rattle.ft_script.proofs.WordCuts.{onto, at_place, onto_byte, onto_more, ended, part, part_more, part_first, at_index, nothing_left, last_part, last_word, cut_after}
 
 -- the tokens of a line, of which some are cut already, and a part of one
@@ -27,7 +27,7 @@ follows : (cut : List (List ℕ)) (part : List ℕ) (b : ℕ) (tokens : List (Li
 follows cut part b tokens = ended cut part (with_first b tokens) ∙ ap (λ (l : List (List ℕ)). (cut ++ part ∷ []) ++ l) (onto_byte b tokens)
 
 abbrev Moves : Place → Place → List (List ℕ) → List ℕ → ℕ → List (List ℕ) → Type 0
-Moves at next cut part b tokens = resumed cut at part (parted (token_ends at next) (fronted b next tokens)) ≡ resumed (cut_after cut part (token_ends at next)) next (part_after at (token_ends at next) part b) tokens
+Moves at next cut part b tokens = resumed cut at part (token_parted (token_ends at next) (fronted b next tokens)) ≡ resumed (cut_after cut part (token_ends at next)) next (part_after at (token_ends at next) part b) tokens
 
 one_byte : (at next : Place) (cut : List (List ℕ)) (part : List ℕ) (b : ℕ) (tokens : List (List ℕ)) → Moves at next cut part b tokens
 one_byte place.Between place.Between cut part b tokens = refl
@@ -57,7 +57,7 @@ one_byte place.Ended place.Escape cut part b tokens = follows cut part b tokens
 one_byte place.Ended place.Ended cut part b tokens = follows cut part b tokens
 
 -- the definition, at a byte
-pub at_byte : (at : Place) (b : ℕ) (bytes : List ℕ) → tokens_from at (b ∷ bytes) ≡ parted (token_ends at (place_after at b)) (fronted b (place_after at b) (tokens_from (place_after at b) bytes))
+pub at_byte : (at : Place) (b : ℕ) (bytes : List ℕ) → tokens_from at (b ∷ bytes) ≡ token_parted (token_ends at (place_after at b)) (fronted b (place_after at b) (tokens_from (place_after at b) bytes))
 unfolding tokens_from
 at_byte place.Between b bytes = refl
 at_byte place.Plain b bytes = refl
@@ -85,7 +85,7 @@ cut_on line cut at next ends start i from whole low high is_next is_ends is_from
     let there : Place = place_after at b in
     let e : Bool = token_ends at there in
     let rest : List (List ℕ) = tokens_from there (drop (i + 1) line) in
-    let here : tokens_from at (drop i line) ≡ parted e (fronted b there rest) = ap (tokens_from at) (at_index line i low) ∙ at_byte at b (drop (i + 1) line) in
+    let here : tokens_from at (drop i line) ≡ token_parted e (fronted b there rest) = ap (tokens_from at) (at_index line i low) ∙ at_byte at b (drop (i + 1) line) in
     let moved : resumed (cut_after cut (part line start i) e) there (part line (token_start at e start i) (i + 1)) rest ≡ whole =
     ap (λ (p : List ℕ). resumed (cut_after cut (part line start i) e) there p rest) (sym (part_next at e line start i high low))
     ∙ sym (one_byte at there cut (part line start i) b rest) ∙ ap (resumed cut at (part line start i)) (sym here) ∙ so_far in

@@ -7,7 +7,7 @@ use Rattle.ft_script.specs.declared.lines.Place.TheVariants as place
 use Rattle.ft_script.specs.Lines.{with_first}
 use Rattle.ft_script.specs.Texts.{escaped, quoted}
 use Rattle.ft_script.specs.Internal.Tokens.{is_gap, is_mark, tokens_from, tokens_of}
-use Rattle.ft_script.specs.Words.{text_from, text_of}
+use Rattle.ft_script.specs.LineWords.{text_from, text_of}
 use Rattle.ft_script.proofs.Printed.{each_after}
 use Rattle.ft_script.proofs.TokenCuts.{at_byte, no_bytes}
 

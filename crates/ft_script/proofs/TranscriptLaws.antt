@@ -8,7 +8,7 @@ use Rattle.ft_model.specs.declared.script.ScriptParts.{ScriptParts}
 use Rattle.ft_model.specs.Scripts.{IsScript}
 use Rattle.ft_script.specs.declared.fault.Fault.{Fault}
 use Rattle.ft_script.specs.Internal.Readers.{is_feedless}
-use Rattle.ft_script.specs.Texts.{container_name, thread_name, call_words, mark_words, place_word, stamp_word, reply_text, entry_words, entry_line}
+use Rattle.ft_script.specs.Texts.{container_name, thread_name, call_words, mark_words, place_word, stamp_word, reply_text, entry_line_words, entry_line}
 use Rattle.ft_script.specs.Transcripts.{fed, IsReadable, IsContentLine, IsTranscript, IsFirstBad}
 use Rattle.ft_script.proofs.EntryTexts.{words_cut, entry_read, thread_begins, container_begins}
 use Rattle.ft_script.proofs.LineCases.{first_line, content_feedless, read_entry_of}
@@ -30,7 +30,7 @@ high_is_not_low [] high low = high
 high_is_not_low (b ∷ text) high low = let h : b ≤ 90 = high.1 in let l : 97 ≤ b = low.0 in omega arith
 
 abbrev words_text : ScriptParts → Entry → List ℕ
-words_text script entry = join_with_byte 32 (entry_words script entry)
+words_text script entry = join_with_byte 32 (entry_line_words script entry)
 
 entry_high : (script : ScriptParts) (entry : Entry) → IsScript script → IsReadable script entry → BeginsHigh (words_text script entry)
 entry_high script entry rule h =

@@ -13,7 +13,7 @@ use Rattle.ft_script.specs.declared.fault.ScriptFault.{ScriptFault}
 use Rattle.ft_script.specs.Faults.{fault_at}
 use Rattle.ft_script.specs.Lines.{lines_of}
 use Rattle.ft_script.specs.Drafts.{empty_draft, script_of}
-use Rattle.ft_script.specs.Scripts.{bad_line, read_lines, read_script}
+use Rattle.ft_script.specs.ReadScripts.{bad_line, read_lines, read_script}
 
 abbrev parts_of : Result Draft ScriptFault → Result ScriptParts ScriptFault
 parts_of read = elim read [ Ok draft ↦ Ok (script_of draft) | Err found ↦ Err found ]

@@ -5,7 +5,7 @@ use Rattle.std.proofs.lemmas.List.{append-nil, take_all, take_more, length-drop,
 use Rattle.std.proofs.Math.ListN.{drop_of_length-le}
 use Rattle.ft_script.specs.declared.lines.Place.{Place}
 use Rattle.ft_script.specs.declared.lines.Place.TheVariants as place
-use Rattle.ft_script.specs.Lines.{with_first, joined, place_after, word_ends, word_start, words_from}
+use Rattle.ft_script.specs.Lines.{with_first, byte_joined, place_after, word_ends, word_start, words_from}
 
 -- ---- words
 
@@ -42,7 +42,7 @@ part_after place.Between part b = b ∷ []
 part_after other part b = part ++ b ∷ []
 
 one_byte : (at next : Place) (cut : List (List ℕ)) (part : List ℕ) (b : ℕ) (words : List (List ℕ)) →
-    cut ++ at_place at part (joined at b next words) ≡ cut_after cut part (word_ends at next) ++ at_place next (part_after at part b) words
+    cut ++ at_place at part (byte_joined at b next words) ≡ cut_after cut part (word_ends at next) ++ at_place next (part_after at part b) words
 one_byte place.Between place.Between cut part b words = refl
 one_byte place.Between place.Plain cut part b words = ap (λ (l : List (List ℕ)). cut ++ l) (onto_byte b words)
 one_byte place.Between place.String cut part b words = ap (λ (l : List (List ℕ)). cut ++ l) (onto_byte b words)
@@ -70,12 +70,12 @@ one_byte place.Ended place.Escape cut part b words = ap (λ (l : List (List ℕ)
 one_byte place.Ended place.Ended cut part b words = ap (λ (l : List (List ℕ)). cut ++ l) (onto_more part b words)
 
 one_byte_of : (at next : Place) (cut : List (List ℕ)) (part : List ℕ) (b : ℕ) (rest : Option (List (List ℕ))) →
-    resumed cut at part (option_map (joined at b next) rest) ≡ resumed (cut_after cut part (word_ends at next)) next (part_after at part b) rest
+    resumed cut at part (option_map (byte_joined at b next) rest) ≡ resumed (cut_after cut part (word_ends at next)) next (part_after at part b) rest
 one_byte_of at next cut part b None = refl
 one_byte_of at next cut part b (Some words) = ap (λ (l : List (List ℕ)). Some l) (one_byte at next cut part b words)
 
 abbrev pub after_byte : Place → ℕ → List ℕ → Option Place → Option (List (List ℕ))
-after_byte at b bytes next = elim next [ None ↦ None | Some p ↦ option_map (joined at b p) (words_from p bytes) ]
+after_byte at b bytes next = elim next [ None ↦ None | Some p ↦ option_map (byte_joined at b p) (words_from p bytes) ]
 
 -- the definition, at a byte
 at_byte : (at : Place) (b : ℕ) (bytes : List ℕ) → words_from at (b ∷ bytes) ≡ after_byte at b bytes (place_after at b)
@@ -129,7 +129,7 @@ pub cut_on : (line : List ℕ) (cut : List (List ℕ)) (at next : Place) (start 
     resumed (cut_after cut (part line (word_start at start i) i) (word_ends at next)) next (part line (word_start at start i) (i + 1)) (words_from next (drop (i + 1) line)) ≡ whole
 cut_on line cut at next start i whole low from is so_far =
     let b : ℕ = get_or line i 0 in
-    let here : words_from at (drop i line) ≡ option_map (joined at b next) (words_from next (drop (i + 1) line)) = ap (words_from at) (at_index line i low) ∙ from_byte at b (drop (i + 1) line) (Some next) is in
+    let here : words_from at (drop i line) ≡ option_map (byte_joined at b next) (words_from next (drop (i + 1) line)) = ap (words_from at) (at_index line i low) ∙ from_byte at b (drop (i + 1) line) (Some next) is in
     ap (λ (l : List (List ℕ)). resumed l next (part line (word_start at start i) (i + 1)) (words_from next (drop (i + 1) line))) (pushed at next line cut start i)
     ∙ ap (λ (p : List ℕ). resumed (cut_after cut (part line start i) (word_ends at next)) next p (words_from next (drop (i + 1) line))) (sym (part_next at line start i from low))
     ∙ sym (one_byte_of at next cut (part line start i) b (words_from next (drop (i + 1) line)))

@@ -13,7 +13,7 @@ use Rattle.std.proofs.lemmas.Result.{OkIff-at_ok, OkIff-at_err}
 use Rattle.std.proofs.lemmas.Str.{IsUtf8-from_ascii}
 use Rattle.std.proofs.lemmas.Str.Parse.{IsNumeralModel, numerals_by_value}
 use Rattle.ft_model.specs.Names.{is_digit, is_container_byte, is_container_name, is_thread_byte, is_thread_name}
-use Rattle.ft_script.specs.Words.{is_positive, is_integer, is_wide, integer_of}
+use Rattle.ft_script.specs.LineWords.{is_positive, is_integer, is_wide, integer_of}
 
 rest_all : (xs : List ℕ) (i : ℕ) → take (length xs - i) (drop i xs) ≡ drop i xs
 rest_all xs i = take_all _ _ (omega (arith, length-drop i xs))

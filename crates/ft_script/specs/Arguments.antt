@@ -14,7 +14,7 @@ use Rattle.ft_script.specs.Drafts.{Draft}
 use Rattle.ft_script.specs.declared.fault.Fault.{Fault}
 use Rattle.ft_script.specs.declared.fault.Fault.TheVariants as fault
 use Rattle.ft_script.specs.declared.fault.Which.TheVariants as which
-use Rattle.ft_script.specs.Words.{integer_of, is_string, text_of}
+use Rattle.ft_script.specs.LineWords.{integer_of, is_string, text_of}
 use Rattle.ft_script.specs.Drafts.{◌>>=◌, or_fault, container_place, text_place}
 
 -- ---- words

@@ -11,20 +11,20 @@ abbrev pub no_memory : ScriptFault
 no_memory = record { line = 1; kind = 14; which = None }
 
 -- the number that a fault is reported by
-abbrev pub kind_of : Fault → ℕ
-kind_of fault.Encoding = 1
-kind_of fault.UnknownWord = 2
-kind_of fault.WordCount = 3
-kind_of fault.Number = 4
-kind_of fault.String = 5
-kind_of fault.Name = 6
-kind_of fault.NameTwice = 7
-kind_of fault.WrongKind = 8
-kind_of fault.EndWithoutBegin = 9
-kind_of fault.BeginWithoutEnd = 10
-kind_of fault.TooDeep = 11
-kind_of (fault.Limit limit) = 12
-kind_of fault.OrderName = 13
+abbrev pub fault_kind : Fault → ℕ
+fault_kind fault.Encoding = 1
+fault_kind fault.UnknownWord = 2
+fault_kind fault.WordCount = 3
+fault_kind fault.Number = 4
+fault_kind fault.String = 5
+fault_kind fault.Name = 6
+fault_kind fault.NameTwice = 7
+fault_kind fault.WrongKind = 8
+fault_kind fault.EndWithoutBegin = 9
+fault_kind fault.BeginWithoutEnd = 10
+fault_kind fault.TooDeep = 11
+fault_kind (fault.Limit limit) = 12
+fault_kind fault.OrderName = 13
 
 abbrev pub which_of : Fault → Option Which
 which_of fault.Encoding = None
@@ -43,7 +43,7 @@ which_of fault.OrderName = None
 
 -- a fault at a line
 abbrev pub fault_at : ℕ → Fault → ScriptFault
-fault_at line found = record { line = line; kind = kind_of found; which = which_of found }
+fault_at line found = record { line = line; kind = fault_kind found; which = which_of found }
 
 abbrev pub limit_text : Which → List ℕ
 limit_text which.Threads = codes "limit threads"

@@ -17,13 +17,13 @@ use Rattle.ft_script.specs.Texts.{line, call_words}
 -- ---- numbers
 
 -- The number that is drawn after another: a linear congruential generator modulo 2^64. (profile)
-abbrev pub number_after : ℕ → ℕ
-number_after number = (number * 6364136223846793005 + 1442695040888963407) % 2 ^ 64
+abbrev pub drawn_after : ℕ → ℕ
+drawn_after number = (number * 6364136223846793005 + 1442695040888963407) % 2 ^ 64
 
 -- The number that stands after this many draws from a first one. (profile)
 abbrev pub number_at : ℕ → ℕ → ℕ
 number_at first zero = first
-number_at first (suc draws) = number_after (number_at first draws)
+number_at first (suc draws) = drawn_after (number_at first draws)
 
 -- ---- calls
 

@@ -3,11 +3,11 @@ pub mod Forms
 pub mod Texts
 pub mod Faults
 pub mod Lines
-pub mod Words
+pub mod LineWords
 pub mod CallWords
 pub mod Drafts
 pub mod Arguments
-pub mod Reading
-pub mod Scripts
+pub mod ScriptLines
+pub mod ReadScripts
 pub mod Transcripts
 pub mod Generator

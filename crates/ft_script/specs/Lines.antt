@@ -41,10 +41,10 @@ place_after place.Ended b = if b == 32 then Some place.Between else None
 
 -- what a byte between two places adds to the words after it, of which the first goes on with the byte but for between
 -- words
-abbrev pub joined : Place → ℕ → Place → List (List ℕ) → List (List ℕ)
-joined place.Between b place.Between words = words
-joined other b place.Between words = [] ∷ words
-joined other b within words = with_first b words
+abbrev pub byte_joined : Place → ℕ → Place → List (List ℕ) → List (List ℕ)
+byte_joined place.Between b place.Between words = words
+byte_joined other b place.Between words = [] ∷ words
+byte_joined other b within words = with_first b words
 
 -- whether a word ends between two places
 abbrev pub word_ends : Place → Place → Bool
@@ -66,7 +66,7 @@ words_from place.String [] = None
 words_from place.Escape [] = None
 words_from place.Ended [] = Some ([] ∷ [])
 words_from at (b ∷ bytes) =
-    elim (place_after at b) [ None ↦ None | Some next ↦ option_map (joined at b next) (words_from next bytes) ]
+    elim (place_after at b) [ None ↦ None | Some next ↦ option_map (byte_joined at b next) (words_from next bytes) ]
 
 -- the words of a line, parted by spaces; a space in a string doesn't part
 abbrev pub words_of : List ℕ → Option (List (List ℕ))

@@ -143,13 +143,13 @@ abbrev pub mark_words : ScriptParts → Option ℕ → List (List ℕ)
 mark_words script None = []
 mark_words script (Some thread) = codes "waited" ∷ thread_name script thread ∷ []
 
-abbrev pub entry_words : ScriptParts → Entry → List (List ℕ)
-entry_words script entry =
+abbrev pub entry_line_words : ScriptParts → Entry → List (List ℕ)
+entry_line_words script entry =
     place_word script entry ∷ stamp_word entry ∷ call_words script entry.thread entry.call ++ codes "="
     ∷ reply_text script.strings entry.reply ∷ mark_words script entry.waited
 
 abbrev pub entry_line : ScriptParts → Entry → List ℕ
-entry_line script entry = line (entry_words script entry)
+entry_line script entry = line (entry_line_words script entry)
 
 -- ---- contents
 

@@ -24,7 +24,7 @@ use Rattle.ft_script.specs.declared.forms.Argument.{Argument}
 use Rattle.ft_script.specs.declared.forms.Argument.TheVariants as argument
 use Rattle.ft_script.specs.Forms.{call_form}
 use Rattle.ft_script.specs.Texts.{container_name, reply_text, entry_line, line}
-use Rattle.ft_script.specs.Words.{is_wide}
+use Rattle.ft_script.specs.LineWords.{is_wide}
 
 -- ---- entries
 
@@ -148,11 +148,11 @@ pub record IsReadable (script : ScriptParts) (entry : Entry) : Type 0 where
 -- ---- contents
 
 -- what a container of any kind has
-abbrev pub IsWhole : Reply → Type 0
-IsWhole (reply.Dict pairs) = Unit {0}
-IsWhole (reply.List items) = Unit {0}
-IsWhole (reply.Set elements) = Unit {0}
-IsWhole other = ⊥
+abbrev pub IsContentReply : Reply → Type 0
+IsContentReply (reply.Dict pairs) = Unit {0}
+IsContentReply (reply.List items) = Unit {0}
+IsContentReply (reply.Set elements) = Unit {0}
+IsContentReply other = ⊥
 
 -- the line of a container and a content
 abbrev pub content_line : ScriptParts → ℕ → Reply → List ℕ
@@ -164,7 +164,7 @@ pub record IsContentLine (script : ScriptParts) (text : List ℕ) : Type 0 where
   pub container : ℕ
   pub declared : container < length script.containers
   pub content : Reply
-  pub whole : IsWhole content
+  pub whole : IsContentReply content
   pub of_script : IsReplyOf (length script.strings) content
   pub wide : IsWideReply content
   pub written : text ++ 10 ∷ [] ≡ content_line script container content

@@ -1,7 +1,7 @@
 //! Reads the words after the word of a call.
 ghost use Rattle.ft_model.specs.Names.{is_container_name};
 ghost use Rattle.ft_script.specs.Arguments.{container_of, cursor_in, cursor_of, index_and_value_in, index_and_value_of, index_in, index_of, is_of_kind, key_and_value_in, key_and_value_of, key_in, key_of, kind_at, made_cursor_in, made_cursor_of, nothing_in, other_in, other_of, same_kind, section_in, some_index_in, symbol_of, two_containers_of, two_indices_in, two_indices_of, value_in, value_of};
-ghost use Rattle.ft_script.specs.Internal.Answers.{Gives, Reads, draft_of};
+ghost use Rattle.ft_script.specs.Internal.Outcomes.{Gives, GivesWithDraft, draft_of};
 ghost use Rattle.std.specs.Prelude.{◌≡◌, Ok, map};
 
 use crate::draft::Draft;
@@ -31,7 +31,7 @@ impl Draft {
     /// The number of a string.
     #[tactic(auto, unfolding(crate::specs::Arguments::symbol_of))]
     fn symbol_of(&mut self, text: &[u8]) -> Result<u32, LineError>
-        ensures { Reads result (draft_of self.new) (symbol_of (draft_of self.old) text.now) }
+        ensures { GivesWithDraft result (draft_of self.new) (symbol_of (draft_of self.old) text.now) }
     {
         if text.len() > MOST_STRING_BYTES {
             return Err(Fault::Limit(Which::StringBytes).into());
@@ -50,7 +50,7 @@ impl Draft {
     /// The key that a word is.
     #[tactic(auto, unfolding(crate::specs::Arguments::key_of))]
     fn key_of(&mut self, alloc: Global, word: &[u8]) -> Result<Key, LineError>
-        ensures { Reads result (draft_of self.new) (key_of (draft_of self.old) word.now) }
+        ensures { GivesWithDraft result (draft_of self.new) (key_of (draft_of self.old) word.now) }
     {
         if is_string(word) {
             let text = text_of(alloc, word)?;
@@ -63,7 +63,7 @@ impl Draft {
     /// The value that a word is.
     #[tactic(auto, unfolding(crate::specs::Arguments::value_of))]
     fn value_of(&mut self, alloc: Global, word: &[u8]) -> Result<Value, LineError>
-        ensures { Reads result (draft_of self.new) (value_of (draft_of self.old) word.now) }
+        ensures { GivesWithDraft result (draft_of self.new) (value_of (draft_of self.old) word.now) }
     {
         if word == b"None".as_slice() {
             return Ok(Value::Nothing);
@@ -111,7 +111,7 @@ impl Draft {
     /// The number of a cursor that is made, or made anew.
     #[tactic(auto, unfolding(crate::specs::Arguments::made_cursor_of))]
     fn made_cursor_of(&mut self, alloc: Global, name: &[u8]) -> Result<u32, LineError>
-        ensures { Reads result (draft_of self.new) (made_cursor_of (draft_of self.old) name.now) }
+        ensures { GivesWithDraft result (draft_of self.new) (made_cursor_of (draft_of self.old) name.now) }
     {
         if !is_container_name(name) {
             return Err(Fault::Name.into());
@@ -130,7 +130,7 @@ impl Draft {
 
     #[tactic(auto, unfolding(crate::specs::Arguments::key_in))]
     pub(crate) fn key_in(&mut self, alloc: Global, words: &[&[u8]]) -> Result<Key, LineError>
-        ensures { Reads result (draft_of self.new) (key_in (draft_of self.old) (map (λ word. word.now) words.now)) }
+        ensures { GivesWithDraft result (draft_of self.new) (key_in (draft_of self.old) (map (λ word. word.now) words.now)) }
     {
         match words {
             [word] => self.key_of(alloc, word),
@@ -144,7 +144,7 @@ impl Draft {
         alloc: Global,
         words: &[&[u8]],
     ) -> Result<(Key, Value), LineError>
-        ensures { Reads result (draft_of self.new) (key_and_value_in (draft_of self.old) (map (λ word. word.now) words.now)) }
+        ensures { GivesWithDraft result (draft_of self.new) (key_and_value_in (draft_of self.old) (map (λ word. word.now) words.now)) }
     {
         match words {
             [key, value] => self.key_and_value_of(alloc, key, value),
@@ -159,7 +159,7 @@ impl Draft {
         key: &[u8],
         value: &[u8],
     ) -> Result<(Key, Value), LineError>
-        ensures { Reads result (draft_of self.new) (key_and_value_of (draft_of self.old) key.now value.now) }
+        ensures { GivesWithDraft result (draft_of self.new) (key_and_value_of (draft_of self.old) key.now value.now) }
     {
         let found = self.key_of(alloc, key)?;
         let stored = self.value_of(alloc, value)?;
@@ -173,7 +173,7 @@ impl Draft {
         index: &[u8],
         value: &[u8],
     ) -> Result<(i64, Value), LineError>
-        ensures { Reads result (draft_of self.new) (index_and_value_of (draft_of self.old) index.now value.now) }
+        ensures { GivesWithDraft result (draft_of self.new) (index_and_value_of (draft_of self.old) index.now value.now) }
     {
         let place = index_of(index)?;
         let stored = self.value_of(alloc, value)?;
@@ -182,7 +182,7 @@ impl Draft {
 
     #[tactic(auto, unfolding(crate::specs::Arguments::value_in))]
     pub(crate) fn value_in(&mut self, alloc: Global, words: &[&[u8]]) -> Result<Value, LineError>
-        ensures { Reads result (draft_of self.new) (value_in (draft_of self.old) (map (λ word. word.now) words.now)) }
+        ensures { GivesWithDraft result (draft_of self.new) (value_in (draft_of self.old) (map (λ word. word.now) words.now)) }
     {
         match words {
             [word] => self.value_of(alloc, word),
@@ -196,7 +196,7 @@ impl Draft {
         alloc: Global,
         words: &[&[u8]],
     ) -> Result<(i64, Value), LineError>
-        ensures { Reads result (draft_of self.new) (index_and_value_in (draft_of self.old) (map (λ word. word.now) words.now)) }
+        ensures { GivesWithDraft result (draft_of self.new) (index_and_value_in (draft_of self.old) (map (λ word. word.now) words.now)) }
     {
         match words {
             [index, value] => self.index_and_value_of(alloc, index, value),
@@ -220,7 +220,7 @@ impl Draft {
         alloc: Global,
         words: &[&[u8]],
     ) -> Result<u32, LineError>
-        ensures { Reads result (draft_of self.new) (made_cursor_in (draft_of self.old) (map (λ word. word.now) words.now)) }
+        ensures { GivesWithDraft result (draft_of self.new) (made_cursor_in (draft_of self.old) (map (λ word. word.now) words.now)) }
     {
         match words {
             [name] => self.made_cursor_of(alloc, name),

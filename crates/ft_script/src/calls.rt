@@ -1,7 +1,7 @@
 //! Reads the lines of calls.
 ghost use Rattle.ft_model.specs.Limits.{most_calls};
-ghost use Rattle.ft_script.specs.Reading.{call_at, call_line, call_of, container_call, counted_call, depth_after, dict_call, limit_fault, list_call, set_call};
-ghost use Rattle.ft_script.specs.Internal.Answers.{Leaves, Reads, limit_error, draft_of};
+ghost use Rattle.ft_script.specs.ScriptLines.{call_at, call_line, call_of, container_call, counted_call, depth_after, dict_call, limit_fault, list_call, set_call};
+ghost use Rattle.ft_script.specs.Internal.Outcomes.{LeavesDraft, GivesWithDraft, limit_error, draft_of};
 ghost use Rattle.std.specs.Prelude.{◌≡◌, ◌<◌, map};
 
 use crate::arguments::{index_in, nothing_in, some_index_in, two_indices_in};
@@ -13,14 +13,14 @@ use std::alloc::Global;
 
 impl Draft {
     /// A call of a dict.
-    #[tactic(auto, unfolding(crate::specs::Reading::dict_call))]
+    #[tactic(auto, unfolding(crate::specs::ScriptLines::dict_call))]
     fn dict_call(
         &mut self,
         alloc: Global,
         operation: Operation,
         words: &[&[u8]],
     ) -> Result<DictCall, LineError>
-        ensures { Reads result (draft_of self.new) (dict_call (draft_of self.old) operation (map (λ word. word.now) words.now)) }
+        ensures { GivesWithDraft result (draft_of self.new) (dict_call (draft_of self.old) operation (map (λ word. word.now) words.now)) }
     {
         match operation {
             Operation::Get => Ok(DictCall::Get {
@@ -99,14 +99,14 @@ impl Draft {
     }
 
     /// A call of a list.
-    #[tactic(auto, unfolding(crate::specs::Reading::list_call))]
+    #[tactic(auto, unfolding(crate::specs::ScriptLines::list_call))]
     fn list_call(
         &mut self,
         alloc: Global,
         operation: Operation,
         words: &[&[u8]],
     ) -> Result<ListCall, LineError>
-        ensures { Reads result (draft_of self.new) (list_call (draft_of self.old) operation (map (λ word. word.now) words.now)) }
+        ensures { GivesWithDraft result (draft_of self.new) (list_call (draft_of self.old) operation (map (λ word. word.now) words.now)) }
     {
         match operation {
             Operation::Append => Ok(ListCall::Append {
@@ -188,14 +188,14 @@ impl Draft {
     }
 
     /// A call of a set.
-    #[tactic(auto, unfolding(crate::specs::Reading::set_call))]
+    #[tactic(auto, unfolding(crate::specs::ScriptLines::set_call))]
     fn set_call(
         &mut self,
         alloc: Global,
         operation: Operation,
         words: &[&[u8]],
     ) -> Result<SetCall, LineError>
-        ensures { Reads result (draft_of self.new) (set_call (draft_of self.old) operation (map (λ word. word.now) words.now)) }
+        ensures { GivesWithDraft result (draft_of self.new) (set_call (draft_of self.old) operation (map (λ word. word.now) words.now)) }
     {
         match operation {
             Operation::Add => Ok(SetCall::Add {
@@ -270,14 +270,14 @@ impl Draft {
     }
 
     /// A call of the container that the first word names.
-    #[tactic(auto, unfolding(crate::specs::Reading::container_call))]
+    #[tactic(auto, unfolding(crate::specs::ScriptLines::container_call))]
     fn container_call(
         &mut self,
         alloc: Global,
         operation: Operation,
         words: &[&[u8]],
     ) -> Result<Call, LineError>
-        ensures { Reads result (draft_of self.new) (container_call (draft_of self.old) operation (map (λ word. word.now) words.now)) }
+        ensures { GivesWithDraft result (draft_of self.new) (container_call (draft_of self.old) operation (map (λ word. word.now) words.now)) }
     {
         let [name, words @ ..] = words else {
             return Err(Fault::WordCount.into());
@@ -288,7 +288,7 @@ impl Draft {
     }
 
     /// A call of the container at a place, which is of a kind.
-    #[tactic(auto, unfolding(crate::specs::Reading::call_at))]
+    #[tactic(auto, unfolding(crate::specs::ScriptLines::call_at))]
     fn call_at(
         &mut self,
         alloc: Global,
@@ -297,7 +297,7 @@ impl Draft {
         words: &[&[u8]],
         kind: Option<Kind>,
     ) -> Result<Call, LineError>
-        ensures { Reads result (draft_of self.new) (call_at (draft_of self.old) container operation (map (λ word. word.now) words.now) kind) }
+        ensures { GivesWithDraft result (draft_of self.new) (call_at (draft_of self.old) container operation (map (λ word. word.now) words.now) kind) }
     {
         match kind {
             None => Err(Fault::Name.into()),
@@ -317,14 +317,14 @@ impl Draft {
     }
 
     /// The call that a word and those after it are.
-    #[tactic(auto, unfolding(crate::specs::Reading::call_of))]
+    #[tactic(auto, unfolding(crate::specs::ScriptLines::call_of))]
     pub(crate) fn call_of(
         &mut self,
         alloc: Global,
         word: CallWord,
         words: &[&[u8]],
     ) -> Result<Call, LineError>
-        ensures { Reads result (draft_of self.new) (call_of (draft_of self.old) word (map (λ word. word.now) words.now)) }
+        ensures { GivesWithDraft result (draft_of self.new) (call_of (draft_of self.old) word (map (λ word. word.now) words.now)) }
     {
         match word {
             CallWord::Next => Ok(Call::Next {
@@ -347,14 +347,14 @@ impl Draft {
     }
 
     /// Reads the line of a call.
-    #[tactic(auto, using(crate::proofs::CallLemmas::limit_reported), unfolding(crate::specs::Reading::call_line))]
+    #[tactic(auto, using(crate::proofs::CallLemmas::limit_reported), unfolding(crate::specs::ScriptLines::call_line))]
     pub(crate) fn call_line(
         &mut self,
         alloc: Global,
         word: CallWord,
         words: &[&[u8]],
     ) -> Result<(), LineError>
-        ensures { Leaves result (draft_of self.new) (call_line (draft_of self.old) word (map (λ word. word.now) words.now)) }
+        ensures { LeavesDraft result (draft_of self.new) (call_line (draft_of self.old) word (map (λ word. word.now) words.now)) }
     {
         if self.called >= MOST_CALLS {
             return Err(limit_error(self.call_of(alloc, word, words)));
@@ -363,7 +363,7 @@ impl Draft {
     }
 
     /// Reads the line of a call that isn't one too many.
-    #[tactic(auto, unfolding(crate::specs::Reading::counted_call))]
+    #[tactic(auto, unfolding(crate::specs::ScriptLines::counted_call))]
     fn counted_call(
         &mut self,
         alloc: Global,
@@ -371,7 +371,7 @@ impl Draft {
         words: &[&[u8]],
     ) -> Result<(), LineError>
         requires { self.old.called < most_calls }
-        ensures { Leaves result (draft_of self.new) (counted_call (draft_of self.old) word (map (λ word. word.now) words.now)) }
+        ensures { LeavesDraft result (draft_of self.new) (counted_call (draft_of self.old) word (map (λ word. word.now) words.now)) }
     {
         let (called, depth) = (self.called, self.depth);
         let call = self.call_of(alloc, word, words)?;
@@ -414,7 +414,7 @@ fn limit_fault(fault: Fault) -> Fault
 }
 
 /// How many sections are open after a call.
-#[tactic(auto, unfolding(crate::specs::Reading::depth_after))]
+#[tactic(auto, unfolding(crate::specs::ScriptLines::depth_after))]
 fn depth_after(depth: u32, call: &Call) -> Result<u32, Fault>
     ensures { result ≡ depth_after depth call.now }
 {

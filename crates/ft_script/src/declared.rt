@@ -4,7 +4,7 @@ ghost use Rattle.ft_model.specs.Scripts.{AreNamesOf, AreStringsOfDict, AreString
 ghost use Rattle.ft_script.specs.declared.forms.Argument.TheVariants as argument;
 ghost use Rattle.ft_script.specs.Forms.{dict_form, list_form, set_form};
 ghost use Rattle.ft_script.specs.Transcripts.{IsWideArgument, IsWideCall, IsWideKey, IsWideValue};
-ghost use Rattle.ft_script.specs.Words.{is_wide};
+ghost use Rattle.ft_script.specs.LineWords.{is_wide};
 ghost use Rattle.std.specs.List.{AllByRecursion};
 ghost use Rattle.std.specs.Prelude.{◌↔◌, ◌≡◌, ℕ, true, IsTrue, length};
 

@@ -1,7 +1,7 @@
 //! What the lines above a place say.
 ghost use Rattle.ft_model.specs.Limits.{most_threads};
 ghost use Rattle.ft_script.specs.Drafts.{empty_draft, script_of, end_thread};
-ghost use Rattle.ft_script.specs.Internal.Answers.{HasFewThreads, Leaves, draft_of};
+ghost use Rattle.ft_script.specs.Internal.Outcomes.{HasFewThreads, LeavesDraft, draft_of};
 ghost use Rattle.ft_model.specs.Scripts.{default_tables};
 ghost use Rattle.std.specs.List.{zip};
 ghost use Rattle.std.specs.Option.{unwrap_or};
@@ -70,7 +70,7 @@ impl Draft {
     /// Ends the calls of the thread, if one's calls stand here.
     #[tactic(auto, unfolding(crate::specs::Drafts::end_thread))]
     pub(crate) fn end_thread(&mut self, alloc: Global) -> Result<(), LineError>
-        ensures read { Leaves result (draft_of self.new) (end_thread (draft_of self.old)) }
+        ensures read { LeavesDraft result (draft_of self.new) (end_thread (draft_of self.old)) }
         ensures few { OnOk result (HasFewThreads (draft_of self.old) → length self.new.threads ≤ most_threads) }
     {
         let Some(name) = self.name.take() else {

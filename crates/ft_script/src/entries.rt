@@ -4,8 +4,8 @@ ghost use Rattle.ft_script.specs.declared.fault.Fault.TheVariants as fault;
 ghost use Rattle.ft_script.specs.Internal.Candidates.{content_of, entry_of, numbered_of, only_call, stamp_of, thread_call, thread_of, waited_of};
 ghost use Rattle.ft_model.specs.Scripts.{IsScript};
 ghost use Rattle.ft_script.specs.Drafts.{container_place, draft_at, or_fault};
-ghost use Rattle.ft_script.specs.Internal.Answers.{Gives, draft_of};
-ghost use Rattle.ft_script.specs.Reading.{call_of};
+ghost use Rattle.ft_script.specs.Internal.Outcomes.{Gives, draft_of};
+ghost use Rattle.ft_script.specs.ScriptLines.{call_of};
 ghost use Rattle.ft_script.specs.Internal.Readers.{AddsNothing, IsReaderOf, IsUnchanged};
 ghost use Rattle.ft_script.specs.Internal.Tokens.{before_word};
 ghost use Rattle.ft_script.specs.Transcripts.{counts, counts_dict, counts_list, counts_set};
@@ -240,7 +240,7 @@ impl Reader {
     }
 
     /// The call of a thread that some words may be. An `Err` may leave other cursors or strings.
-    #[tactic(auto, unfolding(crate::specs::Internal::Candidates::thread_call, crate::specs::Reading::call_in))]
+    #[tactic(auto, unfolding(crate::specs::Internal::Candidates::thread_call, crate::specs::ScriptLines::call_in))]
     fn thread_call(
         &mut self,
         alloc: Global,

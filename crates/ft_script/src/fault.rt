@@ -1,5 +1,5 @@
 //! The faults of a script's text.
-ghost use Rattle.ft_script.specs.Faults.{no_memory, kind_of, which_of, fault_at, kind_text, limit_text};
+ghost use Rattle.ft_script.specs.Faults.{no_memory, fault_kind, which_of, fault_at, kind_text, limit_text};
 ghost use Rattle.ft_script.specs.declared.fault.LineError.TheVariants.{Memory, Fault as broken};
 ghost use Rattle.std.specs.Prelude.{◌≡◌, ◌==◌};
 
@@ -86,7 +86,7 @@ pub struct ScriptFault {
 impl Fault {
     /// The number that a fault is reported by.
     fn kind(self) -> u8
-        ensures { result ≡ kind_of self }
+        ensures { result ≡ fault_kind self }
     {
         match self {
             Fault::Encoding => 1,

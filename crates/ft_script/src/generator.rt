@@ -3,7 +3,7 @@
 ghost use Rattle.std.specs.Prelude.{◌≡◌, ◌<◌, ◌+◌, ◌∷◌, [], ◌++◌, OnOk, IfOk};
 ghost use Rattle.std.specs.List.{flat_map};
 ghost use Rattle.std.specs.Fmt.{decimal};
-ghost use Rattle.ft_script.specs.Generator.{number_after, number_at, made_head, made_call, made_calls, share, thread_words, made_text};
+ghost use Rattle.ft_script.specs.Generator.{drawn_after, number_at, made_head, made_call, made_calls, share, thread_words, made_text};
 ghost use Rattle.ft_script.specs.Texts.{line, call_words};
 
 use crate::shown::push_integer;
@@ -53,15 +53,15 @@ fn push_thread(out: &mut Vec<u8>, thread: u32, calls: u32, first: u64) -> Result
     out.push(b'\n')?;
     let mut number = first;
     for _ in 0..calls {
-        number = number_after(number);
+        number = drawn_after(number);
         push_call(out, number)?;
     }
     Ok(number)
 }
 
 /// The number that is drawn after another.
-fn number_after(number: u64) -> u64
-    ensures { result ≡ number_after number }
+fn drawn_after(number: u64) -> u64
+    ensures { result ≡ drawn_after number }
 {
     number
         .wrapping_mul(6_364_136_223_846_793_005)

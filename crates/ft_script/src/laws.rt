@@ -8,8 +8,8 @@ ghost use Rattle.ft_model.specs.Histories.{cursors_of};
 ghost use Rattle.ft_model.specs.Scripts.{IsCallOf, IsScript};
 ghost use Rattle.ft_script.specs.Drafts.{draft_at};
 ghost use Rattle.ft_script.specs.Generator.{made_script, made_text};
-ghost use Rattle.ft_script.specs.Reading.{call_in};
-ghost use Rattle.ft_script.specs.Scripts.{read_script};
+ghost use Rattle.ft_script.specs.ScriptLines.{call_in};
+ghost use Rattle.ft_script.specs.ReadScripts.{read_script};
 ghost use Rattle.ft_script.specs.Texts.{call_words};
 ghost use Rattle.ft_script.specs.Transcripts.{IsFirstBad, IsTranscript, IsWideCall};
 

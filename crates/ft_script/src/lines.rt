@@ -1,6 +1,6 @@
 //! The lines of a text, and the words of a line.
 ghost use Rattle.ft_script.specs.Drafts.{or_fault};
-ghost use Rattle.ft_script.specs.Internal.Answers.{Gives};
+ghost use Rattle.ft_script.specs.Internal.Outcomes.{Gives};
 ghost use Rattle.ft_script.specs.declared.fault.Fault.TheVariants as fault;
 ghost use Rattle.ft_script.specs.Lines.{lines_of, words_of, first_word, ends_thread, is_comment, is_word, place_after, word_ends, word_start};
 ghost use Rattle.std.specs.Prelude.{◌≡◌, ◌<◌, [], ◌∷◌, ◌++◌, length, map, option_copied, OnOk, if◌then◌else◌};

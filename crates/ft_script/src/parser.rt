@@ -1,9 +1,9 @@
 //! Reads scripts.
 ghost use Rattle.ft_script.specs.Drafts.{empty_draft};
 ghost use Rattle.ft_script.specs.Faults.{no_memory};
-ghost use Rattle.ft_script.specs.Internal.Answers.{reported, draft_of};
+ghost use Rattle.ft_script.specs.Internal.Outcomes.{reported, draft_of};
 ghost use Rattle.ft_script.specs.Lines.{lines_of};
-ghost use Rattle.ft_script.specs.Scripts.{line_after, read_lines, read_script};
+ghost use Rattle.ft_script.specs.ReadScripts.{line_after, read_lines, read_script};
 ghost use Rattle.std.specs.Prelude.{◌≡◌, ◌==◌, ◌⊎◌, IfErr, IfOk, IsUtf8, OnOk, Ok, Err, count_by};
 
 use crate::draft::Draft;

@@ -1,6 +1,6 @@
 //! Reads the reply that some tokens may be.
 ghost use Rattle.ft_script.specs.Internal.Candidates.{braced_of, but_last, class_error_of, counted_reply, each_of, first_reply, has_pairs, is_decimal, known_key, known_pair, known_value, memory_error_of, natural_in, pairs_of, reply_of, runtime_error_of, shown_reply, suspended_of, u32_of, u64_of, worded_reply};
-ghost use Rattle.ft_script.specs.Internal.Answers.{Gives};
+ghost use Rattle.ft_script.specs.Internal.Outcomes.{Gives};
 ghost use Rattle.std.specs.Prelude.{◌≡◌, map};
 
 use crate::arguments::index_of;

@@ -1,8 +1,8 @@
 //! Reads the lines of a script.
 ghost use Rattle.ft_model.specs.Classes.{class_count};
 ghost use Rattle.ft_model.specs.Limits.{most_threads};
-ghost use Rattle.ft_script.specs.Internal.Answers.{HasFewThreads, Leaves, LeavesAlways, draft_of};
-ghost use Rattle.ft_script.specs.Reading.{class_of, class_place, container_line, declaration, heap_line, open_line, order_line, other_statement, read_line, statement, tables_at, tables_line, tables_by_words, thread_line, thread_statement, turn, turns, words_line};
+ghost use Rattle.ft_script.specs.Internal.Outcomes.{HasFewThreads, LeavesDraft, LeavesAlways, draft_of};
+ghost use Rattle.ft_script.specs.ScriptLines.{class_of, class_place, container_line, declaration, heap_line, open_line, order_line, other_statement, read_line, statement, tables_at, tables_line, tables_by_words, thread_line, thread_statement, turn, turns, words_line};
 ghost use Rattle.std.specs.Prelude.{◌≡◌, ◌<◌, ◌≤◌, IfOk, IfSome, OnOk, length, map};
 
 use crate::arguments::index_of;
@@ -30,7 +30,7 @@ fn class_place(class: i64) -> Option<usize>
     }
 }
 
-#[tactic(auto, unfolding(crate::specs::Reading::class_of))]
+#[tactic(auto, unfolding(crate::specs::ScriptLines::class_of))]
 fn class_of(word: &[u8]) -> Result<usize, Fault>
     ensures class { result ≡ class_of word.now }
     ensures small { IfOk result (λ place. place < class_count) }
@@ -41,14 +41,14 @@ fn class_of(word: &[u8]) -> Result<usize, Fault>
 
 impl Draft {
     /// Reads the line of a container.
-    #[tactic(auto, unfolding(crate::specs::Reading::container_line))]
+    #[tactic(auto, unfolding(crate::specs::ScriptLines::container_line))]
     fn container_line(
         &mut self,
         alloc: Global,
         kind: Kind,
         words: &[&[u8]],
     ) -> Result<(), LineError>
-        ensures { Leaves result (draft_of self.new) (container_line (draft_of self.old) kind (map (λ word. word.now) words.now)) }
+        ensures { LeavesDraft result (draft_of self.new) (container_line (draft_of self.old) kind (map (λ word. word.now) words.now)) }
     {
         let [name] = words else {
             return Err(Fault::WordCount.into());
@@ -68,7 +68,7 @@ impl Draft {
     }
 
     /// Reads the line of a class's tables.
-    #[tactic(auto, unfolding(crate::specs::Reading::tables_line))]
+    #[tactic(auto, unfolding(crate::specs::ScriptLines::tables_line))]
     fn tables_line(&mut self, words: &[&[u8]]) -> Result<(), Fault>
         ensures { LeavesAlways result (draft_of self.new) (tables_line (draft_of self.old) (map (λ word. word.now) words.now)) }
     {
@@ -78,7 +78,7 @@ impl Draft {
         }
     }
 
-    #[tactic(auto, unfolding(crate::specs::Reading::tables_by_words))]
+    #[tactic(auto, unfolding(crate::specs::ScriptLines::tables_by_words))]
     fn tables_by_words(&mut self, class: &[u8], count: &[u8]) -> Result<(), Fault>
         ensures { LeavesAlways result (draft_of self.new) (tables_by_words (draft_of self.old) class.now count.now) }
     {
@@ -86,7 +86,7 @@ impl Draft {
         self.tables_at(place, count)
     }
 
-    #[tactic(auto, unfolding(crate::specs::Reading::tables_at))]
+    #[tactic(auto, unfolding(crate::specs::ScriptLines::tables_at))]
     fn tables_at(&mut self, place: usize, count: &[u8]) -> Result<(), Fault>
         requires { place < class_count }
         ensures { LeavesAlways result (draft_of self.new) (tables_at (draft_of self.old) place count.now) }
@@ -103,7 +103,7 @@ impl Draft {
     }
 
     /// Reads the line of the heap.
-    #[tactic(auto, unfolding(crate::specs::Reading::heap_line))]
+    #[tactic(auto, unfolding(crate::specs::ScriptLines::heap_line))]
     fn heap_line(&mut self, words: &[&[u8]]) -> Result<(), Fault>
         ensures { LeavesAlways result (draft_of self.new) (heap_line (draft_of self.old) (map (λ word. word.now) words.now)) }
     {
@@ -124,9 +124,9 @@ impl Draft {
     }
 
     /// Reads a line above all threads.
-    #[tactic(auto, unfolding(crate::specs::Reading::declaration))]
+    #[tactic(auto, unfolding(crate::specs::ScriptLines::declaration))]
     fn declaration(&mut self, alloc: Global, word: &[u8], words: &[&[u8]]) -> Result<(), LineError>
-        ensures { Leaves result (draft_of self.new) (declaration (draft_of self.old) word.now (map (λ word. word.now) words.now)) }
+        ensures { LeavesDraft result (draft_of self.new) (declaration (draft_of self.old) word.now (map (λ word. word.now) words.now)) }
     {
         if word == b"dict".as_slice() {
             self.container_line(alloc, Kind::Dict, words)
@@ -144,10 +144,10 @@ impl Draft {
     }
 
     /// Reads the line of a thread.
-    #[tactic(auto, unfolding(crate::specs::Reading::thread_line))]
+    #[tactic(auto, unfolding(crate::specs::ScriptLines::thread_line))]
     fn thread_line(&mut self, alloc: Global, words: &[&[u8]]) -> Result<(), LineError>
         requires { length self.old.threads ≤ most_threads }
-        ensures { Leaves result (draft_of self.new) (thread_line (draft_of self.old) (map (λ word. word.now) words.now)) }
+        ensures { LeavesDraft result (draft_of self.new) (thread_line (draft_of self.old) (map (λ word. word.now) words.now)) }
     {
         let [name] = words else {
             return Err(Fault::WordCount.into());
@@ -167,10 +167,10 @@ impl Draft {
     }
 
     /// Reads a name of an `order` line.
-    #[tactic(auto, unfolding(crate::specs::Reading::turn))]
+    #[tactic(auto, unfolding(crate::specs::ScriptLines::turn))]
     fn turn(&mut self, name: &[u8]) -> Result<(), LineError>
         requires { length self.old.threads ≤ most_threads }
-        ensures read { Leaves result (draft_of self.new) (turn (draft_of self.old) name.now) }
+        ensures read { LeavesDraft result (draft_of self.new) (turn (draft_of self.old) name.now) }
         ensures threads { OnOk result (self.new.threads ≡ self.old.threads) }
     {
         if !is_thread_name(name) {
@@ -185,10 +185,10 @@ impl Draft {
     }
 
     /// Reads an `order` line.
-    #[tactic(auto, unfolding(crate::specs::Reading::order_line))]
+    #[tactic(auto, unfolding(crate::specs::ScriptLines::order_line))]
     fn order_line(&mut self, words: &[&[u8]]) -> Result<(), LineError>
         requires { length self.old.threads ≤ most_threads }
-        ensures { Leaves result (draft_of self.new) (order_line (draft_of self.old) (map (λ word. word.now) words.now)) }
+        ensures { LeavesDraft result (draft_of self.new) (order_line (draft_of self.old) (map (λ word. word.now) words.now)) }
     {
         if words.is_empty() {
             return Err(Fault::WordCount.into());
@@ -198,7 +198,7 @@ impl Draft {
 
     fn turns(&mut self, names: &[&[u8]]) -> Result<(), LineError>
         requires { length self.old.threads ≤ most_threads }
-        ensures { Leaves result (draft_of self.new) (turns (draft_of self.old) (map (λ word. word.now) names.now)) }
+        ensures { LeavesDraft result (draft_of self.new) (turns (draft_of self.old) (map (λ word. word.now) names.now)) }
     {
         for name in names {
             self.turn(name)?;
@@ -207,10 +207,10 @@ impl Draft {
     }
 
     /// Reads a line by its words.
-    #[tactic(auto, unfolding(crate::specs::Reading::statement))]
+    #[tactic(auto, unfolding(crate::specs::ScriptLines::statement))]
     fn statement(&mut self, alloc: Global, words: &[&[u8]]) -> Result<(), LineError>
         requires { length self.old.threads ≤ most_threads }
-        ensures { Leaves result (draft_of self.new) (statement (draft_of self.old) (map (λ word. word.now) words.now)) }
+        ensures { LeavesDraft result (draft_of self.new) (statement (draft_of self.old) (map (λ word. word.now) words.now)) }
     {
         let [word, words @ ..] = words else {
             return Ok(());
@@ -223,7 +223,7 @@ impl Draft {
     }
 
     /// Reads a line that isn't an `order` line: after one it may not stand, and after a `thread` line no declaration may.
-    #[tactic(auto, unfolding(crate::specs::Reading::other_statement, crate::specs::Reading::unordered_statement, crate::specs::Reading::plain_statement))]
+    #[tactic(auto, unfolding(crate::specs::ScriptLines::other_statement, crate::specs::ScriptLines::unordered_statement, crate::specs::ScriptLines::plain_statement))]
     fn other_statement(
         &mut self,
         alloc: Global,
@@ -231,7 +231,7 @@ impl Draft {
         words: &[&[u8]],
     ) -> Result<(), LineError>
         requires { length self.old.threads ≤ most_threads }
-        ensures { Leaves result (draft_of self.new) (other_statement (draft_of self.old) word.now (map (λ word. word.now) words.now)) }
+        ensures { LeavesDraft result (draft_of self.new) (other_statement (draft_of self.old) word.now (map (λ word. word.now) words.now)) }
     {
         if self.order.len() != 0 {
             Err(Fault::UnknownWord.into())
@@ -245,24 +245,24 @@ impl Draft {
     }
 
     /// Reads a line of a thread.
-    #[tactic(auto, unfolding(crate::specs::Reading::thread_statement))]
+    #[tactic(auto, unfolding(crate::specs::ScriptLines::thread_statement))]
     fn thread_statement(
         &mut self,
         alloc: Global,
         word: &[u8],
         words: &[&[u8]],
     ) -> Result<(), LineError>
-        ensures { Leaves result (draft_of self.new) (thread_statement (draft_of self.old) word.now (map (λ word. word.now) words.now)) }
+        ensures { LeavesDraft result (draft_of self.new) (thread_statement (draft_of self.old) word.now (map (λ word. word.now) words.now)) }
     {
         let found = call_word_of(word).ok_or(Fault::UnknownWord)?;
         self.call_line(alloc, found, words)
     }
 
     /// Reads a line.
-    #[tactic(auto, unfolding(crate::specs::Reading::read_line))]
+    #[tactic(auto, unfolding(crate::specs::ScriptLines::read_line))]
     pub(crate) fn read_line(&mut self, alloc: Global, line: &[u8]) -> Result<(), LineError>
         requires { HasFewThreads (draft_of self.old) }
-        ensures { Leaves result (draft_of self.new) (read_line (draft_of self.old) line.now) }
+        ensures { LeavesDraft result (draft_of self.new) (read_line (draft_of self.old) line.now) }
     {
         if is_comment(line) {
             Ok(())
@@ -271,10 +271,10 @@ impl Draft {
         }
     }
 
-    #[tactic(auto, unfolding(crate::specs::Reading::open_line))]
+    #[tactic(auto, unfolding(crate::specs::ScriptLines::open_line))]
     fn open_line(&mut self, alloc: Global, line: &[u8]) -> Result<(), LineError>
         requires { HasFewThreads (draft_of self.old) }
-        ensures { Leaves result (draft_of self.new) (open_line (draft_of self.old) line.now) }
+        ensures { LeavesDraft result (draft_of self.new) (open_line (draft_of self.old) line.now) }
     {
         if ends_thread(line) {
             self.end_thread(alloc)?;
@@ -284,10 +284,10 @@ impl Draft {
         }
     }
 
-    #[tactic(auto, unfolding(crate::specs::Reading::words_line))]
+    #[tactic(auto, unfolding(crate::specs::ScriptLines::words_line))]
     fn words_line(&mut self, alloc: Global, line: &[u8]) -> Result<(), LineError>
         requires { length self.old.threads ≤ most_threads }
-        ensures { Leaves result (draft_of self.new) (words_line (draft_of self.old) line.now) }
+        ensures { LeavesDraft result (draft_of self.new) (words_line (draft_of self.old) line.now) }
     {
         let words = words_of(alloc, line)?;
         self.statement(alloc, &words)

@@ -2,11 +2,11 @@
 ghost use Rattle.ft_model.specs.Histories.{cursors_of};
 ghost use Rattle.ft_model.specs.Parts.{IsEntryOf, IsReplyOf};
 ghost use Rattle.ft_model.specs.Scripts.{IsCallOf, IsScript};
-ghost use Rattle.ft_script.specs.Internal.Answers.{draft_of};
+ghost use Rattle.ft_script.specs.Internal.Outcomes.{draft_of};
 ghost use Rattle.ft_script.specs.Internal.Readers.{AddsContent, AddsEntry, IfFault, IsLine, IsReaderOf, NoContent, NoEntry, but_feed, is_feedless, refused, reported_line};
 ghost use Rattle.ft_script.specs.Texts.{entry_line};
 ghost use Rattle.ft_script.specs.Internal.Tokens.{tokens_of};
-ghost use Rattle.ft_script.specs.Transcripts.{IsContentLine, IsFirstBad, IsReadable, IsTranscript, IsWhole, IsWideCall, content_line};
+ghost use Rattle.ft_script.specs.Transcripts.{IsContentLine, IsFirstBad, IsReadable, IsTranscript, IsContentReply, IsWideCall, content_line};
 ghost use Rattle.ft_script.specs.declared.fault.LineError.TheVariants as error;
 ghost use Rattle.ft_script.specs.declared.transcript.TranscriptFault.TheVariants.{Line, Memory};
 ghost use Rattle.std.specs.Prelude.{◌≡◌, ◌≤◌, ◌<◌, ◌↔◌, ◌⊎◌, ◌++◌, [], true, ℕ, IfErr, IfOk, IsTrue, MatchBool, MatchOption, OnErr, OnOk, length, map};
@@ -267,7 +267,7 @@ fn prints_content(
 ) -> Result<bool, LineError>
     requires container { container < length script.now.containers }
     requires content { IsReplyOf (length script.now.strings) content.now }
-    ensures read { IfOk result (λ is. IsTrue is ↔ (IsWhole content.now × (line.now ≡ content_line script.now container content.now))) }
+    ensures read { IfOk result (λ is. IsTrue is ↔ (IsContentReply content.now × (line.now ≡ content_line script.now container content.now))) }
     ensures memory { IfErr result (λ e. e ≡ error.Memory) }
 {
     if !is_whole(content) {
@@ -280,7 +280,7 @@ fn prints_content(
 
 /// Whether the reply is what a container of any kind has.
 fn is_whole(reply: &Reply) -> bool
-    ensures { IsTrue result ↔ IsWhole reply.now }
+    ensures { IsTrue result ↔ IsContentReply reply.now }
 {
     matches!(reply, Reply::Dict(_) | Reply::List(_) | Reply::Set(_))
 }

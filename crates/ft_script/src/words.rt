@@ -1,6 +1,6 @@
 //! What the words of a line say.
 ghost use Rattle.ft_model.specs.Names.{is_container_byte, is_container_name, is_thread_byte, is_thread_name};
-ghost use Rattle.ft_script.specs.Words.{integer_of, is_integer, is_positive, is_string, text_of, unescaped};
+ghost use Rattle.ft_script.specs.LineWords.{integer_of, is_integer, is_positive, is_string, text_of, unescaped};
 ghost use Rattle.std.specs.Prelude.{◌≡◌, ◌<◌, IfOk, length};
 
 use std::alloc::{AllocError, Global};
@@ -78,7 +78,7 @@ pub(crate) fn is_string(word: &[u8]) -> bool
 }
 
 /// What a string says: the bytes between its marks, each escape being one byte.
-#[tactic(auto, unfolding(crate::specs::Words::text_of))]
+#[tactic(auto, unfolding(crate::specs::LineWords::text_of))]
 pub(crate) fn text_of(alloc: Global, word: &[u8]) -> Result<Vec<u8>, AllocError>
     requires { 0 < length word.now }
     ensures { IfOk result (λ text. text.items ≡ text_of word.now) }

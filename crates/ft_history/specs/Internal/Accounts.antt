@@ -20,20 +20,20 @@ abbrev pub tables_of : List KeptTable → List TableUse
 tables_of kept = map table_of kept
 
 -- how many tables of the class were taken
-abbrev pub taken_of : List ℕ → ℕ → ℕ
-taken_of takings class = slice_index_or takings (class - least_class) 0
+abbrev pub tables_taken : List ℕ → ℕ → ℕ
+tables_taken takings class = slice_index_or takings (class - least_class) 0
 
 -- what is kept is what these writes come to
 pub record IsAccount (script : ScriptParts) (calls : List Call) (account : TableAccount) : Type 0 where
   pub tables : tables_of account.tables.items ≡ (stored_after script calls).tables
   pub classes : length account.takings.items ≡ class_count
-  pub takings : (class : ℕ) → IsClass class → taken_of account.takings.items class ≡ takes script class calls
+  pub takings : (class : ℕ) → IsClass class → tables_taken account.takings.items class ≡ takes script class calls
 
 -- one table more is taken, if one is
 pub record CountsTaking (taking : Option ℕ) (old new : List ℕ) : Type 0 where
   pub classes : length new ≡ length old
   pub takings : (class : ℕ) → IsClass class
-      → taken_of new class ≡ taken_of old class + (if is_class class taking then 1 else 0)
+      → tables_taken new class ≡ tables_taken old class + (if is_class class taking then 1 else 0)
 
 -- what is kept goes on after a call that led from one world to another
 pub record CountsCall (old new : List Content) (called : Call) (before after : TableAccount) : Type 0 where

@@ -57,21 +57,21 @@ AreUsers script users = (thread container : ℕ) → is_used users thread contai
 -- ---- open sections
 
 -- an open section: its containers, the place of its `begin`, and how many calls of its thread had waited then
-pub record Begun : Type 0 where
+pub record BegunSection : Type 0 where
   pub containers : List ℕ
   pub begun : ℕ
   pub marks : ℕ
 
-abbrev pub begun_of : OpenSection → Begun
+abbrev pub begun_of : OpenSection → BegunSection
 begun_of section =
     record { containers = container_list section.containers; begun = section.begun; marks = section.marks }
 
 -- innermost first
-abbrev pub all_begun : List OpenSection → List Begun
+abbrev pub all_begun : List OpenSection → List BegunSection
 all_begun sections = reverse (map begun_of sections)
 
 -- the open sections of a thread after a call of it at a place, by when a number of its calls have waited
-abbrev pub after_begun : ℕ → ℕ → Call → List Begun → List Begun
+abbrev pub after_begun : ℕ → ℕ → Call → List BegunSection → List BegunSection
 after_begun place marks (call.Begin first second) sections =
     record { containers = one_or_two first second; begun = place; marks = marks } ∷ sections
 after_begun place marks call.End sections = drop 1 sections
@@ -82,22 +82,23 @@ after_begun place marks (call.Next cursor) sections = sections
 after_begun place marks call.Quiesce sections = sections
 
 -- the section without its count
-abbrev pub section_of : Begun → Section
+abbrev pub section_of : BegunSection → Section
 section_of begun = record { containers = begun.containers; begun = begun.begun }
 
 -- what is kept of an open section of a thread at a place: how many calls of the thread had waited when it was begun
-pub record IsOpen (script : ScriptParts) (entries : List Entry) (thread place : ℕ) (section : Begun) : Type 0 where
+pub record IsOpen (script : ScriptParts) (entries : List Entry) (thread place : ℕ)
+    (section : BegunSection) : Type 0 where
   pub before : section.begun < place
   pub marks : section.marks ≡ count_by (is_marked thread) (take (section.begun + 1) entries)
   pub containers : All (λ container. container < length script.containers) section.containers
 
 -- this holds for what is kept of the innermost open section, where there is one
-abbrev pub IfInnerBegun : List Begun → (Begun → Type 0) → Type 0
+abbrev pub IfInnerBegun : List BegunSection → (BegunSection → Type 0) → Type 0
 IfInnerBegun [] P = Unit {0}
 IfInnerBegun (section ∷ sections) P = P section
 
 -- of an `end`, this holds for what is kept of the section that it ends
-abbrev pub IfEndsBegun : List Begun → Call → (Begun → Type 0) → Type 0
+abbrev pub IfEndsBegun : List BegunSection → Call → (BegunSection → Type 0) → Type 0
 IfEndsBegun sections call.End P = IfInnerBegun sections P
 IfEndsBegun sections (call.Dict container dict_call) P = Unit {0}
 IfEndsBegun sections (call.List container list_call) P = Unit {0}
@@ -107,7 +108,7 @@ IfEndsBegun sections (call.Begin first second) P = Unit {0}
 IfEndsBegun sections call.Quiesce P = Unit {0}
 
 -- the containers of the innermost open section, where there is one
-abbrev pub inner_begun : List Begun → List ℕ
+abbrev pub inner_begun : List BegunSection → List ℕ
 inner_begun [] = []
 inner_begun (section ∷ sections) = section.containers
 
@@ -123,7 +124,7 @@ pub record IsProgress (script : ScriptParts) (entries : List Entry) (thread plac
   pub «open» : AllByRecursion (IsOpen script entries thread place) (all_begun progress.sections.items)
 
 -- what is kept of a thread that has made no call
-pub record IsFresh (thread : Thread) (progress : ThreadProgress) : Type 0 where
+pub record IsFreshProgress (thread : Thread) (progress : ThreadProgress) : Type 0 where
   pub made : progress.made ≡ 0
   pub marks : progress.marks ≡ 0
   pub hands : progress.hands ≡ start_hands (length thread.cursors)
@@ -166,7 +167,7 @@ is_written_since writes thread since =
     (λ last. if last.thread == thread then is_from since writes.other else nat_le since last.place) writes.last false
 
 -- what is kept of the writes on a container before a place
-pub record IsLast (entries : List Entry) (place container : ℕ) (writes : LastWrites) : Type 0 where
+pub record AreLastWrites (entries : List Entry) (place container : ℕ) (writes : LastWrites) : Type 0 where
   -- it tells whether another thread wrote on the container, from any place on
   pub since : (thread since : ℕ)
       → list_any (disturbs thread (container ∷ [])) (drop since (take place entries))
@@ -181,7 +182,7 @@ is_written_on containers thread since container =
     option_map_or (λ (writes : LastWrites). is_written_since writes thread since) (slice_get containers container) false
 
 -- an `end` says kept only where no other thread wrote on the section's containers after its `begin`
-abbrev pub IsKeptSince : List LastWrites → ℕ → Begun → Reply → Type 0
+abbrev pub IsKeptSince : List LastWrites → ℕ → BegunSection → Reply → Type 0
 IsKeptSince containers thread section reply.Kept =
     list_any (is_written_on containers thread (section.begun + 1)) section.containers ≡ false
 IsKeptSince containers thread section said = Unit {0}

@@ -14,7 +14,7 @@ use Rattle.ft_history.specs.declared.progress.ThreadProgress.{ThreadProgress}
 use Rattle.ft_history.specs.declared.writers.LastWrites.{LastWrites}
 use Rattle.ft_history.specs.declared.state.State.{State}
 use Rattle.ft_history.specs.Internal.Accounts.{IsAccount, CountsCall}
-use Rattle.ft_history.specs.Internal.States.{world_before, all_begun, after_begun, after_one, IsProgress, AreHandsOf, IsLast}
+use Rattle.ft_history.specs.Internal.States.{world_before, all_begun, after_begun, after_one, IsProgress, AreHandsOf, AreLastWrites}
 
 -- the state says what the entries before a place come to
 pub record IsState (script : ScriptParts) (entries : List Entry) (place : ℕ) (state : State) : Type 0 where
@@ -28,7 +28,7 @@ pub record IsState (script : ScriptParts) (entries : List Entry) (place : ℕ) (
       → AreHandsOf script thread progress.made progress.hands
   pub containers : length state.containers.items ≡ length script.containers
   pub lasts : (container : ℕ) (last : LastWrites) → slice_get state.containers.items container ≡ Some last
-      → IsLast entries place container last
+      → AreLastWrites entries place container last
   pub account : IsAccount script (writes (take place entries)) state.account
 
 -- the state goes on after an entry of the thread that went on from one progress to another
@@ -90,9 +90,9 @@ FindsLate storage script entries place entry (Some rule) =
     HoldsFirst storage script entries place entry 4 → BreaksFirst storage script entries place entry rule
 
 -- of all rules, the first that the entry breaks
-abbrev pub Finds : Storage → ScriptParts → List Entry → ℕ → Entry → Option Rule → Type 0
-Finds storage script entries place entry None = (rule : Rule) → Holds storage script entries rule place entry
-Finds storage script entries place entry (Some rule) = BreaksFirst storage script entries place entry rule
+abbrev pub FindsBroken : Storage → ScriptParts → List Entry → ℕ → Entry → Option Rule → Type 0
+FindsBroken storage script entries place entry None = (rule : Rule) → Holds storage script entries rule place entry
+FindsBroken storage script entries place entry (Some rule) = BreaksFirst storage script entries place entry rule
 
 -- each thread has made as many calls as it has
 abbrev pub HaveMadeAll : List Thread → List ThreadProgress → Type 0

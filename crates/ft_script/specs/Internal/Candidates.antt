@@ -25,10 +25,10 @@ use Rattle.ft_script.specs.declared.reply_words.ReplyWord.{ReplyWord}
 use Rattle.ft_script.specs.declared.reply_words.ReplyWord.TheVariants as word
 use Rattle.ft_script.specs.Arguments.{index_of}
 use Rattle.ft_script.specs.Drafts.{◌>>=◌, or_fault, container_place, thread_place, text_place, draft_at}
-use Rattle.ft_script.specs.Reading.{call_in}
+use Rattle.ft_script.specs.ScriptLines.{call_in}
 use Rattle.ft_script.specs.Transcripts.{counts}
 use Rattle.ft_script.specs.Internal.Tokens.{before_word, after_word}
-use Rattle.ft_script.specs.Words.{is_string, text_of}
+use Rattle.ft_script.specs.LineWords.{is_string, text_of}
 
 -- ---- numbers
 

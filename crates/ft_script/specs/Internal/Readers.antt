@@ -11,7 +11,7 @@ use Rattle.ft_script.specs.declared.fault.LineError.TheVariants as error
 use Rattle.ft_script.specs.declared.transcript.TranscriptFault.{TranscriptFault}
 use Rattle.ft_script.specs.declared.transcript.TranscriptFault.TheVariants as found
 use Rattle.ft_script.specs.Drafts.{draft_at, empty_draft}
-use Rattle.ft_script.specs.Reading.{call_in}
+use Rattle.ft_script.specs.ScriptLines.{call_in}
 use Rattle.ft_script.specs.Texts.{entry_line}
 use Rattle.ft_script.specs.Transcripts.{IsReadable, IsContentLine}
 

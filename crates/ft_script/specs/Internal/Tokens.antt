@@ -48,15 +48,16 @@ fronted b place.Between tokens = tokens
 fronted b other tokens = with_first b tokens
 
 -- and the token above it ends there or goes on
-abbrev pub parted : Bool → List (List ℕ) → List (List ℕ)
-parted ends tokens = if ends then [] ∷ tokens else tokens
+abbrev pub token_parted : Bool → List (List ℕ) → List (List ℕ)
+token_parted ends tokens = if ends then [] ∷ tokens else tokens
 
 -- the tokens from a place on, the first of them being what is left of the token there
 unfoldable pub tokens_from : Place → List ℕ → List (List ℕ)
 tokens_from place.Between [] = []
 tokens_from other [] = [] ∷ []
 tokens_from at (b ∷ bytes) =
-    parted (token_ends at (place_after at b)) (fronted b (place_after at b) (tokens_from (place_after at b) bytes))
+    token_parted (token_ends at (place_after at b))
+    (fronted b (place_after at b) (tokens_from (place_after at b) bytes))
 
 abbrev pub tokens_of : List ℕ → List (List ℕ)
 tokens_of line = tokens_from place.Between line

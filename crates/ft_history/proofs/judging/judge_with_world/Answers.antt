@@ -8,7 +8,7 @@ use Rattle.ft_model.specs.Histories.{writes, world_at, IsLegal}
 use Rattle.std.proofs.lemmas.List.{take_all}
 use Rattle.ft_history.proofs.Places.{world_at-before}
 use Rattle.ft_model.specs.Judging.{IsFirstBroken}
-use Rattle.ft_history.specs.Internal.Steps.{IsState, IsUnbrokenBefore, Finds, HaveMadeAll}
+use Rattle.ft_history.specs.Internal.Steps.{IsState, IsUnbrokenBefore, FindsBroken, HaveMadeAll}
 use Rattle.ft_history.proofs.FewEntries.{few_entries}
 use Rattle.ft_history.proofs.VerdictLemmas.{goes_on, first_broken, legal_at_end, missing_at_end}
 use Rattle.ft_history.proofs.judging.judge_with_world.Goals as goal
@@ -24,7 +24,7 @@ returns-in-Some-clause-verdict c =
     let parts = c.parts-parts.result.now in
     let entries = c.args.entries.now in
     let place : ℕ = c.loop-place.place in
-    let finds : (entry : Entry) → slice_get entries place ≡ Some entry → Finds c.args.storage parts entries place entry (Some c.in-Some.rule) = λ entry at. subst (Finds c.args.storage parts entries place entry) c.in-Some.is (c.in_ok-rule.ensures.found entry at) in
+    let finds : (entry : Entry) → slice_get entries place ≡ Some entry → FindsBroken c.args.storage parts entries place entry (Some c.in-Some.rule) = λ entry at. subst (FindsBroken c.args.storage parts entries place entry) c.in-Some.is (c.in_ok-rule.ensures.found entry at) in
     let broken = first_broken c.args.storage parts entries place c.loop-place-test.true c.loop-place.invariant.unbroken c.in-Some.rule finds in
     let back : place ≡ place + 1 - 1 = omega arith in
     (omega arith, subst (λ p. IsFirstBroken c.args.storage p entries (place + 1 - 1) c.in-Some.rule) c.parts-parts.ensures.parts (subst (λ k. IsFirstBroken c.args.storage parts entries k c.in-Some.rule) back broken))
@@ -35,7 +35,7 @@ loop-place-preserved c =
     let entries = c.args.entries.now in
     let place : ℕ = c.loop-place.place in
     record {
-      unbroken = goes_on c.args.storage parts entries place c.loop-place-test.true c.loop-place.invariant.unbroken (λ entry at. subst (Finds c.args.storage parts entries place entry) c.in_default.is (c.in_ok-rule.ensures.found entry at));
+      unbroken = goes_on c.args.storage parts entries place c.loop-place-test.true c.loop-place.invariant.unbroken (λ entry at. subst (FindsBroken c.args.storage parts entries place entry) c.in_default.is (c.in_ok-rule.ensures.found entry at));
       is_state = subst (λ o. IfNone o (IsState parts entries (place + 1) c.step.new.state)) c.in_default.is c.in_ok-rule.ensures.state;
     }
 

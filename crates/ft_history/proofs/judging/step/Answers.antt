@@ -4,7 +4,7 @@ use Rattle.ft_model.specs.Calls.{containers_of}
 use Rattle.std.proofs.lemmas.Option.{slice_get_read, same_Some}
 use Rattle.ft_model.specs.declared.entry.Entry.{Entry}
 use Rattle.ft_model.specs.declared.entry.Rule.TheVariants as rule
-use Rattle.ft_history.specs.Internal.Steps.{BreaksFirst, Finds}
+use Rattle.ft_history.specs.Internal.Steps.{BreaksFirst, FindsBroken}
 use Rattle.ft_model.specs.Histories.{writes, entries_of}
 use Rattle.ft_history.proofs.Judged.{few_made}
 use Rattle.ft_history.proofs.FewEntries.{room_before}
@@ -80,7 +80,7 @@ returns-then-right-clause-found c = λ entry at'.
     let at = here c.args.entries.now c.args.place c.index-entries-place.result c.requires.place c.index-entries-place.is in
     let goes = c.in_ok-right.ensures in
     let first = holds_four c.args.storage c.args.parts.now c.args.entries.now c.args.place c.index-entries-place.result c.in_ok-right.right goes.0 goes.1 c.args.state.now c.go_after.new.state c.requires.state goes.2 (c.in_default.ensures c.args.storage) c.if-right.true in
-    subst (λ e. Finds c.args.storage c.args.parts.now c.args.entries.now c.args.place e c.late_rule-late.result) (same_Some _ _ (sym at ∙ at'))
+    subst (λ e. FindsBroken c.args.storage c.args.parts.now c.args.entries.now c.args.place e c.late_rule-late.result) (same_Some _ _ (sym at ∙ at'))
     (finds_all c.args.storage c.args.parts.now c.args.entries.now c.args.place c.index-entries-place.result c.late_rule-late.result first (c.late_rule-late.ensures c.args.entries.now c.args.place at c.requires.users c.requires.state))
 
 pub returns-then-right-clause-state : goal.returns-then-right-clause-state

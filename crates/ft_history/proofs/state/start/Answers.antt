@@ -6,7 +6,7 @@ use Rattle.ft_model.specs.declared.script.Thread.{Thread}
 use Rattle.ft_model.specs.Worlds.{start_world, kind_of}
 use Rattle.ft_history.specs.declared.progress.ThreadProgress.{ThreadProgress}
 use Rattle.ft_history.specs.declared.writers.LastWrites.{LastWrites}
-use Rattle.ft_history.specs.Internal.States.{IsFresh}
+use Rattle.ft_history.specs.Internal.States.{IsFreshProgress}
 use Rattle.ft_history.proofs.LastWriteLemmas.{last_at_start}
 use Rattle.ft_history.proofs.StartLemmas.{kinds_at_start, progress_at_start, hands_at_start}
 use Rattle.ft_history.proofs.state.start.Goals as goal
@@ -32,7 +32,7 @@ returns c = λ entries.
     let n : length c.as_slice-containers.result.now ≡ length parts.containers = ap length c.as_slice-containers.ensures in
     let threads = c.in_ok-start_threads.field-0 in
     let same_threads : length threads.items ≡ length parts.threads = omega (arith, threads.ok.0, c.in_ok-start_threads.ensures.length, ap length c.as_slice.ensures) in
-    let there : (thread : ℕ) (progress : ThreadProgress) → slice_get threads.items thread ≡ Some progress → (found : Thread) × (slice_get parts.threads thread ≡ Some found) × IsFresh found progress =
+    let there : (thread : ℕ) (progress : ThreadProgress) → slice_get threads.items thread ≡ Some progress → (found : Thread) × (slice_get parts.threads thread ≡ Some found) × IsFreshProgress found progress =
     λ thread progress at.
     thread_at parts.threads thread (omega (arith, slice_get_within threads.items thread progress at)) (λ found here. (found, here, c.in_ok-start_threads.ensures.fresh thread found progress (ap (λ (ts : List Thread). slice_get ts thread) c.as_slice.ensures ∙ here) at)) in
     let blank : c.in_ok-start_containers.field-0.items ≡ replicate (length parts.containers) nothing = c.in_ok-start_containers.ensures ∙ ap (λ k. replicate k nothing) n in

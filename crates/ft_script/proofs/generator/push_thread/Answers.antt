@@ -4,8 +4,8 @@ use Rattle.ft_script.proofs.generator.push_thread.Goals as goal
 
 pub loop-preserved : goal.loop-preserved
 loop-preserved c =
-    let drawn = number_drawn c.args.first c.loop.counter c.loop.number c.number_after-number.result c.loop.invariant.0 c.number_after-number.ensures in
-    (drawn, call_added c.args.first c.loop.counter c.number_after-number.result c.push-2.new.self.items c.loop.out.items c.push_call.new.out.items drawn c.loop.invariant.1 c.in_ok-push_call.ensures)
+    let drawn = number_drawn c.args.first c.loop.counter c.loop.number c.drawn_after-number.result c.loop.invariant.0 c.drawn_after-number.ensures in
+    (drawn, call_added c.args.first c.loop.counter c.drawn_after-number.result c.push-2.new.self.items c.loop.out.items c.push_call.new.out.items drawn c.loop.invariant.1 c.in_ok-push_call.ensures)
 
 pub returns-clause-lines : goal.returns-clause-lines
 returns-clause-lines c =

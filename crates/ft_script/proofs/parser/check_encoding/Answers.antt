@@ -3,7 +3,7 @@ use Rattle.std.specs.Prelude.{count_by}
 use Rattle.std.specs.Str.{valid_up_to}
 use Rattle.ft_model.specs.declared.script.ScriptParts.{ScriptParts}
 use Rattle.ft_script.specs.declared.fault.ScriptFault.{ScriptFault}
-use Rattle.ft_script.specs.Scripts.{line_after, bad_line}
+use Rattle.ft_script.specs.ReadScripts.{line_after, bad_line}
 use Rattle.ft_script.proofs.WholeText.{script_bad}
 use Rattle.ft_script.proofs.parser.check_encoding.Goals as goal
 

@@ -2,7 +2,7 @@ use Rattle.std.proofs.Common.{◌∙◌, sym, ap, inl, inr, Result, Ok}
 use Rattle.std.proofs.lemmas.Result.{err_from_is_err_and}
 use Rattle.ft_model.specs.declared.script.ScriptParts.{ScriptParts}
 use Rattle.ft_script.specs.declared.fault.ScriptFault.{ScriptFault}
-use Rattle.ft_script.specs.Internal.Answers.{draft_of}
+use Rattle.ft_script.specs.Internal.Outcomes.{draft_of}
 use Rattle.ft_script.proofs.KeptScripts.{read_is_script}
 use Rattle.ft_script.proofs.WholeText.{script_read, script_refused}
 use Rattle.ft_script.proofs.parser.parse.Goals as goal

@@ -7,8 +7,8 @@ use Rattle.std.proofs.lemmas.Result.{err_from_is_err_and}
 use Rattle.std.proofs.lemmas.List.{nil_from_length}
 use Rattle.ft_script.specs.Drafts.{empty_draft}
 use Rattle.ft_script.specs.Lines.{lines_of}
-use Rattle.ft_script.specs.Internal.Answers.{draft_of}
-use Rattle.ft_script.specs.Scripts.{read_lines}
+use Rattle.ft_script.specs.Internal.Outcomes.{draft_of}
+use Rattle.ft_script.specs.ReadScripts.{read_lines}
 use Rattle.ft_script.proofs.LineLemmas.{no_lines}
 use Rattle.ft_script.proofs.LineReading.{lines_on, lines_end, text_end, text_done}
 use Rattle.ft_script.proofs.parser.read_lines.Goals as goal

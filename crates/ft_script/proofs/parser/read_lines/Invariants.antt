@@ -1,8 +1,8 @@
 use Rattle.std.proofs.Common.{◌≡◌, length}
 use Rattle.ft_script.specs.Lines.{lines_of}
 use Rattle.ft_script.specs.Drafts.{empty_draft}
-use Rattle.ft_script.specs.Internal.Answers.{draft_of}
-use Rattle.ft_script.specs.Scripts.{read_lines}
+use Rattle.ft_script.specs.Internal.Outcomes.{draft_of}
+use Rattle.ft_script.specs.ReadScripts.{read_lines}
 use Rattle.ft_script.proofs.Encoded.{AreEncoded}
 use Rattle.ft_script.proofs.KeptDrafts.{IsDraft}
 use Rattle.ft_script.proofs.parser.read_lines.Given as goal

@@ -1,6 +1,6 @@
 use Rattle.std.proofs.Common.{◌≡◌, ◌∙◌, ℕ, List, Vec, Global, map, length, sym, ap, rules, arith}
 use Rattle.std.proofs.lemmas.Result.{err_from_is_err_and}
-use Rattle.ft_script.specs.Internal.Answers.{draft_of}
+use Rattle.ft_script.specs.Internal.Outcomes.{draft_of}
 use Rattle.ft_script.specs.Internal.Readers.{IsReaderOf}
 use Rattle.ft_script.proofs.LineCases.{Adds}
 use Rattle.ft_script.proofs.TranscriptReading.{none_read, one_more, all_read, line_shorter, on_read, bad_reported, end_reported}

@@ -1,5 +1,5 @@
 use Rattle.std.proofs.Common.{ℕ, Vec, Global, map, length}
-use Rattle.ft_script.specs.Internal.Answers.{draft_of}
+use Rattle.ft_script.specs.Internal.Outcomes.{draft_of}
 use Rattle.ft_script.specs.Internal.Readers.{IsReaderOf}
 use Rattle.ft_script.proofs.TranscriptReading.{AreRead}
 use Rattle.ft_script.proofs.transcript.read_lines.Given as goal

@@ -1,5 +1,5 @@
 use Rattle.std.proofs.Common.{◌≡◌, ◌++◌, drop}
-use Rattle.ft_script.specs.Words.{text_from}
+use Rattle.ft_script.specs.LineWords.{text_from}
 use Rattle.std.proofs.Common.{false}
 use Rattle.ft_script.proofs.words.text_of.Given as goal
 

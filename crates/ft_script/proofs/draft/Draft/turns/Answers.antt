@@ -1,5 +1,5 @@
 use Rattle.std.proofs.lemmas.Result.{err_from_is_err_and}
-use Rattle.ft_script.specs.Internal.Answers.{draft_of}
+use Rattle.ft_script.specs.Internal.Outcomes.{draft_of}
 use Rattle.ft_script.proofs.LineReading.{turns_on, turns_end, turns_done}
 use Rattle.ft_script.proofs.draft.Draft.turns.Goals as goal
 

@@ -1,6 +1,6 @@
 use Rattle.std.proofs.Common.{◌≡◌, ℕ, ◌≤◌, List, length, map, drop, Bor}
-use Rattle.ft_script.specs.Internal.Answers.{draft_of}
-use Rattle.ft_script.specs.Reading.{turns}
+use Rattle.ft_script.specs.Internal.Outcomes.{draft_of}
+use Rattle.ft_script.specs.ScriptLines.{turns}
 use Rattle.ft_script.proofs.draft.Draft.turns.Given as goal
 
 abbrev pub invariant-loop-name : goal.invariant-loop-name

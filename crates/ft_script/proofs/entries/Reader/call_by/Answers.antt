@@ -1,7 +1,7 @@
 use Rattle.std.proofs.Common.{◌≡◌, ◌∙◌, get_or}
 use Rattle.ft_script.specs.Drafts.{Draft}
-use Rattle.ft_script.specs.Internal.Answers.{draft_of}
-use Rattle.ft_script.specs.Reading.{call_of}
+use Rattle.ft_script.specs.Internal.Outcomes.{draft_of}
+use Rattle.ft_script.specs.ScriptLines.{call_of}
 use Rattle.ft_script.proofs.ReaderCalls.{call_read, draft_kept}
 use Rattle.ft_script.proofs.TokenLists.{shown}
 use Rattle.ft_script.proofs.entries.Reader.call_by.Goals as goal

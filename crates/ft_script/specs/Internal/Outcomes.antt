@@ -12,7 +12,7 @@ use Rattle.ft_script.specs.declared.fault.LineError.TheVariants as error
 use Rattle.ft_script.specs.declared.fault.ScriptFault.{ScriptFault}
 use Rattle.ft_script.specs.declared.fault.Which.TheVariants as which
 use Rattle.ft_script.specs.Faults.{fault_at, no_memory}
-use Rattle.ft_script.specs.Reading.{limit_fault}
+use Rattle.ft_script.specs.ScriptLines.{limit_fault}
 
 -- what a draft of the code says
 abbrev pub draft_of : DraftParts → Draft
@@ -41,14 +41,14 @@ Gives view (Ok x) read = read ≡ Ok (view x)
 Gives view (Err e) read = Fails e read
 
 -- and the draft after it is this
-abbrev pub Reads : {X : Type 0} → Result X LineError → Draft → Result (X × Draft) Fault → Type 0
-Reads (Ok x) new read = read ≡ Ok (x, new)
-Reads (Err e) new read = Fails e read
+abbrev pub GivesWithDraft : {X : Type 0} → Result X LineError → Draft → Result (X × Draft) Fault → Type 0
+GivesWithDraft (Ok x) new read = read ≡ Ok (x, new)
+GivesWithDraft (Err e) new read = Fails e read
 
 -- the draft after a line is this
-abbrev pub Leaves : {X : Type 0} → Result X LineError → Draft → Result Draft Fault → Type 0
-Leaves (Ok x) new read = read ≡ Ok new
-Leaves (Err e) new read = Fails e read
+abbrev pub LeavesDraft : {X : Type 0} → Result X LineError → Draft → Result Draft Fault → Type 0
+LeavesDraft (Ok x) new read = read ≡ Ok new
+LeavesDraft (Err e) new read = Fails e read
 
 -- the same of a line whose reading takes no memory
 abbrev pub LeavesAlways : {X : Type 0} → Result X Fault → Draft → Result Draft Fault → Type 0

@@ -9,7 +9,7 @@ use Rattle.ft_script.specs.declared.fault.ScriptFault.{ScriptFault}
 use Rattle.ft_script.specs.Faults.{fault_at}
 use Rattle.ft_script.specs.Lines.{lines_of}
 use Rattle.ft_script.specs.Drafts.{empty_draft, script_of, end_thread}
-use Rattle.ft_script.specs.Reading.{read_line}
+use Rattle.ft_script.specs.ScriptLines.{read_line}
 
 -- the number of the next line, which stands still at the greatest of 32 bits
 abbrev pub line_after : ℕ → ℕ

@@ -23,7 +23,7 @@ use Rattle.ft_script.specs.Drafts.{Draft}
 use Rattle.ft_script.specs.declared.fault.Fault.{Fault}
 use Rattle.ft_script.specs.declared.fault.Fault.TheVariants as fault
 use Rattle.ft_script.specs.declared.fault.Which.TheVariants as which
-use Rattle.ft_script.specs.Words.{natural_of}
+use Rattle.ft_script.specs.LineWords.{natural_of}
 use Rattle.ft_script.specs.CallWords.{call_word_of}
 use Rattle.ft_script.specs.Lines.{words_of, is_comment, ends_thread}
 use Rattle.ft_script.specs.Drafts.{◌>>=◌, or_fault, container_place, thread_place, end_thread}

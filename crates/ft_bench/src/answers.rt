@@ -1,5 +1,5 @@
 //! Calls of a thread: a call that reads is looked first, and any other, or one that was contended, is called.
-ghost use Rattle.ft_bench.specs.Workers.{IsReady};
+ghost use Rattle.ft_bench.specs.Threads.{IsReadyCaller};
 
 use ft_engine::{Called, Caller, Engine};
 use ft_model::{Call, Reply};
@@ -9,8 +9,8 @@ use std::sync::Wait;
 
 /// What a look answers, where the call may be made so and wasn't contended.
 fn look(engine: &Engine, alloc: Global, caller: &mut Caller, call: &Call) -> Option<Reply>
-    requires { IsReady engine.now caller.old }
-    ensures { IsReady engine.now caller.new }
+    requires { IsReadyCaller engine.now caller.old }
+    ensures { IsReadyCaller engine.now caller.new }
 {
     if !engine.may_look(caller, call) {
         return None;
@@ -33,8 +33,8 @@ pub(crate) fn answer<R: Wait>(
     caller: &mut Caller,
     call: &Call,
 ) -> Option<Reply>
-    requires { IsReady engine.now caller.old }
-    ensures { IsReady engine.now caller.new }
+    requires { IsReadyCaller engine.now caller.old }
+    ensures { IsReadyCaller engine.now caller.new }
 {
     if !engine.may_attempt(caller, call) {
         return None;
@@ -57,8 +57,8 @@ pub(crate) fn read<R: Wait>(
     caller: &mut Caller,
     call: &Call,
 ) -> Option<Reply>
-    requires { IsReady engine.now caller.old }
-    ensures { IsReady engine.now caller.new }
+    requires { IsReadyCaller engine.now caller.old }
+    ensures { IsReadyCaller engine.now caller.new }
 {
     match look(engine, alloc, caller, call) {
         Some(reply) => Some(reply),
@@ -74,8 +74,8 @@ pub(crate) fn are_done<R: Wait>(
     caller: &mut Caller,
     calls: &[Call],
 ) -> bool
-    requires { IsReady engine.now caller.old }
-    ensures { IsReady engine.now caller.new }
+    requires { IsReadyCaller engine.now caller.old }
+    ensures { IsReadyCaller engine.now caller.new }
 {
     let mut done = true;
     for call in calls {

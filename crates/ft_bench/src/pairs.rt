@@ -1,5 +1,5 @@
 //! A round in which one thread fills a dict, and the others get the pairs that stood there before.
-ghost use Rattle.ft_bench.specs.Workers.{IsReady};
+ghost use Rattle.ft_bench.specs.Threads.{IsReadyCaller};
 
 use crate::course::Course;
 use crate::operation::Operation;
@@ -17,8 +17,8 @@ const GETS: u32 = 64;
 
 /// Sets keys until there are that many pairs.
 fn set_all<R: Wait>(rt: &R, engine: &Engine, alloc: Global, worker: &mut Worker, pairs: u32)
-    requires { IsReady engine.now worker.old.caller }
-    ensures { IsReady engine.now worker.new.caller }
+    requires { IsReadyCaller engine.now worker.old.caller }
+    ensures { IsReadyCaller engine.now worker.new.caller }
 {
     for key in FIRST..pairs {
         make(rt, engine, alloc, worker, Operation::Set(key));
@@ -34,8 +34,8 @@ pub(crate) fn fill<R: Wait + Clock>(
     worker: &mut Worker,
     pairs: u32,
 )
-    requires { IsReady engine.now worker.old.caller }
-    ensures { IsReady engine.now worker.new.caller }
+    requires { IsReadyCaller engine.now worker.old.caller }
+    ensures { IsReadyCaller engine.now worker.new.caller }
 {
     let start = now(rt);
     set_all(rt, engine, alloc, worker, pairs);
@@ -55,8 +55,8 @@ pub(crate) fn watch<R: Wait + Clock>(
     course: &Course,
     worker: &mut Worker,
 )
-    requires { IsReady engine.now worker.old.caller }
-    ensures { IsReady engine.now worker.new.caller }
+    requires { IsReadyCaller engine.now worker.old.caller }
+    ensures { IsReadyCaller engine.now worker.new.caller }
 {
     let mut longest = 0u64;
     for _ in rt.forever() {

@@ -1,5 +1,5 @@
 //! The rounds of a thread: it goes online, makes its operations, and goes offline.
-ghost use Rattle.ft_bench.specs.Workers.{IsFree, IsReady};
+ghost use Rattle.ft_bench.specs.Threads.{IsFreeCaller, IsReadyCaller};
 
 use crate::answers::answer;
 use crate::course::Course;
@@ -45,8 +45,8 @@ fn look(
     operation: Operation,
     call: &Call,
 ) -> bool
-    requires { IsReady engine.now worker.old.caller }
-    ensures { IsReady engine.now worker.new.caller }
+    requires { IsReadyCaller engine.now worker.old.caller }
+    ensures { IsReadyCaller engine.now worker.new.caller }
 {
     if !operation.is_read() || !engine.may_look(&worker.caller, call) {
         return false;
@@ -73,8 +73,8 @@ pub(crate) fn make<R: Wait>(
     worker: &mut Worker,
     operation: Operation,
 )
-    requires { IsReady engine.now worker.old.caller }
-    ensures { IsReady engine.now worker.new.caller }
+    requires { IsReadyCaller engine.now worker.old.caller }
+    ensures { IsReadyCaller engine.now worker.new.caller }
 {
     let call = worker.tally.call_of(operation);
     if look(engine, alloc, worker, operation, &call) {
@@ -87,8 +87,8 @@ pub(crate) fn make<R: Wait>(
 /// Makes the next operation. Says whether it appended an item.
 #[inline(always)]
 fn make_next<R: Wait>(rt: &R, engine: &Engine, alloc: Global, worker: &mut Worker) -> bool
-    requires { IsReady engine.now worker.old.caller }
-    ensures { IsReady engine.now worker.new.caller }
+    requires { IsReadyCaller engine.now worker.old.caller }
+    ensures { IsReadyCaller engine.now worker.new.caller }
 {
     let Some(operation) = worker.tally.next_operation() else {
         return false;
@@ -105,8 +105,8 @@ pub(crate) fn make_some<R: Wait>(
     worker: &mut Worker,
     count: u32,
 )
-    requires { IsReady engine.now worker.old.caller }
-    ensures { IsReady engine.now worker.new.caller }
+    requires { IsReadyCaller engine.now worker.old.caller }
+    ensures { IsReadyCaller engine.now worker.new.caller }
 {
     for _ in 0..count {
         make_next(rt, engine, alloc, worker);
@@ -121,8 +121,8 @@ fn make_for<R: Wait + Clock>(
     worker: &mut Worker,
     nanos: u64,
 )
-    requires { IsReady engine.now worker.old.caller }
-    ensures { IsReady engine.now worker.new.caller }
+    requires { IsReadyCaller engine.now worker.old.caller }
+    ensures { IsReadyCaller engine.now worker.new.caller }
 {
     let start = now(rt);
     for _ in rt.forever() {
@@ -136,8 +136,8 @@ fn make_for<R: Wait + Clock>(
 
 /// Makes operations until that many items have been appended, and at most a hundred for each of these.
 fn make_appends<R: Wait>(rt: &R, engine: &Engine, alloc: Global, worker: &mut Worker, appends: u32)
-    requires { IsReady engine.now worker.old.caller }
-    ensures { IsReady engine.now worker.new.caller }
+    requires { IsReadyCaller engine.now worker.old.caller }
+    ensures { IsReadyCaller engine.now worker.new.caller }
 {
     let mut left = appends;
     for _ in 0..appends.saturating_mul(100) {
@@ -158,8 +158,8 @@ fn take_turns<R: Wait + Clock>(
     course: &Course,
     worker: &mut Worker,
 )
-    requires { IsReady engine.now worker.old.caller }
-    ensures { IsReady engine.now worker.new.caller }
+    requires { IsReadyCaller engine.now worker.old.caller }
+    ensures { IsReadyCaller engine.now worker.new.caller }
 {
     match course.workload {
         Workload::Dict(_) | Workload::Set(_) => make_for(rt, engine, alloc, worker, course.nanos),
@@ -182,8 +182,8 @@ pub(crate) fn play<R: Wait + Clock>(
     course: &Course,
     worker: &mut Worker,
 )
-    requires { IsFree engine.now worker.old.caller }
-    ensures { IsFree engine.now worker.new.caller }
+    requires { IsFreeCaller engine.now worker.old.caller }
+    ensures { IsFreeCaller engine.now worker.new.caller }
 {
     engine.enter(&mut worker.caller);
     take_turns(rt, engine, alloc, course, worker);

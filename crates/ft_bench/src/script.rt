@@ -2,7 +2,7 @@
 //! threads makes its next call, which is the order of its turns. No section is open, so no call waits. Each run has an
 //! engine of its own, whose making isn't timed; the text is read once, before.
 ghost use Rattle.std.specs.Prelude.{IfOk, IfSome};
-ghost use Rattle.ft_bench.specs.Workers.{AreFree, AreReady, IsReady};
+ghost use Rattle.ft_bench.specs.Threads.{AreFreeCallers, AreReadyCallers, IsReadyCaller};
 
 use crate::answers::read;
 use crate::outcome::Outcome;
@@ -53,8 +53,8 @@ fn enter_all(
     engine: &Engine,
     callers: Vec<Caller>,
 ) -> Result<Vec<Caller>, AllocError>
-    requires { AreFree engine.now callers.items }
-    ensures { IfOk result (λ ready. AreReady engine.now ready.items) }
+    requires { AreFreeCallers engine.now callers.items }
+    ensures { IfOk result (λ ready. AreReadyCallers engine.now ready.items) }
 {
     let mut ready = Vec::new(alloc);
     for caller in callers {
@@ -67,7 +67,7 @@ fn enter_all(
 
 /// The engine of a script, and a caller for each of its threads; nothing where memory ran out.
 fn start(alloc: Global, script: &ScriptParts) -> Result<Option<(Engine, Vec<Caller>)>, AllocError>
-    ensures { IfOk result (λ made. IfSome made (λ m. AreReady m.0 m.1.items)) }
+    ensures { IfOk result (λ made. IfSome made (λ m. AreReadyCallers m.0 m.1.items)) }
 {
     let shape = shape_of(alloc, script)?;
     if !shape.fits() {
@@ -95,8 +95,8 @@ fn turn<R: Wait>(
     thread: usize,
     call: &Call,
 ) -> u64
-    requires { AreReady engine.now callers.old }
-    ensures { AreReady engine.now callers.new }
+    requires { AreReadyCallers engine.now callers.old }
+    ensures { AreReadyCallers engine.now callers.new }
 {
     if thread >= callers.len() {
         return 0;
@@ -115,8 +115,8 @@ fn turn_at<R: Wait>(
     thread: usize,
     place: usize,
 ) -> u64
-    requires { AreReady engine.now callers.old }
-    ensures { AreReady engine.now callers.new }
+    requires { AreReadyCallers engine.now callers.old }
+    ensures { AreReadyCallers engine.now callers.new }
 {
     let Some(call) = call_at(script, thread, place) else {
         return 0;
@@ -133,8 +133,8 @@ fn turns_at<R: Wait>(
     callers: &mut [Caller],
     place: usize,
 ) -> u64
-    requires { AreReady engine.now callers.old }
-    ensures { AreReady engine.now callers.new }
+    requires { AreReadyCallers engine.now callers.old }
+    ensures { AreReadyCallers engine.now callers.new }
 {
     let mut made = 0u64;
     for thread in 0..4 {
@@ -152,7 +152,7 @@ fn all_turns<R: Wait>(
     script: &ScriptParts,
     callers: &mut [Caller],
 ) -> u64
-    requires { AreReady engine.now callers.old }
+    requires { AreReadyCallers engine.now callers.old }
 {
     let mut made = 0u64;
     for place in 0..SHARE {

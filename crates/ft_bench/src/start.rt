@@ -1,6 +1,6 @@
 //! The engine of a run, with a worker for each thread.
 ghost use Rattle.std.specs.Prelude.{IfOk, IfSome};
-ghost use Rattle.ft_bench.specs.Workers.{AreFree, AreWorkers, IsFree};
+ghost use Rattle.ft_bench.specs.Threads.{AreFreeCallers, AreWorkers, IsFreeCaller};
 
 use crate::shape::shape_of;
 use crate::stream::operations;
@@ -16,8 +16,8 @@ fn hire_one(
     workload: Workload,
     caller: Caller,
 ) -> Result<Worker, AllocError>
-    requires { IsFree engine.now caller }
-    ensures { IfOk result (λ worker. IsFree engine.now worker.caller) }
+    requires { IsFreeCaller engine.now caller }
+    ensures { IfOk result (λ worker. IsFreeCaller engine.now worker.caller) }
 {
     let _ = engine;
     let thread = caller.thread();
@@ -35,7 +35,7 @@ fn hire(
     workload: Workload,
     callers: Vec<Caller>,
 ) -> Result<Vec<Worker>, AllocError>
-    requires { AreFree engine.now callers.items }
+    requires { AreFreeCallers engine.now callers.items }
     ensures { IfOk result (λ workers. AreWorkers engine.now workers.items) }
 {
     let mut workers = Vec::new(alloc);

@@ -1,5 +1,5 @@
 //! The threads of a run, from meeting to meeting.
-ghost use Rattle.ft_bench.specs.Workers.{AreWorkers, IsFree};
+ghost use Rattle.ft_bench.specs.Threads.{AreWorkers, IsFreeCaller};
 
 use crate::answers::are_done;
 use crate::course::Course;
@@ -21,8 +21,8 @@ fn prepare<R: Wait>(
     worker: &mut Worker,
     calls: &[Call],
 ) -> bool
-    requires { IsFree engine.now worker.old.caller }
-    ensures { IsFree engine.now worker.new.caller }
+    requires { IsFreeCaller engine.now worker.old.caller }
+    ensures { IsFreeCaller engine.now worker.new.caller }
 {
     engine.enter(&mut worker.caller);
     let done = are_done(rt, engine, alloc, &mut worker.caller, calls);
@@ -38,8 +38,8 @@ fn fill_first<R: Wait>(
     course: &Course,
     worker: &mut Worker,
 ) -> bool
-    requires { IsFree engine.now worker.old.caller }
-    ensures { IsFree engine.now worker.new.caller }
+    requires { IsFreeCaller engine.now worker.old.caller }
+    ensures { IsFreeCaller engine.now worker.new.caller }
 {
     if worker.tally.meetings != 0 {
         return true;
@@ -49,8 +49,8 @@ fn fill_first<R: Wait>(
 
 /// What the first thread does between two rounds: it makes all as it is to be at the start of a round, or ends the run.
 fn begin<R: Wait>(rt: &R, engine: &Engine, alloc: Global, course: &Course, worker: &mut Worker)
-    requires { IsFree engine.now worker.old.caller }
-    ensures { IsFree engine.now worker.new.caller }
+    requires { IsFreeCaller engine.now worker.old.caller }
+    ensures { IsFreeCaller engine.now worker.new.caller }
 {
     if worker.tally.thread != 0 {
         return;
@@ -69,8 +69,8 @@ fn begin<R: Wait>(rt: &R, engine: &Engine, alloc: Global, course: &Course, worke
 
 /// Meets the other threads.
 fn meet<R: Wait>(rt: &R, engine: &Engine, course: &Course, worker: &mut Worker)
-    requires { IsFree engine.now worker.old.caller }
-    ensures { IsFree engine.now worker.new.caller }
+    requires { IsFreeCaller engine.now worker.old.caller }
+    ensures { IsFreeCaller engine.now worker.new.caller }
 {
     let _ = engine;
     course.meet(rt, worker.tally.meetings);
@@ -85,8 +85,8 @@ fn go_round<R: Wait + Clock>(
     course: &Course,
     worker: &mut Worker,
 ) -> bool
-    requires { IsFree engine.now worker.old.caller }
-    ensures { IsFree engine.now worker.new.caller }
+    requires { IsFreeCaller engine.now worker.old.caller }
+    ensures { IsFreeCaller engine.now worker.new.caller }
 {
     begin(rt, engine, alloc, course, worker);
     meet(rt, engine, course, worker);
@@ -102,8 +102,8 @@ fn go_round<R: Wait + Clock>(
 
 /// All rounds of a thread.
 fn go<R: Wait + Clock>(rt: &R, engine: &Engine, alloc: Global, course: &Course, worker: &mut Worker)
-    requires { IsFree engine.now worker.old.caller }
-    ensures { IsFree engine.now worker.new.caller }
+    requires { IsFreeCaller engine.now worker.old.caller }
+    ensures { IsFreeCaller engine.now worker.new.caller }
 {
     for _ in rt.forever() {
         if !go_round(rt, engine, alloc, course, worker) {
@@ -127,7 +127,7 @@ pub(crate) fn go_all<R: Threads + Wait + Clock + Sync>(
         return;
     }
     let each = |_thread: usize, worker: &mut Worker|
-        requires { IsFree engine.now worker.now.caller }
+        requires { IsFreeCaller engine.now worker.now.caller }
     { go(rt, engine, alloc, course, worker) };
     thread::for_each_mut(rt, workers, count, &each);
 }

@@ -17,8 +17,8 @@ use Rattle.ft_engine.specs.declared.caller.Flight.{Flight}
 use Rattle.ft_engine.specs.declared.caller.Flight.TheVariants as flight
 use Rattle.ft_engine.specs.declared.engine.Engine.{Engine}
 use Rattle.ft_engine.specs.Callers.{IsCallerOf, thread_of}
-use Rattle.ft_engine.specs.Flights.{IsAnswered, IsIn}
-use Rattle.ft_engine.specs.Keeping.{AreKeptBy, IsKept}
+use Rattle.ft_engine.specs.Flights.{IsFlightAnswered, IsIn}
+use Rattle.ft_engine.specs.Keeping.{AreThreadEntries, WasAnswered}
 use Rattle.ft_engine.specs.Owning.{FlightNames}
 use Rattle.ft_engine.proofs.Keeping.{kept_abandoned}
 use Rattle.ft_engine.proofs.Owned.{abandoned_owned}
@@ -43,9 +43,9 @@ abandoned_caller e c q is only ready = record {
   over = is.over;
 }
 
-pub abandoned_kept : (c : Caller) (q : Pass) (mine : List NamedEntry) → OnlyLocked (view c.pass) (view q) → SameOwners (view c.pass) (view q) → stack_of q ≡ no_sections → (IsAnswered c.flight → ⊥) → (stack_of c.pass).sections ≡ [] → ((o : ℕ) → FlightNames o c.flight → IsNamedIn o mine) → IsKept c mine → IsKept (record c { pass = q; flight = flight.Idle }) mine
+pub abandoned_kept : (c : Caller) (q : Pass) (mine : List NamedEntry) → OnlyLocked (view c.pass) (view q) → SameOwners (view c.pass) (view q) → stack_of q ≡ no_sections → (IsFlightAnswered c.flight → ⊥) → (stack_of c.pass).sections ≡ [] → ((o : ℕ) → FlightNames o c.flight → IsNamedIn o mine) → WasAnswered c mine → WasAnswered (record c { pass = q; flight = flight.Idle }) mine
 abandoned_kept c q mine only same stack unanswered none names kept =
     let k = kept_abandoned (thread_of c) (view c.pass).entries (stack_of c.pass) c.flight mine kept.0 unanswered (stack_of q) none stack in (
-      subst (λ (x : ℕ × List Entry). AreKeptBy x.0 x.1 (stack_of q) flight.Idle mine) (λ i. (ap (λ (n : ℕ). n - 1) (sym only.number) i, sym only.entries i)) k,
+      subst (λ (x : ℕ × List Entry). AreThreadEntries x.0 x.1 (stack_of q) flight.Idle mine) (λ i. (ap (λ (n : ℕ). n - 1) (sym only.number) i, sym only.entries i)) k,
       abandoned_owned (view c.pass) (view q) (stack_of c.pass) (stack_of q) c.flight mine only.number only.lists same only.cursors unanswered names none (ap (λ (s : Stack). s.sections) stack) kept.1,
     )

@@ -21,22 +21,22 @@ use Rattle.ft_history.proofs.Unbroken.{range_push}
 use Rattle.ft_section.specs.declared.answers.Stamp.{Stamp}
 use Rattle.ft_section.specs.Locking.{TakenUp, marks_more, waiting, with_own}
 use Rattle.ft_closing.specs.Marks.{AreMarksFound, HasNamed}
-use Rattle.ft_closing.specs.Numbering.{IsKeptOf}
+use Rattle.ft_closing.specs.Numbering.{HasNamedEntries}
 use Rattle.ft_engine.specs.declared.caller.Flight.{Flight}
 use Rattle.ft_engine.specs.declared.caller.Flight.TheVariants as flight
 use Rattle.ft_engine.specs.Answering.{IsEndOf}
-use Rattle.ft_engine.specs.Flights.{IsAnswered, is_begin}
-use Rattle.ft_engine.specs.Keeping.{AreKeptBy, kept_entry, made_entry, mark_count, marks_after, marks_due, marks_in, more_marks, open_marks, pending}
+use Rattle.ft_engine.specs.Flights.{IsFlightAnswered, is_begin}
+use Rattle.ft_engine.specs.Keeping.{AreThreadEntries, named_entry, made_entry, mark_count, marks_after, marks_due, section_marks, more_marks, open_marks, pending}
 use Rattle.ft_engine.proofs.Marks.{after_map, more_none, open_more, taken_up_marks, wait_counted, waiting_marks}
 
 -- a call without an answer leaves nothing to expect
-unanswered_pending : (f : Flight) → (IsAnswered f → ⊥) → pending f ≡ []
+unanswered_pending : (f : Flight) → (IsFlightAnswered f → ⊥) → pending f ≡ []
 unanswered_pending flight.Idle no_answer = refl
 unanswered_pending (flight.Tried called) no_answer = refl
 unanswered_pending (flight.Answered called said stamp) no_answer = absurd (no_answer tt)
 unanswered_pending (flight.Refused called) no_answer = refl
 
-unanswered_due : (f : Flight) (marks : List ℕ) → (IsAnswered f → ⊥) → marks_due f marks ≡ marks
+unanswered_due : (f : Flight) (marks : List ℕ) → (IsFlightAnswered f → ⊥) → marks_due f marks ≡ marks
 unanswered_due flight.Idle marks no_answer = refl
 unanswered_due (flight.Tried called) marks no_answer = refl
 unanswered_due (flight.Answered called said stamp) marks no_answer = absurd (no_answer tt)
@@ -46,12 +46,12 @@ none_more : (count : ℕ) (xs : List ℕ) → more_marks count xs ≡ [] → xs 
 none_more count [] is = refl
 none_more count (x ∷ xs) is = absurd (let e : (x + count) ∷ more_marks count xs ≡ [] = is in cc)
 
-pub no_answer_idle : (f : Flight) → f ≡ flight.Idle → IsAnswered f → ⊥
-no_answer_idle f is answered = subst IsAnswered is answered
+pub no_answer_idle : (f : Flight) → f ≡ flight.Idle → IsFlightAnswered f → ⊥
+no_answer_idle f is answered = subst IsFlightAnswered is answered
 
 module _ (thread : ℕ) where
   -- a caller that has made no call
-  pub kept_start : (s : Stack) → s.sections ≡ [] → AreKeptBy thread [] s flight.Idle []
+  pub kept_start : (s : Stack) → s.sections ≡ [] → AreThreadEntries thread [] s flight.Idle []
   kept_start s none = record {
     same = refl;
     own = All-nil (λ entry. entry.thread ≡ thread);
@@ -61,28 +61,28 @@ module _ (thread : ℕ) where
     ends = tt;
   }
 
-  module _ (entries : List Entry) (s : Stack) (f : Flight) (mine : List NamedEntry) (k : AreKeptBy thread entries s f mine) where
+  module _ (entries : List Entry) (s : Stack) (f : Flight) (mine : List NamedEntry) (k : AreThreadEntries thread entries s f mine) where
     -- the pass has done what leaves its entries and its sections
-    pub kept_same : (others : List Entry) (t : Stack) → others ≡ entries → t ≡ s → AreKeptBy thread others t f mine
+    pub kept_same : (others : List Entry) (t : Stack) → others ≡ entries → t ≡ s → AreThreadEntries thread others t f mine
     kept_same others t same stack =
-        subst (λ (x : List Entry × Stack). AreKeptBy thread x.0 x.1 f mine) (λ d. (sym same d, sym stack d)) k
+        subst (λ (x : List Entry × Stack). AreThreadEntries thread x.0 x.1 f mine) (λ d. (sym same d, sym stack d)) k
 
-    module _ (no_answer : IsAnswered f → ⊥) where
+    module _ (no_answer : IsFlightAnswered f → ⊥) where
       kept_entries : entries ≡ reverse (map entry_of mine)
       kept_entries = k.same ∙ ap (λ l. l ++ reverse (map entry_of mine)) (unanswered_pending f no_answer)
 
-      kept_marks : marks_in s ≡ more_marks (mark_count s.mark) (open_marks thread mine)
+      kept_marks : section_marks s ≡ more_marks (mark_count s.mark) (open_marks thread mine)
       kept_marks = k.sections ∙ unanswered_due f (more_marks (mark_count s.mark) (open_marks thread mine)) no_answer
 
       -- the call waits
-      pub kept_waits : (t : Stack) (own : Taking) (q : ℕ) (called : Call) → t ≡ waiting (with_own s own) q → length mine + 1 ≤ 2 ^ 32 - 1 → AreKeptBy thread entries t (flight.Tried called) mine
+      pub kept_waits : (t : Stack) (own : Taking) (q : ℕ) (called : Call) → t ≡ waiting (with_own s own) q → length mine + 1 ≤ 2 ^ 32 - 1 → AreThreadEntries thread entries t (flight.Tried called) mine
       kept_waits t own q called stack few = record {
         same = kept_entries;
         own = k.own;
         indexes = k.indexes;
         counted = k.counted;
         sections =
-            ap marks_in stack
+            ap section_marks stack
             ∙ (waiting_marks s own q
             ∙ (ap (map (λ n. min (n + marks_more s.mark) (2 ^ 32 - 1))) kept_marks
             ∙ (wait_counted s.mark thread mine few
@@ -91,17 +91,17 @@ module _ (thread : ℕ) where
       }
 
       -- it is tried again, or was refused
-      kept_left : (t : Stack) → t ≡ with_own s nothing_taken → marks_in t ≡ more_marks (mark_count t.mark) (open_marks thread mine)
-      kept_left t stack = ap marks_in stack ∙ (kept_marks ∙ ap (λ (x : Stack). more_marks (mark_count x.mark) (open_marks thread mine)) (sym stack))
+      kept_left : (t : Stack) → t ≡ with_own s nothing_taken → section_marks t ≡ more_marks (mark_count t.mark) (open_marks thread mine)
+      kept_left t stack = ap section_marks stack ∙ (kept_marks ∙ ap (λ (x : Stack). more_marks (mark_count x.mark) (open_marks thread mine)) (sym stack))
 
-      pub kept_again : (t : Stack) (called : Call) → t ≡ with_own s nothing_taken → AreKeptBy thread entries t (flight.Tried called) mine
+      pub kept_again : (t : Stack) (called : Call) → t ≡ with_own s nothing_taken → AreThreadEntries thread entries t (flight.Tried called) mine
       kept_again t called stack = record { same = kept_entries; own = k.own; indexes = k.indexes; counted = k.counted; sections = kept_left t stack; ends = tt }
 
-      pub kept_refused : (t : Stack) (called : Call) → t ≡ with_own s nothing_taken → AreKeptBy thread entries t (flight.Refused called) mine
+      pub kept_refused : (t : Stack) (called : Call) → t ≡ with_own s nothing_taken → AreThreadEntries thread entries t (flight.Refused called) mine
       kept_refused t called stack = record { same = kept_entries; own = k.own; indexes = k.indexes; counted = k.counted; sections = kept_left t stack; ends = tt }
 
       -- the caller gives up, with no section open
-      pub kept_abandoned : (t : Stack) → s.sections ≡ [] → t ≡ no_sections → AreKeptBy thread entries t flight.Idle mine
+      pub kept_abandoned : (t : Stack) → s.sections ≡ [] → t ≡ no_sections → AreThreadEntries thread entries t flight.Idle mine
       kept_abandoned t none stack = record {
         same = kept_entries;
         own = k.own;
@@ -109,15 +109,15 @@ module _ (thread : ℕ) where
         counted = k.counted;
         sections =
             let none_open : open_marks thread mine ≡ [] = none_more (mark_count s.mark) (open_marks thread mine) (sym kept_marks ∙ ap (λ xs. reverse (map (λ section. section.marks) xs)) none) in
-            ap marks_in stack ∙ ap (more_marks (mark_count t.mark)) (sym none_open);
+            ap section_marks stack ∙ ap (more_marks (mark_count t.mark)) (sym none_open);
         ends = tt;
       }
 
-      ended : (called : Call) (said : Reply) → (called ≡ call.End → s.mark ≡ None) → IsEndOf called (marks_in s) said → IfEndsBegin (begins_of mine) called (λ begun. IsCountedAs (marks_since thread mine begun) said)
+      ended : (called : Call) (said : Reply) → (called ≡ call.End → s.mark ≡ None) → IsEndOf called (section_marks s) said → IfEndsBegin (begins_of mine) called (λ begun. IsCountedAs (marks_since thread mine begun) said)
       ended call.End said free end =
           by (begins_of mine) (kept_marks ∙ (ap (λ m. more_marks (mark_count m) (open_marks thread mine)) (free refl) ∙ more_none (open_marks thread mine)))
         where
-          by : (begins : List NamedEntry) → marks_in s ≡ map (λ begun. marks_since thread mine begun) begins → IfBegun begins (λ begun. IsCountedAs (marks_since thread mine begun) said)
+          by : (begins : List NamedEntry) → section_marks s ≡ map (λ begun. marks_since thread mine begun) begins → IfBegun begins (λ begun. IsCountedAs (marks_since thread mine begun) said)
           by [] is = tt
           by (b ∷ begins) is = subst (λ n. IsCountedAs n said) (ap (λ l. slice_index_or l 0 0) is) end
       ended (call.Begin a b) said free end = tt
@@ -128,7 +128,7 @@ module _ (thread : ℕ) where
       ended call.Quiesce said free end = tt
 
       -- it has its answer
-      pub kept_answered : (others : List Entry) (t : Stack) (called : Call) (said : Reply) (stamp : Stamp) → others ≡ made_entry called said stamp ∷ entries → marks_in t ≡ marks_after called (marks_in s) → t.mark ≡ s.mark → (called ≡ call.End → s.mark ≡ None) → IsEndOf called (marks_in s) said → AreKeptBy thread others t (flight.Answered called said stamp) mine
+      pub kept_answered : (others : List Entry) (t : Stack) (called : Call) (said : Reply) (stamp : Stamp) → others ≡ made_entry called said stamp ∷ entries → section_marks t ≡ marks_after called (section_marks s) → t.mark ≡ s.mark → (called ≡ call.End → s.mark ≡ None) → IsEndOf called (section_marks s) said → AreThreadEntries thread others t (flight.Answered called said stamp) mine
       kept_answered others t called said stamp entry marks mark free end = record {
         same = entry ∙ ap (λ l. made_entry called said stamp ∷ l) kept_entries;
         own = k.own;
@@ -138,9 +138,9 @@ module _ (thread : ℕ) where
         ends = ended called said free end;
       }
 
-  module _ (entries : List Entry) (s : Stack) (called : Call) (said : Reply) (stamp : Stamp) (mine : List NamedEntry) (k : AreKeptBy thread entries s (flight.Answered called said stamp) mine) where
+  module _ (entries : List Entry) (s : Stack) (called : Call) (said : Reply) (stamp : Stamp) (mine : List NamedEntry) (k : AreThreadEntries thread entries s (flight.Answered called said stamp) mine) where
     -- the innermost section has to wait for its locks
-    pub kept_waits_on : (t : Stack) (own : Taking) (q : ℕ) → is_begin called ≡ false → t ≡ waiting (with_own s own) q → length mine + 1 ≤ 2 ^ 32 - 1 → AreKeptBy thread entries t (flight.Answered called said stamp) mine
+    pub kept_waits_on : (t : Stack) (own : Taking) (q : ℕ) → is_begin called ≡ false → t ≡ waiting (with_own s own) q → length mine + 1 ≤ 2 ^ 32 - 1 → AreThreadEntries thread entries t (flight.Answered called said stamp) mine
     kept_waits_on t own q no_begin stack few = record {
       same = k.same;
       own = k.own;
@@ -148,7 +148,7 @@ module _ (thread : ℕ) where
       counted = k.counted;
       sections =
           let xs = more_marks (mark_count s.mark) (open_marks thread mine) in
-          ap marks_in stack
+          ap section_marks stack
           ∙ (waiting_marks s own q
           ∙ (ap (map (λ n. min (n + marks_more s.mark) (2 ^ 32 - 1))) k.sections
           ∙ (after_map (λ n. min (n + marks_more s.mark) (2 ^ 32 - 1)) called xs no_begin
@@ -160,7 +160,7 @@ module _ (thread : ℕ) where
     -- the call has ended
     module _ (t : Stack) (up : TakenUp s t) where
       abbrev pub e : NamedEntry
-      e = kept_entry thread mine called said stamp s.mark
+      e = named_entry thread mine called said stamp s.mark
 
       counted_all : EachAt (mine ++ e ∷ []) (λ place entry. IfEndsBegin (begins_of (take place (mine ++ e ∷ []))) entry.call (λ begun. IsCountedAs (marks_since entry.thread (take place (mine ++ e ∷ [])) begun) entry.reply))
       counted_all place entry at =
@@ -174,7 +174,7 @@ module _ (thread : ℕ) where
           (subst (λ (es : List NamedEntry). IfEndsBegin (begins_of es) called (λ begun. IsCountedAs (marks_since thread es begun) said)) (sym (take_at mine (e ∷ []) place (sym end.0))) k.ends))
           (slice_get_push mine e place entry at)
 
-      pub kept_done : AreKeptBy thread entries t flight.Idle (mine ++ e ∷ [])
+      pub kept_done : AreThreadEntries thread entries t flight.Idle (mine ++ e ∷ [])
       kept_done = record {
         same = k.same ∙ sym (ap reverse (map-append entry_of mine (e ∷ [])) ∙ reverse-append (map entry_of mine) (entry_of e ∷ []));
         own = All-push (λ entry. entry.thread ≡ thread) mine e k.own refl;
@@ -193,7 +193,7 @@ module _ (thread : ℕ) where
       }
 
   -- when all calls have ended
-  pub kept_of : (entries : List Entry) (s : Stack) (mine : List NamedEntry) (had found : List Owner) → AreKeptBy thread entries s flight.Idle mine → AreMarksFound found mine → HasNamed thread had mine → IsKeptOf thread mine entries had found
+  pub kept_of : (entries : List Entry) (s : Stack) (mine : List NamedEntry) (had found : List Owner) → AreThreadEntries thread entries s flight.Idle mine → AreMarksFound found mine → HasNamed thread had mine → HasNamedEntries thread mine entries had found
   kept_of entries s mine had found k marked named = record {
     same = sym (ap reverse k.same ∙ reverse-reverse (map entry_of mine));
     own = k.own;

@@ -16,13 +16,13 @@ use Rattle.ft_trace.proofs.Owning.{in_either, in_left, in_right}
 use Rattle.ft_bank.specs.Passes.{view}
 use Rattle.ft_bank.specs.Sections.{Stack, stack_of}
 use Rattle.ft_closing.specs.Marks.{AreOfFirst, HasNamed, IsNamedIn}
-use Rattle.ft_closing.specs.Numbering.{AreKeptFrom, IsKeptOf}
+use Rattle.ft_closing.specs.Numbering.{HaveNamedEntries, HasNamedEntries}
 use Rattle.ft_engine.specs.declared.caller.Caller.{Caller}
 use Rattle.ft_engine.specs.declared.caller.Flight.{Flight}
 use Rattle.ft_engine.specs.declared.caller.Flight.TheVariants as flight
 use Rattle.ft_engine.specs.Callers.{IsIdle, thread_of}
-use Rattle.ft_engine.specs.Closings.{AreKept}
-use Rattle.ft_engine.specs.Keeping.{AreKeptBy, IsKept}
+use Rattle.ft_engine.specs.DoneCallers.{WereAnswered}
+use Rattle.ft_engine.specs.Keeping.{AreThreadEntries, WasAnswered}
 use Rattle.ft_engine.specs.Owning.{AreOwnedBy, FlightNames, IsFlightFound}
 use Rattle.ft_engine.proofs.Callers.{some_number}
 use Rattle.ft_engine.proofs.Keeping.{kept_of, kept_same}
@@ -41,33 +41,33 @@ idle_named v s f mine some idle old o has =
     let same : v.number - 1 + 1 ≡ v.number = omega (arith, some) in
     ⊎_elim (λ (named : IsNamedIn o mine). named) (λ (flies : FlightNames o f). absurd (subst (FlightNames o) idle flies)) (old.named o (subst (λ (n : ℕ). is_owner_in o n (had_locks v.number v.log) ≡ true) same has))
 
-idle_kept : (c : Caller) (mine : List NamedEntry) → IsIdle c → IsKept c mine → IsKeptOf (thread_of c) mine (view c.pass).entries (had_of c) (found_of c)
+idle_kept : (c : Caller) (mine : List NamedEntry) → IsIdle c → WasAnswered c mine → HasNamedEntries (thread_of c) mine (view c.pass).entries (had_of c) (found_of c)
 idle_kept c mine idle kept =
-    kept_of (thread_of c) (view c.pass).entries (stack_of c.pass) mine (had_of c) (found_of c) (subst (λ (f : Flight). AreKeptBy (thread_of c) (view c.pass).entries (stack_of c.pass) f mine) idle kept.0)
+    kept_of (thread_of c) (view c.pass).entries (stack_of c.pass) mine (had_of c) (found_of c) (subst (λ (f : Flight). AreThreadEntries (thread_of c) (view c.pass).entries (stack_of c.pass) f mine) idle kept.0)
     kept.1.marked (idle_named (view c.pass) (stack_of c.pass) c.flight mine (some_number c.pass) idle kept.1)
 
 -- all lists of a caller that is done
-all_kept : (c : Caller) (kept : List (List NamedEntry)) → IsIdle c → AreKept c kept → AreKeptFrom (thread_of c) kept (all_lists (view c.pass)) (had_of c) (found_of c)
+all_kept : (c : Caller) (kept : List (List NamedEntry)) → IsIdle c → WereAnswered c kept → HaveNamedEntries (thread_of c) kept (all_lists (view c.pass)) (had_of c) (found_of c)
 all_kept c [] idle are = absurd are
 all_kept c (mine ∷ others) idle are = (idle_kept c mine idle are.0, are.1)
 
-pub closed_kept : (c : Caller) (kept : List (List NamedEntry)) (lists : List (List Entry)) (had found : List Owner) → IsIdle c → thread_of c ≡ 0 → AreKept c kept → lists ≡ all_lists (view c.pass) → had ≡ had_of c → found ≡ found_of c → AreKeptFrom 0 kept lists had found
+pub closed_kept : (c : Caller) (kept : List (List NamedEntry)) (lists : List (List Entry)) (had found : List Owner) → IsIdle c → thread_of c ≡ 0 → WereAnswered c kept → lists ≡ all_lists (view c.pass) → had ≡ had_of c → found ≡ found_of c → HaveNamedEntries 0 kept lists had found
 closed_kept c kept lists had found idle first are is has finds =
-    subst (λ (x : ℕ × List (List Entry) × List Owner × List Owner). AreKeptFrom x.0 kept x.1 x.2 x.3) (λ d. (first d, sym is d, sym has d, sym finds d)) (all_kept c kept idle are)
+    subst (λ (x : ℕ × List (List Entry) × List Owner × List Owner). HaveNamedEntries x.0 kept x.1 x.2 x.3) (λ d. (first d, sym is d, sym has d, sym finds d)) (all_kept c kept idle are)
 
 -- as many lists as passes that were taken in
-kept_length : (thread : ℕ) (kept : List (List NamedEntry)) (lists : List (List Entry)) (had found : List Owner) → AreKeptFrom thread kept lists had found → length kept ≡ length lists
+kept_length : (thread : ℕ) (kept : List (List NamedEntry)) (lists : List (List Entry)) (had found : List Owner) → HaveNamedEntries thread kept lists had found → length kept ≡ length lists
 kept_length thread [] [] had found are = refl
 kept_length thread [] (l ∷ ls) had found are = absurd are
 kept_length thread (m ∷ ms) [] had found are = absurd are
 kept_length thread (m ∷ ms) (l ∷ ls) had found are = ap suc (kept_length (suc thread) ms ls had found are.1)
 
-all_length : (c : Caller) (kept : List (List NamedEntry)) → AreKept c kept → length kept ≡ suc (length (view c.pass).lists)
+all_length : (c : Caller) (kept : List (List NamedEntry)) → WereAnswered c kept → length kept ≡ suc (length (view c.pass).lists)
 all_length c [] are = absurd are
 all_length c (mine ∷ others) are = ap suc (kept_length (suc (thread_of c)) others (view c.pass).lists (had_of c) (found_of c) are.1)
 
 -- all owners are passes of the threads of these lists
-all_within : (c : Caller) (kept : List (List NamedEntry)) → AreKept c kept → (o q : ℕ) → is_owner_in o q (had_of c) ≡ true → (thread_of c < q) × (q ≤ thread_of c + length kept)
+all_within : (c : Caller) (kept : List (List NamedEntry)) → WereAnswered c kept → (o q : ℕ) → is_owner_in o q (had_of c) ≡ true → (thread_of c < q) × (q ≤ thread_of c + length kept)
 all_within c [] are o q has = absurd are
 all_within c (mine ∷ others) are o q has =
     let w = are.0.1.within o q has in
@@ -77,7 +77,7 @@ all_within c (mine ∷ others) are o q has =
     let some = some_number c.pass in
     (omega (arith, low, some), omega (arith, high, count, some))
 
-pub closed_first : (c : Caller) (kept : List (List NamedEntry)) (had : List Owner) → thread_of c ≡ 0 → AreKept c kept → had ≡ had_of c → AreOfFirst (length kept) had
+pub closed_first : (c : Caller) (kept : List (List NamedEntry)) (had : List Owner) → thread_of c ≡ 0 → WereAnswered c kept → had ≡ had_of c → AreOfFirst (length kept) had
 closed_first c kept had first are is o q has =
     let w = all_within c kept are o q (sym (ap (is_owner_in o q) is) ∙ has) in
     let low = w.0 in
@@ -87,7 +87,7 @@ closed_first c kept had first are is o q has =
 -- ---- more owners
 
 -- the lists stay right where no other owners of their threads are there
-more_kept : (thread : ℕ) (kept : List (List NamedEntry)) (lists : List (List Entry)) (had found had' found' : List Owner) → AreOwners found found' → ((o q : ℕ) → thread < q → q ≤ thread + length kept → is_owner_in o q had' ≡ true → is_owner_in o q had ≡ true) → AreKeptFrom thread kept lists had found → AreKeptFrom thread kept lists had' found'
+more_kept : (thread : ℕ) (kept : List (List NamedEntry)) (lists : List (List Entry)) (had found had' found' : List Owner) → AreOwners found found' → ((o q : ℕ) → thread < q → q ≤ thread + length kept → is_owner_in o q had' ≡ true → is_owner_in o q had ≡ true) → HaveNamedEntries thread kept lists had found → HaveNamedEntries thread kept lists had' found'
 more_kept thread [] [] had found had' found' finds only are = are
 more_kept thread [] (l ∷ ls) had found had' found' finds only are = absurd are
 more_kept thread (m ∷ ms) [] had found had' found' finds only are = absurd are
@@ -103,12 +103,12 @@ more_kept thread (m ∷ ms) (l ∷ ls) had found had' found' finds only are = (
   more_kept (suc thread) ms ls had found had' found' finds (λ o q low high has. only o q (omega (arith, low)) (omega (arith, high)) has) are.1,
 )
 
-kept_then : (thread : ℕ) (xs ys : List (List NamedEntry)) (ls ms : List (List Entry)) (had found : List Owner) → AreKeptFrom thread xs ls had found → AreKeptFrom (thread + length xs) ys ms had found → AreKeptFrom thread (xs ++ ys) (ls ++ ms) had found
-kept_then thread [] ys [] ms had found are more = subst (λ (n : ℕ). AreKeptFrom n ys ms had found) (let e : thread + 0 ≡ thread = omega arith in e) more
+kept_then : (thread : ℕ) (xs ys : List (List NamedEntry)) (ls ms : List (List Entry)) (had found : List Owner) → HaveNamedEntries thread xs ls had found → HaveNamedEntries (thread + length xs) ys ms had found → HaveNamedEntries thread (xs ++ ys) (ls ++ ms) had found
+kept_then thread [] ys [] ms had found are more = subst (λ (n : ℕ). HaveNamedEntries n ys ms had found) (let e : thread + 0 ≡ thread = omega arith in e) more
 kept_then thread [] ys (l ∷ ls) ms had found are more = absurd are
 kept_then thread (x ∷ xs) ys [] ms had found are more = absurd are
 kept_then thread (x ∷ xs) ys (l ∷ ls) ms had found are more =
-    (are.0, kept_then (suc thread) xs ys ls ms had found are.1 (subst (λ (n : ℕ). AreKeptFrom n ys ms had found) (let e : thread + length (x ∷ xs) ≡ suc thread + length xs = omega arith in e) more))
+    (are.0, kept_then (suc thread) xs ys ls ms had found are.1 (subst (λ (n : ℕ). HaveNamedEntries n ys ms had found) (let e : thread + length (x ∷ xs) ≡ suc thread + length xs = omega arith in e) more))
 
 -- a pass, which is no note, gives its own list too
 given : (w : View) → w.number ≢ 0 → lists_of w ≡ all_lists w
@@ -126,7 +126,7 @@ pub record TakesIn (v u w : View) : Type 0 where
 pub joined_in : (v u w : View) (n : ℕ) → w ≡ noted (ReadCounter n) (both v u) → TakesIn v u w
 joined_in v u w n is = subst (TakesIn v u) (sym is) (record { number = refl; entries = refl; lists = refl; had = refl; found = refl; cursors = λ k. refl })
 
-module _ (c d other : Caller) (m : List NamedEntry) (mine theirs : List (List NamedEntry)) (is : TakesIn (view c.pass) (view other.pass) (view d.pass)) (stack : stack_of d.pass ≡ stack_of c.pass) (flies : d.flight ≡ c.flight) (live : (view other.pass).number ≢ 0) (are : AreKept c (m ∷ mine)) (more : AreKept other theirs) (next : thread_of other ≡ thread_of c + length (m ∷ mine)) where
+module _ (c d other : Caller) (m : List NamedEntry) (mine theirs : List (List NamedEntry)) (is : TakesIn (view c.pass) (view other.pass) (view d.pass)) (stack : stack_of d.pass ≡ stack_of c.pass) (flies : d.flight ≡ c.flight) (live : (view other.pass).number ≢ 0) (are : WereAnswered c (m ∷ mine)) (more : WereAnswered other theirs) (next : thread_of other ≡ thread_of c + length (m ∷ mine)) where
   finds_old : AreOwners (found_of c) (found_of d)
   finds_old o q has = ap (is_owner_in o q) is.found ∙ in_right o q (found_of other) (found_of c) has
 
@@ -192,18 +192,18 @@ module _ (c d other : Caller) (m : List NamedEntry) (mine theirs : List (List Na
       } in
       subst (λ (x : Stack × Flight). AreOwnedBy (view d.pass) x.0 x.1 m) (λ i. (sym stack i, sym flies i)) now
 
-  joined_all : IsIdle other → AreKept d ((m ∷ mine) ++ theirs)
+  joined_all : IsIdle other → WereAnswered d ((m ∷ mine) ++ theirs)
   joined_all idle =
       let threads : thread_of c ≡ thread_of d = sym (ap (λ (k : ℕ). k - 1) is.number) in
       let same = kept_same (thread_of c) (view c.pass).entries (stack_of c.pass) c.flight m are.0.0 (view d.pass).entries (stack_of d.pass) is.entries stack in
       let front = more_kept (suc (thread_of c)) mine (view c.pass).lists (had_of c) (found_of c) (had_of d) (found_of d) finds_old (λ o q low high has. only_old o q (omega (arith, high)) has) are.1 in
       let back = more_kept (thread_of other) theirs (all_lists (view other.pass)) (had_of other) (found_of other) (had_of d) (found_of d) finds_new (λ o q low high has. only_new o q low has) (all_kept other theirs idle more) in
       let all = kept_then (suc (thread_of c)) mine theirs (view c.pass).lists (all_lists (view other.pass)) (had_of d) (found_of d) front
-      (subst (λ (t : ℕ). AreKeptFrom t theirs (all_lists (view other.pass)) (had_of d) (found_of d)) (let e = next in let f : thread_of other ≡ suc (thread_of c) + length mine = omega (arith, e) in f) back) in (
-        (subst (λ (x : ℕ × Flight). AreKeptBy x.0 (view d.pass).entries (stack_of d.pass) x.1 m) (λ i. (threads i, sym flies i)) same, joined_owned),
-        subst (λ (x : ℕ × List (List Entry)). AreKeptFrom (suc x.0) (mine ++ theirs) x.1 (had_of d) (found_of d)) (λ i. (threads i, lists i)) all,
+      (subst (λ (t : ℕ). HaveNamedEntries t theirs (all_lists (view other.pass)) (had_of d) (found_of d)) (let e = next in let f : thread_of other ≡ suc (thread_of c) + length mine = omega (arith, e) in f) back) in (
+        (subst (λ (x : ℕ × Flight). AreThreadEntries x.0 (view d.pass).entries (stack_of d.pass) x.1 m) (λ i. (threads i, sym flies i)) same, joined_owned),
+        subst (λ (x : ℕ × List (List Entry)). HaveNamedEntries (suc x.0) (mine ++ theirs) x.1 (had_of d) (found_of d)) (λ i. (threads i, lists i)) all,
       )
 
-pub joined_state : (c d other : Caller) (mine theirs : List (List NamedEntry)) → TakesIn (view c.pass) (view other.pass) (view d.pass) → stack_of d.pass ≡ stack_of c.pass → d.flight ≡ c.flight → (view other.pass).number ≢ 0 → IsIdle other → AreKept c mine → AreKept other theirs → thread_of other ≡ thread_of c + length mine → AreKept d (mine ++ theirs)
+pub joined_state : (c d other : Caller) (mine theirs : List (List NamedEntry)) → TakesIn (view c.pass) (view other.pass) (view d.pass) → stack_of d.pass ≡ stack_of c.pass → d.flight ≡ c.flight → (view other.pass).number ≢ 0 → IsIdle other → WereAnswered c mine → WereAnswered other theirs → thread_of other ≡ thread_of c + length mine → WereAnswered d (mine ++ theirs)
 joined_state c d other [] theirs is stack flies live idle are more next = absurd are
 joined_state c d other (m ∷ mine) theirs is stack flies live idle are more next = joined_all c d other m mine theirs is stack flies live are more next idle

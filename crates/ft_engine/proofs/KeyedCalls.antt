@@ -38,7 +38,7 @@ use Rattle.ft_dict.specs.Values.{SetsDefault}
 use Rattle.ft_merging.specs.Joining.{JoinsBy}
 use Rattle.ft_merging.specs.Parting.{PartsBy}
 use Rattle.ft_replacing.specs.Replacing.{IsReplaced}
-use Rattle.ft_engine.specs.Answering.{IsLooked, IsTryOf, copies}
+use Rattle.ft_engine.specs.Answering.{IsLooked, IsTryOfCall, copies}
 use Rattle.ft_engine.specs.Contentions.{StopsCall}
 use Rattle.ft_engine.specs.Flights.{objects_by}
 use Rattle.ft_engine.proofs.ListLooks.{StopsAt}
@@ -55,14 +55,14 @@ plain_dict d dc = record { sections = λ n log sections. refl; begins = refl; ma
 pub plain_set : (s : ℕ) (sc : SetCall) → IsPlain (call.Set s sc)
 plain_set s sc = record { sections = λ n log sections. refl; begins = refl; marks = λ marks. refl; ends = λ marks said. tt; leaves = λ s. refl }
 
-pub dict_tried : (b : Bank) (p q : Pass) (hands : List (Option Cursor)) (d : ℕ) (given dc : DictCall) (objects : Objects) (result : Step) → given ≡ dc → moved_cursor (call.Dict d dc) ≡ None → objects_by d (other_dict dc) ≡ objects → SectionsAfter b objects p q result → Outcome (call.Dict d dc) objects (view p) (view q) result → IsTryOf b hands (call.Dict d given) p q result
+pub dict_tried : (b : Bank) (p q : Pass) (hands : List (Option Cursor)) (d : ℕ) (given dc : DictCall) (objects : Objects) (result : Step) → given ≡ dc → moved_cursor (call.Dict d dc) ≡ None → objects_by d (other_dict dc) ≡ objects → SectionsAfter b objects p q result → Outcome (call.Dict d dc) objects (view p) (view q) result → IsTryOfCall b hands (call.Dict d given) p q result
 dict_tried b p q hands d given dc objects result is still names after came =
-    subst (λ (z : DictCall). IsTryOf b hands (call.Dict d z) p q result) (sym is)
+    subst (λ (z : DictCall). IsTryOfCall b hands (call.Dict d z) p q result) (sym is)
     (tried_of b p q hands (call.Dict d dc) objects (plain_dict d dc) (ap (λ (z : Objects). Some z) names) result after came (outcome_walked (call.Dict d dc) objects (view p) (view q) result still came))
 
-pub set_tried : (b : Bank) (p q : Pass) (hands : List (Option Cursor)) (s : ℕ) (given sc : SetCall) (objects : Objects) (result : Step) → given ≡ sc → moved_cursor (call.Set s sc) ≡ None → objects_by s (other_set sc) ≡ objects → SectionsAfter b objects p q result → Outcome (call.Set s sc) objects (view p) (view q) result → IsTryOf b hands (call.Set s given) p q result
+pub set_tried : (b : Bank) (p q : Pass) (hands : List (Option Cursor)) (s : ℕ) (given sc : SetCall) (objects : Objects) (result : Step) → given ≡ sc → moved_cursor (call.Set s sc) ≡ None → objects_by s (other_set sc) ≡ objects → SectionsAfter b objects p q result → Outcome (call.Set s sc) objects (view p) (view q) result → IsTryOfCall b hands (call.Set s given) p q result
 set_tried b p q hands s given sc objects result is still names after came =
-    subst (λ (z : SetCall). IsTryOf b hands (call.Set s z) p q result) (sym is)
+    subst (λ (z : SetCall). IsTryOfCall b hands (call.Set s z) p q result) (sym is)
     (tried_of b p q hands (call.Set s sc) objects (plain_set s sc) (ap (λ (z : Objects). Some z) names) result after came (outcome_walked (call.Set s sc) objects (view p) (view q) result still came))
 
 -- ---- new keys
@@ -122,12 +122,12 @@ keyed_copy_outcome objects called v w step.NoMemory copying left x =
 
 -- ---- looks
 
-pub keyed_copy_looked : (k : Shape) (o : ℕ) (some : Picture → Type 0) (called : Call) (v w : View) (answer : Look) → copies called ≡ true → StopsAt o called → IsCopyGlanceOf k o some called v w answer → IsLooked called v w answer
+pub keyed_copy_looked : (k : Shape) (o : ℕ) (some : Picture → Type 0) (called : Call) (v w : View) (answer : Look) → copies called ≡ true → StopsAt v.shape o called → IsCopyGlanceOf k o some called v w answer → IsLooked called v w answer
 keyed_copy_looked k o some called v w (look.Done said stamp) copying stops x = x
 keyed_copy_looked k o some called v w (look.Contended a b) copying stops x = (x.part, x.own, x.loaded, stops a b x.part x.stops, x.looks)
 keyed_copy_looked k o some called v w look.NoMemory copying stops x = (x.0, copying)
 
-pub key_looked : (o : ℕ) (key : Key) (called : Call) (v w : View) (answer : Look) → ((a b : ℕ) (part : List Act) → Stops o key a b part → StopsCall called a b part) → IsLookOf o key called v w answer → IsLooked called v w answer
+pub key_looked : (o : ℕ) (key : Key) (called : Call) (v w : View) (answer : Look) → ((a b : ℕ) (part : List Act) → Stops v.shape o key a b part → StopsCall v.shape called a b part) → IsLookOf o key called v w answer → IsLooked called v w answer
 key_looked o key called v w (look.Done said stamp) stops x = x
 key_looked o key called v w (look.Contended a b) stops x = (x.part, x.own, x.loaded, stops a b x.part x.stops, x.looks)
 key_looked o key called v w look.NoMemory stops x = absurd x

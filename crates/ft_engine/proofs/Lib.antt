@@ -9,6 +9,7 @@ pub mod KeptLists
 pub mod NewCallers
 pub mod Outcomes
 pub mod Looking
+pub mod Uncontended
 pub mod LookFirst
 pub mod Again
 pub mod Retrying

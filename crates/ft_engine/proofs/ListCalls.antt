@@ -22,7 +22,7 @@ use Rattle.ft_section.specs.Trying.{SectionsAfter}
 use Rattle.ft_growth.specs.Adding.{IsTryOf as IsAddTryOf}
 use Rattle.ft_list.specs.Copies.{IsCopyOf}
 use Rattle.ft_list.specs.Growing.{AddsItems, ExtendsBy, IsClearOf}
-use Rattle.ft_engine.specs.Answering.{IsTryOf, copies}
+use Rattle.ft_engine.specs.Answering.{IsTryOfCall, copies}
 use Rattle.ft_engine.specs.Flights.{objects_by}
 use Rattle.ft_engine.proofs.Looking.{IsPlain, outcome_walked, tried_of}
 use Rattle.ft_engine.proofs.Outcomes.{Outcome, add_outcome, gave_up_adds, gave_up_owners, loaded_comes, loaded_nothing, locked_entry, under_locks}
@@ -32,9 +32,9 @@ use Rattle.ft_engine.proofs.Within.{loaded_owners, within_then}
 pub plain_list : (l : ℕ) (lc : ListCall) → IsPlain (call.List l lc)
 plain_list l lc = record { sections = λ n log sections. refl; begins = refl; marks = λ marks. refl; ends = λ marks said. tt; leaves = λ s. refl }
 
-pub list_tried : (b : Bank) (p q : Pass) (hands : List (Option Cursor)) (l : ℕ) (given lc : ListCall) (objects : Objects) (result : Step) → given ≡ lc → moved_cursor (call.List l lc) ≡ None → objects_by l (other_list lc) ≡ objects → SectionsAfter b objects p q result → Outcome (call.List l lc) objects (view p) (view q) result → IsTryOf b hands (call.List l given) p q result
+pub list_tried : (b : Bank) (p q : Pass) (hands : List (Option Cursor)) (l : ℕ) (given lc : ListCall) (objects : Objects) (result : Step) → given ≡ lc → moved_cursor (call.List l lc) ≡ None → objects_by l (other_list lc) ≡ objects → SectionsAfter b objects p q result → Outcome (call.List l lc) objects (view p) (view q) result → IsTryOfCall b hands (call.List l given) p q result
 list_tried b p q hands l given lc objects result is still names after came =
-    subst (λ (z : ListCall). IsTryOf b hands (call.List l z) p q result) (sym is)
+    subst (λ (z : ListCall). IsTryOfCall b hands (call.List l z) p q result) (sym is)
     (tried_of b p q hands (call.List l lc) objects (plain_list l lc) (ap (λ (z : Objects). Some z) names) result after came (outcome_walked (call.List l lc) objects (view p) (view q) result still came))
 
 pub adds_outcome : (k : Shape) (l : ℕ) (called : Call) (n : ℕ) (v w : View) (result : Step) → 0 < v.left → IsAddTryOf (One l) (AddsItems k l called n) reply.Done v w result → Outcome called (One l) v w result

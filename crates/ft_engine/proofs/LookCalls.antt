@@ -30,12 +30,12 @@ use Rattle.ft_engine.specs.declared.caller.Caller.{Caller}
 use Rattle.ft_engine.specs.declared.caller.Flight.{Flight}
 use Rattle.ft_engine.specs.declared.caller.Flight.TheVariants as flight
 use Rattle.ft_engine.specs.declared.engine.Engine.{Engine}
-use Rattle.ft_engine.specs.Answering.{AddsEntry, IsLockedFor, IsLooked}
-use Rattle.ft_engine.specs.Attempts.{StaysCaller, after_look, flight_looked, kept_looked}
+use Rattle.ft_engine.specs.Answering.{MakesEntry, IsLockedFor, IsLooked}
+use Rattle.ft_engine.specs.Attempts.{StaysCaller, after_look, flight_looked, entries_with_look}
 use Rattle.ft_engine.specs.Callers.{IsCallerOf, thread_of}
 use Rattle.ft_engine.specs.Contentions.{may_look}
-use Rattle.ft_engine.specs.Flights.{IsIn, IsNext}
-use Rattle.ft_engine.specs.Keeping.{AreKeptBy, IsKept, kept_entry, marks_in}
+use Rattle.ft_engine.specs.Flights.{IsIn, AllowsCall}
+use Rattle.ft_engine.specs.Keeping.{AreThreadEntries, WasAnswered, named_entry, section_marks}
 use Rattle.ft_engine.specs.Owning.{AreOwnedBy}
 use Rattle.ft_engine.specs.Stacks.{StackAfter}
 use Rattle.ft_engine.proofs.Callers.{at_hand, idle_free}
@@ -88,7 +88,7 @@ looks_none call.Quiesce may number moves = absurd (let e : false ≡ true = may 
 -- ---- the caller
 
 -- it has its answer
-pub looked_caller : (e : Engine) (c : Caller) (q : Pass) (called : Call) (said : Reply) (stamp : Stamp) → IsCallerOf e c → c.flight ≡ flight.Idle → 0 < c.calls - c.made → IsPlain called → IsPassOf e.bank q → stack_of q ≡ stack_of c.pass → AddsEntry called said stamp (view c.pass) (view q) → ((number : ℕ) → moved_cursor called ≡ Some number → ⊥) → Answered called said stamp.number (view c.pass) (view q) → IsCallerOf e (record c { pass = q; made = c.made + 1 })
+pub looked_caller : (e : Engine) (c : Caller) (q : Pass) (called : Call) (said : Reply) (stamp : Stamp) → IsCallerOf e c → c.flight ≡ flight.Idle → 0 < c.calls - c.made → IsPlain called → IsPassOf e.bank q → stack_of q ≡ stack_of c.pass → MakesEntry called said stamp (view c.pass) (view q) → ((number : ℕ) → moved_cursor called ≡ Some number → ⊥) → Answered called said stamp.number (view c.pass) (view q) → IsCallerOf e (record c { pass = q; made = c.made + 1 })
 looked_caller e c q called said stamp is idle left plain pass stack entry moves a = record {
   pass = pass;
   inside = subst (IsIn e.bank q c.cursors.items) (sym idle) (read_ready e.bank c.pass q called said stamp.number plain.sections (subst (IsIn e.bank c.pass c.cursors.items) idle is.inside) pass stack a);
@@ -134,13 +134,13 @@ module _ (e : Engine) (c : Caller) (called : Call) (is : IsCallerOf e c) (idle :
   idle_ready : IsReady e.bank c.pass
   idle_ready = subst (IsIn e.bank c.pass c.cursors.items) idle is.inside
 
-  idle_next : IsNext c.flight called
-  idle_next = subst (λ (f : Flight). IsNext f called) (sym idle) tt
+  idle_next : AllowsCall c.flight called
+  idle_next = subst (λ (f : Flight). AllowsCall f called) (sym idle) tt
 
   idle_same : stack_of c.pass ≡ with_own (stack_of c.pass) nothing_taken
   idle_same = own_same (stack_of c.pass) idle_ready.own
 
-  looked_owned : (q : Pass) (said : Reply) (stamp : Stamp) (mine : List NamedEntry) → IsPlain called → may_look called ≡ true → stack_of q ≡ stack_of c.pass → AddsEntry called said stamp (view c.pass) (view q) → SameOwners (view c.pass) (view q) → AreOwnedBy (view c.pass) (stack_of c.pass) c.flight mine → AreOwnedBy (view q) (stack_of q) c.flight (mine ++ kept_entry (thread_of c) mine called said stamp None ∷ [])
+  looked_owned : (q : Pass) (said : Reply) (stamp : Stamp) (mine : List NamedEntry) → IsPlain called → may_look called ≡ true → stack_of q ≡ stack_of c.pass → MakesEntry called said stamp (view c.pass) (view q) → SameOwners (view c.pass) (view q) → AreOwnedBy (view c.pass) (stack_of c.pass) c.flight mine → AreOwnedBy (view q) (stack_of q) c.flight (mine ++ named_entry (thread_of c) mine called said stamp None ∷ [])
   looked_owned q said stamp mine plain looks stack entry owners old =
       let v = view c.pass in
       let w = view q in
@@ -149,7 +149,7 @@ module _ (e : Engine) (c : Caller) (called : Call) (is : IsCallerOf e c) (idle :
       let has = answered_owned v w s s c.flight mine called hands entry.pass.number entry.pass.lists (same_locks_only (IsLockedFor hands called) v w owners) (same_finds_more v w owners) old (no_answer_idle c.flight idle) idle_next (idle_free e c is) (at_hand hands v is.cursors) said stamp
       (walked_none called said stamp v w (looks_still called looks) entry) (subst (StackAfter called s) (sym idle_same) (plain.leaves s)) refl in
       let done = done_owned w s s (thread_of c) called said stamp mine (ap (λ (n : ℕ). n - 1) (sym entry.pass.number)) has (same_up s idle_ready.own idle_ready.mark) in
-      subst (λ (x : Stack × Flight × Option ℕ). AreOwnedBy w x.0 x.1 (mine ++ kept_entry (thread_of c) mine called said stamp x.2 ∷ [])) (λ d. (sym stack d, sym idle d, idle_ready.mark d)) done
+      subst (λ (x : Stack × Flight × Option ℕ). AreOwnedBy w x.0 x.1 (mine ++ named_entry (thread_of c) mine called said stamp x.2 ∷ [])) (λ d. (sym stack d, sym idle d, idle_ready.mark d)) done
 
   -- it was refused memory
   looked_refused : (q : Pass) (mine : List NamedEntry) → stack_of q ≡ stack_of c.pass → OnlyLoaded (view c.pass) (view q) → AreOwnedBy (view c.pass) (stack_of c.pass) c.flight mine → AreOwnedBy (view q) (stack_of q) (flight.Refused called) mine
@@ -161,38 +161,38 @@ module _ (e : Engine) (c : Caller) (called : Call) (is : IsCallerOf e c) (idle :
       let owners = loaded_owners v w l in
       refused_owned v w (stack_of c.pass) (stack_of q) c.flight mine called hands n.pass.number n.pass.lists (same_locks_only (IsLockedFor hands called) v w owners) (same_finds_more v w owners) old (no_answer_idle c.flight idle) idle_next (idle_free e c is) (at_hand hands v is.cursors) n.cursors (stack ∙ idle_same)
 
-pub looked_kept : (e : Engine) (c : Caller) (q : Pass) (called : Call) (said : Reply) (stamp : Stamp) (mine : List NamedEntry) → IsCallerOf e c → c.flight ≡ flight.Idle → IsPlain called → may_look called ≡ true → stack_of q ≡ stack_of c.pass → AddsEntry called said stamp (view c.pass) (view q) → SameOwners (view c.pass) (view q) → IsKept c mine → IsKept (record c { pass = q; made = c.made + 1 }) (mine ++ kept_entry (thread_of c) mine called said stamp None ∷ [])
+pub looked_kept : (e : Engine) (c : Caller) (q : Pass) (called : Call) (said : Reply) (stamp : Stamp) (mine : List NamedEntry) → IsCallerOf e c → c.flight ≡ flight.Idle → IsPlain called → may_look called ≡ true → stack_of q ≡ stack_of c.pass → MakesEntry called said stamp (view c.pass) (view q) → SameOwners (view c.pass) (view q) → WasAnswered c mine → WasAnswered (record c { pass = q; made = c.made + 1 }) (mine ++ named_entry (thread_of c) mine called said stamp None ∷ [])
 looked_kept e c q called said stamp mine is idle plain looks stack entry owners kept =
     let ready : IsReady e.bank c.pass = subst (IsIn e.bank c.pass c.cursors.items) idle is.inside in
     let s = stack_of c.pass in
     let unanswered = no_answer_idle c.flight idle in
-    let has = kept_answered (thread_of c) (view c.pass).entries s c.flight mine kept.0 unanswered (view q).entries s called said stamp entry.entries (sym (plain.marks (marks_in s))) refl (λ end. ready.mark) (plain.ends (marks_in s) said) in
+    let has = kept_answered (thread_of c) (view c.pass).entries s c.flight mine kept.0 unanswered (view q).entries s called said stamp entry.entries (sym (plain.marks (section_marks s))) refl (λ end. ready.mark) (plain.ends (section_marks s) said) in
     let done = kept_done (thread_of c) (view q).entries s called said stamp mine has s (same_up s ready.own ready.mark) in
-    let named = subst (λ (mark : Option ℕ). AreKeptBy (thread_of c) (view q).entries s flight.Idle (mine ++ kept_entry (thread_of c) mine called said stamp mark ∷ [])) ready.mark done in (
-      subst (λ (x : ℕ × Stack × Flight). AreKeptBy x.0 (view q).entries x.1 x.2 (mine ++ kept_entry (thread_of c) mine called said stamp None ∷ [])) (λ d. (ap (λ (n : ℕ). n - 1) (sym entry.pass.number) d, sym stack d, sym idle d)) named,
+    let named = subst (λ (mark : Option ℕ). AreThreadEntries (thread_of c) (view q).entries s flight.Idle (mine ++ named_entry (thread_of c) mine called said stamp mark ∷ [])) ready.mark done in (
+      subst (λ (x : ℕ × Stack × Flight). AreThreadEntries x.0 (view q).entries x.1 x.2 (mine ++ named_entry (thread_of c) mine called said stamp None ∷ [])) (λ d. (ap (λ (n : ℕ). n - 1) (sym entry.pass.number) d, sym stack d, sym idle d)) named,
       looked_owned e c called is idle q said stamp mine plain looks stack entry owners kept.1,
     )
 
-pub loaded_kept : (c : Caller) (q : Pass) (f : Flight) (mine : List NamedEntry) → stack_of q ≡ stack_of c.pass → OnlyLoaded (view c.pass) (view q) → AreKeptBy (thread_of c) (view c.pass).entries (stack_of c.pass) f mine → AreOwnedBy (view q) (stack_of q) f mine → IsKept (record c { pass = q; flight = f }) mine
+pub loaded_kept : (c : Caller) (q : Pass) (f : Flight) (mine : List NamedEntry) → stack_of q ≡ stack_of c.pass → OnlyLoaded (view c.pass) (view q) → AreThreadEntries (thread_of c) (view c.pass).entries (stack_of c.pass) f mine → AreOwnedBy (view q) (stack_of q) f mine → WasAnswered (record c { pass = q; flight = f }) mine
 loaded_kept c q f mine stack l kept owned =
     let n = loaded_nothing (view c.pass) (view q) l in
-    (subst (λ (x : ℕ × List Entry × Stack). AreKeptBy x.0 x.1 x.2 f mine) (λ d. (ap (λ (k : ℕ). k - 1) (sym n.pass.number) d, sym n.entries d, sym stack d)) kept, owned)
+    (subst (λ (x : ℕ × List Entry × Stack). AreThreadEntries x.0 x.1 x.2 f mine) (λ d. (ap (λ (k : ℕ). k - 1) (sym n.pass.number) d, sym n.entries d, sym stack d)) kept, owned)
 
 -- it was contended
-contended_kept : (c : Caller) (q : Pass) (mine : List NamedEntry) → stack_of q ≡ stack_of c.pass → OnlyLoaded (view c.pass) (view q) → IsKept c mine → IsKept (record c { pass = q }) mine
+contended_kept : (c : Caller) (q : Pass) (mine : List NamedEntry) → stack_of q ≡ stack_of c.pass → OnlyLoaded (view c.pass) (view q) → WasAnswered c mine → WasAnswered (record c { pass = q }) mine
 contended_kept c q mine stack l kept =
     let n = loaded_nothing (view c.pass) (view q) l in
     loaded_kept c q c.flight mine stack l kept.0 (subst (λ (s : Stack). AreOwnedBy (view q) s c.flight mine) (sym stack) (calm_owned (view c.pass) (view q) (stack_of c.pass) c.flight mine n.pass.number n.pass.lists (loaded_owners (view c.pass) (view q) l) n.cursors kept.1))
 
 -- it was refused memory
-pub refused_kept : (e : Engine) (c : Caller) (called : Call) (mine : List NamedEntry) → IsCallerOf e c → c.flight ≡ flight.Idle → IsKept c mine → AreKeptBy (thread_of c) (view c.pass).entries (stack_of c.pass) (flight.Refused called) mine
+pub refused_kept : (e : Engine) (c : Caller) (called : Call) (mine : List NamedEntry) → IsCallerOf e c → c.flight ≡ flight.Idle → WasAnswered c mine → AreThreadEntries (thread_of c) (view c.pass).entries (stack_of c.pass) (flight.Refused called) mine
 refused_kept e c called mine is idle kept =
     kept_refused (thread_of c) (view c.pass).entries (stack_of c.pass) c.flight mine kept.0 (no_answer_idle c.flight idle) (stack_of c.pass) called (idle_same e c called is idle)
 
 -- ---- all looks
 
 module _ (e : Engine) (c : Caller) (q : Pass) (called : Call) (is : IsCallerOf e c) (idle : c.flight ≡ flight.Idle) (left : 0 < c.calls - c.made) (looks : may_look called ≡ true) (pass : IsPassOf e.bank q) (stack : stack_of q ≡ stack_of c.pass) where
-  done_entry : (said : Reply) (stamp : Stamp) → IsLooked called (view c.pass) (view q) (look.Done said stamp) → AddsEntry called said stamp (view c.pass) (view q)
+  done_entry : (said : Reply) (stamp : Stamp) → IsLooked called (view c.pass) (view q) (look.Done said stamp) → MakesEntry called said stamp (view c.pass) (view q)
   done_entry said stamp x = let k = is.left in answered_adds called said stamp (view c.pass) (view q) x.1 (omega (arith, left, k)) x.0
 
   still_inside : OnlyLoaded (view c.pass) (view q) → IsReady e.bank q
@@ -214,7 +214,7 @@ module _ (e : Engine) (c : Caller) (q : Pass) (called : Call) (is : IsCallerOf e
   after_flight (look.Contended a b) = idle
   after_flight look.NoMemory = refl
 
-  pub after_kept : (answer : Look) (mine : List NamedEntry) → IsLooked called (view c.pass) (view q) answer → IsKept c mine → IsKept (after_look called answer (record c { pass = q })) (kept_looked (thread_of c) called answer mine)
+  pub after_kept : (answer : Look) (mine : List NamedEntry) → IsLooked called (view c.pass) (view q) answer → WasAnswered c mine → WasAnswered (after_look called answer (record c { pass = q })) (entries_with_look (thread_of c) called answer mine)
   after_kept (look.Done said stamp) mine x kept = looked_kept e c q called said stamp mine is idle (looks_plain called looks) looks stack (done_entry said stamp x) (answered_owners called said stamp.number (view c.pass) (view q) x.0) kept
   after_kept (look.Contended a b) mine x kept = contended_kept c q mine stack x.2 kept
   after_kept look.NoMemory mine x kept = loaded_kept c q (flight.Refused called) mine stack x.0 (refused_kept e c called mine is idle kept) (looked_refused e c called is idle q mine stack x.0 kept.1)

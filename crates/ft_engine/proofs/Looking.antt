@@ -29,17 +29,17 @@ use Rattle.ft_section.specs.declared.answers.Step.TheVariants as step
 use Rattle.ft_section.specs.Floors.{KnewOwners}
 use Rattle.ft_section.specs.Locking.{FoundOwner, OnlyLocked, at_one, waiting, with_own}
 use Rattle.ft_section.specs.Ready.{AreSuspended, InCall, IsMaking, IsReady, IsWaiting, MayTry, NotesTop}
-use Rattle.ft_section.specs.Takings.{IsOwnFor, lower_of, upper_of}
+use Rattle.ft_section.specs.LockTakings.{IsOwnFor, lower_of, upper_of}
 use Rattle.ft_section.specs.Trying.{HasLetGo, SectionsAfter}
 use Rattle.ft_section.proofs.Goings.{notes_top}
 use Rattle.ft_section.proofs.Making.{in_call_stays}
 use Rattle.ft_section.proofs.Resumes.{none_some}
 use Rattle.ft_search.proofs.Trying.{LeavesSections, making_read, still_loaded}
-use Rattle.ft_engine.specs.Answering.{AddsEntry, AddsNothing, IsEndOf, IsTryOf, KnewLocks, Looked, settled}
+use Rattle.ft_engine.specs.Answering.{MakesEntry, MakesNoEntry, IsEndOf, IsTryOfCall, KnewLocks, IsLookedIfAny, settled}
 use Rattle.ft_closing.specs.Marks.{walked_after}
 use Rattle.ft_engine.specs.Contentions.{may_look}
 use Rattle.ft_engine.specs.Flights.{is_begin, objects_of}
-use Rattle.ft_engine.specs.Keeping.{marks_after, marks_in}
+use Rattle.ft_engine.specs.Keeping.{marks_after, section_marks}
 use Rattle.ft_engine.specs.Stacks.{StackAfter}
 use Rattle.ft_engine.proofs.Outcomes.{Outcome, answered_adds, before_adds, loaded_nothing, moved_then}
 use Rattle.ft_engine.proofs.Within.{WalkedBy, answered_owners, for_then, loaded_owners, looks_still, same_for, walked_none, within_for}
@@ -61,16 +61,16 @@ some_same x y e = cc
 pub one_objects : (x y : Objects) → Some x ≡ Some y → x ≡ y
 one_objects x y e = cc
 
-pub tried_of : (b : Bank) (p q : Pass) (hands : List (Option Cursor)) (called : Call) (objects : Objects) → IsPlain called → objects_of hands called ≡ Some objects → (result : Step) → SectionsAfter b objects p q result → Outcome called objects (view p) (view q) result → WalkedBy called (view p) (view q) result → IsTryOf b hands called p q result
+pub tried_of : (b : Bank) (p q : Pass) (hands : List (Option Cursor)) (called : Call) (objects : Objects) → IsPlain called → objects_of hands called ≡ Some objects → (result : Step) → SectionsAfter b objects p q result → Outcome called objects (view p) (view q) result → WalkedBy called (view p) (view q) result → IsTryOfCall b hands called p q result
 tried_of b p q hands called objects plain names (step.Done said stamp) after came walked = (
   record {
     entry = came.0;
     resume = after.0.resume;
     top = λ begins. absurd (true≢false (sym begins ∙ plain.begins));
     stack = subst (StackAfter called (stack_of p)) (sym after.0.stack) (plain.leaves (stack_of p));
-    marks = ap marks_in after.0.stack ∙ sym (plain.marks (marks_in (stack_of p)));
+    marks = ap section_marks after.0.stack ∙ sym (plain.marks (section_marks (stack_of p)));
     mark = ap (λ (s : Stack). s.mark) after.0.stack;
-    ends = plain.ends (marks_in (stack_of p)) said;
+    ends = plain.ends (section_marks (stack_of p)) said;
     walked = walked;
   },
   λ named is locked. subst (λ (x : Objects). KnewOwners x (view p) got.Have) (one_objects objects named (sym names ∙ is)) after.1,
@@ -107,16 +107,16 @@ found_before u v w o q part log number f = record {
 knew_before : (called : Call) (objects : Objects) (p q : Pass) (answer : Got) → (may_look called ≡ false → view q ≡ view p) → KnewLocks called objects q answer → KnewLocks called objects p answer
 knew_before called objects p q answer same knew locked = subst (λ (v : View). KnewOwners objects v answer) (same locked) (knew locked)
 
-pub try_after : (b : Bank) (hands : List (Option Cursor)) (called : Call) (p q r : Pass) (part : List Act) (result : Step) → AddsNothing (view p) (view q) → SameOwners (view p) (view q) → (view q).log ≡ part ++ (view p).log → stack_of q ≡ stack_of p → ((o : ℕ) → has_lock o (view q).log ≡ has_lock o (view p).log) → (may_look called ≡ false → view q ≡ view p) → IsTryOf b hands called q r result → IsTryOf b hands called p r result
+pub try_after : (b : Bank) (hands : List (Option Cursor)) (called : Call) (p q r : Pass) (part : List Act) (result : Step) → MakesNoEntry (view p) (view q) → SameOwners (view p) (view q) → (view q).log ≡ part ++ (view p).log → stack_of q ≡ stack_of p → ((o : ℕ) → has_lock o (view q).log ≡ has_lock o (view p).log) → (may_look called ≡ false → view q ≡ view p) → IsTryOfCall b hands called q r result → IsTryOfCall b hands called p r result
 try_after b hands called p q r part (step.Done said stamp) before owners log stack locks same x = (
   record {
     entry = before_adds called said stamp (view p) (view q) (view r) before x.0.entry;
     resume = x.0.resume;
     top = x.0.top;
     stack = subst (λ (s : Stack). StackAfter called s (stack_of r)) stack x.0.stack;
-    marks = x.0.marks ∙ ap (λ (s : Stack). marks_after called (marks_in s)) stack;
+    marks = x.0.marks ∙ ap (λ (s : Stack). marks_after called (section_marks s)) stack;
     mark = x.0.mark ∙ ap (λ (s : Stack). s.mark) stack;
-    ends = subst (λ (s : Stack). IsEndOf called (marks_in s) said) stack x.0.ends;
+    ends = subst (λ (s : Stack). IsEndOf called (section_marks s) said) stack x.0.ends;
     walked = λ n. x.0.walked n ∙ ap (λ (z : Option Cursor). walked_after n called (option_map container_of z)) (before.cursors n);
   },
   λ named is. knew_before called named p q got.Have same (x.1 named is),
@@ -202,38 +202,38 @@ module _ (b : Bank) (p q : Pass) (pass : IsPassOf b q) (stack : stack_of q ≡ s
 loaded_none : (p q : Pass) → DidNothing p q → OnlyLoaded (view p) (view q)
 loaded_none p q same = subst (OnlyLoaded (view p)) (sym same.1) (record { work = same_work (view p); words = refl })
 
-pub looked_making : (b : Bank) (p q : Pass) (called : Call) (objects : Objects) (found : Option Look) → IsPlain called → MayTry b p objects → IsPassOf b q → stack_of q ≡ stack_of p → Looked called p q found → IsMaking b q
+pub looked_making : (b : Bank) (p q : Pass) (called : Call) (objects : Objects) (found : Option Look) → IsPlain called → MayTry b p objects → IsPassOf b q → stack_of q ≡ stack_of p → IsLookedIfAny called p q found → IsMaking b q
 looked_making b p q called objects None plain may pass stack x = loaded_making b p q pass stack (loaded_none p q x) (may_making b p objects may)
 looked_making b p q called objects (Some (look.Done said stamp)) plain may pass stack x = making_read b p q called said stamp.number plain.sections (may_making b p objects may) pass stack x.0
 looked_making b p q called objects (Some (look.Contended first second)) plain may pass stack x = loaded_making b p q pass stack x.2 (may_making b p objects may)
 looked_making b p q called objects (Some look.NoMemory) plain may pass stack x = loaded_making b p q pass stack x.0 (may_making b p objects may)
 
 -- it is to be made under its locks
-pub looked_loaded : (p q : Pass) (called : Call) (found : Option Look) → settled found ≡ None → Looked called p q found → (part : List Act) × ((view q).log ≡ part ++ (view p).log) × OnlyLoaded (view p) (view q)
+pub looked_loaded : (p q : Pass) (called : Call) (found : Option Look) → settled found ≡ None → IsLookedIfAny called p q found → (part : List Act) × ((view q).log ≡ part ++ (view p).log) × OnlyLoaded (view p) (view q)
 looked_loaded p q called None none x = ([], ap (λ (v : View). v.log) x.1, loaded_none p q x)
 looked_loaded p q called (Some (look.Done said stamp)) none x = absurd (let e : Some (step.Done said stamp) ≡ None = none in cc)
 looked_loaded p q called (Some (look.Contended first second)) none x = (x.0, x.1, x.2)
 looked_loaded p q called (Some look.NoMemory) none x = absurd (let e : Some step.NoMemory ≡ None = none in cc)
 
-after_nothing : (called : Call) (said : Reply) (stamp : Stamp) (u v w : View) → AddsEntry called said stamp u v → AddsNothing v w → AddsEntry called said stamp u w
+after_nothing : (called : Call) (said : Reply) (stamp : Stamp) (u v w : View) → MakesEntry called said stamp u v → MakesNoEntry v w → MakesEntry called said stamp u w
 after_nothing called said stamp u v w made after = nothing_entry called said stamp u u v w (same_nothing u) made.seen made after
 
 -- it has its answer by the look
-pub looked_tried : (b : Bank) (p q r : Pass) (hands : List (Option Cursor)) (called : Call) (found : Option Look) (result : Step) → IsPlain called → 0 < (view p).left → may_look called ≡ is_some found → settled found ≡ Some result → Looked called p q found → stack_of q ≡ stack_of p → OnlyLocked (view q) (view r) → SameOwners (view q) (view r) → HasLetGo b q r → IsTryOf b hands called p r result
+pub looked_tried : (b : Bank) (p q r : Pass) (hands : List (Option Cursor)) (called : Call) (found : Option Look) (result : Step) → IsPlain called → 0 < (view p).left → may_look called ≡ is_some found → settled found ≡ Some result → IsLookedIfAny called p q found → stack_of q ≡ stack_of p → OnlyLocked (view q) (view r) → SameOwners (view q) (view r) → HasLetGo b q r → IsTryOfCall b hands called p r result
 looked_tried b p q r hands called None result plain left made is x stack gone owners let_go = absurd (let e : None ≡ Some result = is in cc)
 looked_tried b p q r hands called (Some (look.Contended first second)) result plain left made is x stack gone owners let_go = absurd (let e : None ≡ Some result = is in cc)
 looked_tried b p q r hands called (Some (look.Done said stamp)) result plain left made is x stack gone owners let_go =
     let same : step.Done said stamp ≡ result = some_same (step.Done said stamp) result is in
     let entry = after_nothing called said stamp (view p) (view q) (view r) (answered_adds called said stamp (view p) (view q) x.1 left x.0) (only_nothing (view q) (view r) gone) in
-    subst (IsTryOf b hands called p r) same (
+    subst (IsTryOfCall b hands called p r) same (
       record {
         entry = entry;
         resume = let_go.resume;
         top = λ begins. absurd (true≢false (sym begins ∙ plain.begins));
         stack = subst (StackAfter called (stack_of p)) (sym (let_go.stack ∙ ap (λ (s : Stack). with_own s nothing_taken) stack)) (plain.leaves (stack_of p));
-        marks = ap marks_in let_go.stack ∙ (ap marks_in stack ∙ sym (plain.marks (marks_in (stack_of p))));
+        marks = ap section_marks let_go.stack ∙ (ap section_marks stack ∙ sym (plain.marks (section_marks (stack_of p))));
         mark = ap (λ (s : Stack). s.mark) let_go.stack ∙ ap (λ (s : Stack). s.mark) stack;
-        ends = plain.ends (marks_in (stack_of p)) said;
+        ends = plain.ends (section_marks (stack_of p)) said;
         walked = walked_none called said stamp (view p) (view r) (looks_still called made) entry;
       },
       λ named names locked. absurd (true≢false (sym made ∙ locked)),
@@ -241,7 +241,7 @@ looked_tried b p q r hands called (Some (look.Done said stamp)) result plain lef
     )
 looked_tried b p q r hands called (Some look.NoMemory) result plain left made is x stack gone owners let_go =
     let same : step.NoMemory ≡ result = some_same step.NoMemory result is in
-    subst (IsTryOf b hands called p r) same (
+    subst (IsTryOfCall b hands called p r) same (
       record {
         entry = nothing_then (view p) (view q) (view r) (loaded_nothing (view p) (view q) x.0) (only_nothing (view q) (view r) gone);
         gone = record { stack = let_go.stack ∙ ap (λ (s : Stack). with_own s nothing_taken) stack; may = let_go.may; resume = let_go.resume };
@@ -255,23 +255,23 @@ looked_tried b p q r hands called (Some look.NoMemory) result plain left made is
 nothing_pass : (b : Bank) (q r : Pass) → IsPassOf b q → DidNothing q r → IsPassOf b r
 nothing_pass b q r pass same = (same.0 ∙ pass.0, ap (λ (v : View). v.shape) same.1 ∙ pass.1)
 
-pub looked_may : (b : Bank) (p q r : Pass) (called : Call) (objects : Objects) (found : Option Look) → settled found ≡ None → Looked called p q found → IsPassOf b q → stack_of q ≡ stack_of p → DidNothing q r → MayTry b p objects → MayTry b r objects
+pub looked_may : (b : Bank) (p q r : Pass) (called : Call) (objects : Objects) (found : Option Look) → settled found ≡ None → IsLookedIfAny called p q found → IsPassOf b q → stack_of q ≡ stack_of p → DidNothing q r → MayTry b p objects → MayTry b r objects
 looked_may b p q r called objects found none x pass stack same may =
     let l = looked_loaded p q called found none x in
     loaded_may b q r (nothing_pass b q r pass same) same.2 (loaded_none q r same) objects (loaded_may b p q pass stack l.2 objects may)
 
-pub looked_left : (p q r : Pass) (called : Call) (found : Option Look) → settled found ≡ None → Looked called p q found → DidNothing q r → 0 < (view p).left → 0 < (view r).left
+pub looked_left : (p q r : Pass) (called : Call) (found : Option Look) → settled found ≡ None → IsLookedIfAny called p q found → DidNothing q r → 0 < (view p).left → 0 < (view r).left
 looked_left p q r called found none x same left =
     let l = looked_loaded p q called found none x in
     subst (λ (n : ℕ). 0 < n) (sym (ap (λ (v : View). v.left) same.1 ∙ l.2.work.left)) left
 
 -- a call that isn't looked first
-unlooked : (called : Call) (p q r : Pass) (found : Option Look) → may_look called ≡ is_some found → Looked called p q found → DidNothing q r → may_look called ≡ false → view r ≡ view p
+unlooked : (called : Call) (p q r : Pass) (found : Option Look) → may_look called ≡ is_some found → IsLookedIfAny called p q found → DidNothing q r → may_look called ≡ false → view r ≡ view p
 unlooked called p q r None made x same locked = same.1 ∙ x.1
 unlooked called p q r (Some answer) made x same locked = absurd (true≢false (sym made ∙ locked))
 
-pub looked_then : (b : Bank) (hands : List (Option Cursor)) (called : Call) (p q r s : Pass) (found : Option Look) (result : Step) → may_look called ≡ is_some found → settled found ≡ None → Looked called p q found → stack_of q ≡ stack_of p → DidNothing q r → IsTryOf b hands called r s result → IsTryOf b hands called p s result
+pub looked_then : (b : Bank) (hands : List (Option Cursor)) (called : Call) (p q r s : Pass) (found : Option Look) (result : Step) → may_look called ≡ is_some found → settled found ≡ None → IsLookedIfAny called p q found → stack_of q ≡ stack_of p → DidNothing q r → IsTryOfCall b hands called r s result → IsTryOfCall b hands called p s result
 looked_then b hands called p q r s found result made none x stack same tried =
     let l = looked_loaded p q called found none x in
-    try_after b hands called p r s l.0 result (subst (AddsNothing (view p)) (sym same.1) (loaded_nothing (view p) (view q) l.2)) (subst (SameOwners (view p)) (sym same.1) (loaded_owners (view p) (view q) l.2)) (ap (λ (v : View). v.log) same.1 ∙ l.1) (same.2 ∙ stack)
+    try_after b hands called p r s l.0 result (subst (MakesNoEntry (view p)) (sym same.1) (loaded_nothing (view p) (view q) l.2)) (subst (SameOwners (view p)) (sym same.1) (loaded_owners (view p) (view q) l.2)) (ap (λ (v : View). v.log) same.1 ∙ l.1) (same.2 ∙ stack)
     (λ o. ap (λ (v : View). has_lock o v.log) same.1 ∙ l.2.work.pass.locks o) (unlooked called p q r found made x same) tried

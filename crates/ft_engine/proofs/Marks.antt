@@ -17,7 +17,7 @@ use Rattle.ft_bank.specs.declared.sections.Taking.{Taking}
 use Rattle.ft_bank.specs.Sections.{Stack, suspended}
 use Rattle.ft_section.specs.Locking.{TakenUp, marks_more, noting, waiting, with_own}
 use Rattle.ft_engine.specs.Flights.{is_begin}
-use Rattle.ft_engine.specs.Keeping.{mark_count, marks_after, marks_in, more_marks, open_marks}
+use Rattle.ft_engine.specs.Keeping.{mark_count, marks_after, section_marks, more_marks, open_marks}
 
 -- ---- lists
 
@@ -51,7 +51,7 @@ counted_once : (mark : Option ℕ) → mark_count mark + marks_more mark ≡ 1
 counted_once None = refl
 counted_once (Some q) = refl
 
-pub waiting_marks : (s : Stack) (own : Taking) (q : ℕ) → marks_in (waiting (with_own s own) q) ≡ map (λ n. min (n + marks_more s.mark) M) (marks_in s)
+pub waiting_marks : (s : Stack) (own : Taking) (q : ℕ) → section_marks (waiting (with_own s own) q) ≡ map (λ n. min (n + marks_more s.mark) M) (section_marks s)
 waiting_marks s own q =
     ap reverse (suspended_counts (marks_more s.mark) s.sections)
     ∙ sym (map_round (λ n. min (n + marks_more s.mark) M) (map (λ section. section.marks) s.sections))
@@ -169,7 +169,7 @@ pub last_of : (xs : List OpenSection) → (xs ≡ []) ⊎ ((outer : List OpenSec
 last_of [] = inl refl
 last_of (x ∷ xs) = inr (⊎_elim (λ (e : xs ≡ []). ([], x, ap (λ l. x ∷ l) e)) (λ (r : (outer : List OpenSection) × (top : OpenSection) × (xs ≡ outer ++ top ∷ [])). (x ∷ r.0, r.1, ap (λ l. x ∷ l) r.2)) (last_of xs))
 
-pub taken_up_marks : (s t : Stack) → TakenUp s t → marks_in t ≡ marks_in s
+pub taken_up_marks : (s t : Stack) → TakenUp s t → section_marks t ≡ section_marks s
 taken_up_marks s t up =
     ⊎_elim
     (λ (none : s.sections ≡ []). ap (λ (xs : List OpenSection). reverse (map (λ section. section.marks) xs)) (up.none none ∙ sym none))

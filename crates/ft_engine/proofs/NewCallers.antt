@@ -6,15 +6,15 @@ use Rattle.ft_bank.specs.Sections.{stack_of}
 use Rattle.ft_engine.specs.declared.caller.Caller.{Caller}
 use Rattle.ft_engine.specs.declared.caller.Flight.{Flight}
 use Rattle.ft_engine.specs.declared.engine.Engine.{Engine}
-use Rattle.ft_engine.specs.Callers.{IsFresh, thread_of}
-use Rattle.ft_engine.specs.Keeping.{AreKeptBy, IsKept}
+use Rattle.ft_engine.specs.Callers.{IsFreshCaller, thread_of}
+use Rattle.ft_engine.specs.Keeping.{AreThreadEntries, WasAnswered}
 use Rattle.ft_engine.specs.Owning.{AreOwnedBy}
 use Rattle.ft_engine.proofs.Keeping.{kept_start}
 use Rattle.ft_engine.proofs.Owned.{start_owned}
 
 -- a caller of a new engine has made no call
-pub new_kept : (e : Engine) (room i : ℕ) (c : Caller) → IsFresh e room i c → IsKept c []
+pub new_kept : (e : Engine) (room i : ℕ) (c : Caller) → IsFreshCaller e room i c → WasAnswered c []
 new_kept e room i c is = (
-  subst (λ (x : List Entry × Flight). AreKeptBy (thread_of c) x.0 (stack_of c.pass) x.1 []) (λ d. (sym is.entries d, sym is.flight d)) (kept_start (thread_of c) (stack_of c.pass) is.sections),
+  subst (λ (x : List Entry × Flight). AreThreadEntries (thread_of c) x.0 (stack_of c.pass) x.1 []) (λ d. (sym is.entries d, sym is.flight d)) (kept_start (thread_of c) (stack_of c.pass) is.sections),
   subst (λ (f : Flight). AreOwnedBy (view c.pass) (stack_of c.pass) f []) (sym is.flight) (start_owned (view c.pass) (stack_of c.pass) is.log is.sections),
 )

@@ -25,36 +25,36 @@ use Rattle.ft_section.specs.declared.answers.Stamp.{Stamp}
 use Rattle.ft_section.specs.declared.answers.Step.{Step}
 use Rattle.ft_section.specs.declared.answers.Step.TheVariants as step
 use Rattle.ft_section.specs.Locking.{FoundOwner, LocksWithin, OnlyLocked}
-use Rattle.ft_section.specs.Takings.{IsOf}
+use Rattle.ft_section.specs.LockTakings.{IsOf}
 use Rattle.ft_search.specs.Calls.{IsMadeOf, MadeAs, MadeUnderLocks}
 use Rattle.ft_search.specs.Tries.{IsReadOf}
 use Rattle.ft_growth.specs.declared.adding.Added.{Added}
 use Rattle.ft_growth.specs.declared.adding.Added.TheVariants as added
 use Rattle.ft_growth.specs.Adding.{GaveUp, IsAdded, Retires, Tried, IsTryOf, WroteWith, step_after}
-use Rattle.ft_engine.specs.Answering.{AddsEntry, AddsNothing, HasMoved, StaysPass, copies}
+use Rattle.ft_engine.specs.Answering.{MakesEntry, MakesNoEntry, FoundWordsChanged, StaysPass, copies}
 use Rattle.ft_engine.specs.Keeping.{made_entry}
 use Rattle.ft_engine.proofs.Within.{HasWithin, answered_owners, loaded_owners, made_owners, retired_owners, tried_owners, within_then, wrote_owners}
 use Rattle.ft_engine.proofs.SectionCalls.{nothing_entry, nothing_then, only_nothing, same_nothing}
 
 -- what a try comes to, but for the sections
 abbrev pub Outcome : Call → Objects → View → View → Step → Type 0
-Outcome called objects v w (step.Done said stamp) = AddsEntry called said stamp v w × HasWithin objects v w
+Outcome called objects v w (step.Done said stamp) = MakesEntry called said stamp v w × HasWithin objects v w
 Outcome called objects v w (step.NotYet o owner) = OnlyLocked v w × IsOf o objects × FoundOwner o owner v w
-Outcome called objects v w (step.Moved a b) = AddsNothing v w × HasWithin objects v w × HasMoved a b v w
-Outcome called objects v w step.NoMemory = AddsNothing v w × HasWithin objects v w × (copies called ≡ true)
+Outcome called objects v w (step.Moved a b) = MakesNoEntry v w × HasWithin objects v w × FoundWordsChanged a b v w
+Outcome called objects v w step.NoMemory = MakesNoEntry v w × HasWithin objects v w × (copies called ≡ true)
 
 -- ---- parts of calls
 
 stays_same : (v w : View) → SamePass v w → StaysPass v w
 stays_same v w p = record { number = p.number; next = p.next; parts = p.parts; shape = p.shape; lists = p.lists; online = λ on. subst (λ (n : ℕ). 0 < n) (sym p.announced) on; floor = p.floor; since = p.since; seen = p.seen }
 
-pub loaded_nothing : (v w : View) → OnlyLoaded v w → AddsNothing v w
+pub loaded_nothing : (v w : View) → OnlyLoaded v w → MakesNoEntry v w
 loaded_nothing v w l = record { pass = stays_same v w l.work.pass; entries = l.work.entries; left = l.work.left; cursors = l.work.pass.cursors }
 
 entry_as : (called : Call) (said : Reply) (stamp : Stamp) (b : Bool) → stamp.wrote ≡ b → record { call = called; reply = said; stamp = stamp.number; wrote = b } ≡ made_entry called said stamp
 entry_as called said stamp b is = ap (λ (x : Bool). record { call = called; reply = said; stamp = stamp.number; wrote = x }) (sym is)
 
-pub wrote_entry : (called : Call) (said : Reply) (stamp : Stamp) (v w : View) → stamp.wrote ≡ true → Wrote called said stamp.number v w → AddsEntry called said stamp v w
+pub wrote_entry : (called : Call) (said : Reply) (stamp : Stamp) (v w : View) → stamp.wrote ≡ true → Wrote called said stamp.number v w → MakesEntry called said stamp v w
 wrote_entry called said stamp v w is x = record {
   pass = stays_same v w x.pass;
   entries = x.entries ∙ ap (λ (e : Entry). e ∷ v.entries) (entry_as called said stamp true is);
@@ -63,7 +63,7 @@ wrote_entry called said stamp v w is x = record {
   cursors = λ number other. x.pass.cursors number;
 }
 
-pub answered_adds : (called : Call) (said : Reply) (stamp : Stamp) (v w : View) → stamp.wrote ≡ false → 0 < v.left → Answered called said stamp.number v w → AddsEntry called said stamp v w
+pub answered_adds : (called : Call) (said : Reply) (stamp : Stamp) (v w : View) → stamp.wrote ≡ false → 0 < v.left → Answered called said stamp.number v w → MakesEntry called said stamp v w
 answered_adds called said stamp v w is left x =
     let u = x.before in
     let l = x.loaded.work in
@@ -88,19 +88,19 @@ answered_adds called said stamp v w is left x =
       cursors = λ number other. ap (λ (z : View). cursor_in number z.log) x.answered ∙ l.pass.cursors number;
     }
 
-made_adds : (called : Call) (said : Reply) (stamp : Stamp) (v w : View) → 0 < v.left → MadeAs called said stamp v w → AddsEntry called said stamp v w
+made_adds : (called : Call) (said : Reply) (stamp : Stamp) (v w : View) → 0 < v.left → MadeAs called said stamp v w → MakesEntry called said stamp v w
 made_adds called said stamp v w left m =
     ⊎_elim (λ x. wrote_entry called said stamp v w x.0 x.1) (λ x. answered_adds called said stamp v w x.0 left x.1) m.made
 
 -- under locks
-pub locked_entry : (objects : Objects) (called : Call) (said : Reply) (stamp : Stamp) (u v w z : View) → OnlyLocked u v → LocksWithin objects u v → AddsEntry called said stamp v w → SameOwners v w → OnlyLocked w z → SameOwners w z → AddsEntry called said stamp u z × HasWithin objects u z
+pub locked_entry : (objects : Objects) (called : Call) (said : Reply) (stamp : Stamp) (u v w z : View) → OnlyLocked u v → LocksWithin objects u v → MakesEntry called said stamp v w → SameOwners v w → OnlyLocked w z → SameOwners w z → MakesEntry called said stamp u z × HasWithin objects u z
 locked_entry objects called said stamp u v w z took within made did gone owners =
     (nothing_entry called said stamp u v w z (only_nothing u v took) made.seen made (only_nothing w z gone), within_then objects u v w z took within made.pass.number did gone owners)
 
 some_left : (v w : View) → OnlyLocked v w → 0 < v.left → 0 < w.left
 some_left v w only left = subst (λ (n : ℕ). 0 < n) (sym only.left) left
 
-pub under_locks : (objects : Objects) (called : Call) (said : Reply) (stamp : Stamp) (v w : View) → 0 < v.left → MadeUnderLocks objects called said stamp v w → AddsEntry called said stamp v w × HasWithin objects v w
+pub under_locks : (objects : Objects) (called : Call) (said : Reply) (stamp : Stamp) (v w : View) → 0 < v.left → MadeUnderLocks objects called said stamp v w → MakesEntry called said stamp v w × HasWithin objects v w
 under_locks objects called said stamp v w left m =
     locked_entry objects called said stamp v m.before m.after w m.took m.within (made_adds called said stamp m.before m.after (some_left v m.before m.took left) m.made) (made_owners called said stamp m.before m.after m.made) m.gone m.owners
 
@@ -121,22 +121,27 @@ read_outcome o called v w step.NoMemory left m = absurd m
 
 -- ---- calls that may take a table
 
-tried_nothing : (k : Shape) (class : ℕ) (result : Took) (v w : View) → Tried k class result v w → AddsNothing v w
+tried_nothing : (k : Shape) (class : ℕ) (result : Took) (v w : View) → Tried k class result v w → MakesNoEntry v w
 tried_nothing k class result v w t = record { pass = stays_same v w t.same; entries = t.keeps.held.entries; left = t.keeps.held.left; cursors = t.same.cursors }
 
+unfloored : (f : Bool) → (f ≡ true → ⊥) → f ≡ false
+unfloored true never = absurd (never refl)
+unfloored false never = refl
+
 -- a taking that found words changed
-moved_by : (k : Shape) (class a b : ℕ) (v w : View) → Tried k class (took.Moved a b) v w → HasMoved a b v w
+moved_by : (k : Shape) (class a b : ℕ) (v w : View) → Tried k class (took.Moved a b) v w → FoundWordsChanged a b v w
 moved_by k class a b v w t = record {
   before = v;
   earlier = same_nothing v;
   class = class;
   after = w;
-  tried = record { mid = t.mid; freed = t.freed; collected = t.collected; acts = t.acts; did = t.did; taking = t.taking; has = t.has; same = t.same; keeps = t.keeps; hands = t.hands };
+  tried = record { mid = t.mid; freed = t.freed; collected = t.collected; acts = t.acts; did = t.did; taking = t.taking; has = t.has; same = t.same; keeps = t.keeps; floor = t.floor; hands = t.hands };
   later = same_nothing w;
+  floor = unfloored v.has_floor t.floor;
 }
 
 -- the same with what came before and after it
-pub moved_then : (a b : ℕ) (u v w z : View) → AddsNothing u v → HasMoved a b v w → AddsNothing w z → HasMoved a b u z
+pub moved_then : (a b : ℕ) (u v w z : View) → MakesNoEntry u v → FoundWordsChanged a b v w → MakesNoEntry w z → FoundWordsChanged a b u z
 moved_then a b u v w z first m last = record {
   before = m.before;
   earlier = nothing_then u v m.before first m.earlier;
@@ -144,12 +149,13 @@ moved_then a b u v w z first m last = record {
   after = m.after;
   tried = m.tried;
   later = nothing_then m.after w z m.later last;
+  floor = sym first.pass.floor ∙ m.floor;
 }
 
-pub retired_nothing : (root : ℕ) (v w : View) → Retires root v w → AddsNothing v w
-retired_nothing zero v w is = subst (AddsNothing v) (sym is) (record { pass = record { number = refl; next = refl; parts = refl; shape = refl; lists = refl; online = λ on. on; floor = refl; since = refl; seen = omega arith }; entries = refl; left = refl; cursors = λ n. refl })
+pub retired_nothing : (root : ℕ) (v w : View) → Retires root v w → MakesNoEntry v w
+retired_nothing zero v w is = subst (MakesNoEntry v) (sym is) (record { pass = record { number = refl; next = refl; parts = refl; shape = refl; lists = refl; online = λ on. on; floor = refl; since = refl; seen = omega arith }; entries = refl; left = refl; cursors = λ n. refl })
 retired_nothing (suc t) v w (n, is) =
-    subst (AddsNothing v) (sym is)
+    subst (MakesNoEntry v) (sym is)
     (record {
       pass = record { number = refl; next = refl; parts = refl; shape = refl; lists = refl; online = λ on. on; floor = refl; since = refl; seen = le_trans (seen_up (Retire t n) v) (seen_up (PutHeader t (n + 1)) (noted (Retire t n) v)) };
       entries = refl;
@@ -157,14 +163,14 @@ retired_nothing (suc t) v w (n, is) =
       cursors = λ number. refl;
     })
 
-pub before_adds : (called : Call) (said : Reply) (stamp : Stamp) (u v w : View) → AddsNothing u v → AddsEntry called said stamp v w → AddsEntry called said stamp u w
+pub before_adds : (called : Call) (said : Reply) (stamp : Stamp) (u v w : View) → MakesNoEntry u v → MakesEntry called said stamp v w → MakesEntry called said stamp u w
 before_adds called said stamp u v w before made = nothing_entry called said stamp u v w w before made.seen made (same_nothing w)
 
 -- a write after steps that add nothing, and before such
-write_adds : (called : Call) (said : Reply) (stamp : Stamp) (u v w z : View) → stamp.wrote ≡ true → AddsNothing u v → Wrote called said stamp.number v w → AddsNothing w z → AddsEntry called said stamp u z
+write_adds : (called : Call) (said : Reply) (stamp : Stamp) (u v w z : View) → stamp.wrote ≡ true → MakesNoEntry u v → Wrote called said stamp.number v w → MakesNoEntry w z → MakesEntry called said stamp u z
 write_adds called said stamp u v w z is before x after = nothing_entry called said stamp u v w z before x.seen (wrote_entry called said stamp v w is x) after
 
-with_adds : (k : Shape) (takes : Option ℕ) (called : Call) (said : Reply) (stamp : Stamp) (v w : View) → stamp.wrote ≡ true → WroteWith k takes called said stamp.number v w → AddsEntry called said stamp v w
+with_adds : (k : Shape) (takes : Option ℕ) (called : Call) (said : Reply) (stamp : Stamp) (v w : View) → stamp.wrote ≡ true → WroteWith k takes called said stamp.number v w → MakesEntry called said stamp v w
 with_adds k None called said stamp v w is x = wrote_entry called said stamp v w is x.wrote
 with_adds k (Some class) called said stamp v w is x =
     write_adds called said stamp v x.taken x.done w is (tried_nothing k class (took.Taken x.table) v x.taken x.tried) x.wrote (retired_nothing _ x.done w x.retired)
@@ -177,9 +183,9 @@ with_owners k (Some class) called said n v w x =
 
 -- what a call under its locks comes to
 abbrev pub Comes : Call → View → View → Step → Type 0
-Comes called v w (step.Done said stamp) = AddsEntry called said stamp v w × SameOwners v w
+Comes called v w (step.Done said stamp) = MakesEntry called said stamp v w × SameOwners v w
 Comes called v w (step.NotYet o owner) = ⊥
-Comes called v w (step.Moved a b) = AddsNothing v w × SameOwners v w × HasMoved a b v w
+Comes called v w (step.Moved a b) = MakesNoEntry v w × SameOwners v w × FoundWordsChanged a b v w
 Comes called v w step.NoMemory = ⊥
 
 added_comes : (k : Shape) (takes : Option ℕ) (over : Bool) (called : Call) (said : Reply) (v w : View) (what : Added) → 0 < v.left → IsAdded k takes over called said v w what → Comes called v w (step_after what said)
@@ -216,14 +222,14 @@ loaded_comes k takes over called said v u w what left l x =
     let n = loaded_nothing v u l in
     after (step_after what said) n (added_comes k takes over called said u w what (subst (λ (z : ℕ). 0 < z) (sym n.left) left) x)
   where
-    after : (result : Step) → AddsNothing v u → Comes called u w result → Comes called v w result
+    after : (result : Step) → MakesNoEntry v u → Comes called u w result → Comes called v w result
     after (step.Done r s) n comes = (before_adds called r s v u w n comes.0, owners_then v u w (loaded_owners v u l) comes.1)
     after (step.NotYet o owner) n comes = comes
     after (step.Moved a b) n comes = (nothing_then v u w n comes.0, owners_then v u w (loaded_owners v u l) comes.1, moved_then a b v u w w n comes.2 (same_nothing w))
     after step.NoMemory n comes = comes
 
 -- a clear
-pub gave_up_adds : (called : Call) (said : Reply) (stamp : Stamp) (v u w : View) → stamp.wrote ≡ true → OnlyLoaded v u → GaveUp called said stamp.number u w → AddsEntry called said stamp v w
+pub gave_up_adds : (called : Call) (said : Reply) (stamp : Stamp) (v u w : View) → stamp.wrote ≡ true → OnlyLoaded v u → GaveUp called said stamp.number u w → MakesEntry called said stamp v w
 gave_up_adds called said stamp v u w is l x = write_adds called said stamp v u x.done w is (loaded_nothing v u l) x.wrote (retired_nothing _ x.done w x.retired)
 
 pub gave_up_owners : (called : Call) (said : Reply) (n : ℕ) (v u w : View) → OnlyLoaded v u → GaveUp called said n u w → SameOwners v w

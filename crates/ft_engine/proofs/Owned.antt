@@ -30,15 +30,15 @@ use Rattle.ft_bank.specs.Sections.{Stack, nothing_taken, suspended}
 use Rattle.ft_section.specs.declared.answers.Objects.{Objects}
 use Rattle.ft_section.specs.declared.answers.Stamp.{Stamp}
 use Rattle.ft_section.specs.Locking.{TakenUp, first_mark, marks_more, noting, waiting, with_own}
-use Rattle.ft_section.specs.Takings.{IsOf}
+use Rattle.ft_section.specs.LockTakings.{IsOf}
 use Rattle.ft_closing.specs.Marks.{AreMarksFound, IsFoundFor, IsNamedIn, inner_after, needed_after, over_after, used_after, walked_after, walked_by}
 use Rattle.ft_closing.proofs.RightMarks.{if_some, or_more}
 use Rattle.ft_engine.specs.declared.caller.Flight.{Flight}
 use Rattle.ft_engine.specs.declared.caller.Flight.TheVariants as flight
 use Rattle.ft_engine.specs.Answering.{HasWalked, IsLockedFor}
-use Rattle.ft_engine.specs.Flights.{IsAnswered, IsNext, objects_by}
-use Rattle.ft_engine.specs.Keeping.{kept_entry}
-use Rattle.ft_engine.specs.Owning.{AreBegunBy, AreOwnedBy, FlightNames, IsFlightFound, begun_after, begun_by, begun_due, locked_in, walked_due}
+use Rattle.ft_engine.specs.Flights.{IsFlightAnswered, AllowsCall, objects_by}
+use Rattle.ft_engine.specs.Keeping.{named_entry}
+use Rattle.ft_engine.specs.Owning.{AreBegunBy, AreOwnedBy, FlightNames, IsFlightFound, begun_after, begin_calls, begun_due, locked_in, walked_due}
 use Rattle.ft_engine.specs.Stacks.{StackAfter}
 use Rattle.ft_engine.proofs.Marks.{last_of}
 
@@ -142,7 +142,7 @@ begun_one e (call.Set o c) is begins = refl
 begun_one e (call.Next n) is begins = refl
 begun_one e call.Quiesce is begins = refl
 
-begun_push : (mine : List NamedEntry) (e : NamedEntry) → begun_by (mine ++ e ∷ []) ≡ begun_after e.call (begun_by mine)
+begun_push : (mine : List NamedEntry) (e : NamedEntry) → begin_calls (mine ++ e ∷ []) ≡ begun_after e.call (begin_calls mine)
 begun_push mine e =
     ap (map (λ (b : NamedEntry). b.call)) (fold-append (λ begins entry. after_begins entry entry.call begins) [] mine (e ∷ []))
     ∙ begun_one e e.call refl (begins_of mine)
@@ -169,7 +169,7 @@ module _ (o : ℕ) where
       (begun_from (after_begins x x.call begins) mine e)
 
   -- whatever the `begin` of an open section names
-  begun_named : (mine : List NamedEntry) → list_any (names o) (begun_by mine) ≡ true → IsNamedIn o mine
+  begun_named : (mine : List NamedEntry) → list_any (names o) (begin_calls mine) ≡ true → IsNamedIn o mine
   begun_named mine e = ⊎_elim (λ (z : false ≡ true). absurd (cc)) (λ (z : IsNamedIn o mine). z) (begun_from [] mine e)
 
   inner_one : (pair : ℕ × ℕ) (pairs : List (ℕ × ℕ)) (begins : List NamedEntry) → AreBegunBy (pair ∷ pairs) (map (λ b. b.call) begins) → (o ≡ pair.0) ⊎ (o ≡ pair.1) → (list_any (λ x. x == o) (begun_containers begins) ≡ true) × (list_any (names o) (map (λ b. b.call) begins) ≡ true)
@@ -184,10 +184,10 @@ module _ (o : ℕ) where
   abbrev IsInner : List NamedEntry → Call → Type 0
   IsInner mine called = (list_any (λ x. x == o) (inner_after called (begins_of mine)) ≡ true) × (IsNamedIn o mine ⊎ (names o called ≡ true))
 
-  by_begun : (mine : List NamedEntry) (called : Call) (xs : List ℕ) → (list_any (λ x. x == o) xs ≡ true) × (list_any (names o) (begun_by mine) ≡ true) → (list_any (λ x. x == o) xs ≡ true) × (IsNamedIn o mine ⊎ (names o called ≡ true))
+  by_begun : (mine : List NamedEntry) (called : Call) (xs : List ℕ) → (list_any (λ x. x == o) xs ≡ true) × (list_any (names o) (begin_calls mine) ≡ true) → (list_any (λ x. x == o) xs ≡ true) × (IsNamedIn o mine ⊎ (names o called ≡ true))
   by_begun mine called xs r = (r.0, inl (begun_named mine r.1))
 
-  pub top_inner : (mine : List NamedEntry) (called : Call) (pair : ℕ × ℕ) (pairs : List (ℕ × ℕ)) → AreBegunBy (pair ∷ pairs) (begun_after called (begun_by mine)) → (o ≡ pair.0) ⊎ (o ≡ pair.1) → IsInner mine called
+  pub top_inner : (mine : List NamedEntry) (called : Call) (pair : ℕ × ℕ) (pairs : List (ℕ × ℕ)) → AreBegunBy (pair ∷ pairs) (begun_after called (begin_calls mine)) → (o ≡ pair.0) ⊎ (o ≡ pair.1) → IsInner mine called
   top_inner mine (call.Begin a b) pair pairs are is = (are.0 o is, inr (are.0 o is))
   top_inner mine call.End pair pairs are is = by_begun mine call.End _ (inner_next pair pairs (begins_of mine) are is)
   top_inner mine (call.Dict p c) pair pairs are is = by_begun mine (call.Dict p c) _ (inner_one pair pairs (begins_of mine) are is)
@@ -284,7 +284,7 @@ pub step_owned : (v w : View) (P : ℕ → Type 0) (s t : Stack) (f g : Flight) 
     → ((o : ℕ) → FlightNames o f → IsNamedIn o mine ⊎ FlightNames o g)
     → ((o : ℕ) → P o → IsNamedIn o mine ⊎ FlightNames o g)
     → ((n : ℕ) → option_map container_of (cursor_in n w.log) ≡ walked_due g n (walked_by n mine))
-    → AreBegunBy (locked_in t) (begun_due g (begun_by mine))
+    → AreBegunBy (locked_in t) (begun_due g (begin_calls mine))
     → AreOwnedBy w t g mine
 step_owned v w P s t f g mine number lists only finds old waits before now walked begun = record {
   marked = marks_more_found (found_owners v.log) (found_owners w.log) mine finds old.marked;
@@ -308,23 +308,23 @@ step_owned v w P s t f g mine number lists only finds old waits before now walke
 
 -- ---- the call in flight
 
-due_begun : (f : Flight) (calls : List Call) → (IsAnswered f → ⊥) → begun_due f calls ≡ calls
+due_begun : (f : Flight) (calls : List Call) → (IsFlightAnswered f → ⊥) → begun_due f calls ≡ calls
 due_begun flight.Idle calls no_answer = refl
 due_begun (flight.Tried called) calls no_answer = refl
 due_begun (flight.Answered called said stamp) calls no_answer = absurd (no_answer tt)
 due_begun (flight.Refused called) calls no_answer = refl
 
-due_walked : (f : Flight) (n : ℕ) (over : Option ℕ) → (IsAnswered f → ⊥) → walked_due f n over ≡ over
+due_walked : (f : Flight) (n : ℕ) (over : Option ℕ) → (IsFlightAnswered f → ⊥) → walked_due f n over ≡ over
 due_walked flight.Idle n over no_answer = refl
 due_walked (flight.Tried called) n over no_answer = refl
 due_walked (flight.Answered called said stamp) n over no_answer = absurd (no_answer tt)
 due_walked (flight.Refused called) n over no_answer = refl
 
-module _ (f : Flight) (called : Call) (unanswered : IsAnswered f → ⊥) (next : IsNext f called) where
+module _ (f : Flight) (called : Call) (unanswered : IsFlightAnswered f → ⊥) (next : AllowsCall f called) where
   pub flight_named : (o : ℕ) → FlightNames o f → names o called ≡ true
   flight_named o is = by f unanswered next is
     where
-      by : (g : Flight) → (IsAnswered g → ⊥) → IsNext g called → FlightNames o g → names o called ≡ true
+      by : (g : Flight) → (IsFlightAnswered g → ⊥) → AllowsCall g called → FlightNames o g → names o called ≡ true
       by flight.Idle no_answer same is = absurd is
       by (flight.Tried tried) no_answer same is = subst (λ (c : Call). names o c ≡ true) same is
       by (flight.Answered c said stamp) no_answer same is = absurd (no_answer tt)
@@ -338,7 +338,7 @@ module _ (f : Flight) (called : Call) (unanswered : IsAnswered f → ⊥) (next 
     pub mark_stays : (mark : Option ℕ) → (f ≡ flight.Idle → mark ≡ None) → IsFlightFound thread found mine f mark → IsMark mark
     mark_stays mark free is = by f mark unanswered next free is
       where
-        by : (g : Flight) (m : Option ℕ) → (IsAnswered g → ⊥) → IsNext g called → (g ≡ flight.Idle → m ≡ None) → IsFlightFound thread found mine g m → IsMark m
+        by : (g : Flight) (m : Option ℕ) → (IsFlightAnswered g → ⊥) → AllowsCall g called → (g ≡ flight.Idle → m ≡ None) → IsFlightFound thread found mine g m → IsMark m
         by flight.Idle None no_answer same free is = tt
         by flight.Idle (Some first) no_answer same free is = absurd (let e : Some first ≡ None = free refl in cc)
         by (flight.Tried tried) m no_answer same free is = subst (λ (c : Call). IfSome m (λ other. (other ≢ thread) × IsFoundFor found mine c other)) same is
@@ -355,7 +355,7 @@ other_thread number owner some apart e = apart (omega (arith, some, e))
 
 -- ---- a call without an answer
 
-module _ (v w : View) (s t : Stack) (f : Flight) (mine : List NamedEntry) (called : Call) (hands : List (Option Cursor)) (number : w.number ≡ v.number) (lists : w.lists ≡ v.lists) (only : LocksOnly (IsLockedFor hands called) v w) (finds : FindsMore v w) (old : AreOwnedBy v s f mine) (unanswered : IsAnswered f → ⊥) (next : IsNext f called) (free : f ≡ flight.Idle → s.mark ≡ None)
+module _ (v w : View) (s t : Stack) (f : Flight) (mine : List NamedEntry) (called : Call) (hands : List (Option Cursor)) (number : w.number ≡ v.number) (lists : w.lists ≡ v.lists) (only : LocksOnly (IsLockedFor hands called) v w) (finds : FindsMore v w) (old : AreOwnedBy v s f mine) (unanswered : IsFlightAnswered f → ⊥) (next : AllowsCall f called) (free : f ≡ flight.Idle → s.mark ≡ None)
     (at_hand : (n : ℕ) (walker : Cursor) → cursor_at hands n ≡ Some walker → cursor_in n v.log ≡ Some walker) where
   walks : (n : ℕ) (walker : Cursor) → cursor_at hands n ≡ Some walker → walked_by n mine ≡ Some (container_of walker)
   walks n walker at = sym (old.walked n ∙ due_walked f n (walked_by n mine) unanswered) ∙ ap (option_map container_of) (at_hand n walker at)
@@ -369,8 +369,8 @@ module _ (v w : View) (s t : Stack) (f : Flight) (mine : List NamedEntry) (calle
   now_named : (o : ℕ) → IsLockedFor hands called o → IsNamedIn o mine ⊎ (names o called ≡ true)
   now_named o is = (used o hands mine called walks is).1
 
-  begun_same : locked_in t ≡ locked_in s → AreBegunBy (locked_in t) (begun_by mine)
-  begun_same same = subst (λ (x : List (ℕ × ℕ) × List Call). AreBegunBy x.0 x.1) (λ i. (sym same i, due_begun f (begun_by mine) unanswered i)) old.begun
+  begun_same : locked_in t ≡ locked_in s → AreBegunBy (locked_in t) (begin_calls mine)
+  begun_same same = subst (λ (x : List (ℕ × ℕ) × List Call). AreBegunBy x.0 x.1) (λ i. (sym same i, due_begun f (begin_calls mine) unanswered i)) old.begun
 
   was_marked : IfSome s.mark (λ other. (other ≢ v.number - 1) × IsFoundFor (found_owners w.log) mine called other)
   was_marked =
@@ -406,7 +406,7 @@ module _ (v w : View) (s t : Stack) (f : Flight) (mine : List NamedEntry) (calle
       (subst (λ (m : Option ℕ). IfSome m (λ other. (other ≢ v.number - 1) × IsFoundFor (found_owners w.log) mine called other)) (sym mark) was_marked)
       before_named now_named
       (λ n. moved n ∙ ap (walked_after n called) (old.walked n ∙ due_walked f n (walked_by n mine) unanswered))
-      (stack_begun called s t (begun_by mine) stack (subst (AreBegunBy (locked_in s)) (due_begun f (begun_by mine) unanswered) old.begun))
+      (stack_begun called s t (begin_calls mine) stack (subst (AreBegunBy (locked_in s)) (due_begun f (begin_calls mine) unanswered) old.begun))
 
 -- ---- the innermost section is taken up again
 
@@ -417,7 +417,7 @@ module _ (v w : View) (s : Stack) (called : Call) (said : Reply) (stamp : Stamp)
   top_of : (outer : List OpenSection) (top : OpenSection) → s.sections ≡ outer ++ top ∷ [] → (o : ℕ) → IsTop top o → (list_any (λ x. x == o) (inner_after called (begins_of mine)) ≡ true) × (IsNamedIn o mine ⊎ (names o called ≡ true))
   top_of outer top cut o is =
       top_inner o mine called (pair_of top) (reverse (map pair_of outer))
-      (subst (λ (pairs : List (ℕ × ℕ)). AreBegunBy pairs (begun_after called (begun_by mine))) (ap (λ (xs : List OpenSection). reverse (map pair_of xs)) cut ∙ push_pair outer top) old.begun) is
+      (subst (λ (pairs : List (ℕ × ℕ)). AreBegunBy pairs (begun_after called (begin_calls mine))) (ap (λ (xs : List OpenSection). reverse (map pair_of xs)) cut ∙ push_pair outer top) old.begun) is
 
   was_kept : (mark : Option ℕ) → mark ≡ s.mark → IfSome mark (λ other. (other ≢ v.number - 1) × IsFoundFor (found_owners w.log) mine called other)
   was_kept mark same =
@@ -428,7 +428,7 @@ module _ (v w : View) (s : Stack) (called : Call) (said : Reply) (stamp : Stamp)
   still P t only now marked same =
       step_owned v w P s t (flight.Answered called said stamp) (flight.Answered called said stamp) mine number lists only finds old marked (λ o flies. inr flies) now
       (λ n. ap (option_map container_of) (cursors n) ∙ old.walked n)
-      (subst (λ (pairs : List (ℕ × ℕ)). AreBegunBy pairs (begun_after called (begun_by mine))) (sym same) old.begun)
+      (subst (λ (pairs : List (ℕ × ℕ)). AreBegunBy pairs (begun_after called (begin_calls mine))) (sym same) old.begun)
 
   -- it has to wait for its locks
   pub waits_on_owned : (t : Stack) (own : Taking) (outer : List OpenSection) (top : OpenSection) (o owner : ℕ) → s.sections ≡ outer ++ top ∷ [] → LocksOnly (IsTop top) v w → IsTop top o → 0 < v.number → owner + 1 ≢ v.number → is_owner_in o (owner + 1) (found_owners w.log) ≡ true → t ≡ waiting (with_own s own) owner → AreOwnedBy w t (flight.Answered called said stamp) mine
@@ -458,7 +458,7 @@ named_push o mine e is =
 
 module _ (w : View) (s t : Stack) (thread : ℕ) (called : Call) (said : Reply) (stamp : Stamp) (mine : List NamedEntry) (same : thread ≡ w.number - 1) (old : AreOwnedBy w s (flight.Answered called said stamp) mine) (up : TakenUp s t) where
   abbrev e : NamedEntry
-  e = kept_entry thread mine called said stamp s.mark
+  e = named_entry thread mine called said stamp s.mark
 
   marked_all : AreMarksFound (found_owners w.log) (mine ++ e ∷ [])
   marked_all place entry at =
@@ -507,11 +507,11 @@ start_owned v s log none = record {
     no_owner o q has = absurd (let e : false ≡ true = sym (ap (λ (l : List Act). is_owner_in o q (had_locks v.number l)) log) ∙ has in cc)
 
 -- a caller that gives up with no section open, and a call in flight that names nothing that its entries don't name
-pub abandoned_owned : (v w : View) (s t : Stack) (f : Flight) (mine : List NamedEntry) → w.number ≡ v.number → w.lists ≡ v.lists → SameOwners v w → ((n : ℕ) → cursor_in n w.log ≡ cursor_in n v.log) → (IsAnswered f → ⊥) → ((o : ℕ) → FlightNames o f → IsNamedIn o mine) → s.sections ≡ [] → t.sections ≡ [] → AreOwnedBy v s f mine → AreOwnedBy w t flight.Idle mine
+pub abandoned_owned : (v w : View) (s t : Stack) (f : Flight) (mine : List NamedEntry) → w.number ≡ v.number → w.lists ≡ v.lists → SameOwners v w → ((n : ℕ) → cursor_in n w.log ≡ cursor_in n v.log) → (IsFlightAnswered f → ⊥) → ((o : ℕ) → FlightNames o f → IsNamedIn o mine) → s.sections ≡ [] → t.sections ≡ [] → AreOwnedBy v s f mine → AreOwnedBy w t flight.Idle mine
 abandoned_owned v w s t f mine number lists same cursors unanswered names none gone old =
     step_owned v w (λ o. ⊥) s t f flight.Idle mine number lists (same_locks_only (λ o. ⊥) v w same) (same_finds_more v w same) old tt (λ o flies. inl (names o flies)) (λ o no. absurd no)
     (λ n. ap (option_map container_of) (cursors n) ∙ (old.walked n ∙ due_walked f n (walked_by n mine) unanswered))
-    (subst (λ (x : List (ℕ × ℕ) × List Call). AreBegunBy x.0 x.1) (λ i. ((ap pairs_in none ∙ sym (ap pairs_in gone)) i, due_begun f (begun_by mine) unanswered i)) old.begun)
+    (subst (λ (x : List (ℕ × ℕ) × List Call). AreBegunBy x.0 x.1) (λ i. ((ap pairs_in none ∙ sym (ap pairs_in gone)) i, due_begun f (begin_calls mine) unanswered i)) old.begun)
   where
     pairs_in : List OpenSection → List (ℕ × ℕ)
     pairs_in xs = reverse (map pair_of xs)

@@ -26,7 +26,7 @@ use Rattle.ft_qsbr.proofs.Passing.{begun_stays, collection_leaves, cursors_stay,
 use Rattle.ft_model.specs.declared.cursor.Cursor.{Cursor}
 use Rattle.ft_section.specs.declared.answers.Objects.{Objects}
 use Rattle.ft_section.specs.Ready.{AreSuspended, HasTop, InCall, IsInCall, IsReady, IsStill, IsWaiting, MayResume, MayTry}
-use Rattle.ft_section.specs.Takings.{IsOwnFor, lower_of, upper_of}
+use Rattle.ft_section.specs.LockTakings.{IsOwnFor, lower_of, upper_of}
 use Rattle.ft_section.proofs.Making.{in_call_stays}
 use Rattle.ft_engine.specs.declared.caller.Flight.{Flight}
 use Rattle.ft_engine.specs.declared.caller.Flight.TheVariants as flight

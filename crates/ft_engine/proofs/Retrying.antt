@@ -14,10 +14,10 @@ use Rattle.ft_engine.specs.declared.calling.Called.{Called}
 use Rattle.ft_engine.specs.declared.calling.Called.TheVariants as called
 use Rattle.ft_engine.specs.declared.engine.Engine.{Engine}
 use Rattle.ft_engine.specs.Answering.{StaysPass}
-use Rattle.ft_engine.specs.Attempts.{ComesAgain, IsMarkOf, MayAttempt, StaysCaller, kept_after}
+use Rattle.ft_engine.specs.Attempts.{ComesAgain, IsMarkOf, MayAttempt, StaysCaller, entries_with_answer}
 use Rattle.ft_engine.specs.Callers.{IsCallerOf, thread_of}
-use Rattle.ft_engine.specs.Calling.{AreWaits, HasMark, IsCalled, IsTried, Try, first_found, last_of, mark_after}
-use Rattle.ft_engine.specs.Keeping.{IsKept}
+use Rattle.ft_engine.specs.Calling.{AreWaits, HasMark, IsCalled, IsTried, Try, mark_after_tries, last_of, mark_after}
+use Rattle.ft_engine.specs.Keeping.{WasAnswered}
 use Rattle.ft_engine.proofs.SectionCalls.{stays_then}
 
 -- the call isn't done, and the same call comes next
@@ -25,10 +25,10 @@ pub record IsBetween (e : Engine) (called : Call) (c d : Caller) : Type 0 where
   pub caller : IsCallerOf e d
   pub may : MayAttempt e d called
   pub same : StaysCaller c d
-  pub kept : (mine : List NamedEntry) → IsKept c mine → IsKept d mine
+  pub kept : (mine : List NamedEntry) → WasAnswered c mine → WasAnswered d mine
   pub waits : List Try
   pub are : AreWaits e called c waits d
-  pub mark : (stack_of d.pass).mark ≡ first_found (stack_of c.pass).mark waits
+  pub mark : (stack_of d.pass).mark ≡ mark_after_tries (stack_of c.pass).mark waits
 
 same_pass : (v : View) → StaysPass v v
 same_pass v = record { number = refl; next = refl; parts = refl; shape = refl; lists = refl; online = λ on. on; floor = refl; since = refl; seen = le_refl (seen_writes v) }
@@ -48,7 +48,7 @@ none_between e called c is may = record {
 same_then : (b c d : Caller) → StaysCaller b c → StaysCaller c d → StaysCaller b d
 same_then b c d first second = record { pass = stays_then (view b.pass) (view c.pass) (view d.pass) first.pass second.pass; room = second.room ∙ first.room }
 
-kept_again : (thread : ℕ) (called : Call) (t : Tried) (mine : List NamedEntry) → ComesAgain t → kept_after thread called t mine ≡ mine
+kept_again : (thread : ℕ) (called : Call) (t : Tried) (mine : List NamedEntry) → ComesAgain t → entries_with_answer thread called t mine ≡ mine
 kept_again thread called (tried.NotYet o owner) mine again = refl
 kept_again thread called (tried.Moved first second) mine again = refl
 kept_again thread called (tried.Done said stamp mark) mine again = absurd again
@@ -66,7 +66,7 @@ more_between e called b c d t before again x = record {
   caller = x.caller;
   may = x.again again;
   same = same_then b c d before.same x.same;
-  kept = λ mine kept. subst (IsKept d) (kept_again (thread_of c) called t mine again) (x.kept mine (before.kept mine kept));
+  kept = λ mine kept. subst (WasAnswered d) (kept_again (thread_of c) called t mine again) (x.kept mine (before.kept mine kept));
   waits = record { before = c; answer = t } ∷ before.waits;
   are = (before.are, again, x);
   mark = mark_again t (stack_of c.pass).mark (stack_of d.pass).mark again x.mark ∙ ap (λ (m : Option ℕ). mark_after m t) before.mark;
@@ -84,13 +84,13 @@ done_called e call answer b c d before x = record {
   last = c;
   are = before.are;
   done = x;
-  mark = has_mark answer (stack_of c.pass).mark (stack_of d.pass).mark (first_found (stack_of b.pass).mark before.waits) x.mark before.mark;
+  mark = has_mark answer (stack_of c.pass).mark (stack_of d.pass).mark (mark_after_tries (stack_of b.pass).mark before.waits) x.mark before.mark;
 }
 
 pub done_same : (e : Engine) (call : Call) (t : Tried) (b c d : Caller) → IsBetween e call b c → IsTried e call t c d → StaysCaller b d
 done_same e call t b c d before x = same_then b c d before.same x.same
 
-pub done_kept : (e : Engine) (call : Call) (t : Tried) (b c d : Caller) (mine : List NamedEntry) → IsBetween e call b c → IsTried e call t c d → IsKept b mine → IsKept d (kept_after (thread_of b) call t mine)
+pub done_kept : (e : Engine) (call : Call) (t : Tried) (b c d : Caller) (mine : List NamedEntry) → IsBetween e call b c → IsTried e call t c d → WasAnswered b mine → WasAnswered d (entries_with_answer (thread_of b) call t mine)
 done_kept e call t b c d mine before x kept =
     let number : thread_of c ≡ thread_of b = ap (λ (n : ℕ). n - 1) before.same.pass.number in
-    subst (λ (thread : ℕ). IsKept d (kept_after thread call t mine)) number (x.kept mine (before.kept mine kept))
+    subst (λ (thread : ℕ). WasAnswered d (entries_with_answer thread call t mine)) number (x.kept mine (before.kept mine kept))

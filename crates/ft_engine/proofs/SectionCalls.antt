@@ -31,15 +31,15 @@ use Rattle.ft_section.specs.Answers.{stamp_of}
 use Rattle.ft_section.specs.Locking.{KeepsLocks, OnlyLocked, with_own}
 use Rattle.ft_section.specs.Ready.{InCall, IsReady, IsStill, MayResume}
 use Rattle.ft_section.specs.Sectioning.{answered_view, begin_of, ended_by, reply_of}
-use Rattle.ft_section.specs.Takings.{HasBoth, HasLocks}
+use Rattle.ft_section.specs.LockTakings.{HasBoth, HasLocks}
 use Rattle.ft_section.proofs.Goings.{only_sees}
 use Rattle.ft_section.proofs.Making.{in_call_stays}
 use Rattle.ft_model.specs.Worlds.{container_of}
 use Rattle.ft_trace.specs.Owners.{FindsMore, SameOwners}
 use Rattle.ft_trace.proofs.Owning.{finds_more_then, grown_finds_more, owners_then}
-use Rattle.ft_engine.specs.Answering.{AddsEntry, AddsNothing, HasAnswer, KnewNone, StaysPass}
+use Rattle.ft_engine.specs.Answering.{MakesEntry, MakesNoEntry, HasAnswer, KnewNone, StaysPass}
 use Rattle.ft_engine.specs.Flights.{objects_by, objects_of}
-use Rattle.ft_engine.specs.Keeping.{made_entry, marks_in}
+use Rattle.ft_engine.specs.Keeping.{made_entry, section_marks}
 use Rattle.ft_engine.specs.Stacks.{Opens}
 use Rattle.ft_engine.proofs.Marks.{last_of}
 use Rattle.ft_engine.proofs.Within.{walked_none}
@@ -60,7 +60,7 @@ only_stays v w only = record {
   seen = only_sees v w only;
 }
 
-pub only_nothing : (v w : View) → OnlyLocked v w → AddsNothing v w
+pub only_nothing : (v w : View) → OnlyLocked v w → MakesNoEntry v w
 only_nothing v w only = record { pass = only_stays v w only; entries = only.entries; left = only.left; cursors = only.cursors }
 
 pub stays_then : (u v w : View) → StaysPass u v → StaysPass v w → StaysPass u w
@@ -76,7 +76,7 @@ stays_then u v w a b = record {
   seen = le_trans a.seen b.seen;
 }
 
-pub nothing_then : (u v w : View) → AddsNothing u v → AddsNothing v w → AddsNothing u w
+pub nothing_then : (u v w : View) → MakesNoEntry u v → MakesNoEntry v w → MakesNoEntry u w
 nothing_then u v w a b = record {
   pass = stays_then u v w a.pass b.pass;
   entries = b.entries ∙ a.entries;
@@ -85,7 +85,7 @@ nothing_then u v w a b = record {
 }
 
 -- what comes before and after the entry adds none
-pub nothing_entry : (called : Call) (said : Reply) (stamp : Stamp) (u v w z : View) → AddsNothing u v → seen_writes v ≤ stamp.number → AddsEntry called said stamp v w → AddsNothing w z → AddsEntry called said stamp u z
+pub nothing_entry : (called : Call) (said : Reply) (stamp : Stamp) (u v w z : View) → MakesNoEntry u v → seen_writes v ≤ stamp.number → MakesEntry called said stamp v w → MakesNoEntry w z → MakesEntry called said stamp u z
 nothing_entry called said stamp u v w z before seen made after = record {
   pass = stays_then u v z before.pass (stays_then v w z made.pass after.pass);
   entries = after.entries ∙ (made.entries ∙ ap (λ (es : List Entry). made_entry called said stamp ∷ es) before.entries);
@@ -115,7 +115,7 @@ answered_entries called said stamp v read = ap (λ (b : Bool). record { call = c
 answered_left : (called : Call) (said : Reply) (n : ℕ) (v : View) → 0 < v.left → v.left ≡ suc (answered_view called said n v).left
 answered_left called said n v left = let e : v.left ≡ suc (v.left - 1) = omega (arith, left) in e
 
-answered_entry : (called : Call) (said : Reply) (stamp : Stamp) (v : View) → stamp.wrote ≡ false → 0 < v.left → seen_writes v ≤ stamp.number → AddsEntry called said stamp v (answered_view called said stamp.number v)
+answered_entry : (called : Call) (said : Reply) (stamp : Stamp) (v : View) → stamp.wrote ≡ false → 0 < v.left → seen_writes v ≤ stamp.number → MakesEntry called said stamp v (answered_view called said stamp.number v)
 answered_entry called said stamp v read left seen = record {
   pass = answered_pass called said stamp.number v;
   entries = answered_entries called said stamp v read;
@@ -124,10 +124,10 @@ answered_entry called said stamp v read left seen = record {
   cursors = λ number other. refl;
 }
 
-pub entry_by : (called : Call) (said : Reply) (stamp : Stamp) (v w : View) → stamp.wrote ≡ false → 0 < v.left → seen_writes v ≤ stamp.number → w ≡ answered_view called said stamp.number v → AddsEntry called said stamp v w
-entry_by called said stamp v w read left seen is = subst (AddsEntry called said stamp v) (sym is) (answered_entry called said stamp v read left seen)
+pub entry_by : (called : Call) (said : Reply) (stamp : Stamp) (v w : View) → stamp.wrote ≡ false → 0 < v.left → seen_writes v ≤ stamp.number → w ≡ answered_view called said stamp.number v → MakesEntry called said stamp v w
+entry_by called said stamp v w read left seen is = subst (MakesEntry called said stamp v) (sym is) (answered_entry called said stamp v read left seen)
 
-pub same_nothing : (v : View) → AddsNothing v v
+pub same_nothing : (v : View) → MakesNoEntry v v
 same_nothing v = record { pass = record { number = refl; next = refl; parts = refl; shape = refl; lists = refl; online = λ on. on; floor = refl; since = refl; seen = omega arith }; entries = refl; left = refl; cursors = λ number. refl }
 
 -- a call that names no containers needs no locks
@@ -211,7 +211,7 @@ end_answer b p q result left depth only seen read closes resume =
       resume = resume;
       top = λ none. absurd (true≢false (sym none));
       stack = (r.0, r.1, r.2, x.1);
-      marks = ap marks_in x.1 ∙ sym (ap (drop 1) marks);
+      marks = ap section_marks x.1 ∙ sym (ap (drop 1) marks);
       mark = ap (λ (s : Stack). s.mark) x.1;
       ends = subst (λ (l : List ℕ). IsCountedAs (slice_index_or l 0 0) (reply_of result)) (sym marks)
           (subst (λ (e : Ended). IsCountedAs r.1.marks (reply_of e)) (sym x.0) (counted_by r.1.marks (stamp_of result)));
@@ -275,7 +275,7 @@ quiesce_answer b p q r stamp ready left pass_q stack_q calm on pass_r stack_r is
       top = λ none. absurd (true≢false (sym none));
       stack = stack ∙ ap (λ (t : Taking). with_own (stack_of p) t) ready.own;
       walked = λ number. ap (option_map container_of) (ap (λ (z : View). cursor_in number z.log) is ∙ calm.cursors number);
-      marks = ap marks_in stack;
+      marks = ap section_marks stack;
       mark = ap (λ (s : Stack). s.mark) stack;
       ends = tt;
     }

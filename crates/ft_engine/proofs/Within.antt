@@ -27,11 +27,11 @@ use Rattle.ft_section.specs.declared.answers.Stamp.{Stamp}
 use Rattle.ft_section.specs.declared.answers.Step.{Step}
 use Rattle.ft_section.specs.declared.answers.Step.TheVariants as step
 use Rattle.ft_section.specs.Locking.{LocksWithin, OnlyLocked}
-use Rattle.ft_section.specs.Takings.{IsOf}
+use Rattle.ft_section.specs.LockTakings.{IsOf}
 use Rattle.ft_search.specs.Calls.{MadeAs}
 use Rattle.ft_growth.specs.Adding.{Retires, Tried}
 use Rattle.ft_closing.proofs.Walked.{walked_plain}
-use Rattle.ft_engine.specs.Answering.{AddsEntry, HasLockedFor, HasWalked, IsLockedFor}
+use Rattle.ft_engine.specs.Answering.{MakesEntry, HasLockedFor, HasWalked, IsLockedFor}
 use Rattle.ft_engine.specs.Contentions.{may_look}
 use Rattle.ft_engine.specs.Flights.{objects_of}
 
@@ -92,7 +92,7 @@ retired_owners (suc t) v w (n, is) = subst (SameOwners v) (sym is) (record { had
 -- ---- cursors
 
 -- a call that moves no cursor leaves them on their containers
-pub walked_none : (called : Call) (said : Reply) (stamp : Stamp) (v w : View) → moved_cursor called ≡ None → AddsEntry called said stamp v w → HasWalked called v w
+pub walked_none : (called : Call) (said : Reply) (stamp : Stamp) (v w : View) → moved_cursor called ≡ None → MakesEntry called said stamp v w → HasWalked called v w
 walked_none called said stamp v w none x number =
     ap (option_map container_of) (x.cursors number (λ e. absurd (let n : None ≡ Some number = sym none ∙ e in cc)))
     ∙ sym (walked_plain number called (option_map container_of (cursor_in number v.log)) none)

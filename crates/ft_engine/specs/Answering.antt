@@ -35,7 +35,7 @@ use Rattle.ft_section.specs.declared.answers.Step.TheVariants as step
 use Rattle.ft_section.specs.Floors.{KnewOwners}
 use Rattle.ft_section.specs.Locking.{FoundOwner, KeepsLower, with_own, waiting}
 use Rattle.ft_section.specs.Ready.{HasTop, IsReady, IsWaiting, MayTry, MayResume}
-use Rattle.ft_section.specs.Takings.{IsOf, lower_of}
+use Rattle.ft_section.specs.LockTakings.{IsOf, lower_of}
 use Rattle.ft_section.specs.Trying.{HasLetGo}
 use Rattle.ft_growth.specs.Adding.{Tried}
 use Rattle.ft_search.specs.Looks.{AreLooks}
@@ -43,8 +43,8 @@ use Rattle.ft_closing.specs.Marks.{walked_after}
 use Rattle.ft_engine.specs.Callers.{AreOver}
 use Rattle.ft_engine.specs.Contentions.{StopsCall, WasContended, may_look}
 use Rattle.ft_engine.specs.Flights.{is_begin, objects_of}
-use Rattle.ft_engine.specs.Names.{FitsSections, IsCallIn}
-use Rattle.ft_engine.specs.Keeping.{made_entry, marks_in, marks_after}
+use Rattle.ft_engine.specs.Asked.{FitsSections, IsCallIn}
+use Rattle.ft_engine.specs.Keeping.{made_entry, section_marks, marks_after}
 use Rattle.ft_engine.specs.Stacks.{StackAfter}
 
 -- It is the same pass: it is online where it was, has taken in the same passes, has the floor where it had it, and no
@@ -61,7 +61,7 @@ pub record StaysPass (v w : View) : Type 0 where
   pub seen : seen_writes v ≤ seen_writes w
 
 -- The same pass has made no entry, and has the same cursors. (profile)
-pub record AddsNothing (v w : View) : Type 0 where
+pub record MakesNoEntry (v w : View) : Type 0 where
   pub pass : StaysPass v w
   pub entries : w.entries ≡ v.entries
   pub left : w.left ≡ v.left
@@ -69,7 +69,7 @@ pub record AddsNothing (v w : View) : Type 0 where
 
 -- The same pass has made the one entry of this answer, at a stamp that is at least all writes that it had seen. Its
 -- cursors stay, but for the one that the call moves. (profile)
-pub record AddsEntry (called : Call) (said : Reply) (stamp : Stamp) (v w : View) : Type 0 where
+pub record MakesEntry (called : Call) (said : Reply) (stamp : Stamp) (v w : View) : Type 0 where
   pub pass : StaysPass v w
   pub entries : w.entries ≡ made_entry called said stamp ∷ v.entries
   pub left : v.left ≡ suc w.left
@@ -97,19 +97,19 @@ HasWalked called v w =
 -- The call has its answer: the pass has one entry more, and the innermost section to take up again, of which a `begin`
 -- still has the locks. The sections are those that the call leaves open, with their counts. (C API, critical sections)
 pub record HasAnswer (b : Bank) (called : Call) (said : Reply) (stamp : Stamp) (p q : Pass) : Type 0 where
-  pub entry : AddsEntry called said stamp (view p) (view q)
+  pub entry : MakesEntry called said stamp (view p) (view q)
   pub resume : MayResume b q
   pub top : is_begin called ≡ true → HasTop q
   pub stack : StackAfter called (stack_of p) (stack_of q)
-  pub marks : marks_in (stack_of q) ≡ marks_after called (marks_in (stack_of p))
+  pub marks : section_marks (stack_of q) ≡ marks_after called (section_marks (stack_of p))
   pub mark : (stack_of q).mark ≡ (stack_of p).mark
-  pub ends : IsEndOf called (marks_in (stack_of p)) said
+  pub ends : IsEndOf called (section_marks (stack_of p)) said
   pub walked : HasWalked called (view p) (view q)
 
 -- The call waits: a step of it found another pass with the lock of one of its containers, and all open sections have
 -- let their locks go. (C API, critical sections)
 pub record HasToWait (b : Bank) (objects : Objects) (o owner : ℕ) (p q : Pass) : Type 0 where
-  pub entry : AddsNothing (view p) (view q)
+  pub entry : MakesNoEntry (view p) (view q)
   pub waits : IsWaiting b q objects
   pub stack : stack_of q ≡ waiting (with_own (stack_of p) (stack_of q).own) owner
   pub kept : KeepsLower (lower_of objects) o p q
@@ -117,27 +117,29 @@ pub record HasToWait (b : Bank) (objects : Objects) (o owner : ℕ) (p q : Pass)
 
 -- the call has let go of its own locks, and has no answer
 pub record HasNone (b : Bank) (p q : Pass) : Type 0 where
-  pub entry : AddsNothing (view p) (view q)
+  pub entry : MakesNoEntry (view p) (view q)
   pub gone : HasLetGo b p q
 
--- The call tried to take a table of a class, and two steps of that found words changed: the count of the class, or one of
--- its free words; or the count wasn't 0, and each free word was. Before and after it adds nothing. (profile)
-pub record HasMoved (first second : ℕ) (v w : View) : Type 0 where
+-- The call tried to take a table of a class, and two steps of that found words changed: the count of the class, or
+-- one of its free words; or the count wasn't 0, and each free word was. Before and after it adds nothing. The pass
+-- hasn't the floor. (profile)
+pub record FoundWordsChanged (first second : ℕ) (v w : View) : Type 0 where
   pub before : View
-  pub earlier : AddsNothing v before
+  pub earlier : MakesNoEntry v before
   pub class : ℕ
   pub after : View
   pub tried : Tried before.shape class (took.Moved first second) before after
-  pub later : AddsNothing after w
+  pub later : MakesNoEntry after w
+  pub floor : v.has_floor ≡ false
 
 -- these are the cursors that the pass has by its own entries, and each goes over a container of its kind
-pub record AreHandsOf (k : Shape) (v : View) (hands : List (Option Cursor)) : Type 0 where
+pub record AreHandsOfPass (k : Shape) (v : View) (hands : List (Option Cursor)) : Type 0 where
   pub cursors : (number : ℕ) → number < length hands → cursor_at hands number ≡ cursor_in number v.log
   pub over : AreOver k hands
 
 -- A call may be tried: the pass is ready for it, or has tried it before, and has a call left; what it names is there,
 -- the sections allow it, and the pass is online.
-pub record MayMake (b : Bank) (p : Pass) (hands : List (Option Cursor)) (called : Call) : Type 0 where
+pub record MayTryCall (b : Bank) (p : Pass) (hands : List (Option Cursor)) (called : Call) : Type 0 where
   pub tries : (objects : Objects) → objects_of hands called ≡ Some objects → MayTry b p objects
   pub ready : objects_of hands called ≡ None → IsReady b p
   pub names : IsCallIn (shape_of b) hands called
@@ -180,17 +182,17 @@ copies (call.Set o set.Items) = true
 copies called = false
 
 -- What one try of a call of a thread with these cursors comes to. Only a call that copies runs out of memory.
-abbrev pub IsTryOf : Bank → List (Option Cursor) → Call → Pass → Pass → Step → Type 0
-IsTryOf b hands called p q (step.Done said stamp) =
+abbrev pub IsTryOfCall : Bank → List (Option Cursor) → Call → Pass → Pass → Step → Type 0
+IsTryOfCall b hands called p q (step.Done said stamp) =
     HasAnswer b called said stamp p q × KnewNone hands called p × HasLockedFor hands called (view p) (view q)
-IsTryOf b hands called p q (step.NotYet o owner) =
+IsTryOfCall b hands called p q (step.NotYet o owner) =
     (objects : Objects) × (objects_of hands called ≡ Some objects) × HasToWait b objects o owner p q
     × KnewLocks called objects p (got.NotYet o owner) × HasLockedFor hands called (view p) (view q)
-IsTryOf b hands called p q (step.Moved first second) =
+IsTryOfCall b hands called p q (step.Moved first second) =
     (objects : Objects) × (objects_of hands called ≡ Some objects) × HasNone b p q
     × KnewLocks called objects p got.Have × HasLockedFor hands called (view p) (view q)
-    × HasMoved first second (view p) (view q)
-IsTryOf b hands called p q step.NoMemory =
+    × FoundWordsChanged first second (view p) (view q)
+IsTryOfCall b hands called p q step.NoMemory =
     HasNone b p q × HasLockedFor hands called (view p) (view q) × (copies called ≡ true)
 
 -- ---- looks
@@ -201,13 +203,20 @@ IsTryOf b hands called p q step.NoMemory =
 abbrev pub IsLooked : Call → View → View → Look → Type 0
 IsLooked called v w (look.Done said stamp) = Answered called said stamp.number v w × (stamp.wrote ≡ false)
 IsLooked called v w (look.Contended first second) =
-    (part : List Act) × (w.log ≡ part ++ v.log) × OnlyLoaded v w × StopsCall called first second part × AreLooks part
+    (part : List Act) × (w.log ≡ part ++ v.log) × OnlyLoaded v w × StopsCall v.shape called first second part
+    × AreLooks part
 IsLooked called v w look.NoMemory = OnlyLoaded v w × (copies called ≡ true)
 
+-- it isn't contended
+abbrev pub IsUncontended : Look → Type 0
+IsUncontended (look.Done said stamp) = Unit {0}
+IsUncontended (look.Contended first second) = ⊥
+IsUncontended look.NoMemory = Unit {0}
+
 -- the same of a call that is looked at, or of one that isn't
-abbrev pub Looked : Call → Pass → Pass → Option Look → Type 0
-Looked called p q (Some answer) = IsLooked called (view p) (view q) answer
-Looked called p q None = DidNothing p q
+abbrev pub IsLookedIfAny : Call → Pass → Pass → Option Look → Type 0
+IsLookedIfAny called p q (Some answer) = IsLooked called (view p) (view q) answer
+IsLookedIfAny called p q None = DidNothing p q
 
 -- the answer of a try that the look gives, if it gives one
 abbrev pub settled : Option Look → Option Step

@@ -18,19 +18,19 @@ use Rattle.ft_engine.specs.declared.engine.Engine.{Engine}
 use Rattle.ft_engine.specs.Answering.{StaysPass}
 use Rattle.ft_engine.specs.Callers.{flight_of, left_of}
 use Rattle.ft_engine.specs.Contentions.{WasContended, may_look}
-use Rattle.ft_engine.specs.Flights.{IsAnswered, IsNext}
-use Rattle.ft_engine.specs.Keeping.{kept_entry}
-use Rattle.ft_engine.specs.Names.{FitsSections, IsCallIn}
+use Rattle.ft_engine.specs.Flights.{IsFlightAnswered, AllowsCall}
+use Rattle.ft_engine.specs.Keeping.{named_entry}
+use Rattle.ft_engine.specs.Asked.{FitsSections, IsCallIn}
 
 -- ---- what it asks
 
--- The call comes next, and the pass is online. Where the call has no answer yet, what it names is there, the caller has a
--- call left, and the sections allow it.
+-- The call comes next, and the pass is online. Where the call has no answer yet, what it names is there, the caller
+-- has a call left, and the sections allow it.
 pub record MayAttempt (e : Engine) (c : Caller) (called : Call) : Type 0 where
-  pub next : IsNext c.flight called
-  pub names : (IsAnswered c.flight → ⊥) → IsCallIn (shape_of e.bank) c.cursors.items called
-  pub left : (IsAnswered c.flight → ⊥) → 0 < left_of c
-  pub sections : (IsAnswered c.flight → ⊥) → FitsSections (stack_of c.pass) called
+  pub next : AllowsCall c.flight called
+  pub names : (IsFlightAnswered c.flight → ⊥) → IsCallIn (shape_of e.bank) c.cursors.items called
+  pub left : (IsFlightAnswered c.flight → ⊥) → 0 < left_of c
+  pub sections : (IsFlightAnswered c.flight → ⊥) → FitsSections (stack_of c.pass) called
   pub online : 0 < announces (view c.pass).log
 
 -- ---- what it answers
@@ -38,16 +38,17 @@ pub record MayAttempt (e : Engine) (c : Caller) (called : Call) : Type 0 where
 -- the call that the caller is in after an answer: none, this one, or one that was refused memory
 abbrev pub flight_after : Call → Tried → Flight → Type 0
 flight_after called (tried.Done said stamp mark) f = f ≡ flight.Idle
-flight_after called (tried.NotYet o owner) f = IsNext f called × (f ≡ flight.Idle → ⊥)
+flight_after called (tried.NotYet o owner) f = AllowsCall f called × (f ≡ flight.Idle → ⊥)
 flight_after called (tried.Moved first second) f = f ≡ flight.Tried called
 flight_after called tried.NoMemory f = f ≡ flight.Refused called
 
 -- the entries that the caller was answered, with that of this answer
-abbrev pub kept_after : ℕ → Call → Tried → List NamedEntry → List NamedEntry
-kept_after thread called (tried.Done said stamp mark) mine = mine ++ kept_entry thread mine called said stamp mark ∷ []
-kept_after thread called (tried.NotYet o owner) mine = mine
-kept_after thread called (tried.Moved first second) mine = mine
-kept_after thread called tried.NoMemory mine = mine
+abbrev pub entries_with_answer : ℕ → Call → Tried → List NamedEntry → List NamedEntry
+entries_with_answer thread called (tried.Done said stamp mark) mine =
+    mine ++ named_entry thread mine called said stamp mark ∷ []
+entries_with_answer thread called (tried.NotYet o owner) mine = mine
+entries_with_answer thread called (tried.Moved first second) mine = mine
+entries_with_answer thread called tried.NoMemory mine = mine
 
 -- The mark of a call is the first pass that it found with a lock that it needed, and none where it found none; while it
 -- waits, that stands in the caller's pass. (C API, critical sections; marks: profile)
@@ -70,8 +71,8 @@ HasFoundOwner t c d =
     FoundIn t (view c.pass) (view d.pass)
     ⊎ ((mid : View) × (length mid.entries ≡ suc (length (view c.pass).entries)) × FoundIn t mid (view d.pass))
 
--- A call that may be made without a lock, and whose answer isn't fixed yet, waits only where a look at it in this try was
--- contended. (PEP 703, Optimistically avoiding locking)
+-- A call that may be made without a lock, and whose answer isn't fixed yet, waits only where a look at it in this try
+-- was contended. (PEP 703, Optimistically avoiding locking)
 abbrev pub HasLookedFirst : Call → Tried → Caller → Caller → Type 0
 HasLookedFirst called (tried.NotYet o owner) c d =
     may_look called ≡ true → flight_of d ≡ flight.Tried called → WasContended called (view c.pass) (view d.pass)
@@ -101,10 +102,11 @@ flight_looked called (look.Contended first second) = flight.Idle
 flight_looked called look.NoMemory = flight.Refused called
 
 -- the entries that the caller was answered, with that of the look if it gave a reply; no lock was waited for
-abbrev pub kept_looked : ℕ → Call → Look → List NamedEntry → List NamedEntry
-kept_looked thread called (look.Done said stamp) mine = mine ++ kept_entry thread mine called said stamp None ∷ []
-kept_looked thread called (look.Contended first second) mine = mine
-kept_looked thread called look.NoMemory mine = mine
+abbrev pub entries_with_look : ℕ → Call → Look → List NamedEntry → List NamedEntry
+entries_with_look thread called (look.Done said stamp) mine =
+    mine ++ named_entry thread mine called said stamp None ∷ []
+entries_with_look thread called (look.Contended first second) mine = mine
+entries_with_look thread called look.NoMemory mine = mine
 
 -- the caller once a look of its pass has answered so
 abbrev pub after_look : Call → Look → Caller → Caller

@@ -75,7 +75,7 @@ pub record IsCallerOf (e : Engine) (c : Caller) : Type 0 where
   pub over : AreOver (shape_of e.bank) c.cursors.items
 
 -- caller i of a new engine, with room for that many cursors: it has made no call, and has none in flight
-pub record IsFresh (e : Engine) (room i : ℕ) (c : Caller) : Type 0 where
+pub record IsFreshCaller (e : Engine) (room i : ℕ) (c : Caller) : Type 0 where
   pub caller : IsCallerOf e c
   pub thread : thread_of c ≡ i
   pub flight : c.flight ≡ flight.Idle
@@ -90,6 +90,6 @@ pub record IsFresh (e : Engine) (room i : ℕ) (c : Caller) : Type 0 where
   pub tokens : (view c.pass).tokens ≡ 1
 
 -- they are the callers of the engine in their order, from caller i on
-abbrev pub AreFresh : Engine → ℕ → ℕ → List Caller → Type 0
-AreFresh e room i [] = Unit {0}
-AreFresh e room i (c ∷ callers) = IsFresh e room i c × AreFresh e room (suc i) callers
+abbrev pub AreFreshCallers : Engine → ℕ → ℕ → List Caller → Type 0
+AreFreshCallers e room i [] = Unit {0}
+AreFreshCallers e room i (c ∷ callers) = IsFreshCaller e room i c × AreFreshCallers e room (suc i) callers

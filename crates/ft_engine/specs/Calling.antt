@@ -11,17 +11,18 @@ use Rattle.ft_engine.specs.declared.caller.Caller.{Caller}
 use Rattle.ft_engine.specs.declared.calling.Called.{Called}
 use Rattle.ft_engine.specs.declared.calling.Called.TheVariants as called
 use Rattle.ft_engine.specs.declared.engine.Engine.{Engine}
-use Rattle.ft_engine.specs.Attempts.{ComesAgain, HasFoundOwner, HasLookedFirst, IsMarkOf, MayAttempt, StaysCaller, flight_after, kept_after}
+use Rattle.ft_engine.specs.Attempts.{ComesAgain, HasFoundOwner, HasLookedFirst, IsMarkOf, MayAttempt, StaysCaller, flight_after, entries_with_answer}
 use Rattle.ft_engine.specs.Callers.{IsCallerOf, flight_of, pass_of, thread_of}
 use Rattle.ft_engine.specs.Halves.{HasHalves}
-use Rattle.ft_engine.specs.Keeping.{IsKept}
+use Rattle.ft_engine.specs.Keeping.{WasAnswered}
 
 -- What one try of a call leaves of its caller.
 pub record IsTried (e : Engine) (called : Call) (t : Tried) (c d : Caller) : Type 0 where
   pub caller : IsCallerOf e d
   pub same : StaysCaller c d
   pub flight : flight_after called t (flight_of d)
-  pub kept : (mine : List NamedEntry) → IsKept c mine → IsKept d (kept_after (thread_of c) called t mine)
+  pub kept : (mine : List NamedEntry) → WasAnswered c mine
+      → WasAnswered d (entries_with_answer (thread_of c) called t mine)
   pub mark : IsMarkOf t (stack_of (pass_of c)).mark (stack_of (pass_of d)).mark
   pub found : HasFoundOwner t c d
   pub looked : HasLookedFirst called t c d
@@ -33,7 +34,8 @@ pub record Try : Type 0 where
   pub before : Caller
   pub answer : Tried
 
--- These tries, the latest first, led from the first caller to the second, and after each of them the same call came next.
+-- These tries, the latest first, led from the first caller to the second, and after each of them the same call came
+-- next.
 abbrev pub AreWaits : Engine → Call → Caller → List Try → Caller → Type 0
 AreWaits e called c [] d = d ≡ c
 AreWaits e called c (t ∷ earlier) d =
@@ -46,9 +48,9 @@ mark_after mark (tried.Done said stamp waited) = mark
 mark_after mark (tried.Moved first second) = mark
 mark_after mark tried.NoMemory = mark
 
-abbrev pub first_found : Option ℕ → List Try → Option ℕ
-first_found mark [] = mark
-first_found mark (t ∷ earlier) = mark_after (first_found mark earlier) t.answer
+abbrev pub mark_after_tries : Option ℕ → List Try → Option ℕ
+mark_after_tries mark [] = mark
+mark_after_tries mark (t ∷ earlier) = mark_after (mark_after_tries mark earlier) t.answer
 
 -- what the last try answered
 abbrev pub last_of : Called → Tried
@@ -67,4 +69,4 @@ pub record IsCalled (e : Engine) (called : Call) (answer : Called) (c d : Caller
   pub last : Caller
   pub are : AreWaits e called c waits last
   pub done : IsTried e called (last_of answer) last d
-  pub mark : HasMark answer (first_found (stack_of (pass_of c)).mark waits)
+  pub mark : HasMark answer (mark_after_tries (stack_of (pass_of c)).mark waits)

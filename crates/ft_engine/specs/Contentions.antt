@@ -8,11 +8,12 @@ use Rattle.ft_model.specs.declared.call.ListCall.TheVariants as list
 use Rattle.ft_model.specs.declared.data.Key.{Key}
 use Rattle.ft_model.specs.Calls.{is_locked_dict, is_locked_list, is_locked_set, other_dict, other_list, other_set}
 use Rattle.ft_trace.specs.declared.Act.{Act}
+use Rattle.ft_trace.specs.declared.Shape.{Shape}
 use Rattle.ft_trace.specs.declared.View.{View}
 use Rattle.ft_search.specs.Lengths.{StopsAtVersion}
 use Rattle.ft_search.specs.Looks.{Stops}
 use Rattle.ft_list.specs.Looks.{Stops as StopsItem}
-use Rattle.ft_engine.specs.Names.{key_of_dict, key_of_set}
+use Rattle.ft_engine.specs.Asked.{key_of_dict, key_of_set}
 
 -- whether a call may be made by a look, without a lock (PEP 703, Optimistically avoiding locking)
 abbrev pub may_look : Call → Bool
@@ -30,11 +31,12 @@ StopsAtOne o None a b part = StopsAtVersion o a b part
 StopsAtOne o (Some m) a b part = StopsAtVersion o a b part ⊎ StopsAtVersion m a b part
 
 -- of a call that names a key the version is that of the key's own entry, or the container's where its root was read 0
-abbrev pub StopsKeyed : ℕ → Option ℕ → Option Key → ℕ → ℕ → List Act → Type 0
-StopsKeyed o other None a b part = StopsAtOne o other a b part
-StopsKeyed o other (Some key) a b part = Stops o key a b part
+abbrev pub StopsKeyed : Shape → ℕ → Option ℕ → Option Key → ℕ → ℕ → List Act → Type 0
+StopsKeyed k o other None a b part = StopsAtOne o other a b part
+StopsKeyed k o other (Some key) a b part = Stops k o key a b part
 
--- of `l[i]` it is that of the very item, or the list's where its root was read 0; the list's where the index is negative
+-- of `l[i]` it is that of the very item, or the list's where its root was read 0; the list's where the index is
+-- negative
 abbrev pub StopsIndex : ℕ → ℤ → ℕ → ℕ → List Act → Type 0
 StopsIndex o (pos index) a b part = StopsItem o index a b part
 StopsIndex o (negsuc below) a b part = StopsAtVersion o a b part
@@ -45,20 +47,22 @@ StopsList o lc a b part = StopsAtOne o (other_list lc) a b part
 
 -- These loads stop a look at what the call names: two loads of one version gave a and then b, and a is odd or they
 -- differ.
-abbrev pub StopsCall : Call → ℕ → ℕ → List Act → Type 0
-StopsCall (call.Dict o dc) a b part = StopsKeyed o (other_dict dc) (key_of_dict dc) a b part
-StopsCall (call.List o lc) a b part = StopsList o lc a b part
-StopsCall (call.Set o sc) a b part = StopsKeyed o (other_set sc) (key_of_set sc) a b part
-StopsCall (call.Next number) a b part = ⊥
-StopsCall (call.Begin first second) a b part = ⊥
-StopsCall call.End a b part = ⊥
-StopsCall call.Quiesce a b part = ⊥
+abbrev pub StopsCall : Shape → Call → ℕ → ℕ → List Act → Type 0
+StopsCall k (call.Dict o dc) a b part = StopsKeyed k o (other_dict dc) (key_of_dict dc) a b part
+StopsCall k (call.List o lc) a b part = StopsList o lc a b part
+StopsCall k (call.Set o sc) a b part = StopsKeyed k o (other_set sc) (key_of_set sc) a b part
+StopsCall k (call.Next number) a b part = ⊥
+StopsCall k (call.Begin first second) a b part = ⊥
+StopsCall k call.End a b part = ⊥
+StopsCall k call.Quiesce a b part = ⊥
 
--- after the first of these moments and before the second a look at what the call names was stopped
+-- After the first of these moments and before the second a look at what the call names was stopped. With the floor
+-- none is.
 pub record WasContended (called : Call) (v w : View) : Type 0 where
   pub first : ℕ
   pub second : ℕ
   pub newer : List Act
   pub part : List Act
   pub is : w.log ≡ newer ++ (part ++ v.log)
-  pub stops : StopsCall called first second part
+  pub stops : StopsCall v.shape called first second part
+  pub floor : v.has_floor ≡ false

@@ -49,15 +49,15 @@ IsIn b p hands (flight.Answered called said stamp) = MayResume b p × (is_begin 
 IsIn b p hands (flight.Refused called) = IsInCall b p
 
 -- the call in flight has its answer
-abbrev pub IsAnswered : Flight → Type 0
-IsAnswered flight.Idle = ⊥
-IsAnswered (flight.Tried called) = ⊥
-IsAnswered (flight.Answered called said stamp) = Unit {0}
-IsAnswered (flight.Refused called) = ⊥
+abbrev pub IsFlightAnswered : Flight → Type 0
+IsFlightAnswered flight.Idle = ⊥
+IsFlightAnswered (flight.Tried called) = ⊥
+IsFlightAnswered (flight.Answered called said stamp) = Unit {0}
+IsFlightAnswered (flight.Refused called) = ⊥
 
 -- no call is in flight, or this one, and it wasn't refused
-abbrev pub IsNext : Flight → Call → Type 0
-IsNext flight.Idle called = Unit {0}
-IsNext (flight.Tried tried) called = tried ≡ called
-IsNext (flight.Answered answered said stamp) called = answered ≡ called
-IsNext (flight.Refused refused) called = ⊥
+abbrev pub AllowsCall : Flight → Call → Type 0
+AllowsCall flight.Idle called = Unit {0}
+AllowsCall (flight.Tried tried) called = tried ≡ called
+AllowsCall (flight.Answered answered said stamp) called = answered ≡ called
+AllowsCall (flight.Refused refused) called = ⊥

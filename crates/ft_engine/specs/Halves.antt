@@ -18,7 +18,7 @@ use Rattle.ft_engine.specs.declared.caller.Caller.{Caller}
 use Rattle.ft_engine.specs.declared.caller.Flight.{Flight}
 use Rattle.ft_engine.specs.declared.caller.Flight.TheVariants as flight
 use Rattle.ft_engine.specs.declared.engine.Engine.{Engine}
-use Rattle.ft_engine.specs.Answering.{HasLooked, IsTryOf}
+use Rattle.ft_engine.specs.Answering.{HasLooked, IsTryOfCall}
 
 -- ---- the innermost section
 
@@ -59,9 +59,9 @@ IsTakenUp said stamp p q tried.NoMemory = ⊥
 abbrev pub HasNoAnswer : Bank → List (Option Cursor) → Call → Pass → Pass → Tried → Type 0
 HasNoAnswer b hands called p q (tried.Done said stamp mark) = ⊥
 HasNoAnswer b hands called p q (tried.NotYet o owner) =
-    IsTryOf b hands called p q (step.NotYet o owner) × HasLooked called (view p) (view q) (step.NotYet o owner)
-HasNoAnswer b hands called p q (tried.Moved first second) = IsTryOf b hands called p q (step.Moved first second)
-HasNoAnswer b hands called p q tried.NoMemory = IsTryOf b hands called p q step.NoMemory
+    IsTryOfCall b hands called p q (step.NotYet o owner) × HasLooked called (view p) (view q) (step.NotYet o owner)
+HasNoAnswer b hands called p q (tried.Moved first second) = IsTryOfCall b hands called p q (step.Moved first second)
+HasNoAnswer b hands called p q tried.NoMemory = IsTryOfCall b hands called p q step.NoMemory
 
 -- ---- the call in flight
 
@@ -87,7 +87,7 @@ pub record HasBothHalves (b : Bank) (hands : List (Option Cursor)) (called : Cal
   pub mid : Pass
   pub said : Reply
   pub stamp : Stamp
-  pub answer : IsTryOf b hands called p mid (step.Done said stamp)
+  pub answer : IsTryOfCall b hands called p mid (step.Done said stamp)
   pub taken : IsTakenUp said stamp mid q t
   pub waits : WaitsAnswered called said stamp t after
 

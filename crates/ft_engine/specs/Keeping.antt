@@ -21,8 +21,8 @@ use Rattle.ft_engine.specs.Owning.{AreOwnedBy}
 -- ---- marks
 
 -- how many calls waited in each open section, as the pass counts them, innermost first
-abbrev pub marks_in : Stack → List ℕ
-marks_in s = reverse (map (λ section. section.marks) s.sections)
+abbrev pub section_marks : Stack → List ℕ
+section_marks s = reverse (map (λ section. section.marks) s.sections)
 
 -- how many of the entries after the `begin` of each open section waited, innermost first
 abbrev pub open_marks : ℕ → List NamedEntry → List ℕ
@@ -69,8 +69,8 @@ pending (flight.Answered called said stamp) = made_entry called said stamp ∷ [
 pending (flight.Refused called) = []
 
 -- the entry of an answer, as whoever made the call keeps it after others of the thread
-abbrev pub kept_entry : ℕ → List NamedEntry → Call → Reply → Stamp → Option ℕ → NamedEntry
-kept_entry thread mine called said stamp mark =
+abbrev pub named_entry : ℕ → List NamedEntry → Call → Reply → Stamp → Option ℕ → NamedEntry
+named_entry thread mine called said stamp mark =
     record {
       thread = thread;
       index = length mine + 1;
@@ -91,20 +91,20 @@ IsEndCounted thread mine (flight.Refused called) = Unit {0}
 
 -- These are a thread's entries, the oldest first, of calls that have ended: those of its pass with the thread, indexes
 -- that count from 1, and the marks of those that waited, but for the one of the call in flight. An `end` says how many
--- entries in its section waited, and that many does the pass count in each open section, with the call in flight where it
--- waited. (profile)
-pub record AreKeptBy (thread : ℕ) (entries : List Entry) (s : Stack) (f : Flight) (mine : List NamedEntry)
+-- entries in its section waited, and that many does the pass count in each open section, with the call in flight where
+-- it waited. (profile)
+pub record AreThreadEntries (thread : ℕ) (entries : List Entry) (s : Stack) (f : Flight) (mine : List NamedEntry)
     : Type 0 where
   pub same : entries ≡ pending f ++ reverse (map entry_of mine)
   pub own : All (λ entry. entry.thread ≡ thread) mine
   pub indexes : map (λ entry. entry.index) mine ≡ range_with_len 1 (length mine)
   pub counted : EachAt mine (λ place entry. IfEndsBegin (begins_of (take place mine)) entry.call
       (λ begun. IsCountedAs (marks_since entry.thread (take place mine) begun) entry.reply))
-  pub sections : marks_in s ≡ marks_due f (more_marks (mark_count s.mark) (open_marks thread mine))
+  pub sections : section_marks s ≡ marks_due f (more_marks (mark_count s.mark) (open_marks thread mine))
   pub ends : IsEndCounted thread mine f
 
 -- these are the entries that the caller was answered
-abbrev pub IsKept : Caller → List NamedEntry → Type 0
-IsKept c mine =
-    AreKeptBy (thread_of c) (view c.pass).entries (stack_of c.pass) c.flight mine
+abbrev pub WasAnswered : Caller → List NamedEntry → Type 0
+WasAnswered c mine =
+    AreThreadEntries (thread_of c) (view c.pass).entries (stack_of c.pass) c.flight mine
     × AreOwnedBy (view c.pass) (stack_of c.pass) c.flight mine

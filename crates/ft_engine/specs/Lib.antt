@@ -1,6 +1,6 @@
 pub mod Flights
 pub mod Callers
-pub mod Names
+pub mod Asked
 pub mod Contentions
 pub mod Owning
 pub mod Keeping
@@ -10,5 +10,5 @@ pub mod Attempts
 pub mod Halves
 pub mod Calling
 pub mod Visits
-pub mod Closings
+pub mod DoneCallers
 pub mod Resting

@@ -40,8 +40,8 @@ begun_after (call.Next number) calls = calls
 begun_after call.Quiesce calls = calls
 
 -- those of the sections that these entries leave open
-abbrev pub begun_by : List NamedEntry → List Call
-begun_by mine = map (λ begun. begun.call) (begins_of mine)
+abbrev pub begin_calls : List NamedEntry → List Call
+begin_calls mine = map (λ begun. begun.call) (begins_of mine)
 
 -- ---- the call in flight
 
@@ -88,4 +88,4 @@ pub record AreOwnedBy (v : View) (s : Stack) (f : Flight) (mine : List NamedEntr
       → (v.number ≤ q) × (q ≤ v.number + length v.lists)
   pub walked : (number : ℕ) → option_map container_of (cursor_in number v.log)
       ≡ walked_due f number (walked_by number mine)
-  pub begun : AreBegunBy (locked_in s) (begun_due f (begun_by mine))
+  pub begun : AreBegunBy (locked_in s) (begun_due f (begin_calls mine))

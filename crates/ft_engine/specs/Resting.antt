@@ -13,14 +13,14 @@ use Rattle.ft_engine.specs.declared.caller.Flight.TheVariants as flight
 use Rattle.ft_engine.specs.declared.engine.Engine.{Engine}
 use Rattle.ft_engine.specs.declared.resting.RestingCaller.{RestingCaller}
 use Rattle.ft_engine.specs.Callers.{IsCallerOf}
-use Rattle.ft_engine.specs.Keeping.{IsKept}
-use Rattle.ft_engine.specs.Visits.{SameWork}
+use Rattle.ft_engine.specs.Keeping.{WasAnswered}
+use Rattle.ft_engine.specs.Visits.{SameCallerWork}
 
 -- ---- the floor
 
 -- how many of the bank's tokens, of which each pass has one at first, the caller has
-abbrev pub tokens_of : Caller → ℕ
-tokens_of c = (view c.pass).tokens
+abbrev pub token_count : Caller → ℕ
+token_count c = (view c.pass).tokens
 
 -- the caller has all tokens since it took the floor, so no other can take a step
 abbrev pub HasFloor : Caller → Type 0
@@ -62,16 +62,16 @@ IsRestingCallerOf e r = IsRestingOf e.bank r.pass × ((c : Caller) × IsCallerOf
 -- What a caller hands on with its tokens: all that it has, the writes that it has seen, and the words of the bank where
 -- it has the floor.
 pub record HandsOn (c : Caller) (t : Tokens) : Type 0 where
-  pub tokens : (carried t).tokens ≡ tokens_of c
+  pub tokens : (carried t).tokens ≡ token_count c
   pub seen : (carried t).learnt ≡ seen_writes (view c.pass)
   pub words : HasFloor c → (carried t).floor ≡ words_known c
 
 -- What a caller has that has done nothing but hand tokens on or take some: the same sections, cursors and entries, the
 -- same call in flight, and it is online as before.
 pub record IsAsBefore (c d : Caller) : Type 0 where
-  pub same : SameWork c d
+  pub same : SameCallerWork c d
   pub announced : announces (view d.pass).log ≡ announces (view c.pass).log
-  pub kept : (mine : List NamedEntry) → IsKept c mine → IsKept d mine
+  pub kept : (mine : List NamedEntry) → WasAnswered c mine → WasAnswered d mine
 
 -- What a caller has once it is woken by these tokens: the floor, the words that they brought, and what their giver had
 -- seen.

@@ -7,7 +7,7 @@ use Rattle.ft_engine.specs.declared.caller.Caller.{Caller}
 
 -- It is the same caller, and has made no call: it has the same open sections, cursors and entries, has as many calls
 -- left, has no other call in flight, and has taken in the same callers. It has seen no fewer writes. (profile)
-pub record SameWork (c d : Caller) : Type 0 where
+pub record SameCallerWork (c d : Caller) : Type 0 where
   pub number : (view d.pass).number ≡ (view c.pass).number
   pub next : (view d.pass).next ≡ (view c.pass).next
   pub parts : (view d.pass).parts ≡ (view c.pass).parts

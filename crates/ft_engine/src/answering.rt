@@ -4,16 +4,16 @@ ghost use Rattle.ft_model.specs.declared.call.Call.TheVariants as calls;
 ghost use Rattle.ft_model.specs.declared.entry.Entry.{Entry as NamedEntry};
 ghost use Rattle.ft_bank.specs.Passes.{shape_of, view};
 ghost use Rattle.ft_bank.specs.Sections.{stack_of};
-ghost use Rattle.ft_engine.specs.Answering.{AreHandsOf, HasLooked, IsTryOf, LeavesHands, MayMake};
-ghost use Rattle.ft_engine.specs.Attempts.{MayAttempt, flight_after, kept_after, IsMarkOf, FoundIn, HasLookedFirst, ComesAgain, StaysCaller};
+ghost use Rattle.ft_engine.specs.Answering.{AreHandsOfPass, HasLooked, IsTryOfCall, LeavesHands, MayTryCall};
+ghost use Rattle.ft_engine.specs.Attempts.{MayAttempt, flight_after, entries_with_answer, IsMarkOf, FoundIn, HasLookedFirst, ComesAgain, StaysCaller};
 ghost use Rattle.ft_engine.specs.Callers.{IsCallerOf, thread_of};
-ghost use Rattle.ft_engine.specs.Flights.{IsAnswered, IsNext};
+ghost use Rattle.ft_engine.specs.Flights.{IsFlightAnswered, AllowsCall};
 ghost use Rattle.ft_engine.specs.Halves.{HasNoAnswer, WaitsUnanswered};
 ghost use Rattle.ft_engine.specs.declared.caller.Flight.TheVariants as flight;
 ghost use Rattle.ft_model.specs.declared.reply.Reply.{Reply};
 ghost use Rattle.ft_section.specs.declared.answers.Stamp.{Stamp};
 ghost use Rattle.ft_section.specs.declared.answers.Step.TheVariants as step;
-ghost use Rattle.ft_engine.specs.Keeping.{IsKept};
+ghost use Rattle.ft_engine.specs.Keeping.{WasAnswered};
 
 use crate::attempts::Tried;
 use crate::caller::{Caller, Flight};
@@ -37,11 +37,11 @@ fn make(
     cursors: &mut Vec<Option<Cursor>>,
     call: &Call,
 ) -> Step
-    requires may { MayMake bank.now pass.old cursors.old.items call.now }
-    requires hands { AreHandsOf (shape_of bank.now) (view pass.old) cursors.old.items }
-    ensures tried { IsTryOf bank.now cursors.old.items call.now pass.old pass.new result }
+    requires may { MayTryCall bank.now pass.old cursors.old.items call.now }
+    requires hands { AreHandsOfPass (shape_of bank.now) (view pass.old) cursors.old.items }
+    ensures tried { IsTryOfCall bank.now cursors.old.items call.now pass.old pass.new result }
     ensures looked { HasLooked call.now (view pass.old) (view pass.new) result }
-    ensures hands { AreHandsOf (shape_of bank.now) (view pass.new) cursors.new.items }
+    ensures hands { AreHandsOfPass (shape_of bank.now) (view pass.new) cursors.new.items }
     ensures stays { LeavesHands result cursors.old.items cursors.new.items }
 {
     match call {
@@ -65,11 +65,11 @@ fn make_dict(
     d: Object,
     call: &DictCall,
 ) -> Step
-    requires may { MayMake bank.now pass.old cursors.old.items (calls.Dict d call.now) }
-    requires hands { AreHandsOf (shape_of bank.now) (view pass.old) cursors.old.items }
-    ensures tried { IsTryOf bank.now cursors.old.items (calls.Dict d call.now) pass.old pass.new result }
+    requires may { MayTryCall bank.now pass.old cursors.old.items (calls.Dict d call.now) }
+    requires hands { AreHandsOfPass (shape_of bank.now) (view pass.old) cursors.old.items }
+    ensures tried { IsTryOfCall bank.now cursors.old.items (calls.Dict d call.now) pass.old pass.new result }
     ensures looked { HasLooked (calls.Dict d call.now) (view pass.old) (view pass.new) result }
-    ensures hands { AreHandsOf (shape_of bank.now) (view pass.new) cursors.new.items }
+    ensures hands { AreHandsOfPass (shape_of bank.now) (view pass.new) cursors.new.items }
     ensures stays { LeavesHands result cursors.old.items cursors.new.items }
 {
     match call.cursor() {
@@ -88,11 +88,11 @@ fn make_list(
     l: Object,
     call: &ListCall,
 ) -> Step
-    requires may { MayMake bank.now pass.old cursors.old.items (calls.List l call.now) }
-    requires hands { AreHandsOf (shape_of bank.now) (view pass.old) cursors.old.items }
-    ensures tried { IsTryOf bank.now cursors.old.items (calls.List l call.now) pass.old pass.new result }
+    requires may { MayTryCall bank.now pass.old cursors.old.items (calls.List l call.now) }
+    requires hands { AreHandsOfPass (shape_of bank.now) (view pass.old) cursors.old.items }
+    ensures tried { IsTryOfCall bank.now cursors.old.items (calls.List l call.now) pass.old pass.new result }
     ensures looked { HasLooked (calls.List l call.now) (view pass.old) (view pass.new) result }
-    ensures hands { AreHandsOf (shape_of bank.now) (view pass.new) cursors.new.items }
+    ensures hands { AreHandsOfPass (shape_of bank.now) (view pass.new) cursors.new.items }
     ensures stays { LeavesHands result cursors.old.items cursors.new.items }
 {
     match call.cursor() {
@@ -111,11 +111,11 @@ fn make_set(
     s: Object,
     call: &SetCall,
 ) -> Step
-    requires may { MayMake bank.now pass.old cursors.old.items (calls.Set s call.now) }
-    requires hands { AreHandsOf (shape_of bank.now) (view pass.old) cursors.old.items }
-    ensures tried { IsTryOf bank.now cursors.old.items (calls.Set s call.now) pass.old pass.new result }
+    requires may { MayTryCall bank.now pass.old cursors.old.items (calls.Set s call.now) }
+    requires hands { AreHandsOfPass (shape_of bank.now) (view pass.old) cursors.old.items }
+    ensures tried { IsTryOfCall bank.now cursors.old.items (calls.Set s call.now) pass.old pass.new result }
     ensures looked { HasLooked (calls.Set s call.now) (view pass.old) (view pass.new) result }
-    ensures hands { AreHandsOf (shape_of bank.now) (view pass.new) cursors.new.items }
+    ensures hands { AreHandsOfPass (shape_of bank.now) (view pass.new) cursors.new.items }
     ensures stays { LeavesHands result cursors.old.items cursors.new.items }
 {
     match call.cursor() {
@@ -131,23 +131,23 @@ impl Engine {
     pub(crate) fn answer(&self, alloc: Global, caller: &mut Caller, call: &Call) -> Option<Tried>
         requires caller { IsCallerOf self.now caller.old }
         requires may { MayAttempt self.now caller.old call.now }
-        requires unanswered { IsAnswered caller.old.flight → ⊥ }
+        requires unanswered { IsFlightAnswered caller.old.flight → ⊥ }
         ensures caller { IsCallerOf self.now caller.new }
         ensures same { StaysCaller caller.old caller.new }
-        ensures answered { IfNone result (IsAnswered caller.new.flight × IsNext caller.new.flight call.now) }
+        ensures answered { IfNone result (IsFlightAnswered caller.new.flight × AllowsCall caller.new.flight call.now) }
         ensures counted { IfNone result (length (view caller.new.pass).entries ≡ suc (length (view caller.old.pass).entries)) }
-        ensures kept { IfNone result ((mine : List NamedEntry) → IsKept caller.old mine → IsKept caller.new mine) }
+        ensures kept { IfNone result ((mine : List NamedEntry) → WasAnswered caller.old mine → WasAnswered caller.new mine) }
         ensures marked { IfNone result ((stack_of caller.new.pass).mark ≡ (stack_of caller.old.pass).mark) }
         ensures flight { IfSome result (λ tried. flight_after call.now tried caller.new.flight) }
-        ensures ended { IfSome result (λ tried. (mine : List NamedEntry) → IsKept caller.old mine →
-            IsKept caller.new (kept_after (thread_of caller.old) call.now tried mine)) }
+        ensures ended { IfSome result (λ tried. (mine : List NamedEntry) → WasAnswered caller.old mine →
+            WasAnswered caller.new (entries_with_answer (thread_of caller.old) call.now tried mine)) }
         ensures again { IfSome result (λ tried. ComesAgain tried → MayAttempt self.now caller.new call.now) }
         ensures mark { IfSome result (λ tried. IsMarkOf tried (stack_of caller.old.pass).mark (stack_of caller.new.pass).mark) }
         ensures found { IfSome result (λ tried. FoundIn tried (view caller.old.pass) (view caller.new.pass)) }
         ensures tries { IfSome result (λ tried. HasNoAnswer self.now.bank caller.old.cursors.items call.now caller.old.pass caller.new.pass tried) }
         ensures waits { IfSome result (λ tried. WaitsUnanswered call.now tried caller.new.flight) }
         ensures made { IfNone result ((said : Reply) × (stamp : Stamp) × (caller.new.flight ≡ flight.Answered call.now said stamp)
-            × IsTryOf self.now.bank caller.old.cursors.items call.now caller.old.pass caller.new.pass (step.Done said stamp)) }
+            × IsTryOfCall self.now.bank caller.old.cursors.items call.now caller.old.pass caller.new.pass (step.Done said stamp)) }
         ensures looked { IfSome result (λ tried. HasLookedFirst call.now tried caller.old caller.new) }
     {
         match make(

@@ -3,11 +3,11 @@ ghost use Rattle.std.specs.Prelude.{◌≡◌, ◌<◌, List};
 ghost use Rattle.ft_model.specs.declared.entry.Entry.{Entry as NamedEntry};
 ghost use Rattle.ft_bank.specs.Passes.{view};
 ghost use Rattle.ft_bank.specs.Sections.{stack_of};
-ghost use Rattle.ft_engine.specs.Attempts.{MayAttempt, flight_after, kept_after, IsMarkOf, FoundIn, HasFoundOwner, HasLookedFirst, ComesAgain, StaysCaller};
+ghost use Rattle.ft_engine.specs.Attempts.{MayAttempt, flight_after, entries_with_answer, IsMarkOf, FoundIn, HasFoundOwner, HasLookedFirst, ComesAgain, StaysCaller};
 ghost use Rattle.ft_engine.specs.Callers.{IsCallerOf, pass_of, flight_of, thread_of};
-ghost use Rattle.ft_engine.specs.Flights.{IsAnswered, IsNext};
+ghost use Rattle.ft_engine.specs.Flights.{IsFlightAnswered, AllowsCall};
 ghost use Rattle.ft_engine.specs.Halves.{HasHalves, IsTakenUp, WaitsAnswered};
-ghost use Rattle.ft_engine.specs.Keeping.{IsKept};
+ghost use Rattle.ft_engine.specs.Keeping.{WasAnswered};
 ghost use Rattle.ft_engine.specs.declared.caller.Flight.TheVariants as flight;
 
 use crate::caller::{Caller, Flight};
@@ -35,15 +35,15 @@ impl Engine {
     #[inline(always)]
     pub(crate) fn take_up(&self, caller: &mut Caller) -> Tried
         requires caller { IsCallerOf self.now caller.old }
-        requires answered { IsAnswered caller.old.flight }
+        requires answered { IsFlightAnswered caller.old.flight }
         ensures caller { IsCallerOf self.now caller.new }
         ensures same { StaysCaller caller.old caller.new }
-        ensures flight { (called : Call) → IsNext caller.old.flight called → flight_after called result caller.new.flight }
-        ensures kept { (called : Call) (mine : List NamedEntry) → IsNext caller.old.flight called → IsKept caller.old mine →
-            IsKept caller.new (kept_after (thread_of caller.old) called result mine) }
+        ensures flight { (called : Call) → AllowsCall caller.old.flight called → flight_after called result caller.new.flight }
+        ensures kept { (called : Call) (mine : List NamedEntry) → AllowsCall caller.old.flight called → WasAnswered caller.old mine →
+            WasAnswered caller.new (entries_with_answer (thread_of caller.old) called result mine) }
         ensures mark { IsMarkOf result (stack_of caller.old.pass).mark (stack_of caller.new.pass).mark }
         ensures found { FoundIn result (view caller.old.pass) (view caller.new.pass) }
-        ensures answered { ComesAgain result → IsAnswered caller.new.flight }
+        ensures answered { ComesAgain result → IsFlightAnswered caller.new.flight }
         ensures taken { (called : Call) (said : Reply) (stamp : Stamp) → caller.old.flight ≡ flight.Answered called said stamp →
             IsTakenUp said stamp caller.old.pass caller.new.pass result × WaitsAnswered called said stamp result caller.new.flight }
     {
@@ -76,8 +76,8 @@ impl Engine {
         ensures caller { IsCallerOf self.now caller.new }
         ensures same { StaysCaller caller.old caller.new }
         ensures flight { flight_after call.now result (flight_of caller.new) }
-        ensures kept { (mine : List NamedEntry) → IsKept caller.old mine →
-            IsKept caller.new (kept_after (thread_of caller.old) call.now result mine) }
+        ensures kept { (mine : List NamedEntry) → WasAnswered caller.old mine →
+            WasAnswered caller.new (entries_with_answer (thread_of caller.old) call.now result mine) }
         ensures mark { IsMarkOf result (stack_of (pass_of caller.old)).mark (stack_of (pass_of caller.new)).mark }
         ensures found { HasFoundOwner result caller.old caller.new }
         ensures looked { HasLookedFirst call.now result caller.old caller.new }

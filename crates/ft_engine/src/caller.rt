@@ -4,8 +4,8 @@ ghost use Rattle.ft_model.specs.Worlds.{cursor_at};
 ghost use Rattle.ft_bank.specs.Passes.{view};
 ghost use Rattle.ft_bank.specs.Sections.{stack_of};
 ghost use Rattle.ft_engine.specs.Callers.{hands_of, left_of, pass_of, thread_of};
-ghost use Rattle.ft_engine.specs.Flights.{IsAnswered, IsNext};
-ghost use Rattle.ft_engine.specs.Names.{FitsSections, HasRoomFor};
+ghost use Rattle.ft_engine.specs.Flights.{IsFlightAnswered, AllowsCall};
+ghost use Rattle.ft_engine.specs.Asked.{FitsSections, HasRoomFor};
 
 use ft_bank::Pass;
 use ft_model::{Call, Cursor, Reply};
@@ -65,7 +65,7 @@ impl Caller {
 
     /// Whether the call in flight has its answer.
     pub(crate) fn is_answered(&self) -> bool
-        ensures { IsTrue result ↔ IsAnswered self.now.flight }
+        ensures { IsTrue result ↔ IsFlightAnswered self.now.flight }
     {
         matches!(self.flight, Flight::Answered(_, _, _))
     }
@@ -92,7 +92,7 @@ impl Caller {
 
     /// Whether no call is in flight, or this one, which wasn't refused.
     pub(crate) fn comes_next(&self, call: &Call) -> bool
-        ensures { IsTrue result ↔ IsNext self.now.flight call.now }
+        ensures { IsTrue result ↔ AllowsCall self.now.flight call.now }
     {
         match &self.flight {
             Flight::Idle => true,

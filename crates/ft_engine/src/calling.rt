@@ -1,10 +1,10 @@
 //! A call that is tried until it is done.
 ghost use Rattle.std.specs.Prelude.{List, IfNone, IfSome};
 ghost use Rattle.ft_model.specs.declared.entry.Entry.{Entry as NamedEntry};
-ghost use Rattle.ft_engine.specs.Attempts.{ComesAgain, MayAttempt, StaysCaller, flight_after, kept_after};
+ghost use Rattle.ft_engine.specs.Attempts.{ComesAgain, MayAttempt, StaysCaller, flight_after, entries_with_answer};
 ghost use Rattle.ft_engine.specs.Callers.{IsCallerOf, flight_of, thread_of};
 ghost use Rattle.ft_engine.specs.Calling.{IsCalled, IsTried, last_of};
-ghost use Rattle.ft_engine.specs.Keeping.{IsKept};
+ghost use Rattle.ft_engine.specs.Keeping.{WasAnswered};
 
 use crate::attempts::Tried;
 use crate::caller::Caller;
@@ -16,7 +16,7 @@ use std::alloc::Global;
 use std::sync::Wait;
 
 /// How many tries of a call are followed by a pause in which the thread keeps its processor.
-const SPINS: u32 = 64;
+const SPINS: u32 = 8;
 
 /// What a call that was tried until it was done answers.
 #[derive(Debug, PartialEq, Eq, Drop)]
@@ -69,8 +69,8 @@ impl Engine {
         ensures caller { IsCallerOf self.now caller.new }
         ensures same { StaysCaller caller.old caller.new }
         ensures flight { flight_after call.now (last_of result) (flight_of caller.new) }
-        ensures kept { (mine : List NamedEntry) → IsKept caller.old mine →
-            IsKept caller.new (kept_after (thread_of caller.old) call.now (last_of result) mine) }
+        ensures kept { (mine : List NamedEntry) → WasAnswered caller.old mine →
+            WasAnswered caller.new (entries_with_answer (thread_of caller.old) call.now (last_of result) mine) }
         ensures called { IsCalled self.now call.now result caller.old caller.new }
     {
         let backoff = Backoff::new();

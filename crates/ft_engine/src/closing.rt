@@ -1,18 +1,15 @@
 //! The end of an engine: one history of the entries that all its callers were answered.
-ghost use Rattle.std.specs.Prelude.{◌≡◌, List, IfOk, map};
+ghost use Rattle.std.specs.Prelude.{◌≡◌, IfOk, map};
 ghost use Rattle.std.specs.List.{flat_map};
 ghost use Rattle.std.specs.List.Sorted.{IsPermutation, IsSorted};
-ghost use Rattle.ft_model.specs.declared.call.Call.{Call};
-ghost use Rattle.ft_model.specs.declared.entry.Storage.TheVariants as storage;
 ghost use Rattle.ft_model.specs.declared.script.ScriptParts.{ScriptParts};
 ghost use Rattle.ft_model.specs.Histories.{history_cmp};
-ghost use Rattle.ft_model.specs.Numbers.{AreNumberedLists};
 ghost use Rattle.ft_bank.specs.Closings.{shape_in, lists_in, had_in, found_in};
 ghost use Rattle.ft_bank.specs.Passes.{shape_of, view};
-ghost use Rattle.ft_closing.specs.Numbering.{AreKeptFrom};
+ghost use Rattle.ft_closing.specs.Numbering.{HaveNamedEntries};
 ghost use Rattle.ft_engine.specs.Callers.{IsCallerOf, bank_of, pass_of, thread_of};
-ghost use Rattle.ft_closing.specs.Marks.{AreMade};
-ghost use Rattle.ft_engine.specs.Closings.{AreKept, IsDone, AreOfScript, IsLegalFor};
+ghost use Rattle.ft_closing.specs.Marks.{HaveScriptCalls};
+ghost use Rattle.ft_engine.specs.DoneCallers.{WereAnswered, IsCallerDone, AreNumberedFor, AreOfScript, IsLegalFor};
 
 use crate::caller::Caller;
 use crate::engine::Engine;
@@ -33,20 +30,20 @@ impl Engine {
         lists: Vec<Vec<Entry>>,
     ) -> Result<(Vec<Entry>, Closed), AllocError>
         requires caller { IsCallerOf self caller }
-        requires done { IsDone caller }
+        requires done { IsCallerDone caller }
         requires first { thread_of caller ≡ 0 }
         requires all { (view (pass_of caller)).parts ≡ (shape_of (bank_of self)).passes }
-        requires kept { AreKept caller (map (λ list. list.items) lists.items) }
+        requires kept { WereAnswered caller (map (λ list. list.items) lists.items) }
         ensures entries { IfOk result (λ made. IsPermutation (flat_map (λ list. list.items) lists.items) made.0.items) }
         ensures order { IfOk result (λ made. IsSorted history_cmp made.0.items) }
         ensures shape { IfOk result (λ made. shape_in made.1 ≡ shape_of (bank_of self)) }
-        ensures closed { IfOk result (λ made. AreKeptFrom 0 (map (λ list. list.items) lists.items) (lists_in made.1) (had_in made.1) (found_in made.1)) }
+        ensures closed { IfOk result (λ made. HaveNamedEntries 0 (map (λ list. list.items) lists.items) (lists_in made.1) (had_in made.1) (found_in made.1)) }
         ensures numbered { IfOk result (λ made. (script : ScriptParts) →
             AreOfScript script (shape_of (bank_of self)) (map (λ list. list.items) lists.items) →
-            ∥ ((calls : List Call) × AreNumberedLists storage.Tables script calls (map (λ list. list.items) lists.items)) ∥₁) }
+            AreNumberedFor script (map (λ list. list.items) lists.items)) }
         ensures legal { IfOk result (λ made. (script : ScriptParts) →
             AreOfScript script (shape_of (bank_of self)) (map (λ list. list.items) lists.items) →
-            AreMade script (map (λ list. list.items) lists.items) → IsLegalFor script made.0.items) }
+            HaveScriptCalls script (map (λ list. list.items) lists.items) → IsLegalFor script made.0.items) }
     {
         let Engine { bank, .. } = self;
         let Caller {

@@ -8,7 +8,7 @@ ghost use Rattle.ft_section.specs.declared.answers.Objects.{Objects};
 ghost use Rattle.ft_section.specs.declared.answers.Objects.TheVariants.{One};
 ghost use Rattle.ft_section.specs.Ready.{MayTry};
 ghost use Rattle.std.specs.Prelude.{Some};
-ghost use Rattle.ft_engine.specs.Answering.{AreHandsOf, IsTryOf, LeavesHands};
+ghost use Rattle.ft_engine.specs.Answering.{AreHandsOfPass, IsTryOfCall, LeavesHands};
 ghost use Rattle.ft_engine.specs.Callers.{IsOfKindIn};
 ghost use Rattle.ft_engine.specs.Flights.{objects_of};
 
@@ -31,9 +31,9 @@ pub(crate) fn iter(
     requires container { IsOfKindIn (shape_of bank.now) kind o }
     requires room { number < length cursors.old.items }
     requires left { 0 < (view pass.old).left }
-    requires hands { AreHandsOf (shape_of bank.now) (view pass.old) cursors.old.items }
-    ensures tried { IsTryOf bank.now cursors.old.items (iter_call kind o number) pass.old pass.new result }
-    ensures hands { AreHandsOf (shape_of bank.now) (view pass.new) cursors.new.items }
+    requires hands { AreHandsOfPass (shape_of bank.now) (view pass.old) cursors.old.items }
+    ensures tried { IsTryOfCall bank.now cursors.old.items (iter_call kind o number) pass.old pass.new result }
+    ensures hands { AreHandsOfPass (shape_of bank.now) (view pass.new) cursors.new.items }
     ensures stays { LeavesHands result cursors.old.items cursors.new.items }
 {
     let mut slot = cursors[number as usize];
@@ -53,9 +53,9 @@ pub(crate) fn next(
     requires room { number < length cursors.old.items }
     requires made { is_some (cursor_at cursors.old.items number) ≡ true }
     requires left { 0 < (view pass.old).left }
-    requires hands { AreHandsOf (shape_of bank.now) (view pass.old) cursors.old.items }
-    ensures tried { IsTryOf bank.now cursors.old.items (call.Next number) pass.old pass.new result }
-    ensures hands { AreHandsOf (shape_of bank.now) (view pass.new) cursors.new.items }
+    requires hands { AreHandsOfPass (shape_of bank.now) (view pass.old) cursors.old.items }
+    ensures tried { IsTryOfCall bank.now cursors.old.items (call.Next number) pass.old pass.new result }
+    ensures hands { AreHandsOfPass (shape_of bank.now) (view pass.new) cursors.new.items }
     ensures stays { LeavesHands result cursors.old.items cursors.new.items }
 {
     let Some(mut cursor) = cursors[number as usize] else {

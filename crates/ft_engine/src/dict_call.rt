@@ -8,10 +8,10 @@ ghost use Rattle.ft_trace.specs.Acts.{announces};
 ghost use Rattle.ft_bank.specs.Passes.{shape_of, view, IsPassOf};
 ghost use Rattle.ft_bank.specs.Sections.{stack_of};
 ghost use Rattle.ft_section.specs.Ready.{MayTry};
-ghost use Rattle.ft_engine.specs.Answering.{HasLooked, IsTryOf, Looked};
+ghost use Rattle.ft_engine.specs.Answering.{HasLooked, IsTryOfCall, IsLookedIfAny};
 ghost use Rattle.ft_engine.specs.Contentions.{may_look};
 ghost use Rattle.ft_engine.specs.Flights.{objects_by};
-ghost use Rattle.ft_engine.specs.Names.{AreOfKindIn, HasKey, key_of_dict};
+ghost use Rattle.ft_engine.specs.Asked.{AreOfKindIn, HasKeyIn, key_of_dict};
 
 use crate::settling::settle;
 use ft_bank::{Bank, Pass};
@@ -36,12 +36,12 @@ fn look_any_dict(
 ) -> Option<Look>
     requires pass { IsPassOf bank.now pass.old }
     requires names { AreOfKindIn (shape_of bank.now) kind.Dict d (other_dict call.now) }
-    requires key { HasKey (shape_of bank.now) (key_of_dict call.now) }
+    requires key { HasKeyIn (shape_of bank.now) (key_of_dict call.now) }
     requires online { 0 < announces (view pass.old).log }
     requires left { 0 < (view pass.old).left }
     ensures pass { IsPassOf bank.now pass.new }
     ensures sections { stack_of pass.new ≡ stack_of pass.old }
-    ensures looked { Looked (calls.Dict d call.now) pass.old pass.new result }
+    ensures looked { IsLookedIfAny (calls.Dict d call.now) pass.old pass.new result }
     ensures made { may_look (calls.Dict d call.now) ≡ is_some result }
 {
     match *call {
@@ -75,12 +75,12 @@ pub(crate) fn look_dict(
 ) -> Option<Look>
     requires pass { IsPassOf bank.now pass.old }
     requires names { AreOfKindIn (shape_of bank.now) kind.Dict d (other_dict call.now) }
-    requires key { HasKey (shape_of bank.now) (key_of_dict call.now) }
+    requires key { HasKeyIn (shape_of bank.now) (key_of_dict call.now) }
     requires online { 0 < announces (view pass.old).log }
     requires left { 0 < (view pass.old).left }
     ensures pass { IsPassOf bank.now pass.new }
     ensures sections { stack_of pass.new ≡ stack_of pass.old }
-    ensures looked { Looked (calls.Dict d call.now) pass.old pass.new result }
+    ensures looked { IsLookedIfAny (calls.Dict d call.now) pass.old pass.new result }
     ensures made { may_look (calls.Dict d call.now) ≡ is_some result }
 {
     match *call {
@@ -95,10 +95,10 @@ pub(crate) fn look_dict(
 fn try_any_dict(bank: &Bank, pass: &mut Pass, alloc: Global, d: Object, call: &DictCall) -> Step
     requires may { MayTry bank.now pass.old (objects_by d (other_dict call.now)) }
     requires names { AreOfKindIn (shape_of bank.now) kind.Dict d (other_dict call.now) }
-    requires key { HasKey (shape_of bank.now) (key_of_dict call.now) }
+    requires key { HasKeyIn (shape_of bank.now) (key_of_dict call.now) }
     requires no_cursor { cursor_of_dict call.now ≡ None }
     requires left { 0 < (view pass.old).left }
-    ensures { (hands : List (Option Cursor)) → IsTryOf bank.now hands (calls.Dict d call.now) pass.old pass.new result }
+    ensures { (hands : List (Option Cursor)) → IsTryOfCall bank.now hands (calls.Dict d call.now) pass.old pass.new result }
 {
     match *call {
         DictCall::Get { key } => try_get(bank, pass, d, key),
@@ -125,10 +125,10 @@ fn try_any_dict(bank: &Bank, pass: &mut Pass, alloc: Global, d: Object, call: &D
 fn try_dict(bank: &Bank, pass: &mut Pass, alloc: Global, d: Object, call: &DictCall) -> Step
     requires may { MayTry bank.now pass.old (objects_by d (other_dict call.now)) }
     requires names { AreOfKindIn (shape_of bank.now) kind.Dict d (other_dict call.now) }
-    requires key { HasKey (shape_of bank.now) (key_of_dict call.now) }
+    requires key { HasKeyIn (shape_of bank.now) (key_of_dict call.now) }
     requires no_cursor { cursor_of_dict call.now ≡ None }
     requires left { 0 < (view pass.old).left }
-    ensures { (hands : List (Option Cursor)) → IsTryOf bank.now hands (calls.Dict d call.now) pass.old pass.new result }
+    ensures { (hands : List (Option Cursor)) → IsTryOfCall bank.now hands (calls.Dict d call.now) pass.old pass.new result }
 {
     match *call {
         DictCall::Set { key, value } => try_set(bank, pass, d, key, value),
@@ -147,11 +147,11 @@ pub(crate) fn call_dict(
 ) -> Step
     requires may { MayTry bank.now pass.old (objects_by d (other_dict call.now)) }
     requires names { AreOfKindIn (shape_of bank.now) kind.Dict d (other_dict call.now) }
-    requires key { HasKey (shape_of bank.now) (key_of_dict call.now) }
+    requires key { HasKeyIn (shape_of bank.now) (key_of_dict call.now) }
     requires no_cursor { cursor_of_dict call.now ≡ None }
     requires online { 0 < announces (view pass.old).log }
     requires left { 0 < (view pass.old).left }
-    ensures tried { (hands : List (Option Cursor)) → IsTryOf bank.now hands (calls.Dict d call.now) pass.old pass.new result }
+    ensures tried { (hands : List (Option Cursor)) → IsTryOfCall bank.now hands (calls.Dict d call.now) pass.old pass.new result }
     ensures looked { HasLooked (calls.Dict d call.now) (view pass.old) (view pass.new) result }
 {
     let look = look_dict(bank, pass, alloc, d, call);

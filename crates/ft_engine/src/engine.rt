@@ -21,7 +21,7 @@ impl Engine {
     ghost use Rattle.std.specs.Prelude.{◌∷◌, [], IfOk, OnOk, replicate, ℕ, None};
     ghost use Rattle.ft_bank.specs.Openings.{AreOpening, IsOpening};
     ghost use Rattle.ft_bank.specs.Shapes.{IsShape, plan};
-    ghost use Rattle.ft_engine.specs.Callers.{AreFresh, IsFresh, bank_of};
+    ghost use Rattle.ft_engine.specs.Callers.{AreFreshCallers, IsFreshCaller, bank_of};
 
     /// A bank of this shape, and a caller for each of its passes, in the order of their numbers, with room for
     /// that many cursors. Each may make as many calls as the shape says. Caller 0 can take in the others.
@@ -33,7 +33,7 @@ impl Engine {
         requires { IsShape shape }
         ensures shape { IfOk result (λ made. shape_of (bank_of made.0) ≡ plan shape) }
         ensures count { IfOk result (λ made. length made.1.items ≡ shape.passes) }
-        ensures callers { IfOk result (λ made. AreFresh made.0 cursors 0 made.1.items) }
+        ensures callers { IfOk result (λ made. AreFreshCallers made.0 cursors 0 made.1.items) }
     {
         let calls = shape.calls;
         let kinds = shape.kinds.clone()?;
@@ -55,7 +55,7 @@ impl Engine {
         requires passes { AreOpening self.now.bank 0 passes.items }
         requires calls { calls ≡ (shape_of self.now.bank).calls }
         ensures count { IfOk result (λ callers. length callers.items ≡ length passes.items) }
-        ensures callers { IfOk result (λ callers. AreFresh self.now cursors 0 callers.items) }
+        ensures callers { IfOk result (λ callers. AreFreshCallers self.now cursors 0 callers.items) }
     {
         let mut callers = Vec::new(alloc);
         for pass in passes {
@@ -74,7 +74,7 @@ impl Engine {
     ) -> Result<Caller, AllocError>
         requires pass { (i : ℕ) × IsOpening self.now.bank i pass }
         requires calls { calls ≡ (shape_of self.now.bank).calls }
-        ensures { IfOk result (λ caller. (i : ℕ) → IsOpening self.now.bank i pass → IsFresh self.now cursors i caller) }
+        ensures { IfOk result (λ caller. (i : ℕ) → IsOpening self.now.bank i pass → IsFreshCaller self.now cursors i caller) }
     {
         let mut room = Vec::new(alloc);
         for _ in 0..cursors {

@@ -4,11 +4,11 @@ ghost use Rattle.ft_model.specs.declared.entry.Entry.{Entry as NamedEntry};
 ghost use Rattle.ft_trace.specs.Acts.{has_lock};
 ghost use Rattle.ft_bank.specs.Passes.{view};
 ghost use Rattle.ft_bank.specs.Sections.{stack_of};
-ghost use Rattle.ft_engine.specs.Answering.{AddsNothing};
+ghost use Rattle.ft_engine.specs.Answering.{MakesNoEntry};
 ghost use Rattle.ft_engine.specs.Callers.{IsCallerOf, IsIdle, flight_of, hands_of, pass_of};
-ghost use Rattle.ft_engine.specs.Flights.{IsAnswered};
+ghost use Rattle.ft_engine.specs.Flights.{IsFlightAnswered};
 ghost use Rattle.ft_closing.specs.Marks.{IsNamedIn};
-ghost use Rattle.ft_engine.specs.Keeping.{IsKept};
+ghost use Rattle.ft_engine.specs.Keeping.{WasAnswered};
 ghost use Rattle.ft_engine.specs.Owning.{FlightNames};
 
 use crate::caller::{Caller, Flight};
@@ -27,11 +27,11 @@ impl Engine {
         ensures idle { IsIdle caller.new }
         ensures sections { (stack_of (pass_of caller.new)).sections ≡ [] }
         ensures free { (o : ℕ) → has_lock o (view (pass_of caller.new)).log ≡ false }
-        ensures same { AddsNothing (view (pass_of caller.old)) (view (pass_of caller.new)) }
+        ensures same { MakesNoEntry (view (pass_of caller.old)) (view (pass_of caller.new)) }
         ensures cursors { hands_of caller.new ≡ hands_of caller.old }
-        ensures kept { (mine : List NamedEntry) → (IsAnswered (flight_of caller.old) → ⊥) →
+        ensures kept { (mine : List NamedEntry) → (IsFlightAnswered (flight_of caller.old) → ⊥) →
             (stack_of (pass_of caller.old)).sections ≡ [] → ((o : ℕ) → FlightNames o (flight_of caller.old) → IsNamedIn o mine) →
-            IsKept caller.old mine → IsKept caller.new mine }
+            WasAnswered caller.old mine → WasAnswered caller.new mine }
     {
         drop_all(&self.bank, &mut caller.pass);
         caller.flight = Flight::Idle;

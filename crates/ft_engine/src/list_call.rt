@@ -9,10 +9,10 @@ ghost use Rattle.ft_trace.specs.Acts.{announces};
 ghost use Rattle.ft_bank.specs.Passes.{shape_of, view, IsPassOf};
 ghost use Rattle.ft_bank.specs.Sections.{stack_of};
 ghost use Rattle.ft_section.specs.Ready.{MayTry};
-ghost use Rattle.ft_engine.specs.Answering.{HasLooked, IsTryOf, Looked};
+ghost use Rattle.ft_engine.specs.Answering.{HasLooked, IsTryOfCall, IsLookedIfAny};
 ghost use Rattle.ft_engine.specs.Contentions.{may_look};
 ghost use Rattle.ft_engine.specs.Flights.{objects_by};
-ghost use Rattle.ft_engine.specs.Names.{AreOfKindIn};
+ghost use Rattle.ft_engine.specs.Asked.{AreOfKindIn};
 
 use crate::settling::settle;
 use ft_bank::{Bank, Pass};
@@ -41,7 +41,7 @@ fn look_any_list(
     requires left { 0 < (view pass.old).left }
     ensures pass { IsPassOf bank.now pass.new }
     ensures sections { stack_of pass.new ≡ stack_of pass.old }
-    ensures looked { Looked (calls.List l call.now) pass.old pass.new result }
+    ensures looked { IsLookedIfAny (calls.List l call.now) pass.old pass.new result }
     ensures made { may_look (calls.List l call.now) ≡ is_some result }
 {
     match *call {
@@ -81,7 +81,7 @@ pub(crate) fn look_list(
     requires left { 0 < (view pass.old).left }
     ensures pass { IsPassOf bank.now pass.new }
     ensures sections { stack_of pass.new ≡ stack_of pass.old }
-    ensures looked { Looked (calls.List l call.now) pass.old pass.new result }
+    ensures looked { IsLookedIfAny (calls.List l call.now) pass.old pass.new result }
     ensures made { may_look (calls.List l call.now) ≡ is_some result }
 {
     match *call {
@@ -98,7 +98,7 @@ fn try_any_list(bank: &Bank, pass: &mut Pass, alloc: Global, l: Object, call: &L
     requires names { AreOfKindIn (shape_of bank.now) kind.List l (other_list call.now) }
     requires no_cursor { cursor_of_list call.now ≡ None }
     requires left { 0 < (view pass.old).left }
-    ensures { (hands : List (Option Cursor)) → IsTryOf bank.now hands (calls.List l call.now) pass.old pass.new result }
+    ensures { (hands : List (Option Cursor)) → IsTryOfCall bank.now hands (calls.List l call.now) pass.old pass.new result }
 {
     match *call {
         ListCall::Append { value } => try_append(bank, pass, l, value),
@@ -129,7 +129,7 @@ fn try_list(bank: &Bank, pass: &mut Pass, alloc: Global, l: Object, call: &ListC
     requires names { AreOfKindIn (shape_of bank.now) kind.List l (other_list call.now) }
     requires no_cursor { cursor_of_list call.now ≡ None }
     requires left { 0 < (view pass.old).left }
-    ensures { (hands : List (Option Cursor)) → IsTryOf bank.now hands (calls.List l call.now) pass.old pass.new result }
+    ensures { (hands : List (Option Cursor)) → IsTryOfCall bank.now hands (calls.List l call.now) pass.old pass.new result }
 {
     match *call {
         ListCall::Append { value } => try_append(bank, pass, l, value),
@@ -151,7 +151,7 @@ pub(crate) fn call_list(
     requires no_cursor { cursor_of_list call.now ≡ None }
     requires online { 0 < announces (view pass.old).log }
     requires left { 0 < (view pass.old).left }
-    ensures tried { (hands : List (Option Cursor)) → IsTryOf bank.now hands (calls.List l call.now) pass.old pass.new result }
+    ensures tried { (hands : List (Option Cursor)) → IsTryOfCall bank.now hands (calls.List l call.now) pass.old pass.new result }
     ensures looked { HasLooked (calls.List l call.now) (view pass.old) (view pass.new) result }
 {
     let look = look_list(bank, pass, alloc, l, call);

@@ -5,12 +5,13 @@ ghost use Rattle.ft_model.specs.declared.entry.Entry.{Entry as NamedEntry};
 ghost use Rattle.ft_trace.specs.Acts.{announces};
 ghost use Rattle.ft_bank.specs.Passes.{shape_of, view, IsPassOf};
 ghost use Rattle.ft_bank.specs.Sections.{stack_of};
-ghost use Rattle.ft_engine.specs.Answering.{IsLooked, Looked};
-ghost use Rattle.ft_engine.specs.Attempts.{MayAttempt, StaysCaller, after_look, flight_looked, kept_looked};
+ghost use Rattle.ft_engine.specs.Answering.{IsLooked, IsUncontended, IsLookedIfAny};
+ghost use Rattle.ft_engine.specs.Attempts.{MayAttempt, StaysCaller, after_look, flight_looked, entries_with_look};
 ghost use Rattle.ft_engine.specs.Callers.{IsCallerOf, IsIdle, flight_of, pass_of, thread_of};
 ghost use Rattle.ft_engine.specs.Contentions.{may_look};
-ghost use Rattle.ft_engine.specs.Keeping.{IsKept};
-ghost use Rattle.ft_engine.specs.Names.{IsCallIn};
+ghost use Rattle.ft_engine.specs.Keeping.{WasAnswered};
+ghost use Rattle.ft_engine.specs.Asked.{IsCallIn};
+ghost use Rattle.ft_engine.specs.Resting.{HasFloor};
 
 use crate::caller::{Caller, Flight};
 use crate::dict_call::look_dict;
@@ -47,7 +48,7 @@ fn look_call(bank: &Bank, pass: &mut Pass, alloc: Global, call: &Call) -> Option
     requires left { 0 < (view pass.old).left }
     ensures pass { IsPassOf bank.now pass.new }
     ensures sections { stack_of pass.new ≡ stack_of pass.old }
-    ensures looked { Looked call.now pass.old pass.new result }
+    ensures looked { IsLookedIfAny call.now pass.old pass.new result }
     ensures made { may_look call.now ≡ is_some result }
 {
     match call {
@@ -117,9 +118,10 @@ impl Engine {
         ensures same { StaysCaller caller.old caller.new }
         ensures flight { flight_of caller.new ≡ flight_looked call.now result }
         ensures sections { stack_of (pass_of caller.new) ≡ stack_of (pass_of caller.old) }
-        ensures kept { (mine : List NamedEntry) → IsKept caller.old mine →
-            IsKept caller.new (kept_looked (thread_of caller.old) call.now result mine) }
+        ensures kept { (mine : List NamedEntry) → WasAnswered caller.old mine →
+            WasAnswered caller.new (entries_with_look (thread_of caller.old) call.now result mine) }
         ensures looked { IsLooked call.now (view (pass_of caller.old)) (view (pass_of caller.new)) result }
+        ensures floor { HasFloor caller.old → IsUncontended result }
     {
         let Some(look) = look_call(&self.bank, &mut caller.pass, alloc, call) else {
             unreachable!();

@@ -7,9 +7,9 @@ ghost use Rattle.ft_bank.specs.Notes.{says, seen, IsNoteOf};
 ghost use Rattle.ft_bank.specs.Passes.{view};
 ghost use Rattle.ft_bank.specs.Sections.{stack_of};
 ghost use Rattle.ft_engine.specs.Callers.{IsCallerOf, IsIdle, bank_of, pass_of, thread_of};
-ghost use Rattle.ft_engine.specs.Closings.{AreKept, IsDone};
-ghost use Rattle.ft_engine.specs.Keeping.{IsKept};
-ghost use Rattle.ft_engine.specs.Visits.{SameWork};
+ghost use Rattle.ft_engine.specs.DoneCallers.{WereAnswered, IsCallerDone};
+ghost use Rattle.ft_engine.specs.Keeping.{WasAnswered};
+ghost use Rattle.ft_engine.specs.Visits.{SameCallerWork};
 
 use crate::caller::Caller;
 use crate::engine::Engine;
@@ -21,9 +21,9 @@ impl Engine {
         requires caller { IsCallerOf self.now caller.old }
         requires idle { IsIdle caller.old }
         ensures caller { IsCallerOf self.now caller.new }
-        ensures same { SameWork caller.old caller.new }
+        ensures same { SameCallerWork caller.old caller.new }
         ensures announced { announces (view (pass_of caller.new)).log ≡ announces (view (pass_of caller.old)).log }
-        ensures kept { (mine : List NamedEntry) → IsKept caller.old mine → IsKept caller.new mine }
+        ensures kept { (mine : List NamedEntry) → WasAnswered caller.old mine → WasAnswered caller.new mine }
         ensures note { IsNoteOf (bank_of self.now) result × (says result ≡ seen (pass_of caller.old)) }
     {
         self.bank.note(&mut caller.pass)
@@ -36,9 +36,9 @@ impl Engine {
         requires idle { IsIdle caller.old }
         requires note { IsNoteOf (bank_of self.now) note }
         ensures caller { IsCallerOf self.now caller.new }
-        ensures same { SameWork caller.old caller.new }
+        ensures same { SameCallerWork caller.old caller.new }
         ensures announced { announces (view (pass_of caller.new)).log ≡ announces (view (pass_of caller.old)).log }
-        ensures kept { (mine : List NamedEntry) → IsKept caller.old mine → IsKept caller.new mine }
+        ensures kept { (mine : List NamedEntry) → WasAnswered caller.old mine → WasAnswered caller.new mine }
         ensures seen { (says note ≤ seen (pass_of caller.new)) × (seen (pass_of caller.old) ≤ seen (pass_of caller.new)) }
     {
         self.bank.learn(&mut caller.pass, note);
@@ -50,7 +50,7 @@ impl Engine {
         requires caller { IsCallerOf self.now caller.old }
         requires idle { IsIdle caller.old }
         requires other { IsCallerOf self.now other }
-        requires done { IsDone other }
+        requires done { IsCallerDone other }
         requires last { (view (pass_of other)).next ≡ 0 }
         ensures caller { IsCallerOf self.now caller.new }
         ensures thread { thread_of caller.new ≡ thread_of caller.old }
@@ -58,8 +58,8 @@ impl Engine {
         ensures announced { announces (view (pass_of caller.new)).log ≡ announces (view (pass_of caller.old)).log }
         ensures sections { stack_of (pass_of caller.new) ≡ stack_of (pass_of caller.old) }
         ensures parts { (view (pass_of caller.new)).parts ≡ (view (pass_of caller.old)).parts + (view (pass_of other)).parts }
-        ensures kept { (mine theirs : List (List NamedEntry)) → AreKept caller.old mine → AreKept other theirs →
-            thread_of other ≡ thread_of caller.old + length mine → AreKept caller.new (mine ++ theirs) }
+        ensures kept { (mine theirs : List (List NamedEntry)) → WereAnswered caller.old mine → WereAnswered other theirs →
+            thread_of other ≡ thread_of caller.old + length mine → WereAnswered caller.new (mine ++ theirs) }
     {
         let Caller {
             pass,

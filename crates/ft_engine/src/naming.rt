@@ -5,7 +5,7 @@ ghost use Rattle.ft_trace.specs.Addresses.{containers_in};
 ghost use Rattle.ft_bank.specs.Passes.{shape_of, view};
 ghost use Rattle.ft_engine.specs.Attempts.{MayAttempt};
 ghost use Rattle.ft_engine.specs.Callers.{IsOfKindIn, bank_of, hands_of, pass_of};
-ghost use Rattle.ft_engine.specs.Names.{AreOfKindIn, HasKey, IsCallIn, key_of_dict, key_of_set};
+ghost use Rattle.ft_engine.specs.Asked.{AreOfKindIn, HasKeyIn, IsCallIn, key_of_dict, key_of_set};
 
 use crate::caller::Caller;
 use crate::engine::Engine;
@@ -78,7 +78,7 @@ impl Engine {
 
     /// Whether the key that a call names, if it names one, is an integer or a string of the bank.
     fn has_key(&self, key: Option<Key>) -> bool
-        ensures { IsTrue result ↔ HasKey (shape_of self.now.bank) key }
+        ensures { IsTrue result ↔ HasKeyIn (shape_of self.now.bank) key }
     {
         match key {
             Some(Key::Text(text)) => u64::from(text.0) < self.texts,

@@ -9,8 +9,8 @@ ghost use Rattle.ft_bank.specs.Passes.{shape_of, view};
 ghost use Rattle.ft_bank.specs.Sections.{stack_of};
 ghost use Rattle.ft_engine.specs.declared.caller.Caller.{Caller as ACaller};
 ghost use Rattle.ft_engine.specs.Callers.{IsCallerOf, IsIdle, bank_of, pass_of, thread_of};
-ghost use Rattle.ft_engine.specs.Closings.{AreKept};
-ghost use Rattle.ft_engine.specs.Resting.{HandsOn, HasFloor, IsAsBefore, IsRestDone, IsRestingCallerOf, IsWoken, KeepsFloor, RestsAs, rests_in, tokens_of};
+ghost use Rattle.ft_engine.specs.DoneCallers.{WereAnswered};
+ghost use Rattle.ft_engine.specs.Resting.{HandsOn, HasFloor, IsAsBefore, IsRestDone, IsRestingCallerOf, IsWoken, KeepsFloor, RestsAs, rests_in, token_count};
 
 use crate::caller::{Caller, Flight};
 use crate::engine::Engine;
@@ -62,7 +62,7 @@ impl Engine {
         ensures caller { IsCallerOf self.now caller.new }
         ensures same { IsAsBefore caller.old caller.new }
         ensures floor { KeepsFloor caller.old caller.new }
-        ensures tokens { tokens_of caller.new ≡ tokens_of caller.old + (carried tokens).tokens }
+        ensures tokens { token_count caller.new ≡ token_count caller.old + (carried tokens).tokens }
     {
         self.bank.gather(&mut caller.pass, tokens);
     }
@@ -71,7 +71,7 @@ impl Engine {
     /// all words of the bank.
     pub fn take_floor(&self, caller: &mut Caller)
         requires caller { IsCallerOf self.now caller.old }
-        requires all { tokens_of caller.old ≡ (shape_of (bank_of self.now)).passes }
+        requires all { token_count caller.old ≡ (shape_of (bank_of self.now)).passes }
         ensures caller { IsCallerOf self.now caller.new }
         ensures same { IsAsBefore caller.old caller.new }
         ensures floor { HasFloor caller.new }
@@ -118,8 +118,8 @@ impl Engine {
         ensures announced { announces (view (pass_of caller.new)).log ≡ announces (view (pass_of caller.old)).log }
         ensures sections { stack_of (pass_of caller.new) ≡ stack_of (pass_of caller.old) }
         ensures parts { (view (pass_of caller.new)).parts ≡ (view (pass_of caller.old)).parts + (rests_in other).parts }
-        ensures kept { (mine theirs : List (List NamedEntry)) (c : ACaller) → RestsAs c other → AreKept caller.old mine →
-            AreKept c theirs → thread_of c ≡ thread_of caller.old + length mine → AreKept caller.new (mine ++ theirs) }
+        ensures kept { (mine theirs : List (List NamedEntry)) (c : ACaller) → RestsAs c other → WereAnswered caller.old mine →
+            WereAnswered c theirs → thread_of c ≡ thread_of caller.old + length mine → WereAnswered caller.new (mine ++ theirs) }
     {
         let RestingCaller {
             pass,

@@ -7,8 +7,8 @@ ghost use Rattle.ft_trace.specs.Addresses.{containers_in};
 ghost use Rattle.ft_bank.specs.Passes.{shape_of, view};
 ghost use Rattle.ft_bank.specs.Sections.{stack_of};
 ghost use Rattle.ft_section.specs.Ready.{IsReady, MayTry};
-ghost use Rattle.ft_section.specs.Takings.{AreIn};
-ghost use Rattle.ft_engine.specs.Answering.{IsTryOf};
+ghost use Rattle.ft_section.specs.LockTakings.{AreIn};
+ghost use Rattle.ft_engine.specs.Answering.{IsTryOfCall};
 ghost use Rattle.ft_engine.specs.Flights.{objects_by};
 
 use ft_bank::{Bank, Pass};
@@ -31,7 +31,7 @@ pub(crate) fn begin(bank: &Bank, pass: &mut Pass, first: Object, second: Option<
     requires containers { AreIn (shape_of bank.now) (objects_by first second) }
     requires depth { length (stack_of pass.old).sections < 16 }
     requires left { 0 < (view pass.old).left }
-    ensures { (hands : List (Option Cursor)) → IsTryOf bank.now hands (call.Begin first second) pass.old pass.new result }
+    ensures { (hands : List (Option Cursor)) → IsTryOfCall bank.now hands (call.Begin first second) pass.old pass.new result }
 {
     match ft_section::try_begin(bank, pass, objects(first, second)) {
         Began::Entered(stamp) => Step::Done(Reply::Entered, stamp),
@@ -44,7 +44,7 @@ pub(crate) fn end(bank: &Bank, pass: &mut Pass) -> Step
     requires ready { IsReady bank.now pass.old }
     requires depth { 0 < length (stack_of pass.old).sections }
     requires left { 0 < (view pass.old).left }
-    ensures { (hands : List (Option Cursor)) → IsTryOf bank.now hands call.End pass.old pass.new result }
+    ensures { (hands : List (Option Cursor)) → IsTryOfCall bank.now hands call.End pass.old pass.new result }
 {
     match ft_section::end(bank, pass) {
         Ended::Kept(stamp) => Step::Done(Reply::Kept, stamp),
@@ -57,7 +57,7 @@ pub(crate) fn end(bank: &Bank, pass: &mut Pass) -> Step
 pub(crate) fn quiesce(bank: &Bank, pass: &mut Pass) -> Step
     requires ready { IsReady bank.now pass.old }
     requires left { 0 < (view pass.old).left }
-    ensures { (hands : List (Option Cursor)) → IsTryOf bank.now hands call.Quiesce pass.old pass.new result }
+    ensures { (hands : List (Option Cursor)) → IsTryOfCall bank.now hands call.Quiesce pass.old pass.new result }
 {
     ft_qsbr::quiesce(bank, pass);
     let number = bank.stamp(pass);

@@ -8,10 +8,10 @@ ghost use Rattle.ft_trace.specs.Acts.{announces};
 ghost use Rattle.ft_bank.specs.Passes.{shape_of, view, IsPassOf};
 ghost use Rattle.ft_bank.specs.Sections.{stack_of};
 ghost use Rattle.ft_section.specs.Ready.{MayTry};
-ghost use Rattle.ft_engine.specs.Answering.{HasLooked, IsTryOf, Looked};
+ghost use Rattle.ft_engine.specs.Answering.{HasLooked, IsTryOfCall, IsLookedIfAny};
 ghost use Rattle.ft_engine.specs.Contentions.{may_look};
 ghost use Rattle.ft_engine.specs.Flights.{objects_by};
-ghost use Rattle.ft_engine.specs.Names.{AreOfKindIn, HasKey, key_of_set};
+ghost use Rattle.ft_engine.specs.Asked.{AreOfKindIn, HasKeyIn, key_of_set};
 
 use crate::settling::settle;
 use ft_bank::{Bank, Pass};
@@ -36,12 +36,12 @@ fn look_any_set(
 ) -> Option<Look>
     requires pass { IsPassOf bank.now pass.old }
     requires names { AreOfKindIn (shape_of bank.now) kind.Set s (other_set call.now) }
-    requires key { HasKey (shape_of bank.now) (key_of_set call.now) }
+    requires key { HasKeyIn (shape_of bank.now) (key_of_set call.now) }
     requires online { 0 < announces (view pass.old).log }
     requires left { 0 < (view pass.old).left }
     ensures pass { IsPassOf bank.now pass.new }
     ensures sections { stack_of pass.new ≡ stack_of pass.old }
-    ensures looked { Looked (calls.Set s call.now) pass.old pass.new result }
+    ensures looked { IsLookedIfAny (calls.Set s call.now) pass.old pass.new result }
     ensures made { may_look (calls.Set s call.now) ≡ is_some result }
 {
     match *call {
@@ -75,12 +75,12 @@ pub(crate) fn look_set(
 ) -> Option<Look>
     requires pass { IsPassOf bank.now pass.old }
     requires names { AreOfKindIn (shape_of bank.now) kind.Set s (other_set call.now) }
-    requires key { HasKey (shape_of bank.now) (key_of_set call.now) }
+    requires key { HasKeyIn (shape_of bank.now) (key_of_set call.now) }
     requires online { 0 < announces (view pass.old).log }
     requires left { 0 < (view pass.old).left }
     ensures pass { IsPassOf bank.now pass.new }
     ensures sections { stack_of pass.new ≡ stack_of pass.old }
-    ensures looked { Looked (calls.Set s call.now) pass.old pass.new result }
+    ensures looked { IsLookedIfAny (calls.Set s call.now) pass.old pass.new result }
     ensures made { may_look (calls.Set s call.now) ≡ is_some result }
 {
     match *call {
@@ -95,10 +95,10 @@ pub(crate) fn look_set(
 fn try_any_set(bank: &Bank, pass: &mut Pass, alloc: Global, s: Object, call: &SetCall) -> Step
     requires may { MayTry bank.now pass.old (objects_by s (other_set call.now)) }
     requires names { AreOfKindIn (shape_of bank.now) kind.Set s (other_set call.now) }
-    requires key { HasKey (shape_of bank.now) (key_of_set call.now) }
+    requires key { HasKeyIn (shape_of bank.now) (key_of_set call.now) }
     requires no_cursor { cursor_of_set call.now ≡ None }
     requires left { 0 < (view pass.old).left }
-    ensures { (hands : List (Option Cursor)) → IsTryOf bank.now hands (calls.Set s call.now) pass.old pass.new result }
+    ensures { (hands : List (Option Cursor)) → IsTryOfCall bank.now hands (calls.Set s call.now) pass.old pass.new result }
 {
     match *call {
         SetCall::Add { key } => try_add(bank, pass, s, key),
@@ -125,10 +125,10 @@ fn try_any_set(bank: &Bank, pass: &mut Pass, alloc: Global, s: Object, call: &Se
 fn try_set_call(bank: &Bank, pass: &mut Pass, alloc: Global, s: Object, call: &SetCall) -> Step
     requires may { MayTry bank.now pass.old (objects_by s (other_set call.now)) }
     requires names { AreOfKindIn (shape_of bank.now) kind.Set s (other_set call.now) }
-    requires key { HasKey (shape_of bank.now) (key_of_set call.now) }
+    requires key { HasKeyIn (shape_of bank.now) (key_of_set call.now) }
     requires no_cursor { cursor_of_set call.now ≡ None }
     requires left { 0 < (view pass.old).left }
-    ensures { (hands : List (Option Cursor)) → IsTryOf bank.now hands (calls.Set s call.now) pass.old pass.new result }
+    ensures { (hands : List (Option Cursor)) → IsTryOfCall bank.now hands (calls.Set s call.now) pass.old pass.new result }
 {
     match *call {
         SetCall::Add { key } => try_add(bank, pass, s, key),
@@ -148,11 +148,11 @@ pub(crate) fn call_set(
 ) -> Step
     requires may { MayTry bank.now pass.old (objects_by s (other_set call.now)) }
     requires names { AreOfKindIn (shape_of bank.now) kind.Set s (other_set call.now) }
-    requires key { HasKey (shape_of bank.now) (key_of_set call.now) }
+    requires key { HasKeyIn (shape_of bank.now) (key_of_set call.now) }
     requires no_cursor { cursor_of_set call.now ≡ None }
     requires online { 0 < announces (view pass.old).log }
     requires left { 0 < (view pass.old).left }
-    ensures tried { (hands : List (Option Cursor)) → IsTryOf bank.now hands (calls.Set s call.now) pass.old pass.new result }
+    ensures tried { (hands : List (Option Cursor)) → IsTryOfCall bank.now hands (calls.Set s call.now) pass.old pass.new result }
     ensures looked { HasLooked (calls.Set s call.now) (view pass.old) (view pass.new) result }
 {
     let look = look_set(bank, pass, alloc, s, call);

@@ -4,9 +4,9 @@ ghost use Rattle.ft_model.specs.declared.entry.Entry.{Entry as NamedEntry};
 ghost use Rattle.ft_trace.specs.Acts.{announces};
 ghost use Rattle.ft_bank.specs.Passes.{view};
 ghost use Rattle.ft_engine.specs.Callers.{IsCallerOf, IsIdle, pass_of, taken_of, thread_of};
-ghost use Rattle.ft_engine.specs.Keeping.{IsKept};
+ghost use Rattle.ft_engine.specs.Keeping.{WasAnswered};
 ghost use Rattle.ft_engine.specs.Resting.{KeepsFloor};
-ghost use Rattle.ft_engine.specs.Visits.{SameWork};
+ghost use Rattle.ft_engine.specs.Visits.{SameCallerWork};
 
 use crate::caller::Caller;
 use crate::engine::Engine;
@@ -17,10 +17,10 @@ impl Engine {
         requires caller { IsCallerOf self.now caller.old }
         requires idle { IsIdle caller.old }
         ensures caller { IsCallerOf self.now caller.new }
-        ensures same { SameWork caller.old caller.new }
+        ensures same { SameCallerWork caller.old caller.new }
         ensures online { 0 < announces (view (pass_of caller.new)).log }
         ensures floor { KeepsFloor caller.old caller.new }
-        ensures kept { (mine : List NamedEntry) → IsKept caller.old mine → IsKept caller.new mine }
+        ensures kept { (mine : List NamedEntry) → WasAnswered caller.old mine → WasAnswered caller.new mine }
     {
         ft_qsbr::enter(&self.bank, &mut caller.pass);
     }
@@ -30,10 +30,10 @@ impl Engine {
         requires caller { IsCallerOf self.now caller.old }
         requires idle { IsIdle caller.old }
         ensures caller { IsCallerOf self.now caller.new }
-        ensures same { SameWork caller.old caller.new }
+        ensures same { SameCallerWork caller.old caller.new }
         ensures offline { announces (view (pass_of caller.new)).log ≡ 0 }
         ensures floor { KeepsFloor caller.old caller.new }
-        ensures kept { (mine : List NamedEntry) → IsKept caller.old mine → IsKept caller.new mine }
+        ensures kept { (mine : List NamedEntry) → WasAnswered caller.old mine → WasAnswered caller.new mine }
     {
         ft_qsbr::leave(&self.bank, &mut caller.pass);
     }

@@ -13,13 +13,13 @@ use Rattle.ft_trace.specs.declared.Shape.{Shape}
 use Rattle.ft_trace.specs.Addresses.{containers_in}
 use Rattle.ft_section.specs.declared.answers.Objects.{Objects}
 use Rattle.ft_section.specs.declared.answers.Objects.TheVariants.{One, Two}
-use Rattle.ft_section.specs.Takings.{lower_of, upper_of}
+use Rattle.ft_section.specs.LockTakings.{lower_of, upper_of}
 use Rattle.ft_engine.specs.Callers.{AreOver}
 use Rattle.ft_engine.specs.Contentions.{may_look}
 use Rattle.ft_engine.specs.Flights.{objects_by, objects_of}
-use Rattle.ft_engine.specs.Names.{IsCallIn}
+use Rattle.ft_engine.specs.Asked.{IsCallIn}
 use Rattle.ft_turns.specs.Orders.{cursor_containers, locks_taken, lower_first}
-use Rattle.ft_ordering.specs.Counts.{pair_of}
+use Rattle.ft_ordering.specs.Placings.{pair_of}
 use Rattle.ft_ordering.proofs.Needed.{begin_locked, dict_free, dict_locked, list_free, list_locked, one_pair, set_free, set_locked, two_pair}
 
 -- ---- which containers

@@ -22,8 +22,8 @@ use Rattle.ft_closing.specs.Numbering.{IsFor}
 use Rattle.ft_engine.specs.declared.caller.Caller.{Caller}
 use Rattle.ft_engine.specs.declared.caller.Flight.{Flight}
 use Rattle.ft_engine.specs.declared.caller.Flight.TheVariants as flight
-use Rattle.ft_engine.specs.Flights.{IsAnswered}
-use Rattle.ft_engine.specs.Keeping.{IsKept}
+use Rattle.ft_engine.specs.Flights.{IsFlightAnswered}
+use Rattle.ft_engine.specs.Keeping.{WasAnswered}
 use Rattle.ft_engine.specs.Owning.{walked_due}
 use Rattle.ft_engine.proofs.Callers.{at_hand}
 use Rattle.ft_turns.specs.Ends.{after_turns}
@@ -47,14 +47,14 @@ one_more_turn script turns thread = fold_push (turn script) (start_machine scrip
 
 -- ---- cursors
 
-walked_unanswered : (f : Flight) (number : ℕ) (over : Option ℕ) → (IsAnswered f → ⊥) → walked_due f number over ≡ over
+walked_unanswered : (f : Flight) (number : ℕ) (over : Option ℕ) → (IsFlightAnswered f → ⊥) → walked_due f number over ≡ over
 walked_unanswered flight.Idle number over unanswered = refl
 walked_unanswered (flight.Tried called) number over unanswered = refl
 walked_unanswered (flight.Answered called said stamp) number over unanswered = absurd (unanswered tt)
 walked_unanswered (flight.Refused called) number over unanswered = refl
 
 -- the container of a cursor of the caller is that of the machine's
-pub walks_same : (c : Caller) (mine : List Entry) (before : List Call) → IsKept c mine → (IsAnswered c.flight → ⊥) → map (λ (entry : Entry). entry.call) mine ≡ before
+pub walks_same : (c : Caller) (mine : List Entry) (before : List Call) → WasAnswered c mine → (IsFlightAnswered c.flight → ⊥) → map (λ (entry : Entry). entry.call) mine ≡ before
     → ((number : ℕ) → number < length c.cursors.items → cursor_at c.cursors.items number ≡ cursor_in number (view c.pass).log)
     → (number : ℕ) (walker : Cursor) → cursor_at c.cursors.items number ≡ Some walker → cursor_containers before number ≡ container_of walker ∷ []
 walks_same c mine before kept unanswered made cursors number walker at =

@@ -18,17 +18,17 @@ use Rattle.ft_section.specs.declared.answers.Got.TheVariants as got
 use Rattle.ft_section.specs.declared.answers.Objects.{Objects}
 use Rattle.ft_section.specs.Floors.{got_by}
 use Rattle.ft_section.specs.Locking.{with_own as keeping}
-use Rattle.ft_section.specs.Takings.{IsOwnFor, lower_of, upper_of}
+use Rattle.ft_section.specs.LockTakings.{IsOwnFor, lower_of, upper_of}
 use Rattle.ft_engine.specs.declared.caller.Flight.{Flight}
 use Rattle.ft_engine.specs.declared.caller.Flight.TheVariants as flight
 use Rattle.ft_engine.specs.Contentions.{may_look}
-use Rattle.ft_engine.specs.Flights.{IsAnswered, IsIn, IsNext, is_begin, objects_by, objects_of}
+use Rattle.ft_engine.specs.Flights.{IsFlightAnswered, IsIn, AllowsCall, is_begin, objects_by, objects_of}
 use Rattle.ft_engine.specs.Stacks.{Closes, Opens, StackAfter}
-use Rattle.ft_turns.specs.Orders.{Locking, Machine, ThreadState, answered_machine, answered_thread, cursor_containers, lower_first, next_call, sections_after, take_locks, thread_at, with_own}
+use Rattle.ft_turns.specs.Orders.{Locking, Machine, ThreadState, answered_machine, answered_thread, cursor_containers, lower_first, next_call, sections_after, take_locks, thread_at, with_locking}
 use Rattle.ft_turns.proofs.MachineSteps.{wanted}
 use Rattle.ft_turns.proofs.Owned.{IsOwned}
-use Rattle.ft_ordering.specs.Counts.{pair_of}
-use Rattle.ft_ordering.specs.Stacks.{IsAsStack}
+use Rattle.ft_ordering.specs.Placings.{pair_of}
+use Rattle.ft_ordering.specs.MatchingStacks.{IsAsStack}
 use Rattle.ft_ordering.proofs.Asked.{asks, asks_none, in_order, objects_pair}
 use Rattle.ft_ordering.proofs.Moments.{IsCounted, Stands, first_other, owner_after}
 use Rattle.ft_ordering.proofs.Steps.{AreTwoOf, HasAll, answers_step, begins_stack, finds_same}
@@ -49,7 +49,7 @@ not_yet_some (Some found) o owner is = let a : o ≡ found.0 = cc in let b : own
 -- ---- the locks that the call has itself
 
 -- of a call that has no answer yet
-pub own_for : (b : Bank) (p : Pass) (hands : List (Option Cursor)) (f : Flight) (called : Call) (objects : Objects) → IsIn b p hands f → (IsAnswered f → ⊥) → IsNext f called → objects_of hands called ≡ Some objects → IsOwnFor (lower_of objects) (upper_of objects) (stack_of p).own
+pub own_for : (b : Bank) (p : Pass) (hands : List (Option Cursor)) (f : Flight) (called : Call) (objects : Objects) → IsIn b p hands f → (IsFlightAnswered f → ⊥) → AllowsCall f called → objects_of hands called ≡ Some objects → IsOwnFor (lower_of objects) (upper_of objects) (stack_of p).own
 own_for b p hands flight.Idle called objects is unanswered next at = inl is.own
 own_for b p hands (flight.Tried first) called objects is unanswered next at =
     let same : is.0 ≡ objects = same_Some is.0 objects (sym is.1 ∙ (ap (objects_of hands) next ∙ at)) in
@@ -61,7 +61,7 @@ own_for b p hands (flight.Answered first said stamp) called objects is unanswere
 own_for b p hands (flight.Refused first) called objects is unanswered next at = absurd next
 
 -- of a call that names no container
-pub own_none : (b : Bank) (p : Pass) (hands : List (Option Cursor)) (f : Flight) (called : Call) → IsIn b p hands f → (IsAnswered f → ⊥) → IsNext f called → objects_of hands called ≡ None → (o : ℕ) → taken_in o (stack_of p).own ≡ 0
+pub own_none : (b : Bank) (p : Pass) (hands : List (Option Cursor)) (f : Flight) (called : Call) → IsIn b p hands f → (IsFlightAnswered f → ⊥) → AllowsCall f called → objects_of hands called ≡ None → (o : ℕ) → taken_in o (stack_of p).own ≡ 0
 own_none b p hands flight.Idle called is unanswered next none o = ap (taken_in o) is.own
 own_none b p hands (flight.Tried first) called is unanswered next none o = absurd (none-some is.0 (sym none ∙ (ap (objects_of hands) (sym next) ∙ is.1)))
 own_none b p hands (flight.Answered first said stamp) called is unanswered next none o = absurd (unanswered tt)
@@ -111,7 +111,7 @@ module _ (script : ScriptParts) (machine : Machine) (thread : ℕ) (hands : List
   Now = Stands script (answered_machine machine thread state called (locked (wanted script machine thread called))) thread owners_after has_after t
 
   -- the stack says so of the thread
-  by_stack : state.fixed ≡ false → IsAsStack (answered_thread (with_own state (locked (wanted script machine thread called))) called) t → Now
+  by_stack : state.fixed ≡ false → IsAsStack (answered_thread (with_locking state (locked (wanted script machine thread called))) called) t → Now
   by_stack unfixed same = answers_step script machine thread called owners owners_after has has_after s t inv stands counted are (wanted script machine thread called) (record { next = next; state = unfixed; asks = refl }) found_none same
 
   plain_now : state.fixed ≡ false → sections_after called (state.own ++ (locked (wanted script machine thread called)).taken) state.sections ≡ state.sections → t ≡ keeping s nothing_taken → Now
@@ -120,7 +120,7 @@ module _ (script : ScriptParts) (machine : Machine) (thread : ℕ) (hands : List
   end_now : state.fixed ≡ false → called ≡ call.End → Closes s t → ((o : ℕ) → taken_in o s.own ≡ 0) → Now
   end_now unfixed ends_it closes none =
       by_stack unfixed
-      (subst (λ c. IsAsStack (answered_thread (with_own state (locked (wanted script machine thread called))) c) t) (sym ends_it)
+      (subst (λ c. IsAsStack (answered_thread (with_locking state (locked (wanted script machine thread called))) c) t) (sym ends_it)
       (ends state s t (locked (wanted script machine thread called)) closes.0 closes.1 stands.stack closes.2 closes.3 none))
 
   begin_now : (first : ℕ) (second : Option ℕ) → state.fixed ≡ false → called ≡ call.Begin first second → Opens (objects_by first second) s t
@@ -145,8 +145,8 @@ module _ (script : ScriptParts) (machine : Machine) (thread : ℕ) (hands : List
       (record { next = begun; state = unfixed; asks = sym asked ∙ ap (wanted script machine thread) begins_it }) two none
       (objects_pair first second ∙ sym same) mine opens.2 (top s.sections (record { locks = own; marks = 0 }) (ap (λ (u : Stack). u.sections) opens.2)) in
       by_stack unfixed
-      (subst (λ c. IsAsStack (answered_thread (with_own state (locked (wanted script machine thread called))) c) t) (sym begins_it)
-      (subst (λ os. IsAsStack (answered_thread (with_own state (locked os)) (call.Begin first second)) t) (sym asked) stack))
+      (subst (λ c. IsAsStack (answered_thread (with_locking state (locked (wanted script machine thread called))) c) t) (sym begins_it)
+      (subst (λ os. IsAsStack (answered_thread (with_locking state (locked os)) (call.Begin first second)) t) (sym asked) stack))
 
   -- the call has its answer, and the stack is as the answer leaves it
   pub answer_now : state.fixed ≡ false → StackAfter called s t

@@ -25,7 +25,7 @@ use Rattle.ft_engine.specs.declared.engine.Engine.{Engine}
 use Rattle.ft_engine.specs.Callers.{IsCallerOf, thread_of}
 use Rattle.ft_engine.proofs.Callers.{some_number}
 use Rattle.ft_ordering.specs.Beginnings.{LocksOfNobodyAreFree, OneMoreOwnsNone}
-use Rattle.ft_ordering.specs.Owners.{owners_in}
+use Rattle.ft_ordering.specs.LockOwners.{owners_in}
 use Rattle.ft_ordering.proofs.PassSteps.{in_call}
 use Rattle.ft_ordering.proofs.Starting.{same_owners}
 
@@ -61,7 +61,7 @@ owners_low v p floor o low thread is =
 not_own : (v : View) → Possible v → v.has_floor ≡ true → v.number ≢ 0 → (o : ℕ) → o < containers_in v.shape → has_lock o v.log ≡ false → owners_in v o ≢ Some (v.number - 1)
 not_own v p floor live o low lacks is =
     let n = slice_index (at_floor v.log) (at v.shape (lock_of o)) in
-    let known : lock_of_another v.number n ≡ suc (v.number - 1) = sym (known_owners_stay v p floor o low lacks) ∙ named_is (floor_word (lock_of o) v) (v.number - 1) is in
+    let known : lock_of_another v.number n ≡ suc (v.number - 1) = sym ((known_owners_stay v p floor o low).0 lacks) ∙ named_is (floor_word (lock_of o) v) (v.number - 1) is in
     elim (cases_eq n v.number) [
       | inl same ↦ absurd (let none : lock_of_another v.number n ≡ 0 = ap (lock_of_another v.number) same ∙ hit v.number 0 v.number in omega arith)
       | inr differs ↦ differs (let kept : lock_of_another v.number n ≡ n = miss n v.number 0 n differs in omega arith)

@@ -9,7 +9,7 @@ use Rattle.ft_section.specs.Floors.{owner_or}
 use Rattle.ft_turns.specs.Orders.{Machine, ThreadState, holder_of, thread_at}
 use Rattle.ft_turns.proofs.LockLemmas.{bit_is, bit_none, bit_of, bit_other, bit_same, occ, occ-append}
 use Rattle.ft_turns.proofs.Owned.{IsOwned, flat, owned}
-use Rattle.ft_ordering.specs.Stacks.{IsAsStack}
+use Rattle.ft_ordering.specs.MatchingStacks.{IsAsStack}
 use Rattle.ft_ordering.proofs.Sections.{noted-reverse, same_locks}
 use Rattle.ft_ordering.proofs.Taking.{IsHeld, times_occ}
 

@@ -14,10 +14,10 @@ use Rattle.ft_model.specs.declared.call.SetCall.TheVariants as set
 use Rattle.ft_model.specs.declared.entry.Entry.{Entry}
 use Rattle.ft_model.specs.Calls.{containers_of, cursor_of_dict, cursor_of_list, cursor_of_set, is_locked_dict, is_locked_list, is_locked_set, one_or_two, other_dict, other_list, other_set}
 use Rattle.ft_section.specs.declared.answers.Objects.TheVariants.{One, Two}
-use Rattle.ft_section.specs.Takings.{lower_of, upper_of}
+use Rattle.ft_section.specs.LockTakings.{lower_of, upper_of}
 use Rattle.ft_closing.specs.Marks.{over_after, walked_after, walked_by}
 use Rattle.ft_turns.specs.Orders.{cursor_containers, locks_taken, lower_first, makes}
-use Rattle.ft_ordering.specs.Counts.{pair_of}
+use Rattle.ft_ordering.specs.Placings.{pair_of}
 
 -- ---- one container or two
 

@@ -19,8 +19,8 @@ use Rattle.ft_bank.specs.Passes.{view}
 use Rattle.ft_engine.specs.declared.caller.Caller.{Caller}
 use Rattle.ft_engine.specs.declared.caller.Flight.{Flight}
 use Rattle.ft_engine.specs.declared.caller.Flight.TheVariants as flight
-use Rattle.ft_engine.specs.Keeping.{IsKept, pending}
-use Rattle.ft_ordering.specs.Ordered.{AreInOrder, answer_at, due, no_stamp, nobody, reached, stamp_of, stamps_of}
+use Rattle.ft_engine.specs.Keeping.{WasAnswered, pending}
+use Rattle.ft_ordering.specs.Ordered.{AreAnswersInOrder, answer_at, due, no_stamp, nobody, reached, entry_stamp, stamps_of}
 use Rattle.ft_ordering.specs.Standing.{Standing, standing_of}
 use Rattle.ft_ordering.proofs.EntriesSeen.{entries_seen}
 use Rattle.ft_ordering.proofs.OrderedRuns.{push_cases}
@@ -43,12 +43,12 @@ due_pending (flight.Tried called) = refl
 due_pending (flight.Answered called said stamp) = refl
 due_pending (flight.Refused called) = refl
 
-same_stamps : (mine : List Entry) → map its_stamp (map entry_of mine) ≡ map stamp_of mine
+same_stamps : (mine : List Entry) → map its_stamp (map entry_of mine) ≡ map entry_stamp mine
 same_stamps [] = refl
-same_stamps (e ∷ mine) = ap (λ ss. stamp_of e ∷ ss) (same_stamps mine)
+same_stamps (e ∷ mine) = ap (λ ss. entry_stamp e ∷ ss) (same_stamps mine)
 
 -- the numbers of a caller's answers are below what it has seen
-pub answers_seen : (c : Caller) (mine : List Entry) → IsKept c mine → (k : ℕ) → k < length (stamps_of (standing_of c mine)) → reached (slice_index_or (stamps_of (standing_of c mine)) k no_stamp) ≤ seen_writes (view c.pass)
+pub answers_seen : (c : Caller) (mine : List Entry) → WasAnswered c mine → (k : ℕ) → k < length (stamps_of (standing_of c mine)) → reached (slice_index_or (stamps_of (standing_of c mine)) k no_stamp) ≤ seen_writes (view c.pass)
 answers_seen c mine kept k low =
     let seen = seen_writes (view c.pass) in
     let f = c.flight in
@@ -59,7 +59,7 @@ answers_seen c mine kept k low =
     (IsPermutation-append_left (pending f) (reverse own) own (IsPermutation-sym own (reverse own) (IsPermutation-reverse own)))) in
     let below : Below seen (own ++ pending f) = All-permutation (λ e. number_after e ≤ seen) (view c.pass).entries (own ++ pending f) moved (own_seen c) in
     let stamps : map its_stamp (own ++ pending f) ≡ stamps_of (standing_of c mine) =
-    map-append its_stamp own (pending f) ∙ (ap (λ ss. ss ++ map its_stamp (pending f)) (same_stamps mine) ∙ ap (λ ss. map stamp_of mine ++ ss) (due_pending f)) in
+    map-append its_stamp own (pending f) ∙ (ap (λ ss. ss ++ map its_stamp (pending f)) (same_stamps mine) ∙ ap (λ ss. map entry_stamp mine ++ ss) (due_pending f)) in
     (subst (All (λ s. reached s ≤ seen)) stamps (All-map (λ s. reached s ≤ seen) its_stamp (own ++ pending f) below)) k no_stamp low
 
 -- ---- the answers at their places
@@ -118,12 +118,12 @@ module _ (standings : List Standing) (thread : ℕ) (old new : Standing) (at : s
 pub order_step : (standings : List Standing) (thread : ℕ) (old new : Standing) (before after : List (ℕ × ℕ)) (place seen seen_after : ℕ) → slice_get standings thread ≡ Some old
     → IsRecorded before (thread, place) after (stamps_of old) (stamps_of new) seen → seen ≤ seen_after
     → ((k : ℕ) → k < length (stamps_of new) → reached (slice_index_or (stamps_of new) k no_stamp) ≤ seen_after)
-    → AreInOrder before standings seen → AreInOrder after (slice_set standings thread new) seen_after
+    → AreAnswersInOrder before standings seen → AreAnswersInOrder after (slice_set standings thread new) seen_after
 order_step standings thread old new before after place seen seen_after at (inl same) rises each are =
     let now = slice_set standings thread new in
     let stamps = all_same standings thread old new at same.1 in
     let alike : (one : ℕ × ℕ) → answer_at now one ≡ answer_at standings one = λ one. ap (λ ss. slice_index_or ss one.1 no_stamp) (stamps one.0) in
-    subst (λ order. AreInOrder order now seen_after) (sym same.0)
+    subst (λ order. AreAnswersInOrder order now seen_after) (sym same.0)
     (record {
       made = λ there one is. subst (λ ss. one.1 < length ss) (sym (stamps one.0)) (are.made there one is);
       rising = λ earlier later one other less is_one is_other.
@@ -144,7 +144,7 @@ order_step standings thread old new before after place seen seen_after at (inr m
     ] in
     let known_before : (k : ℕ) (one : ℕ × ℕ) → slice_get before k ≡ Some one → reached (answer_at now one) ≤ seen =
     λ k one is. subst (λ s. reached s ≤ seen) (sym (there one (are.made k one is)).1) (are.known k one is) in
-    subst (λ order. AreInOrder order now seen_after) (sym more.1)
+    subst (λ order. AreAnswersInOrder order now seen_after) (sym more.1)
     (record {
       made = made;
       rising = λ earlier later one other less is_one is_other.

@@ -24,8 +24,8 @@ use Rattle.ft_turns.specs.Orders.{IsOrderRun, Machine, last_machine, order_of, o
 use Rattle.ft_turns.specs.Ends.{places_of}
 use Rattle.ft_turns.proofs.Finishing.{turns_go_on}
 use Rattle.ft_turns.proofs.MachineSteps.{IsKeptBySteps, there, turns_keep}
-use Rattle.ft_ordering.specs.Answered.{AreRising}
-use Rattle.ft_ordering.specs.Runs.{AnsweredEntriesAreOrderRuns, AreAnsweredBy, entry_at, no_entry}
+use Rattle.ft_ordering.specs.RisingEntries.{AreRising}
+use Rattle.ft_ordering.specs.Runs.{AnsweredEntriesAreOrderRuns, AreAnsweredBy, entry_answered, no_entry}
 use Rattle.ft_ordering.proofs.Grouped.{filter_same, of_lists}
 use Rattle.ft_ordering.proofs.RisingEntries.{rising_entries}
 
@@ -92,7 +92,7 @@ module _ (storage : Storage) (script : ScriptParts) (calls : List Call) (lists :
   order = (last_machine script).answered
 
   abbrev at_place : ℕ × ℕ → Entry
-  at_place = entry_at lists
+  at_place = entry_answered lists
 
   abbrev list_of : ℕ → List Entry
   list_of thread = get_or lists thread []

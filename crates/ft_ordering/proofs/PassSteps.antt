@@ -16,7 +16,7 @@ use Rattle.ft_engine.specs.declared.caller.Flight.{Flight}
 use Rattle.ft_engine.specs.declared.caller.Flight.TheVariants as flight
 use Rattle.ft_engine.specs.Answering.{StaysPass}
 use Rattle.ft_engine.specs.Flights.{IsIn}
-use Rattle.ft_ordering.specs.Owners.{owners_in}
+use Rattle.ft_ordering.specs.LockOwners.{owners_in}
 use Rattle.ft_ordering.proofs.Moments.{IsCounted, owner_after}
 use Rattle.ft_ordering.proofs.OwnersKnown.{owners_change}
 

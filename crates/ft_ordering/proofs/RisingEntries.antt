@@ -22,7 +22,7 @@ use Rattle.ft_history.proofs.FilteredParts.{key_at, passed_at, passed_before}
 use Rattle.ft_history.proofs.Places.{filter_parts}
 use Rattle.ft_history.proofs.Stamped.{written, AreStamped, count_writes}
 use Rattle.ft_history.proofs.SortedStamps.{rank, at_most_one, count_parts}
-use Rattle.ft_ordering.specs.Answered.{AreRising, RisingEntriesAreChronicles}
+use Rattle.ft_ordering.specs.RisingEntries.{AreRising, RisingEntriesAreChronicles}
 
 -- ---- ranks
 

@@ -13,13 +13,13 @@ use Rattle.ft_bank.specs.Sections.{stack_of}
 use Rattle.ft_section.specs.Locking.{TakenUp, waiting}
 use Rattle.ft_section.specs.Locking.{with_own as keeping}
 use Rattle.ft_section.specs.Ready.{HasTop, MayResume}
-use Rattle.ft_section.specs.Takings.{IsTaking}
+use Rattle.ft_section.specs.LockTakings.{IsTaking}
 use Rattle.ft_engine.specs.Halves.{KeepsTopLower, KnewTop}
-use Rattle.ft_turns.specs.Orders.{Locking, Machine, ThreadState, finish_try, finished_thread, next_call, take_locks, thread_at, waiting_thread, with_own}
+use Rattle.ft_turns.specs.Orders.{Locking, Machine, ThreadState, finish_try, finished_thread, next_call, take_locks, thread_at, waiting_thread, with_locking}
 use Rattle.ft_turns.proofs.MachineSteps.{wanted_again}
 use Rattle.ft_turns.proofs.Owned.{IsOwned}
-use Rattle.ft_ordering.specs.Owners.{owners_in}
-use Rattle.ft_ordering.specs.Stacks.{AreAsSections}
+use Rattle.ft_ordering.specs.LockOwners.{owners_in}
+use Rattle.ft_ordering.specs.MatchingStacks.{AreAsSections}
 use Rattle.ft_ordering.proofs.Moments.{IsCounted, Stands, owner_after}
 use Rattle.ft_ordering.proofs.PassSteps.{has_of}
 use Rattle.ft_ordering.proofs.Sections.{last_or_none, reverse_push}
@@ -50,7 +50,7 @@ module _ (script : ScriptParts) (machine : Machine) (thread : ℕ) (called : Cal
       record { order = taking.order; low = omega arith }
 
   pub takes_up : TakenUp (stack_of p) (stack_of q) → KnewTop p None → HasTop q
-      → Comes script machine (finish_try machine thread) thread (owners_in (view q)) (has_of q) (stack_of q) (finished_thread (with_own state again)) machine.answered
+      → Comes script machine (finish_try machine thread) thread (owners_in (view q)) (has_of q) (stack_of q) (finished_thread (with_locking state again)) machine.answered
   takes_up up knew has =
       finishes_again script machine thread called (owners_in (view p)) (owners_in (view q)) (has_of p) (has_of q) (stack_of p) (stack_of q) inv stands counted are next fixed up
       (λ outer top cut. record {
@@ -61,7 +61,7 @@ module _ (script : ScriptParts) (machine : Machine) (thread : ℕ) (called : Cal
       })
 
   pub waits_on : (o owner : ℕ) → ((stack_of p).sections ≡ [] → ⊥) → stack_of q ≡ waiting (keeping (stack_of p) (stack_of q).own) owner → KeepsTopLower o p q → KnewTop p (Some (o, owner))
-      → Comes script machine (finish_try machine thread) thread (owners_in (view q)) (has_of q) (stack_of q) (waiting_thread (with_own state again) owner) machine.answered
+      → Comes script machine (finish_try machine thread) thread (owners_in (view q)) (has_of q) (stack_of q) (waiting_thread (with_locking state again) owner) machine.answered
   waits_on o owner some is kept knew =
       elim (last_or_none (stack_of p).sections) [
         | inl none ↦ absurd (some none)

@@ -7,7 +7,7 @@ use Rattle.ft_bank.specs.Sections.{noted_in, suspended}
 use Rattle.ft_turns.specs.Orders.{OpenSection as TurnSection, without_locks}
 use Rattle.ft_turns.proofs.LockLemmas.{occ, occ-nil}
 use Rattle.ft_turns.proofs.Owned.{flat, occ-flat}
-use Rattle.ft_ordering.specs.Stacks.{AreAsSections}
+use Rattle.ft_ordering.specs.MatchingStacks.{AreAsSections}
 use Rattle.ft_ordering.proofs.Taking.{times_occ}
 
 -- ---- lists turned round

@@ -10,10 +10,10 @@ use Rattle.ft_bank.specs.declared.sections.Taking.{Taking}
 use Rattle.ft_bank.specs.Sections.{Stack, nothing_taken, suspended, taken_in}
 use Rattle.ft_section.specs.Locking.{TakenUp, at_one, first_mark, marks_more, noting, waiting}
 use Rattle.ft_section.specs.Locking.{with_own as keeping}
-use Rattle.ft_turns.specs.Orders.{Locking, OpenSection as TurnSection, ThreadState, answered_thread, finished_thread, lower_first, sections_after, waiting_thread, with_own, with_taken, without_locks}
+use Rattle.ft_turns.specs.Orders.{Locking, OpenSection as TurnSection, ThreadState, answered_thread, finished_thread, lower_first, sections_after, waiting_thread, with_locking, with_taken, without_locks}
 use Rattle.ft_turns.proofs.LockLemmas.{occ-append}
-use Rattle.ft_ordering.specs.Counts.{pair_of, times}
-use Rattle.ft_ordering.specs.Stacks.{AreAsSections, IsAsStack}
+use Rattle.ft_ordering.specs.Placings.{pair_of, times}
+use Rattle.ft_ordering.specs.MatchingStacks.{AreAsSections, IsAsStack}
 use Rattle.ft_ordering.proofs.Sections.{all_suspended, last_or_none, reverse_map, reverse_push}
 use Rattle.ft_ordering.proofs.Taking.{times_occ}
 
@@ -34,7 +34,7 @@ pub waits : (state : ThreadState) (s t : Stack) (locking : Locking) (lower c q :
     → IsAsStack state s → t ≡ waiting (keeping s t.own) q
     → ((r : ℕ) → taken_in r t.own ≡ taken_in r s.own + (if (c == lower) || has_lower then 0 else at_one lower r))
     → locking.taken ≡ (if (c == lower) || has_lower then [] else lower ∷ [])
-    → IsAsStack (waiting_thread (with_own state locking) q) t
+    → IsAsStack (waiting_thread (with_locking state locking) q) t
 waits state s t locking lower c q has_lower same is kept took =
     record {
       sections = subst (AreAsSections (map without_locks state.sections))
@@ -80,7 +80,7 @@ pub begins : (state : ThreadState) (s t : Stack) (locking : Locking) (own : Taki
     → IsAsStack state s → t ≡ record s { sections = s.sections ++ record { locks = own; marks = 0 } ∷ []; own = nothing_taken }
     → lower_first (containers_of (call.Begin first second)) ≡ pair_of own.lower own.upper
     → ((o : ℕ) → times o (state.own ++ locking.taken) ≡ taken_in o own)
-    → IsAsStack (answered_thread (with_own state locking) (call.Begin first second)) t
+    → IsAsStack (answered_thread (with_locking state locking) (call.Begin first second)) t
 begins state s t locking own first second same is containers took =
     record {
       sections = subst (AreAsSections (record { containers = containers_of (call.Begin first second); taken = state.own ++ locking.taken } ∷ state.sections))
@@ -97,7 +97,7 @@ tail_same (section ∷ sections) k kept same = same.1
 
 pub ends : (state : ThreadState) (s t : Stack) (locking : Locking) (outer : List OpenSection) (top : OpenSection)
     → IsAsStack state s → s.sections ≡ outer ++ top ∷ [] → t ≡ record s { sections = outer } → ((o : ℕ) → taken_in o s.own ≡ 0)
-    → IsAsStack (answered_thread (with_own state locking) call.End) t
+    → IsAsStack (answered_thread (with_locking state locking) call.End) t
 ends state s t locking outer top same cut is none =
     record {
       sections = subst (AreAsSections (drop 1 state.sections)) (sym (ap (λ (u : Stack). reverse u.sections) is))
@@ -110,7 +110,7 @@ ends state s t locking outer top same cut is none =
 pub answers : (state : ThreadState) (s t : Stack) (locking : Locking) (called : Call)
     → sections_after called (state.own ++ locking.taken) state.sections ≡ state.sections
     → IsAsStack state s → t ≡ keeping s nothing_taken
-    → IsAsStack (answered_thread (with_own state locking) called) t
+    → IsAsStack (answered_thread (with_locking state locking) called) t
 answers state s t locking called stays same is =
     record {
       sections = subst (λ sections. AreAsSections sections (reverse t.sections)) (sym stays)
@@ -140,7 +140,7 @@ pub finishes : (state : ThreadState) (s t : Stack) (locking : Locking)
     → ((outer : List OpenSection) (top after : OpenSection) → s.sections ≡ outer ++ top ∷ [] → t.sections ≡ outer ++ after ∷ []
     → (after.locks.lower ≡ top.locks.lower) × (after.locks.upper ≡ top.locks.upper)
     → (section : TurnSection) (rest : List TurnSection) → state.sections ≡ section ∷ rest → (o : ℕ) → times o (section.taken ++ (state.own ++ locking.taken)) ≡ taken_in o after.locks)
-    → IsAsStack (finished_thread (with_own state locking)) t
+    → IsAsStack (finished_thread (with_locking state locking)) t
 finishes state s t locking same up took =
     record {
       sections = elim (last_or_none s.sections) [

@@ -23,7 +23,7 @@ use Rattle.ft_turns.specs.Orders.{ThreadState, fresh_thread}
 use Rattle.ft_turns.proofs.Owned.{start_holder, start_thread}
 use Rattle.ft_ordering.specs.Beginnings.{FloorsAreHandedOn, FreshCallersAreNobody, HasFloorFrom, NewCallersAreInStep, RestingCallersStand, WokenCallersHaveFloor}
 use Rattle.ft_ordering.specs.Ordered.{nobody}
-use Rattle.ft_ordering.specs.Owners.{owners_in}
+use Rattle.ft_ordering.specs.LockOwners.{owners_in}
 use Rattle.ft_ordering.specs.Standing.{IsAsThread}
 
 pub fresh_nobody : FreshCallersAreNobody

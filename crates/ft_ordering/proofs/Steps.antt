@@ -13,13 +13,13 @@ use Rattle.ft_bank.specs.declared.sections.Taking.{Taking}
 use Rattle.ft_bank.specs.Sections.{Stack, noted_in, nothing_taken, taken_in}
 use Rattle.ft_section.specs.Locking.{TakenUp, at_one, waiting}
 use Rattle.ft_section.specs.Locking.{with_own as keeping}
-use Rattle.ft_section.specs.Takings.{IsOwnFor}
-use Rattle.ft_turns.specs.Orders.{Locking, Machine, OpenSection as TurnSection, ThreadState, answered_machine, answered_thread, finished_machine, finished_thread, fresh_thread, holder_of, innermost_containers, lower_first, next_call, take_locks, thread_at, waiting_machine, waiting_thread, with_own, with_taken}
+use Rattle.ft_section.specs.LockTakings.{IsOwnFor}
+use Rattle.ft_turns.specs.Orders.{Locking, Machine, OpenSection as TurnSection, ThreadState, answered_machine, answered_thread, finished_machine, finished_thread, fresh_thread, holder_of, innermost_containers, lower_first, next_call, take_locks, thread_at, waiting_machine, waiting_thread, with_locking, with_taken}
 use Rattle.ft_turns.proofs.LockLemmas.{bit_of, bit_same, by_lock, held, occ, occ-cons, occ-nil, occ_here, take_all}
 use Rattle.ft_turns.proofs.MachineSteps.{IsTry, there}
 use Rattle.ft_turns.proofs.Owned.{IsOwned, flat, occ-flat, owned, owned_steps}
-use Rattle.ft_ordering.specs.Counts.{pair_of, times}
-use Rattle.ft_ordering.specs.Stacks.{AreAsSections, IsAsSection, IsAsStack}
+use Rattle.ft_ordering.specs.Placings.{pair_of, times}
+use Rattle.ft_ordering.specs.MatchingStacks.{AreAsSections, IsAsSection, IsAsStack}
 use Rattle.ft_ordering.proofs.Sections.{noted-append, noted-reverse, reverse_push, same_locks}
 use Rattle.ft_ordering.proofs.StackSteps.{begins, finishes, same_taken, taken_out, times-append, waits}
 use Rattle.ft_ordering.proofs.Taking.{Finds, IsHeld, finds, times_occ}
@@ -105,7 +105,7 @@ module _ (script : ScriptParts) (machine : Machine) (thread : ℕ) (called : Cal
       let locked : Locking = locking containers in
       let f : Finds lower (has lower) (first_other owners has lower upper) locked = subst (λ os. Finds lower (has lower) (first_other owners has lower upper) (locking os)) (sym asks) (finds_same lower upper two) in
       let found : locked.found ≡ Some q = f.found ∙ ap (option_map (λ x. x.1)) first in
-      let after : ThreadState = waiting_thread (with_own state locked) q in
+      let after : ThreadState = waiting_thread (with_locking state locked) q in
       let now = changed after try.next in
       locks_after script machine (waiting_machine machine thread state locked q) thread owners owners_after has has_after s t inv
       ((owned_steps script).waits machine thread called fixed containers q try found inv) now.1 stands
@@ -114,11 +114,11 @@ module _ (script : ScriptParts) (machine : Machine) (thread : ℕ) (called : Cal
 
   -- a call is answered, which leaves this of the stack
   pub answers_step : (containers : List ℕ) → IsTry script machine thread called false containers → (locking containers).found ≡ None
-      → IsAsStack (answered_thread (with_own state (locking containers)) called) t
+      → IsAsStack (answered_thread (with_locking state (locking containers)) called) t
       → Stands script (answered_machine machine thread state called (locking containers)) thread owners_after has_after t
   answers_step containers try found same =
       let locked : Locking = locking containers in
-      let after : ThreadState = answered_thread (with_own state locked) called in
+      let after : ThreadState = answered_thread (with_locking state locked) called in
       let now = changed after try.next in
       locks_after script machine (answered_machine machine thread state called locked) thread owners owners_after has has_after s t inv
       ((owned_steps script).answers machine thread called containers try found inv) now.1 stands
@@ -127,11 +127,11 @@ module _ (script : ScriptParts) (machine : Machine) (thread : ℕ) (called : Cal
 
   -- it finishes
   finishes_with : (containers : List ℕ) → IsTry script machine thread called true containers → (locking containers).found ≡ None
-      → IsAsStack (finished_thread (with_own state (locking containers))) t
+      → IsAsStack (finished_thread (with_locking state (locking containers))) t
       → Stands script (finished_machine machine thread state (locking containers)) thread owners_after has_after t
   finishes_with containers try found same =
       let locked : Locking = locking containers in
-      let after : ThreadState = finished_thread (with_own state locked) in
+      let after : ThreadState = finished_thread (with_locking state locked) in
       let now = changed after try.next in
       locks_after script machine (finished_machine machine thread state locked) thread owners owners_after has has_after s t inv
       ((owned_steps script).finishes machine thread called containers try found inv) now.1 stands
@@ -175,7 +175,7 @@ pub begins_stack : (script : ScriptParts) (machine : Machine) (thread first : �
     → IsOwnFor own.lower own.upper s.own
     → t ≡ record s { sections = s.sections ++ record { locks = own; marks = 0 } ∷ []; own = nothing_taken }
     → HasAll has_after own.lower own.upper
-    → IsAsStack (answered_thread (with_own (thread_at machine thread) (take_locks thread machine.holders (pair_of own.lower own.upper))) (call.Begin first second)) t
+    → IsAsStack (answered_thread (with_locking (thread_at machine thread) (take_locks thread machine.holders (pair_of own.lower own.upper))) (call.Begin first second)) t
 begins_stack script machine thread first second owners owners_after has has_after s t own inv stands counted are try two free containers own_is is all =
     let called = call.Begin first second in
     let asked = pair_of own.lower own.upper in
@@ -184,7 +184,7 @@ begins_stack script machine thread first second owners owners_after has has_afte
     let f : Finds own.lower (has own.lower) (first_other owners has own.lower own.upper) locked = finds_same script machine thread called owners owners_after has has_after s t inv stands counted are own.lower own.upper two in
     let found : locked.found ≡ None = f.found ∙ ap (option_map (λ x. x.1)) free in
     let inv_after : IsOwned script (answered_machine machine thread st called locked) = (owned_steps script).answers machine thread called asked try found inv in
-    let now = changed script machine thread called owners owners_after has has_after s t inv stands counted are (answered_thread (with_own st locked) called) try.next in
+    let now = changed script machine thread called owners owners_after has has_after s t inv stands counted are (answered_thread (with_locking st locked) called) try.next in
     let taken = st.own ++ locked.taken in
     let section : TurnSection = record { containers = containers_of called; taken = taken } in
     let took : (o : ℕ) → times o taken ≡ taken_in o own = same_taken taken own (λ o. noted_in o s.sections)
@@ -268,7 +268,7 @@ finishes_inside script machine thread called owners owners_after has has_after s
     subst (λ os. Finds lower (has lower) (first_other owners has lower upper) (take_locks thread machine.holders os)) (sym pair) (finds_same script machine thread called owners owners_after has has_after s t inv stands counted are lower upper known.two) in
     let found : locked.found ≡ None = f.found ∙ ap (option_map (λ x. x.1)) known.free in
     let found_pair : (take_locks thread machine.holders (pair_of lower upper)).found ≡ None = ap (λ os. (take_locks thread machine.holders os).found) (sym pair) ∙ found in
-    let after : ThreadState = finished_thread (with_own st locked) in
+    let after : ThreadState = finished_thread (with_locking st locked) in
     let inv_after : IsOwned script (finished_machine machine thread st locked) = (owned_steps script).finishes machine thread called containers try found inv in
     let now = changed script machine thread called owners owners_after has has_after s t inv stands counted are after try.next in
     let own = st.own ++ locked.taken in

@@ -8,7 +8,7 @@ use Rattle.std.proofs.lemmas.List.{get_or-set_other}
 use Rattle.ft_section.specs.Floors.{owner_or}
 use Rattle.ft_turns.specs.Orders.{Locking, holder_of, also_taken, take_locks}
 use Rattle.ft_turns.proofs.LockLemmas.{by_lock, occ, occ-nil, occ-cons}
-use Rattle.ft_ordering.specs.Counts.{times, pair_of}
+use Rattle.ft_ordering.specs.Placings.{times, pair_of}
 
 pub times_occ : (o : ℕ) (xs : List ℕ) → times o xs ≡ occ o xs
 times_occ o [] = sym (occ-nil o)

@@ -27,29 +27,28 @@ use Rattle.ft_section.specs.declared.answers.Stamp.{Stamp}
 use Rattle.ft_section.specs.declared.answers.Step.TheVariants as step
 use Rattle.ft_section.specs.Floors.{first_owned}
 use Rattle.ft_section.specs.Ready.{HasTop, IsReady, MayResume}
-use Rattle.ft_section.specs.Takings.{lower_of, upper_of}
+use Rattle.ft_section.specs.LockTakings.{lower_of, upper_of}
 use Rattle.ft_engine.specs.declared.attempts.Tried.{Tried}
 use Rattle.ft_engine.specs.declared.attempts.Tried.TheVariants as tried
 use Rattle.ft_engine.specs.declared.caller.Caller.{Caller}
 use Rattle.ft_engine.specs.declared.caller.Flight.{Flight}
 use Rattle.ft_engine.specs.declared.caller.Flight.TheVariants as flight
 use Rattle.ft_engine.specs.declared.engine.Engine.{Engine}
-use Rattle.ft_engine.specs.Answering.{HasLooked}
-use Rattle.ft_engine.specs.Attempts.{flight_after, kept_after}
+use Rattle.ft_engine.specs.Answering.{HasLooked, FoundWordsChanged}
+use Rattle.ft_engine.specs.Attempts.{flight_after, entries_with_answer}
 use Rattle.ft_engine.specs.Callers.{bank_of, pass_of, thread_of}
-use Rattle.ft_engine.specs.Contentions.{WasContended, may_look}
-use Rattle.ft_engine.specs.Flights.{IsAnswered, IsIn, objects_of}
+use Rattle.ft_engine.specs.Contentions.{may_look}
+use Rattle.ft_engine.specs.Flights.{IsFlightAnswered, IsIn, objects_of}
 use Rattle.ft_engine.specs.Halves.{HasBothHalves, HasNoAnswer, IsInHalves, IsOfTop, IsTakenUp, WaitsAnswered, WaitsUnanswered}
-use Rattle.ft_engine.specs.Keeping.{IsKept, kept_entry}
-use Rattle.ft_engine.specs.Names.{IsCallIn}
+use Rattle.ft_engine.specs.Keeping.{WasAnswered, named_entry}
+use Rattle.ft_engine.specs.Asked.{IsCallIn}
 use Rattle.ft_turns.specs.Ends.{after_turns}
-use Rattle.ft_turns.specs.Orders.{Locking, Machine, ThreadState, answered_machine, cursor_containers, finish_try, finished_thread, next_call, take_locks, thread_at, turn, waiting_thread, with_own}
+use Rattle.ft_turns.specs.Orders.{Locking, Machine, ThreadState, answered_machine, cursor_containers, finish_try, finished_thread, next_call, take_locks, thread_at, turn, waiting_thread, with_locking}
 use Rattle.ft_turns.proofs.MachineSteps.{there, wanted, wanted_again}
 use Rattle.ft_turns.proofs.Owned.{IsOwned}
-use Rattle.ft_ordering.specs.Counts.{pair_of}
-use Rattle.ft_ordering.specs.FloorTries.{IsUndisturbed}
-use Rattle.ft_ordering.specs.Ordered.{due, stamp_of, stamps_of}
-use Rattle.ft_ordering.specs.Owners.{owners_in}
+use Rattle.ft_ordering.specs.Placings.{pair_of}
+use Rattle.ft_ordering.specs.Ordered.{due, entry_stamp, stamps_of}
+use Rattle.ft_ordering.specs.LockOwners.{owners_in}
 use Rattle.ft_ordering.specs.Standing.{AreAsMachine, IsAsFlight, IsAsThread, Standing, standing_of}
 use Rattle.ft_ordering.specs.Turns.{IsTurnOf}
 use Rattle.ft_ordering.proofs.Asked.{are_low, asks, in_order}
@@ -78,7 +77,7 @@ pub record TurnOutcome (script : ScriptParts) (machine after : Machine) (thread 
   pub flight : IsAsFlight (slice_get (calls_of script thread) (length now.marks)) now.fixed new.flight
   pub recorded : IsRecorded machine.answered (thread, length (thread_at machine thread).marks) answered (stamps_of old) (stamps_of new) seen
 
-due_none : (f : Flight) → (IsAnswered f → ⊥) → due f ≡ []
+due_none : (f : Flight) → (IsFlightAnswered f → ⊥) → due f ≡ []
 due_none flight.Idle unanswered = refl
 due_none (flight.Tried called) unanswered = refl
 due_none (flight.Answered called said stamp) unanswered = absurd (unanswered tt)
@@ -95,11 +94,11 @@ comes_from script machine mid after same thread owners has s now answered is bef
 some_open : (p : Pass) (o : ℕ) → IsOfTop o p → (stack_of p).sections ≡ [] → ⊥
 some_open p o top none = none_pushed top.0 top.1 (sym top.2 ∙ none)
 
--- a call that waits, with no look at it contended, needs locks
-only_locks : (called : Call) (v w : View) (o owner : ℕ) → HasLooked called v w (step.NotYet o owner) → (WasContended called v w → ⊥) → may_look called ≡ false
-only_locks called v w o owner looked undisturbed =
+-- a call that waits needs locks: with the floor no look at it was contended
+only_locks : (called : Call) (v w : View) (o owner : ℕ) → v.has_floor ≡ true → HasLooked called v w (step.NotYet o owner) → may_look called ≡ false
+only_locks called v w o owner floor looked =
     elim (may_look called) as (λ b. may_look called ≡ b → may_look called ≡ false) [
-      | true ↦ λ looks. absurd (undisturbed (looked looks))
+      | true ↦ λ looks. absurd (false≢true (sym (looked looks).floor ∙ floor))
       | false ↦ λ locks. locks
     ] refl
 
@@ -108,7 +107,7 @@ ready_top : (e : Engine) (d : Caller) → IsIn e.bank d.pass d.cursors.items d.f
 ready_top e d inside idle = let r : IsReady e.bank d.pass = subst (IsIn e.bank d.pass d.cursors.items) idle inside in r.top
 
 module _ (script : ScriptParts) (e : Engine) (turns : List ℕ) (standings : List Standing) (called : Call) (t : Tried) (c d : Caller) (mine : List Entry)
-    (made_for : IsFor script (shape_of (bank_of e))) (is : IsTurnOf e called t c d) (kept : IsKept c mine)
+    (made_for : IsFor script (shape_of (bank_of e))) (is : IsTurnOf e called t c d) (kept : WasAnswered c mine)
     (at : slice_get standings (thread_of c) ≡ Some (standing_of c mine))
     (next : next_call script (thread_of c) (thread_at (after_turns script turns) (thread_of c)) ≡ Some called)
     (was : AreAsMachine script (after_turns script turns) (owners_in (view (pass_of c))) standings) where
@@ -134,7 +133,7 @@ module _ (script : ScriptParts) (e : Engine) (turns : List ℕ) (standings : Lis
   Outcome entries = TurnOutcome script machine (turn script machine thread) thread (owners_in (view d.pass)) (has_of d.pass) (standing_of c mine) (standing_of d entries) seen
 
   abbrev Result : Type 0
-  Result = Outcome (kept_after thread called t mine)
+  Result = Outcome (entries_with_answer thread called t mine)
 
   count : containers_in (view c.pass).shape ≡ length script.containers
   count = ap containers_in is.caller.pass.1 ∙ count_for script (shape_of e.bank) made_for
@@ -156,7 +155,7 @@ module _ (script : ScriptParts) (e : Engine) (turns : List ℕ) (standings : Lis
       (marks : (thread_at mid thread).marks ≡ state.marks) (fixed : (thread_at mid thread).fixed ≡ true)
       (others : (other : ℕ) → other ≢ thread → thread_at mid other ≡ thread_at machine other)
       (taken : IsTakenUp said stamp p d.pass t) (waits : WaitsAnswered called said stamp t d.flight)
-      (recorded : (new : List Stamp) → new ≡ map stamp_of mine ++ stamp ∷ [] → IsRecorded machine.answered (thread, length state.marks) mid.answered (stamps_of (standing_of c mine)) new seen) where
+      (recorded : (new : List Stamp) → new ≡ map entry_stamp mine ++ stamp ∷ [] → IsRecorded machine.answered (thread, length state.marks) mid.answered (stamps_of (standing_of c mine)) new seen) where
     still_next : next_call script thread (thread_at mid thread) ≡ Some called
     still_next = ap (λ (ms : List (Option ℕ)). slice_get calls (length ms)) marks ∙ next
 
@@ -175,10 +174,10 @@ module _ (script : ScriptParts) (e : Engine) (turns : List ℕ) (standings : Lis
     -- the call finishes
     ends : (reply : Reply) (stamped : Stamp) (mark : Option ℕ) → t ≡ tried.Done reply stamped mark → IsTakenUp said stamp p d.pass (tried.Done reply stamped mark) → Result
     ends reply stamped mark done up =
-        let entry = kept_entry thread mine called reply stamped mark in
+        let entry = named_entry thread mine called reply stamped mark in
         let idle : d.flight ≡ flight.Idle = subst (λ u. flight_after called u d.flight) done is.tried.flight in
         let comes = takes_up script mid thread called e.bank p d.pass low floor inv now may counted are still_next fixed up.3 up.4 (ready_top e d is.tried.caller.inside idle) in
-        let after : ThreadState = finished_thread (with_own halfway again) in
+        let after : ThreadState = finished_thread (with_locking halfway again) in
         let here : Comes script machine (turn script machine thread) thread (owners_in (view d.pass)) (has_of d.pass) (stack_of d.pass) after mid.answered =
         comes_from script machine mid (finish_try mid thread) (turn script machine thread) thread (owners_in (view d.pass)) (has_of d.pass) (stack_of d.pass) after mid.answered same_turn others comes in
         let long : length after.marks ≡ length state.marks + 1 = length_push halfway.marks halfway.mark ∙ ap (λ (ms : List (Option ℕ)). length ms + 1) marks in
@@ -188,7 +187,7 @@ module _ (script : ScriptParts) (e : Engine) (turns : List ℕ) (standings : Lis
         let marked : map (λ (one : Entry). one.waited) (mine ++ entry ∷ []) ≡ after.marks =
         map_push (λ (one : Entry). one.waited) mine entry
         ∙ (ap (λ ms. ms ++ mark ∷ []) (as_thread.marks ∙ sym marks) ∙ ap (λ m. halfway.marks ++ m ∷ []) (up.2 ∙ sym now.stack.mark)) in
-        subst Outcome (sym (ap (λ u. kept_after thread called u mine) done))
+        subst Outcome (sym (ap (λ u. entries_with_answer thread called u mine) done))
         (record {
           now = after;
           answered = mid.answered;
@@ -197,19 +196,19 @@ module _ (script : ScriptParts) (e : Engine) (turns : List ℕ) (standings : Lis
           marks = marked;
           flight = subst (IsAsFlight (slice_get calls (length after.marks)) false) (sym idle) refl;
           recorded = recorded (stamps_of (standing_of d (mine ++ entry ∷ [])))
-              (ap (λ f. map stamp_of (mine ++ entry ∷ []) ++ due f) idle
-              ∙ (append-nil (map stamp_of (mine ++ entry ∷ []))
-              ∙ (map_push stamp_of mine entry ∙ ap (λ x. map stamp_of mine ++ x ∷ []) up.1)));
+              (ap (λ f. map entry_stamp (mine ++ entry ∷ []) ++ due f) idle
+              ∙ (append-nil (map entry_stamp (mine ++ entry ∷ []))
+              ∙ (map_push entry_stamp mine entry ∙ ap (λ x. map entry_stamp mine ++ x ∷ []) up.1)));
         })
 
     -- the innermost section has to be waited for
     goes_on : (o owner : ℕ) → t ≡ tried.NotYet o owner → IsTakenUp said stamp p d.pass (tried.NotYet o owner) → WaitsAnswered called said stamp (tried.NotYet o owner) d.flight → Result
     goes_on o owner not_yet up waiting =
         let comes = waits_on script mid thread called e.bank p d.pass low floor inv now may counted are still_next fixed o owner (some_open p o up.3) up.0 up.1 up.2 in
-        let after : ThreadState = waiting_thread (with_own halfway again) owner in
+        let after : ThreadState = waiting_thread (with_locking halfway again) owner in
         let here : Comes script machine (turn script machine thread) thread (owners_in (view d.pass)) (has_of d.pass) (stack_of d.pass) after mid.answered =
         comes_from script machine mid (finish_try mid thread) (turn script machine thread) thread (owners_in (view d.pass)) (has_of d.pass) (stack_of d.pass) after mid.answered same_turn others comes in
-        subst Outcome (sym (ap (λ u. kept_after thread called u mine) not_yet))
+        subst Outcome (sym (ap (λ u. entries_with_answer thread called u mine) not_yet))
         (record {
           now = after;
           answered = mid.answered;
@@ -217,7 +216,7 @@ module _ (script : ScriptParts) (e : Engine) (turns : List ℕ) (standings : Lis
           made = as_thread.made ∙ ap (λ (ms : List (Option ℕ)). take (length ms) calls) (sym marks);
           marks = as_thread.marks ∙ sym marks;
           flight = subst (IsAsFlight (slice_get calls (length halfway.marks)) halfway.fixed) (sym waiting) (fixed, still_next);
-          recorded = recorded (stamps_of (standing_of d mine)) (ap (λ f. map stamp_of mine ++ due f) waiting);
+          recorded = recorded (stamps_of (standing_of d mine)) (ap (λ f. map entry_stamp mine ++ due f) waiting);
         })
 
     pub second : Result
@@ -233,7 +232,7 @@ module _ (script : ScriptParts) (e : Engine) (turns : List ℕ) (standings : Lis
   inv = owned_after script turns
 
   -- a call that has no answer yet
-  module _ (unanswered : IsAnswered c.flight → ⊥) (unfixed : state.fixed ≡ false) where
+  module _ (unanswered : IsFlightAnswered c.flight → ⊥) (unfixed : state.fixed ≡ false) where
     names : IsCallIn (shape_of e.bank) hands called
     names = is.may.names unanswered
 
@@ -252,12 +251,11 @@ module _ (script : ScriptParts) (e : Engine) (turns : List ℕ) (standings : Lis
     there_low : (objects : Objects) → objects_of hands called ≡ Some objects → upper_of objects < length script.containers
     there_low objects named = let low = are_low (shape_of e.bank) hands called objects names is.caller.over named in let n = count_for script (shape_of e.bank) made_for in omega arith
 
-    waits_first : (o owner : ℕ) → t ≡ tried.NotYet o owner → HasNoAnswer e.bank hands called c.pass d.pass (tried.NotYet o owner) → WaitsUnanswered called (tried.NotYet o owner) d.flight
-        → IsUndisturbed called (view c.pass) (view d.pass) (tried.NotYet o owner) → Result
-    waits_first o owner not_yet none waiting undisturbed =
+    waits_first : (o owner : ℕ) → t ≡ tried.NotYet o owner → HasNoAnswer e.bank hands called c.pass d.pass (tried.NotYet o owner) → WaitsUnanswered called (tried.NotYet o owner) d.flight → Result
+    waits_first o owner not_yet none waiting =
         let tried_it = none.0 in
         let objects = tried_it.0 in
-        let locks : may_look called ≡ false = only_locks called (view c.pass) (view d.pass) o owner none.1 undisturbed in
+        let locks : may_look called ≡ false = only_locks called (view c.pass) (view d.pass) o owner is.floor none.1 in
         let counted_after = counted_of d.pass (in_call e.bank d.pass d.cursors.items d.flight is.tried.caller.inside) in
         let asked : wanted script machine thread called ≡ pair_of (lower_of objects) (upper_of objects) = asks (take (length state.marks) calls) hands called objects walks tried_it.1 locks in
         let wait : IsWait script (owners_in (view c.pass)) (has_of c.pass) (stack_of c.pass) (stack_of d.pass) (lower_of objects) (upper_of objects) o owner =
@@ -269,25 +267,25 @@ module _ (script : ScriptParts) (e : Engine) (turns : List ℕ) (standings : Lis
         } in
         let comes = waits_turn script machine thread called (owners_in (view c.pass)) (owners_in (view d.pass)) (has_of c.pass) (has_of d.pass) (stack_of c.pass) (stack_of d.pass) inv stands counted_after
         (λ n below. owners_then c.pass d.pass thread refl same_floor is.floor n (let low = count in omega arith)) next unfixed (lower_of objects) (upper_of objects) o owner asked wait in
-        subst Outcome (sym (ap (λ u. kept_after thread called u mine) not_yet))
+        subst Outcome (sym (ap (λ u. entries_with_answer thread called u mine) not_yet))
         (record {
-          now = waiting_thread (with_own state (take_locks thread machine.holders (wanted script machine thread called))) owner;
+          now = waiting_thread (with_locking state (take_locks thread machine.holders (wanted script machine thread called))) owner;
           answered = machine.answered;
           comes = comes;
           made = as_thread.made;
           marks = as_thread.marks;
           flight = subst (IsAsFlight (slice_get calls (length state.marks)) state.fixed) (sym waiting) (unfixed, next);
-          recorded = inl (refl, ap (λ f. map stamp_of mine ++ due f) waiting ∙ ap (λ ss. map stamp_of mine ++ ss) (sym (due_none c.flight unanswered)));
+          recorded = inl (refl, ap (λ f. map entry_stamp mine ++ due f) waiting ∙ ap (λ ss. map entry_stamp mine ++ ss) (sym (due_none c.flight unanswered)));
         })
 
     no_answer : HasNoAnswer e.bank hands called c.pass d.pass t → WaitsUnanswered called t d.flight → Result
     no_answer none waiting =
-        elim t as (λ u. t ≡ u → HasNoAnswer e.bank hands called c.pass d.pass u → WaitsUnanswered called u d.flight → IsUndisturbed called (view c.pass) (view d.pass) u → Result) [
-          | tried.Done reply stamped mark ↦ λ done gone _ _. absurd gone
-          | tried.NotYet o owner ↦ λ not_yet gone waits undisturbed. waits_first o owner not_yet gone waits undisturbed
-          | tried.Moved first other ↦ λ moved gone _ undisturbed. absurd undisturbed
-          | tried.NoMemory ↦ λ no_memory gone _ _. absurd (is.memory no_memory)
-        ] refl none waiting is.undisturbed
+        elim t as (λ u. t ≡ u → HasNoAnswer e.bank hands called c.pass d.pass u → WaitsUnanswered called u d.flight → Result) [
+          | tried.Done reply stamped mark ↦ λ done gone _. absurd gone
+          | tried.NotYet o owner ↦ λ not_yet gone waits. waits_first o owner not_yet gone waits
+          | tried.Moved first other ↦ λ moved gone _. absurd (let moved : FoundWordsChanged first other (view c.pass) (view d.pass) = gone.5 in false≢true (sym moved.floor ∙ is.floor))
+          | tried.NoMemory ↦ λ no_memory gone _. absurd (is.memory no_memory)
+        ] refl none waiting
 
     both_halves : HasBothHalves e.bank hands called c.pass d.pass t d.flight → Result
     both_halves both =
@@ -310,10 +308,10 @@ module _ (script : ScriptParts) (e : Engine) (turns : List ℕ) (standings : Lis
         second mid (answered_machine machine thread state called (take_locks thread machine.holders (wanted script machine thread called))) both.said both.stamp
         after.0 after.1 after.2.stands resume (mid_floor.floor ∙ is.floor) (ap containers_in mid_floor.shape ∙ count) (ap (λ n. n - 1) mid_floor.number) (floor_between (view c.pass) (view mid) (view d.pass) mid_floor same_floor)
         (ap (λ (s : ThreadState). s.marks) after.2.state) (ap (λ (s : ThreadState). s.fixed) after.2.state) after.2.others both.taken both.waits
-        (λ new are. inr (both.stamp, refl, are ∙ ap (λ ss. ss ++ both.stamp ∷ []) (sym before), answer.0.entry.seen, ap length before ∙ (length-map mine stamp_of ∙ (sym (length-map mine (λ (one : Entry). one.waited)) ∙ ap length as_thread.marks))))
+        (λ new are. inr (both.stamp, refl, are ∙ ap (λ ss. ss ++ both.stamp ∷ []) (sym before), answer.0.entry.seen, ap length before ∙ (length-map mine entry_stamp ∙ (sym (length-map mine (λ (one : Entry). one.waited)) ∙ ap length as_thread.marks))))
       where
-        before : stamps_of (standing_of c mine) ≡ map stamp_of mine
-        before = ap (λ ss. map stamp_of mine ++ ss) (due_none c.flight unanswered) ∙ append-nil (map stamp_of mine)
+        before : stamps_of (standing_of c mine) ≡ map entry_stamp mine
+        before = ap (λ ss. map entry_stamp mine ++ ss) (due_none c.flight unanswered) ∙ append-nil (map entry_stamp mine)
 
     first_half : (HasNoAnswer e.bank hands called c.pass d.pass t × WaitsUnanswered called t d.flight) ⊎ HasBothHalves e.bank hands called c.pass d.pass t d.flight → Result
     first_half (inl none) = no_answer none.0 none.1
@@ -325,13 +323,13 @@ module _ (script : ScriptParts) (e : Engine) (turns : List ℕ) (standings : Lis
       let resumes : MayResume e.bank c.pass = (subst (IsIn e.bank c.pass hands) flies is.caller.inside).0 in
       second c.pass machine said stamp (again_first script machine thread called next (let low = there script thread state called next in let count_threads = inv.threads in omega arith) fixed)
       inv stands resumes is.floor count refl same_floor refl fixed (λ other differs. refl) halves.0 halves.1
-      (λ new are. inl (refl, are ∙ ap (λ f. map stamp_of mine ++ due f) (sym flies)))
+      (λ new are. inl (refl, are ∙ ap (λ f. map entry_stamp mine ++ due f) (sym flies)))
 
   pub turned : Result
   turned =
       elim c.flight as (λ f. c.flight ≡ f → IsInHalves f e.bank hands called c.pass d.pass t d.flight → IsAsFlight (slice_get calls (length state.marks)) state.fixed f → Result) [
-        | flight.Idle ↦ λ flies halves same. first_half (λ a. subst IsAnswered flies a) same halves
-        | flight.Tried first ↦ λ flies halves same. first_half (λ a. subst IsAnswered flies a) same.0 halves
+        | flight.Idle ↦ λ flies halves same. first_half (λ a. subst IsFlightAnswered flies a) same halves
+        | flight.Tried first ↦ λ flies halves same. first_half (λ a. subst IsFlightAnswered flies a) same.0 halves
         | flight.Answered first said stamp ↦ λ flies halves same. only_second first said stamp flies same.0 halves
         | flight.Refused first ↦ λ flies halves same. absurd halves
       ] refl is.tried.halves as_thread.flight

@@ -5,7 +5,7 @@ use Rattle.std.specs.Option.{option_map_or}
 use Rattle.std.proofs.lemmas.List.{get_or-set_same}
 use Rattle.ft_model.specs.declared.call.Call.{Call}
 use Rattle.ft_model.specs.declared.script.ScriptParts.{ScriptParts}
-use Rattle.ft_turns.specs.Orders.{Locking, Machine, ThreadState, answer_try, answered_machine, answered_thread, finish_step, finish_try, finished_machine, fresh_thread, next_call, take_locks, thread_at, turn, waiting_machine, waiting_thread, with_own}
+use Rattle.ft_turns.specs.Orders.{Locking, Machine, ThreadState, answer_try, answered_machine, answered_thread, finish_step, finish_try, finished_machine, fresh_thread, next_call, take_locks, thread_at, turn, waiting_machine, waiting_thread, with_locking}
 use Rattle.ft_turns.proofs.MachineSteps.{wanted, wanted_again}
 
 module _ (script : ScriptParts) (machine : Machine) (thread : ℕ) (called : Call) (next : next_call script thread (thread_at machine thread) ≡ Some called) (low : thread < length machine.threads) where
@@ -30,7 +30,7 @@ module _ (script : ScriptParts) (machine : Machine) (thread : ℕ) (called : Cal
   -- the answer isn't fixed, since another thread has a lock
   pub waits_first : (found : ℕ) → state.fixed ≡ false → asked.found ≡ Some found → turn script machine thread ≡ waiting_machine machine thread state asked found
   waits_first found unfixed finds =
-      let after : ThreadState = waiting_thread (with_own state asked) found in
+      let after : ThreadState = waiting_thread (with_locking state asked) found in
       turn_is false unfixed
       ∙ (ap (λ f. finish_try (option_map_or (waiting_machine machine thread state asked) f (answered_machine machine thread state called asked)) thread) finds
       ∙ unfinished (waiting_machine machine thread state asked found) (ap (λ (s : ThreadState). s.fixed) (get_or-set_same machine.threads thread after fresh_thread low) ∙ unfixed))
@@ -42,8 +42,8 @@ module _ (script : ScriptParts) (machine : Machine) (thread : ℕ) (called : Cal
       ∙ ap (λ f. finish_try (option_map_or (waiting_machine machine thread state asked) f (answered_machine machine thread state called asked)) thread) finds
 
   -- the thread then
-  pub answered_state : thread_at (answered_machine machine thread state called asked) thread ≡ answered_thread (with_own state asked) called
-  answered_state = get_or-set_same machine.threads thread (answered_thread (with_own state asked) called) fresh_thread low
+  pub answered_state : thread_at (answered_machine machine thread state called asked) thread ≡ answered_thread (with_locking state asked) called
+  answered_state = get_or-set_same machine.threads thread (answered_thread (with_locking state asked) called) fresh_thread low
 
   pub again_first : state.fixed ≡ true → turn script machine thread ≡ finish_try machine thread
   again_first fixed = turn_is true fixed

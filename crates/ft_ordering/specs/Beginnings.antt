@@ -10,10 +10,10 @@ use Rattle.ft_bank.specs.Passes.{shape_of, view}
 use Rattle.ft_bank.specs.Sections.{no_sections, stack_of}
 use Rattle.ft_engine.specs.declared.caller.Caller.{Caller}
 use Rattle.ft_engine.specs.declared.engine.Engine.{Engine}
-use Rattle.ft_engine.specs.Callers.{IsCallerOf, IsFresh, bank_of, pass_of, thread_of}
+use Rattle.ft_engine.specs.Callers.{IsCallerOf, IsFreshCaller, bank_of, pass_of, thread_of}
 use Rattle.ft_engine.specs.Resting.{HandsOn, HasFloor, IsAsBefore, IsWoken}
 use Rattle.ft_ordering.specs.Ordered.{nobody}
-use Rattle.ft_ordering.specs.Owners.{owners_in}
+use Rattle.ft_ordering.specs.LockOwners.{owners_in}
 use Rattle.ft_ordering.specs.Standing.{Standing, standing_of}
 use Rattle.ft_ordering.specs.Turns.{AreInStep}
 
@@ -21,7 +21,7 @@ use Rattle.ft_ordering.specs.Turns.{AreInStep}
 
 -- a caller of a new engine has made no call, and is in none
 abbrev pub FreshCallersAreNobody : Type 0
-FreshCallersAreNobody = (e : Engine) (room i : ℕ) (c : Caller) → IsFresh e room i c → standing_of c [] ≡ nobody
+FreshCallersAreNobody = (e : Engine) (room i : ℕ) (c : Caller) → IsFreshCaller e room i c → standing_of c [] ≡ nobody
 
 -- where no caller has made a call and no lock is taken, the callers stand as the threads do before the first turn
 abbrev pub NewCallersAreInStep : Type 0

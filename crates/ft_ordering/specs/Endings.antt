@@ -9,7 +9,7 @@ use Rattle.ft_model.specs.declared.script.ScriptParts.{ScriptParts}
 use Rattle.ft_model.specs.Numbers.{AreDone, AreNumberedLists}
 use Rattle.ft_model.specs.Scripts.{IsScript}
 use Rattle.ft_trace.specs.declared.View.{View}
-use Rattle.ft_closing.specs.Marks.{AreMade}
+use Rattle.ft_closing.specs.Marks.{HaveScriptCalls}
 use Rattle.ft_engine.specs.declared.caller.Flight.TheVariants as flight
 use Rattle.ft_turns.specs.Orders.{IsOrderRun, last_machine, turns_of}
 use Rattle.ft_ordering.specs.Runs.{AreAnsweredBy}
@@ -17,16 +17,16 @@ use Rattle.ft_ordering.specs.Standing.{Standing}
 use Rattle.ft_ordering.specs.Turns.{AreInStep}
 
 -- the entries of each caller
-abbrev pub lists_of : List Standing → List (List Entry)
-lists_of standings = map (λ standing. standing.entries) standings
+abbrev pub entry_lists : List Standing → List (List Entry)
+entry_lists standings = map (λ standing. standing.entries) standings
 
 -- All calls are made: no caller is in a call, the entries are of just the calls that the script has, and in the order
 -- of the turns each knows of all writes before it.
 pub record HaveFinished (script : ScriptParts) (standings : List Standing) : Type 0 where
   pub idle : (thread : ℕ) (standing : Standing) → slice_get standings thread ≡ Some standing
       → standing.flight ≡ flight.Idle
-  pub made : AreMade script (lists_of standings)
-  pub answered : AreAnsweredBy (last_machine script) (lists_of standings)
+  pub made : HaveScriptCalls script (entry_lists standings)
+  pub answered : AreAnsweredBy (last_machine script) (entry_lists standings)
 
 -- after all turns of a script it is so
 abbrev pub LastTurnsFinish : Type 0
@@ -39,6 +39,6 @@ abbrev pub TurnsAreOrderRuns : Type 0
 TurnsAreOrderRuns =
     (storage : Storage) (script : ScriptParts) (v : View) (standings : List Standing) (calls : List Call)
     (history : List Entry) → IsScript script → AreInStep script (turns_of script) v standings
-    → AreNumberedLists storage script calls (lists_of standings) → AreDone script calls (lists_of standings)
-    → IsPermutation (flat_map (λ mine. mine) (lists_of standings)) history
+    → AreNumberedLists storage script calls (entry_lists standings) → AreDone script calls (entry_lists standings)
+    → IsPermutation (flat_map (λ mine. mine) (entry_lists standings)) history
     → IsOrderRun storage script history

@@ -1,11 +1,10 @@
-pub mod Answered
+pub mod RisingEntries
 pub mod Beginnings
-pub mod Counts
+pub mod Placings
 pub mod Endings
-pub mod FloorTries
 pub mod Ordered
-pub mod Owners
+pub mod LockOwners
 pub mod Runs
-pub mod Stacks
+pub mod MatchingStacks
 pub mod Standing
 pub mod Turns

@@ -11,8 +11,8 @@ use Rattle.ft_ordering.specs.Standing.{Standing}
 abbrev pub reached : Stamp → ℕ
 reached stamp = if stamp.wrote then stamp.number + 1 else stamp.number
 
-abbrev pub stamp_of : Entry → Stamp
-stamp_of entry = record { number = entry.stamp; wrote = entry.wrote }
+abbrev pub entry_stamp : Entry → Stamp
+entry_stamp entry = record { number = entry.stamp; wrote = entry.wrote }
 
 -- the answer of the call in flight, where it has one
 abbrev pub due : Flight → List Stamp
@@ -23,7 +23,7 @@ due (flight.Refused called) = []
 
 -- the answers of a caller's calls, in their order
 abbrev pub stamps_of : Standing → List Stamp
-stamps_of standing = map stamp_of standing.entries ++ due standing.flight
+stamps_of standing = map entry_stamp standing.entries ++ due standing.flight
 
 -- a caller and an answer that stand where there is none
 abbrev pub nobody : Standing
@@ -39,7 +39,7 @@ answer_at standings answered =
 
 -- Each answer of this order is one of its caller. In this order each knows of all writes that there were after each
 -- earlier one, and whoever has the floor has seen all of them.
-pub record AreInOrder (answered : List (ℕ × ℕ)) (standings : List Standing) (seen : ℕ) : Type 0 where
+pub record AreAnswersInOrder (answered : List (ℕ × ℕ)) (standings : List Standing) (seen : ℕ) : Type 0 where
   pub made : (place : ℕ) (one : ℕ × ℕ) → slice_get answered place ≡ Some one
       → one.1 < length (stamps_of (slice_index_or standings one.0 nobody))
   pub rising : (earlier later : ℕ) (one other : ℕ × ℕ) → earlier < later → slice_get answered earlier ≡ Some one

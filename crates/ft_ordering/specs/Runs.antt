@@ -18,8 +18,8 @@ no_entry =
     record { thread = 0; index = 0; stamp = 0; wrote = false; call = call.Quiesce; reply = reply.Done; waited = None }
 
 -- the entry of a thread at a place among the thread's own, of lists for each thread
-abbrev pub entry_at : List (List Entry) → ℕ × ℕ → Entry
-entry_at lists answered = slice_index_or (slice_index_or lists answered.0 []) answered.1 no_entry
+abbrev pub entry_answered : List (List Entry) → ℕ × ℕ → Entry
+entry_answered lists answered = slice_index_or (slice_index_or lists answered.0 []) answered.1 no_entry
 
 -- The marks of each thread's entries are those of the machine, and in the order in which the machine has the answers
 -- each entry knows of all writes that there were after each earlier one.
@@ -28,7 +28,7 @@ pub record AreAnsweredBy (machine : Machine) (lists : List (List Entry)) : Type 
       → map (λ entry. entry.waited) mine ≡ (thread_at machine thread).marks
   pub rising : (earlier later : ℕ) (one other : ℕ × ℕ) → earlier < later → slice_get machine.answered earlier ≡ Some one
       → slice_get machine.answered later ≡ Some other
-      → number_after (entry_at lists one) ≤ (entry_at lists other).stamp
+      → number_after (entry_answered lists one) ≤ (entry_answered lists other).stamp
 
 -- So they are a run in the order of the script's turns, whatever order the history puts them in.
 abbrev pub AnsweredEntriesAreOrderRuns : Type 0

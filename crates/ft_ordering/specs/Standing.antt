@@ -11,7 +11,7 @@ use Rattle.ft_engine.specs.declared.caller.Flight.{Flight}
 use Rattle.ft_engine.specs.declared.caller.Flight.TheVariants as flight
 use Rattle.ft_engine.specs.Callers.{flight_of, pass_of}
 use Rattle.ft_turns.specs.Orders.{Machine, ThreadState, holder_of, thread_at}
-use Rattle.ft_ordering.specs.Stacks.{IsAsStack}
+use Rattle.ft_ordering.specs.MatchingStacks.{IsAsStack}
 
 -- what is to be seen of a caller between two turns: the call that it is in, its open sections with the locks that it
 -- has, and the entries that it was answered

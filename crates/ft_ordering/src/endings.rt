@@ -1,5 +1,5 @@
 //! Callers after the last turn, and what their entries are. The functions do nothing: their contracts are laws.
-ghost use Rattle.ft_ordering.specs.Answered.{RisingEntriesAreChronicles};
+ghost use Rattle.ft_ordering.specs.RisingEntries.{RisingEntriesAreChronicles};
 ghost use Rattle.ft_ordering.specs.Endings.{LastTurnsFinish, TurnsAreOrderRuns};
 
 /// After all turns of a script no caller is in a call, and each was answered just the calls of its thread.

@@ -17,7 +17,7 @@ use Rattle.ft_model.specs.Histories.{calls_of, cursors_of}
 use Rattle.ft_model.specs.Scripts.{IsCallOf, IsScript, IsThread}
 use Rattle.ft_trace.specs.declared.Shape.{Shape}
 use Rattle.ft_closing.specs.Numbering.{AskOwnCursors}
-use Rattle.ft_closing.specs.Marks.{AreMade}
+use Rattle.ft_closing.specs.Marks.{HaveScriptCalls}
 use Rattle.ft_workers.specs.Workers.{AreCallsOn, IsBankFor}
 use Rattle.ft_workers.proofs.Depths.{ends_at_none, step_depth}
 
@@ -49,7 +49,7 @@ pub calls_past : (script : ScriptParts) (i : ℕ) → length script.threads ≤ 
 calls_past script i past = ap (λ (own : Option Thread). option_map_or (λ (t : Thread). t.calls) own []) (slice_get_past script.threads i past)
 
 -- threads that made just their calls ask no cursors but their own
-pub own_asked : (script : ScriptParts) (lists : List (List Entry)) → IsScript script → AreMade script lists → AskOwnCursors script lists
+pub own_asked : (script : ScriptParts) (lists : List (List Entry)) → IsScript script → HaveScriptCalls script lists → AskOwnCursors script lists
 own_asked script lists is all i mine at place d low =
     let called = λ (e : Entry). e.call in
     let same : map called mine ≡ calls_of script i = all i mine at in

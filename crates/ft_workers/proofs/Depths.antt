@@ -1,5 +1,5 @@
 -- How many sections are open after some of a thread's calls.
-use Rattle.std.proofs.Common.{◌≡◌, ℕ, zero, suc, ◌+◌, ◌-◌, ◌<◌, List, [], ◌∷◌, length, map, take, drop, refl, sym, ap, ◌∙◌, subst, arith, None, Some}
+use Rattle.std.proofs.Common.{◌≡◌, ℕ, zero, suc, ◌+◌, ◌-◌, ◌<◌, List, [], ◌∷◌, ◌++◌, length, map, reverse, take, drop, refl, sym, ap, ◌∙◌, subst, arith, None, Some}
 use Rattle.std.specs.Prelude.{fold, slice_get}
 use Rattle.std.proofs.lemmas.List.{length-map, length-reverse}
 use Rattle.ft_model.specs.declared.call.Call.{Call}
@@ -7,13 +7,17 @@ use Rattle.ft_model.specs.declared.call.Call.TheVariants as call
 use Rattle.ft_model.specs.declared.entry.Entry.{Entry as NamedEntry}
 use Rattle.ft_model.specs.Numbers.{after_begins, begins_of, marks_since}
 use Rattle.ft_model.specs.Scripts.{AreNested}
-use Rattle.ft_bank.specs.Sections.{Stack, stack_of}
+use Rattle.ft_trace.specs.declared.Entry.{Entry}
+use Rattle.ft_trace.specs.OwnCursors.{entry_of}
 use Rattle.ft_bank.specs.Passes.{view}
+use Rattle.ft_bank.specs.Sections.{Stack, stack_of}
 use Rattle.ft_engine.specs.declared.caller.Caller.{Caller}
 use Rattle.ft_engine.specs.declared.caller.Flight.{Flight}
-use Rattle.ft_engine.specs.Callers.{IsIdle, pass_of, thread_of}
-use Rattle.ft_engine.specs.Keeping.{AreKeptBy, IsKept, mark_count}
-use Rattle.ft_engine.specs.Names.{FitsSections}
+use Rattle.ft_engine.specs.declared.caller.Flight.TheVariants as flight
+use Rattle.ft_engine.specs.Asked.{FitsSections}
+use Rattle.ft_engine.specs.Callers.{pass_of, thread_of}
+use Rattle.ft_engine.specs.Flights.{IsFlightAnswered}
+use Rattle.ft_engine.specs.Keeping.{WasAnswered, mark_count, marks_due, pending}
 
 -- ---- depths by calls
 
@@ -82,16 +86,33 @@ depth_by : (mine begins : List NamedEntry) → length (fold (λ begins entry. af
 depth_by [] begins = refl
 depth_by (e ∷ mine) begins = depth_by mine (after_begins e e.call begins) ∙ ap (λ (n : ℕ). fold step_depth n (map (λ (entry : NamedEntry). entry.call) mine)) (one_step e e.call begins)
 
+-- ---- a call without an answer adds nothing
+
+none_pending : (f : Flight) → (IsFlightAnswered f → ⊥) → pending f ≡ []
+none_pending flight.Idle unanswered = refl
+none_pending (flight.Tried called) unanswered = refl
+none_pending (flight.Answered called said stamp) unanswered = absurd (unanswered tt)
+none_pending (flight.Refused called) unanswered = refl
+
+none_due : (f : Flight) (marks : List ℕ) → (IsFlightAnswered f → ⊥) → marks_due f marks ≡ marks
+none_due flight.Idle marks unanswered = refl
+none_due (flight.Tried called) marks unanswered = refl
+none_due (flight.Answered called said stamp) marks unanswered = absurd (unanswered tt)
+none_due (flight.Refused called) marks unanswered = refl
+
+-- the pass has just the entries that were kept
+pub own_entries : (c : Caller) (mine : List NamedEntry) → (IsFlightAnswered c.flight → ⊥) → WasAnswered c mine → (view (pass_of c)).entries ≡ reverse (map entry_of mine)
+own_entries c mine unanswered kept = kept.0.same ∙ ap (λ (l : List Entry). l ++ reverse (map entry_of mine)) (none_pending c.flight unanswered)
+
 -- as many sections are open as the calls that were made say
-pub depth_kept : (c : Caller) (mine : List NamedEntry) → IsIdle c → IsKept c mine → length (stack_of (pass_of c)).sections ≡ fold step_depth 0 (map (λ entry. entry.call) mine)
-depth_kept c mine idle kept =
+pub depth_unanswered : (c : Caller) (mine : List NamedEntry) → (IsFlightAnswered c.flight → ⊥) → WasAnswered c mine → length (stack_of (pass_of c)).sections ≡ fold step_depth 0 (map (λ entry. entry.call) mine)
+depth_unanswered c mine unanswered kept =
     let s : Stack = stack_of (pass_of c) in
-    let k = subst (λ (f : Flight). AreKeptBy (thread_of c) (view (pass_of c)).entries s f mine) idle kept.0 in
     let counts = map (λ section. section.marks) s.sections in
     let begun = map (λ begun. marks_since (thread_of c) mine begun) (begins_of mine) in
     sym (length-map s.sections (λ section. section.marks))
     ∙ (sym (length-reverse counts)
-    ∙ (ap length k.sections
+    ∙ (ap length (kept.0.sections ∙ none_due c.flight _ unanswered)
     ∙ (length-map begun (λ (n : ℕ). n + mark_count s.mark)
     ∙ (length-map (begins_of mine) (λ begun. marks_since (thread_of c) mine begun)
     ∙ depth_by mine []))))

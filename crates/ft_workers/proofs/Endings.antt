@@ -21,15 +21,15 @@ use Rattle.ft_trace.specs.Acts.{announces}
 use Rattle.ft_trace.specs.Owners.{found_owners, had_locks}
 use Rattle.ft_bank.specs.Passes.{view}
 use Rattle.ft_bank.specs.Sections.{Stack, stack_of}
-use Rattle.ft_closing.specs.Numbering.{AreKeptFrom}
+use Rattle.ft_closing.specs.Numbering.{HaveNamedEntries}
 use Rattle.ft_engine.specs.declared.caller.Caller.{Caller}
 use Rattle.ft_engine.specs.declared.engine.Engine.{Engine}
 use Rattle.ft_engine.specs.Callers.{IsCallerOf, IsIdle, pass_of, taken_of, thread_of}
-use Rattle.ft_closing.specs.Marks.{AreMade}
-use Rattle.ft_engine.specs.Closings.{AreKept, AreOfScript, IsLegalFor}
-use Rattle.ft_engine.specs.Keeping.{IsKept}
+use Rattle.ft_closing.specs.Marks.{HaveScriptCalls}
+use Rattle.ft_engine.specs.DoneCallers.{WereAnswered, AreOfScript, IsLegalFor}
+use Rattle.ft_engine.specs.Keeping.{WasAnswered}
 use Rattle.ft_workers.specs.declared.workers.Worker.{Worker}
-use Rattle.ft_workers.specs.Workers.{HasTaken, HasWorked, IsBankFor}
+use Rattle.ft_workers.specs.Workers.{HasTakenIn, HasWorked, IsBankFor}
 use Rattle.ft_workers.proofs.Asked.{calls_past, own_asked}
 
 -- ---- one list more
@@ -47,7 +47,7 @@ push_found (z ∷ l) x y (suc n) at =
       | inr last ↦ inr (ap suc last.0, last.1)
     ]
 
-pub made_push : (script : ScriptParts) (lists : List (List Entry)) (mine : List Entry) → AreMade script lists → map (λ e. e.call) mine ≡ calls_of script (length lists) → AreMade script (lists ++ mine ∷ [])
+pub made_push : (script : ScriptParts) (lists : List (List Entry)) (mine : List Entry) → HaveScriptCalls script lists → map (λ e. e.call) mine ≡ calls_of script (length lists) → HaveScriptCalls script (lists ++ mine ∷ [])
 made_push script lists mine made is thread other at =
     elim (push_found lists mine other thread at) [
       | inl found ↦ made thread other found
@@ -57,16 +57,16 @@ made_push script lists mine made is thread other at =
 -- ---- workers that are taken in
 
 -- a worker that is done has kept its own list, and no other
-own_kept : (w : Worker) → IsKept w.caller w.entries.items → taken_of w.caller ≡ [] → AreKept w.caller (w.entries.items ∷ [])
+own_kept : (w : Worker) → WasAnswered w.caller w.entries.items → taken_of w.caller ≡ [] → WereAnswered w.caller (w.entries.items ∷ [])
 own_kept w kept none =
     let v = view (pass_of w.caller) in
-    (kept, subst (λ (taken : List (List PassEntry)). AreKeptFrom (suc (thread_of w.caller)) [] taken (had_locks v.number v.log) (found_owners v.log)) (sym none) tt)
+    (kept, subst (λ (taken : List (List PassEntry)). HaveNamedEntries (suc (thread_of w.caller)) [] taken (had_locks v.number v.log) (found_owners v.log)) (sym none) tt)
 
-no_lists : (script : ScriptParts) → AreMade script []
+no_lists : (script : ScriptParts) → HaveScriptCalls script []
 no_lists script thread mine at = absurd (let none : None ≡ Some mine = at in cc)
 
 -- the first worker
-pub first_taken : (e : Engine) (script : ScriptParts) (w : Worker) → HasWorked e script 0 w → IsTrue w.done → HasTaken e script w.caller (w.entries.items ∷ [])
+pub first_taken : (e : Engine) (script : ScriptParts) (w : Worker) → HasWorked e script 0 w → IsTrue w.done → HasTakenIn e script w.caller (w.entries.items ∷ [])
 first_taken e script w is done =
     record {
       caller = is.member.caller;
@@ -78,10 +78,10 @@ first_taken e script w is done =
     }
 
 -- the next one, after the first caller has joined it
-pub next_taken : (e : Engine) (script : ScriptParts) (c d : Caller) (w : Worker) (lists : List (List Entry)) → HasTaken e script c lists → HasWorked e script (length lists) w → IsTrue w.done
+pub next_taken : (e : Engine) (script : ScriptParts) (c d : Caller) (w : Worker) (lists : List (List Entry)) → HasTakenIn e script c lists → HasWorked e script (length lists) w → IsTrue w.done
     → IsCallerOf e d → thread_of d ≡ thread_of c → IsIdle d → announces (view (pass_of d)).log ≡ announces (view (pass_of c)).log → stack_of (pass_of d) ≡ stack_of (pass_of c)
     → (view (pass_of d)).parts ≡ (view (pass_of c)).parts + (view (pass_of w.caller)).parts
-    → ((mine theirs : List (List Entry)) → AreKept c mine → AreKept w.caller theirs → thread_of w.caller ≡ thread_of c + length mine → AreKept d (mine ++ theirs)) → HasTaken e script d (lists ++ w.entries.items ∷ [])
+    → ((mine theirs : List (List Entry)) → WereAnswered c mine → WereAnswered w.caller theirs → thread_of w.caller ≡ thread_of c + length mine → WereAnswered d (mine ++ theirs)) → HasTakenIn e script d (lists ++ w.entries.items ∷ [])
 next_taken e script c d w lists old is done caller thread idle announced sections parts kept =
     let both = old.parts in
     let one = is.member.parts in
@@ -112,7 +112,7 @@ no_entries (e ∷ history) none = absurd (omega (arith, none))
 no_place : (P : ℕ → Entry → Type 0) (place : ℕ) (e : Entry) → slice_get [] place ≡ Some e → P place e
 no_place P place e at = absurd (let none : None ≡ Some e = at in cc)
 
-empty_history : (script : ScriptParts) → length script.threads ≡ 0 → IsHistoryOf storage.Tables script [] []
+pub empty_history : (script : ScriptParts) → length script.threads ≡ 0 → IsHistoryOf storage.Tables script [] []
 empty_history script none =
     record {
       legal = record {
@@ -130,14 +130,21 @@ empty_history script none =
       written = refl;
     }
 
-max_some : (n : ℕ) → (n ≢ 0) → max n 1 ≡ n
+-- where there is no thread, no call was made
+pub nothing_made : (script : ScriptParts) (lists : List (List Entry)) (history : List Entry) → length script.threads ≡ 0 → HaveScriptCalls script lists → IsPermutation (flat_map (λ mine. mine) lists) history → history ≡ []
+nothing_made script lists history none made moved =
+    let flat : flat_map (λ (mine : List Entry). mine) lists ≡ [] = none_flat lists (λ t mine at. no_calls mine (made t mine at ∙ calls_past script t (omega (arith, none)))) in
+    let long = length_permutation (flat_map (λ (mine : List Entry). mine) lists) history moved in
+    no_entries history (long ∙ ap length flat)
+
+pub max_some : (n : ℕ) → (n ≢ 0) → max n 1 ≡ n
 max_some zero some = absurd (some refl)
 max_some (suc n) some = suc-max-suc n 0 ∙ ap suc (max-zero n)
 
 -- ---- all threads
 
-module _ (script : ScriptParts) (k : Shape) (lists : List (List Entry)) (is : IsScript script) (bank : IsBankFor script k) (all : length lists ≡ k.passes) (made : AreMade script lists) where
-  of_script : (length script.threads ≢ 0) → AreOfScript script k lists
+module _ (script : ScriptParts) (k : Shape) (lists : List (List Entry)) (is : IsScript script) (bank : IsBankFor script k) (all : length lists ≡ k.passes) (made : HaveScriptCalls script lists) where
+  pub of_script : (length script.threads ≢ 0) → AreOfScript script k lists
   of_script some =
       let few : max (length script.threads) 1 ≡ length script.threads = max_some (length script.threads) some in
       record {
@@ -146,12 +153,9 @@ module _ (script : ScriptParts) (k : Shape) (lists : List (List Entry)) (is : Is
         count = all ∙ (bank.passes ∙ few);
       }
 
-  pub ended_legal : (history : List Entry) → IsPermutation (flat_map (λ mine. mine) lists) history → (AreOfScript script k lists → AreMade script lists → IsLegalFor script history) → IsLegalFor script history
+  pub ended_legal : (history : List Entry) → IsPermutation (flat_map (λ mine. mine) lists) history → (AreOfScript script k lists → HaveScriptCalls script lists → IsLegalFor script history) → IsLegalFor script history
   ended_legal history moved closed =
       dite (ℕ_discrete (length script.threads) 0)
       (λ (none : length script.threads ≡ 0).
-      let flat : flat_map (λ (mine : List Entry). mine) lists ≡ [] = none_flat lists (λ t mine at. no_calls mine (made t mine at ∙ calls_past script t (omega (arith, none)))) in
-      let long = length_permutation (flat_map (λ (mine : List Entry). mine) lists) history moved in
-      let empty : history ≡ [] = no_entries history (long ∙ ap length flat) in
-      subst (IsLegalFor script) (sym empty) ∣ ([], empty_history script none) ∣₁)
+      subst (IsLegalFor script) (sym (nothing_made script lists history none made moved)) ∣ ([], empty_history script none) ∣₁)
       (λ some. closed (of_script some) made)

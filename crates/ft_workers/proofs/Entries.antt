@@ -19,19 +19,19 @@ use Rattle.ft_history.proofs.Permutations.{IsPermutation-filter}
 use Rattle.ft_trace.specs.declared.Entry.{Entry}
 use Rattle.ft_trace.specs.declared.Owner.{Owner}
 use Rattle.ft_trace.specs.OwnCursors.{entry_of}
-use Rattle.ft_closing.specs.Numbering.{AreKeptFrom}
-use Rattle.ft_engine.specs.Closings.{IsLegalFor}
+use Rattle.ft_closing.specs.Numbering.{HaveNamedEntries}
+use Rattle.ft_engine.specs.DoneCallers.{IsLegalFor}
 
 -- ---- what was kept
 
-kept_same : (from : ℕ) (lists : List (List NamedEntry)) (passes : List (List Entry)) (had found : List Owner) → AreKeptFrom from lists passes had found → (k : ℕ) → map entry_of (get_or lists k []) ≡ reverse (get_or passes k [])
+kept_same : (from : ℕ) (lists : List (List NamedEntry)) (passes : List (List Entry)) (had found : List Owner) → HaveNamedEntries from lists passes had found → (k : ℕ) → map entry_of (get_or lists k []) ≡ reverse (get_or passes k [])
 kept_same from [] [] had found are k = refl
 kept_same from [] (own ∷ passes) had found are k = absurd are
 kept_same from (mine ∷ lists) [] had found are k = absurd are
 kept_same from (mine ∷ lists) (own ∷ passes) had found are zero = are.0.same
 kept_same from (mine ∷ lists) (own ∷ passes) had found are (suc k) = kept_same (suc from) lists passes had found are.1 k
 
-kept_indexes : (from : ℕ) (lists : List (List NamedEntry)) (passes : List (List Entry)) (had found : List Owner) → AreKeptFrom from lists passes had found → (k : ℕ) → map (λ e. e.index) (get_or lists k []) ≡ range_with_len 1 (length (get_or lists k []))
+kept_indexes : (from : ℕ) (lists : List (List NamedEntry)) (passes : List (List Entry)) (had found : List Owner) → HaveNamedEntries from lists passes had found → (k : ℕ) → map (λ e. e.index) (get_or lists k []) ≡ range_with_len 1 (length (get_or lists k []))
 kept_indexes from [] [] had found are k = refl
 kept_indexes from [] (own ∷ passes) had found are k = absurd are
 kept_indexes from (mine ∷ lists) [] had found are k = absurd are
@@ -56,7 +56,7 @@ flat lists = flat_map (λ (own : List NamedEntry). own) lists
 others_none : (from thread : ℕ) (mine : List NamedEntry) → All (λ e. e.thread ≡ from) mine → (from ≢ thread) → entries_of thread mine ≡ []
 others_none from thread mine own other = filter_none (λ (e : NamedEntry). e.thread == thread) mine (λ i d low. ne_eqb (get_or mine i d).thread thread (λ is. other (sym (own i d low) ∙ is)))
 
-none_before : (from : ℕ) (lists : List (List NamedEntry)) (passes : List (List Entry)) (had found : List Owner) → AreKeptFrom from lists passes had found → (thread : ℕ) → thread < from → entries_of thread (flat lists) ≡ []
+none_before : (from : ℕ) (lists : List (List NamedEntry)) (passes : List (List Entry)) (had found : List Owner) → HaveNamedEntries from lists passes had found → (thread : ℕ) → thread < from → entries_of thread (flat lists) ≡ []
 none_before from [] passes had found are thread low = refl
 none_before from (mine ∷ lists) [] had found are thread low = absurd are
 none_before from (mine ∷ lists) (own ∷ passes) had found are thread low =
@@ -64,7 +64,7 @@ none_before from (mine ∷ lists) (own ∷ passes) had found are thread low =
     ∙ (ap (λ (es : List NamedEntry). es ++ entries_of thread (flat lists)) (others_none from thread mine are.0.own (λ is. omega (arith, is, low)))
     ∙ none_before (suc from) lists passes had found are.1 thread (omega (arith, low)))
 
-kept_own : (from : ℕ) (lists : List (List NamedEntry)) (passes : List (List Entry)) (had found : List Owner) → AreKeptFrom from lists passes had found → (k : ℕ) → entries_of (from + k) (flat lists) ≡ get_or lists k []
+kept_own : (from : ℕ) (lists : List (List NamedEntry)) (passes : List (List Entry)) (had found : List Owner) → HaveNamedEntries from lists passes had found → (k : ℕ) → entries_of (from + k) (flat lists) ≡ get_or lists k []
 kept_own from [] passes had found are k = refl
 kept_own from (mine ∷ lists) [] had found are k = absurd are
 kept_own from (mine ∷ lists) (own ∷ passes) had found are zero =
@@ -81,7 +81,7 @@ kept_own from (mine ∷ lists) (own ∷ passes) had found are (suc k) =
 
 -- ---- the history
 
-module _ (script : ScriptParts) (lists : List (List NamedEntry)) (passes : List (List Entry)) (had found : List Owner) (history : List NamedEntry) (are : AreKeptFrom 0 lists passes had found) (legal : IsLegalFor script history) (moved : IsPermutation (flat_map (λ mine. mine) lists) history) (thread : ℕ) where
+module _ (script : ScriptParts) (lists : List (List NamedEntry)) (passes : List (List Entry)) (had found : List Owner) (history : List NamedEntry) (are : HaveNamedEntries 0 lists passes had found) (legal : IsLegalFor script history) (moved : IsPermutation (flat_map (λ mine. mine) lists) history) (thread : ℕ) where
   abbrev mine : List NamedEntry
   mine = get_or lists thread []
 

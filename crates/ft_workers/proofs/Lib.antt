@@ -1,8 +1,9 @@
-mod Depths
+pub mod Depths
 mod Named
 mod Made
-mod Asked
-mod WorkerLemmas
-mod Between
-mod Entries
-mod Endings
+pub mod Asked
+pub mod WorkerLemmas
+pub mod NextCalls
+pub mod Between
+pub mod Entries
+pub mod Endings

@@ -21,9 +21,9 @@ use Rattle.ft_model.specs.Scripts.{AreNamesOf, AreStringsOfDict, AreStringsOfSet
 use Rattle.ft_model.specs.Worlds.{cursor_at, kinds_of}
 use Rattle.ft_trace.specs.declared.Shape.{Shape}
 use Rattle.ft_trace.specs.Addresses.{containers_in}
-use Rattle.ft_bank.specs.Keys.{IsKeyIn}
+use Rattle.ft_bank.specs.KeyHashes.{IsKeyIn}
 use Rattle.ft_engine.specs.Callers.{IsOfKindIn}
-use Rattle.ft_engine.specs.Names.{AreOfKindIn, IsCallIn, key_of_dict, key_of_set}
+use Rattle.ft_engine.specs.Asked.{AreOfKindIn, IsCallIn, key_of_dict, key_of_set}
 
 if_some_both : {X : Type 0} (P Q : X → Type 0) → ((x : X) → P x → Q x) → (o : Option X) → IfSome o P → IfSome o Q
 if_some_both P Q each None holds = tt

@@ -10,11 +10,11 @@ use Rattle.ft_model.specs.Limits.{most_cursors}
 use Rattle.ft_bank.specs.Passes.{view}
 use Rattle.ft_engine.specs.declared.caller.Caller.{Caller}
 use Rattle.ft_engine.specs.declared.engine.Engine.{Engine}
-use Rattle.ft_engine.specs.Callers.{IsFresh, pass_of}
-use Rattle.ft_engine.specs.Keeping.{IsKept}
+use Rattle.ft_engine.specs.Callers.{IsFreshCaller, pass_of}
+use Rattle.ft_engine.specs.Keeping.{WasAnswered}
 use Rattle.ft_engine.proofs.NewCallers.{new_kept}
 use Rattle.ft_workers.specs.declared.workers.Worker.{Worker}
-use Rattle.ft_workers.specs.Workers.{AreEach, AreFrom, HasTaken, IsMember, IsNew}
+use Rattle.ft_workers.specs.Workers.{AreEach, AreFrom, HasTakenIn, IsMember, IsAtStart}
 
 -- ---- orders
 
@@ -46,20 +46,20 @@ from_each P ws each = all_at P 0 ws (λ thread w low. subst (λ (n : ℕ). P n (
 
 -- ---- a new worker
 
-pub fresh_new : (e : Engine) (script : ScriptParts) (i : ℕ) (w : Worker) → w.entries.items ≡ [] → length (calls_of script i) ≤ vec_capacity w.entries → IsFresh e most_cursors i w.caller → IsNew e script i w
+pub fresh_new : (e : Engine) (script : ScriptParts) (i : ℕ) (w : Worker) → w.entries.items ≡ [] → length (calls_of script i) ≤ vec_capacity w.entries → IsFreshCaller e most_cursors i w.caller → IsAtStart e script i w
 fresh_new e script i w none rows x =
     record {
       member = record { caller = x.caller; thread = x.thread; next = x.next; parts = x.parts; taken = x.taken };
       idle = x.flight;
       cursors = ap length x.hands ∙ length-replicate {A = Option Cursor} most_cursors None;
-      kept = subst (IsKept w.caller) (sym none) (new_kept e most_cursors i w.caller x);
+      kept = subst (WasAnswered w.caller) (sym none) (new_kept e most_cursors i w.caller x);
       made = ap (map (λ (e : NamedEntry). e.call)) none;
       rows = rows;
     }
 
 -- ---- workers that are taken in
 
-pub last_next : (e : Engine) (script : ScriptParts) (c other : Caller) (lists : List (List NamedEntry)) → HasTaken e script c lists → IsMember e (length lists) other → (view (pass_of other)).next ≡ 0
+pub last_next : (e : Engine) (script : ScriptParts) (c other : Caller) (lists : List (List NamedEntry)) → HasTakenIn e script c lists → IsMember e (length lists) other → (view (pass_of other)).next ≡ 0
 last_next e script c other [] taken member = absurd taken.kept
 last_next e script c other (own ∷ lists) taken member = member.next
 

@@ -1,2 +1,2 @@
 pub mod Workers
-pub mod Histories
+pub mod ClosedHistories

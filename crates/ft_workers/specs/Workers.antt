@@ -16,9 +16,9 @@ use Rattle.ft_bank.specs.Passes.{shape_of, view}
 use Rattle.ft_engine.specs.declared.caller.Caller.{Caller}
 use Rattle.ft_engine.specs.declared.engine.Engine.{Engine}
 use Rattle.ft_engine.specs.Callers.{IsCallerOf, IsIdle, bank_of, hands_of, pass_of, taken_of, thread_of}
-use Rattle.ft_closing.specs.Marks.{AreMade}
-use Rattle.ft_engine.specs.Closings.{AreKept, IsDone}
-use Rattle.ft_engine.specs.Keeping.{IsKept}
+use Rattle.ft_closing.specs.Marks.{HaveScriptCalls}
+use Rattle.ft_engine.specs.DoneCallers.{WereAnswered, IsCallerDone}
+use Rattle.ft_engine.specs.Keeping.{WasAnswered}
 use Rattle.ft_workers.specs.declared.workers.Worker.{Worker}
 
 -- ---- the bank
@@ -58,13 +58,13 @@ pub record IsBetween (e : Engine) (i : ℕ) (calls : List Call) (count : ℕ) (w
   pub member : IsMember e i w.caller
   pub idle : IsIdle w.caller
   pub cursors : length (hands_of w.caller) ≡ most_cursors
-  pub kept : IsKept w.caller w.entries.items
+  pub kept : WasAnswered w.caller w.entries.items
   pub made : map (λ entry. entry.call) w.entries.items ≡ take count calls
   pub rows : length calls ≤ vec_capacity w.entries
 
 -- it has made none of its thread's calls
-abbrev pub IsNew : Engine → ScriptParts → ℕ → Worker → Type 0
-IsNew e script i w = IsBetween e i (calls_of script i) 0 w
+abbrev pub IsAtStart : Engine → ScriptParts → ℕ → Worker → Type 0
+IsAtStart e script i w = IsBetween e i (calls_of script i) 0 w
 
 -- it is online besides
 abbrev pub IsOnline : Engine → ℕ → List Call → ℕ → Worker → Type 0
@@ -73,8 +73,8 @@ IsOnline e i calls count w = IsBetween e i calls count w × (0 < announces (view
 -- where the worker is done, it has made just the calls of its thread, and has the entry of each
 pub record HasWorked (e : Engine) (script : ScriptParts) (i : ℕ) (w : Worker) : Type 0 where
   pub member : IsMember e i w.caller
-  pub done : IsTrue w.done → IsDone w.caller
-  pub kept : IsTrue w.done → IsKept w.caller w.entries.items
+  pub done : IsTrue w.done → IsCallerDone w.caller
+  pub kept : IsTrue w.done → WasAnswered w.caller w.entries.items
   pub made : IsTrue w.done → map (λ entry. entry.call) w.entries.items ≡ calls_of script i
 
 -- ---- orders
@@ -90,10 +90,10 @@ AreFrom P thread (w ∷ workers) = P thread w × AreFrom P (suc thread) workers
 
 -- caller 0 is done and has taken in the callers of the threads after it; these are the lists of all of them, and each
 -- has just the calls of its thread
-pub record HasTaken (e : Engine) (script : ScriptParts) (c : Caller) (lists : List (List Entry)) : Type 0 where
+pub record HasTakenIn (e : Engine) (script : ScriptParts) (c : Caller) (lists : List (List Entry)) : Type 0 where
   pub caller : IsCallerOf e c
-  pub done : IsDone c
+  pub done : IsCallerDone c
   pub thread : thread_of c ≡ 0
   pub parts : (view (pass_of c)).parts ≡ length lists
-  pub kept : AreKept c lists
-  pub made : AreMade script lists
+  pub kept : WereAnswered c lists
+  pub made : HaveScriptCalls script lists

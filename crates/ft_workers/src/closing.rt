@@ -3,9 +3,9 @@ ghost use Rattle.std.specs.Prelude.{◌≡◌, ◌+◌, OnOk, IfOk, length, map}
 ghost use Rattle.ft_bank.specs.Closings.{shape_in};
 ghost use Rattle.ft_bank.specs.Passes.{shape_of};
 ghost use Rattle.ft_engine.specs.Callers.{bank_of};
-ghost use Rattle.ft_engine.specs.Closings.{IsLegalFor};
-ghost use Rattle.ft_workers.specs.Histories.{HasEntriesOf};
-ghost use Rattle.ft_workers.specs.Workers.{AreFrom, HasTaken, HasWorked, IsBankFor};
+ghost use Rattle.ft_engine.specs.DoneCallers.{IsLegalFor};
+ghost use Rattle.ft_workers.specs.ClosedHistories.{HasEntriesOf};
+ghost use Rattle.ft_workers.specs.Workers.{AreFrom, HasTakenIn, HasWorked, IsBankFor};
 
 use crate::running::Ran;
 use crate::workers::Worker;
@@ -22,9 +22,9 @@ fn take_in(
     lists: &mut Vec<Vec<Entry>>,
     worker: Worker,
 ) -> Result<(), AllocError>
-    requires taken { HasTaken engine.now script.now caller.old (map (λ list. list.items) lists.old.items) }
+    requires taken { HasTakenIn engine.now script.now caller.old (map (λ list. list.items) lists.old.items) }
     requires worker { HasWorked engine.now script.now (length lists.old.items) worker }
-    ensures taken { OnOk result (HasTaken engine.now script.now caller.new (map (λ list. list.items) lists.new.items)) }
+    ensures taken { OnOk result (HasTakenIn engine.now script.now caller.new (map (λ list. list.items) lists.new.items)) }
     ensures count { OnOk result (length lists.new.items ≡ length lists.old.items + 1) }
 {
     let _ = script;

@@ -12,3 +12,4 @@ mod working;
 
 pub use crate::gate::{Gate, NoGate};
 pub use crate::running::{Ran, run_workers};
+pub use crate::shape::shape_for;

@@ -1,8 +1,8 @@
 //! A script from its start to its end: its threads at work beside each other, and then one history.
 ghost use Rattle.std.specs.Prelude.{IfOk};
 ghost use Rattle.ft_bank.specs.Closings.{shape_in};
-ghost use Rattle.ft_engine.specs.Closings.{IsLegalFor};
-ghost use Rattle.ft_workers.specs.Histories.{HasEntriesOf};
+ghost use Rattle.ft_engine.specs.DoneCallers.{IsLegalFor};
+ghost use Rattle.ft_workers.specs.ClosedHistories.{HasEntriesOf};
 ghost use Rattle.ft_workers.specs.Workers.{IsBankFor};
 
 use crate::closing::close_all;

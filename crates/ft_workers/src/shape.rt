@@ -46,7 +46,7 @@ fn tables(alloc: Global, counts: &[u32]) -> Result<Vec<u32>, AllocError>
 
 /// The shape of the script's bank: a pass for each thread, one at least, and for each as many calls as a script has at
 /// most.
-pub(crate) fn shape_for(alloc: Global, script: &Script) -> Result<Shape, AllocError>
+pub fn shape_for(alloc: Global, script: &Script) -> Result<Shape, AllocError>
     ensures shape { IfOk result (λ shape. IsShape shape) }
     ensures bank { IfOk result (λ shape. IsBankFor script.now (plan shape)) }
 {

@@ -1,10 +1,10 @@
 //! The engine of a script, with a worker for each thread.
 ghost use Rattle.std.specs.Prelude.{◌≡◌, ◌≤◌, [], IfOk, length, vec_capacity};
 ghost use Rattle.ft_bank.specs.Passes.{shape_of};
-ghost use Rattle.ft_engine.specs.Callers.{AreFresh, bank_of};
+ghost use Rattle.ft_engine.specs.Callers.{AreFreshCallers, bank_of};
 ghost use Rattle.ft_model.specs.Histories.{calls_of};
 ghost use Rattle.ft_model.specs.Limits.{most_cursors};
-ghost use Rattle.ft_workers.specs.Workers.{AreFrom, IsBankFor, IsNew};
+ghost use Rattle.ft_workers.specs.Workers.{AreFrom, IsBankFor, IsAtStart};
 
 use crate::shape::shape_for;
 use crate::workers::Worker;
@@ -42,8 +42,8 @@ fn hire(
     script: &Script,
     callers: Vec<Caller>,
 ) -> Result<Vec<Worker>, AllocError>
-    requires callers { AreFresh engine.now most_cursors 0 callers.items }
-    ensures workers { IfOk result (λ workers. AreFrom (IsNew engine.now script.now) 0 workers.items) }
+    requires callers { AreFreshCallers engine.now most_cursors 0 callers.items }
+    ensures workers { IfOk result (λ workers. AreFrom (IsAtStart engine.now script.now) 0 workers.items) }
     ensures count { IfOk result (λ workers. length workers.items ≡ length callers.items) }
 {
     let _ = engine;
@@ -59,7 +59,7 @@ fn hire(
 /// The engine of a script, and a worker for each of its threads, one at least.
 pub(crate) fn start(alloc: Global, script: &Script) -> Result<(Engine, Vec<Worker>), AllocError>
     ensures bank { IfOk result (λ made. IsBankFor script.now (shape_of (bank_of made.0))) }
-    ensures workers { IfOk result (λ made. AreFrom (IsNew made.0 script.now) 0 made.1.items) }
+    ensures workers { IfOk result (λ made. AreFrom (IsAtStart made.0 script.now) 0 made.1.items) }
     ensures count { IfOk result (λ made. length made.1.items ≡ (shape_of (bank_of made.0)).passes) }
 {
     let shape = shape_for(alloc, script)?;

@@ -3,7 +3,7 @@ ghost use Rattle.std.specs.Prelude.{◌≡◌, ◌+◌, ◌<◌, IsTrue, length}
 ghost use Rattle.ft_bank.specs.Passes.{shape_of};
 ghost use Rattle.ft_engine.specs.Callers.{bank_of};
 ghost use Rattle.ft_model.specs.Histories.{calls_of};
-ghost use Rattle.ft_workers.specs.Workers.{AreCallsOn, AreEach, HasWorked, IsBankFor, IsMember, IsNew, IsOnline};
+ghost use Rattle.ft_workers.specs.Workers.{AreCallsOn, AreEach, HasWorked, IsBankFor, IsMember, IsAtStart, IsOnline};
 
 use crate::gate::Gate;
 use crate::workers::Worker;
@@ -119,7 +119,7 @@ fn work<R: Wait, G: Gate>(
     worker: &mut Worker,
 )
     requires bank { IsBankFor script.now (shape_of (bank_of engine.now)) }
-    requires worker { IsNew engine.now script.now thread worker.old }
+    requires worker { IsAtStart engine.now script.now thread worker.old }
     ensures { HasWorked engine.now script.now thread worker.new }
 {
     // Named so that the check sees the script's rule.
@@ -145,7 +145,7 @@ pub(crate) fn work_all<R: Threads + Wait + Sync, G: Gate>(
     workers: &mut [Worker],
 )
     requires bank { IsBankFor script.now (shape_of (bank_of engine.now)) }
-    requires workers { AreEach (IsNew engine.now script.now) workers.old }
+    requires workers { AreEach (IsAtStart engine.now script.now) workers.old }
     ensures count { length workers.new ≡ length workers.old }
     ensures workers { AreEach (HasWorked engine.now script.now) workers.new }
 {
@@ -155,7 +155,7 @@ pub(crate) fn work_all<R: Threads + Wait + Sync, G: Gate>(
     }
     let each = |thread: usize, worker: &mut Worker|
         requires { IsBankFor script.now (shape_of (bank_of engine.now))
-            × IsNew engine.now script.now thread worker.now }
+            × IsAtStart engine.now script.now thread worker.now }
         ensures { HasWorked engine.entry.now script.entry.now thread worker.exit.now }
     {
         work(rt, engine, alloc, gate, script, thread, worker);

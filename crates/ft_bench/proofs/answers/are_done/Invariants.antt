@@ -1,5 +1,5 @@
-use Rattle.ft_bench.specs.Workers.{IsReady}
+use Rattle.ft_bench.specs.Threads.{IsReadyCaller}
 use Rattle.ft_bench.proofs.answers.are_done.Given as goal
 
 abbrev pub invariant-loop-call : goal.invariant-loop-call
-invariant-loop-call g l = IsReady l.engine l.caller
+invariant-loop-call g l = IsReadyCaller l.engine l.caller

@@ -1,6 +1,6 @@
 use Rattle.std.specs.Vec.Iter.{into_iter_items}
-use Rattle.ft_bench.specs.Workers.{AreFree, AreReady}
+use Rattle.ft_bench.specs.Threads.{AreFreeCallers, AreReadyCallers}
 use Rattle.ft_bench.proofs.script.enter_all.Given as goal
 
 abbrev pub invariant-loop-caller : goal.invariant-loop-caller
-invariant-loop-caller l = AreFree l.engine (into_iter_items l.caller-iterator) × AreReady l.engine l.ready.items
+invariant-loop-caller l = AreFreeCallers l.engine (into_iter_items l.caller-iterator) × AreReadyCallers l.engine l.ready.items

@@ -2,17 +2,17 @@ use Rattle.std.proofs.Common.{◌∙◌, ap, refl, sym, subst}
 use Rattle.ft_model.specs.declared.call.Call.{Call}
 use Rattle.ft_model.specs.declared.call.Call.TheVariants as call
 use Rattle.ft_bank.specs.Passes.{shape_of, view}
-use Rattle.ft_engine.specs.Answering.{HasLooked, IsTryOf, MayMake}
+use Rattle.ft_engine.specs.Answering.{HasLooked, IsTryOfCall, MayTryCall}
 use Rattle.ft_engine.specs.Contentions.{may_look}
 use Rattle.ft_engine.specs.Flights.{objects_of}
-use Rattle.ft_engine.specs.Names.{IsCallIn}
+use Rattle.ft_engine.specs.Asked.{IsCallIn}
 use Rattle.ft_engine.proofs.Callers.{hands_stay, leaves_same}
 use Rattle.ft_engine.proofs.LookFirst.{locked_looked}
 use Rattle.ft_engine.proofs.answering.make.Goals as goal
 
 pub returns-in-Begin-clause-tried : goal.returns-in-Begin-clause-tried
 returns-in-Begin-clause-tried c =
-    subst (λ (x : Call). IsTryOf c.args.bank.now c.args.cursors.now.items x c.args.pass.now c.begin.new.pass c.begin.result) (sym c.in-Begin.is) (c.begin.ensures c.args.cursors.now.items)
+    subst (λ (x : Call). IsTryOfCall c.args.bank.now c.args.cursors.now.items x c.args.pass.now c.begin.new.pass c.begin.result) (sym c.in-Begin.is) (c.begin.ensures c.args.cursors.now.items)
 
 pub returns-in-Begin-clause-hands : goal.returns-in-Begin-clause-hands
 returns-in-Begin-clause-hands c =
@@ -20,7 +20,7 @@ returns-in-Begin-clause-hands c =
 
 pub returns-in-End-clause-tried : goal.returns-in-End-clause-tried
 returns-in-End-clause-tried c =
-    subst (λ (x : Call). IsTryOf c.args.bank.now c.args.cursors.now.items x c.args.pass.now c.end.new.pass c.end.result) (sym c.in-End.is) (c.end.ensures c.args.cursors.now.items)
+    subst (λ (x : Call). IsTryOfCall c.args.bank.now c.args.cursors.now.items x c.args.pass.now c.end.new.pass c.end.result) (sym c.in-End.is) (c.end.ensures c.args.cursors.now.items)
 
 pub returns-in-End-clause-hands : goal.returns-in-End-clause-hands
 returns-in-End-clause-hands c =
@@ -28,7 +28,7 @@ returns-in-End-clause-hands c =
 
 pub returns-in-Quiesce-clause-tried : goal.returns-in-Quiesce-clause-tried
 returns-in-Quiesce-clause-tried c =
-    subst (λ (x : Call). IsTryOf c.args.bank.now c.args.cursors.now.items x c.args.pass.now c.quiesce.new.pass c.quiesce.result) (sym c.in-Quiesce.is) (c.quiesce.ensures c.args.cursors.now.items)
+    subst (λ (x : Call). IsTryOfCall c.args.bank.now c.args.cursors.now.items x c.args.pass.now c.quiesce.new.pass c.quiesce.result) (sym c.in-Quiesce.is) (c.quiesce.ensures c.args.cursors.now.items)
 
 pub returns-in-Quiesce-clause-hands : goal.returns-in-Quiesce-clause-hands
 returns-in-Quiesce-clause-hands c =
@@ -44,25 +44,25 @@ pub returns-in-Quiesce-clause-stays : goal.returns-in-Quiesce-clause-stays
 returns-in-Quiesce-clause-stays c = leaves_same c.quiesce.result c.args.cursors.now.items
 
 pub make_dict-requires-clause-may : goal.make_dict-requires-clause-may
-make_dict-requires-clause-may c = subst (MayMake c.args.bank.now c.args.pass.now c.args.cursors.now.items) c.in-Dict.is c.requires.may
+make_dict-requires-clause-may c = subst (MayTryCall c.args.bank.now c.args.pass.now c.args.cursors.now.items) c.in-Dict.is c.requires.may
 
 pub returns-in-Dict-clause-tried : goal.returns-in-Dict-clause-tried
 returns-in-Dict-clause-tried c =
-    subst (λ (x : Call). IsTryOf c.args.bank.now c.args.cursors.now.items x c.args.pass.now c.make_dict.new.pass c.make_dict.result) (sym c.in-Dict.is) c.make_dict.ensures.tried
+    subst (λ (x : Call). IsTryOfCall c.args.bank.now c.args.cursors.now.items x c.args.pass.now c.make_dict.new.pass c.make_dict.result) (sym c.in-Dict.is) c.make_dict.ensures.tried
 
 pub make_list-requires-clause-may : goal.make_list-requires-clause-may
-make_list-requires-clause-may c = subst (MayMake c.args.bank.now c.args.pass.now c.args.cursors.now.items) c.in-List.is c.requires.may
+make_list-requires-clause-may c = subst (MayTryCall c.args.bank.now c.args.pass.now c.args.cursors.now.items) c.in-List.is c.requires.may
 
 pub returns-in-List-clause-tried : goal.returns-in-List-clause-tried
 returns-in-List-clause-tried c =
-    subst (λ (x : Call). IsTryOf c.args.bank.now c.args.cursors.now.items x c.args.pass.now c.make_list.new.pass c.make_list.result) (sym c.in-List.is) c.make_list.ensures.tried
+    subst (λ (x : Call). IsTryOfCall c.args.bank.now c.args.cursors.now.items x c.args.pass.now c.make_list.new.pass c.make_list.result) (sym c.in-List.is) c.make_list.ensures.tried
 
 pub make_set-requires-clause-may : goal.make_set-requires-clause-may
-make_set-requires-clause-may c = subst (MayMake c.args.bank.now c.args.pass.now c.args.cursors.now.items) c.in-Set.is c.requires.may
+make_set-requires-clause-may c = subst (MayTryCall c.args.bank.now c.args.pass.now c.args.cursors.now.items) c.in-Set.is c.requires.may
 
 pub returns-in-Set-clause-tried : goal.returns-in-Set-clause-tried
 returns-in-Set-clause-tried c =
-    subst (λ (x : Call). IsTryOf c.args.bank.now c.args.cursors.now.items x c.args.pass.now c.make_set.new.pass c.make_set.result) (sym c.in-Set.is) c.make_set.ensures.tried
+    subst (λ (x : Call). IsTryOfCall c.args.bank.now c.args.cursors.now.items x c.args.pass.now c.make_set.new.pass c.make_set.result) (sym c.in-Set.is) c.make_set.ensures.tried
 
 pub next-requires-clause-may : goal.next-requires-clause-may
 next-requires-clause-may c objects is = c.requires.may.tries objects (ap (objects_of c.args.cursors.now.items) c.in-Next.is ∙ is)
@@ -75,7 +75,7 @@ next-requires-clause-made c = (subst (IsCallIn (shape_of c.args.bank.now) c.args
 
 pub returns-in-Next-clause-tried : goal.returns-in-Next-clause-tried
 returns-in-Next-clause-tried c =
-    subst (λ (x : Call). IsTryOf c.args.bank.now c.args.cursors.now.items x c.args.pass.now c.next.new.pass c.next.result) (sym c.in-Next.is) c.next.ensures.tried
+    subst (λ (x : Call). IsTryOfCall c.args.bank.now c.args.cursors.now.items x c.args.pass.now c.next.new.pass c.next.result) (sym c.in-Next.is) c.next.ensures.tried
 
 pub returns-in-Begin-clause-looked : goal.returns-in-Begin-clause-looked
 returns-in-Begin-clause-looked c = locked_looked c.args.call.now c.begin.result (view c.args.pass.now) (view c.begin.new.pass) (ap may_look c.in-Begin.is)

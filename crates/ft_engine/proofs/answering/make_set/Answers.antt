@@ -4,10 +4,10 @@ use Rattle.ft_model.specs.declared.call.SetCall.{SetCall}
 use Rattle.ft_model.specs.Calls.{other_set}
 use Rattle.ft_bank.specs.Passes.{shape_of, view}
 use Rattle.ft_section.specs.declared.answers.Objects.TheVariants.{One}
-use Rattle.ft_engine.specs.Answering.{IsTryOf}
+use Rattle.ft_engine.specs.Answering.{IsTryOfCall}
 use Rattle.ft_engine.specs.Contentions.{may_look}
 use Rattle.ft_engine.specs.Flights.{objects_by, objects_of}
-use Rattle.ft_engine.specs.Names.{HasRoomFor}
+use Rattle.ft_engine.specs.Asked.{HasRoomFor}
 use Rattle.ft_engine.proofs.Callers.{hands_stay, leaves_same}
 use Rattle.ft_engine.proofs.IterCalls.{iter_set}
 use Rattle.ft_engine.proofs.LookFirst.{locked_looked}
@@ -21,7 +21,7 @@ iter-requires-clause-room c = subst (HasRoomFor c.args.cursors.now.items) (sym c
 
 pub returns-in-Some-clause-tried : goal.returns-in-Some-clause-tried
 returns-in-Some-clause-tried c =
-    subst (λ (z : SetCall). IsTryOf c.args.bank.now c.args.cursors.now.items (call.Set c.args.s z) c.args.pass.now c.iter.new.pass c.iter.result) (sym (iter_set c.args.call.now c.in-Some.number (sym c.in-Some.ensures))) c.iter.ensures.tried
+    subst (λ (z : SetCall). IsTryOfCall c.args.bank.now c.args.cursors.now.items (call.Set c.args.s z) c.args.pass.now c.iter.new.pass c.iter.result) (sym (iter_set c.args.call.now c.in-Some.number (sym c.in-Some.ensures))) c.iter.ensures.tried
 
 pub call_set-requires-clause-may : goal.call_set-requires-clause-may
 call_set-requires-clause-may c = c.requires.may.tries (objects_by c.args.s (other_set c.args.call.now)) refl

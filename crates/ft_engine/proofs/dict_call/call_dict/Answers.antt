@@ -6,6 +6,7 @@ use Rattle.ft_engine.specs.Flights.{objects_by}
 use Rattle.ft_engine.proofs.KeyedCalls.{plain_dict}
 use Rattle.ft_engine.proofs.Looking.{looked_left, looked_making, looked_may, looked_then, looked_tried}
 use Rattle.ft_engine.proofs.LookFirst.{contended_looked, none_looked, settled_looked}
+use Rattle.ft_engine.proofs.Uncontended.{dict_stands}
 use Rattle.ft_engine.proofs.dict_call.call_dict.Goals as goal
 
 pub settle-requires : goal.settle-requires
@@ -43,5 +44,6 @@ returns-in-Some-clause-looked c =
 pub returns-in-None-clause-looked : goal.returns-in-None-clause-looked
 returns-in-None-clause-looked c =
     let e = c.look_dict-look.ensures in
-    contended_looked c.args.bank.now [] (call.Dict c.args.d c.args.call.now) c.args.pass.now c.look_dict-look.new.pass c.settle.new.pass c.try_dict.new.pass c.look_dict-look.result c.try_dict.result (sym c.in-None.ensures.answer) e.looked
+    contended_looked c.args.bank.now [] (call.Dict c.args.d c.args.call.now) c.args.pass.now c.look_dict-look.new.pass c.settle.new.pass c.try_dict.new.pass c.look_dict-look.result c.try_dict.result
+    (dict_stands c.args.bank.now c.args.pass.now c.look_dict-look.new.pass c.args.d c.args.call.now (objects_by c.args.d (other_dict c.args.call.now)) c.look_dict-look.result c.requires.names c.requires.may e.looked e.pass.1) (sym c.in-None.ensures.answer) e.looked
     (none_looked (call.Dict c.args.d c.args.call.now) c.look_dict-look.result e.made) c.in-None.ensures.none (c.try_dict.ensures [])

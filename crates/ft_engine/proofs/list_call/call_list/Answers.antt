@@ -6,6 +6,7 @@ use Rattle.ft_engine.specs.Flights.{objects_by}
 use Rattle.ft_engine.proofs.ListCalls.{plain_list}
 use Rattle.ft_engine.proofs.Looking.{looked_left, looked_making, looked_may, looked_then, looked_tried}
 use Rattle.ft_engine.proofs.LookFirst.{contended_looked, none_looked, settled_looked}
+use Rattle.ft_engine.proofs.Uncontended.{list_stands}
 use Rattle.ft_engine.proofs.list_call.call_list.Goals as goal
 
 pub settle-requires : goal.settle-requires
@@ -43,5 +44,6 @@ returns-in-Some-clause-looked c =
 pub returns-in-None-clause-looked : goal.returns-in-None-clause-looked
 returns-in-None-clause-looked c =
     let e = c.look_list-look.ensures in
-    contended_looked c.args.bank.now [] (call.List c.args.l c.args.call.now) c.args.pass.now c.look_list-look.new.pass c.settle.new.pass c.try_list.new.pass c.look_list-look.result c.try_list.result (sym c.in-None.ensures.answer) e.looked
+    contended_looked c.args.bank.now [] (call.List c.args.l c.args.call.now) c.args.pass.now c.look_list-look.new.pass c.settle.new.pass c.try_list.new.pass c.look_list-look.result c.try_list.result
+    (list_stands c.args.bank.now c.args.pass.now c.look_list-look.new.pass c.args.l c.args.call.now (objects_by c.args.l (other_list c.args.call.now)) c.look_list-look.result c.requires.names c.requires.may e.looked e.pass.1) (sym c.in-None.ensures.answer) e.looked
     (none_looked (call.List c.args.l c.args.call.now) c.look_list-look.result e.made) c.in-None.ensures.none (c.try_list.ensures [])

@@ -7,7 +7,7 @@ use Rattle.ft_section.specs.declared.answers.Objects.{Objects}
 use Rattle.ft_section.specs.declared.answers.Got.TheVariants as got
 use Rattle.ft_section.specs.Floors.{KnewOwners, first_owned}
 use Rattle.ft_section.specs.Locking.{LocksWithin}
-use Rattle.ft_section.specs.Takings.{IsOf, lower_of, upper_of}
+use Rattle.ft_section.specs.LockTakings.{IsOf, lower_of, upper_of}
 use Rattle.ft_section.specs.Trying.{WaitsFor}
 use Rattle.ft_section.proofs.Floors.{entered_had}
 use Rattle.ft_engine.specs.Flights.{objects_by}

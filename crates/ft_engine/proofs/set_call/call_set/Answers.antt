@@ -6,6 +6,7 @@ use Rattle.ft_engine.specs.Flights.{objects_by}
 use Rattle.ft_engine.proofs.KeyedCalls.{plain_set}
 use Rattle.ft_engine.proofs.Looking.{looked_left, looked_making, looked_may, looked_then, looked_tried}
 use Rattle.ft_engine.proofs.LookFirst.{contended_looked, none_looked, settled_looked}
+use Rattle.ft_engine.proofs.Uncontended.{set_stands}
 use Rattle.ft_engine.proofs.set_call.call_set.Goals as goal
 
 pub settle-requires : goal.settle-requires
@@ -43,5 +44,6 @@ returns-in-Some-clause-looked c =
 pub returns-in-None-clause-looked : goal.returns-in-None-clause-looked
 returns-in-None-clause-looked c =
     let e = c.look_set-look.ensures in
-    contended_looked c.args.bank.now [] (call.Set c.args.s c.args.call.now) c.args.pass.now c.look_set-look.new.pass c.settle.new.pass c.try_set_call.new.pass c.look_set-look.result c.try_set_call.result (sym c.in-None.ensures.answer) e.looked
+    contended_looked c.args.bank.now [] (call.Set c.args.s c.args.call.now) c.args.pass.now c.look_set-look.new.pass c.settle.new.pass c.try_set_call.new.pass c.look_set-look.result c.try_set_call.result
+    (set_stands c.args.bank.now c.args.pass.now c.look_set-look.new.pass c.args.s c.args.call.now (objects_by c.args.s (other_set c.args.call.now)) c.look_set-look.result c.requires.names c.requires.may e.looked e.pass.1) (sym c.in-None.ensures.answer) e.looked
     (none_looked (call.Set c.args.s c.args.call.now) c.look_set-look.result e.made) c.in-None.ensures.none (c.try_set_call.ensures [])

@@ -3,7 +3,7 @@ use Rattle.std.proofs.Common.{◌≡◌, ℕ, ◌++◌, [], ◌∷◌, map, sym,
 use Rattle.std.specs.Prelude.{IsTrue, Vec}
 use Rattle.std.proofs.lemmas.List.{length-map, map-append}
 use Rattle.ft_model.specs.declared.entry.Entry.{Entry}
-use Rattle.ft_workers.specs.Workers.{HasTaken, HasWorked}
+use Rattle.ft_workers.specs.Workers.{HasTakenIn, HasWorked}
 use Rattle.ft_workers.proofs.Endings.{next_taken}
 use Rattle.ft_workers.proofs.WorkerLemmas.{not_not}
 use Rattle.ft_workers.proofs.closing.take_in.Goals as goal
@@ -20,5 +20,5 @@ returns-clause-taken c =
     let same : map items c.push.new.self.items ≡ map items before ++ w.entries.items ∷ [] = ap (map items) c.in_ok-push.ensures.items ∙ map-append items before (w.entries ∷ []) in
     let worked = subst (λ (n : ℕ). HasWorked e script n w) (sym (length-map before items)) c.requires.worker in
     let done : IsTrue w.done = not_not w.done c.if-not-worker.false in
-    subst (HasTaken e script d) (sym same)
+    subst (HasTakenIn e script d) (sym same)
     (next_taken e script c.args.caller.now d w (map items before) c.requires.taken worked done x.caller x.thread x.idle x.announced x.sections x.parts x.kept)

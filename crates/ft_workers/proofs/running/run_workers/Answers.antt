@@ -1,6 +1,6 @@
 use Rattle.std.proofs.Common.{◌≡◌, ◌++◌, length, take, drop, ◌∙◌, subst, sym}
 use Rattle.std.proofs.lemmas.List.{with_items_is}
-use Rattle.ft_workers.specs.Workers.{AreFrom, HasWorked, IsNew}
+use Rattle.ft_workers.specs.Workers.{AreFrom, HasWorked, IsAtStart}
 use Rattle.ft_workers.proofs.WorkerLemmas.{each_from, from_each}
 use Rattle.ft_workers.proofs.running.run_workers.Goals as goal
 
@@ -8,7 +8,7 @@ pub work_all-requires-clause-workers : goal.work_all-requires-clause-workers
 work_all-requires-clause-workers g c κs within =
     let e = c.in_ok-engine.engine in
     let script = c.args.script.now in
-    each_from (IsNew e script) c.as_mut_slice.result.now (subst (AreFrom (IsNew e script) 0) (sym c.as_mut_slice.ensures.value) c.in_ok-engine.ensures.workers)
+    each_from (IsAtStart e script) c.as_mut_slice.result.now (subst (AreFrom (IsAtStart e script) 0) (sym c.as_mut_slice.ensures.value) c.in_ok-engine.ensures.workers)
 
 pub close_all-requires-clause-workers : goal.close_all-requires-clause-workers
 close_all-requires-clause-workers g c =

@@ -7,10 +7,10 @@ use Rattle.ft_model.specs.declared.call.DictCall.TheVariants as dict
 use Rattle.ft_model.specs.declared.data.Key.TheVariants as key
 use Rattle.ft_model.specs.declared.entry.Entry.{Entry}
 use Rattle.ft_engine.specs.declared.calling.Called.{Called}
-use Rattle.ft_engine.specs.Attempts.{flight_after, kept_after}
+use Rattle.ft_engine.specs.Attempts.{flight_after, entries_with_answer}
 use Rattle.ft_engine.specs.Callers.{flight_of, thread_of}
 use Rattle.ft_engine.specs.Calling.{last_of}
-use Rattle.ft_engine.specs.Keeping.{IsKept}
+use Rattle.ft_engine.specs.Keeping.{WasAnswered}
 use Rattle.ft_workers.specs.declared.workers.Worker.{Worker}
 use Rattle.ft_workers.proofs.Between.{answered, may}
 use Rattle.ft_workers.proofs.working.make.Goals as goal
@@ -34,5 +34,5 @@ returns-clause-made g c went =
     (slice_get-get_or calls c.args.place none c.requires.place)
     c.call.ensures.caller c.call.ensures.same
     (subst (λ (a : Called). flight_after called (last_of a) (flight_of d)) c.in-Done.is c.call.ensures.flight)
-    (subst (λ (a : Called). IsKept d (kept_after thread called (last_of a) w.entries.items)) c.in-Done.is (c.call.ensures.kept w.entries.items c.requires.worker.0.kept))
+    (subst (λ (a : Called). WasAnswered d (entries_with_answer thread called (last_of a) w.entries.items)) c.in-Done.is (c.call.ensures.kept w.entries.items c.requires.worker.0.kept))
     (row c.thread-number.result) (ap row c.thread-number.ensures) c.push_reserved.ensures.items c.push_reserved.ensures.capacity

@@ -4,11 +4,13 @@ use Rattle.ft_bank.specs.Passes.{view}
 use Rattle.ft_bank.specs.Sections.{stack_of}
 use Rattle.ft_engine.specs.declared.caller.Caller.{Caller}
 use Rattle.ft_engine.specs.Answering.{IsLooked}
-use Rattle.ft_engine.specs.Attempts.{StaysCaller, kept_looked}
+use Rattle.ft_engine.specs.Attempts.{StaysCaller, entries_with_look}
 use Rattle.ft_engine.specs.Callers.{IsCallerOf, flight_of, pass_of, thread_of}
-use Rattle.ft_engine.specs.Keeping.{IsKept}
+use Rattle.ft_engine.specs.Keeping.{WasAnswered}
 use Rattle.ft_engine.proofs.Keeping.{no_answer_idle}
 use Rattle.ft_engine.proofs.LookCalls.{after_caller, after_flight, after_kept, after_pass, after_same}
+use Rattle.ft_engine.proofs.AtRest.{still_of}
+use Rattle.ft_engine.proofs.Uncontended.{look_stands}
 use Rattle.ft_engine.proofs.engine.Engine.look.Goals as goal
 use Rattle.ft_engine.proofs.engine.Engine.look.Goals.{After-take_look}
 
@@ -58,9 +60,14 @@ returns-clause-sections c = ap stack_of (the_pass c) ∙ c.in-Some.ensures.secti
 
 pub returns-clause-kept : goal.returns-clause-kept
 returns-clause-kept c mine kept =
-    subst (λ (x : Caller). IsKept x (kept_looked (thread_of c.args.caller.now) c.args.call.now c.in-Some.look mine)) (sym c.take_look.ensures)
+    subst (λ (x : Caller). WasAnswered x (entries_with_look (thread_of c.args.caller.now) c.args.call.now c.in-Some.look mine)) (sym c.take_look.ensures)
     (after_kept c.args.self.now c.args.caller.now c.look_call.new.pass c.args.call.now c.requires.caller c.requires.idle (some_left c) c.requires.looks c.in-Some.ensures.pass c.in-Some.ensures.sections c.in-Some.look mine c.in-Some.ensures.looked kept)
 
 pub returns-clause-looked : goal.returns-clause-looked
 returns-clause-looked c =
     subst (λ (p : Pass). IsLooked c.args.call.now (view (pass_of c.args.caller.now)) (view p) c.in-Some.look) (sym (the_pass c)) c.in-Some.ensures.looked
+
+pub returns-clause-floor : goal.returns-clause-floor
+returns-clause-floor c has =
+    look_stands c.args.self.now.bank c.args.caller.now.pass c.look_call.new.pass c.args.caller.now.cursors.items c.args.call.now c.in-Some.look
+    (c.requires.may.names (no_answer_idle c.args.caller.now.flight c.requires.idle)) (still_of c.args.self.now c.args.caller.now c.requires.caller).even c.in-Some.ensures.pass.1 c.in-Some.ensures.looked has

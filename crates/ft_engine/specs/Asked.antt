@@ -14,7 +14,7 @@ use Rattle.ft_model.specs.Calls.{cursor_of_dict, cursor_of_list, cursor_of_set, 
 use Rattle.ft_model.specs.Worlds.{cursor_at}
 use Rattle.ft_trace.specs.declared.Shape.{Shape}
 use Rattle.ft_trace.specs.Addresses.{containers_in}
-use Rattle.ft_bank.specs.Keys.{IsKeyIn}
+use Rattle.ft_bank.specs.KeyHashes.{IsKeyIn}
 use Rattle.ft_bank.specs.Sections.{Stack}
 use Rattle.ft_engine.specs.Callers.{IsOfKindIn}
 
@@ -65,16 +65,16 @@ key_of_set set.Clear = None
 key_of_set (set.Iter cursor) = None
 
 -- a key that a call names is an integer, or a string of the bank
-abbrev pub HasKey : Shape → Option Key → Type 0
-HasKey k key = IfSome key (λ named. IsKeyIn k named)
+abbrev pub HasKeyIn : Shape → Option Key → Type 0
+HasKeyIn k key = IfSome key (λ named. IsKeyIn k named)
 
 -- the containers, cursors and strings that a call names are there (profile)
 abbrev pub IsCallIn : Shape → List (Option Cursor) → Call → Type 0
 IsCallIn k hands (call.Dict o dc) =
-    AreOfKindIn k kind.Dict o (other_dict dc) × HasRoomFor hands (cursor_of_dict dc) × HasKey k (key_of_dict dc)
+    AreOfKindIn k kind.Dict o (other_dict dc) × HasRoomFor hands (cursor_of_dict dc) × HasKeyIn k (key_of_dict dc)
 IsCallIn k hands (call.List o lc) = AreOfKindIn k kind.List o (other_list lc) × HasRoomFor hands (cursor_of_list lc)
 IsCallIn k hands (call.Set o sc) =
-    AreOfKindIn k kind.Set o (other_set sc) × HasRoomFor hands (cursor_of_set sc) × HasKey k (key_of_set sc)
+    AreOfKindIn k kind.Set o (other_set sc) × HasRoomFor hands (cursor_of_set sc) × HasKeyIn k (key_of_set sc)
 IsCallIn k hands (call.Next number) = (number < length hands) × (is_some (cursor_at hands number) ≡ true)
 IsCallIn k hands (call.Begin first second) =
     (first < containers_in k) × IfSome second (λ other. other < containers_in k)

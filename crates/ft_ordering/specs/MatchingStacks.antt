@@ -3,7 +3,7 @@ use Rattle.std.specs.Prelude.{◌≡◌, ℕ, List, [], ◌∷◌, reverse}
 use Rattle.ft_bank.specs.declared.sections.OpenSection.{OpenSection}
 use Rattle.ft_bank.specs.Sections.{Stack, taken_in}
 use Rattle.ft_turns.specs.Orders.{OpenSection as TurnSection, ThreadState, lower_first}
-use Rattle.ft_ordering.specs.Counts.{times, pair_of}
+use Rattle.ft_ordering.specs.Placings.{times, pair_of}
 
 -- a section of the machine is one of the pass: it has the same containers, and has taken the same locks itself
 pub record IsAsSection (section : TurnSection) (kept : OpenSection) : Type 0 where

@@ -9,19 +9,19 @@ use Rattle.ft_engine.specs.Callers.{IsCallerOf, IsIdle, pass_of}
 use Rattle.ft_bench.specs.declared.worker.Worker.{Worker}
 
 -- a caller of the engine that is in no call
-abbrev pub IsFree : Engine → Caller → Type 0
-IsFree e c = IsCallerOf e c × IsIdle c
+abbrev pub IsFreeCaller : Engine → Caller → Type 0
+IsFreeCaller e c = IsCallerOf e c × IsIdle c
 
-abbrev pub AreFree : Engine → List Caller → Type 0
-AreFree e callers = AllByRecursion (IsFree e) callers
+abbrev pub AreFreeCallers : Engine → List Caller → Type 0
+AreFreeCallers e callers = AllByRecursion (IsFreeCaller e) callers
 
 -- the same, and online: it may make a call
-abbrev pub IsReady : Engine → Caller → Type 0
-IsReady e c = IsFree e c × (0 < announces (view (pass_of c)).log)
+abbrev pub IsReadyCaller : Engine → Caller → Type 0
+IsReadyCaller e c = IsFreeCaller e c × (0 < announces (view (pass_of c)).log)
 
 -- the caller of each of these threads is in no call
 abbrev pub AreWorkers : Engine → List Worker → Type 0
-AreWorkers e workers = All (λ w. IsFree e w.caller) workers
+AreWorkers e workers = All (λ w. IsFreeCaller e w.caller) workers
 
-abbrev pub AreReady : Engine → List Caller → Type 0
-AreReady e callers = All (IsReady e) callers
+abbrev pub AreReadyCallers : Engine → List Caller → Type 0
+AreReadyCallers e callers = All (IsReadyCaller e) callers

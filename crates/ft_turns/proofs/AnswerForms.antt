@@ -1,5 +1,5 @@
 -- What an answer says and leaves: it raises no MemoryError, changes the world in a write alone and whatever hands it is asked with, makes the cursor that its call names, and what is said of all keys and values that were there, and of the call's, is so of those in it.
-use Rattle.std.proofs.Common.{◌≡◌, ℕ, ◌-◌, ◌<◌, ◌≤◌, Bool, true, false, not, List, [], ◌∷◌, ◌++◌, length, map, reverse, Option, None, Some, refl, negsuc, arith}
+use Rattle.std.proofs.Common.{◌≡◌, ℕ, ◌-◌, ◌≤◌, Bool, true, false, not, List, [], ◌∷◌, ◌++◌, length, map, reverse, Option, None, Some, refl, negsuc, arith}
 use Rattle.std.specs.Prelude.{IfSome, if◌then◌else◌, All, slice_get, slice_set, slice_index_or}
 use Rattle.std.specs.List.{remove}
 use Rattle.std.specs.Option.{option_map_or, unwrap_or}

@@ -13,7 +13,7 @@ use Rattle.ft_model.specs.Scripts.{IsScript}
 use Rattle.ft_model.specs.Histories.{calls_of}
 use Rattle.ft_turns.specs.Orders.{ThreadState, take_locks, thread_at, next_call, without_locks, sections_after, with_taken}
 use Rattle.ft_turns.specs.Chronicling.{IsAnswerable}
-use Rattle.ft_turns.specs.Answering.{Tally, hands_in, no_tally, noted_after, tally_after, Progress, start_progress, answered_turn}
+use Rattle.ft_turns.specs.AnsweredTurns.{Tally, hands_in, no_tally, noted_after, tally_after, Progress, start_progress, answered_turn}
 use Rattle.ft_turns.proofs.ProgressWords.{tally_of}
 use Rattle.ft_turns.proofs.MachineSteps.{there}
 use Rattle.ft_turns.proofs.Owned.{by_thread}

@@ -13,7 +13,7 @@ use Rattle.ft_model.specs.declared.script.ScriptParts.{ScriptParts}
 use Rattle.ft_model.specs.Histories.{calls_of}
 use Rattle.ft_history.proofs.Unbroken.{range_push}
 use Rattle.ft_turns.specs.Orders.{ThreadState, Machine, Locking, fresh_thread, start_machine, lower_first, locks_taken, take_locks, thread_at, innermost_containers, turn}
-use Rattle.ft_turns.specs.Internal.ThreadStates.{Tried, not_tried, answer_tried, finish_tried, answer_part, finish_part, newly_answered, placed}
+use Rattle.ft_turns.specs.Internal.TurnParts.{TryOutcome, not_tried, answer_tried, finish_tried, answer_part, finish_part, newly_answered, placed}
 use Rattle.ft_turns.specs.Wants.{so_far}
 use Rattle.ft_turns.specs.Ends.{AreTurns, places_of}
 use Rattle.ft_turns.proofs.TurnParts.{turn_is, idle_turn}
@@ -36,7 +36,7 @@ answer_new true found holders state called locking is done = absurd (let e : fal
 answer_new false None holders state called locking is done = rw is (add-zero (length state.marks))
 answer_new false (Some other) holders state called locking is done = absurd (let e : false ≡ true = done in cc)
 
-finish_counts : (fixed : Bool) (found : Option ℕ) (tried : Tried) (locking : Locking) → tried.state.fixed ≡ fixed → so_far (if fixed then finish_tried tried.state (record locking { found = found }) else not_tried tried.holders tried.state).state ≡ so_far tried.state
+finish_counts : (fixed : Bool) (found : Option ℕ) (tried : TryOutcome) (locking : Locking) → tried.state.fixed ≡ fixed → so_far (if fixed then finish_tried tried.state (record locking { found = found }) else not_tried tried.holders tried.state).state ≡ so_far tried.state
 finish_counts false found tried locking is = refl
 finish_counts true None tried locking is = rw is (omega (arith, length-append tried.state.marks (tried.state.mark ∷ [])))
 finish_counts true (Some other) tried locking is = refl

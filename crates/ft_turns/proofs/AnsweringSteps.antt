@@ -8,7 +8,7 @@ use Rattle.ft_model.specs.declared.call.Call.{Call}
 use Rattle.ft_model.specs.declared.script.ScriptParts.{ScriptParts}
 use Rattle.ft_model.specs.Histories.{calls_of}
 use Rattle.ft_turns.specs.Orders.{ThreadState, Machine, Locking, fresh_thread, take_locks, thread_at, next_call, without_locks, waiting_machine, sections_after, answered_machine, with_taken, finished_machine, answer_try, finish_step, finish_try}
-use Rattle.ft_turns.specs.Answering.{Progress, has_answered, has_finished, mark_given, with_turn, answered_turn}
+use Rattle.ft_turns.specs.AnsweredTurns.{Progress, has_answered, has_finished, mark_given, with_turn, answered_turn}
 use Rattle.ft_turns.proofs.ProgressWords.{with_answer, with_mark}
 use Rattle.ft_turns.proofs.MachineSteps.{wanted, wanted_again, IsTry, there, same_marks}
 

@@ -15,7 +15,7 @@ use Rattle.ft_model.specs.Worlds.{IsOfKind, cursor_kind, container_of, cursor_at
 use Rattle.ft_model.specs.Scripts.{cursor_of, IsCallOf, IsThread, IsScript}
 use Rattle.ft_model.specs.Histories.{calls_of, cursors_of}
 use Rattle.ft_turns.specs.Orders.{makes, cursor_containers, thread_at, next_call}
-use Rattle.ft_turns.specs.Answering.{asks_container, Progress, start_progress, answered_turn}
+use Rattle.ft_turns.specs.AnsweredTurns.{asks_container, Progress, start_progress, answered_turn}
 use Rattle.ft_turns.proofs.ProgressWords.{hands_of}
 use Rattle.ft_turns.proofs.AnswerFacts.{AreOver, IsAsked, walked}
 use Rattle.ft_turns.proofs.AnsweringSteps.{answered_turns_keep}

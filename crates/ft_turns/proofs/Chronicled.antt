@@ -23,7 +23,7 @@ use Rattle.ft_model.specs.Histories.{writes, entries_of, calls_of, cursors_of, I
 use Rattle.ft_model.specs.Judging.{IsNext}
 use Rattle.ft_history.proofs.Unbroken.{IsFront, fronts}
 use Rattle.ft_turns.specs.Orders.{Machine, thread_at, turn, turns_of, start_machine, last_machine, next_call, answer_try, finish_try, Ordered, ordered_in, order_of, ordered_entry}
-use Rattle.ft_turns.specs.Answering.{Progress, start_progress, with_turn, has_answered, has_finished, mark_given, answered_turn, last_progress, marked_entry, answered_turns}
+use Rattle.ft_turns.specs.AnsweredTurns.{Progress, start_progress, with_turn, has_answered, has_finished, mark_given, answered_turn, last_progress, marked_entry, answered_turns}
 use Rattle.ft_turns.specs.Chronicling.{AllFinish, IsChronicleOfTurns}
 use Rattle.ft_turns.proofs.LockLemmas.{occ, occ-nil, occ-cons}
 use Rattle.ft_turns.proofs.MachineSteps.{turns_keep}

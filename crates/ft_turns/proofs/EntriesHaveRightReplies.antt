@@ -17,7 +17,7 @@ use Rattle.ft_model.specs.Histories.{writes, calls_of, hands_at, IsReplied, IsAn
 use Rattle.ft_history.specs.Internal.States.{world_before}
 use Rattle.ft_history.proofs.Places.{slice_get_at}
 use Rattle.ft_turns.specs.Orders.{thread_at, next_call}
-use Rattle.ft_turns.specs.Answering.{Tally, noted_after, tally_after, waited_inside, ended_reply, reply_in, Progress}
+use Rattle.ft_turns.specs.AnsweredTurns.{Tally, noted_after, tally_after, waited_inside, ended_reply, thread_reply, Progress}
 use Rattle.ft_turns.proofs.ProgressWords.{hands_of, tally_of}
 use Rattle.ft_turns.proofs.Marks.{count_fixed, own_stack, own_containers}
 use Rattle.ft_turns.proofs.Following.{IsFollowed}
@@ -81,8 +81,8 @@ ended_counts entries thread place section count is =
     ] refl
 
 pub counted_call : (entries : List Entry) (thread place : ℕ) (world : List Content) (hands : List (Option Cursor)) (tally : Tally) (called : Call) (sections : List Section) (noted : List ℕ) → tally.noted ≡ noted → Tallied entries thread place tally.count sections noted
-    → IfEnds sections called (λ section. IsCountedBy entries thread place section (reply_in world hands tally called))
-counted_call entries thread place world hands tally called [] noted is tallied = none_ends called (λ section. IsCountedBy entries thread place section (reply_in world hands tally called))
+    → IfEnds sections called (λ section. IsCountedBy entries thread place section (thread_reply world hands tally called))
+counted_call entries thread place world hands tally called [] noted is tallied = none_ends called (λ section. IsCountedBy entries thread place section (thread_reply world hands tally called))
 counted_call entries thread place world hands tally called (section ∷ sections) [] is tallied = absurd tallied
 counted_call entries thread place world hands tally call.End (section ∷ sections) (first ∷ noted) is tallied =
     ended_counts entries thread place section (waited_inside tally)
@@ -104,7 +104,7 @@ ended_replied count =
       | false ↦ inr (count, refl)
     ]
 
-pub replied : (world : List Content) (hands : List (Option Cursor)) (tally : Tally) (called : Call) → IsReplied called (reply_in world hands tally called) (answer world hands called).reply
+pub replied : (world : List Content) (hands : List (Option Cursor)) (tally : Tally) (called : Call) → IsReplied called (thread_reply world hands tally called) (answer world hands called).reply
 replied world hands tally (call.Begin first second) = refl
 replied world hands tally call.End = ended_replied (waited_inside tally)
 replied world hands tally call.Quiesce = refl

@@ -14,7 +14,7 @@ use Rattle.ft_model.specs.Histories.{calls_of}
 use Rattle.ft_model.specs.Scripts.{IsScript}
 use Rattle.ft_turns.specs.Orders.{ThreadState, Machine, fresh_thread, start_machine, thread_at, turn, round_of, count_of_calls, turns_of, last_machine}
 use Rattle.ft_turns.specs.Chronicling.{AllFinish}
-use Rattle.ft_turns.specs.Internal.Schedules.{rounds_of}
+use Rattle.ft_turns.specs.Schedules.{rounds_of}
 use Rattle.ft_turns.specs.Wants.{so_far, AreBelow}
 use Rattle.ft_turns.specs.Ends.{steps_made, AreFinished, after_turns, AreTurns, TurnsGoOn, places_of}
 use Rattle.ft_turns.proofs.TurnParts.{idle_turn}

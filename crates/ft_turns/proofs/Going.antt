@@ -28,7 +28,7 @@ use Rattle.ft_model.specs.Answers.{answer, is_write, is_memory}
 use Rattle.ft_model.specs.Histories.{calls_of, cursors_of}
 use Rattle.ft_history.proofs.Places.{take_next, slice_get_left, slice_get_at}
 use Rattle.ft_turns.specs.Orders.{makes, cursor_containers, ThreadState, take_locks, thread_at, next_call, without_locks, waiting_machine, sections_after, answered_machine, with_taken, finished_machine}
-use Rattle.ft_turns.specs.Answering.{Tally, no_tally, ended_reply, waited_inside, reply_in, Progress, start_progress}
+use Rattle.ft_turns.specs.AnsweredTurns.{Tally, no_tally, ended_reply, waited_inside, thread_reply, Progress, start_progress}
 use Rattle.ft_turns.proofs.ProgressWords.{hands_of, tally_of, next_entry, with_answer, with_mark}
 use Rattle.ft_turns.proofs.MachineSteps.{IsTry, there}
 use Rattle.ft_turns.proofs.Owned.{by_thread, IsOwned, owned_steps, owned_start, start_thread}
@@ -45,7 +45,7 @@ ended_strings : (n count : ℕ) → IsReplyOf n (ended_reply count)
 ended_strings n count = elim (count == 0) as (λ b. IsReplyOf n (if b then reply.Kept else reply.Suspended count)) [ true ↦ tt | false ↦ tt ]
 
 -- a reply is a MemoryError, has its strings and makes a write as the plain container's is and does
-pub reply_memory : (world : List Content) (hands : List (Option Cursor)) (tally : Tally) (called : Call) → is_memory (answer world hands called).reply ≡ false → is_memory (reply_in world hands tally called) ≡ false
+pub reply_memory : (world : List Content) (hands : List (Option Cursor)) (tally : Tally) (called : Call) → is_memory (answer world hands called).reply ≡ false → is_memory (thread_reply world hands tally called) ≡ false
 reply_memory world hands tally (call.Begin first second) h = refl
 reply_memory world hands tally call.End h = ended_memory (waited_inside tally)
 reply_memory world hands tally (call.Dict container dict_call) h = h
@@ -54,7 +54,7 @@ reply_memory world hands tally (call.Set container set_call) h = h
 reply_memory world hands tally (call.Next cursor) h = h
 reply_memory world hands tally call.Quiesce h = h
 
-reply_strings : (n : ℕ) (world : List Content) (hands : List (Option Cursor)) (tally : Tally) (called : Call) → IsReplyOf n (answer world hands called).reply → IsReplyOf n (reply_in world hands tally called)
+reply_strings : (n : ℕ) (world : List Content) (hands : List (Option Cursor)) (tally : Tally) (called : Call) → IsReplyOf n (answer world hands called).reply → IsReplyOf n (thread_reply world hands tally called)
 reply_strings n world hands tally (call.Begin first second) h = tt
 reply_strings n world hands tally call.End h = ended_strings n (waited_inside tally)
 reply_strings n world hands tally (call.Dict container dict_call) h = h
@@ -63,7 +63,7 @@ reply_strings n world hands tally (call.Set container set_call) h = h
 reply_strings n world hands tally (call.Next cursor) h = h
 reply_strings n world hands tally call.Quiesce h = h
 
-pub reply_writes : (world : List Content) (hands : List (Option Cursor)) (tally : Tally) (called : Call) → is_write called (reply_in world hands tally called) ≡ is_write called (answer world hands called).reply
+pub reply_writes : (world : List Content) (hands : List (Option Cursor)) (tally : Tally) (called : Call) → is_write called (thread_reply world hands tally called) ≡ is_write called (answer world hands called).reply
 reply_writes world hands tally (call.Begin first second) = refl
 reply_writes world hands tally call.End = refl
 reply_writes world hands tally (call.Dict container dict_call) = refl

@@ -10,7 +10,7 @@ use Rattle.ft_model.specs.declared.entry.Entry.{Entry}
 use Rattle.ft_model.specs.declared.script.ScriptParts.{ScriptParts}
 use Rattle.ft_model.specs.Histories.{entries_of, calls_of}
 use Rattle.ft_turns.specs.Orders.{ThreadState, take_locks, thread_at, without_locks, waiting_machine, sections_after, answered_machine, with_taken, finished_machine}
-use Rattle.ft_turns.specs.Answering.{Progress, start_progress}
+use Rattle.ft_turns.specs.AnsweredTurns.{Progress, start_progress}
 use Rattle.ft_turns.proofs.ProgressWords.{next_entry, with_answer, with_mark}
 use Rattle.ft_turns.proofs.MachineSteps.{IsTry, there}
 use Rattle.ft_turns.proofs.Owned.{by_thread, start_thread}

@@ -26,17 +26,11 @@ pub mod Progress
 pub mod ProgressWords
 pub mod ScheduleLemmas
 pub mod Secured
-pub mod ShortReplies
 pub mod Soundness
-pub mod Starts
-pub mod Suspension
 pub mod EntriesHaveRightReplies
 pub mod RightReplySteps
 pub mod TurnParts
 pub mod TurnSoundness
 pub mod TurnSteps
 pub mod Wanting
-pub mod WriteCounts
-pub mod Running
-pub mod OrderRuns
 pub mod Rooms

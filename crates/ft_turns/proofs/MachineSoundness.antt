@@ -13,7 +13,7 @@ use Rattle.ft_model.specs.declared.script.ScriptParts.{ScriptParts}
 use Rattle.ft_model.specs.Histories.{calls_of, cursors_of}
 use Rattle.ft_model.specs.Scripts.{IsScript, IsThread, IsCallOf, AreNested}
 use Rattle.ft_turns.specs.Orders.{ThreadState, Machine, Locking, fresh_thread, start_machine, lower_first, locks_taken, take_locks, holder_of, thread_at, next_call, section_locks, innermost_containers, turn}
-use Rattle.ft_turns.specs.Internal.ThreadStates.{Tried, not_tried, answer_tried, finish_tried, answer_part, finish_part, newly_answered, placed}
+use Rattle.ft_turns.specs.Internal.TurnParts.{TryOutcome, not_tried, answer_tried, finish_tried, answer_part, finish_part, newly_answered, placed}
 use Rattle.ft_turns.specs.Wants.{so_far}
 use Rattle.ft_turns.specs.Ends.{steps_made}
 use Rattle.ft_turns.proofs.TurnParts.{turn_is, idle_turn}
@@ -57,7 +57,7 @@ answer_steps true found holders state called locking is = omega arith
 answer_steps false None holders state called locking is = rw is (omega arith)
 answer_steps false (Some other) holders state called locking is = omega arith
 
-finish_steps : (fixed : Bool) (found : Option ℕ) (tried : Tried) (locking : Locking) → tried.state.fixed ≡ fixed → steps_of (if fixed then finish_tried tried.state (record locking { found = found }) else not_tried tried.holders tried.state).state ≡ steps_of tried.state + (if (if fixed then finish_tried tried.state (record locking { found = found }) else not_tried tried.holders tried.state).done then 1 else 0)
+finish_steps : (fixed : Bool) (found : Option ℕ) (tried : TryOutcome) (locking : Locking) → tried.state.fixed ≡ fixed → steps_of (if fixed then finish_tried tried.state (record locking { found = found }) else not_tried tried.holders tried.state).state ≡ steps_of tried.state + (if (if fixed then finish_tried tried.state (record locking { found = found }) else not_tried tried.holders tried.state).done then 1 else 0)
 finish_steps false found tried locking is = omega arith
 finish_steps true None tried locking is = rw is (omega (arith, length-append tried.state.marks (tried.state.mark ∷ [])))
 finish_steps true (Some other) tried locking is = omega arith
@@ -126,7 +126,7 @@ turned_idle script machine thread within sound next =
     } in
     rw same still
 
-turned_placed : (script : ScriptParts) (machine : Machine) (thread : ℕ) (answered : Bool) (tried : Tried) (more : List (ℕ × ℕ))
+turned_placed : (script : ScriptParts) (machine : Machine) (thread : ℕ) (answered : Bool) (tried : TryOutcome) (more : List (ℕ × ℕ))
     → thread < length script.threads
     → IsSoundMachine script machine
     → IsTurned script thread machine.holders (thread_at machine thread) answered tried

@@ -4,7 +4,7 @@ use Rattle.ft_model.specs.declared.call.Call.{Call}
 use Rattle.ft_model.specs.declared.cursor.Cursor.{Cursor}
 use Rattle.ft_model.specs.declared.entry.Entry.{Entry}
 use Rattle.ft_model.specs.declared.reply.Reply.{Reply}
-use Rattle.ft_turns.specs.Answering.{Tally, hands_in, tally_in, reply_now, entry_now, with_answer as answers_with, with_mark as answers_marked, Progress, next_index}
+use Rattle.ft_turns.specs.AnsweredTurns.{Tally, hands_in, tally_in, reply_now, entry_now, with_answer as answers_with, with_mark as answers_marked, Progress, next_index}
 
 abbrev pub hands_of : Progress → ℕ → List (Option Cursor)
 hands_of progress thread = hands_in progress.answers thread

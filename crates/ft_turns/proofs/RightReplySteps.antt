@@ -18,7 +18,7 @@ use Rattle.ft_model.specs.Histories.{writes, world_at, entries_of, calls_of, cur
 use Rattle.ft_history.specs.Internal.States.{world_before}
 use Rattle.ft_history.proofs.Places.{filter_next, writes_next, world_at-before}
 use Rattle.ft_turns.specs.Orders.{ThreadState, fresh_thread, take_locks, thread_at, next_call, without_locks, waiting_machine, sections_after, answered_machine, with_taken, finished_machine}
-use Rattle.ft_turns.specs.Answering.{Tally, no_tally, tally_after, Progress, start_progress}
+use Rattle.ft_turns.specs.AnsweredTurns.{Tally, no_tally, tally_after, Progress, start_progress}
 use Rattle.ft_turns.proofs.ProgressWords.{hands_of, tally_of, next_reply, next_entry, with_answer, with_mark}
 use Rattle.ft_turns.proofs.MachineSteps.{IsTry, there}
 use Rattle.ft_turns.proofs.Owned.{by_thread, start_thread}

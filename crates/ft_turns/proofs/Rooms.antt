@@ -11,7 +11,7 @@ use Rattle.ft_model.specs.Answers.{answer}
 use Rattle.ft_model.specs.Histories.{calls_of}
 use Rattle.ft_model.proofs.FewSerials.{FewAfter, few_start, few_call, few_contents, room_for}
 use Rattle.ft_history.proofs.FewEntries.{few_of_script}
-use Rattle.ft_turns.specs.Answering.{Progress, start_progress, answered_turn}
+use Rattle.ft_turns.specs.AnsweredTurns.{Progress, start_progress, answered_turn}
 use Rattle.ft_turns.proofs.ProgressWords.{hands_of, next_entry}
 use Rattle.ft_turns.proofs.AnsweringSteps.{IsKeptByAnswers, answered_turns_keep}
 use Rattle.ft_turns.proofs.Going.{IsGoing, CallsOf, going_waits, going_answers, going_finishes, going_start}

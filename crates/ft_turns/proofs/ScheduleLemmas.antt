@@ -4,7 +4,7 @@ use Rattle.std.specs.List.{flat_map, range_with_len}
 use Rattle.std.proofs.lemmas.List.{drop_more, drop_all}
 use Rattle.std.proofs.lemmas.List.FromFn.{get_or-range_with_len, length-range_with_len}
 use Rattle.ft_turns.specs.declared.schedule.Schedule.{Schedule}
-use Rattle.ft_turns.specs.Internal.Schedules.{rounds_of, scheduled}
+use Rattle.ft_turns.specs.Schedules.{rounds_of, scheduled}
 
 same_rounds : (round : List ℕ) (n a b : ℕ) → flat_map (λ one. round) (range_with_len a n) ≡ flat_map (λ one. round) (range_with_len b n)
 same_rounds round zero a b = refl

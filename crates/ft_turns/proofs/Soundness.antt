@@ -10,7 +10,7 @@ use Rattle.ft_model.specs.declared.script.ScriptParts.{ScriptParts}
 use Rattle.ft_model.specs.Histories.{calls_of}
 use Rattle.ft_model.specs.Scripts.{AreNested}
 use Rattle.ft_model.specs.Calls.{containers_of}
-use Rattle.ft_turns.specs.Orders.{OpenSection, ThreadState, Locking, lower_first, locks_taken, take_locks, let_go, holder_of, next_call, without_locks, section_locks, with_own, waiting_thread, answered_thread, finished_thread, sections_after, lets_go, innermost_containers, with_taken}
+use Rattle.ft_turns.specs.Orders.{OpenSection, ThreadState, Locking, lower_first, locks_taken, take_locks, let_go, holder_of, next_call, without_locks, section_locks, with_locking, waiting_thread, answered_thread, finished_thread, sections_after, lets_go, innermost_containers, with_taken}
 use Rattle.ft_turns.specs.Wants.{so_far}
 use Rattle.ft_turns.proofs.Holding.{times, times-append, by, by_some, same_self, Takes, takes_all, lets_all_go}
 use Rattle.ft_turns.proofs.Wanting.{AreTwo, AreRising}
@@ -90,12 +90,12 @@ pub wait_sound : (script : ScriptParts) (thread : ℕ) (holders : List (Option �
     → AreRising (length script.containers) (wanted script thread state)
     → IsSound script thread holders state
     → (take_locks thread holders (wanted script thread state)).found ≡ Some other
-    → IsSound script thread (let_go (take_locks thread holders (wanted script thread state)).holders (section_locks state.sections)) (waiting_thread (with_own state (take_locks thread holders (wanted script thread state))) other)
+    → IsSound script thread (let_go (take_locks thread holders (wanted script thread state)).holders (section_locks state.sections)) (waiting_thread (with_locking state (take_locks thread holders (wanted script thread state))) other)
     × IsApart thread holders (let_go (take_locks thread holders (wanted script thread state)).holders (section_locks state.sections))
-    × Waits holders (let_go (take_locks thread holders (wanted script thread state)).holders (section_locks state.sections)) state (waiting_thread (with_own state (take_locks thread holders (wanted script thread state))) other)
+    × Waits holders (let_go (take_locks thread holders (wanted script thread state)).holders (section_locks state.sections)) state (waiting_thread (with_locking state (take_locks thread holders (wanted script thread state))) other)
 wait_sound script thread holders state other in_order sound found =
     let locking = take_locks thread holders (wanted script thread state) in
-    let after = waiting_thread (with_own state locking) other in
+    let after = waiting_thread (with_locking state locking) other in
     let left = let_go locking.holders (section_locks state.sections) in
     let takes = takes_all thread (wanted script thread state) holders (rw sound.size (rising_below (length script.containers) (wanted script thread state) in_order)) in
     let blocks = blocked (length script.containers) thread holders state.own (section_locks state.sections) (wanted script thread state) other in_order sound.own_is sound.held found in
@@ -170,13 +170,13 @@ pub answer_sound : (script : ScriptParts) (thread : ℕ) (holders : List (Option
     → AreTwo (length script.containers) (containers_of called)
     → AreRising (length script.containers) (wanted script thread state)
     → IsSound script thread holders state
-    → IsSound script thread (let_go (take_locks thread holders (wanted script thread state)).holders (lets_go called (state.own ++ (take_locks thread holders (wanted script thread state)).taken) state.sections)) (answered_thread (with_own state (take_locks thread holders (wanted script thread state))) called)
+    → IsSound script thread (let_go (take_locks thread holders (wanted script thread state)).holders (lets_go called (state.own ++ (take_locks thread holders (wanted script thread state)).taken) state.sections)) (answered_thread (with_locking state (take_locks thread holders (wanted script thread state))) called)
     × IsApart thread holders (let_go (take_locks thread holders (wanted script thread state)).holders (lets_go called (state.own ++ (take_locks thread holders (wanted script thread state)).taken) state.sections))
 answer_sound script thread holders state called unfixed next two in_order sound =
     let calls = calls_of script thread in
     let n = length state.marks in
     let locking = take_locks thread holders (wanted script thread state) in
-    let after = answered_thread (with_own state locking) called in
+    let after = answered_thread (with_locking state locking) called in
     let takes = takes_all thread (wanted script thread state) holders (rw sound.size (rising_below (length script.containers) (wanted script thread state) in_order)) in
     let within : n < length calls = slice_get_within calls n called next in
     let wants : wanted script thread state ≡ lower_first (locks_taken (take n calls) called) = rw (unfixed, next) refl in
@@ -216,13 +216,13 @@ pub finish_sound : (script : ScriptParts) (thread : ℕ) (holders : List (Option
     → state.fixed ≡ true
     → AreRising (length script.containers) (wanted script thread state)
     → IsSound script thread holders state
-    → IsSound script thread (take_locks thread holders (wanted script thread state)).holders (finished_thread (with_own state (take_locks thread holders (wanted script thread state))))
+    → IsSound script thread (take_locks thread holders (wanted script thread state)).holders (finished_thread (with_locking state (take_locks thread holders (wanted script thread state))))
     × IsApart thread holders (take_locks thread holders (wanted script thread state)).holders
 finish_sound script thread holders state fixed in_order sound =
     let calls = calls_of script thread in
     let n = length state.marks in
     let locking = take_locks thread holders (wanted script thread state) in
-    let after = finished_thread (with_own state locking) in
+    let after = finished_thread (with_locking state locking) in
     let takes = takes_all thread (wanted script thread state) holders (rw sound.size (rising_below (length script.containers) (wanted script thread state) in_order)) in
     let wants : wanted script thread state ≡ lower_first (innermost_containers state.sections) = rw fixed refl in
     let ended : state.sections ≡ [] → (state.own ≡ []) × (locking.taken ≡ []) = λ is.

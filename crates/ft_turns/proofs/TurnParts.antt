@@ -7,9 +7,9 @@ use Rattle.ft_model.specs.declared.call.Call.{Call}
 use Rattle.ft_model.specs.declared.script.ScriptParts.{ScriptParts}
 use Rattle.ft_model.specs.Histories.{calls_of}
 use Rattle.ft_turns.specs.Orders.{ThreadState, Machine, Locking, fresh_thread, lower_first, locks_taken, take_locks, thread_at, next_call, waiting_machine, answered_machine, finished_machine, answer_step, finish_step, answer_try, finish_try, innermost_containers, turn}
-use Rattle.ft_turns.specs.Internal.ThreadStates.{Tried, not_tried, tried_in_vain, answer_tried, finish_tried, answer_part, finish_part, newly_answered, placed}
+use Rattle.ft_turns.specs.Internal.TurnParts.{TryOutcome, not_tried, tried_in_vain, answer_tried, finish_tried, answer_part, finish_part, newly_answered, placed}
 
-same_answered : (machine : Machine) (thread : ℕ) (tried : Tried) → record machine { holders = tried.holders; threads = set machine.threads thread tried.state } ≡ placed machine thread tried []
+same_answered : (machine : Machine) (thread : ℕ) (tried : TryOutcome) → record machine { holders = tried.holders; threads = set machine.threads thread tried.state } ≡ placed machine thread tried []
 same_answered machine thread tried =
     let m : List (ℕ × ℕ) → Machine = λ l. record { holders = tried.holders; threads = set machine.threads thread tried.state; answered = l } in
     ap m (sym (append-nil machine.answered))
@@ -35,7 +35,7 @@ first_part : (script : ScriptParts) (machine : Machine) (thread : ℕ) (state : 
     ≡ placed machine thread (answer_part thread (take (length state.marks) (calls_of script thread)) called machine.holders state) (newly_answered thread (length state.marks) (answer_part thread (take (length state.marks) (calls_of script thread)) called machine.holders state).done)
 first_part script machine thread state called is = first_at state.fixed machine thread state called (take_locks thread machine.holders (lower_first (locks_taken (take (length state.marks) (calls_of script thread)) called))) is
 
-finish_step_is : (machine : Machine) (thread : ℕ) (tried : Tried) (more : List (ℕ × ℕ)) (state : ThreadState) (locking : Locking) → finish_step (placed machine thread tried more) thread state locking ≡ placed machine thread (finish_tried state locking) more
+finish_step_is : (machine : Machine) (thread : ℕ) (tried : TryOutcome) (more : List (ℕ × ℕ)) (state : ThreadState) (locking : Locking) → finish_step (placed machine thread tried more) thread state locking ≡ placed machine thread (finish_tried state locking) more
 finish_step_is machine thread tried more state locking =
     let m : List (Option ℕ) → List ThreadState → Machine = λ h l. record { holders = h; threads = l; answered = machine.answered ++ more } in
     elim locking.found as (λ found. option_map_or (waiting_machine (placed machine thread tried more) thread state locking) found (finished_machine (placed machine thread tried more) thread state locking) ≡ placed machine thread (finish_tried state (record locking { found = found })) more) [
@@ -43,7 +43,7 @@ finish_step_is machine thread tried more state locking =
       | Some found ↦ ap (m _) (set-set machine.threads thread tried.state _)
     ]
 
-second_at : (fixed : Bool) (machine : Machine) (thread : ℕ) (tried : Tried) (more : List (ℕ × ℕ)) (locking : Locking)
+second_at : (fixed : Bool) (machine : Machine) (thread : ℕ) (tried : TryOutcome) (more : List (ℕ × ℕ)) (locking : Locking)
     → (if fixed then finish_step (placed machine thread tried more) thread tried.state locking else placed machine thread tried more)
     ≡ placed machine thread (if fixed then finish_tried tried.state locking else not_tried tried.holders tried.state) more
 second_at true machine thread tried more locking = finish_step_is machine thread tried more tried.state locking
@@ -53,7 +53,7 @@ second_at false machine thread tried more locking = refl
 finish_of : Machine → ℕ → ThreadState → Machine
 finish_of machine thread state = if state.fixed then finish_step machine thread state (take_locks thread machine.holders (lower_first (innermost_containers state.sections))) else machine
 
-second_part : (machine : Machine) (thread : ℕ) (tried : Tried) (more : List (ℕ × ℕ)) → thread < length machine.threads → finish_try (placed machine thread tried more) thread ≡ placed machine thread (finish_part thread tried) more
+second_part : (machine : Machine) (thread : ℕ) (tried : TryOutcome) (more : List (ℕ × ℕ)) → thread < length machine.threads → finish_try (placed machine thread tried more) thread ≡ placed machine thread (finish_part thread tried) more
 unfolding finish_of
 second_part machine thread tried more within =
     ap (finish_of (placed machine thread tried more) thread) (get_or-set_same machine.threads thread tried.state fresh_thread within)

@@ -6,13 +6,13 @@ use Rattle.ft_model.specs.declared.call.Call.{Call}
 use Rattle.ft_model.specs.declared.script.ScriptParts.{ScriptParts}
 use Rattle.ft_model.specs.Histories.{calls_of}
 use Rattle.ft_model.specs.Calls.{containers_of}
-use Rattle.ft_turns.specs.Orders.{OpenSection, ThreadState, lower_first, locks_taken, take_locks, let_go, next_call, with_own, answered_thread, finished_thread, lets_go, innermost_containers}
-use Rattle.ft_turns.specs.Internal.ThreadStates.{Tried, not_tried, tried_in_vain, answer_tried, finish_tried, answer_part, finish_part}
+use Rattle.ft_turns.specs.Orders.{OpenSection, ThreadState, lower_first, locks_taken, take_locks, let_go, next_call, with_locking, answered_thread, finished_thread, lets_go, innermost_containers}
+use Rattle.ft_turns.specs.Internal.TurnParts.{TryOutcome, not_tried, tried_in_vain, answer_tried, finish_tried, answer_part, finish_part}
 use Rattle.ft_turns.proofs.Wanting.{AreTwo, AreRising, rising}
 use Rattle.ft_turns.proofs.Soundness.{wanted, AreSections, IsSound, IsApart, Waits, wait_sound, answer_sound, finish_sound}
 
 -- what a turn of a thread comes to
-pub record IsTurned (script : ScriptParts) (thread : ℕ) (holders : List (Option ℕ)) (state : ThreadState) (answered : Bool) (tried : Tried) : Type 0 where
+pub record IsTurned (script : ScriptParts) (thread : ℕ) (holders : List (Option ℕ)) (state : ThreadState) (answered : Bool) (tried : TryOutcome) : Type 0 where
   pub sound : IsSound script thread tried.holders tried.state
   pub apart : IsApart thread holders tried.holders
   pub quiet : answered ≡ false → tried.done ≡ false → Waits holders tried.holders state tried.state
@@ -34,7 +34,7 @@ finish_at : (script : ScriptParts) (thread : ℕ) (holders : List (Option ℕ)) 
     → AreRising (length script.containers) (wanted script thread state)
     → IsSound script thread holders state
     → (take_locks thread holders (wanted script thread state)).found ≡ found
-    → IsTurned script thread holders state false (option_map_or (tried_in_vain state (take_locks thread holders (wanted script thread state))) found (record { holders = (take_locks thread holders (wanted script thread state)).holders; state = finished_thread (with_own state (take_locks thread holders (wanted script thread state))); done = true }))
+    → IsTurned script thread holders state false (option_map_or (tried_in_vain state (take_locks thread holders (wanted script thread state))) found (record { holders = (take_locks thread holders (wanted script thread state)).holders; state = finished_thread (with_locking state (take_locks thread holders (wanted script thread state))); done = true }))
 finish_at script thread holders state None fixed in_order sound is =
     let done = finish_sound script thread holders state fixed in_order sound in
     record { sound = done.0; apart = done.1; quiet = λ a b. absurd (let e : true ≡ false = b in cc) }
@@ -61,12 +61,12 @@ answer_at : (script : ScriptParts) (thread : ℕ) (holders : List (Option ℕ)) 
     → AreRising (length script.containers) (wanted script thread state)
     → IsSound script thread holders state
     → (take_locks thread holders (wanted script thread state)).found ≡ found
-    → (first : Tried)
-    → first ≡ option_map_or (tried_in_vain state (take_locks thread holders (wanted script thread state))) found (record { holders = let_go (take_locks thread holders (wanted script thread state)).holders (lets_go called (state.own ++ (take_locks thread holders (wanted script thread state)).taken) state.sections); state = answered_thread (with_own state (take_locks thread holders (wanted script thread state))) called; done = true })
+    → (first : TryOutcome)
+    → first ≡ option_map_or (tried_in_vain state (take_locks thread holders (wanted script thread state))) found (record { holders = let_go (take_locks thread holders (wanted script thread state)).holders (lets_go called (state.own ++ (take_locks thread holders (wanted script thread state)).taken) state.sections); state = answered_thread (with_locking state (take_locks thread holders (wanted script thread state))) called; done = true })
     → IsTurned script thread holders state first.done (finish_part thread first)
 answer_at script thread holders state called None unfixed next two in_order sound is first first_is =
     let locking = take_locks thread holders (wanted script thread state) in
-    let after = answered_thread (with_own state locking) called in
+    let after = answered_thread (with_locking state locking) called in
     let left = let_go locking.holders (lets_go called (state.own ++ locking.taken) state.sections) in
     let done = answer_sound script thread holders state called unfixed next two in_order sound in
     let last = finish_stage script thread left after refl done.0 in
@@ -88,7 +88,7 @@ turned_at : (fixed : Bool) (script : ScriptParts) (thread : ℕ) (holders : List
     → AreTwo (length script.containers) (containers_of called)
     → AreTwo (length script.containers) (locks_taken (take (length state.marks) (calls_of script thread)) called)
     → IsSound script thread holders state
-    → (first : Tried)
+    → (first : TryOutcome)
     → first ≡ (if fixed then not_tried holders state else answer_tried state called (take_locks thread holders (lower_first (locks_taken (take (length state.marks) (calls_of script thread)) called))))
     → IsTurned script thread holders state first.done (finish_part thread first)
 turned_at true script thread holders state called fixed next two taken_two sound first first_is =

@@ -8,7 +8,7 @@ use Rattle.ft_model.specs.declared.script.ScriptParts.{ScriptParts}
 use Rattle.ft_model.specs.Histories.{writes, world_at, calls_of, IsChronicle}
 use Rattle.ft_model.specs.Worlds.{IsDeclared, HasRoom}
 use Rattle.ft_model.specs.Parts.{IsEntryOf, IsWorldOf}
-use Rattle.ft_turns.specs.Answering.{asks_container, hands_in, tally_in, Progress, next_index}
+use Rattle.ft_turns.specs.AnsweredTurns.{asks_container, hands_in, tally_in, Progress, next_index}
 use Rattle.ft_turns.specs.Orders.{thread_at, last_machine, order_of, ordered_entry}
 
 -- each thread's calls have finished in the turns

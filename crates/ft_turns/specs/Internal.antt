@@ -1,8 +1,4 @@
--- What the machine of turns keeps while it goes through a script. Only its private functions and its proofs cite it:
--- none of it is needed to say what the order of turns is.
+-- The two parts of a turn, and what calls count. Only proofs cite it: none of it is needed to say what the order of turns
+-- is.
 pub mod Counting
-pub mod Cursors
-pub mod Runs
-pub mod Schedules
-pub mod ThreadStates
-pub mod Turning
+pub mod TurnParts

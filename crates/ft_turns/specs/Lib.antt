@@ -1,7 +1,8 @@
 pub mod Internal
-pub mod Answering
+pub mod AnsweredTurns
 pub mod Chronicling
 pub mod Ends
 pub mod Orders
-pub mod Replies
+pub mod ShortReplies
+pub mod Schedules
 pub mod Wants

@@ -125,8 +125,8 @@ abbrev pub without_locks : OpenSection → OpenSection
 without_locks section = record section { taken = [] }
 
 -- a thread whose call has just taken these locks itself
-abbrev pub with_own : ThreadState → Locking → ThreadState
-with_own state locking = record state { own = state.own ++ locking.taken }
+abbrev pub with_locking : ThreadState → Locking → ThreadState
+with_locking state locking = record state { own = state.own ++ locking.taken }
 
 -- the locks that the sections have taken
 abbrev pub section_locks : List OpenSection → List ℕ
@@ -146,7 +146,7 @@ abbrev pub waiting_machine : Machine → ℕ → ThreadState → Locking → ℕ
 waiting_machine machine thread state locking found =
     record machine {
       holders = let_go locking.holders (section_locks state.sections);
-      threads = slice_set machine.threads thread (waiting_thread (with_own state locking) found);
+      threads = slice_set machine.threads thread (waiting_thread (with_locking state locking) found);
     }
 
 -- the sections of a thread when the answer of a call is fixed, and the locks that are let go then: a `begin` enters a
@@ -189,7 +189,7 @@ abbrev pub answered_machine : Machine → ℕ → ThreadState → Call → Locki
 answered_machine machine thread state called locking =
     record {
       holders = let_go locking.holders (lets_go called (state.own ++ locking.taken) state.sections);
-      threads = slice_set machine.threads thread (answered_thread (with_own state locking) called);
+      threads = slice_set machine.threads thread (answered_thread (with_locking state locking) called);
       answered = machine.answered ++ (thread, length state.marks) ∷ [];
     }
 
@@ -218,7 +218,7 @@ abbrev pub finished_machine : Machine → ℕ → ThreadState → Locking → Ma
 finished_machine machine thread state locking =
     record machine {
       holders = locking.holders;
-      threads = slice_set machine.threads thread (finished_thread (with_own state locking));
+      threads = slice_set machine.threads thread (finished_thread (with_locking state locking));
     }
 
 -- a step of a thread whose answer is not fixed, and of one whose answer is

@@ -4,7 +4,7 @@ ghost use Rattle.ft_model.specs.declared.call.Call.{Call};
 ghost use Rattle.ft_model.specs.declared.script.ScriptParts.{ScriptParts};
 ghost use Rattle.ft_model.specs.Scripts.{IsScript};
 ghost use Rattle.ft_turns.specs.Orders.{thread_at, next_call};
-ghost use Rattle.ft_turns.specs.Answering.{start_progress, answered_turn, last_progress, answered_turns};
+ghost use Rattle.ft_turns.specs.AnsweredTurns.{start_progress, answered_turn, last_progress, answered_turns};
 ghost use Rattle.ft_turns.specs.Chronicling.{IsChronicleOfTurns, IsAnswerable};
 
 /// The calls of a script, answered in the order of its turns as the plain containers of one thread

@@ -1,0 +1,9 @@
+mod Visited
+mod NextCalls
+mod Tries
+mod Seated
+mod Rows
+mod AllMade
+mod NewSeats
+mod Ended
+mod Ordered

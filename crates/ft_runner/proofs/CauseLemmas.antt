@@ -3,7 +3,7 @@ use Rattle.std.proofs.Common.{◌≡◌, ◌≢◌, ◌∙◌, ◌≤◌, ℕ, B
 use Rattle.std.specs.Prelude.{IfSome, nat_lt}
 use Rattle.ft_runner.specs.Making.{IsSummary}
 use Rattle.ft_script.specs.Generator.{made_text}
-use Rattle.ft_script.specs.Scripts.{read_script}
+use Rattle.ft_script.specs.ReadScripts.{read_script}
 use Rattle.std.proofs.lemmas.Bool.{ltb-false, ltb-true, true≢false}
 use Rattle.std.proofs.lemmas.List.{append-nil, length-append}
 use Rattle.ft_history.specs.declared.verdict.Verdict.TheVariants as verdict
@@ -14,12 +14,12 @@ use Rattle.ft_runner.specs.declared.report.Fault.{Fault}
 use Rattle.ft_runner.specs.declared.outcome.Outcome.{Outcome}
 use Rattle.ft_runner.specs.declared.outcome.Outcome.TheVariants as outcome
 use Rattle.ft_runner.specs.declared.report.Report.{Report}
-use Rattle.ft_runner.specs.Causes.{IsCause, IsCheckCause, IsMakeCause, IsReportOn, IsRunCause}
-use Rattle.ft_runner.specs.Checking.{IsPast, IsTooLong, IsWithinLimits}
+use Rattle.ft_runner.specs.FaultCauses.{IsCause, IsCheckCause, IsMakeCause, IsReportOn, IsRunCause}
+use Rattle.ft_runner.specs.Checking.{IsPastLimit, IsTooLong, IsWithinLimits}
 use Rattle.ft_runner.specs.Commands.{runs_script}
 use Rattle.ft_runner.specs.Findings.{IsBadAt, IsFound}
-use Rattle.ft_runner.specs.Reports.{fault_of, is_read, DoesCheck, DoesMake, DoesRun, IsDone, IsFirstFault, IsScriptFault, PutsFor}
-use Rattle.ft_runner.specs.Streams.{script_limit, Gives, HasEnded}
+use Rattle.ft_runner.specs.Reports.{fault_of, is_read_outcome, DoesCheck, DoesMake, DoesRun, IsCommandDone, IsFirstFault, IsScriptFault, PutsFor}
+use Rattle.ft_runner.specs.Transfers.{script_limit, GivesBytes, HasEnded}
 use Rattle.ft_runner.proofs.ReportLemmas.{some_none}
 
 -- ---- what came is the front of what the source has
@@ -28,19 +28,19 @@ rest_of : (after : Option (List ℕ)) (came text : List ℕ) → Some text ≡ p
 rest_of None came text same = absurd (some_none same)
 rest_of (Some rest) came text same = (rest, refl, let bytes : Some text ≡ Some (came ++ rest) = same in cc)
 
-gives_rest : (before after : Stream) (came text : List ℕ) (failed : Bool) → Gives before came failed after → before.content ≡ Some text → (rest : List ℕ) × (after.content ≡ Some rest) × (came ++ rest ≡ text)
+gives_rest : (before after : Stream) (came text : List ℕ) (failed : Bool) → GivesBytes before came failed after → before.content ≡ Some text → (rest : List ℕ) × (after.content ≡ Some rest) × (came ++ rest ≡ text)
 gives_rest before after came text failed gives has = rest_of after.content came text (sym has ∙ gives.content)
 
 -- and all of it, where the source has ended
-pub gives_all : (before after : Stream) (came text : List ℕ) (failed : Bool) → Gives before came failed after → before.content ≡ Some text → HasEnded after → came ≡ text
+pub gives_all : (before after : Stream) (came text : List ℕ) (failed : Bool) → GivesBytes before came failed after → before.content ≡ Some text → HasEnded after → came ≡ text
 gives_all before after came text failed gives has ended =
     let there = gives_rest before after came text failed gives has in
     let none : there.0 ≡ [] = subst (λ left. IfSome left (λ rest. rest ≡ [])) there.1 ended in
     sym (append-nil came) ∙ ap (λ (rest : List ℕ). came ++ rest) (sym none) ∙ there.2
 
-too_long_text : (before after : Stream) (came text : List ℕ) (failed : Bool) → Gives before came failed after → before.content ≡ Some text → IsTooLong before came after → IsPast text
-too_long_text before after came text failed gives has (inl whatever) = let there = gives_rest before after came text failed gives has in subst IsPast there.2 (whatever there.0)
-too_long_text before after came text failed gives has (inr whole) = subst IsPast (gives_all before after came text false whole.1.gives has whole.1.ended) whole.0
+too_long_text : (before after : Stream) (came text : List ℕ) (failed : Bool) → GivesBytes before came failed after → before.content ≡ Some text → IsTooLong before came after → IsPastLimit text
+too_long_text before after came text failed gives has (inl whatever) = let there = gives_rest before after came text failed gives has in subst IsPastLimit there.2 (whatever there.0)
+too_long_text before after came text failed gives has (inr whole) = subst IsPastLimit (gives_all before after came text false whole.1.gives has whole.1.ended) whole.0
 
 -- ---- the cause of each fault
 
@@ -49,7 +49,7 @@ module _ (source source' sink sink' : Stream) (text : List ℕ) (has : source.co
   few_of : (came : List ℕ) → came ≡ text → false ≡ nat_lt script_limit (length came) → length text ≤ script_limit
   few_of came whole few = omega (arith, ap length whole, ltb-false 4194304 (length came) (sym few))
 
-  run_cause : (command : Subcommand) (ended : Outcome) (came put : List ℕ) → Gives source came (is_read ended) source' → PutsFor ended sink put sink' → DoesRun command ended came source' put → IsRunCause text (fault_of ended)
+  run_cause : (command : Subcommand) (ended : Outcome) (came put : List ℕ) → GivesBytes source came (is_read_outcome ended) source' → PutsFor ended sink put sink' → DoesRun command ended came source' put → IsRunCause text (fault_of ended)
   run_cause command (outcome.Clean history closed) came put gives written does =
       let whole = gives_all source source' came text false gives has (does.to_end refl) in
       (few_of came whole does.too_long, does.means.0.script, ap read_script (sym whole) ∙ does.means.0.read)
@@ -66,7 +66,7 @@ module _ (source source' sink sink' : Stream) (text : List ℕ) (has : source.co
   run_cause command (outcome.NotLegal place rule) came put gives written does = absurd does.means
   run_cause command (outcome.Transcript line) came put gives written does = absurd does.means
 
-  check_cause : (ended : Outcome) (came put : List ℕ) → Gives source came (is_read ended) source' → PutsFor ended sink put sink' → DoesCheck ended source came source' put → IsCheckCause text (fault_of ended)
+  check_cause : (ended : Outcome) (came put : List ℕ) → GivesBytes source came (is_read_outcome ended) source' → PutsFor ended sink put sink' → DoesCheck ended source came source' put → IsCheckCause text (fault_of ended)
   check_cause (outcome.Clean history closed) came put gives written does =
       let whole = gives_all source source' came text false gives has (does.to_end refl) in
       (subst IsWithinLimits whole (does.within refl), subst (λ bytes. IsFound bytes verdict.Legal) whole does.means.0)
@@ -96,7 +96,7 @@ module _ (source source' sink sink' : Stream) (text : List ℕ) (has : source.co
   make_cause IsWhole (outcome.NotLegal place rule) came put written does = absurd does.means
   make_cause IsWhole (outcome.Transcript line) came put written does = absurd does.means
 
-  any_cause : (command : Subcommand) (ended : Outcome) → IsDone (Some command) source source' sink sink' ended → IsCause command text (fault_of ended)
+  any_cause : (command : Subcommand) (ended : Outcome) → IsCommandDone (Some command) source source' sink sink' ended → IsCause command text (fault_of ended)
   any_cause subcommand.Run ended done = run_cause subcommand.Run ended done.came done.put done.reading done.writing done.own
   any_cause subcommand.Turns ended done = run_cause subcommand.Turns ended done.came done.put done.reading done.writing done.own
   any_cause subcommand.Check ended done = check_cause ended done.came done.put done.reading done.writing done.own
@@ -105,7 +105,7 @@ module _ (source source' sink sink' : Stream) (text : List ℕ) (has : source.co
 
 pub cause_of : (command : Subcommand) (text : List ℕ) (report : Report) → IsReportOn command text report → IsCause command text report.fault
 cause_of command text report on =
-    let done = subst (λ asked. IsDone asked on.source on.source' on.sink on.sink' on.is.ended) on.asked on.is.done in
+    let done = subst (λ asked. IsCommandDone asked on.source on.source' on.sink on.sink' on.is.ended) on.asked on.is.done in
     subst (IsCause command text) (sym on.is.fault) (any_cause on.source on.source' on.sink on.sink' text on.has on.source_stood on.sink_stood command on.is.ended done)
 
 pub run_cause_of : (command : Subcommand) → runs_script command ≡ true → (text : List ℕ) (reported : Fault) → IsCause command text reported → IsRunCause text reported

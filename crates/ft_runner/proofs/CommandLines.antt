@@ -13,8 +13,8 @@ use Rattle.clap.specs.Faults.{bundle_fault, bundle_step_fault, check_fault, defa
 use Rattle.clap.specs.declared.error.kind.ErrorKind.TheVariants as kind
 use Rattle.clap.proofs.FaultLemmas.{stopped_fault}
 use Rattle.clap.proofs.WalkLemmas.{walk_stopped}
-use Rattle.ft_script.specs.Words.{is_positive}
-use Rattle.ft_runner.specs.Commands.{calls_of, command_of, commanded, made, named, tool, without_mark}
+use Rattle.ft_script.specs.LineWords.{is_positive}
+use Rattle.ft_runner.specs.Commands.{calls_in_word, command_of, commanded, made_command, named, tool, without_mark}
 use Rattle.ft_runner.specs.Internal.Matched.{matched, matched_by}
 use Rattle.ft_runner.specs.declared.command.Subcommand.{Subcommand}
 use Rattle.ft_runner.specs.declared.command.Subcommand.TheVariants as subcommand
@@ -264,7 +264,7 @@ alone word command (a ∷ b ∷ []) no_make is = absurd (none_some (rw no_make a
 alone word command (a ∷ b ∷ c ∷ values) no_make is = absurd (none_some is)
 
 -- a number of calls that is one
-number_of : (calls : Text) (make : ℕ → Subcommand) (command : Subcommand) → option_map make (calls_of calls) ≡ Some command → is_positive calls ≡ true
+number_of : (calls : Text) (make : ℕ → Subcommand) (command : Subcommand) → option_map make (calls_in_word calls) ≡ Some command → is_positive calls ≡ true
 number_of calls make command is =
     elim (is_positive calls) as (λ b. is_positive calls ≡ b → is_positive calls ≡ true) [
       | true ↦ λ positive. positive
@@ -277,13 +277,13 @@ turns_bare mode is = subst IsBare (sym (same_word (codes "turns") mode is)) (rec
 make_taken : (word : Text) (command : Subcommand) (words values : List Text) → without_mark words ≡ values → IsMake word → commanded word values ≡ Some command → make_fault words ≡ []
 make_taken word command words [] left make is = absurd (none_some (sym make.no_name ∙ is))
 make_taken word command words (calls ∷ []) left make is =
-    let made : option_map (λ count. subcommand.Make count) (calls_of calls) ≡ Some command = rw make.is at is in
-    number_taken calls words (number_bare calls (number_of calls (λ count. subcommand.Make count) command made)) left
+    let made_command : option_map (λ count. subcommand.Make count) (calls_in_word calls) ≡ Some command = rw make.is at is in
+    number_taken calls words (number_bare calls (number_of calls (λ count. subcommand.Make count) command made_command)) left
 make_taken word command words (calls ∷ mode ∷ []) left make is =
     elim (bytes_eq (codes "turns") mode) as (λ b. bytes_eq (codes "turns") mode ≡ b → make_fault words ≡ []) [
       | true ↦ λ turns.
-          let made : option_map (λ count. subcommand.MakeTurns count) (calls_of calls) ≡ Some command = rw (make.is, turns) at is in
-          mode_taken calls mode words (number_bare calls (number_of calls (λ count. subcommand.MakeTurns count) command made)) (turns_bare mode turns) left
+          let made_command : option_map (λ count. subcommand.MakeTurns count) (calls_in_word calls) ≡ Some command = rw (make.is, turns) at is in
+          mode_taken calls mode words (number_bare calls (number_of calls (λ count. subcommand.MakeTurns count) command made_command)) (turns_bare mode turns) left
       | false ↦ λ other. absurd (none_some (rw (make.is, other) at is))
     ] refl
 make_taken word command words (a ∷ b ∷ c ∷ values) left make is = absurd (none_some is)
@@ -308,7 +308,7 @@ make_met_is : (word : Text) (words : List Text) → IsMake word → IsGiven word
 make_met_is word words make given =
     ap₂ (λ calls mode. matched_by (codes "make") calls mode) given.first given.second ∙ sym (values given.mode) ∙ ap (commanded word) (sym given.values)
   where
-    values : (mode : Option Text) → commanded word (option_map_or (λ more. given.calls ∷ more ∷ []) mode (given.calls ∷ [])) ≡ made given.calls mode
+    values : (mode : Option Text) → commanded word (option_map_or (λ more. given.calls ∷ more ∷ []) mode (given.calls ∷ [])) ≡ made_command given.calls mode
     values None = rw make.is refl
     values (Some mode) = rw make.is refl
 

@@ -5,7 +5,7 @@ use Rattle.ft_model.specs.declared.entry.Entry.{Entry}
 use Rattle.ft_model.specs.declared.script.ScriptParts.{ScriptParts}
 use Rattle.ft_script.specs.declared.transcript.TranscriptFault.{TranscriptFault}
 use Rattle.ft_script.specs.declared.transcript.TranscriptFault.TheVariants as transcript
-use Rattle.ft_script.specs.Scripts.{read_script}
+use Rattle.ft_script.specs.ReadScripts.{read_script}
 use Rattle.ft_script.specs.Transcripts.{IsFirstBad, IsTranscript}
 use Rattle.ft_runner.specs.Checking.{HasNoSeparator, IsSeparator, IsScriptPart}
 use Rattle.ft_runner.specs.Findings.{IsBadAt, IsFound, IsParted, IsVerdictOn}

@@ -13,7 +13,7 @@ use Rattle.clap.specs.Walk.{Held, Row, Rule, Text, Walk, after_flag, bundle_met,
 use Rattle.clap.specs.Simple.{Shape, filled, with_index}
 use Rattle.clap.specs.Faults.{bundle_fault, bundle_step_fault, check_fault, defaults_fault, settle_fault, flag_word_fault, flags_fault, level_fault, turn_fault, walk_fault}
 use Rattle.clap.specs.declared.error.kind.ErrorKind.TheVariants as kind
-use Rattle.ft_script.specs.Words.{is_positive}
+use Rattle.ft_script.specs.LineWords.{is_positive}
 use Rattle.ft_runner.specs.Commands.{calls_rule, make_shape, mode_rule, without_mark}
 use Rattle.ft_runner.proofs.KindLemmas.{dashes, neither, nonempty}
 

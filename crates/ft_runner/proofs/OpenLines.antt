@@ -5,7 +5,7 @@ use Rattle.std.proofs.lemmas.List.{append-nil, drop-append-le, get_or_append_lef
 use Rattle.std.proofs.lemmas.Slice.Eq.{bytes_eq-Decides}
 use Rattle.std.specs.Str.{bytes_eq}
 use Rattle.ft_runner.specs.Checking.{begins_line, is_separator, is_separator_at, CanFit, IsReadInTime, IsScriptFew, IsSeparator}
-use Rattle.ft_runner.specs.Internal.Filling.{is_begun, is_open_at, IsOpen, IsSettled, IsShut}
+use Rattle.ft_runner.specs.Internal.Filling.{is_begun, is_open_at, HasOpenLine, IsSettled, HasNoOpenLine}
 use Rattle.ft_runner.proofs.SeparatorLemmas.{separator_stays}
 
 -- ---- the first such line
@@ -65,7 +65,7 @@ missing_of rest begun =
     ] refl
 
 -- where such a line has begun, bytes can follow with which it is `---`
-pub open_fits : (bytes : List ℕ) → 4194304 < length bytes → IsOpen bytes → CanFit bytes
+pub open_fits : (bytes : List ℕ) → 4194304 < length bytes → HasOpenLine bytes → CanFit bytes
 open_fits bytes far begun =
     let place = begun.0 in
     let inside : place < length bytes = omega (arith, begun.1, far) in
@@ -84,7 +84,7 @@ open_fits bytes far begun =
     )
 
 -- and no more bytes are there than have come of the line
-pub open_is_few : (bytes : List ℕ) → 4194304 < length bytes → IsOpen bytes → length bytes ≤ 4194307
+pub open_is_few : (bytes : List ℕ) → 4194304 < length bytes → HasOpenLine bytes → length bytes ≤ 4194307
 open_is_few bytes far begun =
     let both = and_parts (begins_line bytes begun.0) (is_begun (drop begun.0 bytes)) begun.2 in
     omega (arith, (missing_of (drop begun.0 bytes) both.1).few, length-drop begun.0 bytes, begun.1, far)
@@ -119,7 +119,7 @@ shut_stays bytes more place inside late shut =
     ] refl
 
 -- where no line can still become `---`, it is settled which are
-pub shut_settles : (bytes : List ℕ) → 4194304 < length bytes → IsShut bytes → IsSettled bytes
+pub shut_settles : (bytes : List ℕ) → 4194304 < length bytes → HasNoOpenLine bytes → IsSettled bytes
 shut_settles bytes far shut more place low =
     elim (cases_lt (length bytes) (place + 4)) [
       | inl late ↦ shut_stays bytes more place (omega (arith, low, far)) late (shut place low)

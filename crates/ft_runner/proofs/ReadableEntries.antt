@@ -45,7 +45,7 @@ use Rattle.ft_history.proofs.ScriptLemmas.{call_of_thread, calls_of-at, no_calls
 use Rattle.ft_history.proofs.Unbroken.{next_of_legal}
 use Rattle.ft_script.specs.Transcripts.{counts, counts_dict, counts_list, counts_set, IsReadable, IsReadableReply, IsWideCall, IsWideKey, IsWideReply, IsWideValue}
 use Rattle.ft_turns.specs.Internal.Counting.{counted_in}
-use Rattle.ft_turns.specs.Replies.{HasShortReply, IsShortReply}
+use Rattle.ft_turns.specs.ShortReplies.{HasShortReply, IsShortReply}
 use Rattle.ft_turns.proofs.AnswerFacts.{plain_answer}
 use Rattle.ft_turns.proofs.CallFacts.{is_counting, is_counting_dict, is_counting_list, is_counting_set, IsCallBy, IsDictCallBy, IsListCallBy, IsSetCallBy}
 use Rattle.ft_turns.proofs.ContentFacts.{GoTogether, IsReplyBy}

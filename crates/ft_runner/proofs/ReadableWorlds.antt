@@ -21,7 +21,7 @@ use Rattle.ft_model.specs.declared.script.ScriptParts.{ScriptParts}
 use Rattle.ft_model.specs.Parts.{IsReplyOf}
 use Rattle.ft_model.specs.Scripts.{IsKeyOf, IsValueOf}
 use Rattle.ft_script.specs.Texts.{braced_text, container_name, content_text, elements_text, key_text, line, pair_text, reply_text, world_text}
-use Rattle.ft_script.specs.Transcripts.{fed, IsContentLine, IsWhole, IsWideKey, IsWideReply, IsWideValue}
+use Rattle.ft_script.specs.Transcripts.{fed, IsContentLine, IsContentReply, IsWideKey, IsWideReply, IsWideValue}
 use Rattle.ft_turns.proofs.ContentFacts.{IsContentBy}
 use Rattle.ft_runner.specs.Findings.{given_lines, world_lines}
 use Rattle.ft_runner.proofs.ReadableEntries.{KeyFits, ValueFits}
@@ -39,7 +39,7 @@ said_alike strings (content.Dict dict) = ap braced_text (sym (map-map (pair_text
 said_alike strings (content.List items) = refl
 said_alike strings (content.Set set) = ap elements_text (sym (map-map (key_text strings) (λ (element : Element). element.key) set.elements))
 
-whole : (c : Content) → IsWhole (as_reply c)
+whole : (c : Content) → IsContentReply (as_reply c)
 unfolding as_reply
 whole (content.Dict dict) = tt
 whole (content.List items) = tt

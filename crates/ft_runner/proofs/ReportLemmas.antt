@@ -10,18 +10,17 @@ use Rattle.ft_io.specs.Streams.{Stream}
 use Rattle.ft_io.specs.declared.source.Failed.{Failed}
 use Rattle.ft_model.specs.declared.content.Content.{Content}
 use Rattle.ft_model.specs.declared.entry.Entry.{Entry}
-use Rattle.ft_model.specs.declared.entry.Storage.TheVariants as storage
 use Rattle.ft_model.specs.declared.script.ScriptParts.{ScriptParts}
 use Rattle.ft_model.specs.Histories.{writes, world_at, IsLegal}
 use Rattle.ft_model.specs.Numbers.{AreFitting}
 use Rattle.ft_script.specs.declared.fault.ScriptFault.{ScriptFault}
 use Rattle.ft_script.specs.Faults.{no_memory}
 use Rattle.ft_script.specs.Generator.{made_text}
-use Rattle.ft_script.specs.Scripts.{read_script}
+use Rattle.ft_script.specs.ReadScripts.{read_script}
 use Rattle.ft_runner.specs.Making.{IsSummary}
 use Rattle.ft_script.specs.Texts.{entry_line, world_text}
-use Rattle.ft_turns.specs.Orders.{IsOrderRun}
-use Rattle.ft_turns.specs.Replies.{HasShortReply}
+use Rattle.ft_turn_runs.specs.Seats.{IsOrderRunFor}
+use Rattle.ft_turns.specs.ShortReplies.{HasShortReply}
 use Rattle.ft_history.specs.declared.verdict.Verdict.TheVariants as verdict
 use Rattle.ft_model.specs.declared.entry.Rule.{Rule}
 use Rattle.ft_runner.specs.declared.command.Subcommand.{Subcommand}
@@ -32,15 +31,15 @@ use Rattle.ft_runner.specs.declared.reading.ReadFault.{ReadFault}
 use Rattle.ft_runner.specs.declared.reading.ReadFault.TheVariants as read
 use Rattle.ft_runner.specs.Checking.{IsReadToItsEnd, IsScriptPart, IsWithinLimits, StopsInput}
 use Rattle.ft_runner.specs.Commands.{runs_script}
-use Rattle.ft_runner.specs.Findings.{broken_line, legal_line, IsBadAt, IsFound}
-use Rattle.ft_runner.specs.Streams.{Gives, Receives, PutsPrefix, Puts, Reported, StopsReading, IsWholeInput, has_failed, is_too_much}
-use Rattle.ft_runner.specs.Reports.{is_read, is_too_long, is_usage, has_ended, comes_of_text, refusal_of, stopped, storage_of, ComesTo, Does, DoesMake, DoesRun, IsHistoryOf, IsDone, Leaves, MeansChecked, MeansMade, MeansRun, PutsFor}
+use Rattle.ft_runner.specs.Findings.{broken_line, legal_line, stored, IsBadAt, IsFound}
+use Rattle.ft_runner.specs.Transfers.{GivesBytes, Receives, PutsPrefix, PutsText, Reported, StopsReading, IsWholeInput, has_failed, is_too_much}
+use Rattle.ft_runner.specs.Reports.{is_read_outcome, is_too_long_outcome, is_usage_outcome, has_ended, comes_of_text, refusal_of, stopped, ComesTo, DoesCommand, DoesMake, DoesRun, IsCommandHistory, IsCommandDone, LeavesBank, MeansChecked, MeansMade, MeansRun, PutsFor}
 use Rattle.ft_runner.proofs.OpenLines.{few_fits, fit_in_time}
-use Rattle.ft_runner.proofs.StreamLemmas.{Gives-none, Receives-none}
+use Rattle.ft_runner.proofs.StreamLemmas.{GivesBytes-none, Receives-none}
 
 -- ---- what was put
 
-pub reported : (a b : Stream) (text : List ℕ) (r : Result (Unit {0}) Failed) → Puts a text r b → Reported a text b
+pub reported : (a b : Stream) (text : List ℕ) (r : Result (Unit {0}) Failed) → PutsText a text r b → Reported a text b
 reported a b text (Ok u) p = inl p
 reported a b text (Err e) p = inr p
 
@@ -50,7 +49,7 @@ pub some_none : {X : Type 0} {x : X} → Some x ≡ None → ⊥
 some_none same = true≢false (ap is_some same)
 
 -- what a command that runs a script does
-pub does_run : (command : Subcommand) → runs_script command ≡ true → (ended : Outcome) (source : Stream) (came : List ℕ) (source' : Stream) (put : List ℕ) → DoesRun command ended came source' put → Does (Some command) ended source came source' put
+pub does_run : (command : Subcommand) → runs_script command ≡ true → (ended : Outcome) (source : Stream) (came : List ℕ) (source' : Stream) (put : List ℕ) → DoesRun command ended came source' put → DoesCommand (Some command) ended source came source' put
 does_run subcommand.Run runs ended source came source' put does = does
 does_run subcommand.Turns runs ended source came source' put does = does
 does_run subcommand.Check runs ended source came source' put does = absurd (false≢true runs)
@@ -61,9 +60,9 @@ does_run (subcommand.MakeTurns calls) runs ended source came source' put does = 
 
 -- that reading has stopped says nothing but that
 record IsStop (stop : ReadFault) (sink : Stream) : Type 0 where
-  usage : is_usage (stopped stop) ≡ false
-  read : is_read (stopped stop) ≡ has_failed stop
-  too_long : is_too_long (stopped stop) ≡ is_too_much stop
+  usage : is_usage_outcome (stopped stop) ≡ false
+  read : is_read_outcome (stopped stop) ≡ has_failed stop
+  too_long : is_too_long_outcome (stopped stop) ≡ is_too_much stop
   ended : has_ended (stopped stop) ≡ false
   writing : PutsFor (stopped stop) sink [] sink
   run : (command : Subcommand) (came : List ℕ) → MeansRun command came (stopped stop) []
@@ -75,26 +74,26 @@ stop_of read.TooLong sink = record { usage = refl; read = refl; too_long = refl;
 stop_of read.Memory sink = record { usage = refl; read = refl; too_long = refl; ended = refl; writing = Receives-none sink; run = λ command came. inl refl; checked = λ came. refl }
 
 module _ (source source' sink : Stream) where
-  pub stops_reading_done : (command : Subcommand) → runs_script command ≡ true → (stop : ReadFault) → StopsReading stop source source' → IsDone (Some command) source source' sink sink (stopped stop)
+  pub stops_reading_done : (command : Subcommand) → runs_script command ≡ true → (stop : ReadFault) → StopsReading stop source source' → IsCommandDone (Some command) source source' sink sink (stopped stop)
   stops_reading_done command runs stop p =
       let it = stop_of stop sink in
       record {
         came = p.came;
         put = [];
         usage = λ known. it.usage;
-        reading = subst (λ failed. Gives source p.came failed source') (sym it.read) p.gives;
+        reading = subst (λ failed. GivesBytes source p.came failed source') (sym it.read) p.gives;
         writing = it.writing;
         own = does_run command runs (stopped stop) source p.came source' [] (record { too_long = it.too_long ∙ p.too_long; few = p.few; to_end = λ h. absurd (false≢true (sym it.ended ∙ h)); means = it.run command p.came });
       }
 
-  pub stops_input_done : (stop : ReadFault) → StopsInput stop source source' → IsDone (Some subcommand.Check) source source' sink sink (stopped stop)
+  pub stops_input_done : (stop : ReadFault) → StopsInput stop source source' → IsCommandDone (Some subcommand.Check) source source' sink sink (stopped stop)
   stops_input_done stop p =
       let it = stop_of stop sink in
       record {
         came = p.came;
         put = [];
         usage = λ known. it.usage;
-        reading = subst (λ failed. Gives source p.came failed source') (sym it.read) p.gives;
+        reading = subst (λ failed. GivesBytes source p.came failed source') (sym it.read) p.gives;
         writing = it.writing;
         own = record {
           too_long = λ long. p.too_long (sym it.too_long ∙ long);
@@ -110,7 +109,7 @@ module _ (source source' sink : Stream) where
 -- ---- what was read whole
 
 -- what comes of bytes that were read whole
-text_outcome : (ended : Outcome) → comes_of_text ended ≡ true → (is_usage ended ≡ false) × (is_read ended ≡ false) × (is_too_long ended ≡ false)
+text_outcome : (ended : Outcome) → comes_of_text ended ≡ true → (is_usage_outcome ended ≡ false) × (is_read_outcome ended ≡ false) × (is_too_long_outcome ended ≡ false)
 text_outcome (outcome.Clean history closed) h = (refl, refl, refl)
 text_outcome (outcome.Script refused) h = (refl, refl, refl)
 text_outcome (outcome.Write history closed) h = (refl, refl, refl)
@@ -122,26 +121,26 @@ text_outcome (outcome.NotLegal place rule) h = (refl, refl, refl)
 text_outcome (outcome.Transcript line) h = (refl, refl, refl)
 
 module _ (source source' sink sink' : Stream) (bytes : List ℕ) (ended : Outcome) where
-  pub text_done : (command : Subcommand) → runs_script command ≡ true → IsWholeInput source bytes source' → ComesTo (MeansRun command bytes) sink sink' ended → IsDone (Some command) source source' sink sink' ended
+  pub text_done : (command : Subcommand) → runs_script command ≡ true → IsWholeInput source bytes source' → ComesTo (MeansRun command bytes) sink sink' ended → IsCommandDone (Some command) source source' sink sink' ended
   text_done command runs p q =
       let kind = text_outcome ended q.cause in
       record {
         came = bytes;
         put = q.put;
         usage = λ known. kind.0;
-        reading = subst (λ failed. Gives source bytes failed source') (sym kind.1) p.gives;
+        reading = subst (λ failed. GivesBytes source bytes failed source') (sym kind.1) p.gives;
         writing = q.writing;
         own = does_run command runs ended source bytes source' q.put (record { too_long = kind.2 ∙ sym (le-ltb 4194304 (length bytes) p.few); few = omega (arith, p.few); to_end = λ h. p.ended; means = q.means });
       }
 
-  pub input_done : IsReadToItsEnd source bytes source' → IsWithinLimits bytes → ComesTo (MeansChecked bytes) sink sink' ended → IsDone (Some subcommand.Check) source source' sink sink' ended
+  pub input_done : IsReadToItsEnd source bytes source' → IsWithinLimits bytes → ComesTo (MeansChecked bytes) sink sink' ended → IsCommandDone (Some subcommand.Check) source source' sink sink' ended
   input_done p within q =
       let kind = text_outcome ended q.cause in
       record {
         came = bytes;
         put = q.put;
         usage = λ known. kind.0;
-        reading = subst (λ failed. Gives source bytes failed source') (sym kind.1) p.gives;
+        reading = subst (λ failed. GivesBytes source bytes failed source') (sym kind.1) p.gives;
         writing = q.writing;
         own = record {
           too_long = λ long. absurd (true≢false (sym long ∙ kind.2));
@@ -156,13 +155,13 @@ module _ (source source' sink sink' : Stream) (bytes : List ℕ) (ended : Outcom
 
 -- ---- words that are no command, or out of memory before they are known
 
-pub usage_done : (source sink : Stream) → IsDone None source source sink sink outcome.Usage
+pub usage_done : (source sink : Stream) → IsCommandDone None source source sink sink outcome.Usage
 usage_done source sink =
     record {
       came = [];
       put = [];
       usage = λ known. refl;
-      reading = Gives-none source;
+      reading = GivesBytes-none source;
       writing = Receives-none sink;
       own = (refl, refl);
     }
@@ -170,7 +169,7 @@ usage_done source sink =
 unsaid_run : (command : Subcommand) (source : Stream) → DoesRun command outcome.Memory [] source []
 unsaid_run command source = record { too_long = refl; few = omega arith; to_end = λ h. absurd (false≢true h); means = inl refl }
 
-unsaid : (command : Option Subcommand) (source : Stream) → Does command outcome.Memory source [] source []
+unsaid : (command : Option Subcommand) (source : Stream) → DoesCommand command outcome.Memory source [] source []
 unsaid None source = (refl, refl)
 unsaid (Some subcommand.Run) source = unsaid_run subcommand.Run source
 unsaid (Some subcommand.Turns) source = unsaid_run subcommand.Turns source
@@ -178,13 +177,13 @@ unsaid (Some subcommand.Check) source = record { too_long = λ h. absurd (false�
 unsaid (Some (subcommand.Make calls)) source = record { nothing_came = refl; untouched = refl; means = refl }
 unsaid (Some (subcommand.MakeTurns calls)) source = record { nothing_came = refl; untouched = refl; means = refl }
 
-pub memory_done : (command : Option Subcommand) (source sink : Stream) → IsDone command source source sink sink outcome.Memory
+pub memory_done : (command : Option Subcommand) (source sink : Stream) → IsCommandDone command source source sink sink outcome.Memory
 memory_done command source sink =
     record {
       came = [];
       put = [];
       usage = λ known. absurd (true≢false known);
-      reading = Gives-none source;
+      reading = GivesBytes-none source;
       writing = Receives-none sink;
       own = unsaid command source;
     }
@@ -208,9 +207,9 @@ module _ (command : Subcommand) (bytes : List ℕ) where
   -- a history of the script, and the contents after its writes
   pub record IsRun (script : ScriptParts) (history : List Entry) (world : List Content) : Type 0 where
     pub read : read_script bytes ≡ Ok script
-    pub legal : IsLegal (storage_of command) script history
-    pub order : command ≡ subcommand.Turns → IsOrderRun storage.Plain script history
-    pub fitting : AreFitting (storage_of command) script history
+    pub legal : IsLegal stored script history
+    pub order : command ≡ subcommand.Turns → IsOrderRunFor script history
+    pub fitting : AreFitting stored script history
     pub short : All HasShortReply history
     pub last : world ≡ world_at script history (length (writes history))
 
@@ -218,21 +217,21 @@ module _ (command : Subcommand) (bytes : List ℕ) where
     abbrev text : List ℕ
     text = flat_map (entry_line script) history ++ world_text script world
 
-    history_is : IsHistoryOf command bytes history text
+    history_is : IsCommandHistory command bytes history text
     history_is = record { script = script; read = is.read; legal = is.legal; order = is.order; fitting = is.fitting; short = is.short; written = ap (λ (w : List Content). flat_map (entry_line script) history ++ world_text script w) is.last }
 
     pub run_short : (sink sink' : Stream) → PutsPrefix sink text false sink' → ComesTo (MeansRun command bytes) sink sink' outcome.Memory
     run_short sink sink' part = record { put = part.prefix; writing = part.receives; means = inr (history, record { text = text; whole = history_is; prefix = part.is_prefix }); cause = refl }
 
-    module _ (sink sink' : Stream) (made : Vec Entry Global) (made_is : made.items ≡ history) (closed : Option Closed) (left : Leaves command bytes history closed) where
-      leaves : Leaves command bytes made.items closed
-      leaves = subst (λ (es : List Entry). Leaves command bytes es closed) (sym made_is) left
+    module _ (sink sink' : Stream) (made : Vec Entry Global) (made_is : made.items ≡ history) (closed : Option Closed) (left : LeavesBank bytes history closed) where
+      leaves : LeavesBank bytes made.items closed
+      leaves = subst (λ (es : List Entry). LeavesBank bytes es closed) (sym made_is) left
 
       pub run_written : Receives sink text false sink' → ComesTo (MeansRun command bytes) sink sink' (outcome.Clean made closed)
-      run_written all = record { put = text; writing = all; means = (subst (λ (es : List Entry). IsHistoryOf command bytes es text) (sym made_is) history_is, leaves); cause = refl }
+      run_written all = record { put = text; writing = all; means = (subst (λ (es : List Entry). IsCommandHistory command bytes es text) (sym made_is) history_is, leaves); cause = refl }
 
       pub run_failed : PutsPrefix sink text true sink' → ComesTo (MeansRun command bytes) sink sink' (outcome.Write made closed)
-      run_failed part = record { put = part.prefix; writing = part.receives; means = (record { text = text; whole = subst (λ (es : List Entry). IsHistoryOf command bytes es text) (sym made_is) history_is; prefix = part.is_prefix }, leaves); cause = refl }
+      run_failed part = record { put = part.prefix; writing = part.receives; means = (record { text = text; whole = subst (λ (es : List Entry). IsCommandHistory command bytes es text) (sym made_is) history_is; prefix = part.is_prefix }, leaves); cause = refl }
 
 -- ---- what a transcript comes to
 
@@ -284,20 +283,20 @@ means_made IsWhole made whole outcome.TooLong put means = means
 means_made IsWhole made whole (outcome.NotLegal place rule) put means = means
 means_made IsWhole made whole (outcome.Transcript line) put means = means
 
-made_done : (command : Subcommand) (IsWhole : List ℕ → Type 0) (text : List ℕ) → IsWhole text → (sink sink' : Stream) (ended : Outcome) → ComesTo (MeansMade (λ made. made ≡ text)) sink sink' ended → (source : Stream) → ((put : List ℕ) → DoesMake IsWhole ended source [] source put → Does (Some command) ended source [] source put) → IsDone (Some command) source source sink sink' ended
+made_done : (command : Subcommand) (IsWhole : List ℕ → Type 0) (text : List ℕ) → IsWhole text → (sink sink' : Stream) (ended : Outcome) → ComesTo (MeansMade (λ made. made ≡ text)) sink sink' ended → (source : Stream) → ((put : List ℕ) → DoesMake IsWhole ended source [] source put → DoesCommand (Some command) ended source [] source put) → IsCommandDone (Some command) source source sink sink' ended
 made_done command IsWhole text whole sink sink' ended comes source does =
     let kind = text_outcome ended comes.cause in
     record {
       came = [];
       put = comes.put;
       usage = λ known. kind.0;
-      reading = subst (λ failed. Gives source [] failed source) (sym kind.1) (Gives-none source);
+      reading = subst (λ failed. GivesBytes source [] failed source) (sym kind.1) (GivesBytes-none source);
       writing = comes.writing;
       own = does comes.put (record { nothing_came = refl; untouched = refl; means = means_made IsWhole text whole ended comes.put comes.means });
     }
 
-pub script_made : (calls : ℕ) (text : List ℕ) → text ≡ made_text calls → (sink sink' : Stream) (ended : Outcome) → ComesTo (MeansMade (λ made. made ≡ text)) sink sink' ended → (source : Stream) → IsDone (Some (subcommand.Make calls)) source source sink sink' ended
+pub script_made : (calls : ℕ) (text : List ℕ) → text ≡ made_text calls → (sink sink' : Stream) (ended : Outcome) → ComesTo (MeansMade (λ made. made ≡ text)) sink sink' ended → (source : Stream) → IsCommandDone (Some (subcommand.Make calls)) source source sink sink' ended
 script_made calls text is sink sink' ended comes source = made_done (subcommand.Make calls) (λ made. made ≡ made_text calls) text is sink sink' ended comes source (λ put does. does)
 
-pub summary_made : (calls : ℕ) (text : List ℕ) → IsSummary calls text → (sink sink' : Stream) (ended : Outcome) → ComesTo (MeansMade (λ made. made ≡ text)) sink sink' ended → (source : Stream) → IsDone (Some (subcommand.MakeTurns calls)) source source sink sink' ended
+pub summary_made : (calls : ℕ) (text : List ℕ) → IsSummary calls text → (sink sink' : Stream) (ended : Outcome) → ComesTo (MeansMade (λ made. made ≡ text)) sink sink' ended → (source : Stream) → IsCommandDone (Some (subcommand.MakeTurns calls)) source source sink sink' ended
 summary_made calls text is sink sink' ended comes source = made_done (subcommand.MakeTurns calls) (IsSummary calls) text is sink sink' ended comes source (λ put does. does)

@@ -6,7 +6,7 @@ use Rattle.ft_model.specs.declared.entry.Entry.{Entry}
 use Rattle.ft_model.specs.declared.script.ScriptParts.{ScriptParts}
 use Rattle.ft_runner.specs.declared.report.Fault.{Fault}
 use Rattle.ft_runner.specs.declared.report.Fault.TheVariants as fault
-use Rattle.ft_runner.specs.Causes.{IsCheckCause}
+use Rattle.ft_runner.specs.FaultCauses.{IsCheckCause}
 use Rattle.ft_runner.specs.Checking.{IsWithinLimits}
 use Rattle.ft_runner.specs.Findings.{IsInput, IsVerdictOn}
 use Rattle.ft_runner.specs.Reports.{reported_of}

@@ -1,4 +1,4 @@
--- What a run whose threads were beside each other has made is a legal history: judging it finds so. Its MemoryErrors fit.
+-- What a run has made is a legal history: judging it finds so. Its MemoryErrors fit.
 use Rattle.std.proofs.Common.{◌≡◌, ℕ, List, Ok, Option, Some, None, refl, sym, ap, subst, inl, inr, take}
 use Rattle.std.specs.Prelude.{All, length}
 use Rattle.std.proofs.lemmas.Bool.{cases_eq}
@@ -20,10 +20,12 @@ use Rattle.ft_model.specs.Histories.{writes, world_at, IsLegal}
 use Rattle.ft_model.specs.Numbers.{AreFitting, IsHistoryOf}
 use Rattle.ft_model.specs.Parts.{IsEntryOf, IsWorldOf}
 use Rattle.ft_model.specs.Tables.{stored_after, takes_in, IsFittingReply, StoredWorld}
-use Rattle.ft_script.specs.Scripts.{read_script}
+use Rattle.ft_script.specs.ReadScripts.{read_script}
 use Rattle.ft_script.specs.Transcripts.{IsReadable}
 use Rattle.ft_script.proofs.ReadScripts.{script_read, script_wide}
-use Rattle.ft_turns.specs.Replies.{HasShortReply}
+use Rattle.ft_turns.specs.ShortReplies.{HasShortReply}
+use Rattle.ft_turn_runs.specs.Seats.{IsOrderRunFor}
+use Rattle.ft_runner.specs.declared.command.Subcommand.{Subcommand}
 use Rattle.ft_runner.specs.declared.command.Subcommand.TheVariants as subcommand
 use Rattle.ft_runner.proofs.ReadableEntries.{readable_entries, short_entries}
 use Rattle.ft_runner.proofs.ReportLemmas.{IsRun}
@@ -71,13 +73,5 @@ module _ (bytes : List ℕ) (script : ScriptParts) (read : read_script bytes ≡
   world_made world is = subst (IsWorldOf script) (sym is) (world_of_legal script history entries_made legal)
 
   -- and all of it is what a command that runs a script comes to
-  pub run_made : (world : List Content) → AreFitting storage.Tables script history → world ≡ world_at script history (length (writes history)) → IsRun subcommand.Run bytes script history world
-  run_made world fitting last =
-      record {
-        read = read;
-        legal = legal;
-        order = λ turns. absurd (let no : subcommand.Run ≡ subcommand.Turns = turns in cc);
-        fitting = fitting;
-        short = short_made;
-        last = last;
-      }
+  pub run_made : (command : Subcommand) (world : List Content) → (command ≡ subcommand.Turns → IsOrderRunFor script history) → AreFitting storage.Tables script history → world ≡ world_at script history (length (writes history)) → IsRun command bytes script history world
+  run_made command world order fitting last = record { read = read; legal = legal; order = order; fitting = fitting; short = short_made; last = last }

@@ -2,7 +2,7 @@
 use Rattle.std.proofs.Common.{◌≡◌, ◌∙◌, ℕ, ◌+◌, ◌-◌, ◌<◌, ◌≤◌, ◌==◌, ◌&&◌, ◌||◌, List, ◌++◌, Option, Some, None, length, take, drop, sym, ap, ap₂, arith, inl, inr}
 use Rattle.std.proofs.lemmas.Bool.{cases_lt, true≢false}
 use Rattle.std.proofs.lemmas.List.{drop-append-le, get_or_append_left, length-append, length-drop, take-append-le}
-use Rattle.ft_runner.specs.Checking.{begins_line, is_separator, is_separator_at, HasNoSeparator, IsSeparator, IsSeparatorOf, IsPast, IsScriptFew, IsScriptLong, IsScriptPart, IsWithinLimits}
+use Rattle.ft_runner.specs.Checking.{begins_line, is_separator, is_separator_at, HasNoSeparator, IsSeparator, IsSeparatorOf, IsPastLimit, IsScriptFew, IsScriptLong, IsScriptPart, IsWithinLimits}
 use Rattle.ft_runner.specs.Internal.Filling.{IsSettled}
 
 -- ---- bytes that go on
@@ -58,7 +58,7 @@ IsSeparatorOf-stays bytes more separator settled far (inl few) is = absurd (omeg
 IsSeparatorOf-stays bytes more None settled far (inr at) none = absurd (no_separator bytes at.0 none at.2)
 IsSeparatorOf-stays bytes more (Some place) settled far (inr at) separator = separator_settled bytes more place settled (omega (arith, one_separator bytes place at.0 separator at.2, at.1)) separator
 
-pub past_within : (bytes : List ℕ) → IsPast bytes → IsWithinLimits bytes → ⊥
+pub past_within : (bytes : List ℕ) → IsPastLimit bytes → IsWithinLimits bytes → ⊥
 past_within bytes (inl long) within = omega (arith, within.few)
 past_within bytes (inr script) within =
     elim within.script_few [

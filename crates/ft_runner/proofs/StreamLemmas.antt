@@ -4,7 +4,7 @@ use Rattle.std.proofs.lemmas.List.{append-nil}
 use Rattle.std.proofs.Math.Seq.{take-add}
 use Rattle.ft_io.specs.Streams.{raised, prepended, added, Stream}
 use Rattle.ft_io.specs.declared.source.Failed.{Failed}
-use Rattle.ft_runner.specs.Streams.{Gives, Receives, PutsPrefix, Puts, IsBuffered}
+use Rattle.ft_runner.specs.Transfers.{GivesBytes, Receives, PutsPrefix, PutsText, IsBuffered}
 use Rattle.std.specs.List.{flat_map}
 use Rattle.std.proofs.lemmas.List.Concat.{flat_map-append}
 use Rattle.std.proofs.lemmas.List.{take-append-drop, take_more, take_all}
@@ -25,16 +25,16 @@ added-append : (taken : Option (List ℕ)) (x y : List ℕ) → added (added tak
 added-append None x y = refl
 added-append (Some bytes) x y = ap (λ (bs : List ℕ). Some bs) (append_assoc bytes x y)
 
-pub Gives-none : (a : Stream) → Gives a [] false a
-Gives-none a = record { content = prepended-nil a.content; faults = refl }
+pub GivesBytes-none : (a : Stream) → GivesBytes a [] false a
+GivesBytes-none a = record { content = prepended-nil a.content; faults = refl }
 
-pub Gives-then : (a b c : Stream) (x y : List ℕ) (failed : Bool) → Gives a x false b → Gives b y failed c → Gives a (x ++ y) failed c
-Gives-then a b c x y true p q = record { content = p.content ∙ ap (prepended x) q.content ∙ prepended-append x y c.content; faults = q.faults ∙ ap raised p.faults }
-Gives-then a b c x y false p q = record { content = p.content ∙ ap (prepended x) q.content ∙ prepended-append x y c.content; faults = q.faults ∙ p.faults }
+pub GivesBytes-then : (a b c : Stream) (x y : List ℕ) (failed : Bool) → GivesBytes a x false b → GivesBytes b y failed c → GivesBytes a (x ++ y) failed c
+GivesBytes-then a b c x y true p q = record { content = p.content ∙ ap (prepended x) q.content ∙ prepended-append x y c.content; faults = q.faults ∙ ap raised p.faults }
+GivesBytes-then a b c x y false p q = record { content = p.content ∙ ap (prepended x) q.content ∙ prepended-append x y c.content; faults = q.faults ∙ p.faults }
 
 -- a call that fails takes nothing
-pub Gives-fails : (a b c : Stream) (x : List ℕ) → Gives a x false b → c.content ≡ b.content → c.faults ≡ raised b.faults → Gives a x true c
-Gives-fails a b c x p same fault = record { content = p.content ∙ ap (prepended x) (sym same); faults = fault ∙ ap raised p.faults }
+pub GivesBytes-fails : (a b c : Stream) (x : List ℕ) → GivesBytes a x false b → c.content ≡ b.content → c.faults ≡ raised b.faults → GivesBytes a x true c
+GivesBytes-fails a b c x p same fault = record { content = p.content ∙ ap (prepended x) (sym same); faults = fault ∙ ap raised p.faults }
 
 pub Receives-none : (a : Stream) → Receives a [] false a
 Receives-none a = record { content = added-nil a.content; faults = refl }
@@ -90,9 +90,9 @@ PutsPrefix-then a b c buffer text more p q =
 
 -- ---- pieces of a text that are put one after the other
 
-pub Puts-then : (a b c : Stream) (x y : List ℕ) (r : Result (Unit {0}) Failed) → Receives a x false b → Puts b y r c → Puts a (x ++ y) r c
-Puts-then a b c x y (Ok u) p q = Receives-then a b c x y false p q
-Puts-then a b c x y (Err e) p q = record {
+pub PutsText-then : (a b c : Stream) (x y : List ℕ) (r : Result (Unit {0}) Failed) → Receives a x false b → PutsText b y r c → PutsText a (x ++ y) r c
+PutsText-then a b c x y (Ok u) p q = Receives-then a b c x y false p q
+PutsText-then a b c x y (Err e) p q = record {
   prefix = x ++ q.prefix;
   is_prefix = (q.is_prefix.0, append_assoc x q.prefix q.is_prefix.0 ∙ ap (λ (bytes : List ℕ). x ++ bytes) q.is_prefix.1);
   receives = Receives-then a b c x q.prefix true p q.receives;

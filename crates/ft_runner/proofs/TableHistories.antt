@@ -34,8 +34,7 @@ use Rattle.ft_history.proofs.Matching.{match_of, section_ended}
 use Rattle.ft_history.proofs.Places.{writes_before}
 use Rattle.ft_history.proofs.Unbroken.{next_of_legal}
 use Rattle.ft_turns.specs.Internal.Counting.{counted_in}
-use Rattle.ft_turns.specs.Replies.{IsShortReply}
-use Rattle.ft_runner.specs.Written.{StaysOnTables}
+use Rattle.ft_turns.specs.ShortReplies.{IsShortReply}
 
 -- ---- contents
 
@@ -107,30 +106,3 @@ short_end script entries rule legal few place entry at ends =
           let most = few_marked entries entry.thread place section (let low = slice_get_within entries place entry at in omega (arith, low)) in
           subst IsShortReply (sym suspended.1) (omega (arith, count.1, most, few))
     ]
-
--- ---- a history of plain containers
-
--- an answer that is no MemoryError has its place where the call passes no largest table
-earned_within : (kinds : List Kind) (tables : List ℕ) (threads : ℕ) (calls : List Call) (mine : List Entry) (called : Call) (said : Reply) → is_memory said ≡ false → would_pass (stored_by kinds calls).world called ≡ false → IsEarnedReply kinds tables threads calls mine called said
-earned_within kinds tables threads calls mine called (reply.Raised (raise.Memory class)) none within = absurd (true≢false none)
-earned_within kinds tables threads calls mine called (reply.Raised raise.Over) none within = absurd (true≢false none)
-earned_within kinds tables threads calls mine called (reply.Raised raise.Heap) none within = absurd (true≢false none)
-earned_within kinds tables threads calls mine called said none within = within
-
-pub legal_on_tables : (script : ScriptParts) (entries : List Entry) → IsLegal storage.Plain script entries → StaysOnTables script entries → IsLegal storage.Tables script entries
-legal_on_tables script entries legal stays =
-    let there = legal.chronicle in
-    record {
-      order = legal.order;
-      chronicle = record {
-        whole = there.whole;
-        answered = there.answered;
-        marked = there.marked;
-        kept = there.kept;
-        counted = there.counted;
-        earned = λ place entry at.
-            let same = stored_here script entries place entry.stamp (there.answered place entry at).stamp in
-            earned_within (kinds_of script.containers) script.tables (length script.threads) (writes (take place entries)) (entries_of entry.thread (take place entries)) entry.call entry.reply (there.earned place entry at)
-            (subst (λ (world : List Content). would_pass world entry.call ≡ false) (sym same) (stays place entry at));
-      };
-    }

@@ -5,7 +5,7 @@ use Rattle.ft_io.specs.Streams.{added, Stream}
 use Rattle.ft_model.specs.declared.entry.Entry.{Entry}
 use Rattle.ft_model.specs.declared.script.ScriptParts.{ScriptParts}
 use Rattle.ft_model.specs.Histories.{IsLegal}
-use Rattle.ft_script.specs.Scripts.{read_script}
+use Rattle.ft_script.specs.ReadScripts.{read_script}
 use Rattle.ft_script.specs.Texts.{transcript}
 use Rattle.ft_runner.specs.declared.command.Subcommand.{Subcommand}
 use Rattle.ft_runner.specs.declared.command.Subcommand.TheVariants as subcommand
@@ -13,11 +13,11 @@ use Rattle.ft_runner.specs.declared.outcome.Outcome.{Outcome}
 use Rattle.ft_runner.specs.declared.outcome.Outcome.TheVariants as outcome
 use Rattle.ft_runner.specs.declared.report.Fault.TheVariants as fault
 use Rattle.ft_runner.specs.declared.report.Report.{Report}
-use Rattle.ft_runner.specs.Causes.{IsReportOn, IsRunCause}
+use Rattle.ft_runner.specs.FaultCauses.{IsReportOn, IsRunCause}
 use Rattle.ft_runner.specs.Commands.{runs_script}
-use Rattle.ft_runner.specs.Findings.{legal_line}
-use Rattle.ft_runner.specs.Reports.{fault_of, history_of, is_read, storage_of, DoesCheck, DoesRun, IsDone, IsHistoryOf, PutsFor}
-use Rattle.ft_runner.specs.Streams.{script_limit, Gives}
+use Rattle.ft_runner.specs.Findings.{legal_line, stored}
+use Rattle.ft_runner.specs.Reports.{fault_of, history_of, is_read_outcome, DoesCheck, DoesRun, IsCommandDone, IsCommandHistory, PutsFor}
+use Rattle.ft_runner.specs.Transfers.{script_limit, GivesBytes}
 use Rattle.ft_runner.specs.Written.{IsWritten}
 use Rattle.ft_runner.proofs.CauseLemmas.{cause_of, gives_all, run_cause_of}
 
@@ -25,7 +25,7 @@ use Rattle.ft_runner.proofs.CauseLemmas.{cause_of, gives_all, run_cause_of}
 pub record IsTextOf (command : Subcommand) (text written : List ℕ) (history : List Entry) : Type 0 where
   pub script : ScriptParts
   pub read : read_script text ≡ Ok script
-  pub legal : IsLegal (storage_of command) script history
+  pub legal : IsLegal stored script history
   pub few : length text ≤ script_limit
   pub is : written ≡ transcript script history
 
@@ -36,12 +36,12 @@ module _ (source source' sink sink' : Stream) (text : List ℕ) (has : source.co
       let both : ◌≡◌ {A = Option (List ℕ)} (Some put) (Some written) = sym (gets ∙ ap (λ (o : Option (List ℕ)). added o put) empty) ∙ got in
       cc
 
-  clean_run : (command : Subcommand) (ended : Outcome) (came put written : List ℕ) → fault_of ended ≡ fault.Clean → Gives source came (is_read ended) source' → PutsFor ended sink put sink' → DoesRun command ended came source' put
-      → sink.content ≡ Some [] → sink'.content ≡ Some written → IsHistoryOf command text (history_of ended) written
+  clean_run : (command : Subcommand) (ended : Outcome) (came put written : List ℕ) → fault_of ended ≡ fault.Clean → GivesBytes source came (is_read_outcome ended) source' → PutsFor ended sink put sink' → DoesRun command ended came source' put
+      → sink.content ≡ Some [] → sink'.content ≡ Some written → IsCommandHistory command text (history_of ended) written
   clean_run command (outcome.Clean history closed) came put written clean gives puts does empty got =
       let whole = gives_all source source' came text false gives has (does.to_end refl) in
       let same = put_is put written empty puts.content got in
-      subst (λ (w : List ℕ). IsHistoryOf command text history.items w) same (subst (λ (t : List ℕ). IsHistoryOf command t history.items put) whole does.means.0)
+      subst (λ (w : List ℕ). IsCommandHistory command text history.items w) same (subst (λ (t : List ℕ). IsCommandHistory command t history.items put) whole does.means.0)
   clean_run command (outcome.Script refused) came put written clean gives puts does empty got = absurd cc
   clean_run command outcome.Usage came put written clean gives puts does empty got = absurd cc
   clean_run command outcome.Read came put written clean gives puts does empty got = absurd cc
@@ -51,8 +51,8 @@ module _ (source source' sink sink' : Stream) (text : List ℕ) (has : source.co
   clean_run command (outcome.NotLegal place rule) came put written clean gives puts does empty got = absurd cc
   clean_run command (outcome.Transcript line) came put written clean gives puts does empty got = absurd cc
 
-  any_run : (command : Subcommand) → runs_script command ≡ true → (ended : Outcome) (written : List ℕ) → IsDone (Some command) source source' sink sink' ended → fault_of ended ≡ fault.Clean
-      → sink.content ≡ Some [] → sink'.content ≡ Some written → IsHistoryOf command text (history_of ended) written
+  any_run : (command : Subcommand) → runs_script command ≡ true → (ended : Outcome) (written : List ℕ) → IsCommandDone (Some command) source source' sink sink' ended → fault_of ended ≡ fault.Clean
+      → sink.content ≡ Some [] → sink'.content ≡ Some written → IsCommandHistory command text (history_of ended) written
   any_run subcommand.Run runs ended written done clean empty got = clean_run subcommand.Run ended done.came done.put written clean done.reading done.writing done.own empty got
   any_run subcommand.Turns runs ended written done clean empty got = clean_run subcommand.Turns ended done.came done.put written clean done.reading done.writing done.own empty got
   any_run subcommand.Check runs ended written done clean empty got = absurd (false≢true runs)
@@ -70,14 +70,14 @@ module _ (source source' sink sink' : Stream) (text : List ℕ) (has : source.co
   clean_check (outcome.NotLegal place rule) came put clean puts does = absurd cc
   clean_check (outcome.Transcript line) came put clean puts does = absurd cc
 
-done_of : (command : Subcommand) (text : List ℕ) (report : Report) (on : IsReportOn command text report) → IsDone (Some command) on.source on.source' on.sink on.sink' on.is.ended
-done_of command text report on = subst (λ asked. IsDone asked on.source on.source' on.sink on.sink' on.is.ended) on.asked on.is.done
+done_of : (command : Subcommand) (text : List ℕ) (report : Report) (on : IsReportOn command text report) → IsCommandDone (Some command) on.source on.source' on.sink on.sink' on.is.ended
+done_of command text report on = subst (λ asked. IsCommandDone asked on.source on.source' on.sink on.sink' on.is.ended) on.asked on.is.done
 
 pub text_of_written : (command : Subcommand) (text written : List ℕ) → runs_script command ≡ true → (w : IsWritten command text written) → IsTextOf command text written w.report.history.items
 text_of_written command text written runs w =
     let on = w.on in
     let there = any_run on.source on.source' on.sink on.sink' text on.has command runs on.is.ended written (done_of command text w.report on) (sym on.is.fault ∙ w.clean) w.empty w.got in
-    let here = subst (λ (h : List Entry). IsHistoryOf command text h written) (sym on.is.history) there in
+    let here = subst (λ (h : List Entry). IsCommandHistory command text h written) (sym on.is.history) there in
     let cause = run_cause_of command runs text w.report.fault (cause_of command text w.report on) in
     let few = subst (IsRunCause text) w.clean cause in
     record { script = here.script; read = here.read; legal = here.legal; few = few.0; is = here.written }

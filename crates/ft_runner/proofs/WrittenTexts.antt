@@ -10,7 +10,7 @@ use Rattle.ft_model.specs.declared.content.Content.{Content}
 use Rattle.ft_model.specs.declared.entry.Entry.{Entry}
 use Rattle.ft_model.specs.declared.script.ScriptParts.{ScriptParts}
 use Rattle.ft_model.specs.Histories.{writes, world_at, IsLegal}
-use Rattle.ft_script.specs.Scripts.{read_script}
+use Rattle.ft_script.specs.ReadScripts.{read_script}
 use Rattle.ft_script.specs.Texts.{entry_line, transcript}
 use Rattle.ft_script.specs.Transcripts.{IsTranscript}
 use Rattle.ft_script.proofs.NoSeparator.{no_separator_after, no_separator_first}

@@ -4,7 +4,7 @@ use Rattle.ft_io.specs.Streams.{Stream}
 use Rattle.std.specs.Str.{bytes_eq}
 use Rattle.ft_runner.specs.declared.reading.Input.{Input}
 use Rattle.ft_runner.specs.declared.reading.ReadFault.{ReadFault}
-use Rattle.ft_runner.specs.Streams.{input_limit, piece, script_limit, has_failed, is_too_much, Gives, HasEnded}
+use Rattle.ft_runner.specs.Transfers.{input_limit, piece_limit, script_limit, has_failed, is_too_much, GivesBytes, HasEnded}
 
 -- ---- the two parts of the input
 
@@ -51,8 +51,8 @@ IsScriptLong bytes =
     (script_limit < length bytes) × ((place : ℕ) → place ≤ script_limit → is_separator_at bytes place ≡ false)
 
 -- more bytes than are taken, in all or before the line
-abbrev pub IsPast : List ℕ → Type 0
-IsPast bytes = (input_limit < length bytes) ⊎ IsScriptLong bytes
+abbrev pub IsPastLimit : List ℕ → Type 0
+IsPastLimit bytes = (input_limit < length bytes) ⊎ IsScriptLong bytes
 
 -- no more bytes than are taken
 pub record IsWithinLimits (bytes : List ℕ) : Type 0 where
@@ -61,7 +61,7 @@ pub record IsWithinLimits (bytes : List ℕ) : Type 0 where
 
 -- no more bytes are read than are taken and one piece
 abbrev pub most_checked : ℕ
-most_checked = input_limit + piece
+most_checked = input_limit + piece_limit
 
 -- bytes can follow with which these are no more than are taken
 abbrev pub CanFit : List ℕ → Type 0
@@ -73,22 +73,22 @@ pub record IsReadInTime (came : List ℕ) : Type 0 where
   pub last : List ℕ
   pub parts : front ++ last ≡ came
   pub fits : CanFit front
-  pub one_piece : length last ≤ piece
+  pub one_piece : length last ≤ piece_limit
 
 -- all that a source gives is read
 pub record IsReadToItsEnd (before : Stream) (bytes : List ℕ) (after : Stream) : Type 0 where
-  pub gives : Gives before bytes false after
+  pub gives : GivesBytes before bytes false after
   pub ended : HasEnded after
 
 -- whatever follows the bytes is too long, or they are, and are all there is
 abbrev pub IsTooLong : Stream → List ℕ → Stream → Type 0
 IsTooLong before came after =
-    ((more : List ℕ) → IsPast (came ++ more)) ⊎ (IsPast came × IsReadToItsEnd before came after)
+    ((more : List ℕ) → IsPastLimit (came ++ more)) ⊎ (IsPastLimit came × IsReadToItsEnd before came after)
 
 -- reading stops at a fault, after the bytes that came
 pub record StopsInput (stop : ReadFault) (before after : Stream) : Type 0 where
   pub came : List ℕ
-  pub gives : Gives before came (has_failed stop) after
+  pub gives : GivesBytes before came (has_failed stop) after
   pub too_long : is_too_much stop ≡ true → IsTooLong before came after
   pub fits : has_failed stop ≡ true → CanFit came
   pub few : length came ≤ most_checked

@@ -6,7 +6,7 @@ use Rattle.clap.specs.Simple.{Shape, new_rule, new_shape, on_top}
 use Rattle.clap.specs.Words.{App, Rule, new_app, with_subcommand}
 use Rattle.ft_runner.specs.declared.command.Subcommand.{Subcommand}
 use Rattle.ft_runner.specs.declared.command.Subcommand.TheVariants as subcommand
-use Rattle.ft_script.specs.Words.{is_positive}
+use Rattle.ft_script.specs.LineWords.{is_positive}
 
 -- the subcommand of a word that takes no arguments
 abbrev pub named : List ℕ → Option Subcommand
@@ -20,15 +20,16 @@ abbrev pub most_made : ℕ
 most_made = 100000
 
 -- the number of calls that a word is: a digit from 1 to 9, and then digits
-abbrev pub calls_of : List ℕ → Option ℕ
-calls_of word =
+abbrev pub calls_in_word : List ℕ → Option ℕ
+calls_in_word word =
     if is_positive word && nat_le (digits_value 10 word) most_made then Some (digits_value 10 word) else None
 
 -- what `make` is asked for by its number of calls, and by a mode where one is given
-abbrev pub made : List ℕ → Option (List ℕ) → Option Subcommand
-made calls None = option_map (λ count. subcommand.Make count) (calls_of calls)
-made calls (Some mode) =
-    if bytes_eq (codes "turns") mode then option_map (λ count. subcommand.MakeTurns count) (calls_of calls) else None
+abbrev pub made_command : List ℕ → Option (List ℕ) → Option Subcommand
+made_command calls None = option_map (λ count. subcommand.Make count) (calls_in_word calls)
+made_command calls (Some mode) =
+    if bytes_eq (codes "turns") mode then option_map (λ count. subcommand.MakeTurns count) (calls_in_word calls)
+    else None
 
 -- the commands that read a script and run it
 abbrev pub runs_script : Subcommand → Bool
@@ -46,8 +47,8 @@ without_mark (word ∷ words) = if bytes_eq word (codes "--") then words else wo
 -- the command of a subcommand's word and its arguments
 abbrev pub commanded : List ℕ → List (List ℕ) → Option Subcommand
 commanded word [] = named word
-commanded word (calls ∷ []) = if bytes_eq (codes "make") word then made calls None else None
-commanded word (calls ∷ mode ∷ []) = if bytes_eq (codes "make") word then made calls (Some mode) else None
+commanded word (calls ∷ []) = if bytes_eq (codes "make") word then made_command calls None else None
+commanded word (calls ∷ mode ∷ []) = if bytes_eq (codes "make") word then made_command calls (Some mode) else None
 commanded word others = None
 
 -- the command that the words are: the program's name, a subcommand's and its arguments, among which one mark that ends

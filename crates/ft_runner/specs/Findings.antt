@@ -13,12 +13,12 @@ use Rattle.ft_model.specs.Histories.{writes, world_at, IsLegal}
 use Rattle.ft_history.specs.Verdicts.{IsVerdict}
 use Rattle.ft_history.specs.declared.verdict.Verdict.{Verdict}
 use Rattle.ft_history.specs.declared.verdict.Verdict.TheVariants as verdict
-use Rattle.ft_script.specs.Scripts.{read_script}
+use Rattle.ft_script.specs.ReadScripts.{read_script}
 use Rattle.ft_script.specs.Texts.{world_line}
 use Rattle.ft_script.specs.Transcripts.{IsFirstBad, IsTranscript}
 use Rattle.ft_runner.specs.Checking.{HasNoSeparator, IsSeparator}
 
--- how `check` takes the containers of histories to be stored: on tables, so that MemoryErrors have a place
+-- how the containers of histories are stored: on tables, so that MemoryErrors have a place
 abbrev pub stored : Storage
 stored = storage.Tables
 

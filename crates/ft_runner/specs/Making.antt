@@ -5,7 +5,6 @@ use Rattle.std.specs.List.{flat_map}
 use Rattle.std.specs.Option.{option_map_or}
 use Rattle.ft_model.specs.declared.content.Content.{Content}
 use Rattle.ft_model.specs.declared.entry.Entry.{Entry}
-use Rattle.ft_model.specs.declared.entry.Storage.TheVariants as storage
 use Rattle.ft_model.specs.declared.reply.Reply.{Reply}
 use Rattle.ft_model.specs.declared.reply.Reply.TheVariants as reply
 use Rattle.ft_model.specs.declared.reply.Raise.TheVariants as raise
@@ -14,8 +13,9 @@ use Rattle.ft_model.specs.Answers.{is_memory}
 use Rattle.ft_model.specs.Histories.{writes, world_at, IsLegal}
 use Rattle.ft_model.specs.Worlds.{length_of}
 use Rattle.ft_script.specs.Generator.{made_text}
-use Rattle.ft_script.specs.Scripts.{read_script}
-use Rattle.ft_turns.specs.Orders.{IsOrderRun}
+use Rattle.ft_script.specs.ReadScripts.{read_script}
+use Rattle.ft_turn_runs.specs.Seats.{IsOrderRunFor}
+use Rattle.ft_runner.specs.Findings.{stored}
 
 -- ---- the summary
 
@@ -54,6 +54,6 @@ pub record IsSummary (calls : ℕ) (text : List ℕ) : Type 0 where
   pub script : ScriptParts
   pub read : read_script (made_text calls) ≡ Ok script
   pub history : List Entry
-  pub legal : IsLegal storage.Plain script history
-  pub order : IsOrderRun storage.Plain script history
+  pub legal : IsLegal stored script history
+  pub order : IsOrderRunFor script history
   pub written : text ≡ summary_text calls history (world_at script history (length (writes history)))

@@ -7,19 +7,17 @@ use Rattle.ft_bank.specs.declared.closed.Closed.{Closed}
 use Rattle.ft_bank.specs.Closings.{shape_in}
 use Rattle.ft_io.specs.Streams.{Stream}
 use Rattle.ft_model.specs.declared.entry.Entry.{Entry}
-use Rattle.ft_model.specs.declared.entry.Storage.{Storage}
-use Rattle.ft_model.specs.declared.entry.Storage.TheVariants as storage
 use Rattle.ft_model.specs.declared.script.ScriptParts.{ScriptParts}
 use Rattle.ft_model.specs.Histories.{IsLegal}
 use Rattle.ft_model.specs.Numbers.{AreFitting}
 use Rattle.ft_script.specs.declared.fault.ScriptFault.{ScriptFault}
 use Rattle.ft_script.specs.Faults.{kind_text}
 use Rattle.ft_script.specs.Generator.{made_text}
-use Rattle.ft_script.specs.Scripts.{read_script}
+use Rattle.ft_script.specs.ReadScripts.{read_script}
 use Rattle.ft_script.specs.Texts.{transcript}
-use Rattle.ft_turns.specs.Orders.{IsOrderRun}
-use Rattle.ft_turns.specs.Replies.{HasShortReply}
-use Rattle.ft_workers.specs.Histories.{HasEntriesOf}
+use Rattle.ft_turn_runs.specs.Seats.{IsOrderRunFor}
+use Rattle.ft_turns.specs.ShortReplies.{HasShortReply}
+use Rattle.ft_workers.specs.ClosedHistories.{HasEntriesOf}
 use Rattle.ft_workers.specs.Workers.{IsBankFor}
 use Rattle.ft_runner.specs.declared.command.Subcommand.{Subcommand}
 use Rattle.ft_runner.specs.declared.command.Subcommand.TheVariants as subcommand
@@ -32,9 +30,9 @@ use Rattle.ft_runner.specs.declared.report.Fault.TheVariants as fault
 use Rattle.ft_runner.specs.declared.report.Report.{Report}
 use Rattle.ft_runner.specs.Checking.{most_checked, CanFit, IsReadInTime, IsScriptPart, IsTooLong, IsWithinLimits}
 use Rattle.ft_runner.specs.Commands.{command_of}
-use Rattle.ft_runner.specs.Findings.{broken_line, legal_line, IsBadAt, IsFound}
+use Rattle.ft_runner.specs.Findings.{broken_line, legal_line, stored, IsBadAt, IsFound}
 use Rattle.ft_runner.specs.Making.{IsSummary}
-use Rattle.ft_runner.specs.Streams.{most_read, script_limit, Gives, HasEnded, IsPrefix, Receives, Reported}
+use Rattle.ft_runner.specs.Transfers.{most_read, script_limit, GivesBytes, HasEnded, IsPrefix, Receives, Reported}
 
 -- ---- what a call comes to
 
@@ -106,25 +104,25 @@ has_line fault.Clean = false
 has_line (fault.NotLegal place rule) = false
 has_line _ = true
 
-abbrev pub is_usage : Outcome → Bool
-is_usage outcome.Usage = true
-is_usage _ = false
+abbrev pub is_usage_outcome : Outcome → Bool
+is_usage_outcome outcome.Usage = true
+is_usage_outcome _ = false
 
-abbrev pub is_read : Outcome → Bool
-is_read outcome.Read = true
-is_read _ = false
+abbrev pub is_read_outcome : Outcome → Bool
+is_read_outcome outcome.Read = true
+is_read_outcome _ = false
 
-abbrev pub is_write : Outcome → Bool
-is_write (outcome.Write history closed) = true
-is_write _ = false
+abbrev pub is_write_outcome : Outcome → Bool
+is_write_outcome (outcome.Write history closed) = true
+is_write_outcome _ = false
 
-abbrev pub is_memory : Outcome → Bool
-is_memory outcome.Memory = true
-is_memory _ = false
+abbrev pub is_memory_outcome : Outcome → Bool
+is_memory_outcome outcome.Memory = true
+is_memory_outcome _ = false
 
-abbrev pub is_too_long : Outcome → Bool
-is_too_long outcome.TooLong = true
-is_too_long _ = false
+abbrev pub is_too_long_outcome : Outcome → Bool
+is_too_long_outcome outcome.TooLong = true
+is_too_long_outcome _ = false
 
 -- all input was read, for a command that reads
 abbrev pub has_ended : Outcome → Bool
@@ -167,23 +165,15 @@ reported_of (verdict.Not place rule) = fault.NotLegal place rule
 
 -- ---- a script that is run
 
--- how the containers of a command's history are stored: under `run` on tables, so that MemoryErrors have a place, and
--- else plainly
-abbrev pub storage_of : Subcommand → Storage
-storage_of subcommand.Run = storage.Tables
-storage_of subcommand.Turns = storage.Plain
-storage_of subcommand.Check = storage.Plain
-storage_of (subcommand.Make calls) = storage.Plain
-storage_of (subcommand.MakeTurns calls) = storage.Plain
-
 -- the history is one of the script that the bytes are, under `turns` the one of its turns, and this is its text
-pub record IsHistoryOf (command : Subcommand) (bytes : List ℕ) (history : List Entry) (text : List ℕ) : Type 0 where
+pub record IsCommandHistory (command : Subcommand) (bytes : List ℕ) (history : List Entry)
+    (text : List ℕ) : Type 0 where
   pub script : ScriptParts
   pub read : read_script bytes ≡ Ok script
-  pub legal : IsLegal (storage_of command) script history
-  pub order : command ≡ subcommand.Turns → IsOrderRun storage.Plain script history
+  pub legal : IsLegal stored script history
+  pub order : command ≡ subcommand.Turns → IsOrderRunFor script history
   -- each MemoryError of a class stands on a call that would take a table of that class there
-  pub fitting : AreFitting (storage_of command) script history
+  pub fitting : AreFitting stored script history
   -- no number of a reply is greater than what it counts can be
   pub short : All HasShortReply history
   pub written : text ≡ transcript script history
@@ -191,7 +181,7 @@ pub record IsHistoryOf (command : Subcommand) (bytes : List ℕ) (history : List
 -- these bytes are a prefix of the text of such a history
 pub record IsHistoryBegun (command : Subcommand) (bytes : List ℕ) (history : List Entry) (put : List ℕ) : Type 0 where
   pub text : List ℕ
-  pub whole : IsHistoryOf command bytes history text
+  pub whole : IsCommandHistory command bytes history text
   pub prefix : IsPrefix put text
 
 -- what is left of a bank that was made for the script that the bytes are, and has just the history's entries, marks
@@ -202,13 +192,9 @@ pub record IsLeft (bytes : List ℕ) (history : List Entry) (closed : Closed) : 
   pub bank : IsBankFor script (shape_in closed)
   pub entries : HasEntriesOf closed history
 
--- `run` leaves such a bank, and no other command leaves one
-abbrev pub Leaves : Subcommand → List ℕ → List Entry → Option Closed → Type 0
-Leaves subcommand.Run bytes history closed = (bank : Closed) × (closed ≡ Some bank) × IsLeft bytes history bank
-Leaves subcommand.Turns bytes history closed = closed ≡ None
-Leaves subcommand.Check bytes history closed = closed ≡ None
-Leaves (subcommand.Make calls) bytes history closed = closed ≡ None
-Leaves (subcommand.MakeTurns calls) bytes history closed = closed ≡ None
+-- there is such a bank
+abbrev pub LeavesBank : List ℕ → List Entry → Option Closed → Type 0
+LeavesBank bytes history closed = (bank : Closed) × (closed ≡ Some bank) × IsLeft bytes history bank
 
 -- a script's first fault; out of memory is none
 pub record IsFirstFault (bytes : List ℕ) (refused : ScriptFault) : Type 0 where
@@ -218,9 +204,9 @@ pub record IsFirstFault (bytes : List ℕ) (refused : ScriptFault) : Type 0 wher
 -- what it says of the bytes that came that running them came to this, and of the bytes that were put
 abbrev pub MeansRun : Subcommand → List ℕ → Outcome → List ℕ → Type 0
 MeansRun command came (outcome.Clean history closed) put =
-    IsHistoryOf command came history.items put × Leaves command came history.items closed
+    IsCommandHistory command came history.items put × LeavesBank came history.items closed
 MeansRun command came (outcome.Write history closed) put =
-    IsHistoryBegun command came history.items put × Leaves command came history.items closed
+    IsHistoryBegun command came history.items put × LeavesBank came history.items closed
 MeansRun command came (outcome.Script refused) put = IsFirstFault came refused × (put ≡ [])
 MeansRun command came outcome.Read put = put ≡ []
 MeansRun command came outcome.TooLong put = put ≡ []
@@ -233,7 +219,7 @@ MeansRun command came (outcome.Transcript line) put = ⊥
 -- what a command that runs a script does: more than a script may have stops the reading, else it goes on to the end
 pub record DoesRun (command : Subcommand) (ended : Outcome) (came : List ℕ) (source' : Stream)
     (put : List ℕ) : Type 0 where
-  pub too_long : is_too_long ended ≡ nat_lt script_limit (length came)
+  pub too_long : is_too_long_outcome ended ≡ nat_lt script_limit (length came)
   pub few : length came ≤ most_read
   pub to_end : has_ended ended ≡ true → HasEnded source'
   pub means : MeansRun command came ended put
@@ -263,8 +249,8 @@ MeansChecked came outcome.Usage put = ⊥
 -- asked for then; what was read to its end is within
 pub record DoesCheck (ended : Outcome) (source : Stream) (came : List ℕ) (source' : Stream)
     (put : List ℕ) : Type 0 where
-  pub too_long : is_too_long ended ≡ true → IsTooLong source came source'
-  pub fits : is_read ended ≡ true → CanFit came
+  pub too_long : is_too_long_outcome ended ≡ true → IsTooLong source came source'
+  pub fits : is_read_outcome ended ≡ true → CanFit came
   pub within : has_ended ended ≡ true → IsWithinLimits came
   pub few : length came ≤ most_checked
   pub in_time : IsReadInTime came
@@ -301,7 +287,7 @@ abbrev pub PutsFor : Outcome → Stream → List ℕ → Stream → Type 0
 PutsFor (outcome.NotLegal place rule) before put after =
     ((put ≡ broken_line place rule) × Receives before put false after)
     ⊎ (IsPrefix put (broken_line place rule) × Receives before put true after)
-PutsFor other before put after = Receives before put (is_write other) after
+PutsFor other before put after = Receives before put (is_write_outcome other) after
 
 -- the bytes that are there have come to this, which says so much of them and of the bytes that were put
 pub record ComesTo (Means : Outcome → List ℕ → Type 0) (sink sink' : Stream) (ended : Outcome) : Type 0 where
@@ -311,34 +297,35 @@ pub record ComesTo (Means : Outcome → List ℕ → Type 0) (sink sink' : Strea
   pub cause : comes_of_text ended ≡ true
 
 -- what each command does; words that are none read and put nothing
-abbrev pub Does : Option Subcommand → Outcome → Stream → List ℕ → Stream → List ℕ → Type 0
-Does None ended source came source' put = (came ≡ []) × (put ≡ [])
-Does (Some subcommand.Run) ended source came source' put = DoesRun subcommand.Run ended came source' put
-Does (Some subcommand.Turns) ended source came source' put = DoesRun subcommand.Turns ended came source' put
-Does (Some subcommand.Check) ended source came source' put = DoesCheck ended source came source' put
-Does (Some (subcommand.Make calls)) ended source came source' put =
+abbrev pub DoesCommand : Option Subcommand → Outcome → Stream → List ℕ → Stream → List ℕ → Type 0
+DoesCommand None ended source came source' put = (came ≡ []) × (put ≡ [])
+DoesCommand (Some subcommand.Run) ended source came source' put = DoesRun subcommand.Run ended came source' put
+DoesCommand (Some subcommand.Turns) ended source came source' put = DoesRun subcommand.Turns ended came source' put
+DoesCommand (Some subcommand.Check) ended source came source' put = DoesCheck ended source came source' put
+DoesCommand (Some (subcommand.Make calls)) ended source came source' put =
     DoesMake (λ text. text ≡ made_text calls) ended source came source' put
-Does (Some (subcommand.MakeTurns calls)) ended source came source' put =
+DoesCommand (Some (subcommand.MakeTurns calls)) ended source came source' put =
     DoesMake (IsSummary calls) ended source came source' put
 
 -- what is done for this command, and what it comes to
-pub record IsDone (command : Option Subcommand) (source source' sink sink' : Stream) (ended : Outcome) : Type 0 where
+pub record IsCommandDone (command : Option Subcommand) (source source' sink sink' : Stream)
+    (ended : Outcome) : Type 0 where
   -- the bytes that came, and those that were put
   pub came : List ℕ
   pub put : List ℕ
   -- usage exactly where there is no command, unless memory ran out first
-  pub usage : is_memory ended ≡ false → is_usage ended ≡ is_none command
+  pub usage : is_memory_outcome ended ≡ false → is_usage_outcome ended ≡ is_none command
   -- a fault of reading or writing exactly where the count rose
-  pub reading : Gives source came (is_read ended) source'
+  pub reading : GivesBytes source came (is_read_outcome ended) source'
   pub writing : PutsFor ended sink put sink'
-  pub own : Does command ended source came source' put
+  pub own : DoesCommand command ended source came source' put
 
 -- what the tool reports for these words, from what the source, the sink and the errors tell before it to what they tell
 -- after it
 pub record IsReport (words : List (List ℕ)) (source source' sink sink' errors errors' : Stream)
     (report : Report) : Type 0 where
   pub ended : Outcome
-  pub done : IsDone (command_of words) source source' sink sink' ended
+  pub done : IsCommandDone (command_of words) source source' sink sink' ended
   pub fault : report.fault ≡ fault_of ended
   pub history : report.history.items ≡ history_of ended
   pub closed : report.closed ≡ closed_of ended

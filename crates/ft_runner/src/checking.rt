@@ -5,7 +5,7 @@ ghost use Rattle.ft_runner.specs.Checking.{IsSeparatorOf};
 ghost use Rattle.ft_runner.specs.Findings.{broken_line, given_lines, rule_word, world_lines, IsFirstDifference, IsFound, IsVerdictOn};
 ghost use Rattle.ft_io.specs.Streams.{Stream};
 ghost use Rattle.ft_runner.specs.Reports.{ComesTo, MeansChecked};
-ghost use Rattle.ft_runner.specs.Streams.{Puts};
+ghost use Rattle.ft_runner.specs.Transfers.{PutsText};
 
 use crate::errors::put_number;
 use crate::outcome::Outcome;
@@ -17,7 +17,7 @@ use ft_model::{Entry, Rule, Script, ScriptParts, Storage, World};
 use ft_script::{TranscriptFault, parse, push_world_line, read_transcript};
 use std::alloc::{AllocError, Global};
 
-/// How the containers of histories are taken to be stored: on tables, as `run` has them.
+/// How the containers of histories are stored: on tables.
 pub(crate) const STORED: Storage = Storage::Tables;
 
 /// Checks the script and the transcript that the bytes are, the line that parts them beginning at
@@ -151,7 +151,7 @@ fn put_verdict<K: Sink>(alloc: Global, sink: &mut K, verdict: Verdict) -> Outcom
 
 /// Puts the line of a broken rule.
 fn put_broken<K: Sink>(sink: &mut K, place: u64, rule: Rule) -> Result<(), Failed>
-    ensures { Puts (K.stream sink.old) (broken_line place rule) result (K.stream sink.new) }
+    ensures { PutsText (K.stream sink.old) (broken_line place rule) result (K.stream sink.new) }
 {
     put_number(sink, b"not legal at ", place, b": ")?;
     put_all(sink, rule_word(rule).as_bytes())?;

@@ -3,9 +3,9 @@ ghost use Rattle.clap.specs.Simple.{on_top};
 ghost use Rattle.clap.specs.Words.{app_of, new_app, subcommand_rows_of};
 ghost use Rattle.clap.specs.declared.builder.command.Command.TheViews.{out-Command};
 ghost use Rattle.std.specs.Prelude.{◌≡◌, [], false, codes, IfOk, map, option_map, string_bytes};
-ghost use Rattle.ft_runner.specs.Commands.{calls_of, command_of, made, make_shape, named, tool, without_help};
+ghost use Rattle.ft_runner.specs.Commands.{calls_in_word, command_of, made_command, make_shape, named, tool, without_help};
 ghost use Rattle.ft_runner.specs.Internal.Matched.{matched};
-ghost use Rattle.ft_script.specs.Words.{is_positive};
+ghost use Rattle.ft_script.specs.LineWords.{is_positive};
 
 use crate::limits::MOST_MADE;
 use clap::error::ErrorKind;
@@ -63,15 +63,15 @@ fn matched(matches: &ArgMatches<'_>) -> Option<Subcommand>
     let (name, arguments) = matches.subcommand()?;
     match arguments.get_str("calls") {
         None => Subcommand::named(name),
-        Some(calls) => made(calls, arguments.get_str("mode")),
+        Some(calls) => made_command(calls, arguments.get_str("mode")),
     }
 }
 
 /// What `make` is asked for by its number of calls, and by a mode where one is given.
-fn made(calls: &str, mode: Option<&str>) -> Option<Subcommand>
-    ensures { result ≡ made calls.now (option_map (λ mode. mode.now) mode.entry) }
+fn made_command(calls: &str, mode: Option<&str>) -> Option<Subcommand>
+    ensures { result ≡ made_command calls.now (option_map (λ mode. mode.now) mode.entry) }
 {
-    let count = calls_of(calls)?;
+    let count = calls_in_word(calls)?;
     match mode {
         None => Some(Subcommand::Make(count)),
         Some("turns") => Some(Subcommand::MakeTurns(count)),
@@ -80,8 +80,8 @@ fn made(calls: &str, mode: Option<&str>) -> Option<Subcommand>
 }
 
 /// The number of calls that a word is: a digit from 1 to 9, and then digits.
-fn calls_of(word: &str) -> Option<u32>
-    ensures { result ≡ calls_of word.now }
+fn calls_in_word(word: &str) -> Option<u32>
+    ensures { result ≡ calls_in_word word.now }
 {
     if !is_positive(word.as_bytes()) {
         return None;

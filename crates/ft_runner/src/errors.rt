@@ -2,7 +2,7 @@
 //! out.
 ghost use Rattle.ft_runner.specs.declared.outcome.Outcome.TheVariants as outcome;
 ghost use Rattle.std.specs.Prelude.{◌≡◌, ◌++◌, decimal, false};
-ghost use Rattle.ft_runner.specs.Streams.{Puts, Reported};
+ghost use Rattle.ft_runner.specs.Transfers.{PutsText, Reported};
 ghost use Rattle.ft_runner.specs.Reports.{error_line, fault_of, has_line};
 
 use crate::outcome::Outcome;
@@ -22,7 +22,7 @@ pub(crate) fn tell<E: Sink>(errors: &mut E, outcome: &Outcome)
 
 /// Puts the line of what a call has come to, where it has one.
 fn put_line<E: Sink>(errors: &mut E, outcome: &Outcome) -> Result<(), Failed>
-    ensures line { Puts (E.stream errors.old) (error_line outcome.now) result (E.stream errors.new) }
+    ensures line { PutsText (E.stream errors.old) (error_line outcome.now) result (E.stream errors.new) }
     ensures untouched { has_line (fault_of outcome.now) ≡ false → errors.new ≡ errors.old }
 {
     match outcome {
@@ -45,7 +45,7 @@ fn put_line<E: Sink>(errors: &mut E, outcome: &Outcome) -> Result<(), Failed>
 
 /// Puts the line of a script's fault.
 fn put_refused<E: Sink>(errors: &mut E, refused: &ScriptFault) -> Result<(), Failed>
-    ensures { Puts (E.stream errors.old) (error_line (outcome.Script refused.now)) result (E.stream errors.new) }
+    ensures { PutsText (E.stream errors.old) (error_line (outcome.Script refused.now)) result (E.stream errors.new) }
 {
     put_number(errors, b"ftpy: line ", u64::from(refused.line), b": ")?;
     put_number(errors, b"", u64::from(refused.kind), b" ")?;
@@ -60,7 +60,7 @@ pub(crate) fn put_number<E: Sink>(
     number: u64,
     after: &[u8],
 ) -> Result<(), Failed>
-    ensures { Puts (E.stream errors.old) (before.now ++ decimal number ++ after.now) result (E.stream errors.new) }
+    ensures { PutsText (E.stream errors.old) (before.now ++ decimal number ++ after.now) result (E.stream errors.new) }
 {
     put_all(errors, before)?;
     let mut buffer = Buffer::new();

@@ -2,25 +2,27 @@
 //! source has before the call.
 ghost use Rattle.ft_history.specs.declared.verdict.Verdict.{Verdict};
 ghost use Rattle.ft_history.specs.declared.verdict.Verdict.TheVariants as verdict;
+ghost use Rattle.ft_history.specs.EnoughTables.{HasEnoughTables, StaysWithinCaps};
 ghost use Rattle.ft_io.specs.Streams.{added};
 ghost use Rattle.ft_model.specs.declared.entry.Entry.{Entry};
 ghost use Rattle.ft_model.specs.declared.script.ScriptParts.{ScriptParts};
+ghost use Rattle.ft_model.specs.Answers.{is_memory};
 ghost use Rattle.ft_model.specs.Histories.{IsLegal};
 ghost use Rattle.ft_runner.specs.declared.command.Subcommand.{Subcommand};
 ghost use Rattle.ft_runner.specs.declared.command.Subcommand.TheVariants as subcommand;
 ghost use Rattle.ft_runner.specs.declared.report.Fault.TheVariants as fault;
 ghost use Rattle.ft_runner.specs.declared.report.Report.{Report};
-ghost use Rattle.ft_runner.specs.Causes.{IsCause, IsReportOn};
-ghost use Rattle.ft_runner.specs.Checking.{IsPast, IsScriptPart, IsWithinLimits};
+ghost use Rattle.ft_runner.specs.FaultCauses.{IsCause, IsReportOn};
+ghost use Rattle.ft_runner.specs.Checking.{IsPastLimit, IsScriptPart, IsWithinLimits};
 ghost use Rattle.ft_runner.specs.Commands.{runs_script};
 ghost use Rattle.ft_runner.specs.Findings.{legal_line, stored, IsBadAt, IsInput, IsVerdictOn};
-ghost use Rattle.ft_runner.specs.Streams.{input_limit, script_limit};
-ghost use Rattle.ft_runner.specs.Written.{checked_text, EndsLine, IsWritten, StaysOnTables};
+ghost use Rattle.ft_runner.specs.Transfers.{input_limit, script_limit};
+ghost use Rattle.ft_runner.specs.Written.{checked_text, EndsLine, IsWritten};
 ghost use Rattle.ft_runner.specs.Reports.{fault_of, refusal_of, reported_of};
 ghost use Rattle.ft_script.specs.declared.fault.ScriptFault.{ScriptFault};
-ghost use Rattle.ft_script.specs.Scripts.{read_script};
+ghost use Rattle.ft_script.specs.ReadScripts.{read_script};
 ghost use Rattle.ft_script.specs.Texts.{transcript};
-ghost use Rattle.std.specs.Prelude.{◌≡◌, ◌<◌, ◌≤◌, ◌⊎◌, ℕ, List, Ok, Err, true, length};
+ghost use Rattle.std.specs.Prelude.{◌≡◌, ◌<◌, ◌≤◌, ◌⊎◌, ℕ, List, Ok, Err, All, true, false, length};
 
 /// Each report has its cause in the text: a script's first fault, the first line that is none of a
 /// transcript's, the first broken rule, or that it is too long. Memory may run out with any text.
@@ -86,22 +88,23 @@ pub fn legal_histories_are_read_back()
         × IsVerdictOn script history lines verdict.Legal }
 {}
 
-/// What `run` writes of a script's text, `check` finds legal after that text and the line `---`, and
-/// writes so, unless the whole is too long or memory runs out. So it does with what `turns` writes,
-/// where no call would leave a container with more than the largest table holds: `turns` makes no
-/// MemoryErrors, and `check` has containers on tables.
+/// What a command writes that runs a script's text, `check` finds legal after that text and the line
+/// `---`, and writes so, unless the whole is too long or memory runs out.
 pub fn what_is_written_is_found_legal()
-    ensures run { (text written : List ℕ) (report : Report)
-        → IsWritten subcommand.Run text written → EndsLine text
+    ensures { (command : Subcommand) (text written : List ℕ) (report : Report)
+        → runs_script command ≡ true → IsWritten command text written → EndsLine text
         → length (checked_text text written) ≤ input_limit
         → (on : IsReportOn subcommand.Check (checked_text text written) report)
         → ((report.fault ≡ fault.Clean) × (on.sink'.content ≡ added on.sink.content legal_line))
         ⊎ (report.fault ≡ fault.Memory) }
-    ensures turns { (text written : List ℕ) (script : ScriptParts) (report : Report)
-        → (ran : IsWritten subcommand.Turns text written) → EndsLine text
-        → read_script text ≡ Ok script → StaysOnTables script ran.report.history.items
-        → length (checked_text text written) ≤ input_limit
-        → (on : IsReportOn subcommand.Check (checked_text text written) report)
-        → ((report.fault ≡ fault.Clean) × (on.sink'.content ≡ added on.sink.content legal_line))
-        ⊎ (report.fault ≡ fault.Memory) }
+{}
+
+/// Where a script has enough tables, and no call would leave a container with more than the largest
+/// table holds, no MemoryError is written of it: of each class there are as many tables as the script
+/// has calls that can add, and one more for each thread but one.
+pub fn enough_tables_never_run_out()
+    ensures { (command : Subcommand) (text written : List ℕ) (script : ScriptParts)
+        → runs_script command ≡ true → (ran : IsWritten command text written) → read_script text ≡ Ok script
+        → HasEnoughTables script → StaysWithinCaps script ran.report.history.items
+        → All (λ entry. is_memory entry.reply ≡ false) ran.report.history.items }
 {}

@@ -11,6 +11,7 @@ mod outcome;
 mod program;
 mod reading;
 mod report;
+mod running;
 mod separator;
 mod tool;
 mod writing;
@@ -18,9 +19,9 @@ mod writing;
 pub use command::Subcommand;
 pub use ft_workers::{Gate, NoGate};
 pub use laws::{
-    bad_lines_are_reported, legal_histories_are_read_back, reports_have_their_causes,
-    scripts_are_refused, scripts_are_run, transcripts_are_checked, verdicts_are_reported,
-    what_is_written_is_found_legal,
+    bad_lines_are_reported, enough_tables_never_run_out, legal_histories_are_read_back,
+    reports_have_their_causes, scripts_are_refused, scripts_are_run, transcripts_are_checked,
+    verdicts_are_reported, what_is_written_is_found_legal,
 };
 pub use program::{end_without_memory, run_program};
 pub use report::{Fault, Report};

@@ -5,16 +5,16 @@ ghost use Rattle.std.specs.List.{flat_map};
 ghost use Rattle.ft_io.specs.Streams.{Stream};
 ghost use Rattle.ft_script.specs.Generator.{made_text};
 ghost use Rattle.ft_runner.specs.declared.command.Subcommand.TheVariants as subcommand;
-ghost use Rattle.ft_runner.specs.Internal.Counts.{is_counted};
+ghost use Rattle.ft_runner.specs.Internal.Summaries.{is_counted};
 ghost use Rattle.ft_runner.specs.Making.{length_in, row_text, summary_text, IsSummary};
-ghost use Rattle.ft_runner.specs.Reports.{ComesTo, IsDone, MeansMade};
+ghost use Rattle.ft_runner.specs.Reports.{ComesTo, IsCommandDone, MeansMade};
 
 use crate::outcome::Outcome;
+use crate::running::run_turns;
 use crate::writing::put_all;
 use ft_io::{Failed, Sink};
 use ft_model::{Entry, Raise, Reply, World};
 use ft_script::{make_script, parse};
-use ft_turns::run_turns;
 use itoa::Buffer;
 use std::alloc::{AllocError, Global};
 
@@ -29,7 +29,7 @@ enum Counted {
 
 /// Writes the script of that many calls.
 pub(crate) fn make<K: Sink>(alloc: Global, calls: u32, sink: &mut K) -> Outcome
-    ensures { (source : Stream) → IsDone (Some (subcommand.Make calls)) source source (K.stream sink.old) (K.stream sink.new) result }
+    ensures { (source : Stream) → IsCommandDone (Some (subcommand.Make calls)) source source (K.stream sink.old) (K.stream sink.new) result }
 {
     match make_script(alloc, calls) {
         Ok(text) => put_made(alloc, &text, sink),
@@ -40,7 +40,7 @@ pub(crate) fn make<K: Sink>(alloc: Global, calls: u32, sink: &mut K) -> Outcome
 /// Runs the script of that many calls in the order of its turns, and writes what it came to as a
 /// summary.
 pub(crate) fn make_turns<K: Sink>(alloc: Global, calls: u32, sink: &mut K) -> Outcome
-    ensures { (source : Stream) → IsDone (Some (subcommand.MakeTurns calls)) source source (K.stream sink.old) (K.stream sink.new) result }
+    ensures { (source : Stream) → IsCommandDone (Some (subcommand.MakeTurns calls)) source source (K.stream sink.old) (K.stream sink.new) result }
 {
     match summary(alloc, calls) {
         Ok(text) => put_made(alloc, &text, sink),
@@ -68,7 +68,7 @@ fn summary(alloc: Global, calls: u32) -> Result<Vec<u8>, AllocError>
         return Err(AllocError);
     };
     let run = run_turns(alloc, &script)?;
-    summary_of(alloc, calls, &run.entries, &run.world)
+    summary_of(alloc, calls, &run.history, &run.world)
 }
 
 /// The summary of a history and of the contents that it leaves.

@@ -1,6 +1,6 @@
 //! The program over its streams. It ends with the status of what is reported.
 ghost use Rattle.ft_runner.specs.Reports.{error_line, status_of, IsReport};
-ghost use Rattle.ft_runner.specs.Streams.{Reported};
+ghost use Rattle.ft_runner.specs.Transfers.{Reported};
 ghost use Rattle.ft_runner.specs.declared.outcome.Outcome.TheVariants as outcome;
 ghost use Rattle.ft_runner.specs.declared.report.Fault.TheVariants as fault;
 ghost use Rattle.ft_runner.specs.declared.report.Report.{Report};

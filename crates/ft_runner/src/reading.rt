@@ -1,8 +1,8 @@
 //! Reading all of the input, and no more once it is too long.
 ghost use Rattle.std.specs.Prelude.{◌≡◌, ◌≤◌, ◌+◌, [], length, IfOk, MatchBool};
 ghost use Rattle.ft_runner.specs.Checking.{IsSeparatorOf, IsScriptFew, IsScriptLong, ReadsInput};
-ghost use Rattle.ft_runner.specs.Internal.Filling.{Fills, ReadsScript, Takes};
-ghost use Rattle.ft_runner.specs.Streams.{input_limit, piece, Reads};
+ghost use Rattle.ft_runner.specs.Internal.Filling.{Fills, ReadsScript, TakesPiece};
+ghost use Rattle.ft_runner.specs.Transfers.{input_limit, piece_limit, ReadsAll};
 
 use crate::limits::{INPUT_LIMIT, PIECE, SCRIPT_LIMIT};
 use crate::separator::{is_open, separator_of};
@@ -29,7 +29,7 @@ pub(crate) struct Input {
 
 /// Reads all there is. It stops as soon as more came than a script may have.
 pub(crate) fn read_all<S: Source>(alloc: Global, source: &mut S) -> Result<Vec<u8>, ReadFault>
-    ensures { Reads (S.stream source.old) result (S.stream source.new) }
+    ensures { ReadsAll (S.stream source.old) result (S.stream source.new) }
 {
     let Ok(mut buffer) = zeros(alloc, PIECE) else {
         return Err(ReadFault::Memory);
@@ -85,7 +85,7 @@ fn read_script_part<S: Source>(
     buffer: &mut [u8],
     bytes: &mut Vec<u8>,
 ) -> Result<bool, ReadFault>
-    requires room { length buffer.old ≡ piece }
+    requires room { length buffer.old ≡ piece_limit }
     requires start { bytes.old.items ≡ [] }
     ensures { ReadsScript (S.stream source.old) result bytes.new.items (S.stream source.new) }
 {
@@ -123,8 +123,8 @@ fn fill<S: Source>(
     bytes: &mut Vec<u8>,
     most: usize,
 ) -> Result<bool, ReadFault>
-    requires room { length buffer.old ≡ piece }
-    requires few { length bytes.old.items ≤ most + piece }
+    requires room { length buffer.old ≡ piece_limit }
+    requires few { length bytes.old.items ≤ most + piece_limit }
     requires most { most ≤ input_limit }
     ensures { Fills (S.stream source.old) bytes.old.items most result bytes.new.items (S.stream source.new) }
 {
@@ -142,8 +142,8 @@ fn take_piece<S: Source>(
     buffer: &mut [u8],
     bytes: &mut Vec<u8>,
 ) -> Result<bool, ReadFault>
-    requires room { length buffer.old ≡ piece }
-    ensures { Takes (S.stream source.old) bytes.old.items result bytes.new.items (S.stream source.new) }
+    requires room { length buffer.old ≡ piece_limit }
+    ensures { TakesPiece (S.stream source.old) bytes.old.items result bytes.new.items (S.stream source.new) }
 {
     let count = match source.take(buffer) {
         Ok(count) => count,

@@ -63,7 +63,7 @@ pub struct Report {
     pub fault: Fault,
     /// The history that was written, whole or in part; empty where there is none.
     pub history: Vec<Entry>,
-    /// What is left of the bank in which `run` had the containers: there is one where there is a
-    /// history of `run`.
+    /// What is left of the bank in which the containers were: there is one where a script was run and
+    /// its history written, whole or in part.
     pub closed: Option<Closed>,
 }

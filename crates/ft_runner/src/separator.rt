@@ -1,8 +1,8 @@
 //! The line that parts a script from a transcript.
 ghost use Rattle.std.specs.Prelude.{◌≡◌, ◌+◌, ◌<◌, drop, length, MatchBool};
 ghost use Rattle.ft_runner.specs.Checking.{begins_line, is_separator, is_separator_at, IsSeparatorOf, IsScriptPart};
-ghost use Rattle.ft_runner.specs.Internal.Filling.{is_begun, is_open_at, IsOpen, IsShut};
-ghost use Rattle.ft_runner.specs.Streams.{script_limit};
+ghost use Rattle.ft_runner.specs.Internal.Filling.{is_begun, is_open_at, HasOpenLine, HasNoOpenLine};
+ghost use Rattle.ft_runner.specs.Transfers.{script_limit};
 
 use crate::limits::SCRIPT_LIMIT;
 
@@ -45,7 +45,7 @@ fn is_separator(line: &[u8]) -> bool
 /// Whether a line that has begun within a script's limit, and hasn't ended, can become `---`.
 pub(crate) fn is_open(bytes: &[u8]) -> bool
     requires { script_limit < length bytes.now }
-    ensures { MatchBool result (IsOpen bytes.now) (IsShut bytes.now) }
+    ensures { MatchBool result (HasOpenLine bytes.now) (HasNoOpenLine bytes.now) }
 {
     for place in bytes.len() - 3..SCRIPT_LIMIT + 1 {
         if is_open_at(bytes, place) {

@@ -3,44 +3,25 @@
 ghost use Rattle.ft_runner.specs.declared.command.Subcommand.TheVariants as subcommand;
 ghost use Rattle.ft_runner.specs.declared.report.Fault.TheVariants as fault;
 ghost use Rattle.ft_runner.specs.declared.command.Subcommand.{Subcommand};
-ghost use Rattle.std.specs.Prelude.{◌≡◌, ◌≢◌, false, Ok, Option, Some, length, map, string_bytes, IfErr, IfNone, IfOk, IfSome};
-ghost use Rattle.ft_bank.specs.Closings.{shape_in};
-ghost use Rattle.ft_model.specs.declared.entry.Storage.TheVariants as storage;
-ghost use Rattle.ft_model.specs.Histories.{writes, world_at, IsLegal};
-ghost use Rattle.ft_model.specs.Numbers.{AreFitting};
-ghost use Rattle.ft_workers.specs.Histories.{HasEntriesOf};
-ghost use Rattle.ft_workers.specs.Workers.{IsBankFor};
+ghost use Rattle.std.specs.Prelude.{◌≡◌, ◌≢◌, false, Ok, Option, Some, map, string_bytes, IfErr, IfNone, IfOk, IfSome};
 ghost use Rattle.ft_runner.specs.Commands.{command_of};
-ghost use Rattle.ft_runner.specs.Streams.{Reported};
-ghost use Rattle.ft_runner.specs.Reports.{closed_of, error_line, fault_of, has_line, history_of, status_of, ComesTo, IsDone, IsReport, MeansRun};
+ghost use Rattle.ft_runner.specs.Transfers.{Reported};
+ghost use Rattle.ft_runner.specs.Reports.{closed_of, error_line, fault_of, has_line, history_of, status_of, ComesTo, IsCommandDone, IsReport, MeansRun};
 
-use crate::checking::{STORED, check_text};
+use crate::checking::check_text;
 use crate::command::{Subcommand, read_command};
 use crate::errors::tell;
 use crate::making::{make, make_turns};
 use crate::outcome::Outcome;
 use crate::reading::{read_all, read_input};
 use crate::report::Report;
-use crate::writing::{WriteFault, write_all};
-use ft_bank::Closed;
-use ft_history::judge_with_world;
+use crate::running::{put_run, run_threads, run_turns};
 use ft_io::{Sink, Source};
-use ft_model::{Entry, Script, World};
 use ft_script::parse;
-use ft_turns::run_turns;
-use ft_workers::{Gate, run_workers};
+use ft_workers::Gate;
 use std::alloc::{AllocError, Global};
 use std::sync::Wait;
 use std::thread::Threads;
-
-/// What threads have made beside each other: their history, what the containers have after it, and
-/// what is left of the bank.
-#[derive(Drop)]
-struct Made {
-    history: Vec<Entry>,
-    world: World,
-    closed: Closed,
-}
 
 /// Does what the words of the command line ask, the program's name being the first of them. `run`
 /// calls the gate round each call that a thread makes; no other command calls it.
@@ -113,7 +94,7 @@ fn perform<S: Source, K: Sink>(
     sink: &mut K,
 ) -> Option<Outcome>
     ensures done { IfSome result (λ outcome. (command : Option Subcommand) → IfOk asked (λ found. found ≡ command)
-        → IsDone command (S.stream source.old) (S.stream source.new) (K.stream sink.old) (K.stream sink.new) outcome) }
+        → IsCommandDone command (S.stream source.old) (S.stream source.new) (K.stream sink.old) (K.stream sink.new) outcome) }
     ensures unknown { IfSome result (λ outcome. IfErr asked (λ e. fault_of outcome ≡ fault.Memory)) }
     ensures run { IfNone result (asked ≡ Ok (Some subcommand.Run)) }
     ensures other { IfSome result (λ outcome. asked ≢ Ok (Some subcommand.Run)) }
@@ -132,7 +113,7 @@ fn perform<S: Source, K: Sink>(
 
 /// Reads a script, a line and a transcript, and checks it.
 fn check<S: Source, K: Sink>(alloc: Global, source: &mut S, sink: &mut K) -> Outcome
-    ensures { IsDone (Some subcommand.Check) (S.stream source.old) (S.stream source.new) (K.stream sink.old) (K.stream sink.new) result }
+    ensures { IsCommandDone (Some subcommand.Check) (S.stream source.old) (S.stream source.new) (K.stream sink.old) (K.stream sink.new) result }
 {
     match read_input(alloc, source) {
         Ok(input) => check_text(alloc, &input.bytes, input.separator, sink),
@@ -142,7 +123,7 @@ fn check<S: Source, K: Sink>(alloc: Global, source: &mut S, sink: &mut K) -> Out
 
 /// Reads a script, and runs it in the order of its turns.
 fn turns<S: Source, K: Sink>(alloc: Global, source: &mut S, sink: &mut K) -> Outcome
-    ensures { IsDone (Some subcommand.Turns) (S.stream source.old) (S.stream source.new) (K.stream sink.old) (K.stream sink.new) result }
+    ensures { IsCommandDone (Some subcommand.Turns) (S.stream source.old) (S.stream source.new) (K.stream sink.old) (K.stream sink.new) result }
 {
     match read_all(alloc, source) {
         Ok(bytes) => turns_text(alloc, &bytes, sink),
@@ -158,13 +139,9 @@ fn turns_text<K: Sink>(alloc: Global, bytes: &[u8], sink: &mut K) -> Outcome
         Ok(script) => script,
         Err(refused) => return Outcome::refused(refused),
     };
-    let Ok(run) = run_turns(alloc, &script) else {
-        return Outcome::Memory;
-    };
-    match write_all(alloc, sink, &script, &run.entries, &run.world) {
-        Ok(()) => Outcome::Clean(run.entries, None),
-        Err(WriteFault::Failed) => Outcome::Write(run.entries, None),
-        Err(WriteFault::Memory) => Outcome::Memory,
+    match run_turns(alloc, &script) {
+        Ok(run) => put_run(alloc, sink, &script, run),
+        Err(AllocError) => Outcome::Memory,
     }
 }
 
@@ -176,7 +153,7 @@ fn run<R: Threads + Wait + Sync, S: Source, K: Sink, G: Gate>(
     sink: &mut K,
     gate: &G,
 ) -> Outcome
-    ensures { IsDone (Some subcommand.Run) (S.stream source.old) (S.stream source.new) (K.stream sink.old) (K.stream sink.new) result }
+    ensures { IsCommandDone (Some subcommand.Run) (S.stream source.old) (S.stream source.new) (K.stream sink.old) (K.stream sink.new) result }
 {
     match read_all(alloc, source) {
         Ok(bytes) => run_text(rt, alloc, &bytes, sink, gate),
@@ -198,35 +175,8 @@ fn run_text<R: Threads + Wait + Sync, K: Sink, G: Gate>(
         Ok(script) => script,
         Err(refused) => return Outcome::refused(refused),
     };
-    let Ok(made) = run_threads(rt, alloc, &script, gate) else {
-        return Outcome::Memory;
-    };
-    match write_all(alloc, sink, &script, &made.history, &made.world) {
-        Ok(()) => Outcome::Clean(made.history, Some(made.closed)),
-        Err(WriteFault::Failed) => Outcome::Write(made.history, Some(made.closed)),
-        Err(WriteFault::Memory) => Outcome::Memory,
+    match run_threads(rt, alloc, &script, gate) {
+        Ok(run) => put_run(alloc, sink, &script, run),
+        Err(AllocError) => Outcome::Memory,
     }
-}
-
-/// Runs the threads of a script beside each other. The contents in the end are those of plain
-/// containers after the history's writes.
-fn run_threads<R: Threads + Wait + Sync, G: Gate>(
-    rt: &R,
-    alloc: Global,
-    script: &Script,
-    gate: &G,
-) -> Result<Made, AllocError>
-    ensures legal { IfOk result (λ made. IsLegal storage.Tables script.now made.history.items) }
-    ensures fitting { IfOk result (λ made. AreFitting storage.Tables script.now made.history.items) }
-    ensures world { IfOk result (λ made. made.world ≡ world_at script.now made.history.items (length (writes made.history.items))) }
-    ensures bank { IfOk result (λ made. IsBankFor script.now (shape_in made.closed)) }
-    ensures entries { IfOk result (λ made. HasEntriesOf made.closed made.history.items) }
-{
-    let ran = run_workers(rt, alloc, script, gate)?;
-    let judged = judge_with_world(alloc, STORED, script, &ran.history)?;
-    Ok(Made {
-        history: ran.history,
-        world: judged.world,
-        closed: ran.closed,
-    })
 }

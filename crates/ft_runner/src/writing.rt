@@ -4,7 +4,7 @@ ghost use Rattle.std.specs.Prelude.{◌≡◌, true, ◌++◌, All, OnOk, OnErr}
 ghost use Rattle.ft_model.specs.Parts.{IsEntryOf, IsWorldOf};
 ghost use Rattle.ft_script.specs.Texts.{entry_line, world_text};
 ghost use Rattle.std.specs.List.{flat_map};
-ghost use Rattle.ft_runner.specs.Streams.{PutsPrefix, IsBuffered, Puts, Writes};
+ghost use Rattle.ft_runner.specs.Transfers.{PutsPrefix, IsBuffered, PutsText, Writes};
 
 use crate::limits::PIECE;
 use ft_io::{Failed, Sink};
@@ -80,7 +80,7 @@ fn put_full<K: Sink>(sink: &mut K, buffer: &mut Vec<u8>) -> Result<(), Failed>
 
 /// Puts all bytes, in order, in as few calls as the sink takes. Nothing is put after a put that failed.
 pub(crate) fn put_all<K: Sink>(sink: &mut K, bytes: &[u8]) -> Result<(), Failed>
-    ensures { Puts (K.stream sink.old) bytes.now result (K.stream sink.new) }
+    ensures { PutsText (K.stream sink.old) bytes.now result (K.stream sink.new) }
 {
     let mut done = 0;
     while done < bytes.len() {

@@ -4,7 +4,7 @@ use Rattle.std.specs.Str.{bytes_eq}
 use Rattle.ft_io.specs.Streams.{Stream}
 use Rattle.ft_runner.specs.declared.reading.ReadFault.{ReadFault}
 use Rattle.ft_runner.specs.Checking.{begins_line, is_separator_at, CanFit, IsReadInTime, StopsInput}
-use Rattle.ft_runner.specs.Streams.{piece, script_limit, has_failed, is_too_much, Gives, HasEnded}
+use Rattle.ft_runner.specs.Transfers.{piece_limit, script_limit, has_failed, is_too_much, GivesBytes, HasEnded}
 
 -- ---- lines that have begun
 
@@ -17,12 +17,12 @@ abbrev pub is_open_at : List ℕ → ℕ → Bool
 is_open_at bytes place = begins_line bytes place && is_begun (drop place bytes)
 
 -- such a line has begun within the limit
-abbrev pub IsOpen : List ℕ → Type 0
-IsOpen bytes = (place : ℕ) × (place ≤ script_limit) × (is_open_at bytes place ≡ true)
+abbrev pub HasOpenLine : List ℕ → Type 0
+HasOpenLine bytes = (place : ℕ) × (place ≤ script_limit) × (is_open_at bytes place ≡ true)
 
 -- or none has
-abbrev pub IsShut : List ℕ → Type 0
-IsShut bytes = (place : ℕ) → place ≤ script_limit → is_open_at bytes place ≡ false
+abbrev pub HasNoOpenLine : List ℕ → Type 0
+HasNoOpenLine bytes = (place : ℕ) → place ≤ script_limit → is_open_at bytes place ≡ false
 
 -- whatever follows, it is settled at which places within the limit a line is `---`
 abbrev pub IsSettled : List ℕ → Type 0
@@ -38,25 +38,25 @@ EndsTaking true came after = (came ≡ []) × HasEnded after
 EndsTaking false came after = 0 < length came
 
 -- one piece is read on after these bytes
-abbrev pub Takes : Stream → List ℕ → Result Bool ReadFault → List ℕ → Stream → Type 0
-Takes before old (Ok ended) new after =
-    (came : List ℕ) × (new ≡ old ++ came) × Gives before came false after × (length came ≤ piece)
+abbrev pub TakesPiece : Stream → List ℕ → Result Bool ReadFault → List ℕ → Stream → Type 0
+TakesPiece before old (Ok ended) new after =
+    (came : List ℕ) × (new ≡ old ++ came) × GivesBytes before came false after × (length came ≤ piece_limit)
     × EndsTaking ended came after
-Takes before old (Err stop) new after =
-    (came : List ℕ) × Gives before came (has_failed stop) after × (length came ≤ piece)
+TakesPiece before old (Err stop) new after =
+    (came : List ℕ) × GivesBytes before came (has_failed stop) after × (length came ≤ piece_limit)
     × (has_failed stop ≡ true → came ≡ []) × (is_too_much stop ≡ false)
 
 -- the source has ended, or more than that many bytes are there
 abbrev pub EndsFilling : Bool → ℕ → List ℕ → Stream → Type 0
 EndsFilling true most bytes after = (length bytes ≤ most) × HasEnded after
-EndsFilling false most bytes after = (most < length bytes) × (length bytes ≤ most + piece)
+EndsFilling false most bytes after = (most < length bytes) × (length bytes ≤ most + piece_limit)
 
 -- a source is read on after these bytes, until it ends or more than that many are there
 abbrev pub Fills : Stream → List ℕ → ℕ → Result Bool ReadFault → List ℕ → Stream → Type 0
 Fills before old most (Ok ended) new after =
-    (came : List ℕ) × (new ≡ old ++ came) × Gives before came false after × EndsFilling ended most new after
+    (came : List ℕ) × (new ≡ old ++ came) × GivesBytes before came false after × EndsFilling ended most new after
 Fills before old most (Err stop) new after =
-    (came : List ℕ) × Gives before came (has_failed stop) after × (length old + length came ≤ most + piece)
+    (came : List ℕ) × GivesBytes before came (has_failed stop) after × (length old + length came ≤ most + piece_limit)
     × (has_failed stop ≡ true → length old + length came ≤ most) × (is_too_much stop ≡ false)
 
 -- ---- the script's part
@@ -65,9 +65,10 @@ Fills before old most (Err stop) new after =
 abbrev pub EndsScript : Bool → List ℕ → Stream → Type 0
 EndsScript true bytes after = CanFit bytes × HasEnded after
 EndsScript false bytes after =
-    (script_limit < length bytes) × (length bytes ≤ script_limit + 3 + piece) × IsSettled bytes × IsReadInTime bytes
+    (script_limit < length bytes) × (length bytes ≤ script_limit + 3 + piece_limit) × IsSettled bytes
+    × IsReadInTime bytes
 
 -- a source is read until it ends or the script's part of the input is settled
 abbrev pub ReadsScript : Stream → Result Bool ReadFault → List ℕ → Stream → Type 0
-ReadsScript before (Ok ended) bytes after = Gives before bytes false after × EndsScript ended bytes after
+ReadsScript before (Ok ended) bytes after = GivesBytes before bytes false after × EndsScript ended bytes after
 ReadsScript before (Err stop) bytes after = StopsInput stop before after

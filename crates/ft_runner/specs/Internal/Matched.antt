@@ -2,12 +2,12 @@
 use Rattle.std.specs.Prelude.{List, ℕ, Option, Some, None, codes, option_and_then}
 use Rattle.clap.specs.Words.{Row, first_of}
 use Rattle.ft_runner.specs.declared.command.Subcommand.{Subcommand}
-use Rattle.ft_runner.specs.Commands.{made, named}
+use Rattle.ft_runner.specs.Commands.{made_command, named}
 
 -- the subcommand of a name, and of the values of its arguments
 abbrev pub matched_by : List ℕ → Option (List ℕ) → Option (List ℕ) → Option Subcommand
 matched_by name None mode = named name
-matched_by name (Some calls) mode = made calls mode
+matched_by name (Some calls) mode = made_command calls mode
 
 -- the subcommand of a name and the rows of its arguments
 abbrev pub matched : Option (List ℕ × List Row) → Option Subcommand

@@ -3,7 +3,7 @@ use Rattle.std.specs.Fmt.{decimal}
 use Rattle.std.specs.Prelude.{codes}
 use Rattle.std.proofs.lemmas.Result.{err_from_is_err_and}
 use Rattle.ft_runner.specs.Findings.{rule_word}
-use Rattle.ft_runner.proofs.StreamLemmas.{Receives-then, Puts-then, PutsPrefix-longer}
+use Rattle.ft_runner.proofs.StreamLemmas.{Receives-then, PutsText-then, PutsPrefix-longer}
 use Rattle.ft_runner.proofs.checking.put_broken.Goals as goal
 
 pub returns-in_err-put_number : goal.returns-in_err-put_number
@@ -26,7 +26,7 @@ returns-in_err-put_all g c =
     let front = codes "not legal at " ++ decimal c.args.place ++ codes ": " in
     let word = rule_word c.args.rule in
     let part = rw (c.as_bytes.ensures.value, c.rule_word.ensures) at c.in_err-put_all.ensures in
-    rw r.1 (PutsPrefix-longer a d (front ++ word) (codes "\n") true (Puts-then a b d front word (Err r.0) c.in_ok-put_number.ensures part))
+    rw r.1 (PutsPrefix-longer a d (front ++ word) (codes "\n") true (PutsText-then a b d front word (Err r.0) c.in_ok-put_number.ensures part))
 
 pub returns : goal.returns
 returns g c =
@@ -38,4 +38,4 @@ returns g c =
     let front = codes "not legal at " ++ decimal c.args.place ++ codes ": " in
     let word = rule_word c.args.rule in
     let middle = rw (c.as_bytes.ensures.value, c.rule_word.ensures) at c.in_ok-put_all.ensures in
-    Puts-then a d e (front ++ word) (codes "\n") c.put_all-2.result (Receives-then a b d front word false c.in_ok-put_number.ensures middle) c.put_all-2.ensures
+    PutsText-then a d e (front ++ word) (codes "\n") c.put_all-2.result (Receives-then a b d front word false c.in_ok-put_number.ensures middle) c.put_all-2.ensures

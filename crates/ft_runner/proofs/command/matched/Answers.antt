@@ -13,4 +13,4 @@ pub returns-in-Some : goal.returns-in-Some
 returns-in-Some c =
     let met = c.in_ok-name.ensures in
     let found = found_of c.in_ok-name.arguments.now in
-    c.made.ensures ∙ sym (matched_is c.args.matches.now c.in_ok-name.name.now found met.name met.rows (Some c.in-Some.calls.now) (option_map (λ mode. mode.now) c.get_str-in-Some.result) c.in-Some.ensures c.get_str-in-Some.ensures)
+    c.made_command.ensures ∙ sym (matched_is c.args.matches.now c.in_ok-name.name.now found met.name met.rows (Some c.in-Some.calls.now) (option_map (λ mode. mode.now) c.get_str-in-Some.result) c.in-Some.ensures c.get_str-in-Some.ensures)

@@ -2,7 +2,7 @@ use Rattle.std.proofs.Common.{◌≡◌, ◌⊎◌, ℕ, List, refl, ap, inl, in
 use Rattle.ft_runner.specs.declared.command.Subcommand.TheVariants as subcommand
 use Rattle.ft_runner.specs.declared.report.Fault.{Fault}
 use Rattle.ft_runner.specs.declared.report.Fault.TheVariants as fault
-use Rattle.ft_runner.specs.Causes.{IsCheckCause}
+use Rattle.ft_runner.specs.FaultCauses.{IsCheckCause}
 use Rattle.ft_runner.specs.Checking.{IsWithinLimits}
 use Rattle.ft_runner.specs.Findings.{IsBadAt}
 use Rattle.ft_runner.proofs.CauseLemmas.{cause_of}

@@ -3,11 +3,11 @@ use Rattle.std.proofs.lemmas.Bool.{true≢false}
 use Rattle.std.specs.Prelude.{is_ok}
 use Rattle.ft_model.specs.declared.script.ScriptParts.{ScriptParts}
 use Rattle.ft_script.specs.declared.fault.ScriptFault.{ScriptFault}
-use Rattle.ft_script.specs.Scripts.{read_script}
+use Rattle.ft_script.specs.ReadScripts.{read_script}
 use Rattle.ft_runner.specs.declared.report.Fault.{Fault}
 use Rattle.ft_runner.specs.declared.report.Fault.TheVariants as fault
-use Rattle.ft_runner.specs.Causes.{IsRunCause}
-use Rattle.ft_runner.specs.Streams.{script_limit}
+use Rattle.ft_runner.specs.FaultCauses.{IsRunCause}
+use Rattle.ft_runner.specs.Transfers.{script_limit}
 use Rattle.ft_runner.proofs.CauseLemmas.{cause_of, run_cause_of}
 use Rattle.ft_runner.proofs.laws.scripts_are_run.Goals as goal
 

@@ -2,24 +2,22 @@ use Rattle.std.proofs.Common.{◌≡◌, ◌∙◌, ◌⊎◌, ◌≤◌, ℕ, L
 use Rattle.ft_history.specs.declared.verdict.Verdict.TheVariants as verdict
 use Rattle.ft_io.specs.Streams.{added}
 use Rattle.ft_model.specs.declared.entry.Entry.{Entry}
-use Rattle.ft_model.specs.declared.entry.Storage.TheVariants as storage
 use Rattle.ft_model.specs.declared.script.ScriptParts.{ScriptParts}
 use Rattle.ft_model.specs.Histories.{writes, world_at, IsLegal}
 use Rattle.ft_script.specs.declared.fault.ScriptFault.{ScriptFault}
-use Rattle.ft_script.specs.Scripts.{read_script}
+use Rattle.ft_script.specs.ReadScripts.{read_script}
 use Rattle.ft_script.specs.Texts.{transcript}
 use Rattle.ft_runner.specs.declared.command.Subcommand.TheVariants as subcommand
 use Rattle.ft_runner.specs.declared.report.Fault.TheVariants as fault
 use Rattle.ft_runner.specs.declared.report.Report.{Report}
-use Rattle.ft_runner.specs.Causes.{IsReportOn}
+use Rattle.ft_runner.specs.FaultCauses.{IsReportOn}
 use Rattle.ft_runner.specs.Checking.{IsSeparator, IsWithinLimits}
 use Rattle.ft_runner.specs.Findings.{legal_line, stored, IsInput}
-use Rattle.ft_runner.specs.Streams.{input_limit, script_limit}
+use Rattle.ft_runner.specs.Transfers.{input_limit, script_limit}
 use Rattle.ft_runner.specs.Written.{checked_text, EndsLine}
 use Rattle.ft_runner.proofs.CauseLemmas.{cause_of}
 use Rattle.ft_runner.proofs.ReadableWorlds.{lines_of_world}
 use Rattle.ft_runner.proofs.ReportedVerdicts.{reported}
-use Rattle.ft_runner.proofs.TableHistories.{legal_on_tables}
 use Rattle.ft_runner.proofs.WrittenReports.{text_of_written, writes_legal}
 use Rattle.ft_runner.proofs.WrittenTexts.{is_found_legal, is_read_back, separator_there}
 use Rattle.ft_runner.proofs.laws.what_is_written_is_found_legal.Goals as goal
@@ -39,21 +37,7 @@ found_legal text written script history read legal few_text is ended few report 
       | inr memory ↦ inr memory
     ]
 
--- a text is one script's
-one_script : (text : List ℕ) (one other : ScriptParts) → read_script text ≡ Ok one → read_script text ≡ Ok other → one ≡ other
-one_script text one other read again =
-    let same : ◌≡◌ {A = Result ScriptParts ScriptFault} (Ok one) (Ok other) = sym read ∙ again in
-    cc
-
-pub returns-clause-run : goal.returns-clause-run
-returns-clause-run c text written report wrote ended few on =
-    let of = text_of_written subcommand.Run text written refl wrote in
+pub returns : goal.returns
+returns c command text written report runs wrote ended few on =
+    let of = text_of_written command text written runs wrote in
     found_legal text written of.script wrote.report.history.items of.read of.legal of.few of.is ended few report on
-
-pub returns-clause-turns : goal.returns-clause-turns
-returns-clause-turns c text written script report wrote ended read stays few on =
-    let of = text_of_written subcommand.Turns text written refl wrote in
-    let history = wrote.report.history.items in
-    let same = one_script text of.script script of.read read in
-    let legal = subst (λ (s : ScriptParts). IsLegal storage.Plain s history) same of.legal in
-    found_legal text written script history read (legal_on_tables script history legal stays) of.few (of.is ∙ ap (λ (s : ScriptParts). transcript s history) same) ended few report on

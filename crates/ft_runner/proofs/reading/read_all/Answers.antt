@@ -1,15 +1,15 @@
 use Rattle.std.proofs.Common.{◌≡◌, ℕ, List, [], ◌++◌, false, sym, subst, arith, length, take, drop, ap, ◌∙◌, ◌+◌}
 use Rattle.std.proofs.lemmas.Bool.{lt-ltb, le-ltb}
 use Rattle.std.proofs.lemmas.List.{append-nil, with_items_is, length-append, length-take-le}
-use Rattle.ft_runner.specs.Streams.{Gives}
-use Rattle.ft_runner.proofs.StreamLemmas.{Gives-none, Gives-then, Gives-fails}
+use Rattle.ft_runner.specs.Transfers.{GivesBytes}
+use Rattle.ft_runner.proofs.StreamLemmas.{GivesBytes-none, GivesBytes-then, GivesBytes-fails}
 use Rattle.ft_runner.proofs.reading.read_all.Goals as goal
 
 pub loop-init : goal.loop-init
 loop-init g c =
     let source = g.S.Source in
     record {
-      gives = rw c.new-bytes.ensures.items (Gives-none (source.stream c.args.source.now));
+      gives = rw c.new-bytes.ensures.items (GivesBytes-none (source.stream c.args.source.now));
       few = rw c.new-bytes.ensures.items (omega arith);
       turns = omega arith;
       buffer = c.in-Ok.ensures;
@@ -20,7 +20,7 @@ returns-in-Err g c =
     let source = g.S.Source in
     record {
       came = c.loop.bytes.items;
-      gives = Gives-fails (source.stream c.args.source.now) (source.stream c.loop.source) (source.stream c.take.new.self) c.loop.bytes.items c.loop.invariant.gives c.in-Err.ensures.failed c.in-Err.ensures.faults;
+      gives = GivesBytes-fails (source.stream c.args.source.now) (source.stream c.loop.source) (source.stream c.take.new.self) c.loop.bytes.items c.loop.invariant.gives c.in-Err.ensures.failed c.in-Err.ensures.faults;
       too_long = sym (le-ltb 4194304 (length c.loop.bytes.items) c.loop.invariant.few);
       few = omega (arith, c.loop.invariant.few);
     }
@@ -31,9 +31,9 @@ returns-then-count-eq0 g c =
     let a = source.stream c.args.source.now in
     let b = source.stream c.loop.source in
     let d = source.stream c.take.new.self in
-    let none : Gives b [] false d = record { content = rw c.if-count-eq0.true at c.in-Ok-take.ensures.bytes; faults = c.in-Ok-take.ensures.faults } in
+    let none : GivesBytes b [] false d = record { content = rw c.if-count-eq0.true at c.in-Ok-take.ensures.bytes; faults = c.in-Ok-take.ensures.faults } in
     record {
-      gives = subst (λ (bytes : List ℕ). Gives a bytes false d) (append-nil c.loop.bytes.items) (Gives-then a b d c.loop.bytes.items [] false c.loop.invariant.gives none);
+      gives = subst (λ (bytes : List ℕ). GivesBytes a bytes false d) (append-nil c.loop.bytes.items) (GivesBytes-then a b d c.loop.bytes.items [] false c.loop.invariant.gives none);
       few = c.loop.invariant.few;
       ended = c.in-Ok-take.ensures.end c.if-count-eq0.true (omega (arith, c.loop.invariant.buffer));
     }
@@ -47,7 +47,7 @@ returns-then-count-len g c =
     let piece = take c.in-Ok-take.count c.take.new.buf in
     record {
       came = c.loop.bytes.items ++ piece;
-      gives = Gives-then a b d c.loop.bytes.items piece false c.loop.invariant.gives (record { content = c.in-Ok-take.ensures.bytes; faults = c.in-Ok-take.ensures.faults });
+      gives = GivesBytes-then a b d c.loop.bytes.items piece false c.loop.invariant.gives (record { content = c.in-Ok-take.ensures.bytes; faults = c.in-Ok-take.ensures.faults });
       too_long = sym (lt-ltb 4194304 (length (c.loop.bytes.items ++ piece)) (omega (arith, length-append c.loop.bytes.items piece, length-take-le c.in-Ok-take.count c.take.new.buf (omega (arith, c.take.auto.buf, c.in-Ok-take.ensures.count)))));
       few = omega (arith, length-append c.loop.bytes.items piece, length-take-le c.in-Ok-take.count c.take.new.buf (omega (arith, c.take.auto.buf, c.in-Ok-take.ensures.count)), c.in-Ok-take.ensures.count, c.take.auto.buf, c.deref_mut.ensures.len, c.loop.invariant.buffer, c.loop.buffer.ok.0, c.loop.invariant.few);
     }
@@ -61,7 +61,7 @@ returns-in_default-extend_from_slice g c =
     let piece = take c.in-Ok-take.count c.take.new.buf in
     record {
       came = c.loop.bytes.items ++ piece;
-      gives = Gives-then a b d c.loop.bytes.items piece false c.loop.invariant.gives (record { content = c.in-Ok-take.ensures.bytes; faults = c.in-Ok-take.ensures.faults });
+      gives = GivesBytes-then a b d c.loop.bytes.items piece false c.loop.invariant.gives (record { content = c.in-Ok-take.ensures.bytes; faults = c.in-Ok-take.ensures.faults });
       too_long = sym (le-ltb 4194304 (length (c.loop.bytes.items ++ piece)) (omega (arith, length-append c.loop.bytes.items piece, length-take-le c.in-Ok-take.count c.take.new.buf (omega (arith, c.take.auto.buf, c.in-Ok-take.ensures.count)))));
       few = omega (arith, length-append c.loop.bytes.items piece, length-take-le c.in-Ok-take.count c.take.new.buf (omega (arith, c.take.auto.buf, c.in-Ok-take.ensures.count)), c.in-Ok-take.ensures.count, c.take.auto.buf, c.deref_mut.ensures.len, c.loop.invariant.buffer, c.loop.buffer.ok.0, c.loop.invariant.few);
     }
@@ -82,7 +82,7 @@ loop-preserved g c =
     let size : length piece ≡ c.in-Ok-take.count = length-take-le c.in-Ok-take.count read (omega (arith, c.take.auto.buf, c.in-Ok-take.ensures.count)) in
     let count : length c.extend_from_slice.new.self.items ≡ length old + c.in-Ok-take.count = ap length items ∙ omega (arith, length-append old piece, size) in
     record {
-      gives = rw items (Gives-then a b d old piece false c.loop.invariant.gives (record { content = c.in-Ok-take.ensures.bytes; faults = c.in-Ok-take.ensures.faults }));
+      gives = rw items (GivesBytes-then a b d old piece false c.loop.invariant.gives (record { content = c.in-Ok-take.ensures.bytes; faults = c.in-Ok-take.ensures.faults }));
       few = omega (arith, count, c.loop.invariant.few);
       turns = omega (arith, count, c.loop.invariant.turns);
       buffer = omega (arith, ap length same, whole, c.loop.invariant.buffer, c.loop.buffer.ok.0);

@@ -4,7 +4,7 @@ use Rattle.ft_runner.specs.Checking.{IsSeparatorOf, IsScriptFew, IsScriptLong}
 use Rattle.ft_runner.specs.Internal.Filling.{EndsScript, Fills}
 use Rattle.ft_runner.proofs.InputLemmas.{long_input, long_script, stops_second, whole_input}
 use Rattle.ft_runner.proofs.OpenLines.{few_fits, fit_in_time}
-use Rattle.ft_runner.proofs.StreamLemmas.{Gives-none}
+use Rattle.ft_runner.proofs.StreamLemmas.{GivesBytes-none}
 use Rattle.ft_runner.proofs.reading.read_input.Goals as goal
 
 pub returns-in_default : goal.returns-in_default
@@ -12,7 +12,7 @@ returns-in_default g c =
     let source = g.S.Source in
     record {
       came = [];
-      gives = Gives-none (source.stream c.args.source.now);
+      gives = GivesBytes-none (source.stream c.args.source.now);
       too_long = λ long. absurd cc;
       fits = λ failed. absurd cc;
       few = omega arith;

@@ -1,6 +1,6 @@
 use Rattle.std.proofs.Common.{true, false, Ok, subst, arith}
 use Rattle.std.proofs.lemmas.Result.{err_from_is_err_and}
-use Rattle.ft_runner.specs.Internal.Filling.{Fills, IsOpen, IsShut, Takes}
+use Rattle.ft_runner.specs.Internal.Filling.{Fills, HasOpenLine, HasNoOpenLine, TakesPiece}
 use Rattle.ft_runner.proofs.InputLemmas.{ends_first, ends_open, reading_first, reading_on, settles, stops_first, stops_open}
 use Rattle.ft_runner.proofs.reading.read_script_part.Goals as goal
 
@@ -33,7 +33,7 @@ pub returns-in_err-take_piece : goal.returns-in_err-take_piece
 returns-in_err-take_piece g c =
     let source = g.S.Source in
     let bytes = c.loop-source.bytes.items in
-    let begun : IsOpen bytes = subst IsOpen c.deref.ensures.value c.loop-source-test.ensures in
+    let begun : HasOpenLine bytes = subst HasOpenLine c.deref.ensures.value c.loop-source-test.ensures in
     let r = err_from_is_err_and c.from_residual-in_err-take_piece.result c.from_residual-in_err-take_piece.ensures.1 in
     rw (r.1, r.2) (stops_open (source.stream c.args.source.now) (source.stream c.loop-source.source) (source.stream c.take_piece.new.source) bytes c.loop-source.invariant.reading begun c.in_err-take_piece.field-0.0 c.take_piece.new.bytes.items c.in_err-take_piece.ensures)
 
@@ -43,8 +43,8 @@ returns-then-branch-2 g c =
     let b = source.stream c.loop-source.source in
     let d = source.stream c.take_piece.new.source in
     let bytes = c.loop-source.bytes.items in
-    let begun : IsOpen bytes = subst IsOpen c.deref.ensures.value c.loop-source-test.ensures in
-    let taken : Takes b bytes (Ok true) c.take_piece.new.bytes.items d = rw c.if-branch-2.true at c.in_ok-take_piece.ensures in
+    let begun : HasOpenLine bytes = subst HasOpenLine c.deref.ensures.value c.loop-source-test.ensures in
+    let taken : TakesPiece b bytes (Ok true) c.take_piece.new.bytes.items d = rw c.if-branch-2.true at c.in_ok-take_piece.ensures in
     ends_open (source.stream c.args.source.now) b d bytes c.loop-source.invariant.reading begun c.take_piece.new.bytes.items taken
 
 pub loop-source-preserved : goal.loop-source-preserved
@@ -53,8 +53,8 @@ loop-source-preserved g c =
     let b = source.stream c.loop-source.source in
     let d = source.stream c.take_piece.new.source in
     let bytes = c.loop-source.bytes.items in
-    let begun : IsOpen bytes = subst IsOpen c.deref.ensures.value c.loop-source-test.ensures in
-    let taken : Takes b bytes (Ok false) c.take_piece.new.bytes.items d = rw c.if-branch-2.false at c.in_ok-take_piece.ensures in
+    let begun : HasOpenLine bytes = subst HasOpenLine c.deref.ensures.value c.loop-source-test.ensures in
+    let taken : TakesPiece b bytes (Ok false) c.take_piece.new.bytes.items d = rw c.if-branch-2.false at c.in_ok-take_piece.ensures in
     record {
       reading = reading_on (source.stream c.args.source.now) b d bytes c.loop-source.invariant.reading begun c.take_piece.new.bytes.items taken;
       buffer = omega (arith, c.take_piece.auto.buffer, c.loop-source.invariant.buffer);
@@ -64,4 +64,4 @@ pub returns : goal.returns
 returns g c =
     let source = g.S.Source in
     let bytes = c.loop-source.bytes.items in
-    settles (source.stream c.args.source.now) (source.stream c.loop-source.source) bytes c.loop-source.invariant.reading (subst IsShut c.deref.ensures.value c.loop-source-test.ensures)
+    settles (source.stream c.args.source.now) (source.stream c.loop-source.source) bytes c.loop-source.invariant.reading (subst HasNoOpenLine c.deref.ensures.value c.loop-source-test.ensures)

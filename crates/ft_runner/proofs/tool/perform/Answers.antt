@@ -1,7 +1,7 @@
 use Rattle.std.proofs.Common.{◌∙◌, Option, sym, subst}
 use Rattle.ft_runner.specs.declared.command.Subcommand.{Subcommand}
 use Rattle.ft_runner.specs.declared.outcome.Outcome.TheVariants as outcome
-use Rattle.ft_runner.specs.Reports.{IsDone}
+use Rattle.ft_runner.specs.Reports.{IsCommandDone}
 use Rattle.ft_runner.proofs.ReportLemmas.{memory_done, usage_done}
 use Rattle.ft_runner.proofs.tool.perform.Goals as goal
 
@@ -12,7 +12,7 @@ returns-in-Ok-None-clause-done g c command found =
     let a = source.stream c.args.source.now in
     let b = sink.stream c.args.sink.now in
     let none = sym (rw c.in-Ok-None.is at c.in-Ok-None.field-0-is) ∙ (rw c.in-Ok-None.is at found) in
-    subst (λ (asked : Option Subcommand). IsDone asked a a b b outcome.Usage) none (usage_done a b)
+    subst (λ (asked : Option Subcommand). IsCommandDone asked a a b b outcome.Usage) none (usage_done a b)
 
 pub returns-in-Err-clause-done : goal.returns-in-Err-clause-done
 returns-in-Err-clause-done g c command found =

@@ -1,5 +1,5 @@
 use Rattle.std.proofs.Common.{false, ◌-◌, ◌≤◌, length, take}
-use Rattle.ft_runner.specs.Streams.{Receives}
+use Rattle.ft_runner.specs.Transfers.{Receives}
 use Rattle.ft_runner.proofs.writing.put_all.Given as goal
 
 abbrev pub invariant-loop-done : goal.invariant-loop-done

@@ -4,7 +4,7 @@ use Rattle.std.proofs.lemmas.List.{append-nil}
 use Rattle.std.proofs.lemmas.Result.{err_from_is_err_and}
 use Rattle.ft_model.specs.declared.entry.Entry.{Entry}
 use Rattle.ft_script.specs.Texts.{entry_line, world_text}
-use Rattle.ft_runner.specs.Streams.{PutsPrefix, IsBuffered}
+use Rattle.ft_runner.specs.Transfers.{PutsPrefix, IsBuffered}
 use Rattle.ft_runner.proofs.StreamLemmas.{IsBuffered-then, IsBuffered-push, PutsPrefix-put, PutsPrefix-then, flat_map-split, flat_map-more, flat_map-all}
 use Rattle.ft_runner.proofs.writing.write_all.Goals as goal
 

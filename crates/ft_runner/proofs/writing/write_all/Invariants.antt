@@ -1,7 +1,7 @@
 use Rattle.std.proofs.Common.{take}
 use Rattle.std.specs.List.{flat_map}
 use Rattle.ft_script.specs.Texts.{entry_line}
-use Rattle.ft_runner.specs.Streams.{IsBuffered}
+use Rattle.ft_runner.specs.Transfers.{IsBuffered}
 use Rattle.ft_runner.proofs.writing.write_all.Given as goal
 
 -- what was put, and then what the buffer has, are the lines so far

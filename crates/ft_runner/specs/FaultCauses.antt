@@ -4,17 +4,17 @@ use Rattle.ft_history.specs.declared.verdict.Verdict.TheVariants as verdict
 use Rattle.ft_io.specs.Streams.{raised, Stream}
 use Rattle.ft_model.specs.declared.script.ScriptParts.{ScriptParts}
 use Rattle.ft_script.specs.declared.fault.Which.{Which}
-use Rattle.ft_script.specs.Scripts.{read_script}
+use Rattle.ft_script.specs.ReadScripts.{read_script}
 use Rattle.ft_runner.specs.declared.command.Subcommand.{Subcommand}
 use Rattle.ft_runner.specs.declared.command.Subcommand.TheVariants as subcommand
 use Rattle.ft_runner.specs.declared.report.Fault.{Fault}
 use Rattle.ft_runner.specs.declared.report.Fault.TheVariants as fault
 use Rattle.ft_runner.specs.declared.report.Report.{Report}
-use Rattle.ft_runner.specs.Checking.{IsPast, IsWithinLimits}
+use Rattle.ft_runner.specs.Checking.{IsPastLimit, IsWithinLimits}
 use Rattle.ft_runner.specs.Commands.{command_of}
 use Rattle.ft_runner.specs.Findings.{IsBadAt, IsFound}
 use Rattle.ft_runner.specs.Reports.{IsFirstFault, IsReport, IsScriptFault}
-use Rattle.ft_runner.specs.Streams.{script_limit}
+use Rattle.ft_runner.specs.Transfers.{script_limit}
 
 -- the words are this command, the source has this text before the call, and no call of the source or the sink fails
 pub record IsReportOn (command : Subcommand) (text : List ℕ) (report : Report) : Type 0 where
@@ -53,7 +53,7 @@ IsCheckCause text (fault.Transcript line) = IsWithinLimits text × IsBadAt text 
 IsCheckCause text (fault.Script line kind) =
     IsWithinLimits text × (limit : Option Which)
     × IsScriptFault text (record { line = line; kind = kind; which = limit })
-IsCheckCause text fault.TooLong = IsPast text
+IsCheckCause text fault.TooLong = IsPastLimit text
 IsCheckCause text fault.Memory = Unit {0}
 IsCheckCause text fault.Usage = ⊥
 IsCheckCause text fault.Read = ⊥

@@ -11,7 +11,7 @@ use Rattle.ft_runner.specs.declared.writing.WriteFault.TheVariants as write
 -- ---- streams
 
 -- these bytes came from a source, whose last call failed or not
-pub record Gives (before : Stream) (came : List ℕ) (failed : Bool) (after : Stream) : Type 0 where
+pub record GivesBytes (before : Stream) (came : List ℕ) (failed : Bool) (after : Stream) : Type 0 where
   pub content : before.content ≡ prepended came after.content
   pub faults : after.faults ≡ (if failed then raised before.faults else before.faults)
 
@@ -39,8 +39,8 @@ abbrev pub input_limit : ℕ
 input_limit = 67108864
 
 -- the most bytes that one call of a source is asked for
-abbrev pub piece : ℕ
-piece = 65536
+abbrev pub piece_limit : ℕ
+piece_limit = 65536
 
 -- ---- reading
 
@@ -58,25 +58,25 @@ is_too_much read.TooLong = true
 
 -- a source is read to its end, and gives no more than a script may have
 pub record IsWholeInput (before : Stream) (bytes : List ℕ) (after : Stream) : Type 0 where
-  pub gives : Gives before bytes false after
+  pub gives : GivesBytes before bytes false after
   pub few : length bytes ≤ script_limit
   pub ended : HasEnded after
 
 -- no more bytes are read than a script may have and one piece
 abbrev pub most_read : ℕ
-most_read = script_limit + piece
+most_read = script_limit + piece_limit
 
 -- reading stops at a fault, after the bytes that came
 pub record StopsReading (stop : ReadFault) (before after : Stream) : Type 0 where
   pub came : List ℕ
-  pub gives : Gives before came (has_failed stop) after
+  pub gives : GivesBytes before came (has_failed stop) after
   pub too_long : is_too_much stop ≡ nat_lt script_limit (length came)
   pub few : length came ≤ most_read
 
 -- what reading a script comes to
-abbrev pub Reads : Stream → Result (Vec ℕ Global) ReadFault → Stream → Type 0
-Reads before (Ok bytes) after = IsWholeInput before bytes.items after
-Reads before (Err stop) after = StopsReading stop before after
+abbrev pub ReadsAll : Stream → Result (Vec ℕ Global) ReadFault → Stream → Type 0
+ReadsAll before (Ok bytes) after = IsWholeInput before bytes.items after
+ReadsAll before (Err stop) after = StopsReading stop before after
 
 -- ---- writing
 
@@ -87,9 +87,9 @@ pub record PutsPrefix (before : Stream) (text : List ℕ) (failed : Bool) (after
   pub receives : Receives before prefix failed after
 
 -- a text is put: whole, or a prefix where the sink fails
-abbrev pub Puts : Stream → List ℕ → Result (Unit {0}) Failed → Stream → Type 0
-Puts before text (Ok u) after = Receives before text false after
-Puts before text (Err e) after = PutsPrefix before text true after
+abbrev pub PutsText : Stream → List ℕ → Result (Unit {0}) Failed → Stream → Type 0
+PutsText before text (Ok u) after = Receives before text false after
+PutsText before text (Err e) after = PutsPrefix before text true after
 
 -- what was put, and then what the buffer has, are the text so far
 pub record IsBuffered (before now : Stream) (buffer text : List ℕ) : Type 0 where

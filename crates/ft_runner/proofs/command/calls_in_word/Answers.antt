@@ -1,7 +1,7 @@
 use Rattle.std.proofs.Common.{◌≡◌, ◌∙◌, true, sym}
-use Rattle.ft_script.specs.Words.{is_positive}
+use Rattle.ft_script.specs.LineWords.{is_positive}
 use Rattle.ft_runner.proofs.CallCounts.{great_calls}
-use Rattle.ft_runner.proofs.command.calls_of.Goals as goal
+use Rattle.ft_runner.proofs.command.calls_in_word.Goals as goal
 
 pub returns-in_err-calls : goal.returns-in_err-calls
 returns-in_err-calls c =

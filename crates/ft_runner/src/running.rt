@@ -1,0 +1,97 @@
+//! Runs scripts: on this thread in the order of their turns, or with their threads beside each other.
+ghost use Rattle.ft_bank.specs.Closings.{shape_in};
+ghost use Rattle.ft_engine.specs.DoneCallers.{IsLegalFor};
+ghost use Rattle.ft_runner.specs.declared.command.Subcommand.{Subcommand};
+ghost use Rattle.ft_runner.specs.declared.command.Subcommand.TheVariants as subcommand;
+ghost use Rattle.ft_runner.specs.Internal.ScriptRuns.{IsRunOf};
+ghost use Rattle.ft_runner.specs.Reports.{ComesTo, MeansRun};
+ghost use Rattle.ft_script.specs.ReadScripts.{read_script};
+ghost use Rattle.ft_turn_runs.specs.Seats.{IsOrderRunFor};
+ghost use Rattle.ft_workers.specs.ClosedHistories.{HasEntriesOf};
+ghost use Rattle.ft_workers.specs.Workers.{IsBankFor};
+ghost use Rattle.std.specs.Prelude.{◌≡◌, ℕ, List, IfOk, Ok};
+
+use crate::checking::STORED;
+use crate::outcome::Outcome;
+use crate::writing::{WriteFault, write_all};
+use ft_bank::Closed;
+use ft_history::judge_with_world;
+use ft_io::Sink;
+use ft_model::{Entry, Script, World};
+use ft_turn_runs::run_in_turns;
+use ft_workers::{Gate, run_workers};
+use std::alloc::{AllocError, Global};
+use std::sync::Wait;
+use std::thread::Threads;
+
+/// What a script has come to: its history, what the containers have after it, and what is left of
+/// the bank.
+#[derive(Drop)]
+pub(crate) struct ScriptRun {
+    pub(crate) history: Vec<Entry>,
+    pub(crate) world: World,
+    pub(crate) closed: Closed,
+}
+
+/// Runs a script in the order of its turns.
+pub(crate) fn run_turns(alloc: Global, script: &Script) -> Result<ScriptRun, AllocError>
+    ensures run { IfOk result (λ run. IsRunOf script.now run) }
+    ensures order { IfOk result (λ run. IsOrderRunFor script.now run.history.items) }
+{
+    let ran = run_in_turns(alloc, script)?;
+    with_world(alloc, script, ran.history, ran.closed)
+}
+
+/// Runs the threads of a script beside each other.
+pub(crate) fn run_threads<R: Threads + Wait + Sync, G: Gate>(
+    rt: &R,
+    alloc: Global,
+    script: &Script,
+    gate: &G,
+) -> Result<ScriptRun, AllocError>
+    ensures { IfOk result (λ run. IsRunOf script.now run) }
+{
+    let ran = run_workers(rt, alloc, script, gate)?;
+    with_world(alloc, script, ran.history, ran.closed)
+}
+
+/// Adds the contents in the end, which are those of plain containers after the history's writes.
+fn with_world(
+    alloc: Global,
+    script: &Script,
+    history: Vec<Entry>,
+    closed: Closed,
+) -> Result<ScriptRun, AllocError>
+    requires legal { IsLegalFor script.now history.items }
+    requires bank { IsBankFor script.now (shape_in closed) }
+    requires entries { HasEntriesOf closed history.items }
+    ensures run { IfOk result (λ run. IsRunOf script.now run) }
+    ensures history { IfOk result (λ run. run.history.items ≡ history.items) }
+{
+    let judged = judge_with_world(alloc, STORED, script, &history)?;
+    Ok(ScriptRun {
+        history,
+        world: judged.world,
+        closed,
+    })
+}
+
+/// Writes the history and the contents to which a script has come, and answers what it comes to.
+pub(crate) fn put_run<K: Sink>(
+    alloc: Global,
+    sink: &mut K,
+    script: &Script,
+    run: ScriptRun,
+) -> Outcome
+    requires read { (bytes : List ℕ) × (read_script bytes ≡ Ok script.now) }
+    requires run { IsRunOf script.now run }
+    ensures { (command : Subcommand) (bytes : List ℕ) → read_script bytes ≡ Ok script.now
+        → (command ≡ subcommand.Turns → IsOrderRunFor script.now run.history.items)
+        → ComesTo (MeansRun command bytes) (K.stream sink.old) (K.stream sink.new) result }
+{
+    match write_all(alloc, sink, script, &run.history, &run.world) {
+        Ok(()) => Outcome::Clean(run.history, Some(run.closed)),
+        Err(WriteFault::Failed) => Outcome::Write(run.history, Some(run.closed)),
+        Err(WriteFault::Memory) => Outcome::Memory,
+    }
+}

@@ -34,7 +34,7 @@ use Rattle.ft_trace.proofs.Nothing.{no_table_stands}
 use Rattle.ft_bank.specs.Writes.{Committed, IsShut, MayCommit, MayHave}
 use Rattle.ft_bank.specs.Whole.{EndsWrite, OnlyLoaded, Wrote}
 use Rattle.ft_bank.proofs.Whole.{loaded_held, plain_write, put_same, work_knows, write_ends}
-use Rattle.ft_bank_tests.specs.Reversing.{MayReverse}
+use Rattle.ft_bank_tests.specs.SmallestWrites.{MayReverse}
 
 -- the call
 abbrev pub reversal : ℕ → Call

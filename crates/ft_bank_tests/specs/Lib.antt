@@ -1,3 +1,3 @@
-pub mod Rounds
-pub mod Reversing
+pub mod TestRounds
+pub mod SmallestWrites
 pub mod Working

@@ -9,7 +9,7 @@ use Rattle.ft_bank.specs.declared.bank.Bank.{Bank}
 use Rattle.ft_bank.specs.declared.pass.Pass.{Pass}
 use Rattle.ft_bank.specs.Passes.{view, IsPassOf}
 use Rattle.ft_bank.specs.Sections.{stack_of, no_sections}
-use Rattle.ft_bank_tests.specs.Rounds.{IsIdle}
+use Rattle.ft_bank_tests.specs.TestRounds.{IsIdlePass}
 
 -- the container is a list of the bank
 pub record IsListIn (k : Shape) (l : ℕ) : Type 0 where
@@ -19,7 +19,7 @@ pub record IsListIn (k : Shape) (l : ℕ) : Type 0 where
 -- the pass is one of the bank's, between its rounds
 pub record IsWorker (b : Bank) (p : Pass) : Type 0 where
   pub pass : IsPassOf b p
-  pub idle : IsIdle (view p)
+  pub idle : IsIdlePass (view p)
   pub sections : stack_of p ≡ no_sections
 
 -- the same pass, later, which has made this many writes and has one entry of each
@@ -30,16 +30,16 @@ pub record Worked (writes : ℕ) (v w : View) : Type 0 where
   pub entries : length w.entries ≡ length v.entries + writes
 
 -- how many writes an answer tells of
-abbrev pub count_of : Option ℕ → ℕ
-count_of None = 0
-count_of (Some number) = 1
+abbrev pub write_count : Option ℕ → ℕ
+write_count None = 0
+write_count (Some number) = 1
 
 -- how many passes two passes stand for, and how many calls they may still make
 abbrev pub parts_of : Pass × Pass → ℕ
 parts_of p = (view p.0).parts + (view p.1).parts
 
-abbrev pub left_of : Pass × Pass → ℕ
-left_of p = (view p.0).left + (view p.1).left
+abbrev pub calls_left : Pass × Pass → ℕ
+calls_left p = (view p.0).left + (view p.1).left
 
 -- two passes between their rounds, of which the second can be joined in the first, with this many calls left each
 pub record IsPair (b : Bank) (rounds : ℕ) (p : Pass × Pass) : Type 0 where
@@ -53,5 +53,5 @@ pub record IsPair (b : Bank) (rounds : ℕ) (p : Pass × Pass) : Type 0 where
 pub record HasWorkOf (p : Pass × Pass) (rounds : ℕ) (q : Pass) (writes : ℕ) : Type 0 where
   pub next : (view q).next ≡ (view p.0).next
   pub parts : (view q).parts ≡ parts_of p
-  pub left : (view q).left + writes ≡ left_of p
+  pub left : (view q).left + writes ≡ calls_left p
   pub few : writes ≤ 2 * rounds

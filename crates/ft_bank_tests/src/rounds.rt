@@ -3,7 +3,7 @@ ghost use Rattle.std.specs.Prelude.{◌≡◌, ◌≤◌, ◌<◌};
 ghost use Rattle.ft_trace.specs.Addresses.{containers_in};
 ghost use Rattle.ft_bank.specs.Passes.{shape_of, view, IsPassOf};
 ghost use Rattle.ft_bank.specs.Sections.{stack_of, no_sections};
-ghost use Rattle.ft_bank_tests.specs.Rounds.{IsIdle, IsOnwards};
+ghost use Rattle.ft_bank_tests.specs.TestRounds.{IsIdlePass, IsOnwards};
 
 use ft_bank::{Bank, Pass};
 
@@ -12,10 +12,10 @@ use ft_bank::{Bank, Pass};
 fn try_round(bank: &Bank, pass: &mut Pass) -> bool
     requires pass { IsPassOf bank.now pass.old }
     requires container { 0 < containers_in (shape_of bank.now) }
-    requires idle { IsIdle (view pass.old) }
+    requires idle { IsIdlePass (view pass.old) }
     requires sections { stack_of pass.old ≡ no_sections }
     ensures pass { IsPassOf bank.now pass.new }
-    ensures idle { IsIdle (view pass.new) }
+    ensures idle { IsIdlePass (view pass.new) }
     ensures sections { stack_of pass.new ≡ no_sections }
     ensures onwards { IsOnwards (view pass.old) (view pass.new) }
 {
@@ -31,11 +31,11 @@ fn try_round(bank: &Bank, pass: &mut Pass) -> bool
 pub fn go_round(bank: &Bank, pass: &mut Pass, rounds: u32) -> u32
     requires pass { IsPassOf bank.now pass.old }
     requires container { 0 < containers_in (shape_of bank.now) }
-    requires idle { IsIdle (view pass.old) }
+    requires idle { IsIdlePass (view pass.old) }
     requires sections { stack_of pass.old ≡ no_sections }
     ensures count { result ≤ rounds }
     ensures pass { IsPassOf bank.now pass.new }
-    ensures idle { IsIdle (view pass.new) }
+    ensures idle { IsIdlePass (view pass.new) }
     ensures sections { stack_of pass.new ≡ no_sections }
     ensures onwards { IsOnwards (view pass.old) (view pass.new) }
 {
@@ -52,11 +52,11 @@ pub fn go_round(bank: &Bank, pass: &mut Pass, rounds: u32) -> u32
 pub fn go_round_with(bank: &Bank, mut pass: Pass, rounds: u32) -> (Pass, u32)
     requires pass { IsPassOf bank.now pass }
     requires container { 0 < containers_in (shape_of bank.now) }
-    requires idle { IsIdle (view pass) }
+    requires idle { IsIdlePass (view pass) }
     requires sections { stack_of pass ≡ no_sections }
     ensures count { result.1 ≤ rounds }
     ensures pass { IsPassOf bank.now result.0 }
-    ensures idle { IsIdle (view result.0) }
+    ensures idle { IsIdlePass (view result.0) }
     ensures sections { stack_of result.0 ≡ no_sections }
     ensures onwards { IsOnwards (view pass) (view result.0) }
 {

@@ -2,7 +2,7 @@
 ghost use Rattle.std.specs.Prelude.{◌≡◌, ◌+◌, ◌*◌, ◌^◌, ◌<◌, ◌≤◌, length};
 ghost use Rattle.ft_bank.specs.Closings.{IsWhole, entries_in};
 ghost use Rattle.ft_bank.specs.Passes.{shape_of, view};
-ghost use Rattle.ft_bank_tests.specs.Working.{HasWorkOf, IsListIn, IsPair, IsWorker, Worked, count_of, left_of, parts_of};
+ghost use Rattle.ft_bank_tests.specs.Working.{HasWorkOf, IsListIn, IsPair, IsWorker, Worked, write_count, calls_left, parts_of};
 
 use crate::writes::reverse_bare;
 use ft_bank::{Bank, Closed, Pass, Took};
@@ -48,7 +48,7 @@ pub fn write_once(bank: &Bank, pass: &mut Pass, l: u32) -> Option<u64>
     requires list { IsListIn (shape_of bank.now) l }
     requires left { 0 < (view pass.old).left }
     ensures worker { IsWorker bank.now pass.new }
-    ensures worked { Worked (count_of result) (view pass.old) (view pass.new) }
+    ensures worked { Worked (write_count result) (view pass.old) (view pass.new) }
 {
     let Ok(()) = bank.try_lock(pass, l) else {
         return None;
@@ -160,7 +160,7 @@ pub fn work_in_four<R: Threads + Sync>(
     requires last { (view other.0).next ≡ 0 }
     ensures worker { IsWorker bank.now result.0 }
     ensures parts { (view result.0).parts ≡ parts_of one + parts_of other }
-    ensures left { (view result.0).left + result.1.writes ≡ left_of one + left_of other }
+    ensures left { (view result.0).left + result.1.writes ≡ calls_left one + calls_left other }
     ensures few { result.1.writes ≤ 4 * rounds }
 {
     let ((mut first, ours), (second, theirs)) = thread::join(

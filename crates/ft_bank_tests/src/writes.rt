@@ -8,7 +8,7 @@ ghost use Rattle.ft_trace.specs.Holds.{held};
 ghost use Rattle.ft_bank.specs.Passes.{shape_of, view, IsPassOf};
 ghost use Rattle.ft_bank.specs.Sections.{stack_of};
 ghost use Rattle.ft_bank.specs.Whole.{OnlyLoaded, Wrote};
-ghost use Rattle.ft_bank_tests.specs.Reversing.{MayReverse, Reversed};
+ghost use Rattle.ft_bank_tests.specs.SmallestWrites.{MayReverse, Reversed};
 
 use ft_bank::{Bank, Pass};
 use ft_model::{Call, ListCall, Reply};

@@ -2,9 +2,9 @@
 use Rattle.std.proofs.Common.{ℕ, suc, List, [], ◌∷◌}
 use Rattle.ft_engine.specs.declared.caller.Caller.{Caller}
 use Rattle.ft_engine.specs.declared.engine.Engine.{Engine}
-use Rattle.ft_engine.specs.Callers.{AreFresh}
-use Rattle.ft_engine_tests.specs.Workers.{AreFreeCallers}
+use Rattle.ft_engine.specs.Callers.{AreFreshCallers}
+use Rattle.ft_engine_tests.specs.TestCallers.{AreFreeCallers}
 
-pub free_from : (e : Engine) (room i : ℕ) (cs : List Caller) → AreFresh e room i cs → AreFreeCallers e cs
+pub free_from : (e : Engine) (room i : ℕ) (cs : List Caller) → AreFreshCallers e room i cs → AreFreeCallers e cs
 free_from e room i [] are = tt
 free_from e room i (c ∷ cs) are = ((are.0.caller, are.0.flight), free_from e room (suc i) cs are.1)

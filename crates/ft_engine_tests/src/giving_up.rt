@@ -1,6 +1,6 @@
 //! A caller that gives up in the midst of nested sections.
 ghost use Rattle.std.specs.Prelude.{OnOk};
-ghost use Rattle.ft_engine_tests.specs.Workers.{AreWorkersOf};
+ghost use Rattle.ft_engine_tests.specs.TestCallers.{AreWorkersOf};
 
 use crate::starting::start;
 use crate::turns::{give_up_as, ordered};

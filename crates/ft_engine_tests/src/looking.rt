@@ -3,7 +3,7 @@ ghost use Rattle.std.specs.Prelude.{◌≡◌, IsTrue, OnOk, true};
 ghost use Rattle.ft_engine.specs.Attempts.{MayAttempt};
 ghost use Rattle.ft_engine.specs.Callers.{IsIdle};
 ghost use Rattle.ft_engine.specs.Contentions.{may_look};
-ghost use Rattle.ft_engine_tests.specs.Workers.{AreWorkersOf, IsWorkerOf};
+ghost use Rattle.ft_engine_tests.specs.TestCallers.{AreWorkersOf, IsWorkerOf};
 
 use crate::starting::start;
 use crate::turns::ordered;

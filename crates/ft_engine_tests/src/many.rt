@@ -1,6 +1,6 @@
 //! As many callers as a bank may have, each with cursors of its own.
 ghost use Rattle.std.specs.Prelude.{IfOk, OnOk};
-ghost use Rattle.ft_engine_tests.specs.Workers.{AreWorkersOf};
+ghost use Rattle.ft_engine_tests.specs.TestCallers.{AreWorkersOf};
 
 use crate::starting::begin;
 use crate::turns::try_once;

@@ -1,6 +1,6 @@
 //! The engine of a script, with a worker for each thread.
 ghost use Rattle.std.specs.Prelude.{IfOk};
-ghost use Rattle.ft_engine_tests.specs.Workers.{AreFreeCallers, AreWorkersOf};
+ghost use Rattle.ft_engine_tests.specs.TestCallers.{AreFreeCallers, AreWorkersOf};
 
 use crate::workers::Worker;
 use ft_bank::Shape;

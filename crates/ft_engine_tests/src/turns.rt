@@ -1,7 +1,7 @@
 //! Turns of threads: in each one, a thread tries its next call once.
 ghost use Rattle.std.specs.Prelude.{IfOk, IsTrue, OnOk};
 ghost use Rattle.ft_engine.specs.Callers.{IsIdle};
-ghost use Rattle.ft_engine_tests.specs.Workers.{AreWorkersOf, IsWorkerOf};
+ghost use Rattle.ft_engine_tests.specs.TestCallers.{AreWorkersOf, IsWorkerOf};
 
 use crate::starting::start;
 use crate::workers::Worker;

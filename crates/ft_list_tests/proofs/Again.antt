@@ -12,7 +12,7 @@ use Rattle.ft_section.specs.declared.answers.Stamp.{Stamp}
 use Rattle.ft_section.specs.declared.answers.Step.{Step}
 use Rattle.ft_section.specs.declared.answers.Step.TheVariants as step
 use Rattle.ft_section.specs.Trying.{SectionsAfter}
-use Rattle.ft_list_tests.specs.Calling.{MayCall}
+use Rattle.ft_list_tests.specs.TestCalls.{MayTryAny}
 
 -- whatever number it has, a container of a bank with two lists is one
 two_lists : (l : ℕ) → kind_in (kind.List ∷ kind.List ∷ []) l ≡ kind.List
@@ -24,6 +24,6 @@ pub list_in : (kinds : List Kind) → kinds ≡ kind.List ∷ kind.List ∷ [] �
 list_in kinds is l = ap (λ (z : List Kind). kind_in z l) is ∙ two_lists l
 
 -- after a call that was made any other may be tried
-pub may_again : (b : Bank) (objects : Objects) (p q : Pass) (asked : Step) (result : Option (Reply × Stamp)) → SectionsAfter b objects p q asked → IfSome result (λ (made : Reply × Stamp). asked ≡ step.Done made.0 made.1) → IfSome result (λ (made : Reply × Stamp). MayCall b q)
+pub may_again : (b : Bank) (objects : Objects) (p q : Pass) (asked : Step) (result : Option (Reply × Stamp)) → SectionsAfter b objects p q asked → IfSome result (λ (made : Reply × Stamp). asked ≡ step.Done made.0 made.1) → IfSome result (λ (made : Reply × Stamp). MayTryAny b q)
 may_again b objects p q asked None after made = tt
 may_again b objects p q asked (Some made) after is = (subst (SectionsAfter b objects p q) is after).0.may

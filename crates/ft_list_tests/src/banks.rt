@@ -3,7 +3,7 @@ ghost use Rattle.std.specs.Prelude.{◌≡◌, [], ◌∷◌, ◌<◌, IfOk, OnO
 ghost use Rattle.ft_model.specs.declared.script.Kind.TheVariants.{List};
 ghost use Rattle.ft_bank.specs.Openings.{IsOpening, AreOpening};
 ghost use Rattle.ft_bank.specs.Passes.{view};
-ghost use Rattle.ft_list_tests.specs.Calling.{HasTwoLists};
+ghost use Rattle.ft_list_tests.specs.TestCalls.{HasTwoLists};
 
 use ft_bank::{Bank, Pass, Shape};
 use ft_model::Kind;

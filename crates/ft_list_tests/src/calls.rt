@@ -5,7 +5,7 @@ ghost use Rattle.ft_bank.specs.Passes.{shape_of, IsPassOf};
 ghost use Rattle.ft_trace.specs.Addresses.{containers_in};
 ghost use Rattle.ft_trace.specs.Worlds.{kind_in};
 ghost use Rattle.ft_section.specs.declared.answers.Step.TheVariants as steps;
-ghost use Rattle.ft_list_tests.specs.Calling.{HasTwoLists, MayCall};
+ghost use Rattle.ft_list_tests.specs.TestCalls.{HasTwoLists, MayTryAny};
 
 use ft_bank::{Bank, Pass};
 use ft_list::{
@@ -41,8 +41,8 @@ pub(crate) fn is_list(bank: &Bank, l: u32) -> bool
 /// `l.extend(m)`.
 fn extend(bank: &Bank, pass: &mut Pass, l: u32, m: u32) -> Option<(Reply, Stamp)>
     requires lists { HasTwoLists bank.now }
-    requires may { MayCall bank.now pass.old }
-    ensures may { IfSome result (λ made. MayCall bank.now pass.new) }
+    requires may { MayTryAny bank.now pass.old }
+    ensures may { IfSome result (λ made. MayTryAny bank.now pass.new) }
 {
     if pass.left() == 0 || !is_list(bank, l) || !is_list(bank, m) {
         return None;
@@ -53,8 +53,8 @@ fn extend(bank: &Bank, pass: &mut Pass, l: u32, m: u32) -> Option<(Reply, Stamp)
 /// `l == m`.
 fn equal(bank: &Bank, pass: &mut Pass, l: u32, m: u32) -> Option<(Reply, Stamp)>
     requires lists { HasTwoLists bank.now }
-    requires may { MayCall bank.now pass.old }
-    ensures may { IfSome result (λ made. MayCall bank.now pass.new) }
+    requires may { MayTryAny bank.now pass.old }
+    ensures may { IfSome result (λ made. MayTryAny bank.now pass.new) }
 {
     if pass.left() == 0 || !is_list(bank, l) || !is_list(bank, m) {
         return None;
@@ -71,8 +71,8 @@ pub(crate) fn try_call(
     call: ListCall,
 ) -> Option<(Reply, Stamp)>
     requires lists { HasTwoLists bank.now }
-    requires may { MayCall bank.now pass.old }
-    ensures may { IfSome result (λ made. MayCall bank.now pass.new) }
+    requires may { MayTryAny bank.now pass.old }
+    ensures may { IfSome result (λ made. MayTryAny bank.now pass.new) }
 {
     if pass.left() == 0 || !is_list(bank, l) {
         return None;

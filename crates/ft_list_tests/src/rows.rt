@@ -1,7 +1,7 @@
 //! Tables of calls on the two lists of a bank, which are made one after the other.
 ghost use Rattle.std.specs.Prelude.{◌≡◌, true, IfSome};
 ghost use Rattle.ft_bank.specs.Passes.{IsPassOf};
-ghost use Rattle.ft_list_tests.specs.Calling.{HasTwoLists, MayCall};
+ghost use Rattle.ft_list_tests.specs.TestCalls.{HasTwoLists, MayTryAny};
 
 use crate::banks::small_bank;
 use crate::calls::{look_call, try_call};
@@ -133,8 +133,8 @@ fn is_answer(reply: &Reply, stamp: Stamp, row: Row, number: u64) -> bool {
 /// Makes the call of a row under its locks. Says whether it answers as the row says.
 fn is_tried(bank: &Bank, pass: &mut Pass, alloc: Global, row: Row, number: u64) -> bool
     requires lists { HasTwoLists bank.now }
-    requires may { MayCall bank.now pass.old }
-    ensures may { result ≡ true → MayCall bank.now pass.new }
+    requires may { MayTryAny bank.now pass.old }
+    ensures may { result ≡ true → MayTryAny bank.now pass.new }
 {
     match try_call(bank, pass, alloc, row.list, row.call) {
         Some((reply, stamp)) => is_answer(&reply, stamp, row, number),
@@ -164,9 +164,9 @@ fn is_made(
     number: u64,
 ) -> bool
     requires lists { HasTwoLists bank.now }
-    requires may { MayCall bank.now pass.old }
+    requires may { MayTryAny bank.now pass.old }
     requires reader { IsPassOf bank.now reader.old }
-    ensures may { result ≡ true → MayCall bank.now pass.new }
+    ensures may { result ≡ true → MayTryAny bank.now pass.new }
     ensures reader { IsPassOf bank.now reader.new }
 {
     if row.looks {
@@ -187,9 +187,9 @@ fn made_all(
     number: u64,
 ) -> Option<u64>
     requires lists { HasTwoLists bank.now }
-    requires may { MayCall bank.now pass.old }
+    requires may { MayTryAny bank.now pass.old }
     requires reader { IsPassOf bank.now reader.old }
-    ensures may { IfSome result (λ next. MayCall bank.now pass.new) }
+    ensures may { IfSome result (λ next. MayTryAny bank.now pass.new) }
     ensures reader { IsPassOf bank.now reader.new }
 {
     let mut next = number;
@@ -212,7 +212,7 @@ fn first_of(
     rows: &[Row],
 ) -> Option<usize>
     requires lists { HasTwoLists bank.now }
-    requires may { MayCall bank.now pass.old }
+    requires may { MayTryAny bank.now pass.old }
     requires reader { IsPassOf bank.now reader.old }
 {
     let mut number = 0;

@@ -8,7 +8,7 @@ ghost use Rattle.ft_trace.specs.Worlds.{kind_in};
 ghost use Rattle.ft_bank.specs.Passes.{shape_of, view, IsPassOf};
 ghost use Rattle.ft_bank.specs.Tables.{name_of};
 ghost use Rattle.ft_list.specs.Items.{WritesList};
-ghost use Rattle.ft_list_tests.specs.Calling.{HasTwoLists, MayCall};
+ghost use Rattle.ft_list_tests.specs.TestCalls.{HasTwoLists, MayTryAny};
 
 use crate::banks::{small_bank, some_left};
 use crate::calls::{is_list, look_call, try_call};
@@ -69,7 +69,7 @@ fn open_item(bank: &Bank, writer: &mut Pass, l: u32, table: Table, place: u64) -
 /// the latter.
 fn open_third(bank: &Bank, writer: &mut Pass) -> Option<u64>
     requires lists { HasTwoLists bank.now }
-    requires may { MayCall bank.now writer.old }
+    requires may { MayTryAny bank.now writer.old }
 {
     if !is_list(bank, 0) {
         return None;
@@ -87,8 +87,8 @@ fn open_third(bank: &Bank, writer: &mut Pass) -> Option<u64>
 /// Gives list 0 the integers 0 to 7, each at its index.
 fn fill(bank: &Bank, writer: &mut Pass, alloc: Global) -> Result<(), Fail>
     requires lists { HasTwoLists bank.now }
-    requires may { MayCall bank.now writer.old }
-    ensures may { OnOk result (MayCall bank.now writer.new) }
+    requires may { MayTryAny bank.now writer.old }
+    ensures may { OnOk result (MayTryAny bank.now writer.new) }
 {
     for integer in 0..8i64 {
         let Some((Reply::Done, _)) = try_call(bank, writer, alloc, 0, append(integer)) else {

@@ -4,7 +4,7 @@ ghost use Rattle.ft_bank.specs.Passes.{shape_of, view};
 ghost use Rattle.ft_bank.specs.Sections.{stack_of};
 ghost use Rattle.ft_section.specs.Answers.{IfBack, IfBeginWaits, IfEntered, IfStillWaits};
 ghost use Rattle.ft_section.specs.Ready.{IsReady, IsWaiting, MayResume, MayTry};
-ghost use Rattle.ft_section.specs.Takings.{AreIn};
+ghost use Rattle.ft_section.specs.LockTakings.{AreIn};
 
 use ft_bank::{Bank, Pass};
 use ft_section::{Began, Ended, Objects, Resumed, end, resume, try_begin};

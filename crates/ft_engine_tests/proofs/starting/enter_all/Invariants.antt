@@ -1,5 +1,5 @@
 use Rattle.std.specs.Vec.Iter.{into_iter_items}
-use Rattle.ft_engine_tests.specs.Workers.{AreFreeCallers, AreWorkersOf}
+use Rattle.ft_engine_tests.specs.TestCallers.{AreFreeCallers, AreWorkersOf}
 use Rattle.ft_engine_tests.proofs.starting.enter_all.Given as goal
 
 abbrev pub invariant-loop-caller : goal.invariant-loop-caller

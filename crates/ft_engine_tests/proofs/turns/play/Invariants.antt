@@ -1,4 +1,4 @@
-use Rattle.ft_engine_tests.specs.Workers.{AreWorkersOf}
+use Rattle.ft_engine_tests.specs.TestCallers.{AreWorkersOf}
 use Rattle.ft_engine_tests.proofs.turns.play.Given as goal
 
 abbrev pub invariant-loop : goal.invariant-loop

@@ -5,7 +5,7 @@ use Rattle.ft_trace.specs.Acts.{is_writing}
 use Rattle.ft_trace.specs.Traces.{IsFree}
 
 -- the pass has no lock and no table, is offline and in the midst of nothing
-pub record IsIdle (v : View) : Type 0 where
+pub record IsIdlePass (v : View) : Type 0 where
   pub free : IsFree v
   pub even : (o : ℕ) → is_writing o v.log ≡ false
 

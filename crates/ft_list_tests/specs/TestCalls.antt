@@ -12,5 +12,5 @@ abbrev pub HasTwoLists : Bank → Type 0
 HasTwoLists b = (shape_of b).kinds ≡ kind.List ∷ kind.List ∷ []
 
 -- the pass may try a call on any containers
-abbrev pub MayCall : Bank → Pass → Type 0
-MayCall b p = (objects : Objects) → MayTry b p objects
+abbrev pub MayTryAny : Bank → Pass → Type 0
+MayTryAny b p = (objects : Objects) → MayTry b p objects
